@@ -1,0 +1,108 @@
+ghost use Rattle.std.specs.Prelude.{◌≡◌, length};
+
+use crate::name::{FileName, Name};
+use std::marker::Model;
+
+/// The card: how many channels it has, its rate in Hz, and its period and ring in frames. The ring
+/// is what ALSA calls the buffer of the slave PCM.
+#[derive(Clone, Copy, Debug)]
+pub struct CardLine {
+    pub channels: u8,
+    pub rate: u32,
+    pub period: u32,
+    pub ring: u32,
+}
+
+/// A client: its name, and the WAV file that it plays.
+#[derive(Debug, Drop)]
+pub struct ClientLine {
+    pub name: Name,
+    pub file: FileName,
+}
+
+/// What is done in a phase.
+#[derive(Clone, Copy, Debug)]
+pub enum Phase {
+    /// The card plays so many frames.
+    Play(u32),
+    /// The client of this number, counted from 0, offers the next so many frames of its file.
+    Write { client: u32, frames: u32 },
+}
+
+/// The clients in the order of their lines. Contracts see the list of them.
+#[derive(Debug, Drop)]
+pub struct Clients {
+    lines: Vec<ClientLine>,
+}
+
+impl Model for Clients {
+    ghost use Rattle.std.specs.Prelude.{List};
+    ghost use Rattle.lab_script.specs.declared.script.ClientLine.{ClientLine};
+
+    ghost Value = { List ClientLine };
+
+    ghost view = { λ clients. clients.lines.items };
+}
+
+impl Clients {
+    /// The clients of these lines.
+    pub fn from_vec(lines: Vec<ClientLine>) -> Clients
+        ensures { result ≡ lines.items }
+    {
+        Clients { lines }
+    }
+
+    /// The lines, in order.
+    pub fn as_slice(&self) -> &[ClientLine]
+        ensures { result.now ≡ self.now }
+    {
+        self.lines.as_slice()
+    }
+
+    /// How many clients there are.
+    pub fn len(&self) -> usize
+        ensures { result ≡ length self.now }
+    {
+        self.lines.len()
+    }
+}
+
+/// The phases in order. Contracts see the list of them.
+#[derive(Debug, Drop)]
+pub struct Phases {
+    phases: Vec<Phase>,
+}
+
+impl Model for Phases {
+    ghost use Rattle.std.specs.Prelude.{List};
+    ghost use Rattle.lab_script.specs.declared.script.Phase.{Phase};
+
+    ghost Value = { List Phase };
+
+    ghost view = { λ phases. phases.phases.items };
+}
+
+impl Phases {
+    /// These phases.
+    pub fn from_vec(phases: Vec<Phase>) -> Phases
+        ensures { result ≡ phases.items }
+    {
+        Phases { phases }
+    }
+
+    /// The phases, in order.
+    pub fn as_slice(&self) -> &[Phase]
+        ensures { result.now ≡ self.now }
+    {
+        self.phases.as_slice()
+    }
+}
+
+/// A whole script: the card, the clients, each of which is opened before the first phase, and the
+/// phases.
+#[derive(Debug, Drop)]
+pub struct Script {
+    pub card: CardLine,
+    pub clients: Clients,
+    pub phases: Phases,
+}
