@@ -1,0 +1,24 @@
+-- The canonical file of a sound.
+use Rattle.std.specs.Prelude.{ℕ, ◌+◌, ◌*◌, ◌/◌, List, ◌++◌, length, codes, ℤ}
+use Rattle.std.specs.List.{flat_map}
+use Rattle.std.specs.Int.{w16, w32, to_le_bytes, cast_unsigned}
+use Rattle.wav_io.specs.Sound.{Sound}
+
+-- the 44 bytes before `size` bytes of samples
+abbrev pub head_before : ℕ → ℕ → ℕ → List ℕ
+head_before channels rate size =
+    codes "RIFF" ++ to_le_bytes w32 (36 + size) ++ codes "WAVE" ++ codes "fmt " ++ to_le_bytes w32 16
+    ++ to_le_bytes w16 1 ++ to_le_bytes w16 channels ++ to_le_bytes w32 rate ++ to_le_bytes w32 (rate * (channels * 2))
+    ++ to_le_bytes w16 (channels * 2) ++ to_le_bytes w16 16 ++ codes "data" ++ to_le_bytes w32 size
+
+-- the 44 bytes before this many frames
+abbrev pub head : ℕ → ℕ → ℕ → List ℕ
+head channels rate frames = head_before channels rate (frames * channels * 2)
+
+-- the two bytes of a sample, the low one first
+abbrev pub sample_bytes : ℤ → List ℕ
+sample_bytes z = to_le_bytes w16 (cast_unsigned w16 z)
+
+-- the head, and the samples
+abbrev pub canonical : Sound → List ℕ
+canonical s = head s.channels s.rate (length s.samples / s.channels) ++ flat_map sample_bytes s.samples

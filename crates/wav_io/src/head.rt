@@ -1,0 +1,28 @@
+//! The canonical head of a WAV file.
+
+ghost use Rattle.std.specs.Prelude.{◌≡◌, ◌+◌, ◌*◌, ◌^◌, ◌<◌, ◌≤◌};
+ghost use Rattle.wav_io.specs.Canonical.{head};
+
+/// The canonical head of 44 bytes: `RIFF`, a format chunk of 16 bytes for 16-bit PCM, and the head of a
+/// data chunk of `frames` frames. `rate` is in Hz. The numbers are little-endian (RIFF WAVE).
+pub fn header(channels: u16, rate: u32, frames: u32) -> [u8; 44]
+    requires some_channel { 1 ≤ channels }
+    requires few_channels { channels ≤ 8 }
+    requires some_rate { 1 ≤ rate }
+    requires low_rate { rate < 2 ^ 28 }
+    requires size { frames * channels * 2 + 36 < 2 ^ 32 }
+    ensures { result ≡ head channels rate frames }
+{
+    let frame = channels * 2;
+    let size = frames * u32::from(channels) * 2;
+    let [a0, a1, a2, a3] = (36 + size).to_le_bytes();
+    let [c0, c1] = channels.to_le_bytes();
+    let [r0, r1, r2, r3] = rate.to_le_bytes();
+    let [s0, s1, s2, s3] = (rate * u32::from(frame)).to_le_bytes();
+    let [f0, f1] = frame.to_le_bytes();
+    let [d0, d1, d2, d3] = size.to_le_bytes();
+    [
+        b'R', b'I', b'F', b'F', a0, a1, a2, a3, b'W', b'A', b'V', b'E', b'f', b'm', b't', b' ', 16, 0, 0, 0, 1, 0, c0,
+        c1, r0, r1, r2, r3, s0, s1, s2, s3, f0, f1, 16, 0, b'd', b'a', b't', b'a', d0, d1, d2, d3,
+    ]
+}

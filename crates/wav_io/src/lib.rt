@@ -1,0 +1,21 @@
+//! WAV files of signed 16-bit samples: bytes to samples and back.
+//!
+//! The format is RIFF WAVE (Multimedia Programming Interface and Data Specifications 1.0).
+#![tactic(auto)]
+
+mod error;
+mod head;
+
+mod samples;
+mod wav;
+mod writing;
+
+pub use error::WavError;
+pub use head::header;
+
+pub use samples::Samples;
+pub use wav::Wav;
+pub use writing::write_wav;
+
+
+

@@ -1,0 +1,36 @@
+//! A WAV file from its content.
+
+ghost use Rattle.std.specs.Prelude.{◌≡◌, ◌++◌, ◌+◌, ◌*◌, ◌^◌, ◌<◌, length, IfOk, OnOk, IfErr};
+ghost use Rattle.std.specs.List.{flat_map};
+ghost use Rattle.wav_io.specs.declared.error.WavError.TheVariants.{Memory};
+ghost use Rattle.wav_io.specs.Canonical.{sample_bytes, canonical};
+
+use crate::error::WavError;
+use crate::head::header;
+use crate::wav::Wav;
+use std::alloc::{AllocError, Global};
+
+fn put_samples(bytes: &mut Vec<u8>, samples: &[i16]) -> Result<(), AllocError>
+    ensures { OnOk result (bytes.new.items ≡ bytes.old.items ++ flat_map sample_bytes samples.now) }
+{
+    for sample in samples {
+        bytes.extend_from_slice(&sample.to_le_bytes())?;
+    }
+    Ok(())
+}
+
+/// The canonical file of a WAV's content: the head of 44 bytes and the samples, little-endian.
+pub fn write_wav(alloc: Global, wav: &Wav) -> Result<Vec<u8>, WavError>
+    requires rate { wav.now.rate < 2 ^ 28 }
+    requires size { length wav.now.samples * 2 + 36 < 2 ^ 32 }
+    ensures file { IfOk result (λ bytes. bytes.items ≡ canonical wav.now) }
+    ensures err { IfErr result (λ e. e ≡ Memory) }
+{
+    let samples = wav.samples.as_slice();
+    let frames = samples.len() / wav.channels as usize;
+    let head = header(wav.channels, wav.rate, frames as u32);
+    let mut bytes = Vec::with_capacity(alloc, 44 + 2 * samples.len())?;
+    bytes.extend_from_slice(&head)?;
+    put_samples(&mut bytes, samples)?;
+    Ok(bytes)
+}
