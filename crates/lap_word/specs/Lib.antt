@@ -1,0 +1,2 @@
+pub mod Clamp
+pub mod Word

@@ -1,0 +1,42 @@
+-- The words of the mix ring, and the three numbers that each stands for.
+use Rattle.std.specs.Prelude.{◌≡◌, ℕ, ◌+◌, ◌*◌, ◌/◌, ◌%◌, ◌^◌, ◌<◌, ℤ, pos, negsuc, ◌+ℤ◌, ◌-ℤ◌, ◌≤ℤ◌}
+use Rattle.std.proofs.Common.{arith}
+use Rattle.std.proofs.lemmas.Int.{ints}
+
+-- how many times the ring was wound before the frame of this word
+abbrev pub lap_of : ℕ → ℕ
+lap_of w = w / 4294967296
+
+-- how many samples were added in this lap
+abbrev pub count_of : ℕ → ℕ
+count_of w = w % 4294967296 / 16777216
+
+-- the sum of the samples that were added in this lap
+abbrev pub sum_of : ℕ → ℤ
+sum_of w = pos (w % 16777216) -ℤ pos 8388608
+
+-- a word is the lap times 2 ^ 32, the count times 2 ^ 24 and the sum raised by 2 ^ 23
+pub record StandsFor (w lap count : ℕ) (sum : ℤ) : Type 0 where
+  pub lap_fits : lap < 4294967296
+  pub count_fits : count < 256
+  pub low : negsuc 8388607 ≤ℤ sum
+  pub high : sum ≤ℤ pos 8388607
+  pub layout : pos w ≡ pos (lap * 4294967296 + count * 16777216) +ℤ (sum +ℤ pos 8388608)
+
+-- a word stands for no three numbers but its fields
+pub StandsFor-fields : (w l c : ℕ) (s : ℤ) → StandsFor w l c s → (lap_of w ≡ l) × (count_of w ≡ c) × (sum_of w ≡ s)
+StandsFor-fields w l c s h = (grind (arith, ints), grind (arith, ints), grind (arith, ints))
+
+-- each word of 64 bits stands for its fields
+pub StandsFor-of : (w : ℕ) → w < 2 ^ 64 → StandsFor w (lap_of w) (count_of w) (sum_of w)
+StandsFor-of w h = record {
+  lap_fits = grind (arith, ints);
+  count_fits = grind (arith, ints);
+  low = grind (arith, ints);
+  high = grind (arith, ints);
+  layout = grind (arith, ints);
+}
+
+-- no two words stand for the same three numbers
+pub StandsFor-unique : (v w l c : ℕ) (s : ℤ) → StandsFor v l c s → StandsFor w l c s → v ≡ w
+StandsFor-unique v w l c s g h = grind (arith, ints)

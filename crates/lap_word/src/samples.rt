@@ -1,0 +1,38 @@
+//! The cut of a sum into the range of a sample.
+ghost use Rattle.std.specs.Prelude.{◌≡◌};
+ghost use Rattle.lap_word.specs.Clamp.{clamp_of};
+
+/// The sample of 16 bits that is nearest to `sum`: `sum` itself from -32768 to 32767, and
+/// otherwise the end of that range that it passes.
+///
+/// This is the cut that ALSA's dmix makes when it moves its sums to the card
+/// (`snd_pcm_dmix` in alsa-lib), made once, on a whole sum.
+pub fn clamp(sum: i32) -> i16
+    ensures nearest { result ≡ clamp_of sum }
+{
+    if sum < -32768 {
+        -32768
+    } else if sum > 32767 {
+        32767
+    } else {
+        sum as i16
+    }
+}
+
+#[cfg(test)]
+mod tests {
+    use super::*;
+
+    #[test]
+    fn cuts_only_what_passes_the_range(rt: HostRuntime) {
+        for (sum, sample) in [
+            (40000, 32767),
+            (32767, 32767),
+            (20000, 20000),
+            (-32768, -32768),
+            (-2097152, -32768),
+        ] {
+            assert_eq!(rt; clamp(sum), sample, "at {sum}");
+        }
+    }
+}

@@ -1,0 +1,93 @@
+//! Making, reading and changing a word.
+ghost use Rattle.std.specs.Prelude.{◌≡◌, ◌+◌, ◌<◌, pos, negsuc, ◌+ℤ◌, ◌≤ℤ◌};
+ghost use Rattle.lap_word.specs.Word.{StandsFor, lap_of, count_of, sum_of};
+
+/// What one count is worth in a word: 2 to the power 24.
+const COUNT_UNIT: u64 = 16777216;
+
+/// What one lap is worth in a word: 2 to the power 32.
+const LAP_UNIT: u64 = 4294967296;
+
+/// What is added to a sum, so that no word holds a negative number: 2 to the power 23.
+const SUM_OFFSET: i64 = 8388608;
+
+/// The word of a lap, of the `count` of samples that were added in that lap, and of their `sum`,
+/// which lies from -8388608 to 8388607.
+pub fn pack(lap: u32, count: u8, sum: i32) -> u64
+    requires sum_low { negsuc 8388607 ≤ℤ sum }
+    requires sum_high { sum ≤ℤ pos 8388607 }
+    ensures stands { StandsFor result lap count sum }
+{
+    let raised = (sum as i64 + SUM_OFFSET) as u64;
+    lap as u64 * LAP_UNIT + count as u64 * COUNT_UNIT + raised
+}
+
+/// The lap of any word.
+pub fn lap(word: u64) -> u32
+    ensures lap { result ≡ lap_of word }
+{
+    (word / LAP_UNIT) as u32
+}
+
+/// How many samples were added in the lap of any word.
+pub fn count(word: u64) -> u8
+    ensures count { result ≡ count_of word }
+{
+    (word % LAP_UNIT / COUNT_UNIT) as u8
+}
+
+/// The sum of the samples that were added in the lap of any word, from -8388608 to 8388607.
+pub fn sum(word: u64) -> i32
+    ensures sum { result ≡ sum_of word }
+{
+    ((word % COUNT_UNIT) as i64 - SUM_OFFSET) as i32
+}
+
+/// The word after one more sample: its count is one higher, and its sum has the sample. The caller
+/// has a count below 255 and a sum that stays from -8388608 to 8388607.
+pub fn add(word: u64, sample: i16) -> u64
+    requires room { count_of word < 255 }
+    requires sum_low { negsuc 8388607 ≤ℤ (sum_of word +ℤ sample) }
+    requires sum_high { (sum_of word +ℤ sample) ≤ℤ pos 8388607 }
+    ensures stands { StandsFor result (lap_of word) (count_of word + 1) (sum_of word +ℤ sample) }
+{
+    pack(lap(word), count(word) + 1, sum(word) + sample as i32)
+}
+
+/// The word after the player took it: the next lap, with nothing added. The caller has a lap
+/// below 4294967295.
+pub fn taken(word: u64) -> u64
+    requires lap_room { lap_of word < 4294967295 }
+    ensures stands { StandsFor result (lap_of word + 1) 0 (pos 0) }
+{
+    pack(lap(word) + 1, 0, 0)
+}
+
+#[cfg(test)]
+mod tests {
+    use super::*;
+
+    #[test]
+    fn three_samples_make_one_word(rt: HostRuntime) {
+        let empty = pack(0, 0, 0);
+        assert_eq!(rt; empty, 8388608);
+        let first = add(empty, 30000);
+        let second = add(first, 10000);
+        let word = add(second, -20000);
+        assert_eq!(rt; word, 58740256);
+        assert_eq!(rt; lap(word), 0);
+        assert_eq!(rt; count(word), 3);
+        assert_eq!(rt; sum(word), 20000);
+        let next = taken(word);
+        assert_eq!(rt; next, 4303355904);
+        assert_eq!(rt; lap(next), 1);
+    }
+
+    #[test]
+    fn the_lowest_sum_of_64_samples_fits(rt: HostRuntime) {
+        let word = pack(0, 64, -2097152);
+        assert_eq!(rt; word, 1080033280);
+        assert_eq!(rt; count(word), 64);
+        assert_eq!(rt; sum(word), -2097152);
+    }
+}
