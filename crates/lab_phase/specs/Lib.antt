@@ -1,2 +1,4 @@
 pub mod Expansion
 pub mod Meaning
+pub mod Mixes
+pub mod Stage
