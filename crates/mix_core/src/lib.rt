@@ -5,7 +5,9 @@
 mod event;
 mod gate;
 mod port;
+mod ring;
 
 pub use event::{Event, Reply, Taken};
 pub use gate::{Gate, NeverStops, Pass, StepKind, ask};
 pub use port::{Entry, MixPort, Placed, Position};
+pub use ring::Core;
