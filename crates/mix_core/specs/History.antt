@@ -39,9 +39,9 @@ taking_of (e, r) = None
 abbrev pub taken_of : List Row → List Taken
 taken_of h = filter_map taking_of h
 
--- whether the word of a frame and channel was taken
-abbrev pub is_taken : List Row → ℕ → ℕ → Bool
-is_taken h f c = list_any (λ (t : Taken). (t.frame == f) && (t.channel == c)) (taken_of h)
+-- whether what was taken has the word of a frame and channel
+abbrev pub is_taken : List Taken → ℕ → ℕ → Bool
+is_taken ts f c = list_any (λ (t : Taken). (t.frame == f) && (t.channel == c)) ts
 
 -- the next word to be taken: as many words were taken before it
 abbrev pub next_of : Geometry → List Row → Cursor
@@ -72,8 +72,8 @@ pub record IsInside (g : Geometry) (members : ℕ) (h : List Row) (m f c : ℕ) 
 -- publishes the frame of the next word
 abbrev pub IsReply : Geometry → ℕ → List Row → Row → Type 0
 IsReply g members h (Add m f c s, Outside) = ¬ (IsInside g members h m f c)
-IsReply g members h (Add m f c s, Late) = IsInside g members h m f c × (is_taken h f c ≡ true)
-IsReply g members h (Add m f c s, In) = IsInside g members h m f c × (is_taken h f c ≡ false)
+IsReply g members h (Add m f c s, Late) = IsInside g members h m f c × (is_taken (taken_of h) f c ≡ true)
+IsReply g members h (Add m f c s, In) = IsInside g members h m f c × (is_taken (taken_of h) f c ≡ false)
 IsReply g members h (Take, LapEnd) = lap g (next_of g h).frame ≡ 4294967295
 IsReply g members h (Take, Took f c v) =
     (lap g (next_of g h).frame ≢ 4294967295) × (f ≡ (next_of g h).frame) × (c ≡ (next_of g h).channel)

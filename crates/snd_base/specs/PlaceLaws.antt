@@ -2,7 +2,7 @@
 use Rattle.std.specs.Prelude.{◌≡◌, ℕ, ◌+◌, ◌-◌, ◌*◌, ◌/◌, ◌%◌, ◌<◌, ◌≤◌, ◌==◌, ◌&&◌, ◌||◌, nat_lt}
 use Rattle.std.proofs.Common.{arith, ap, sym, ◌∙◌}
 use Rattle.std.proofs.Math.Nat.{lt_of_mul-lt-mul_left, mul-le-mul_left, div-add-mod, mod-lt, add-mul-mod_self_left}
-use Rattle.std.proofs.lemmas.Nat.{div-add-mod', div-mul-add, mod-mul-add}
+use Rattle.std.proofs.lemmas.Nat.{div-add-mod', div-mul-add, mod-mul-add, same_from_place}
 use Rattle.std.proofs.lemmas.Bool.Decides.{nat_tests}
 use Rattle.snd_base.specs.declared.geometry.Geometry.{Geometry}
 use Rattle.snd_base.specs.declared.places.Cursor.{Cursor}
@@ -85,12 +85,6 @@ next_word-suc g n =
     let same : n % g.channels + 1 < g.channels → ((n + 1) / g.channels ≡ n / g.channels) × ((n + 1) % g.channels ≡ n % g.channels + 1) = λ h. (div-suc_low n g.channels h, mod-suc_low n g.channels h) in
     grind (arith, nat_tests, row, same)
 
--- only one frame and channel of a window has a word of the ring: two with one word have one channel ..
-pub word_index-channel : (g : Geometry) (f c k d : ℕ) → c < g.channels → d < g.channels → word_index g f c ≡ word_index g k d → c ≡ d
-word_index-channel g f c k d c_in d_in same =
-    sym (mod-mul-add (slot g f) g.channels c c_in) ∙ (ap (λ x. x % g.channels) same ∙ mod-mul-add (slot g k) g.channels d d_in)
-
--- .. and one slot
-pub word_index-slot : (g : Geometry) (f c k d : ℕ) → c < g.channels → d < g.channels → word_index g f c ≡ word_index g k d → slot g f ≡ slot g k
-word_index-slot g f c k d c_in d_in same =
-    sym (div-mul-add (slot g f) g.channels c c_in) ∙ (ap (λ x. x / g.channels) same ∙ div-mul-add (slot g k) g.channels d d_in)
+-- two places that have one word of the ring have one slot and one channel
+pub word_index-same : (g : Geometry) (f c k d : ℕ) → c < g.channels → d < g.channels → word_index g f c ≡ word_index g k d → (slot g f ≡ slot g k) × (c ≡ d)
+word_index-same g f c k d c_in d_in same = same_from_place (slot g f) c (slot g k) d g.channels c_in d_in same
