@@ -1,4 +1,5 @@
 pub mod Agreement
+pub mod Beginning
 pub mod History
 pub mod Legality
 pub mod Lists
