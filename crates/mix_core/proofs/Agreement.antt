@@ -71,10 +71,10 @@ IsNow-next v s = record {
 pub AreInOrder-more : (g : Geometry) (ts : List Taken) (t : Taken) → AreInOrder g ts → place_of t ≡ next_word g (length ts) → AreInOrder g (ts ++ t ∷ [])
 AreInOrder-more g ts t in_order here i d within =
     elim (cases_eq i (length ts)) [
-        inl last ↦ subst (λ k. place_of (get_or (ts ++ t ∷ []) k d) ≡ next_word g k) (sym last) (ap place_of (get_or-append_seam ts t [] d) ∙ here)
+      | inl last ↦ subst (λ k. place_of (get_or (ts ++ t ∷ []) k d) ≡ next_word g k) (sym last) (ap place_of (get_or-append_seam ts t [] d) ∙ here)
       | inr before ↦
-            let below : i < length ts = omega (arith, length-append ts (t ∷ [])) in
-            ap place_of (get_or_append_left ts (t ∷ []) d i below) ∙ in_order i d below
+          let below : i < length ts = omega (arith, length-append ts (t ∷ [])) in
+          ap place_of (get_or_append_left ts (t ∷ []) d i below) ∙ in_order i d below
     ]
 
 -- the next word was taken
@@ -136,12 +136,12 @@ Agrees-added v e es ts word s member now ahead stands a =
       next = a.next;
       cursors = λ m d within.
           elim (cases_eq m e.member) [
-              inl own ↦ subst (λ x. get_or (set v.cursors e.member (behind g f c)) x d ≡ cursor_of g x (es ++ e ∷ [])) (sym own)
-                  (get_or-set_same v.cursors e.member (behind g f c) d member ∙ sym (cursor_of-more_own g es e))
+            | inl own ↦ subst (λ x. get_or (set v.cursors e.member (behind g f c)) x d ≡ cursor_of g x (es ++ e ∷ [])) (sym own)
+                (get_or-set_same v.cursors e.member (behind g f c) d member ∙ sym (cursor_of-more_own g es e))
             | inr other ↦
-                  get_or-set_other v.cursors e.member m (behind g f c) d other
-                  ∙ (a.cursors m d (subst (λ n. m < n) (length-set v.cursors e.member (behind g f c)) within)
-                  ∙ sym (cursor_of-more_other g es e m (λ same. other (sym same))))
+                get_or-set_other v.cursors e.member m (behind g f c) d other
+                ∙ (a.cursors m d (subst (λ n. m < n) (length-set v.cursors e.member (behind g f c)) within)
+                ∙ sym (cursor_of-more_other g es e m (λ same. other (sym same))))
           ];
       taken = a.taken;
       ahead = λ k d far.

@@ -68,8 +68,8 @@ Stands-taken v h word value sound more stands value_is s =
     let taken : taken_of (h ++ r ∷ []) ≡ taken_of h ++ t ∷ [] = filter_map-some taking_of h r t refl in
     let w : View = taken_view v word in
     let a : Agrees w (laid_of h) (taken_of h ++ t ∷ []) =
-        subst (λ x. Agrees w (laid_of h) (taken_of h ++ record { frame = v.next.frame; channel = v.next.channel; value = x } ∷ [])) (sym value_is)
-            (Agrees-taken v (laid_of h) (taken_of h) word sound stands s.agrees) in
+    subst (λ x. Agrees w (laid_of h) (taken_of h ++ record { frame = v.next.frame; channel = v.next.channel; value = x } ∷ [])) (sym value_is)
+    (Agrees-taken v (laid_of h) (taken_of h) word sound stands s.agrees) in
     record {
       legal = IsLegal-more v.geometry (length v.cursors) h r s.legal
           (subst (λ (x : Cursor). lap v.geometry x.frame ≢ 4294967295) s.agrees.next more, ap (λ (x : Cursor). x.frame) s.agrees.next, ap (λ (x : Cursor). x.channel) s.agrees.next, value_is);

@@ -17,7 +17,7 @@ use Rattle.mix_core.specs.History.{is_taken}
 -- two numbers are equal, or not
 pub cases_eq : (a b : ℕ) → (a ≡ b) ⊎ (a ≢ b)
 cases_eq a b = elim (cases_lt a b) [
-    inl below ↦ inr (λ e. omega arith)
+  | inl below ↦ inr (λ e. omega arith)
   | inr not_below ↦ elim (cases_lt b a) [ inl above ↦ inr (λ e. omega arith) | inr not_above ↦ inl (omega arith) ]
 ]
 

@@ -40,15 +40,15 @@ pub words-written : (P Q : ℕ → ℕ → ℕ → Type 0) (g : Geometry) (at : 
     → (k d : ℕ) → IsNow g at k d → Q (get_or (set words (word_index g f c) word) (word_index g k d) 0) k d
 words-written P Q g at words f c word room now here others old k d asked =
     elim (cases_eq (word_index g k d) (word_index g f c)) [
-        inl same ↦
-            let one : (f ≡ k) × (c ≡ d) = IsNow-same g at f c k d now asked (sym same) in
-            let written : get_or (set words (word_index g f c) word) (word_index g f c) 0 ≡ word = get_or-set_same words (word_index g f c) word 0 (subst (λ n. word_index g f c < n) (sym room) (word_index-lt g f c now.channel)) in
-            subst (λ i. Q (get_or (set words (word_index g f c) word) i 0) k d) (sym same)
-                (subst (λ w. Q w k d) (sym written) (subst (λ x. Q word x d) one.0 (subst (λ x. Q word f x) one.1 here)))
+      | inl same ↦
+          let one : (f ≡ k) × (c ≡ d) = IsNow-same g at f c k d now asked (sym same) in
+          let written : get_or (set words (word_index g f c) word) (word_index g f c) 0 ≡ word = get_or-set_same words (word_index g f c) word 0 (subst (λ n. word_index g f c < n) (sym room) (word_index-lt g f c now.channel)) in
+          subst (λ i. Q (get_or (set words (word_index g f c) word) i 0) k d) (sym same)
+          (subst (λ w. Q w k d) (sym written) (subst (λ x. Q word x d) one.0 (subst (λ x. Q word f x) one.1 here)))
       | inr other ↦
-            let kept : get_or (set words (word_index g f c) word) (word_index g k d) 0 ≡ get_or words (word_index g k d) 0 = get_or-set_other words (word_index g f c) (word_index g k d) word 0 other in
-            let elsewhere : ¬ ((f ≡ k) × (c ≡ d)) = λ e. other (subst (λ x. word_index g x d ≡ word_index g f c) e.0 (subst (λ x. word_index g f x ≡ word_index g f c) e.1 refl)) in
-            subst (λ w. Q w k d) (sym kept) (others _ k d elsewhere (old k d asked))
+          let kept : get_or (set words (word_index g f c) word) (word_index g k d) 0 ≡ get_or words (word_index g k d) 0 = get_or-set_other words (word_index g f c) (word_index g k d) word 0 other in
+          let elsewhere : ¬ ((f ≡ k) × (c ≡ d)) = λ e. other (subst (λ x. word_index g x d ≡ word_index g f c) e.0 (subst (λ x. word_index g f x ≡ word_index g f c) e.1 refl)) in
+          subst (λ w. Q w k d) (sym kept) (others _ k d elsewhere (old k d asked))
     ]
 
 -- a ring's length later stands the same word
@@ -70,32 +70,31 @@ pub words-taken : (P : ℕ → ℕ → ℕ → Type 0) (g : Geometry) (at : Curs
     → ((k d : ℕ) → IsNow g at k d → P (get_or words (word_index g k d) 0) k d)
     → (k d : ℕ) → IsNow g (behind g at.frame at.channel) k d
     → P (get_or (set words (word_index g at.frame at.channel) word) (word_index g k d) 0) k d
-
 words-taken P g at words word room in_range here old k d asked =
     let start : first_free at at.channel ≡ at.frame = grind (arith, nat_tests) in
     let from : first_free at at.channel ≤ at.frame = omega arith in
     elim (cases_eq (word_index g k d) (word_index g at.frame at.channel)) [
-        inl same ↦
-            let parts : (slot g k ≡ slot g at.frame) × (d ≡ at.channel) = word_index-same g k d at.frame at.channel asked.channel in_range same in
-            let next : first_free (behind g at.frame at.channel) d ≡ at.frame + 1 = first_free-behind_low g at.frame at.channel d in_range (omega arith) in
-            let wrapped : (at.frame + g.frames) % g.frames ≡ at.frame % g.frames = add-mod_right at.frame g.frames in
-            let frame : k ≡ at.frame + g.frames = mod-same g.frames (at.frame + 1) k (at.frame + g.frames) (omega (arith, asked.low)) (omega (arith, asked.high)) (omega (arith, g.frames_least)) (omega arith) (parts.0 ∙ sym wrapped) in
-            let written : get_or (set words (word_index g at.frame at.channel) word) (word_index g at.frame at.channel) 0 ≡ word = get_or-set_same words (word_index g at.frame at.channel) word 0 (subst (λ n. word_index g at.frame at.channel < n) (sym room) (word_index-lt g at.frame at.channel in_range)) in
-            subst (λ i. P (get_or (set words (word_index g at.frame at.channel) word) i 0) k d) (sym same)
-                (subst (λ w. P w k d) (sym written) (subst (λ x. P word x d) (sym frame) (subst (λ x. P word (at.frame + g.frames) x) (sym parts.1) here)))
+      | inl same ↦
+          let parts : (slot g k ≡ slot g at.frame) × (d ≡ at.channel) = word_index-same g k d at.frame at.channel asked.channel in_range same in
+          let next : first_free (behind g at.frame at.channel) d ≡ at.frame + 1 = first_free-behind_low g at.frame at.channel d in_range (omega arith) in
+          let wrapped : (at.frame + g.frames) % g.frames ≡ at.frame % g.frames = add-mod_right at.frame g.frames in
+          let frame : k ≡ at.frame + g.frames = mod-same g.frames (at.frame + 1) k (at.frame + g.frames) (omega (arith, asked.low)) (omega (arith, asked.high)) (omega (arith, g.frames_least)) (omega arith) (parts.0 ∙ sym wrapped) in
+          let written : get_or (set words (word_index g at.frame at.channel) word) (word_index g at.frame at.channel) 0 ≡ word = get_or-set_same words (word_index g at.frame at.channel) word 0 (subst (λ n. word_index g at.frame at.channel < n) (sym room) (word_index-lt g at.frame at.channel in_range)) in
+          subst (λ i. P (get_or (set words (word_index g at.frame at.channel) word) i 0) k d) (sym same)
+          (subst (λ w. P w k d) (sym written) (subst (λ x. P word x d) (sym frame) (subst (λ x. P word (at.frame + g.frames) x) (sym parts.1) here)))
       | inr other ↦
-            let kept : get_or (set words (word_index g at.frame at.channel) word) (word_index g k d) 0 ≡ get_or words (word_index g k d) 0 = get_or-set_other words (word_index g at.frame at.channel) (word_index g k d) word 0 other in
-            let grows : first_free at d ≤ first_free (behind g at.frame at.channel) d = first_free-behind_grows g at at.frame at.channel d from asked.channel in
-            let low : first_free at d ≤ k = omega (arith, grows, asked.low) in
-            let high : k < first_free at d + g.frames = elim (cases_eq d at.channel) [
-                inl own ↦
-                    let next : first_free (behind g at.frame at.channel) d ≡ at.frame + 1 = first_free-behind_low g at.frame at.channel d in_range (omega arith) in
-                    let here_is : first_free at d ≡ at.frame = subst (λ x. first_free at x ≡ at.frame) (sym own) start in
-                    let not_last : k ≢ at.frame + g.frames = λ e. other (word_index-wrapped g at.frame at.channel k d own e) in
-                    omega (arith, asked.high)
-              | inr not_own ↦ subst (λ x. k < x + g.frames) (first_free-behind_other g at d asked.channel in_range not_own) asked.high
-            ] in
-            subst (λ w. P w k d) (sym kept) (old k d (record { channel = asked.channel; low = low; high = high }))
+          let kept : get_or (set words (word_index g at.frame at.channel) word) (word_index g k d) 0 ≡ get_or words (word_index g k d) 0 = get_or-set_other words (word_index g at.frame at.channel) (word_index g k d) word 0 other in
+          let grows : first_free at d ≤ first_free (behind g at.frame at.channel) d = first_free-behind_grows g at at.frame at.channel d from asked.channel in
+          let low : first_free at d ≤ k = omega (arith, grows, asked.low) in
+          let high : k < first_free at d + g.frames = elim (cases_eq d at.channel) [
+            | inl own ↦
+                let next : first_free (behind g at.frame at.channel) d ≡ at.frame + 1 = first_free-behind_low g at.frame at.channel d in_range (omega arith) in
+                let here_is : first_free at d ≡ at.frame = subst (λ x. first_free at x ≡ at.frame) (sym own) start in
+                let not_last : k ≢ at.frame + g.frames = λ e. other (word_index-wrapped g at.frame at.channel k d own e) in
+                omega (arith, asked.high)
+            | inr not_own ↦ subst (λ x. k < x + g.frames) (first_free-behind_other g at d asked.channel in_range not_own) asked.high
+          ] in
+          subst (λ w. P w k d) (sym kept) (old k d (record { channel = asked.channel; low = low; high = high }))
     ]
 
 -- the word of a frame and channel that were taken has a later lap
@@ -116,14 +115,14 @@ word-late v f c s in_range before =
 pub untaken-by_lap : (v : View) (f c : ℕ) → IsSound v → c < v.geometry.channels → lap_of (word_at v f c) ≡ lap v.geometry f → first_free v.next c ≤ f
 untaken-by_lap v f c s in_range same =
     elim (cases_lt f (first_free v.next c)) [
-        inl before ↦ absurd (omega (arith, word-late v f c s in_range before, same))
+      | inl before ↦ absurd (omega (arith, word-late v f c s in_range before, same))
       | inr not_before ↦ not_before
     ]
 
 pub taken-by_lap : (v : View) (f c : ℕ) → IsSound v → c < v.geometry.channels → f < v.position + v.geometry.frames → lap_of (word_at v f c) ≢ lap v.geometry f → f < first_free v.next c
 taken-by_lap v f c s in_range ahead other =
     elim (cases_lt f (first_free v.next c)) [
-        inl before ↦ before
+      | inl before ↦ before
       | inr not_before ↦ absurd (other (s.words_now f c (record { channel = in_range; low = not_before; high = grind (arith, nat_tests, s.position_most) })).of_lap)
     ]
 

@@ -1,6 +1,7 @@
 -- What each call of a core does to it, and to every history that it stands for.
-use Rattle.std.specs.Prelude.{◌≡◌, ℕ, true, false, List, [], ◌∷◌, ◌++◌, length, slice_set}
+use Rattle.std.specs.Prelude.{◌≡◌, ◌≢◌, ℕ, true, false, List, [], ◌∷◌, ◌++◌, length, slice_index_or}
 use Rattle.snd_base.specs.declared.geometry.Geometry.{Geometry}
+use Rattle.snd_base.specs.declared.places.Cursor.{Cursor}
 use Rattle.snd_base.specs.Places.{behind, first_frame}
 use Rattle.lap_word.specs.Clamp.{clamp_of}
 use Rattle.mix_core.specs.declared.port.Entry.{Entry}
@@ -24,7 +25,9 @@ pub record IsNew (v : View) (g : Geometry) (members : ℕ) : Type 0 where
 -- an entry was added: its member's cursor stands behind it, and each history has it at its end
 pub record IsAdded (v w : View) (e : Entry) : Type 0 where
   pub geometry : w.geometry ≡ v.geometry
-  pub cursors : w.cursors ≡ slice_set v.cursors e.member (behind v.geometry e.frame e.channel)
+  pub members : length w.cursors ≡ length v.cursors
+  pub own : (d : Cursor) → slice_index_or w.cursors e.member d ≡ behind v.geometry e.frame e.channel
+  pub others : (m : ℕ) (d : Cursor) → m ≢ e.member → slice_index_or w.cursors m d ≡ slice_index_or v.cursors m d
   pub next : w.next ≡ v.next
   pub position : w.position ≡ v.position
   pub gone : w.gone ≡ v.gone

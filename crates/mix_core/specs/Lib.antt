@@ -5,4 +5,6 @@ pub mod Laid
 pub mod Port
 pub mod Sound
 pub mod Stands
+pub mod Turn
+pub mod TurnLaws
 pub mod View

@@ -1,5 +1,5 @@
 -- What contracts see of a core: its ring's words and geometry, its members' cursors, and how far the player is.
-use Rattle.std.specs.Prelude.{◌≡◌, ℕ, ◌<◌, Bool, List, slice_index}
+use Rattle.std.specs.Prelude.{◌≡◌, ℕ, ◌<◌, ◌≤◌, Bool, List, slice_index}
 use Rattle.snd_base.specs.declared.geometry.Geometry.{Geometry}
 use Rattle.snd_base.specs.declared.places.Cursor.{Cursor}
 use Rattle.snd_base.specs.Places.{first_free, lap, word_index}
@@ -24,3 +24,8 @@ pub record IsLateWord (v : View) (f c word : ℕ) : Type 0 where
   pub shown : word_at v f c ≡ word
   pub past : lap v.geometry f < lap_of word
   pub taken : f < first_free v.next c
+
+-- a frame and channel that are not taken: they are at the next word or behind it, and not before the position
+pub record IsUntaken (v : View) (f c : ℕ) : Type 0 where
+  pub untaken : first_free v.next c ≤ f
+  pub published : v.position ≤ f

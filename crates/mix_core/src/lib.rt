@@ -6,8 +6,10 @@ mod event;
 mod gate;
 mod port;
 mod ring;
+mod turn;
 
 pub use event::{Event, Reply, Taken};
 pub use gate::{Gate, NeverStops, Pass, StepKind, ask};
 pub use port::{Entry, MixPort, Placed, Position};
 pub use ring::Core;
+pub use turn::Turn;

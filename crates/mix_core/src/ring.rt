@@ -1,12 +1,11 @@
 //! A ring with one owner: the core.
 ghost use Rattle.std.specs.Prelude.{◌≡◌, ◌+◌, ◌<◌, ◌≤◌, ◌↔◌, length, slice_index_or, IfOk, IfErr, OnErr, IsErrOf, MatchOption};
-ghost use Rattle.snd_base.specs.Places.{IsFrom, first_frame, first_free, lap};
+ghost use Rattle.snd_base.specs.Places.{IsFrom, IsWithin, first_free, lap};
 ghost use Rattle.mix_core.specs.Calls.{IsAdded, IsNew, IsPublished, IsRefused, IsTaken, IsUnplugged};
-ghost use Rattle.mix_core.specs.Sound.{IsNow};
-ghost use Rattle.mix_core.specs.View.{IsLateWord, word_at};
+ghost use Rattle.mix_core.specs.View.{IsLateWord, IsUntaken};
 
 use crate::event::Taken;
-use crate::port::Entry;
+use crate::port::{Entry, Position};
 use snd_base::{Cursor, Geometry, PcmError};
 use std::alloc::Global;
 use std::marker::Model;
@@ -102,12 +101,46 @@ impl Core {
         self.gone = true;
     }
 
+    /// The geometry of the core's ring.
+    pub fn geometry(&self) -> Geometry
+        ensures { result ≡ self.now.geometry }
+    {
+        self.geometry
+    }
+
+    /// The next word to be taken: its frame and channel.
+    pub fn next(&self) -> Cursor
+        ensures { result ≡ self.now.next }
+    {
+        self.next
+    }
+
+    /// The position that was published last, or the number of the first frame, and whether the card is gone.
+    pub fn position(&self) -> Position
+        ensures frame { result.frame ≡ self.now.position }
+        ensures gone { result.gone ≡ self.now.gone }
+        ensures within { IsWithin self.now.geometry result.frame }
+    {
+        Position {
+            frame: self.position,
+            gone: self.gone,
+        }
+    }
+
+    /// The first frame and channel that a member may still add to.
+    pub fn cursor(&self, member: u32) -> Cursor
+        requires { member < length self.now.cursors }
+        ensures value { result ≡ slice_index_or self.now.cursors member self.now.next }
+        ensures within { IsWithin self.now.geometry result.frame }
+    {
+        self.cursors[member as usize]
+    }
+
     /// The word of a frame and channel that was taken, and None where they are not taken yet.
     pub(crate) fn late_word(&self, frame: u64, channel: u8) -> Option<u64>
         requires channel { channel < self.now.geometry.channels }
-        requires least { first_frame self.now.geometry ≤ frame }
         requires ahead { frame < self.now.position + self.now.geometry.frames }
-        ensures { MatchOption result (first_free self.now.next channel ≤ frame) (λ word. IsLateWord self.now frame channel word) }
+        ensures { MatchOption result (IsUntaken self.now frame channel) (λ word. IsLateWord self.now frame channel word) }
     {
         let word = self.words[self.geometry.word_index(frame, channel)];
         if lap_word::lap(word) as u64 == self.geometry.lap(frame) {

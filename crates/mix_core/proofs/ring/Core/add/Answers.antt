@@ -1,8 +1,7 @@
 use Rattle.mix_core.proofs.ring.Core.add.Goals as goal
-
 use Rattle.std.proofs.Common.{◌≡◌, ◌≢◌, ℕ, ◌+◌, ◌<◌, ◌≤◌, length, get_or, ℤ, ◌+ℤ◌, ◌≤ℤ◌, pos, negsuc, subst, sym, ◌∙◌, rules, refl, arith, ap}
 use Rattle.std.proofs.lemmas.Int.{ints, to_z-of_z}
-use Rattle.std.proofs.lemmas.List.{get_or_read}
+use Rattle.std.proofs.lemmas.List.{get_or-set_other, get_or-set_same, get_or_read, length-set}
 use Rattle.snd_base.specs.declared.places.Cursor.{Cursor}
 use Rattle.snd_base.specs.Places.{IsFrom, first_free, lap, word_index}
 use Rattle.lap_word.specs.Word.{StandsFor, count_of, lap_of, sum_of}
@@ -38,7 +37,9 @@ added : (v : View) (e : Entry) (word : ℕ) → IsSound v → CanAdd v e
     → IsAdded v (added_view v e word) e
 added v e word s can stands = record {
   geometry = refl;
-  cursors = refl;
+  members = length-set v.cursors e.member _;
+  own = λ d. get_or-set_same v.cursors e.member _ d can.member;
+  others = λ m d other. get_or-set_other v.cursors e.member m _ d other;
   next = refl;
   position = refl;
   gone = refl;
@@ -107,7 +108,7 @@ invariant_of-self c =
     let stands : StandsFor c.add.result (lap_of c.index-word.result.now) (count_of c.index-word.result.now + 1) (sum_of c.index-word.result.now +ℤ e.sample) = simp to_z-of_z at c.add.ensures.stands in
     let stands_there = subst (λ w. StandsFor c.add.result (lap_of w) (count_of w + 1) (sum_of w +ℤ e.sample)) word stands in
     rw (c.word_index-at.ensures.value, c.behind.ensures)
-        (IsSound-added v e v.next c.add.result c.self.invariant can.member can.from can.now can.fits can.low can.high stands_there)
+    (IsSound-added v e v.next c.add.result c.self.invariant can.member can.from can.now can.fits can.low can.high stands_there)
 
 pub returns : goal.returns
 returns c =

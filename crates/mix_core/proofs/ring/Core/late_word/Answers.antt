@@ -1,8 +1,9 @@
-use Rattle.std.proofs.Common.{◌≡◌, ◌≢◌, ℕ, ◌<◌, ◌≤◌, length, get_or, subst, sym, ◌∙◌, rules, refl}
+use Rattle.std.proofs.Common.{◌≡◌, ◌≢◌, ◌<◌, ◌≤◌, length, get_or, subst, sym, ◌∙◌, rules, refl, arith}
+use Rattle.std.proofs.lemmas.Bool.Decides.{nat_tests}
 use Rattle.std.proofs.lemmas.List.{get_or_read}
-use Rattle.snd_base.specs.Places.{lap, word_index}
+use Rattle.snd_base.specs.Places.{first_free, lap}
 use Rattle.lap_word.specs.Word.{lap_of}
-use Rattle.mix_core.specs.View.{IsLateWord, View, word_at}
+use Rattle.mix_core.specs.View.{IsLateWord, IsUntaken, View, word_at}
 use Rattle.mix_core.proofs.Words.{taken-by_lap, untaken-by_lap, word-late}
 use Rattle.mix_core.specs.contracts.ring.Core.{the_view}
 use Rattle.mix_core.proofs.ring.Core.late_word.Goals as goal
@@ -15,7 +16,9 @@ returns-then-lap c =
     let word : c.index-word.result.now ≡ word_at v c.args.frame c.args.channel = rw c.word_index.ensures.value at read in
     let in_range = rw (← c.self.view_is) at c.requires.channel in
     let same : lap_of (word_at v c.args.frame c.args.channel) ≡ lap v.geometry c.args.frame = subst (λ w. lap_of w ≡ lap v.geometry c.args.frame) word (sym c.lap.ensures.lap ∙ (c.if-lap.true ∙ c.lap-2.ensures)) in
-    rw (← c.self.view_is) (untaken-by_lap v c.args.frame c.args.channel c.self.invariant in_range same)
+    let not_before : first_free v.next c.args.channel ≤ c.args.frame = untaken-by_lap v c.args.frame c.args.channel c.self.invariant in_range same in
+    let untaken : IsUntaken v c.args.frame c.args.channel = record { untaken = not_before; published = grind (arith, nat_tests, c.self.invariant.position_most) } in
+    rw (← c.self.view_is) untaken
 
 pub returns-else-lap : goal.returns-else-lap
 returns-else-lap c =

@@ -1,5 +1,3 @@
-use Rattle.std.proofs.Common.{◌≡◌, ℕ, ◌*◌}
-use Rattle.std.proofs.Math.ListN.{replicate}
 use Rattle.mix_core.proofs.Beginning.{IsNew-of, IsSound-new}
 use Rattle.mix_core.proofs.ring.Core.new.Goals as goal
 

@@ -3,7 +3,6 @@ use Rattle.mix_core.specs.Calls.{IsPublished}
 use Rattle.mix_core.specs.View.{View}
 use Rattle.mix_core.specs.Sound.{IsSound}
 use Rattle.mix_core.proofs.History.{Stands-published}
-use Rattle.mix_core.proofs.Soundness
 use Rattle.mix_core.proofs.ring.Core.publish.Goals as goal
 
 published : (v : View) → IsSound v → IsPublished v (record v { position = v.next.frame })

@@ -1,12 +1,11 @@
 use Rattle.std.proofs.Common.{◌≡◌, ◌≢◌, ℕ, ◌+◌, ◌*◌, ◌<◌, ◌≤◌, List, length, get_or, ℤ, pos, subst, sym, ap, ◌∙◌, rules, refl, arith}
 use Rattle.std.proofs.Math.Nat.{div-lt_iff_lt-mul}
-use Rattle.std.proofs.lemmas.Int.{ints, to_z-of_z}
+use Rattle.std.proofs.lemmas.Int.{to_z-of_z}
 use Rattle.std.proofs.lemmas.List.{get_or_read}
 use Rattle.snd_base.specs.declared.geometry.Geometry.{Geometry}
 use Rattle.snd_base.specs.Places.{end_frame, lap, word_index}
 use Rattle.lap_word.specs.Clamp.{clamp_of}
 use Rattle.lap_word.specs.Word.{StandsFor, StandsFor-fields, lap_of, sum_of}
-use Rattle.mix_core.specs.declared.event.Taken.{Taken}
 use Rattle.mix_core.specs.Calls.{IsRefused, IsTaken}
 use Rattle.mix_core.specs.History.{Row, laid_of}
 use Rattle.mix_core.specs.Laid.{total}
@@ -18,7 +17,7 @@ use Rattle.mix_core.proofs.History.{Stands-refused, Stands-taken}
 use Rattle.mix_core.proofs.Soundness.{IsSound-taken}
 use Rattle.mix_core.specs.contracts.ring.Core.{the_view}
 use mir.Syntax.{w16, w32}
-use mir.Val.{SFits, of_z, to_z}
+use mir.Val.{SFits}
 use Rattle.mix_core.proofs.ring.Core.take.Goals as goal
 
 -- no frame up to the end has a lap past the last
@@ -38,7 +37,7 @@ taken : (v : View) (word : ℕ) (value : ℤ) → IsSound v → lap v.geometry v
     → IsTaken v (taken_view v word) (record { frame = v.next.frame; channel = v.next.channel; value = value })
 taken v word value s more stands value_is =
     let value_of : (h : List Row) → Stands v h → value ≡ clamp_of (total (laid_of h) v.next.frame v.next.channel) =
-        λ h st. value_is ∙ ap clamp_of (StandsFor-fields _ _ _ _ (st.agrees.words v.next.frame v.next.channel (IsNow-next v s))).2 in
+    λ h st. value_is ∙ ap clamp_of (StandsFor-fields _ _ _ _ (st.agrees.words v.next.frame v.next.channel (IsNow-next v s))).2 in
     record {
       geometry = refl;
       cursors = refl;
