@@ -1,3 +1,4 @@
 pub mod Errors
+pub mod PlaceLaws
 pub mod Places
 pub mod Relations

@@ -1,0 +1,155 @@
+-- What each event does to the agreement of a core with what was laid and what was taken.
+use Rattle.std.proofs.Common.{◌≡◌, ◌≢◌, ℕ, ◌+◌, ◌*◌, ◌/◌, ◌<◌, ◌≤◌, Bool, true, false, ◌==◌, ◌&&◌, ◌||◌, List, [], ◌∷◌, ◌++◌, length, get_or, set, ℤ, pos, ◌+ℤ◌, ◌⊎◌, inl, inr, arith, subst, sym, refl, ap, ◌∙◌, nat_lt}
+use Rattle.std.specs.List.{All, list_any}
+use Rattle.std.proofs.Math.Bool.{or_comm}
+use Rattle.std.proofs.Math.Nat.{add-div_right}
+use Rattle.std.proofs.Math.Seq.{get_or-append_seam}
+use Rattle.std.proofs.lemmas.Bool.Decides.{nat_tests}
+use Rattle.std.proofs.lemmas.List.{get_or-set_same, get_or-set_other, get_or_append_left, length-append, length-set}
+use Rattle.std.proofs.lemmas.List.Elements.{All-push}
+use Rattle.std.proofs.lemmas.List.Folds.{list_any_at}
+use Rattle.snd_base.specs.declared.geometry.Geometry.{Geometry}
+use Rattle.snd_base.specs.declared.places.Cursor.{Cursor}
+use Rattle.snd_base.specs.PlaceLaws.{next_word-suc, nat_lt-behind}
+use Rattle.snd_base.specs.Places.{IsFrom, behind, first_frame, first_free, lap, next_word, word_index}
+use Rattle.lap_word.specs.Clamp.{clamp_of}
+use Rattle.lap_word.specs.Word.{StandsFor, StandsFor-fields, count_of, lap_of, sum_of}
+use Rattle.mix_core.specs.declared.port.Entry.{Entry}
+use Rattle.mix_core.specs.declared.event.Taken.{Taken}
+use Rattle.mix_core.specs.History.{AreExact, AreInOrder, is_taken, place_of}
+use Rattle.mix_core.specs.Laid.{at, cursor_of, total}
+use Rattle.mix_core.specs.Sound.{IsNow, IsSound}
+use Rattle.mix_core.specs.Stands.{Agrees}
+use Rattle.mix_core.specs.View.{View, word_at}
+use Rattle.mix_core.proofs.Lists.{at-more_elsewhere, at-more_here, cases_eq, cursor_of-more_other, cursor_of-more_own, is_taken-more, total-more_elsewhere, total-more_here}
+use Rattle.mix_core.proofs.Words.{words-taken, words-written}
+
+-- a core after the next word was taken, and after an entry was added, with a new word there
+abbrev pub taken_view : View → ℕ → View
+taken_view v word = record v { words = set v.words (word_index v.geometry v.next.frame v.next.channel) word; next = behind v.geometry v.next.frame v.next.channel }
+
+abbrev pub added_view : View → Entry → ℕ → View
+added_view v e word = record v { words = set v.words (word_index v.geometry e.frame e.channel) word; cursors = set v.cursors e.member (behind v.geometry e.frame e.channel) }
+
+-- what the next word takes
+abbrev pub taking : View → List Entry → Taken
+taking v es = record { frame = v.next.frame; channel = v.next.channel; value = clamp_of (total es v.next.frame v.next.channel) }
+
+-- a later position
+pub Agrees-published : (v : View) (es : List Entry) (ts : List Taken) (position : ℕ) → v.position ≤ position → Agrees v es ts → Agrees (record v { position = position }) es ts
+Agrees-published v es ts position later a = record {
+  next = a.next;
+  cursors = a.cursors;
+  taken = a.taken;
+  ahead = λ f c far. a.ahead f c (omega (arith, far));
+  words = a.words;
+  in_order = a.in_order;
+  exact = a.exact;
+}
+
+-- the card is gone
+pub Agrees-unplugged : (v : View) (es : List Entry) (ts : List Taken) (gone : Bool) → Agrees v es ts → Agrees (record v { gone = gone }) es ts
+Agrees-unplugged v es ts gone a = record {
+  next = a.next;
+  cursors = a.cursors;
+  taken = a.taken;
+  ahead = a.ahead;
+  words = a.words;
+  in_order = a.in_order;
+  exact = a.exact;
+}
+
+-- the next word is one that the ring has now
+pub IsNow-next : (v : View) → IsSound v → IsNow v.geometry v.next v.next.frame v.next.channel
+IsNow-next v s = record {
+  channel = s.next_channel;
+  low = grind (arith, nat_tests);
+  high = grind (arith, nat_tests, v.geometry.frames_least);
+}
+
+-- one more was taken, in order
+pub AreInOrder-more : (g : Geometry) (ts : List Taken) (t : Taken) → AreInOrder g ts → place_of t ≡ next_word g (length ts) → AreInOrder g (ts ++ t ∷ [])
+AreInOrder-more g ts t in_order here i d within =
+    elim (cases_eq i (length ts)) [
+      | inl last ↦ subst (λ k. place_of (get_or (ts ++ t ∷ []) k d) ≡ next_word g k) (sym last) (ap place_of (get_or-append_seam ts t [] d) ∙ here)
+      | inr before ↦
+          let below : i < length ts = omega (arith, length-append ts (t ∷ [])) in
+          ap place_of (get_or_append_left ts (t ∷ []) d i below) ∙ in_order i d below
+    ]
+
+-- the next word was taken
+pub Agrees-taken : (v : View) (es : List Entry) (ts : List Taken) (word : ℕ)
+    → IsSound v → StandsFor word (lap_of (word_at v v.next.frame v.next.channel) + 1) 0 (pos 0)
+    → Agrees v es ts → Agrees (taken_view v word) es (ts ++ taking v es ∷ [])
+Agrees-taken v es ts word s stands a =
+    let g : Geometry = v.geometry in
+    let nf : ℕ = v.next.frame in
+    let nc : ℕ = v.next.channel in
+    let now : StandsFor (word_at v nf nc) (lap g nf) (length (at es nf nc)) (total es nf nc) = a.words nf nc (IsNow-next v s) in
+    let lap_is : lap_of (word_at v nf nc) ≡ lap g nf = (StandsFor-fields _ _ _ _ now).0 in
+    let some : 0 < g.frames = omega (arith, g.frames_least) in
+    let next_lap : lap g (nf + g.frames) ≡ lap g nf + 1 = add-div_right nf some in
+    let far : at es (nf + g.frames) nc ≡ [] = a.ahead (nf + g.frames) nc (omega (arith, s.position_most)) in
+    let P : ℕ → ℕ → ℕ → Type 0 = λ w f c. StandsFor w (lap g f) (length (at es f c)) (total es f c) in
+    let here : P word (nf + g.frames) nc = rw (far, next_lap, ← lap_is) stands in
+    record {
+      next = ap (λ x. behind g x.frame x.channel) a.next ∙ (sym (next_word-suc g (length ts)) ∙ ap (next_word g) (sym (length-append ts (taking v es ∷ []))));
+      cursors = a.cursors;
+      taken = λ f c in_range least.
+          is_taken-more ts (taking v es) f c
+          ∙ (ap (λ b. b || ((nf == f) && (nc == c))) (a.taken f c in_range least)
+          ∙ (or_comm (nat_lt f (first_free v.next c)) ((nf == f) && (nc == c)) ∙ sym (nat_lt-behind g v.next f c s.next_channel in_range)));
+      ahead = a.ahead;
+      words = words-taken P g v.next v.words word s.room s.next_channel here a.words;
+      in_order = AreInOrder-more g ts (taking v es) a.in_order a.next;
+      exact = All-push (λ (t : Taken). t.value ≡ clamp_of (total es t.frame t.channel)) ts (taking v es) a.exact refl;
+    }
+
+-- no take is at a frame and channel that is not taken
+pub is_taken-none : (ts : List Taken) (f c k : ℕ) (d : Taken) → is_taken ts f c ≡ false → k < length ts → ¬ ((f ≡ (get_or ts k d).frame) × (c ≡ (get_or ts k d).channel))
+is_taken-none ts f c k d none within same =
+    let t : Taken = get_or ts k d in
+    let here : ((t.frame == f) && (t.channel == c)) ≡ true = grind (arith, nat_tests) in
+    let found : is_taken ts f c ≡ true = list_any_at (λ (x : Taken). (x.frame == f) && (x.channel == c)) ts k d within here in
+    cc
+
+-- an entry was added where nothing was taken
+pub Agrees-added : (v : View) (e : Entry) (es : List Entry) (ts : List Taken) (word : ℕ)
+    → IsSound v → e.member < length v.cursors → IsNow v.geometry v.next e.frame e.channel → e.frame < v.position + v.geometry.frames
+    → StandsFor word (lap_of (word_at v e.frame e.channel)) (count_of (word_at v e.frame e.channel) + 1) (sum_of (word_at v e.frame e.channel) +ℤ e.sample)
+    → Agrees v es ts → Agrees (added_view v e word) (es ++ e ∷ []) ts
+Agrees-added v e es ts word s member now ahead stands a =
+    let g : Geometry = v.geometry in
+    let f : ℕ = e.frame in
+    let c : ℕ = e.channel in
+    let P : ℕ → ℕ → ℕ → Type 0 = λ w k d. StandsFor w (lap g k) (length (at es k d)) (total es k d) in
+    let Q : ℕ → ℕ → ℕ → Type 0 = λ w k d. StandsFor w (lap g k) (length (at (es ++ e ∷ []) k d)) (total (es ++ e ∷ []) k d) in
+    let old : StandsFor (word_at v f c) (lap g f) (length (at es f c)) (total es f c) = a.words f c now in
+    let fields : (lap_of (word_at v f c) ≡ lap g f) × (count_of (word_at v f c) ≡ length (at es f c)) × (sum_of (word_at v f c) ≡ total es f c) = StandsFor-fields _ _ _ _ old in
+    let one_more : length (at (es ++ e ∷ []) f c) ≡ length (at es f c) + 1 = ap length (at-more_here es e) ∙ length-append (at es f c) (e.sample ∷ []) in
+    let here : Q word f c = rw (one_more, total-more_here es e, ← fields.0, ← fields.1, ← fields.2) stands in
+    let others : (w k d : ℕ) → ¬ ((f ≡ k) × (c ≡ d)) → P w k d → Q w k d = λ w k d elsewhere p. rw (at-more_elsewhere es e k d elsewhere) p in
+    let least : first_frame g ≤ f = grind (arith, nat_tests, now.low, s.next_least) in
+    let untaken : nat_lt f (first_free v.next c) ≡ false = grind (arith, nat_tests, now.low) in
+    let none : is_taken ts f c ≡ false = a.taken f c now.channel least ∙ untaken in
+    record {
+      next = a.next;
+      cursors = λ m d within.
+          elim (cases_eq m e.member) [
+            | inl own ↦ subst (λ x. get_or (set v.cursors e.member (behind g f c)) x d ≡ cursor_of g x (es ++ e ∷ [])) (sym own)
+                (get_or-set_same v.cursors e.member (behind g f c) d member ∙ sym (cursor_of-more_own g es e))
+            | inr other ↦
+                get_or-set_other v.cursors e.member m (behind g f c) d other
+                ∙ (a.cursors m d (subst (λ n. m < n) (length-set v.cursors e.member (behind g f c)) within)
+                ∙ sym (cursor_of-more_other g es e m (λ same. other (sym same))))
+          ];
+      taken = a.taken;
+      ahead = λ k d far.
+          let elsewhere : ¬ ((f ≡ k) × (c ≡ d)) = λ same. absurd (omega (arith, same.0, far, ahead)) in
+          at-more_elsewhere es e k d elsewhere ∙ a.ahead k d far;
+      words = words-written P Q g v.next v.words f c word s.room now here others a.words;
+      in_order = a.in_order;
+      exact = λ k d within.
+          a.exact k d within
+          ∙ ap clamp_of (sym (total-more_elsewhere es e (get_or ts k d).frame (get_or ts k d).channel (is_taken-none ts f c k d none within)));
+    }

@@ -1,0 +1,86 @@
+-- A new core is sound, and stands for the empty history.
+use Rattle.std.proofs.Common.{◌≡◌, ℕ, ◌+◌, ◌-◌, ◌*◌, ◌/◌, ◌%◌, ◌<◌, ◌≤◌, Bool, true, false, [], length, get_or, ℤ, pos, arith, subst, sym, refl, ap, ◌∙◌, nat_lt}
+use Rattle.std.proofs.Math.ListN.{replicate}
+use Rattle.std.proofs.lemmas.Bool.Decides.{nat_tests}
+use Rattle.std.proofs.lemmas.List.{get_or-replicate, length-replicate}
+use Rattle.std.proofs.lemmas.List.Elements.{All-replicate}
+use Rattle.std.proofs.lemmas.Nat.{div-mul-add}
+use Rattle.snd_base.specs.declared.geometry.Geometry.{Geometry}
+use Rattle.snd_base.specs.declared.places.Cursor.{Cursor}
+use Rattle.snd_base.specs.Places.{IsWithin, end_frame, first_frame, first_free, lap, word_index}
+use Rattle.lap_word.specs.Word.{StandsFor}
+use Rattle.mix_core.specs.Calls.{IsNew}
+use Rattle.mix_core.specs.Sound.{IsNow, IsSound}
+use Rattle.mix_core.specs.Stands.{Agrees, Stands}
+use Rattle.mix_core.specs.View.{View, word_at}
+use Rattle.mix_core.proofs.Soundness.{HoldsAtMost-empty}
+use Rattle.mix_core.proofs.Words.{word_index-lt}
+
+-- where everybody begins
+abbrev pub start : Geometry → Cursor
+start g = record { frame = first_frame g; channel = 0 }
+
+-- a core with one word in every slot and channel
+abbrev pub new_view : Geometry → ℕ → ℕ → View
+new_view g members word = record {
+  geometry = g;
+  words = replicate (g.frames * g.channels) word;
+  cursors = replicate members (start g);
+  next = start g;
+  position = first_frame g;
+  gone = false;
+}
+
+-- the frames that a new ring has are those of the first lap
+pub lap-first : (g : Geometry) (f c : ℕ) → IsNow g (start g) f c → lap g f ≡ g.first_lap
+lap-first g f c now =
+    let start_is : first_free (start g) c ≡ first_frame g = grind (arith, nat_tests) in
+    let low : first_frame g ≤ f = omega (arith, start_is, now.low) in
+    let high : f < first_frame g + g.frames = omega (arith, start_is, now.high) in
+    let rest : f - g.first_lap * g.frames < g.frames = omega arith in
+    let split : f ≡ g.first_lap * g.frames + (f - g.first_lap * g.frames) = omega arith in
+    ap (λ x. x / g.frames) split ∙ div-mul-add g.first_lap g.frames (f - g.first_lap * g.frames) rest
+
+pub word_at-new : (g : Geometry) (members word f c : ℕ) → c < g.channels → word_at (new_view g members word) f c ≡ word
+word_at-new g members word f c in_range = get_or-replicate (g.frames * g.channels) (word_index g f c) word 0 (word_index-lt g f c in_range)
+
+pub first_frame-le : (g : Geometry) → first_frame g ≤ end_frame g
+first_frame-le g = grind (arith, g.first_lap_most)
+
+pub IsSound-new : (g : Geometry) (members word : ℕ) → members ≤ 64 → StandsFor word g.first_lap 0 (pos 0) → IsSound (new_view g members word)
+IsSound-new g members word few stands = record {
+  room = length-replicate (g.frames * g.channels) word;
+  members = omega (arith, length-replicate members (start g));
+  next_channel = omega (arith, g.channels_least);
+  next_least = omega arith;
+  next_most = first_frame-le g;
+  position_least = omega arith;
+  position_most = omega arith;
+  cursors_within = All-replicate (λ (a : Cursor). IsWithin g a.frame) members (start g) (record { least = omega arith; most = first_frame-le g });
+  words_now = λ f c now. rw (word_at-new g members word f c now.channel, lap-first g f c now) (HoldsAtMost-empty word g.first_lap _ stands);
+}
+
+pub Stands-new : (g : Geometry) (members word : ℕ) → StandsFor word g.first_lap 0 (pos 0) → Stands (new_view g members word) []
+Stands-new g members word stands = record {
+  legal = tt;
+  position = refl;
+  agrees = record {
+    next = grind arith;
+    cursors = λ m d within. get_or-replicate members m (start g) d (subst (λ n. m < n) (length-replicate members (start g)) within);
+    taken = λ f c in_range least. grind (arith, nat_tests, least);
+    ahead = λ f c far. refl;
+    words = λ f c now. rw (word_at-new g members word f c now.channel, lap-first g f c now) stands;
+    in_order = λ i d none. absurd (omega arith);
+    exact = λ i d none. absurd (omega arith);
+  };
+}
+
+pub IsNew-of : (g : Geometry) (members word : ℕ) → StandsFor word g.first_lap 0 (pos 0) → IsNew (new_view g members word) g members
+IsNew-of g members word stands = record {
+  geometry = refl;
+  members_is = length-replicate members (start g);
+  next = refl;
+  position = refl;
+  gone = refl;
+  stands = Stands-new g members word stands;
+}

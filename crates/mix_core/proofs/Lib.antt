@@ -1,0 +1,7 @@
+pub mod Agreement
+pub mod Beginning
+pub mod History
+pub mod Legality
+pub mod Lists
+pub mod Soundness
+pub mod Words

@@ -1,0 +1,61 @@
+-- Laws of the lists of entries, takes and rows, when one more stands at the end.
+use Rattle.std.proofs.Common.{map, ◌≡◌, ◌≢◌, ℕ, ◌+◌, ◌<◌, ◌≤◌, Bool, true, false, ◌==◌, ◌&&◌, ◌||◌, List, [], ◌∷◌, ◌++◌, length, get_or, ℤ, ◌+ℤ◌, refl, sym, ap, ◌∙◌, ◌⊎◌, inl, inr, arith, subst, Option, None, Some}
+use Rattle.std.specs.List.{filter, filter_map, fold, list_any}
+use Rattle.std.proofs.lemmas.List.{append-nil, map-append}
+use Rattle.std.proofs.lemmas.List.Elements.{filter-append, filter_map-append}
+use Rattle.std.proofs.lemmas.List.Folds.{list_any-append}
+use Rattle.std.proofs.lemmas.List.Sums.{fold_push}
+use Rattle.std.proofs.lemmas.Bool.{cases_lt}
+use Rattle.std.proofs.lemmas.Bool.Decides.{nat_tests}
+use Rattle.snd_base.specs.declared.geometry.Geometry.{Geometry}
+use Rattle.snd_base.specs.Places.{behind}
+use Rattle.mix_core.specs.declared.port.Entry.{Entry}
+use Rattle.mix_core.specs.declared.event.Taken.{Taken}
+use Rattle.mix_core.specs.Laid.{at, cursor_after, cursor_of, is_at, total}
+use Rattle.mix_core.specs.History.{is_taken}
+
+-- two numbers are equal, or not
+pub cases_eq : (a b : ℕ) → (a ≡ b) ⊎ (a ≢ b)
+cases_eq a b = elim (cases_lt a b) [
+  | inl below ↦ inr (λ e. omega arith)
+  | inr not_below ↦ elim (cases_lt b a) [ inl above ↦ inr (λ e. omega arith) | inr not_above ↦ inl (omega arith) ]
+]
+
+-- one more item that gives something, and one that gives nothing
+pub filter_map-some : {X Y : Type 0} (h : X → Option Y) (xs : List X) (x : X) (y : Y) → h x ≡ Some y → filter_map h (xs ++ x ∷ []) ≡ filter_map h xs ++ y ∷ []
+filter_map-some h xs x y e = rw (filter_map-append h xs (x ∷ []), e) refl
+
+pub filter_map-none : {X Y : Type 0} (h : X → Option Y) (xs : List X) (x : X) → h x ≡ None → filter_map h (xs ++ x ∷ []) ≡ filter_map h xs
+filter_map-none h xs x e = rw (filter_map-append h xs (x ∷ []), e) (append-nil _)
+
+-- one more entry at its own frame and channel, and at another one
+pub at-more_here : (es : List Entry) (e : Entry) → at (es ++ e ∷ []) e.frame e.channel ≡ at es e.frame e.channel ++ e.sample ∷ []
+at-more_here es e =
+    let here : is_at e.frame e.channel e ≡ true = grind (arith, nat_tests) in
+    rw (filter-append (is_at e.frame e.channel) es (e ∷ []), here) (map-append (λ (x : Entry). x.sample) (filter (is_at e.frame e.channel) es) (e ∷ []))
+
+pub at-more_elsewhere : (es : List Entry) (e : Entry) (f c : ℕ) → ¬ ((e.frame ≡ f) × (e.channel ≡ c)) → at (es ++ e ∷ []) f c ≡ at es f c
+at-more_elsewhere es e f c elsewhere =
+    let test : is_at f c e ≡ false = grind (arith, nat_tests) in
+    rw (filter-append (is_at f c) es (e ∷ []), test) (ap (map (λ (x : Entry). x.sample)) (append-nil (filter (is_at f c) es)))
+
+pub total-more_here : (es : List Entry) (e : Entry) → total (es ++ e ∷ []) e.frame e.channel ≡ total es e.frame e.channel +ℤ e.sample
+total-more_here es e = rw (at-more_here es e) (fold_push _ _ (at es e.frame e.channel) e.sample)
+
+pub total-more_elsewhere : (es : List Entry) (e : Entry) (f c : ℕ) → ¬ ((e.frame ≡ f) × (e.channel ≡ c)) → total (es ++ e ∷ []) f c ≡ total es f c
+total-more_elsewhere es e f c elsewhere = rw (at-more_elsewhere es e f c elsewhere) refl
+
+-- one more entry moves its member's cursor, and no other
+pub cursor_of-more_own : (g : Geometry) (es : List Entry) (e : Entry) → cursor_of g e.member (es ++ e ∷ []) ≡ behind g e.frame e.channel
+cursor_of-more_own g es e =
+    let own : (e.member == e.member) ≡ true = grind (arith, nat_tests) in
+    rw (fold_push (cursor_after g e.member) _ es e, own) refl
+
+pub cursor_of-more_other : (g : Geometry) (es : List Entry) (e : Entry) (m : ℕ) → e.member ≢ m → cursor_of g m (es ++ e ∷ []) ≡ cursor_of g m es
+cursor_of-more_other g es e m other =
+    let test : (e.member == m) ≡ false = grind (arith, nat_tests) in
+    rw (fold_push (cursor_after g m) _ es e, test) refl
+
+-- one more take
+pub is_taken-more : (ts : List Taken) (t : Taken) (f c : ℕ) → is_taken (ts ++ t ∷ []) f c ≡ (is_taken ts f c || ((t.frame == f) && (t.channel == c)))
+is_taken-more ts t f c = rw (list_any-append (λ (x : Taken). (x.frame == f) && (x.channel == c)) ts (t ∷ [])) (grind arith)

@@ -1,0 +1,93 @@
+use Rattle.std.proofs.Common.{◌≡◌, ◌≢◌, ℕ, ◌+◌, ◌*◌, ◌<◌, ◌≤◌, List, length, get_or, ℤ, pos, subst, sym, ap, ◌∙◌, rules, refl, arith}
+use Rattle.std.proofs.Math.Nat.{div-lt_iff_lt-mul}
+use Rattle.std.proofs.lemmas.Int.{to_z-of_z}
+use Rattle.std.proofs.lemmas.List.{get_or_read}
+use Rattle.snd_base.specs.declared.geometry.Geometry.{Geometry}
+use Rattle.snd_base.specs.Places.{end_frame, lap, word_index}
+use Rattle.lap_word.specs.Clamp.{clamp_of}
+use Rattle.lap_word.specs.Word.{StandsFor, StandsFor-fields, lap_of, sum_of}
+use Rattle.mix_core.specs.Calls.{IsRefused, IsTaken}
+use Rattle.mix_core.specs.History.{Row, laid_of}
+use Rattle.mix_core.specs.Laid.{total}
+use Rattle.mix_core.specs.Sound.{IsSound}
+use Rattle.mix_core.specs.Stands.{Stands}
+use Rattle.mix_core.specs.View.{View, word_at}
+use Rattle.mix_core.proofs.Agreement.{IsNow-next, taken_view}
+use Rattle.mix_core.proofs.History.{Stands-refused, Stands-taken}
+use Rattle.mix_core.proofs.Soundness.{IsSound-taken}
+use Rattle.mix_core.specs.contracts.ring.Core.{the_view}
+use mir.Syntax.{w16, w32}
+use mir.Val.{SFits}
+use Rattle.mix_core.proofs.ring.Core.take.Goals as goal
+
+-- no frame up to the end has a lap past the last
+lap-le : (g : Geometry) (f : ℕ) → f ≤ end_frame g → lap g f ≤ 4294967295
+lap-le g f within =
+    let some : 0 < g.frames = omega (arith, g.frames_least) in
+    let below : f < 4294967296 * g.frames = omega (arith, g.frames_least) in
+    let fits : lap g f < 4294967296 = (div-lt_iff_lt-mul some).1 below in
+    omega arith
+
+refused : (v : View) → lap v.geometry v.next.frame ≡ 4294967295 → IsRefused v v
+refused v last = record { same = refl; stands = λ h. Stands-refused v h last }
+
+taken : (v : View) (word : ℕ) (value : ℤ) → IsSound v → lap v.geometry v.next.frame ≢ 4294967295
+    → StandsFor word (lap_of (word_at v v.next.frame v.next.channel) + 1) 0 (pos 0)
+    → value ≡ clamp_of (sum_of (word_at v v.next.frame v.next.channel))
+    → IsTaken v (taken_view v word) (record { frame = v.next.frame; channel = v.next.channel; value = value })
+taken v word value s more stands value_is =
+    let value_of : (h : List Row) → Stands v h → value ≡ clamp_of (total (laid_of h) v.next.frame v.next.channel) =
+    λ h st. value_is ∙ ap clamp_of (StandsFor-fields _ _ _ _ (st.agrees.words v.next.frame v.next.channel (IsNow-next v s))).2 in
+    record {
+      geometry = refl;
+      cursors = refl;
+      position = refl;
+      gone = refl;
+      frame = refl;
+      channel = refl;
+      next = refl;
+      value = value_of;
+      stands = λ h st. Stands-taken v h word value s more stands (value_of h st) st;
+    }
+
+-- what was read is the word there
+word_is : (v : View) (i w : ℕ) → w ≡ get_or v.words i w → i ≡ word_index v.geometry v.next.frame v.next.channel → i < length v.words → w ≡ word_at v v.next.frame v.next.channel
+word_is v i w read index within = subst (λ k. w ≡ get_or v.words k 0) index (get_or_read v.words i w within read 0)
+
+pub returns-then-lap-eq4294967295-clause-err : goal.returns-then-lap-eq4294967295-clause-err
+returns-then-lap-eq4294967295-clause-err c = rw (← c.self.view_is) (refused (the_view c.self.inside) (sym c.lap.ensures ∙ c.if-lap-eq4294967295.true))
+
+pub taken-requires : goal.taken-requires
+taken-requires c =
+    let v : View = the_view c.self.inside in
+    let within : c.word_index-at.result < length v.words = search rules in
+    let word : c.index-word.result.now ≡ word_at v v.next.frame v.next.channel = word_is v _ _ c.index-word.ensures c.word_index-at.ensures.value within in
+    let of_lap : lap_of (word_at v v.next.frame v.next.channel) ≡ lap v.geometry v.next.frame = (c.self.invariant.words_now v.next.frame v.next.channel (IsNow-next v c.self.invariant)).of_lap in
+    let most : lap v.geometry v.next.frame ≤ 4294967295 = lap-le v.geometry v.next.frame c.self.invariant.next_most in
+    let other : lap v.geometry v.next.frame ≢ 4294967295 = λ e. c.if-lap-eq4294967295.false (c.lap.ensures ∙ e) in
+    let room : lap_of (word_at v v.next.frame v.next.channel) < 4294967295 = omega (arith, of_lap, most, other) in
+    record { lap_room = subst (λ w. lap_of w < 4294967295) (sym word) room }
+
+pub invariant_of-self : goal.invariant_of-self
+invariant_of-self c =
+    let v : View = the_view c.self.inside in
+    let within : c.word_index-at.result < length v.words = search rules in
+    let word : c.index-word.result.now ≡ word_at v v.next.frame v.next.channel = word_is v _ _ c.index-word.ensures c.word_index-at.ensures.value within in
+    let most : lap v.geometry v.next.frame ≤ 4294967295 = lap-le v.geometry v.next.frame c.self.invariant.next_most in
+    let other : lap v.geometry v.next.frame ≢ 4294967295 = λ e. c.if-lap-eq4294967295.false (c.lap.ensures ∙ e) in
+    let fits : lap v.geometry v.next.frame < 4294967295 = omega (arith, most, other) in
+    let stands = subst (λ w. StandsFor c.taken.result (lap_of w + 1) 0 (pos 0)) word c.taken.ensures.stands in
+    rw (c.word_index-at.ensures.value, c.behind-self-inside.ensures) (IsSound-taken v c.taken.result c.self.invariant fits stands)
+
+pub returns-clause-ok : goal.returns-clause-ok
+returns-clause-ok c =
+    let v : View = the_view c.self.inside in
+    let within : c.word_index-at.result < length v.words = search rules in
+    let word : c.index-word.result.now ≡ word_at v v.next.frame v.next.channel = word_is v _ _ c.index-word.ensures c.word_index-at.ensures.value within in
+    let other : lap v.geometry v.next.frame ≢ 4294967295 = λ e. c.if-lap-eq4294967295.false (c.lap.ensures ∙ e) in
+    let stands = subst (λ w. StandsFor c.taken.result (lap_of w + 1) 0 (pos 0)) word c.taken.ensures.stands in
+    let sum_fits : SFits w32 c.sum.result = search rules in
+    let clamp_fits : SFits w16 c.clamp.result = search rules in
+    let nearest : c.clamp.result ≡ clamp_of c.sum.result = simp to_z-of_z at c.clamp.ensures.nearest in
+    let value : c.clamp.result ≡ clamp_of (sum_of (word_at v v.next.frame v.next.channel)) = nearest ∙ (ap clamp_of c.sum.ensures.sum ∙ ap (λ w. clamp_of (sum_of w)) word) in
+    rw (← c.self.view_is) (simp to_z-of_z (rw (c.word_index-at.ensures.value, c.behind-self-inside.ensures) (taken v c.taken.result c.clamp.result c.self.invariant other stands value)))

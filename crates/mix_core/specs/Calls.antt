@@ -1,0 +1,61 @@
+-- What each call of a core does to it, and to every history that it stands for.
+use Rattle.std.specs.Prelude.{◌≡◌, ◌≢◌, ℕ, true, false, List, [], ◌∷◌, ◌++◌, length, slice_index_or}
+use Rattle.snd_base.specs.declared.geometry.Geometry.{Geometry}
+use Rattle.snd_base.specs.declared.places.Cursor.{Cursor}
+use Rattle.snd_base.specs.Places.{behind, first_frame}
+use Rattle.lap_word.specs.Clamp.{clamp_of}
+use Rattle.mix_core.specs.declared.port.Entry.{Entry}
+use Rattle.mix_core.specs.declared.event.Event.TheVariants.{Publish, Take}
+use Rattle.mix_core.specs.declared.event.Reply.TheVariants.{LapEnd, Published, Took}
+use Rattle.mix_core.specs.declared.event.Taken.{Taken}
+use Rattle.mix_core.specs.History.{Row, laid_of, row_of}
+use Rattle.mix_core.specs.Laid.{total}
+use Rattle.mix_core.specs.Stands.{Stands}
+use Rattle.mix_core.specs.View.{View}
+
+-- a core of a geometry and a number of members, to which nothing has happened
+pub record IsNew (v : View) (g : Geometry) (members : ℕ) : Type 0 where
+  pub geometry : v.geometry ≡ g
+  pub members_is : length v.cursors ≡ members
+  pub next : v.next ≡ record { frame = first_frame g; channel = 0 }
+  pub position : v.position ≡ first_frame g
+  pub gone : v.gone ≡ false
+  pub stands : Stands v []
+
+-- an entry was added: its member's cursor stands behind it, and each history has it at its end
+pub record IsAdded (v w : View) (e : Entry) : Type 0 where
+  pub geometry : w.geometry ≡ v.geometry
+  pub members : length w.cursors ≡ length v.cursors
+  pub own : (d : Cursor) → slice_index_or w.cursors e.member d ≡ behind v.geometry e.frame e.channel
+  pub others : (m : ℕ) (d : Cursor) → m ≢ e.member → slice_index_or w.cursors m d ≡ slice_index_or v.cursors m d
+  pub next : w.next ≡ v.next
+  pub position : w.position ≡ v.position
+  pub gone : w.gone ≡ v.gone
+  pub stands : (h : List Row) → Stands v h → Stands w (h ++ row_of e ∷ [])
+
+-- the next word was taken: its value is the total there, cut to a sample, and each history has the take at its end
+pub record IsTaken (v w : View) (t : Taken) : Type 0 where
+  pub geometry : w.geometry ≡ v.geometry
+  pub cursors : w.cursors ≡ v.cursors
+  pub position : w.position ≡ v.position
+  pub gone : w.gone ≡ v.gone
+  pub frame : t.frame ≡ v.next.frame
+  pub channel : t.channel ≡ v.next.channel
+  pub next : w.next ≡ behind v.geometry v.next.frame v.next.channel
+  pub value : (h : List Row) → Stands v h → t.value ≡ clamp_of (total (laid_of h) t.frame t.channel)
+  pub stands : (h : List Row) → Stands v h → Stands w (h ++ (Take, Took t.frame t.channel t.value) ∷ [])
+
+-- the take was refused: nothing changed, and each history has the refusal at its end
+pub record IsRefused (v w : View) : Type 0 where
+  pub same : w ≡ v
+  pub stands : (h : List Row) → Stands v h → Stands w (h ++ (Take, LapEnd) ∷ [])
+
+-- the position became the frame of the next word, and each history has this publication at its end
+pub record IsPublished (v w : View) : Type 0 where
+  pub changed : w ≡ record v { position = v.next.frame }
+  pub stands : (h : List Row) → Stands v h → Stands w (h ++ (Publish, Published v.next.frame) ∷ [])
+
+-- the card is gone, which is no event of a history
+pub record IsUnplugged (v w : View) : Type 0 where
+  pub changed : w ≡ record v { gone = true }
+  pub stands : (h : List Row) → Stands v h → Stands w h

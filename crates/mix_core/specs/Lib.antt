@@ -1,0 +1,10 @@
+pub mod Calls
+pub mod Gate
+pub mod History
+pub mod Laid
+pub mod Port
+pub mod Sound
+pub mod Stands
+pub mod Turn
+pub mod TurnLaws
+pub mod View

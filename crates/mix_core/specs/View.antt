@@ -1,0 +1,31 @@
+-- What contracts see of a core: its ring's words and geometry, its members' cursors, and how far the player is.
+use Rattle.std.specs.Prelude.{◌≡◌, ℕ, ◌<◌, ◌≤◌, Bool, List, slice_index}
+use Rattle.snd_base.specs.declared.geometry.Geometry.{Geometry}
+use Rattle.snd_base.specs.declared.places.Cursor.{Cursor}
+use Rattle.snd_base.specs.Places.{first_free, lap, word_index}
+use Rattle.lap_word.specs.Word.{lap_of}
+
+-- a core: its geometry, the words slot by slot, each member's cursor, the next word to be taken, the position that was
+-- published last, and whether the card is gone
+pub record View : Type 0 where
+  pub geometry : Geometry
+  pub words : List ℕ
+  pub cursors : List Cursor
+  pub next : Cursor
+  pub position : ℕ
+  pub gone : Bool
+
+-- the word at a frame and channel
+abbrev pub word_at : View → ℕ → ℕ → ℕ
+word_at v f c = slice_index v.words (word_index v.geometry f c)
+
+-- a word of a frame and channel that were taken: the ring shows it there, and its lap is past the frame's
+pub record IsLateWord (v : View) (f c word : ℕ) : Type 0 where
+  pub shown : word_at v f c ≡ word
+  pub past : lap v.geometry f < lap_of word
+  pub taken : f < first_free v.next c
+
+-- a frame and channel that are not taken: they are at the next word or behind it, and not before the position
+pub record IsUntaken (v : View) (f c : ℕ) : Type 0 where
+  pub untaken : first_free v.next c ≤ f
+  pub published : v.position ≤ f

@@ -1,0 +1,15 @@
+//! The mixing core: the port through which a client lays samples into a ring, the gate that it asks before each step,
+//! and a core over one owner that answers adds, takes and publications as a history of lists does.
+#![tactic(auto)]
+
+mod event;
+mod gate;
+mod port;
+mod ring;
+mod turn;
+
+pub use event::{Event, Reply, Taken};
+pub use gate::{Gate, NeverStops, Pass, StepKind, ask};
+pub use port::{Entry, MixPort, Placed, Position};
+pub use ring::Core;
+pub use turn::Turn;
