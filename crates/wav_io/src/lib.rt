@@ -16,3 +16,6 @@ pub use reading::read_wav;
 pub use samples::Samples;
 pub use wav::Wav;
 pub use writing::write_wav;
+
+#[cfg(test)]
+mod tests;
