@@ -1,8 +1,8 @@
 -- The canonical file of a sound.
-use Rattle.std.specs.Prelude.{ℕ, ◌+◌, ◌*◌, ◌/◌, List, ◌++◌, length, codes, ℤ}
+use Rattle.std.specs.Prelude.{◌≡◌, ℕ, ◌+◌, ◌*◌, ◌/◌, ◌^◌, ◌<◌, List, ◌++◌, length, All, FitsSigned, codes, ℤ}
 use Rattle.std.specs.List.{flat_map}
 use Rattle.std.specs.Int.{w16, w32, to_le_bytes, cast_unsigned}
-use Rattle.wav_io.specs.Sound.{Sound}
+use Rattle.wav_io.specs.Sound.{Sound, IsSound}
 
 -- the 44 bytes before `size` bytes of samples
 abbrev pub head_before : ℕ → ℕ → ℕ → List ℕ
@@ -22,3 +22,10 @@ sample_bytes z = to_le_bytes w16 (cast_unsigned w16 z)
 -- the head, and the samples
 abbrev pub canonical : Sound → List ℕ
 canonical s = head s.channels s.rate (length s.samples / s.channels) ++ flat_map sample_bytes s.samples
+
+-- what has a canonical file: samples of 16 bits, and numbers that the head's fields hold
+pub record HasFile (s : Sound) : Type 0 where
+  pub sound : IsSound s
+  pub low_rate : s.rate < 2 ^ 28
+  pub size : length s.samples * 2 + 36 < 2 ^ 32
+  pub fits : All (FitsSigned w16) s.samples

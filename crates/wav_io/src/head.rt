@@ -22,7 +22,8 @@ pub fn header(channels: u16, rate: u32, frames: u32) -> [u8; 44]
     let [f0, f1] = frame.to_le_bytes();
     let [d0, d1, d2, d3] = size.to_le_bytes();
     [
-        b'R', b'I', b'F', b'F', a0, a1, a2, a3, b'W', b'A', b'V', b'E', b'f', b'm', b't', b' ', 16, 0, 0, 0, 1, 0, c0,
-        c1, r0, r1, r2, r3, s0, s1, s2, s3, f0, f1, 16, 0, b'd', b'a', b't', b'a', d0, d1, d2, d3,
+        b'R', b'I', b'F', b'F', a0, a1, a2, a3, b'W', b'A', b'V', b'E', b'f', b'm', b't', b' ', 16,
+        0, 0, 0, 1, 0, c0, c1, r0, r1, r2, r3, s0, s1, s2, s3, f0, f1, 16, 0, b'd', b'a', b't',
+        b'a', d0, d1, d2, d3,
     ]
 }

@@ -5,17 +5,17 @@
 
 mod error;
 mod head;
-
+mod reading;
 mod samples;
 mod wav;
 mod writing;
 
 pub use error::WavError;
 pub use head::header;
-
+pub use reading::read_wav;
 pub use samples::Samples;
 pub use wav::Wav;
 pub use writing::write_wav;
 
-
-
+#[cfg(test)]
+mod tests;

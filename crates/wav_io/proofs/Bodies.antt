@@ -1,0 +1,85 @@
+-- Samples, two bytes each.
+use Rattle.std.proofs.Common.{◌≡◌, ℕ, zero, suc, ◌+◌, ◌*◌, ◌/◌, ◌^◌, ◌<◌, ◌≤◌, List, [], ◌∷◌, ◌++◌, length, get_or, drop, ℤ, refl, sym, ap, ◌∙◌, append_assoc, arith}
+use Rattle.std.specs.Prelude.{FitsSigned}
+use Rattle.std.specs.List.{flat_map, AllByRecursion}
+use Rattle.std.specs.Int.{w16, from_le_bytes, to_le_bytes, cast_signed, cast_unsigned}
+use Rattle.std.proofs.Math.Facts.{sfits_to_z, Fits-of_lt, Fits-of_z}
+use Rattle.std.proofs.lemmas.Int.{to_z-of_z, of_z-to_z}
+use Rattle.std.proofs.lemmas.List.{append-nil, drop_more, length-drop}
+use Rattle.std.proofs.lemmas.Nat.{le_bytes_2, from_le_bytes-to_le_bytes_2}
+use Rattle.wav_io.specs.Canonical.{sample_bytes}
+use Rattle.wav_io.specs.Reading.{samples_of}
+
+abbrev pub IsBytes : List ℕ → Type 0
+IsBytes bytes = (i : ℕ) → get_or bytes i 0 < 256
+
+abbrev pair : ℕ → ℕ → ℤ
+pair low high = cast_signed w16 (from_le_bytes w16 (low ∷ high ∷ []))
+
+drop-two : (bytes : List ℕ) (i : ℕ) → 2 * i + 1 < length bytes → drop (2 * i) bytes ≡ get_or bytes (2 * i) 0 ∷ get_or bytes (2 * i + 1) 0 ∷ drop (2 * (i + 1)) bytes
+drop-two bytes i inside =
+    let here : 2 * i < length bytes = omega arith in
+    let after : (2 * i + 1) + 1 ≡ 2 * (i + 1) = omega arith in
+    drop_more bytes (2 * i) 0 here ∙ ap (λ (rest : List ℕ). get_or bytes (2 * i) 0 ∷ rest) (drop_more bytes (2 * i + 1) 0 inside ∙ ap (λ (n : ℕ). get_or bytes (2 * i + 1) 0 ∷ drop n bytes) after)
+
+samples_of-short : (bytes : List ℕ) → length bytes < 2 → samples_of bytes ≡ []
+samples_of-short [] short = refl
+samples_of-short (low ∷ []) short = refl
+samples_of-short (low ∷ high ∷ rest) short = absurd (omega arith)
+
+-- one more sample is read
+pub goes_on : (front : List ℤ) (bytes : List ℕ) (i : ℕ) (whole : List ℤ) → 2 * i + 1 < length bytes → front ++ samples_of (drop (2 * i) bytes) ≡ whole
+    → (front ++ pair (get_or bytes (2 * i) 0) (get_or bytes (2 * i + 1) 0) ∷ []) ++ samples_of (drop (2 * (i + 1)) bytes) ≡ whole
+goes_on front bytes i whole inside so_far =
+    append_assoc front (pair (get_or bytes (2 * i) 0) (get_or bytes (2 * i + 1) 0) ∷ []) (samples_of (drop (2 * (i + 1)) bytes))
+    ∙ ap (λ (rest : List ℕ). front ++ samples_of rest) (sym (drop-two bytes i inside)) ∙ so_far
+
+-- all samples are read
+pub ends : (front : List ℤ) (bytes : List ℕ) (i : ℕ) (whole : List ℤ) → length bytes < 2 * i + 2 → front ++ samples_of (drop (2 * i) bytes) ≡ whole → front ≡ whole
+ends front bytes i whole past so_far =
+    sym (append-nil front) ∙ ap (λ (rest : List ℤ). front ++ rest) (sym (samples_of-short (drop (2 * i) bytes) (omega (arith, length-drop (2 * i) bytes)))) ∙ so_far
+
+IsBytes-rest : (b : ℕ) (bytes : List ℕ) → IsBytes (b ∷ bytes) → IsBytes bytes
+IsBytes-rest b bytes h i = h (suc i)
+
+pair_fits : (low high : ℕ) → low < 256 → high < 256 → from_le_bytes w16 (low ∷ high ∷ []) < 2 ^ 16
+pair_fits low high l h = omega arith
+
+two : (low high i : ℕ) → low < 256 → high < 256 → get_or (low ∷ high ∷ []) i 0 < 256
+two low high zero l h = l
+two low high (suc zero) l h = h
+two low high (suc (suc i)) l h = omega arith
+
+-- the bytes of the samples that bytes hold are these bytes
+pub sample_bytes-samples_of : (n : ℕ) (bytes : List ℕ) → IsBytes bytes → length bytes ≡ 2 * n → flat_map sample_bytes (samples_of bytes) ≡ bytes
+sample_bytes-samples_of n [] fits even = refl
+sample_bytes-samples_of n (low ∷ []) fits even = absurd (omega arith)
+sample_bytes-samples_of zero (low ∷ high ∷ rest) fits even = absurd (omega arith)
+sample_bytes-samples_of (suc n) (low ∷ high ∷ rest) fits even =
+    let number : cast_unsigned w16 (pair low high) ≡ from_le_bytes w16 (low ∷ high ∷ []) = of_z-to_z w16 _ (pair_fits low high (fits 0) (fits 1)) in
+    let here : to_le_bytes w16 (cast_unsigned w16 (pair low high)) ≡ low ∷ high ∷ [] = le_bytes_2 (low ∷ high ∷ []) _ refl (λ i. two low high i (fits 0) (fits 1)) number in
+    let behind : flat_map sample_bytes (samples_of rest) ≡ rest = sample_bytes-samples_of n rest (λ i. fits (suc (suc i))) (omega arith) in
+    ap (λ (front : List ℕ). front ++ flat_map sample_bytes (samples_of rest)) here ∙ ap (λ (back : List ℕ). low ∷ high ∷ back) behind
+
+pub length-samples_of : (n : ℕ) (bytes : List ℕ) → length bytes ≡ 2 * n → length (samples_of bytes) ≡ n
+length-samples_of n [] even = omega arith
+length-samples_of n (low ∷ []) even = absurd (omega arith)
+length-samples_of zero (low ∷ high ∷ rest) even = absurd (omega arith)
+length-samples_of (suc n) (low ∷ high ∷ rest) even = ap suc (length-samples_of n rest (omega arith))
+
+-- the samples that the bytes of samples hold are these samples
+pub samples_of-sample_bytes : (zs : List ℤ) → AllByRecursion (FitsSigned w16) zs → samples_of (flat_map sample_bytes zs) ≡ zs
+samples_of-sample_bytes [] fit = refl
+samples_of-sample_bytes (z ∷ zs) fit =
+    let number : from_le_bytes w16 (to_le_bytes w16 (cast_unsigned w16 z)) ≡ cast_unsigned w16 z = from_le_bytes-to_le_bytes_2 (cast_unsigned w16 z) (omega (arith, Fits-of_z fit.0)) in
+    let here : cast_signed w16 (from_le_bytes w16 (to_le_bytes w16 (cast_unsigned w16 z))) ≡ z = ap (cast_signed w16) number ∙ to_z-of_z w16 z fit.0 in
+    ap (λ (first : ℤ). first ∷ samples_of (flat_map sample_bytes zs)) here ∙ ap (λ (others : List ℤ). z ∷ others) (samples_of-sample_bytes zs fit.1)
+
+pub samples_of-fit : (bytes : List ℕ) → IsBytes bytes → AllByRecursion (FitsSigned w16) (samples_of bytes)
+samples_of-fit [] fits = tt
+samples_of-fit (low ∷ []) fits = tt
+samples_of-fit (low ∷ high ∷ rest) fits = (sfits_to_z (Fits-of_lt (pair_fits low high (fits 0) (fits 1))), samples_of-fit rest (λ i. fits (suc (suc i))))
+
+pub length-sample_bytes : (zs : List ℤ) → length (flat_map sample_bytes zs) ≡ 2 * length zs
+length-sample_bytes [] = refl
+length-sample_bytes (z ∷ zs) = ap (λ (n : ℕ). suc (suc n)) (length-sample_bytes zs) ∙ omega arith
