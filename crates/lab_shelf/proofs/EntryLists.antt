@@ -1,5 +1,5 @@
 -- Lists of entries, each with a name and its bytes, as the files that they are.
-use Rattle.std.proofs.Common.{◌≡◌, ◌≢◌, ℕ, zero, suc, ◌<◌, ◌≤◌, Bool, true, false, cond, List, [], ◌∷◌, ◌++◌, length, map, get_or, bytes_eq, Option, Some, None, option_map, refl, sym, ap, subst, ◌∙◌, arith}
+use Rattle.std.proofs.Common.{◌≡◌, ◌≢◌, ℕ, Bool, true, false, cond, List, [], ◌∷◌, ◌++◌, map, get_or, bytes_eq, Some, None, option_map, refl, sym, ap, subst, ◌∙◌}
 use Rattle.std.proofs.Math.ListN.{set}
 use Rattle.std.proofs.lemmas.Bool.{ltb-false}
 use Rattle.std.proofs.lemmas.List.{map-append}
@@ -102,20 +102,24 @@ set_is_with_file key content es i y d name bytes is same holds =
   where
     new : Files
     new = from_entries (pairs_by key content (set es i y))
+
     old : Files
     old = from_entries (pairs_by key content es)
+
     named : held new name ≡ held (with_file old name bytes) name
     named =
         held-pairs_by key content name (set es i y)
         ∙ ap (option_map content) (find_written key es i y d name is same)
         ∙ ap Some holds
         ∙ sym (held-with_file_same old name bytes)
+
     unnamed : (q : List ℕ) → bytes_eq q name ≡ false → held new q ≡ held (with_file old name bytes) q
     unnamed q other =
         held-pairs_by key content q (set es i y)
         ∙ ap (option_map content) (find_unwritten key es i y d name q is same other)
         ∙ sym (held-pairs_by key content q es)
         ∙ sym (held-with_file_other old name bytes q (other_name q name other))
+
     at : (q : List ℕ) → held new q ≡ held (with_file old name bytes) q
     at q =
         elim (bytes_eq q name) as (λ b. bytes_eq q name ≡ b → held new q ≡ held (with_file old name bytes) q) [

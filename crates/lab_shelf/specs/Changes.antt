@@ -5,11 +5,14 @@
 --     Changes-nothing, Changes-then, Changes-wider      no change, two changes, more that a file may hold
 --     Changes-with_file, Changes-part      a file that was written, or written in part
 --     Changes-stored, Changes-part_stored, Changes-store      the same, with what the file may hold by `PartOf`
-use Rattle.std.specs.Prelude.{◌≡◌, ◌⊎◌, ℕ, List, take, length, Option, Some, Result, Ok, Err, OnOk, OnErr, refl}
+--     TookPart-nothing, TookPart-all, TookPart-first, TookPart-then      what a sink took, put by put
+use Rattle.std.specs.Prelude.{◌≡◌, ◌⊎◌, ◌++◌, ◌+◌, ℕ, min, List, take, length, Option, Some, None, Result, Ok, Err, OnOk, OnErr, refl}
 use Rattle.std.specs.Option.{ForSome, option_map}
-use Rattle.std.proofs.Common.{sym, ap, subst, inl, inr, ◌∙◌}
-use Rattle.std.proofs.Math.Seq.{take-length}
-use Rattle.lab_shelf.specs.Files.{Files, held, with_file, held-with_file, held-with_file_same, IsPartWritten}
+use Rattle.std.proofs.Common.{sym, ap, subst, inl, inr, append_assoc, append-nil, ◌∙◌}
+use Rattle.std.proofs.Math.Nat.{min-le_right}
+use Rattle.std.proofs.Math.Seq.{take-length, take-append-add}
+use Rattle.std.proofs.lemmas.List.{take-append-le, take_min}
+use Rattle.lab_shelf.specs.Files.{Files, held, with_file, held-with_file, held-with_file_same, IsPartWritten, TookPart}
 
 -- each file is as it was, or holds bytes that it may hold
 abbrev pub ChangesOnly : (List ℕ → List ℕ → Type 0) → Files → Files → Type 0
@@ -67,19 +70,24 @@ file_written : (may_hold : List ℕ → List ℕ → Type 0) (files : Files) (na
     → (held (with_file files name bytes) q ≡ held files q) ⊎ ((content : List ℕ) × ((held (with_file files name bytes) q ≡ Some content) × may_hold q content))
 file_written may_hold files name bytes q may (inr other) = inl other
 file_written may_hold files name bytes q may (inl same) =
-    inr (bytes, (
-      ap (λ other. held (with_file files name bytes) other) same ∙ held-with_file_same files name bytes,
-      subst (λ other. may_hold other bytes) (sym same) may
-    ))
+    inr (
+      bytes,
+      (
+        ap (λ other. held (with_file files name bytes) other) same ∙ held-with_file_same files name bytes,
+        subst (λ other. may_hold other bytes) (sym same) may,
+      ),
+    )
 
 -- a file that was written
 pub Changes-with_file : (may_hold : List ℕ → List ℕ → Type 0) (before : Option Files) (name bytes : List ℕ) → may_hold name bytes
     → Changes may_hold before (option_map (λ files. with_file files name bytes) before)
-Changes-with_file may_hold before name bytes may m is =
-    (with_file m name bytes, (
-      ap (option_map (λ files. with_file files name bytes)) is,
-      λ q. file_written may_hold m name bytes q may (held-with_file m name bytes q)
-    ))
+Changes-with_file may_hold before name bytes may m is = (
+  with_file m name bytes,
+  (
+    ap (option_map (λ files. with_file files name bytes)) is,
+    λ q. file_written may_hold m name bytes q may (held-with_file m name bytes q),
+  ),
+)
 
 -- a file that was written in part
 pub Changes-part : (may_hold : List ℕ → List ℕ → Type 0) (before after : Option Files) (name bytes : List ℕ)
@@ -109,3 +117,35 @@ pub Changes-store : {T E : Type 0} (result : Result T E) (before after : Option 
     → OnErr result (IsPartWritten before after name bytes) → Changes (PartOf name bytes) before after
 Changes-store (Ok x) before after name bytes stored part = Changes-stored before after name bytes stored
 Changes-store (Err e) before after name bytes stored part = Changes-part_stored before after name bytes part
+
+-- a sink that took nothing
+pub TookPart-nothing : (taken : Option (List ℕ)) (bytes : List ℕ) → TookPart taken taken bytes
+TookPart-nothing None bytes = (0, refl)
+TookPart-nothing (Some taken) bytes = (0, ap Some (sym (append-nil taken)))
+
+-- a sink that took all of the bytes
+pub TookPart-all : (before after : Option (List ℕ)) (bytes : List ℕ)
+    → after ≡ option_map (λ taken. taken ++ bytes) before → TookPart before after bytes
+TookPart-all before after bytes is =
+    (length bytes, is ∙ ap (λ all. option_map (λ taken. taken ++ all) before) (sym (take-length bytes)))
+
+-- a sink that took the first of some bytes took the first of more
+pub TookPart-first : (before after : Option (List ℕ)) (bytes more : List ℕ) → TookPart before after bytes → TookPart before after (bytes ++ more)
+TookPart-first before after bytes more part = (
+  min part.0 (length bytes),
+  part.1 ∙ ap (λ some. option_map (λ taken. taken ++ some) before) (sym (
+      take-append-le (min part.0 (length bytes)) bytes more (min-le_right part.0 (length bytes)) ∙ take_min part.0 bytes
+      )),
+)
+
+-- a sink that took some bytes, and then the first of more
+pub TookPart-then : (before between after : Option (List ℕ)) (bytes more : List ℕ)
+    → between ≡ option_map (λ taken. taken ++ bytes) before → TookPart between after more → TookPart before after (bytes ++ more)
+TookPart-then before between after bytes more is part =
+    (length bytes + part.0, part.1 ∙ ap (option_map (λ taken. taken ++ take part.0 more)) is ∙ joined before)
+  where
+    joined : (o : Option (List ℕ)) → option_map (λ taken. taken ++ take part.0 more) (option_map (λ taken. taken ++ bytes) o)
+        ≡ option_map (λ taken. taken ++ take (length bytes + part.0) (bytes ++ more)) o
+    joined None = refl
+    joined (Some taken) =
+        ap Some (append_assoc taken bytes (take part.0 more) ∙ ap (λ some. taken ++ some) (sym (take-append-add bytes more part.0)))

@@ -6,7 +6,7 @@
 --     IsPartWritten, TookPart      what a failed write may leave
 --     held-with_file_same, held-with_file, held-with_file_other      what the files hold once one of them was written
 --     name_test-Decides      the maps' test of two names decides whether they are equal
-use Rattle.std.specs.Prelude.{◌≡◌, ◌≢◌, ◌⊎◌, ◌++◌, ℕ, Bool, true, false, cond, List, take, drop, Option, Some, None, refl}
+use Rattle.std.specs.Prelude.{◌≡◌, ◌≢◌, ◌⊎◌, ◌++◌, ℕ, true, false, cond, List, take, drop, Option, Some, refl}
 use Rattle.std.specs.Bool.{Decides}
 use Rattle.std.specs.Option.{option_map}
 use Rattle.std.specs.Ordering.{nat_cmp, eq_by_cmp}
@@ -57,7 +57,7 @@ pub held-with_file : (files : Files) (name bytes q : List ℕ) → (q ≡ name) 
 held-with_file files name bytes q =
     elim (eq_by_cmp (slice_cmp nat_cmp) q name) as
     (λ b. Decides b (q ≡ name) → held (with_file files name bytes) q ≡ cond b (Some bytes) (held files q)
-        → (q ≡ name) ⊎ (held (with_file files name bytes) q ≡ held files q)) [
+    → (q ≡ name) ⊎ (held (with_file files name bytes) q ≡ held files q)) [
       | true ↦ λ decides is. inl (decides.0 refl)
       | false ↦ λ decides is. inr is
     ] (name_test-Decides q name) (get-insert nat_list_cmp_total files name bytes q)

@@ -1,7 +1,5 @@
 -- What contracts see of the forms in memory, and of the counts of the forms over files and streams.
-use Rattle.std.specs.Prelude.{◌≡◌, ◌++◌, ◌&&◌, ℕ, Bool, not, nat_eq, List, map, Result, Ok, Err, is_some, refl}
-use Rattle.std.specs.Ordering.{nat_cmp}
-use Rattle.std.specs.Cmp.Lexicographic.{slice_cmp}
+use Rattle.std.specs.Prelude.{◌++◌, ◌&&◌, ℕ, Bool, not, nat_eq, List, map, Result, Ok, Err, is_some, refl}
 use Rattle.std.specs.FinMap.{code, from_entries}
 use Rattle.std.specs.Coded.{Coded, code_by, coded×, coded_list, coded_ℕ}
 use Rattle.std.specs.Global.{Vec}
@@ -57,13 +55,13 @@ counts_code =
 abbrev pub files_of : List (Vec ℕ × Vec ℕ) → Files
 files_of entries = from_entries (map (λ e. (e.0.items, e.1.items)) entries)
 
--- whether the next call is one of the calls that fail
-abbrev pub is_next_listed : List ℕ → ℕ → Bool
-is_next_listed failing calls = list_any (λ n. nat_eq n (one_more calls)) failing
+-- a write works where the number of its call isn't listed
+abbrev pub write_answers : List ℕ → ℕ → Bool
+write_answers failing calls = not (list_any (λ n. nat_eq n (one_more calls)) failing)
 
--- a fetch of a name works where its call isn't listed and the file is there
+-- a fetch works where the number of its call isn't listed and there is a file of this name
 abbrev pub fetch_answers : ShelfState → List ℕ → Bool
-fetch_answers s name = not (is_next_listed s.failing s.calls) && is_some (held s.files name)
+fetch_answers s name = write_answers s.failing s.calls && is_some (held s.files name)
 
 -- what a fetch leaves: its call is counted, and a fault
 abbrev pub after_fetch : {T : Type 0} → Result T ShelfFault → ShelfState → ShelfState

@@ -4,12 +4,10 @@ ghost use Rattle.std.specs.Prelude.{◌≡◌, ◌≤◌, None, IfOk, vec_len};
 use crate::fault::ShelfFault;
 use crate::traits::{Shelf, Sink};
 use std::alloc::Global;
-use std::fs;
-use std::io;
 use std::io::{ErrorKind, Read, Seek, SeekFrom, Write};
 use std::marker::Model;
 use std::rt::Files;
-use std::str;
+use std::{fs, io, str};
 
 /// The files of the system. A name is a path, relative to the folder that the program runs in; one
 /// that isn't UTF-8 is a fault. A contract sees only the two counts of faults.
@@ -137,7 +135,7 @@ fn read_piece<R: Files>(
     let path = path_of(name)?;
     match read_bytes(rt, alloc, path, from, most) {
         Ok(mut bytes) => {
-            bytes.truncate(usize::try_from(most).unwrap_or(usize::MAX));
+            bytes.truncate(most as usize);
             Ok(bytes)
         }
         Err(error) => Err(fault_of(&error)),

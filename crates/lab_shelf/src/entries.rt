@@ -18,9 +18,7 @@ pub(crate) fn cut(content: &[u8], from: u64, most: u64) -> &[u8]
 fn place_of(entries: &[(Vec<u8>, Vec<u8>)], name: &[u8]) -> Option<usize>
     ensures { result ≡ position (λ entry. bytes_eq name.now entry.0.items) entries.now }
 {
-    entries
-        .iter()
-        .position(|entry| name == entry.0.as_slice())
+    entries.iter().position(|entry| name == entry.0.as_slice())
 }
 
 /// What the first entry of this name holds.

@@ -7,12 +7,11 @@ mod edge;
 mod entries;
 mod fault;
 mod memory;
+#[cfg(test)]
+mod tests;
 mod traits;
 
-pub use edge::FileShelf;
-pub use edge::StdSink;
+pub use edge::{FileShelf, StdSink};
 pub use fault::ShelfFault;
-pub use memory::MemoryShelf;
-pub use memory::MemorySink;
-pub use traits::Shelf;
-pub use traits::Sink;
+pub use memory::{MemoryShelf, MemorySink};
+pub use traits::{Shelf, Sink};

@@ -1,9 +1,9 @@
 // The forms in memory, whose calls fail where the caller lists their numbers.
-ghost use Rattle.std.specs.Prelude.{◌≡◌, ◌≤◌, ◌++◌, [], Some, not, IfOk, IfSome, OnOk, OnErr, vec_len, option_map};
+ghost use Rattle.std.specs.Prelude.{◌≡◌, ◌≤◌, ◌++◌, [], Some, IfOk, OnOk, OnErr, vec_len};
 ghost use Rattle.std.specs.Option.{option_copied};
 ghost use Rattle.lab_shelf.specs.Files.{held, with_file, piece, IsPartWritten, TookPart};
 ghost use Rattle.lab_shelf.specs.Counts.{Counted, Foreseen};
-ghost use Rattle.lab_shelf.specs.States.{files_of, fetch_answers, is_next_listed, after_fetch, after_store, after_put};
+ghost use Rattle.lab_shelf.specs.States.{files_of, fetch_answers, write_answers, after_fetch, after_store, after_put};
 
 use crate::entries::{content_of, cut, put_file};
 use crate::fault::ShelfFault;
@@ -31,11 +31,11 @@ impl Model for MemoryShelf {
     ghost coded = { shelf_code };
 
     ghost view = { λ s. record {
-        files = files_of s.entries.items;
-        failing = s.failing.items;
-        calls = s.calls;
-        fetch_faults = s.fetch_faults;
-        write_faults = s.write_faults
+      files = files_of s.entries.items;
+      failing = s.failing.items;
+      calls = s.calls;
+      fetch_faults = s.fetch_faults;
+      write_faults = s.write_faults;
     } };
 }
 
@@ -44,11 +44,11 @@ impl MemoryShelf {
     /// stands. The calls whose numbers are in `failing` fail.
     pub fn new(files: Vec<(Vec<u8>, Vec<u8>)>, failing: Vec<u64>) -> MemoryShelf
         ensures { result ≡ record {
-            files = files_of files.items;
-            failing = failing.items;
-            calls = 0;
-            fetch_faults = 0;
-            write_faults = 0
+          files = files_of files.items;
+          failing = failing.items;
+          calls = 0;
+          fetch_faults = 0;
+          write_faults = 0;
         } }
     {
         MemoryShelf {
@@ -77,7 +77,7 @@ impl Shelf for MemoryShelf {
 
     ghost fetch_works = { λ s name. Some (fetch_answers s name) };
 
-    ghost store_works = { λ s. Some (not (is_next_listed s.failing s.calls)) };
+    ghost store_works = { λ s. Some (write_answers s.failing s.calls) };
 
     fn fetch(
         &mut self,
@@ -87,13 +87,13 @@ impl Shelf for MemoryShelf {
         most: u64,
     ) -> Result<Vec<u8>, ShelfFault>
         ensures most { IfOk result (λ bytes. vec_len bytes ≤ most) }
-        ensures piece { IfOk result (λ bytes. IfSome (Some self.old.files)
-            (λ held_files. piece held_files name.now from most ≡ Some bytes.items)) }
+        ensures piece { IfOk result (λ bytes.
+            piece self.old.files name.now from most ≡ Some bytes.items) }
+        ensures foreseen { Foreseen result (Some (fetch_answers self.old name.now)) }
+        ensures after { self.new ≡ after_fetch result self.old }
         ensures files { Some self.new.files ≡ Some self.old.files }
         ensures faults { Counted result self.old.fetch_faults self.new.fetch_faults }
         ensures write_faults { self.new.write_faults ≡ self.old.write_faults }
-        ensures foreseen { Foreseen result (Some (fetch_answers self.old name.now)) }
-        ensures after { self.new ≡ after_fetch result self.old }
     {
         self.calls = self.calls.saturating_add(1);
         let is_listed = self.failing.contains(&self.calls);
@@ -107,14 +107,14 @@ impl Shelf for MemoryShelf {
     }
 
     fn store(&mut self, name: &[u8], bytes: &[u8]) -> Result<(), ShelfFault>
-        ensures ok { OnOk result (Some self.new.files ≡ option_map
-            (λ held_files. with_file held_files name.now bytes.now) (Some self.old.files)) }
+        ensures foreseen { Foreseen result (Some (write_answers self.old.failing self.old.calls)) }
+        ensures after { self.new ≡ after_store result self.old name.now bytes.now }
+        ensures ok { OnOk result
+            (Some self.new.files ≡ Some (with_file self.old.files name.now bytes.now)) }
         ensures err { OnErr result
             (IsPartWritten (Some self.old.files) (Some self.new.files) name.now bytes.now) }
         ensures faults { Counted result self.old.write_faults self.new.write_faults }
         ensures fetch_faults { self.new.fetch_faults ≡ self.old.fetch_faults }
-        ensures foreseen { Foreseen result (Some (not (is_next_listed self.old.failing self.old.calls))) }
-        ensures after { self.new ≡ after_store result self.old name.now bytes.now }
     {
         self.calls = self.calls.saturating_add(1);
         if self.failing.contains(&self.calls) {
@@ -144,10 +144,10 @@ impl Model for MemorySink {
     ghost coded = { sink_code };
 
     ghost view = { λ s. record {
-        taken = s.bytes.items;
-        failing = s.failing.items;
-        calls = s.calls;
-        faults = s.faults
+      taken = s.bytes.items;
+      failing = s.failing.items;
+      calls = s.calls;
+      faults = s.faults;
     } };
 }
 
@@ -177,15 +177,14 @@ impl Sink for MemorySink {
 
     ghost faults = { λ s. s.faults };
 
-    ghost put_works = { λ s. Some (not (is_next_listed s.failing s.calls)) };
+    ghost put_works = { λ s. Some (write_answers s.failing s.calls) };
 
     fn put(&mut self, bytes: &[u8]) -> Result<(), ShelfFault>
-        ensures ok { OnOk result
-            (Some self.new.taken ≡ option_map (λ before. before ++ bytes.now) (Some self.old.taken)) }
+        ensures foreseen { Foreseen result (Some (write_answers self.old.failing self.old.calls)) }
+        ensures after { self.new ≡ after_put result self.old bytes.now }
+        ensures ok { OnOk result (Some self.new.taken ≡ Some (self.old.taken ++ bytes.now)) }
         ensures err { OnErr result (TookPart (Some self.old.taken) (Some self.new.taken) bytes.now) }
         ensures faults { Counted result self.old.faults self.new.faults }
-        ensures foreseen { Foreseen result (Some (not (is_next_listed self.old.failing self.old.calls))) }
-        ensures after { self.new ≡ after_put result self.old bytes.now }
     {
         self.calls = self.calls.saturating_add(1);
         if self.failing.contains(&self.calls) {
