@@ -23,3 +23,9 @@ Foreseen result None = ⊤
 Foreseen (Ok x) (Some works) = works ≡ true
 Foreseen (Err Failed) (Some works) = works ≡ false
 Foreseen (Err Memory) (Some works) = ⊤
+
+-- a count of faults after a call: one more where the call failed
+abbrev pub raised : {T : Type 0} → Result T ShelfFault → ℕ → ℕ
+raised (Ok x) count = count
+raised (Err Failed) count = one_more count
+raised (Err Memory) count = count

@@ -1,5 +1,7 @@
 // The forms over real files and streams. They tell nothing of what these hold.
-ghost use Rattle.std.specs.Prelude.{◌≡◌, ◌≤◌, None, IfOk, vec_len};
+ghost use Rattle.std.specs.Prelude.{◌≡◌, ◌≤◌, ⊤, None, IsUtf8, IfOk, OnOk, OnErr, MatchResult, vec_len};
+ghost use Rattle.std.specs.Io.KnownBytes.{Appends};
+ghost use Rattle.lab_shelf.specs.Counts.{Counted, raised};
 
 use crate::fault::ShelfFault;
 use crate::traits::{Shelf, Sink};
@@ -54,7 +56,14 @@ impl<R: Files> Shelf for FileShelf<R> {
         name: &[u8],
         from: u64,
         most: u64,
-    ) -> Result<Vec<u8>, ShelfFault> {
+    ) -> Result<Vec<u8>, ShelfFault>
+        ensures most { IfOk result (λ bytes. vec_len bytes ≤ most) }
+        ensures text { OnOk result (IsUtf8 name.now) }
+        ensures after { self.new ≡ record self.old
+            { fetch_faults = raised result self.old.fetch_faults } }
+        ensures faults { Counted result self.old.fetch_faults self.new.fetch_faults }
+        ensures write_faults { self.new.write_faults ≡ self.old.write_faults }
+    {
         let outcome = read_piece(&self.rt, alloc, name, from, most);
         if let Err(ShelfFault::Failed) = outcome {
             self.fetch_faults = self.fetch_faults.saturating_add(1);
@@ -62,7 +71,13 @@ impl<R: Files> Shelf for FileShelf<R> {
         outcome
     }
 
-    fn store(&mut self, name: &[u8], bytes: &[u8]) -> Result<(), ShelfFault> {
+    fn store(&mut self, name: &[u8], bytes: &[u8]) -> Result<(), ShelfFault>
+        ensures text { OnOk result (IsUtf8 name.now) }
+        ensures after { self.new ≡ record self.old
+            { write_faults = raised result self.old.write_faults } }
+        ensures faults { Counted result self.old.write_faults self.new.write_faults }
+        ensures fetch_faults { self.new.fetch_faults ≡ self.old.fetch_faults }
+    {
         let outcome = write_file(&self.rt, name, bytes);
         if let Err(ShelfFault::Failed) = outcome {
             self.write_faults = self.write_faults.saturating_add(1);
@@ -100,7 +115,10 @@ impl<W: Write> Sink for StdSink<W> {
 
     ghost faults = { λ s. s };
 
-    fn put(&mut self, bytes: &[u8]) -> Result<(), ShelfFault> {
+    fn put(&mut self, bytes: &[u8]) -> Result<(), ShelfFault>
+        ensures after { self.new ≡ raised result self.old }
+        ensures faults { Counted result self.old self.new }
+    {
         let outcome = write_through(&mut self.writer, bytes);
         if let Err(ShelfFault::Failed) = outcome {
             self.faults = self.faults.saturating_add(1);
@@ -118,7 +136,10 @@ fn fault_of(error: &io::Error) -> ShelfFault {
 }
 
 /// A path from the bytes of a name.
-fn path_of(name: &[u8]) -> Result<&str, ShelfFault> {
+fn path_of(name: &[u8]) -> Result<&str, ShelfFault>
+    ensures { MatchResult result (λ path. (path.now ≡ name.now) × IsUtf8 name.now)
+        (λ fault. (fault ≡ ShelfFault.Failed) × ¬ (IsUtf8 name.now)) }
+{
     str::from_utf8(name).map_err(|_| ShelfFault::Failed)
 }
 
@@ -130,7 +151,8 @@ fn read_piece<R: Files>(
     from: u64,
     most: u64,
 ) -> Result<Vec<u8>, ShelfFault>
-    ensures { IfOk result (λ bytes. vec_len bytes ≤ most) }
+    ensures most { IfOk result (λ bytes. vec_len bytes ≤ most) }
+    ensures text { OnOk result (IsUtf8 name.now) }
 {
     let path = path_of(name)?;
     match read_bytes(rt, alloc, path, from, most) {
@@ -158,15 +180,27 @@ fn read_bytes<R: Files>(
 }
 
 /// Makes the file hold exactly these bytes.
-fn write_file<R: Files>(rt: &R, name: &[u8], bytes: &[u8]) -> Result<(), ShelfFault> {
+fn write_file<R: Files>(rt: &R, name: &[u8], bytes: &[u8]) -> Result<(), ShelfFault>
+    ensures { OnOk result (IsUtf8 name.now) }
+{
     let path = path_of(name)?;
     fs::write(rt, path, bytes).map_err(|error| fault_of(&error))
 }
 
-/// Writes all of the bytes, and what the writer holds back.
-fn write_through<W: Write>(writer: &mut W, bytes: &[u8]) -> Result<(), ShelfFault> {
-    match writer.write_all(bytes).and_then(|()| writer.flush()) {
+/// Writes all of the bytes to the stream.
+fn write_through<W: Write>(writer: &mut W, bytes: &[u8]) -> Result<(), ShelfFault>
+    ensures { OnOk result (Appends (W.contents writer.old) (W.contents writer.new) bytes.now) }
+{
+    match write_and_flush(writer, bytes) {
         Ok(()) => Ok(()),
         Err(error) => Err(fault_of(&error)),
     }
+}
+
+/// Writes all of the bytes, and then what the writer holds back.
+fn write_and_flush<W: Write>(writer: &mut W, bytes: &[u8]) -> io::Result<()>
+    ensures { OnOk result (Appends (W.contents writer.old) (W.contents writer.new) bytes.now) }
+{
+    writer.write_all(bytes)?;
+    writer.flush()
 }
