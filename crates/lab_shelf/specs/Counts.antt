@@ -1,0 +1,31 @@
+-- Counts of faults, which rise at each fault and stand still at the greatest value of a counter.
+use Rattle.std.specs.Prelude.{◌≡◌, ◌≤◌, ◌+◌, ◌-◌, ◌^◌, ℕ, min, Bool, true, false, Option, Some, None, Result, Ok, Err, ⊤}
+use Rattle.lab_shelf.specs.declared.fault.ShelfFault.{ShelfFault}
+use Rattle.lab_shelf.specs.declared.fault.ShelfFault.TheVariants.{Failed, Memory}
+
+-- one more, up to the greatest value of a counter
+abbrev pub one_more : ℕ → ℕ
+one_more count = min (count + 1) (2 ^ 64 - 1)
+
+-- the count rose, or stands at the greatest value of a counter
+abbrev pub Rose : ℕ → ℕ → Type 0
+Rose before now = one_more before ≤ now
+
+-- the count of a kind of call: it rises where such a call fails, and never falls
+abbrev pub Counted : {T : Type 0} → Result T ShelfFault → ℕ → ℕ → Type 0
+Counted (Ok x) before now = now ≡ before
+Counted (Err Failed) before now = (before ≤ now) × Rose before now
+Counted (Err Memory) before now = before ≤ now
+
+-- a call answers as it was told beforehand, but for memory
+abbrev pub Foreseen : {T : Type 0} → Result T ShelfFault → Option Bool → Type 0
+Foreseen result None = ⊤
+Foreseen (Ok x) (Some works) = works ≡ true
+Foreseen (Err Failed) (Some works) = works ≡ false
+Foreseen (Err Memory) (Some works) = ⊤
+
+-- a count of faults after a call: one more where the call failed
+abbrev pub raised : {T : Type 0} → Result T ShelfFault → ℕ → ℕ
+raised (Ok x) count = count
+raised (Err Failed) count = one_more count
+raised (Err Memory) count = count

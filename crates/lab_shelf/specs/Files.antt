@@ -1,0 +1,68 @@
+-- Files by name, and the bytes that a sink took.
+--     Files       a finite map from names to bytes
+--     held files name      what the file of this name holds, if there is one
+--     with_file files name bytes      the files, with this one holding exactly these bytes
+--     piece files name from most      the file's bytes from a place on, at most so many
+--     IsPartWritten, TookPart      what a failed write may leave
+--     held-with_file_same, held-with_file, held-with_file_other      what the files hold once one of them was written
+--     name_test-Decides      the maps' test of two names decides whether they are equal
+use Rattle.std.specs.Prelude.{◌≡◌, ◌≢◌, ◌⊎◌, ◌++◌, ℕ, true, false, cond, List, take, drop, Option, Some, refl}
+use Rattle.std.specs.Bool.{Decides}
+use Rattle.std.specs.Option.{option_map}
+use Rattle.std.specs.Ordering.{nat_cmp, eq_by_cmp}
+use Rattle.std.specs.Cmp.Lexicographic.{slice_cmp, nat_list_cmp_total}
+use Rattle.std.specs.FinMap.{FinMap, get, insert, get-insert}
+use Rattle.std.proofs.Common.{sym, ap, subst, inl, inr, ◌∙◌}
+use Rattle.std.proofs.lemmas.Slice.Eq.{bytes_eq-Decides}
+use Rattle.std.proofs.lemmas.Map.Text.{is_eq-slice_cmp}
+
+-- files: a finite map from names to bytes
+abbrev pub Files : Type 0
+Files = FinMap (slice_cmp nat_cmp) (List ℕ)
+
+-- what the file of this name holds, if there is one
+abbrev pub held : Files → List ℕ → Option (List ℕ)
+held files name = get files name
+
+-- the files, with this one holding exactly these bytes
+abbrev pub with_file : Files → List ℕ → List ℕ → Files
+with_file files name bytes = insert files name bytes
+
+-- the bytes of a file from a place on, at most so many of them
+abbrev pub piece : Files → List ℕ → ℕ → ℕ → Option (List ℕ)
+piece files name from most = option_map (λ content. take most (drop from content)) (held files name)
+
+-- the files are as they were, or the named one holds the first of the bytes
+abbrev pub IsPartWritten : Option Files → Option Files → List ℕ → List ℕ → Type 0
+IsPartWritten before after name bytes =
+    (after ≡ before) ⊎ ((k : ℕ) × (after ≡ option_map (λ files. with_file files name (take k bytes)) before))
+
+-- a sink took the first of the bytes
+abbrev pub TookPart : Option (List ℕ) → Option (List ℕ) → List ℕ → Type 0
+TookPart before after bytes = (k : ℕ) × (after ≡ option_map (λ taken. taken ++ take k bytes) before)
+
+-- the maps' test of two names decides whether they are equal
+pub name_test-Decides : (q name : List ℕ) → Decides (eq_by_cmp (slice_cmp nat_cmp) q name) (q ≡ name)
+name_test-Decides q name =
+    subst (λ b. Decides b (q ≡ name)) (sym (is_eq-slice_cmp q name)) (bytes_eq-Decides q name)
+
+-- a file that was written holds the bytes
+pub held-with_file_same : (files : Files) (name bytes : List ℕ) → held (with_file files name bytes) name ≡ Some bytes
+held-with_file_same files name bytes =
+    get-insert nat_list_cmp_total files name bytes name
+    ∙ ap (λ b. cond b (Some bytes) (held files name)) ((name_test-Decides name name).1 refl)
+
+-- every other file is as it was
+pub held-with_file : (files : Files) (name bytes q : List ℕ) → (q ≡ name) ⊎ (held (with_file files name bytes) q ≡ held files q)
+held-with_file files name bytes q =
+    elim (eq_by_cmp (slice_cmp nat_cmp) q name) as
+    (λ b. Decides b (q ≡ name) → held (with_file files name bytes) q ≡ cond b (Some bytes) (held files q)
+    → (q ≡ name) ⊎ (held (with_file files name bytes) q ≡ held files q)) [
+      | true ↦ λ decides is. inl (decides.0 refl)
+      | false ↦ λ decides is. inr is
+    ] (name_test-Decides q name) (get-insert nat_list_cmp_total files name bytes q)
+
+-- a file with another name is as it was
+pub held-with_file_other : (files : Files) (name bytes q : List ℕ) → q ≢ name → held (with_file files name bytes) q ≡ held files q
+held-with_file_other files name bytes q other =
+    elim (held-with_file files name bytes q) [ inl same ↦ absurd (other same) | inr is ↦ is ]

@@ -1,0 +1,4 @@
+pub mod Files
+pub mod Changes
+pub mod Counts
+pub mod States

@@ -1,0 +1,52 @@
+// Names with their bytes, of which the first of a name stands.
+ghost use Rattle.std.specs.Prelude.{◌≡◌, length, take, drop, position, bytes_eq, OnOk, OnErr, option_map};
+ghost use Rattle.std.specs.Option.{option_copied};
+ghost use Rattle.lab_shelf.specs.Files.{held, with_file};
+ghost use Rattle.lab_shelf.specs.States.{files_of};
+
+use std::alloc::AllocError;
+
+/// The bytes of `content` from the byte `from` on: `most` of them, or as many as there are.
+pub(crate) fn cut(content: &[u8], from: u64, most: u64) -> &[u8]
+    ensures { result.now ≡ take most (drop from content.now) }
+{
+    let rest = &content[content.len().min(from as usize)..];
+    &rest[..rest.len().min(most as usize)]
+}
+
+/// The index of the first entry of this name.
+fn place_of(entries: &[(Vec<u8>, Vec<u8>)], name: &[u8]) -> Option<usize>
+    ensures { result ≡ position (λ entry. bytes_eq name.now entry.0.items) entries.now }
+{
+    entries.iter().position(|entry| name == entry.0.as_slice())
+}
+
+/// What the first entry of this name holds.
+pub(crate) fn content_of<'a>(entries: &'a [(Vec<u8>, Vec<u8>)], name: &[u8]) -> Option<&'a [u8]>
+    ensures { option_copied result ≡ held (files_of entries.now) name.now }
+{
+    match place_of(entries, name) {
+        Some(place) => Some(entries[place].1.as_slice()),
+        None => None,
+    }
+}
+
+/// Makes the first entry of this name hold these bytes, or adds one. Nothing changes where there is
+/// no memory for it.
+pub(crate) fn put_file(
+    entries: &mut Vec<(Vec<u8>, Vec<u8>)>,
+    name: &[u8],
+    bytes: &[u8],
+) -> Result<(), AllocError>
+    ensures ok { OnOk result
+        (files_of entries.new.items ≡ with_file (files_of entries.old.items) name.now bytes.now) }
+    ensures err { OnErr result (entries.new.items ≡ entries.old.items) }
+{
+    let alloc = *entries.allocator();
+    let content = Vec::from_slice(alloc, bytes)?;
+    match place_of(entries, name) {
+        Some(place) => entries[place].1 = content,
+        None => entries.push((Vec::from_slice(alloc, name)?, content))?,
+    }
+    Ok(())
+}

@@ -1,0 +1,197 @@
+// The forms in memory, whose calls fail where the caller lists their numbers.
+ghost use Rattle.std.specs.Prelude.{◌≡◌, ◌≤◌, ◌++◌, [], Some, IfOk, OnOk, OnErr, vec_len};
+ghost use Rattle.std.specs.Option.{option_copied};
+ghost use Rattle.lab_shelf.specs.Files.{held, with_file, piece, IsPartWritten, TookPart};
+ghost use Rattle.lab_shelf.specs.Counts.{Counted, Foreseen};
+ghost use Rattle.lab_shelf.specs.States.{files_of, fetch_answers, write_answers, after_fetch, after_store, after_put};
+
+use crate::entries::{content_of, cut, put_file};
+use crate::fault::ShelfFault;
+use crate::traits::{Shelf, Sink};
+use std::alloc::Global;
+use std::marker::Model;
+
+/// Files in memory. Its calls of `fetch` and `store` are numbered together from 1, and one fails
+/// with `Failed` exactly where its number is listed, or where it fetches a name that isn't there.
+/// A call that fails changes no file.
+#[derive(Drop)]
+pub struct MemoryShelf {
+    entries: Vec<(Vec<u8>, Vec<u8>)>,
+    failing: Vec<u64>,
+    calls: u64,
+    fetch_faults: u64,
+    write_faults: u64,
+}
+
+impl Model for MemoryShelf {
+    ghost use Rattle.lab_shelf.specs.States.{ShelfState, shelf_code, files_of};
+
+    ghost Value = { ShelfState };
+
+    ghost coded = { shelf_code };
+
+    ghost view = { λ s. record {
+      files = files_of s.entries.items;
+      failing = s.failing.items;
+      calls = s.calls;
+      fetch_faults = s.fetch_faults;
+      write_faults = s.write_faults;
+    } };
+}
+
+impl MemoryShelf {
+    /// A shelf that holds these files, each a name and its bytes. Of two with one name the first
+    /// stands. The calls whose numbers are in `failing` fail.
+    pub fn new(files: Vec<(Vec<u8>, Vec<u8>)>, failing: Vec<u64>) -> MemoryShelf
+        ensures { result ≡ record {
+          files = files_of files.items;
+          failing = failing.items;
+          calls = 0;
+          fetch_faults = 0;
+          write_faults = 0;
+        } }
+    {
+        MemoryShelf {
+            entries: files,
+            failing,
+            calls: 0,
+            fetch_faults: 0,
+            write_faults: 0,
+        }
+    }
+
+    /// The bytes of the file of this name, or `None` where there is no such file.
+    pub fn file(&self, name: &[u8]) -> Option<&[u8]>
+        ensures { option_copied result ≡ held self.now.files name.now }
+    {
+        content_of(&self.entries, name)
+    }
+}
+
+impl Shelf for MemoryShelf {
+    ghost files = { λ s. Some s.files };
+
+    ghost fetch_faults = { λ s. s.fetch_faults };
+
+    ghost write_faults = { λ s. s.write_faults };
+
+    ghost fetch_works = { λ s name. Some (fetch_answers s name) };
+
+    ghost store_works = { λ s. Some (write_answers s.failing s.calls) };
+
+    fn fetch(
+        &mut self,
+        alloc: Global,
+        name: &[u8],
+        from: u64,
+        most: u64,
+    ) -> Result<Vec<u8>, ShelfFault>
+        ensures most { IfOk result (λ bytes. vec_len bytes ≤ most) }
+        ensures piece { IfOk result (λ bytes.
+            piece self.old.files name.now from most ≡ Some bytes.items) }
+        ensures foreseen { Foreseen result (Some (fetch_answers self.old name.now)) }
+        ensures after { self.new ≡ after_fetch result self.old }
+        ensures files { Some self.new.files ≡ Some self.old.files }
+        ensures faults { Counted result self.old.fetch_faults self.new.fetch_faults }
+        ensures write_faults { self.new.write_faults ≡ self.old.write_faults }
+    {
+        self.calls = self.calls.saturating_add(1);
+        let is_listed = self.failing.contains(&self.calls);
+        match content_of(&self.entries, name) {
+            Some(content) if !is_listed => Ok(Vec::from_slice(alloc, cut(content, from, most))?),
+            _ => {
+                self.fetch_faults = self.fetch_faults.saturating_add(1);
+                Err(ShelfFault::Failed)
+            }
+        }
+    }
+
+    fn store(&mut self, name: &[u8], bytes: &[u8]) -> Result<(), ShelfFault>
+        ensures foreseen { Foreseen result (Some (write_answers self.old.failing self.old.calls)) }
+        ensures after { self.new ≡ after_store result self.old name.now bytes.now }
+        ensures ok { OnOk result
+            (Some self.new.files ≡ Some (with_file self.old.files name.now bytes.now)) }
+        ensures err { OnErr result
+            (IsPartWritten (Some self.old.files) (Some self.new.files) name.now bytes.now) }
+        ensures faults { Counted result self.old.write_faults self.new.write_faults }
+        ensures fetch_faults { self.new.fetch_faults ≡ self.old.fetch_faults }
+    {
+        self.calls = self.calls.saturating_add(1);
+        if self.failing.contains(&self.calls) {
+            self.write_faults = self.write_faults.saturating_add(1);
+            return Err(ShelfFault::Failed);
+        }
+        put_file(&mut self.entries, name, bytes)?;
+        Ok(())
+    }
+}
+
+/// Bytes that were put, in memory. Its calls of `put` are numbered from 1, and one fails with
+/// `Failed` exactly where its number is listed. A call that fails takes no byte.
+#[derive(Drop)]
+pub struct MemorySink {
+    bytes: Vec<u8>,
+    failing: Vec<u64>,
+    calls: u64,
+    faults: u64,
+}
+
+impl Model for MemorySink {
+    ghost use Rattle.lab_shelf.specs.States.{SinkState, sink_code};
+
+    ghost Value = { SinkState };
+
+    ghost coded = { sink_code };
+
+    ghost view = { λ s. record {
+      taken = s.bytes.items;
+      failing = s.failing.items;
+      calls = s.calls;
+      faults = s.faults;
+    } };
+}
+
+impl MemorySink {
+    /// A sink that took nothing yet. The calls whose numbers are in `failing` fail.
+    pub fn new(alloc: Global, failing: Vec<u64>) -> MemorySink
+        ensures { result ≡ record { taken = []; failing = failing.items; calls = 0; faults = 0 } }
+    {
+        MemorySink {
+            bytes: Vec::new(alloc),
+            failing,
+            calls: 0,
+            faults: 0,
+        }
+    }
+
+    /// The bytes that the sink took, in order.
+    pub fn bytes(&self) -> &[u8]
+        ensures { result.now ≡ self.now.taken }
+    {
+        self.bytes.as_slice()
+    }
+}
+
+impl Sink for MemorySink {
+    ghost taken = { λ s. Some s.taken };
+
+    ghost faults = { λ s. s.faults };
+
+    ghost put_works = { λ s. Some (write_answers s.failing s.calls) };
+
+    fn put(&mut self, bytes: &[u8]) -> Result<(), ShelfFault>
+        ensures foreseen { Foreseen result (Some (write_answers self.old.failing self.old.calls)) }
+        ensures after { self.new ≡ after_put result self.old bytes.now }
+        ensures ok { OnOk result (Some self.new.taken ≡ Some (self.old.taken ++ bytes.now)) }
+        ensures err { OnErr result (TookPart (Some self.old.taken) (Some self.new.taken) bytes.now) }
+        ensures faults { Counted result self.old.faults self.new.faults }
+    {
+        self.calls = self.calls.saturating_add(1);
+        if self.failing.contains(&self.calls) {
+            self.faults = self.faults.saturating_add(1);
+            return Err(ShelfFault::Failed);
+        }
+        self.bytes.extend_from_slice(bytes)?;
+        Ok(())
+    }
+}

@@ -1,0 +1,130 @@
+// What no clause says: that calls work where there is memory, and what real files and streams do.
+use crate::{FileShelf, MemoryShelf, MemorySink, Shelf, ShelfFault, Sink, StdSink};
+use std::alloc::Global;
+use std::io::Write;
+use std::test::Fail;
+use std::{env, fs, io, process};
+
+fn copied(alloc: Global, bytes: &[u8]) -> Result<Vec<u8>, ShelfFault> {
+    Ok(Vec::from_slice(alloc, bytes)?)
+}
+
+// A shelf that holds `hello` under the name `a`.
+fn one_file(alloc: Global, failing: Vec<u64>) -> Result<MemoryShelf, ShelfFault> {
+    let mut files = Vec::new(alloc);
+    files.push((copied(alloc, b"a")?, copied(alloc, b"hello")?))?;
+    Ok(MemoryShelf::new(files, failing))
+}
+
+#[test]
+fn memory_shelf_fails_listed_calls(rt: HostRuntime) -> Result<(), Fail> {
+    let alloc = rt.alloc();
+    let mut shelf = one_file(alloc, vec![in alloc; 2, 5]?)?;
+    assert_eq!(rt;
+        shelf.fetch(alloc, b"a", 1, 3)?.as_slice(),
+        b"ell".as_slice()
+    );
+    assert_eq!(rt; shelf.store(b"b", b"new").err(), Some(ShelfFault::Failed));
+    assert!(rt; shelf.file(b"b").is_none());
+    shelf.store(b"b", b"new")?;
+    shelf.store(b"a", b"bye")?;
+    assert_eq!(rt;
+        shelf.fetch(alloc, b"a", 0, 9).err(),
+        Some(ShelfFault::Failed)
+    );
+    assert_eq!(rt;
+        shelf.fetch(alloc, b"c", 0, 9).err(),
+        Some(ShelfFault::Failed)
+    );
+    assert_eq!(rt;
+        shelf.fetch(alloc, b"a", 0, 9)?.as_slice(),
+        b"bye".as_slice()
+    );
+    assert_eq!(rt; shelf.fetch(alloc, b"a", 4, 9)?.len(), 0);
+    assert_eq!(rt; shelf.file(b"b").unwrap_or(&[]), b"new".as_slice());
+    Ok(())
+}
+
+#[test]
+fn memory_sink_fails_listed_calls(rt: HostRuntime) -> Result<(), Fail> {
+    let alloc = rt.alloc();
+    let mut sink = MemorySink::new(alloc, vec![in alloc; 2]?);
+    sink.put(b"one ")?;
+    assert_eq!(rt; sink.put(b"two ").err(), Some(ShelfFault::Failed));
+    sink.put(b"three")?;
+    assert_eq!(rt; sink.bytes(), b"one three".as_slice());
+    Ok(())
+}
+
+#[test]
+fn file_shelf_reads_what_it_wrote(rt: HostRuntime) -> Result<(), Fail> {
+    let alloc = rt.alloc();
+    let folder = env::temp_dir(&rt)?;
+    let number = process::id(rt.process());
+    let path = format!(in alloc; "{}/lab_shelf-{number}", folder.as_str())?;
+    let name = path.as_bytes();
+    let mut shelf = FileShelf::new(rt);
+    shelf.store(name, b"hello, world")?;
+    shelf.store(name, b"hello")?;
+    assert_eq!(rt;
+        shelf.fetch(alloc, name, 1, 3)?.as_slice(),
+        b"ell".as_slice()
+    );
+    assert_eq!(rt;
+        shelf.fetch(alloc, name, 3, 9)?.as_slice(),
+        b"lo".as_slice()
+    );
+    assert_eq!(rt; shelf.fetch(alloc, name, 9, 9)?.len(), 0);
+    fs::remove_file(&rt, path.as_str())?;
+    assert_eq!(rt;
+        shelf.fetch(alloc, name, 0, 9).err(),
+        Some(ShelfFault::Failed)
+    );
+    let folder_name = folder.as_str().as_bytes();
+    assert_eq!(rt;
+        shelf.fetch(alloc, folder_name, 0, 9).err(),
+        Some(ShelfFault::Failed)
+    );
+    assert_eq!(rt;
+        shelf.store(folder_name, b"hello").err(),
+        Some(ShelfFault::Failed)
+    );
+    assert_eq!(rt;
+        shelf.fetch(alloc, b"\xff", 0, 9).err(),
+        Some(ShelfFault::Failed)
+    );
+    assert_eq!(rt;
+        shelf.store(b"\xff", b"hello").err(),
+        Some(ShelfFault::Failed)
+    );
+    Ok(())
+}
+
+// A stream that takes three bytes, and then nothing.
+#[derive(Drop)]
+struct Narrow {
+    room: usize,
+}
+
+impl Write for Narrow {
+    fn write(&mut self, bytes: &[u8]) -> io::Result<usize> {
+        let count = bytes.len().min(self.room);
+        self.room -= count;
+        Ok(count)
+    }
+
+    fn flush(&mut self) -> io::Result<()> {
+        Ok(())
+    }
+}
+
+#[test]
+fn std_sink_takes_all_or_fails(rt: HostRuntime) -> Result<(), Fail> {
+    let mut output = StdSink::new(rt.stdout());
+    output.put(b"a line\n")?;
+    let mut narrow = StdSink::new(Narrow { room: 3 });
+    narrow.put(b"ab")?;
+    assert_eq!(rt; narrow.put(b"cd").err(), Some(ShelfFault::Failed));
+    narrow.put(b"")?;
+    Ok(())
+}

@@ -1,0 +1,81 @@
+// What a program asks of its files and of a stream that it writes to.
+ghost use Rattle.std.specs.Prelude.{◌≡◌, ◌≤◌, ◌++◌, ℕ, List, Bool, Option, None, Some, IfOk, IfSome, OnOk, OnErr, vec_len};
+ghost use Rattle.std.specs.Option.{option_map};
+ghost use Rattle.lab_shelf.specs.Files.{Files, with_file, piece, IsPartWritten, TookPart};
+ghost use Rattle.lab_shelf.specs.Counts.{Counted, Foreseen};
+
+use crate::fault::ShelfFault;
+use std::alloc::Global;
+
+/// Files by name. A contract sees a finite map from names to bytes, where the shelf tells it, and
+/// two counts of faults: of fetches that failed, and of writes that failed. Neither count falls,
+/// and each stands still at `u64::MAX`.
+pub trait Shelf {
+    // The files, where the shelf tells them.
+    ghost files: { Self → Option Files };
+
+    // How many fetches failed.
+    ghost fetch_faults: { Self → ℕ };
+
+    // How many stores failed.
+    ghost write_faults: { Self → ℕ };
+
+    // Whether the next fetch of a name works, where the shelf tells that.
+    ghost fetch_works: { Self → List ℕ → Option Bool } = { λ _ _. None };
+
+    // Whether the next store works, where the shelf tells that.
+    ghost store_works: { Self → Option Bool } = { λ _. None };
+
+    /// Gives the bytes of the file `name` from the byte `from` on: `most` of them, or as many as
+    /// there are. `Failed` comes where the file can't be read, and `fetch_faults` counts it;
+    /// `Memory` where there is no room for the bytes. The files stay as they are.
+    fn fetch(
+        &mut self,
+        alloc: Global,
+        name: &[u8],
+        from: u64,
+        most: u64,
+    ) -> Result<Vec<u8>, ShelfFault>
+        ensures most { IfOk result (λ bytes. vec_len bytes ≤ most) }
+        ensures piece { IfOk result (λ bytes. IfSome (files self.old)
+            (λ held_files. piece held_files name.now from most ≡ Some bytes.items)) }
+        ensures files { files self.new ≡ files self.old }
+        ensures faults { Counted result (fetch_faults self.old) (fetch_faults self.new) }
+        ensures write_faults { write_faults self.new ≡ write_faults self.old }
+        ensures foreseen { Foreseen result (fetch_works self.old name.now) };
+
+    /// Makes the file `name` hold exactly `bytes`. After an error it holds a prefix of them, or is
+    /// as it was. `Failed` comes where the file can't be written, and `write_faults` counts it;
+    /// `Memory` where there is no room for the bytes. No other file changes.
+    fn store(&mut self, name: &[u8], bytes: &[u8]) -> Result<(), ShelfFault>
+        ensures ok { OnOk result (files self.new ≡ option_map
+            (λ held_files. with_file held_files name.now bytes.now) (files self.old)) }
+        ensures err { OnErr result
+            (IsPartWritten (files self.old) (files self.new) name.now bytes.now) }
+        ensures faults { Counted result (write_faults self.old) (write_faults self.new) }
+        ensures fetch_faults { fetch_faults self.new ≡ fetch_faults self.old }
+        ensures foreseen { Foreseen result (store_works self.old) };
+}
+
+/// A stream that takes bytes. A contract sees the bytes that it took, where the sink tells them,
+/// and a count of faults, which never falls and stands still at `u64::MAX`.
+pub trait Sink {
+    // The bytes that were taken, in order, where the sink tells them.
+    ghost taken: { Self → Option (List ℕ) };
+
+    // How many puts failed.
+    ghost faults: { Self → ℕ };
+
+    // Whether the next put works, where the sink tells that.
+    ghost put_works: { Self → Option Bool } = { λ _. None };
+
+    /// Takes all of `bytes`. After an error it took a prefix of them. `Failed` comes where the
+    /// stream can't be written, or takes nothing of a piece that isn't empty, and `faults` counts
+    /// it; `Memory` where there is no room for the bytes.
+    fn put(&mut self, bytes: &[u8]) -> Result<(), ShelfFault>
+        ensures ok { OnOk result
+            (taken self.new ≡ option_map (λ before. before ++ bytes.now) (taken self.old)) }
+        ensures err { OnErr result (TookPart (taken self.old) (taken self.new) bytes.now) }
+        ensures faults { Counted result (faults self.old) (faults self.new) }
+        ensures foreseen { Foreseen result (put_works self.old) };
+}
