@@ -1,0 +1,143 @@
+//! The state table: what comes of each call in each state.
+ghost use Rattle.std.specs.Prelude.{◌≡◌, [], ◌∷◌};
+ghost use Rattle.pcm_states.specs.Table.{next_of, done_in, refused_in, first_of, if_gone, if_late, outcome_of, starting, filling, moving, draining};
+ghost use Rattle.pcm_states.specs.declared.states.State.TheVariants.{Prepared, Running, Draining};
+ghost use Rattle.pcm_states.specs.declared.calls.Call.TheVariants.{Start, Transfer};
+
+use crate::calls::{Call, Facts, Outcome};
+use crate::states::State;
+use snd_base::{PcmError, XrunWhy};
+
+/// The state and the answer after `call` in `state`, where the call found `facts`.
+///
+/// States and calls are those of alsa/pcm.h; the table is this library's own:
+///
+/// - A call that is not allowed in a state is refused with `BadState` and leaves the state. `Pause`
+///   is refused with `NotSupported` everywhere, and every other call with `NoDevice` once the card
+///   is gone.
+/// - `HwParams` leads to PREPARED, `HwFree` to OPEN, `Drop` to SETUP, `Prepare` to PREPARED, also
+///   from XRUN. `SwParams` leaves the state.
+/// - A start of playback with nothing queued is refused with `Xrun(Empty)` and stays in PREPARED. A
+///   transfer in PREPARED starts the stream where `starts` says so.
+/// - A call that finds the card gone leads to DISCONNECTED with `NoDevice`. One that finds the stop
+///   threshold reached, in RUNNING, or a frame too late leads to XRUN with that cause. A transfer or a
+///   sync that begins in XRUN is refused with `Xrun(Already)`.
+/// - `Drain` plays what is queued: it answers `Again` and is in DRAINING until nothing is queued, and
+///   then it is in SETUP. Capture refuses it with `BadState`.
+/// - PAUSED and SUSPENDED are never entered, and refuse every call.
+pub fn next(state: State, call: Call, facts: Facts) -> Outcome
+    ensures table { result ≡ next_of state call facts }
+    ensures never_paused { result.state ≡ State.Paused → state ≡ State.Paused }
+    ensures never_suspended { result.state ≡ State.Suspended → state ≡ State.Suspended }
+{
+    match (call, state) {
+        (Call::Pause, _) => refused(state, PcmError::NotSupported),
+        (_, State::Disconnected) => refused(state, PcmError::NoDevice),
+        (Call::HwParams, State::Open | State::Setup | State::Prepared) => done(State::Prepared),
+        (Call::HwFree, State::Setup | State::Prepared) => done(State::Open),
+        (
+            Call::SwParams,
+            State::Setup | State::Prepared | State::Running | State::Xrun | State::Draining,
+        ) => done(state),
+        (Call::Prepare, State::Setup | State::Prepared | State::Xrun) => done(State::Prepared),
+        (Call::Start, State::Prepared) => start(facts),
+        (Call::Transfer, State::Prepared) => fill(facts),
+        (Call::Sync, State::Prepared) => done(State::Prepared),
+        (Call::Transfer | Call::Sync, State::Running) => move_frames(facts),
+        (Call::Transfer | Call::Sync, State::Xrun) => refused(
+            state,
+            PcmError::Xrun(XrunWhy::Already),
+        ),
+        (Call::Sync, State::Draining) => drain(call, facts),
+        (
+            Call::Drop,
+            State::Setup | State::Prepared | State::Running | State::Xrun | State::Draining,
+        ) => done(State::Setup),
+        (Call::Drain, State::Setup | State::Xrun) if !facts.capture => done(State::Setup),
+        (Call::Drain, State::Prepared | State::Running | State::Draining) if !facts.capture =>
+            drain(call, facts),
+        _ => refused(state, PcmError::BadState),
+    }
+}
+
+/// The call is done, and leaves `state`.
+fn done(state: State) -> Outcome
+    ensures { result ≡ done_in state }
+{
+    Outcome {
+        state,
+        answer: Ok(()),
+    }
+}
+
+/// The call is refused, and leaves `state`.
+fn refused(state: State, error: PcmError) -> Outcome
+    ensures { result ≡ refused_in state error }
+{
+    Outcome {
+        state,
+        answer: Err(error),
+    }
+}
+
+/// What a start in PREPARED comes to.
+fn start(facts: Facts) -> Outcome
+    ensures { result ≡ outcome_of starting Prepared Start facts }
+{
+    if !facts.capture && facts.queued == 0 {
+        return refused(State::Prepared, PcmError::Xrun(XrunWhy::Empty));
+    }
+    run(facts)
+}
+
+/// What a transfer in PREPARED comes to.
+fn fill(facts: Facts) -> Outcome
+    ensures { result ≡ outcome_of filling Prepared Transfer facts }
+{
+    if facts.starts {
+        run(facts)
+    } else {
+        done(State::Prepared)
+    }
+}
+
+/// What a transfer or a sync in RUNNING comes to.
+fn move_frames(facts: Facts) -> Outcome
+    ensures { result ≡ outcome_of moving Running Transfer facts }
+{
+    match facts.over {
+        Some((avail, seen)) if !facts.gone => refused(
+            State::Xrun,
+            PcmError::Xrun(XrunWhy::Avail { avail, seen }),
+        ),
+        _ => run(facts),
+    }
+}
+
+/// The stream runs on, unless the card is gone or a frame was too late.
+fn run(facts: Facts) -> Outcome
+    ensures { result ≡ first_of (if_gone facts ∷ if_late facts ∷ []) (done_in Running) }
+{
+    if facts.gone {
+        return refused(State::Disconnected, PcmError::NoDevice);
+    }
+    match facts.late {
+        Some(why) => refused(State::Xrun, PcmError::Xrun(why)),
+        None => done(State::Running),
+    }
+}
+
+/// What a drain comes to, and a sync while it lasts.
+fn drain(call: Call, facts: Facts) -> Outcome
+    ensures { result ≡ outcome_of draining Draining call facts }
+{
+    if facts.gone {
+        return refused(State::Disconnected, PcmError::NoDevice);
+    }
+    match (facts.late, call) {
+        (Some(why), _) => refused(State::Xrun, PcmError::Xrun(why)),
+        (None, _) if facts.queued == 0 => done(State::Setup),
+        (None, Call::Drain) => refused(State::Draining, PcmError::Again),
+        (None, _) => done(State::Draining),
+    }
+}
