@@ -5,6 +5,7 @@ mod error;
 mod line;
 mod name;
 mod script;
+mod word;
 
 pub use error::{ScriptError, ScriptWhy};
 pub use line::{Actor, Op};
