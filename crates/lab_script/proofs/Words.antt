@@ -8,7 +8,8 @@ use Rattle.std.proofs.lemmas.Str.{digit_value_digit}
 use Rattle.std.proofs.lemmas.Str.Parse.{IsNumeralModel, numerals_by_value, tells_all_ascii_digits, digit_at, digits_value_short, digits_value-take-le}
 use Rattle.std.proofs.lemmas.Int.Digits.{digits_value_more}
 use Rattle.std.proofs.lemmas.List.{take_all, length-drop}
-use Rattle.std.proofs.lemmas.List.Splits.{slice_split_first, slice_split_none}
+use Rattle.lab_script.specs.Grammar.{one_of, two_of, three_of, first_of}
+use Rattle.std.proofs.lemmas.List.Splits.{length-slice_split, slice_split_first, slice_split_none}
 use Rattle.std.proofs.lemmas.List.Quantifiers.{position-Some}
 use Rattle.std.proofs.lemmas.Bool.Decides.{nat_tests}
 use Rattle.std.proofs.lemmas.Option.{cond_some}
@@ -62,3 +63,29 @@ digit_more ds i e h n =
       step = omega (arith, more, v);
       bound = omega (arith, digits_value-take-le 10 ds (i + 1) (omega arith), digits_value_short own ds 19 e n)
     }
+
+-- a line has a word
+pub words_some : (line : List ℕ) → 0 < length (words_of line)
+words_some line = omega (arith, length-slice_split is_space line)
+
+pub one_none : (w : List ℕ) (ws : List (List ℕ)) → 0 < length ws → one_of (w ∷ ws) ≡ None
+one_none w [] h = absurd (omega arith)
+one_none w (x ∷ ws) h = refl
+
+pub first_some : (w : List ℕ) (ws : List (List ℕ)) → 0 < length ws → first_of (w ∷ ws) ≡ Some (w, ws)
+first_some w [] h = absurd (omega arith)
+first_some w (x ∷ ws) h = refl
+
+pub two_from : (w : List ℕ) (ws : List (List ℕ)) → two_of (w ∷ ws) ≡ option_map (λ x. (w, x)) (one_of ws)
+two_from w [] = refl
+two_from w (x ∷ []) = refl
+two_from w (x ∷ y ∷ ws) = refl
+
+pub three_from : (w : List ℕ) (ws : List (List ℕ)) → three_of (w ∷ ws) ≡ option_map (λ x. (w, x.0, x.1)) (two_of ws)
+three_from w [] = refl
+three_from w (x ∷ []) = refl
+three_from w (x ∷ y ∷ []) = refl
+three_from w (x ∷ y ∷ z ∷ ws) = refl
+
+pub first_at : (line : List ℕ) (i : ℕ) → position is_space line ≡ Some i → first_of (words_of line) ≡ Some (take i line, words_of (take (length line - (i + 1)) (drop (i + 1) line)))
+first_at line i e = ap first_of (words_at line i e) ∙ first_some _ _ (words_some _)

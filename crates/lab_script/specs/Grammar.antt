@@ -1,12 +1,12 @@
 -- Each kind of line of a script: what a line of words says, where it is of that kind.
-use Rattle.std.specs.Prelude.{ℕ, ◌+◌, ◌*◌, ◌%◌, Bool, false, ◌&&◌, not, List, [], ◌∷◌, length, codes, bytes_eq, Option, Some, None, ◌==◌, nat_lt, nat_le, if◌then◌else◌}
+use Rattle.std.specs.Prelude.{ℕ, zero, suc, ◌++◌, ◌+◌, ◌/◌, ◌%◌, Bool, false, ◌&&◌, not, List, [], ◌∷◌, length, codes, bytes_eq, Option, Some, None, ◌==◌, nat_lt, nat_le, if◌then◌else◌}
 use Rattle.std.specs.List.{position, list_any}
 use Rattle.lab_script.specs.declared.script.CardLine.{CardLine}
 use Rattle.lab_script.specs.declared.script.ClientLine.{ClientLine}
 use Rattle.lab_script.specs.declared.script.Phase.{Phase}
 use Rattle.lab_script.specs.declared.script.Phase.TheVariants.{Play, Write}
 use Rattle.lab_script.specs.Script.{frames_played}
-use Rattle.lab_script.specs.Word.{number_of, is_name, is_file}
+use Rattle.lab_script.specs.Word.{cut_line, words_of, number_of, is_name, is_file}
 
 infixl 10 ◌>>=◌
 abbrev pub ◌>>=◌ : {A B : Type 0} → Option A → (A → Option B) → Option B
@@ -58,7 +58,7 @@ last_keyed key words = do
 
 -- the card's numbers are in their ranges, and its period divides its ring at least twice
 abbrev pub is_card : ℕ → ℕ → ℕ → ℕ → Bool
-is_card channels rate period ring = (channels == 1 && (nat_le 4000 rate && nat_le rate 192000)) && ((nat_le 64 ring && nat_le ring 16384) && (nat_le 16 period && (nat_le (2 * period) ring && ring % period == 0)))
+is_card channels rate period ring = channels == 1 && nat_le 4000 rate && nat_le rate 192000 && nat_le 64 ring && nat_le ring 16384 && nat_le 16 period && nat_le period (ring / 2) && ring % period == 0
 
 -- the card of these numbers
 abbrev pub card_with : ℕ → ℕ → ℕ → ℕ → Option CardLine
@@ -80,13 +80,30 @@ is_named name client = bytes_eq client.name name
 
 -- a client of this name and file can stand behind the earlier ones
 abbrev pub is_client : List ClientLine → List ℕ → List ℕ → Bool
-is_client before name file = (is_name name && is_file file) && not (list_any (is_named name) before)
+is_client before name file = is_name name && is_file file && not (list_any (is_named name) before)
 
 -- `client NAME FILE`, with a name that no earlier client has
 unfoldable pub client_of : List ClientLine → List (List ℕ) → Option ClientLine
 client_of before words = do
   three ← three_of words
   passed (bytes_eq three.0 (codes "client") && is_client before three.1 three.2) (record { name = three.1; file = three.2 })
+
+-- the client of the first line of a text, and the text behind that line
+unfoldable pub client_line : List ClientLine → List ℕ → Option (ClientLine × List ℕ)
+client_line before text = do
+  cut ← cut_line text
+  client ← client_of before (words_of cut.0)
+  Some (client, cut.1)
+
+-- what follows from a value where there is one, and otherwise another value
+abbrev pub where_some : {A B : Type 0} → Option A → (A → B) → B → B
+where_some (Some x) f other = f x
+where_some None f other = other
+
+-- the clients at the front of a text, of which at most so many more may come, and the text behind them
+unfoldable pub clients_of : ℕ → List ClientLine → List ℕ → List ClientLine × List ℕ
+clients_of zero before text = (before, text)
+clients_of (suc more) before text = where_some (client_line before text) (λ client. clients_of more (before ++ client.0 ∷ []) client.1) (before, text)
 
 -- `open NAME`, for a given name
 unfoldable pub open_of : List ℕ → List (List ℕ) → Option (Unit {0})

@@ -7,12 +7,15 @@ use Rattle.lab_script.specs.declared.script.ClientLine.{ClientLine}
 use Rattle.lab_script.specs.declared.script.Phase.{Phase}
 use Rattle.lab_script.specs.declared.script.Script.{Script}
 use Rattle.lab_script.specs.Word.{cut_line, words_of}
-use Rattle.lab_script.specs.Grammar.{card_of, client_of, open_of, alone, action_of}
+use Rattle.lab_script.specs.Grammar.{card_of, clients_of, open_of, alone, action_of}
 
 -- what is left of a text, and the number of its first line
 pub record Rest : Type 0 where
   pub number : ℕ
   pub text : List ℕ
+
+abbrev pub at : ℕ → List ℕ → Rest
+at number text = record { number = number; text = text }
 
 infixl 10 ◌>>=◌
 abbrev pub ◌>>=◌ : {A B : Type 0} → Result A ScriptError → (A → Result B ScriptError) → Result B ScriptError
@@ -26,7 +29,7 @@ refused number = record { line = number; why = why.NotYet }
 -- the whole first line, and what is left behind it
 abbrev pub cut_at : ℕ → Option (List ℕ × List ℕ) → Result (List ℕ × Rest) ScriptError
 cut_at number None = Err (refused number)
-cut_at number (Some cut) = Ok (cut.0, record { number = number + 1; text = cut.1 })
+cut_at number (Some cut) = Ok (cut.0, at (number + 1) cut.1)
 
 abbrev pub line_of : Rest → Result (List ℕ × Rest) ScriptError
 line_of rest = cut_at rest.number (cut_line rest.text)
@@ -42,16 +45,6 @@ line_by reader rest = do
   line ← line_of rest
   x ← known rest.number (reader (words_of line.0))
   Ok (x, line.1)
-
--- what follows from a result where it is Ok, and otherwise another value
-abbrev pub where_ok : {A B : Type 0} → Result A ScriptError → (A → B) → B → B
-where_ok (Ok x) f other = f x
-where_ok (Err e) f other = other
-
--- the clients, of which at most so many more may come, and what is left behind them
-unfoldable pub clients_of : ℕ → List ClientLine → Rest → List ClientLine × Rest
-clients_of zero before rest = (before, rest)
-clients_of (suc more) before rest = where_ok (line_by (client_of before) rest) (λ client. clients_of more (before ++ client.0 ∷ []) client.1) (before, rest)
 
 -- an `open` line for each client, in order, and what is left behind them
 unfoldable pub opens_of : List ClientLine → Rest → Result Rest ScriptError
@@ -78,9 +71,9 @@ phases_of (suc more) clients before rest = if length rest.text == 0 then Ok befo
 -- the script of a text of any length
 unfoldable pub whole : List ℕ → Result Script ScriptError
 whole text = do
-  card ← line_by card_of (record { number = 1; text = text })
-  let clients = clients_of 64 [] card.1
-  opened ← opens_of clients.0 clients.1
+  card ← line_by card_of (at 1 text)
+  let clients = clients_of 64 [] card.1.text
+  opened ← opens_of clients.0 (at (card.1.number + length clients.0) clients.1)
   phases ← phases_of 4096 clients.0 [] opened
   Ok (record { card = card.0; clients = clients.0; phases = phases })
 

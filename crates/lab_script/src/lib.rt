@@ -2,6 +2,7 @@
 #![tactic(auto)]
 
 mod error;
+mod grammar;
 mod line;
 mod name;
 mod script;

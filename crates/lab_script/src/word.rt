@@ -25,6 +25,7 @@ pub fn cut_line(text: &[u8]) -> Option<(&[u8], &[u8])>
 pub fn split_word(line: &[u8]) -> Option<(&[u8], &[u8])>
     ensures some { IfSome result (λ c. words_of line.now ≡ c.0.now ∷ words_of c.1.now) }
     ensures none { IfNone result (words_of line.now ≡ line.now ∷ []) }
+    ensures first { option_map (λ c. (c.0.now, words_of c.1.now)) result ≡ first_of (words_of line.now) }
 {
     let end = place_of(line, b' ')?;
     Some((&line[..end], &line[end + 1..]))
