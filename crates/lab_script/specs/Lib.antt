@@ -1,1 +1,5 @@
 pub mod Script
+pub mod Word
+pub mod Grammar
+pub mod Reading
+pub mod Spelling

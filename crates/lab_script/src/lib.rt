@@ -2,9 +2,11 @@
 #![tactic(auto)]
 
 mod error;
+mod grammar;
 mod line;
 mod name;
 mod script;
+mod word;
 
 pub use error::{ScriptError, ScriptWhy};
 pub use line::{Actor, Op};
