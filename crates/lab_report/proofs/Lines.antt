@@ -47,46 +47,46 @@ answer_words-some (Failed error) h e = error_words-some error h e
 
 -- the parts of a line, one behind the other
 parts : (p n o e a s m space end : List ℕ)
-  → (((((p ++ (space ++ n)) ++ (space ++ o)) ++ (space ++ (e ++ (space ++ a)))) ++ (space ++ (s ++ (space ++ m)))) ++ end)
+    → (((((p ++ (space ++ n)) ++ (space ++ o)) ++ (space ++ (e ++ (space ++ a)))) ++ (space ++ (s ++ (space ++ m)))) ++ end)
     ≡ p ++ (space ++ (n ++ (space ++ (o ++ (space ++ (e ++ (space ++ (a ++ (space ++ (s ++ (space ++ (m ++ end))))))))))))
 parts p n o e a s m space end = simp append_assoc
 
 -- the same behind a text, as they are appended to it
 appended : (t p n o e a s m space end : List ℕ)
-  → ((((((t ++ (p ++ (space ++ (n ++ space)))) ++ o) ++ (space ++ (e ++ space))) ++ a) ++ (space ++ (s ++ space))) ++ m) ++ end
+    → ((((((t ++ (p ++ (space ++ (n ++ space)))) ++ o) ++ (space ++ (e ++ space))) ++ a) ++ (space ++ (s ++ space))) ++ m) ++ end
     ≡ t ++ (p ++ (space ++ (n ++ (space ++ (o ++ (space ++ (e ++ (space ++ (a ++ (space ++ (s ++ (space ++ (m ++ end)))))))))))))
 appended t p n o e a s m space end = simp append_assoc
 
 -- the line of a row, part by part
 pub row_line-parts : (clients : List ClientLine) (row : Row) → HasWords row.answer
-  → row_line clients row
+    → row_line clients row
     ≡ decimal row.phase ++ (32 ∷ (actor_name clients row.actor ++ (32 ∷ (joined (op_words row.op)
-      ++ (codes " = " ++ (joined (answer_words row.answer) ++ (32 ∷ (state_name row.state
-        ++ (32 ∷ (number_or_dash row.seen ++ 10 ∷ []))))))))))
+    ++ (codes " = " ++ (joined (answer_words row.answer) ++ (32 ∷ (state_name row.state
+    ++ (32 ∷ (number_or_dash row.seen ++ 10 ∷ []))))))))))
 row_line-parts clients row h =
-  let a : List (List ℕ) = decimal row.phase ∷ actor_name clients row.actor ∷ [] in
-  let o : List (List ℕ) = op_words row.op in
-  let w : List (List ℕ) = answer_words row.answer in
-  let z : List (List ℕ) = state_name row.state ∷ number_or_dash row.seen ∷ [] in
-  let equals : List (List ℕ) = codes "=" ∷ [] in
-  let e1 : joined (((a ++ o) ++ (equals ++ w)) ++ z) ≡ joined ((a ++ o) ++ (equals ++ w)) ++ 32 ∷ joined z
+    let a : List (List ℕ) = decimal row.phase ∷ actor_name clients row.actor ∷ [] in
+    let o : List (List ℕ) = op_words row.op in
+    let w : List (List ℕ) = answer_words row.answer in
+    let z : List (List ℕ) = state_name row.state ∷ number_or_dash row.seen ∷ [] in
+    let equals : List (List ℕ) = codes "=" ∷ [] in
+    let e1 : joined (((a ++ o) ++ (equals ++ w)) ++ z) ≡ joined ((a ++ o) ++ (equals ++ w)) ++ 32 ∷ joined z
     = joined-append ((a ++ o) ++ (equals ++ w)) z (λ e. cc) (λ e. cc) in
-  let e2 : joined ((a ++ o) ++ (equals ++ w)) ≡ joined (a ++ o) ++ 32 ∷ joined (equals ++ w)
+    let e2 : joined ((a ++ o) ++ (equals ++ w)) ≡ joined (a ++ o) ++ 32 ∷ joined (equals ++ w)
     = joined-append (a ++ o) (equals ++ w) (λ e. cc) (λ e. cc) in
-  let e3 : joined (a ++ o) ≡ joined a ++ 32 ∷ joined o
+    let e3 : joined (a ++ o) ≡ joined a ++ 32 ∷ joined o
     = joined-append a o (λ e. cc) (op_words-some row.op) in
-  let e4 : joined (equals ++ w) ≡ joined equals ++ 32 ∷ joined w
+    let e4 : joined (equals ++ w) ≡ joined equals ++ 32 ∷ joined w
     = joined-append equals w (λ e. cc) (answer_words-some row.answer h) in
-  let f : row_line clients row ≡ joined (((a ++ o) ++ (equals ++ w)) ++ z) ++ 10 ∷ [] = refl in
-  f ∙ rw (e1, e2, e3, e4) (parts _ _ _ (codes "=") _ _ _ (32 ∷ []) (10 ∷ []))
+    let f : row_line clients row ≡ joined (((a ++ o) ++ (equals ++ w)) ++ z) ++ 10 ∷ [] = refl in
+    f ∙ rw (e1, e2, e3, e4) (parts _ _ _ (codes "=") _ _ _ (32 ∷ []) (10 ∷ []))
 
 -- a text to which the parts of a row's line were appended, one after the other
 pub row_line-appended : (clients : List ClientLine) (row : Row) (name t0 t1 t2 t3 t4 t5 t6 t7 : List ℕ)
-  → HasWords row.answer → name ≡ actor_name clients row.actor
-  → t1 ≡ t0 ++ (decimal row.phase ++ (32 ∷ (name ++ 32 ∷ [])))
-  → t2 ≡ t1 ++ joined (op_words row.op) → t3 ≡ t2 ++ codes " = " → t4 ≡ t3 ++ joined (answer_words row.answer)
-  → t5 ≡ t4 ++ (32 ∷ (state_name row.state ++ 32 ∷ [])) → t6 ≡ t5 ++ number_or_dash row.seen → t7 ≡ t6 ++ 10 ∷ []
-  → t7 ≡ t0 ++ row_line clients row
+    → HasWords row.answer → name ≡ actor_name clients row.actor
+    → t1 ≡ t0 ++ (decimal row.phase ++ (32 ∷ (name ++ 32 ∷ [])))
+    → t2 ≡ t1 ++ joined (op_words row.op) → t3 ≡ t2 ++ codes " = " → t4 ≡ t3 ++ joined (answer_words row.answer)
+    → t5 ≡ t4 ++ (32 ∷ (state_name row.state ++ 32 ∷ [])) → t6 ≡ t5 ++ number_or_dash row.seen → t7 ≡ t6 ++ 10 ∷ []
+    → t7 ≡ t0 ++ row_line clients row
 row_line-appended clients row name t0 t1 t2 t3 t4 t5 t6 t7 h named e1 e2 e3 e4 e5 e6 e7 =
-  rw (e7, e6, e5, e4, e3, e2, e1, named, row_line-parts clients row h)
+    rw (e7, e6, e5, e4, e3, e2, e1, named, row_line-parts clients row h)
     (appended t0 _ (actor_name clients row.actor) _ (codes "=") _ _ _ (32 ∷ []) (10 ∷ []))

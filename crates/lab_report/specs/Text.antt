@@ -80,7 +80,7 @@ answer_words (Failed error) = error_words error
 -- the words of a row
 abbrev pub row_words : List ClientLine → Row → List (List ℕ)
 row_words clients row =
-  (decimal row.phase ∷ actor_name clients row.actor ∷ op_words row.op)
+    (decimal row.phase ∷ actor_name clients row.actor ∷ op_words row.op)
     ++ (codes "=" ∷ answer_words row.answer)
     ++ (state_name row.state ∷ number_or_dash row.seen ∷ [])
 
@@ -91,20 +91,20 @@ row_line clients row = line (row_words clients row)
 -- the line of a client's segment
 abbrev pub segment_line : List ClientLine → (ℕ × Segment) → List ℕ
 segment_line clients (client, segment) = line
-  (codes "segment" ∷ client_name clients client ∷ decimal segment.source ∷ decimal segment.card
+    (codes "segment" ∷ client_name clients client ∷ decimal segment.source ∷ decimal segment.card
     ∷ decimal segment.whole ∷ decimal segment.part ∷ [])
 
 -- what stands below the rows: a line for each segment, the frames that were played, and the end
 abbrev pub tail_text : List ClientLine → Report → List ℕ
 tail_text clients report =
-  flat_map (segment_line clients) report.segments
+    flat_map (segment_line clients) report.segments
     ++ line (codes "played" ∷ decimal report.first ∷ decimal report.frames ∷ [])
     ++ line (codes "end" ∷ [])
 
 -- the text of a report of a script: the head, a line for each row, and what stands below them
 abbrev pub report_text : Report → Script → List ℕ
 report_text report script =
-  line (codes "dmixlab" ∷ codes "1" ∷ [])
+    line (codes "dmixlab" ∷ codes "1" ∷ [])
     ++ flat_map (row_line script.clients) report.rows
     ++ tail_text script.clients report
 

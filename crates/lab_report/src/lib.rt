@@ -9,3 +9,6 @@ mod text;
 pub use print::print_report;
 pub use report::{Report, Rows, Segments};
 pub use row::{Answer, Row};
+
+#[cfg(test)]
+mod tests;

@@ -13,7 +13,8 @@ use std::alloc::{AllocError, Global};
 /// Appends the lines of rows.
 fn push_rows(text: &mut String, clients: &[ClientLine], rows: &[Row]) -> Result<(), AllocError>
     requires { All (IsRowOf clients.now) rows.now }
-    ensures { OnOk result (string_bytes text.new ≡ string_bytes text.old ++ flat_map (row_line clients.now) rows.now) }
+    ensures { OnOk result
+        (string_bytes text.new ≡ string_bytes text.old ++ flat_map (row_line clients.now) rows.now) }
 {
     for row in rows {
         push_row(text, clients, row)?;
@@ -28,7 +29,8 @@ fn push_segments(
     segments: &[(u32, Segment)],
 ) -> Result<(), AllocError>
     requires { All (IsSegmentOf clients.now) segments.now }
-    ensures { OnOk result (string_bytes text.new ≡ string_bytes text.old ++ flat_map (segment_line clients.now) segments.now) }
+    ensures { OnOk result
+        (string_bytes text.new ≡ string_bytes text.old ++ flat_map (segment_line clients.now) segments.now) }
 {
     for (client, segment) in segments {
         push_segment(text, clients, *client, segment)?;
@@ -40,7 +42,8 @@ fn push_segments(
 /// the end.
 fn push_tail(text: &mut String, report: &Report, clients: &[ClientLine]) -> Result<(), AllocError>
     requires { All (IsSegmentOf clients.now) report.now.segments }
-    ensures { OnOk result (string_bytes text.new ≡ string_bytes text.old ++ tail_text clients.now report.now) }
+    ensures { OnOk result
+        (string_bytes text.new ≡ string_bytes text.old ++ tail_text clients.now report.now) }
 {
     push_segments(text, clients, report.segments.as_slice())?;
     let first = report.first;

@@ -50,7 +50,8 @@ fn push_number(text: &mut String, number: Option<u64>) -> Result<(), AllocError>
 
 /// Appends why there was an xrun.
 fn push_xrun(text: &mut String, why: XrunWhy) -> Result<(), AllocError>
-    ensures { OnOk result (string_bytes text.new ≡ string_bytes text.old ++ joined (xrun_words why)) }
+    ensures { OnOk result
+        (string_bytes text.new ≡ string_bytes text.old ++ joined (xrun_words why)) }
 {
     match why {
         XrunWhy::Empty => write!(text, "empty"),
@@ -64,7 +65,8 @@ fn push_xrun(text: &mut String, why: XrunWhy) -> Result<(), AllocError>
 /// Appends a refusal, by the name of its error number.
 fn push_error(text: &mut String, error: PcmError) -> Result<(), AllocError>
     requires { HasErrorWords error }
-    ensures { OnOk result (string_bytes text.new ≡ string_bytes text.old ++ joined (error_words error)) }
+    ensures { OnOk result
+        (string_bytes text.new ≡ string_bytes text.old ++ joined (error_words error)) }
 {
     match error {
         PcmError::BadState => write!(text, "EBADFD"),
@@ -89,7 +91,8 @@ fn push_error(text: &mut String, error: PcmError) -> Result<(), AllocError>
 /// Appends an answer.
 fn push_answer(text: &mut String, answer: Answer) -> Result<(), AllocError>
     requires { HasWords answer }
-    ensures { OnOk result (string_bytes text.new ≡ string_bytes text.old ++ joined (answer_words answer)) }
+    ensures { OnOk result
+        (string_bytes text.new ≡ string_bytes text.old ++ joined (answer_words answer)) }
 {
     match answer {
         Answer::Done => write!(text, "ok"),
@@ -99,9 +102,14 @@ fn push_answer(text: &mut String, answer: Answer) -> Result<(), AllocError>
 }
 
 /// Appends the line of a row.
-pub(crate) fn push_row(text: &mut String, clients: &[ClientLine], row: &Row) -> Result<(), AllocError>
+pub(crate) fn push_row(
+    text: &mut String,
+    clients: &[ClientLine],
+    row: &Row,
+) -> Result<(), AllocError>
     requires { IsRowOf clients.now row.now }
-    ensures { OnOk result (string_bytes text.new ≡ string_bytes text.old ++ row_line clients.now row.now) }
+    ensures { OnOk result
+        (string_bytes text.new ≡ string_bytes text.old ++ row_line clients.now row.now) }
 {
     let phase = row.phase;
     let name = name_of_actor(clients, row.actor);
@@ -123,7 +131,8 @@ pub(crate) fn push_segment(
     segment: &Segment,
 ) -> Result<(), AllocError>
     requires { client < length clients.now }
-    ensures { OnOk result (string_bytes text.new ≡ string_bytes text.old ++ segment_line clients.now (client, segment.now)) }
+    ensures { OnOk result
+        (string_bytes text.new ≡ string_bytes text.old ++ segment_line clients.now (client, segment.now)) }
 {
     let name = name_of_client(clients, client);
     let source = segment.source;

@@ -12,6 +12,6 @@ returns c =
     {Q = string_bytes c.writeln.new.self ≡ string_bytes c.args.text.now ++ row_line c.args.clients.now c.args.row.now}
     c.writeln.result
     (λ e. row_line-appended c.args.clients.now c.args.row.now _ _ _ _ _ _ _ _ _
-      c.requires.1 c.name_of_actor-name.ensures c.in_ok-write.ensures.bytes c.in_ok-push_op.ensures c.in_ok-write-2.ensures.bytes
-      c.in_ok-push_answer.ensures c.in_ok-write-3.ensures.bytes c.in_ok-push_number.ensures e)
+    c.requires.1 c.name_of_actor-name.ensures c.in_ok-write.ensures.bytes c.in_ok-push_op.ensures c.in_ok-write-2.ensures.bytes
+    c.in_ok-push_answer.ensures c.in_ok-write-3.ensures.bytes c.in_ok-push_number.ensures e)
     c.writeln.ensures.bytes
