@@ -1,0 +1,161 @@
+ghost use Rattle.std.specs.Prelude.{◌≡◌, length, IfOk, Some};
+
+use super::*;
+use lab_script::{Actor, CardLine, ClientLine, Clients, FileName, Name, Op, Phase, Phases, Script};
+use pcm_states::State;
+use snd_base::{PcmError, Segment, Why, XrunWhy};
+use std::alloc::{AllocError, Global};
+use std::test::Fail;
+
+// A script of one client, named `a`, that writes 64 frames before the card plays 256.
+fn one_write(alloc: Global) -> Result<Script, AllocError>
+    ensures { IfOk result (λ script. length script.clients ≡ 1) }
+{
+    let name = Name::from_text(String::from_str(alloc, "a")?);
+    let file = FileName::from_text(String::from_str(alloc, "a.wav")?);
+    let clients = Clients::from_vec(vec![in alloc; ClientLine { name, file }]?);
+    let phases = vec![in alloc;
+        Phase::Write {
+            client: 0,
+            frames: 64
+        },
+        Phase::Play(256),
+    ]?;
+    Ok(Script {
+        card: CardLine {
+            channels: 1,
+            rate: 48000,
+            period: 64,
+            ring: 256,
+        },
+        clients,
+        phases: Phases::from_vec(phases),
+    })
+}
+
+fn client_row(phase: u32, op: Op, answer: Answer, state: State, seen: Option<u64>) -> Row
+    ensures { result ≡ record { phase = phase; actor = Actor.Client 0; op = op; answer = answer; state = state; seen = seen } }
+{
+    Row {
+        phase,
+        actor: Actor::Client(0),
+        op,
+        answer,
+        state,
+        seen,
+    }
+}
+
+// A client writes, and the card plays what it wrote.
+#[test]
+fn report_has_a_line_for_each_row_and_segment(rt: HostRuntime) -> Result<(), Fail> {
+    let alloc = rt.alloc();
+    let script = one_write(alloc)?;
+    let played = Row {
+        phase: 2,
+        actor: Actor::Card,
+        op: Op::Play(256),
+        answer: Answer::Count(256),
+        state: State::Running,
+        seen: Some(256),
+    };
+    let rows = vec![in alloc;
+        client_row(0, Op::Opens, Answer::Done, State::Prepared, None),
+        client_row(1, Op::Write(64), Answer::Count(64), State::Running, Some(0)),
+        played,
+    ]?;
+    let segment = Segment {
+        source: 0,
+        card: 64,
+        whole: 64,
+        part: 0,
+    };
+    let segments = vec![in alloc; (0, segment)]?;
+    let report = Report {
+        rows: Rows::from_vec(rows),
+        segments: Segments::from_vec(segments),
+        first: 0,
+        frames: 256,
+    };
+    let want =
+        "dmixlab 1\n0 a open = ok PREPARED -\n1 a write 64 = 64 RUNNING 0\n2 card play 256 = 256 RUNNING 256\nsegment a 0 64 64 0\nplayed 0 256\nend\n";
+    let bytes = print_report(alloc, &report, &script)?;
+    assert_eq!(rt; bytes.as_slice(), want.as_bytes());
+    Ok(())
+}
+
+fn failed(error: PcmError, state: State) -> Row
+    ensures { result ≡ record { phase = 3; actor = Actor.Client 0; op = Op.Write 1; answer = Answer.Failed error; state = state; seen = Some 9 } }
+{
+    client_row(3, Op::Write(1), Answer::Failed(error), state, Some(9))
+}
+
+// The words of each refusal.
+#[test]
+fn refusals_have_the_names_of_their_error_numbers(rt: HostRuntime) -> Result<(), Fail> {
+    let alloc = rt.alloc();
+    let script = one_write(alloc)?;
+    let avail = XrunWhy::Avail {
+        avail: 256,
+        seen: 0,
+    };
+    let late = XrunWhy::Late {
+        frame: 128,
+        channel: 1,
+        seen: 0,
+    };
+    let overtaken = XrunWhy::Overtaken {
+        frame: 18446744073709551615,
+        channel: 7,
+        seen: 0,
+    };
+    let known = PcmError::Busy {
+        until: Some(128),
+        seen: 64,
+    };
+    let unknown = PcmError::Busy {
+        until: None,
+        seen: 0,
+    };
+    let rows = vec![in alloc;
+        failed(PcmError::BadState, State::Open),
+        failed(PcmError::Xrun(XrunWhy::Empty), State::Prepared),
+        failed(PcmError::Xrun(XrunWhy::Already), State::Xrun),
+        failed(PcmError::Xrun(avail), State::Xrun),
+        failed(PcmError::Xrun(late), State::Xrun),
+        failed(PcmError::Xrun(overtaken), State::Xrun),
+        failed(PcmError::Again, State::Draining),
+        failed(PcmError::NoDevice, State::Disconnected),
+        failed(PcmError::Invalid(Why::Config), State::Setup),
+        failed(PcmError::NotSupported, State::Paused),
+        failed(known, State::Open),
+        failed(unknown, State::Open),
+        failed(PcmError::Stopped, State::Suspended),
+    ]?;
+    let report = Report {
+        rows: Rows::from_vec(rows),
+        segments: Segments::from_vec(Vec::new(alloc)),
+        first: 64,
+        frames: 0,
+    };
+    let want = "dmixlab 1
+3 a write 1 = EBADFD OPEN 9
+3 a write 1 = EPIPE empty PREPARED 9
+3 a write 1 = EPIPE already XRUN 9
+3 a write 1 = EPIPE avail 256 XRUN 9
+3 a write 1 = EPIPE late 128 1 XRUN 9
+3 a write 1 = EPIPE overtaken 18446744073709551615 7 XRUN 9
+3 a write 1 = EAGAIN DRAINING 9
+3 a write 1 = ENODEV DISCONNECTED 9
+3 a write 1 = EINVAL SETUP 9
+3 a write 1 = EIO PAUSED 9
+3 a write 1 = EBUSY 128 64 OPEN 9
+3 a write 1 = EBUSY - 0 OPEN 9
+3 a write 1 = stopped SUSPENDED 9
+played 64 0
+end
+";
+    let bytes = print_report(alloc, &report, &script)?;
+    assert_eq!(rt; bytes.as_slice(), want.as_bytes());
+    Ok(())
+}
