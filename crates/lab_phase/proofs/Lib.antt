@@ -1,6 +1,9 @@
 pub mod Commits
 pub mod Frames
+pub mod Laying
 pub mod Phases
 pub mod Played
 pub mod Slots
+pub mod Steps
 pub mod Totals
+pub mod Turns

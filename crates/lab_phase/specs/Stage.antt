@@ -37,3 +37,10 @@ pub record IsBehind (script : Script) (wavs : List Sound) (done : ℕ) (body : B
       ≡ client_segment script.card (slice_index (map frames_of wavs) client) client 0 script.phases
   pub written : (client : ℕ) (segment : Segment) → slice_index_or body.segments.items client None ≡ Some segment
     → (k : ℕ) × ((k < done) × (writer_in (slice_index_or script.phases k (Play 0)) ≡ Some client))
+
+-- one frame more was taken
+pub record TakesFrame (v w : View) : Type 0 where
+  pub geometry : w.geometry ≡ v.geometry
+  pub cursors : w.cursors ≡ v.cursors
+  pub position : w.position ≡ v.position
+  pub next : w.next ≡ record { frame = v.next.frame + 1; channel = 0 }

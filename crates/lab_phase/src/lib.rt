@@ -2,11 +2,12 @@
 #![tactic(auto)]
 
 mod body;
-mod commit;
+mod lay;
 mod outcome;
 mod phase;
 mod play;
 mod run;
+mod start;
 
 pub use outcome::Outcome;
 pub use run::run_script;

@@ -11,8 +11,8 @@ use snd_base::PcmError;
 use wav_io::Wav;
 
 use crate::body::Body;
-use crate::commit::start;
 use crate::play::play;
+use crate::start::start;
 
 /// How many of the offered frames a client accepts: as many as its buffer holds and its file has.
 fn accepted(card: &CardLine, offered: u32, wav: &Wav) -> u32

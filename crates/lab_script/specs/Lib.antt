@@ -1,5 +1,1 @@
 pub mod Script
-pub mod Word
-pub mod Grammar
-pub mod Reading
-pub mod Spelling

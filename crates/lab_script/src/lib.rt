@@ -2,11 +2,9 @@
 #![tactic(auto)]
 
 mod error;
-mod grammar;
 mod line;
 mod name;
 mod script;
-mod word;
 
 pub use error::{ScriptError, ScriptWhy};
 pub use line::{Actor, Op};

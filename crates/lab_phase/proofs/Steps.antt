@@ -1,0 +1,73 @@
+-- What a core that mixes the clients' segments mixes after a step of the card.
+use Rattle.std.proofs.Common.{◌≡◌, ℕ, ◌<◌, ◌≤◌, ◌+◌, true, List, [], ◌∷◌, ◌++◌, refl, sym, ◌∙◌, ap, subst, arith, map, length}
+use Rattle.std.proofs.lemmas.List.{append-nil, map-append}
+use Rattle.std.proofs.lemmas.List.Elements.{filter_map-append}
+use Rattle.std.proofs.lemmas.Bool.Decides.{nat_tests}
+use Rattle.std.specs.Prelude.{ℤ, Option, None, nat_lt, if◌then◌else◌, slice_index_or}
+use Rattle.snd_base.specs.declared.geometry.Geometry.{Geometry}
+use Rattle.snd_base.specs.declared.places.Cursor.{Cursor}
+use Rattle.snd_base.specs.declared.places.Segment.{Segment}
+use Rattle.snd_base.specs.Places.{behind, first_frame}
+use Rattle.mix_core.specs.declared.port.Entry.{Entry}
+use Rattle.mix_core.specs.declared.event.Event.TheVariants.{Publish, Take}
+use Rattle.mix_core.specs.declared.event.Reply.TheVariants.{Published, Took}
+use Rattle.mix_core.specs.declared.event.Taken.{Taken}
+use Rattle.mix_core.specs.Calls.{IsPublished, IsTaken}
+use Rattle.mix_core.specs.History.{Row, entry_of, laid_of, taken_of, taking_of}
+use Rattle.mix_core.specs.Laid.{total}
+use Rattle.mix_core.specs.View.{View}
+use Rattle.wav_io.specs.Sound.{Sound}
+use Rattle.lab_phase.specs.Meaning.{entries_of, numbered}
+use Rattle.lab_phase.specs.Mixes.{Mixes, values_of}
+
+-- the next word behind a channel of a frame
+pub behind-channel : (g : Geometry) (next : Cursor) (f n channels : ℕ) → g.channels ≡ channels → n < channels
+    → next ≡ (if nat_lt n channels then record { frame = f; channel = n } else record { frame = f + 1; channel = 0 })
+    → behind g next.frame next.channel ≡ (if nat_lt (n + 1) channels then record { frame = f; channel = n + 1 } else record { frame = f + 1; channel = 0 })
+behind-channel g next f n channels same within is =
+    ap (λ (at : Cursor). behind g at.frame at.channel) (is ∙ here)
+    ∙ ap (λ (k : ℕ). if nat_lt (n + 1) k then record { frame = f; channel = n + 1 } else record { frame = f + 1; channel = 0 }) same
+  where
+    here : ◌≡◌ {A = Cursor} (if nat_lt n channels then record { frame = f; channel = n } else record { frame = f + 1; channel = 0 }) (record { frame = f; channel = n })
+    here = grind (arith, nat_tests)
+
+-- a row that laid nothing, at a history's end
+laid_of-nothing : (h : List Row) (row : Row) → laid_of (row ∷ []) ≡ [] → laid_of (h ++ row ∷ []) ≡ laid_of h
+laid_of-nothing h row nothing = filter_map-append entry_of h (row ∷ []) ∙ ap (λ (es : List Entry). laid_of h ++ es) nothing ∙ append-nil (laid_of h)
+
+pub Mixes-taken : (v w : View) (t : Taken) (wavs : List Sound) (segments : List (Option Segment)) (played : List ℤ)
+    → IsTaken v w t → Mixes v wavs segments played → Mixes w wavs segments (played ++ t.value ∷ [])
+Mixes-taken v w t wavs segments played step mixes = record {
+  history = mixes.history ++ row ∷ [];
+  stands = step.stands mixes.history mixes.stands;
+  totals = λ f c. ap (λ (es : List Entry). total es f c) (laid_of-nothing mixes.history row refl) ∙ mixes.totals f c;
+  quiet = λ m d h none.
+    ap (λ (cs : List Cursor). slice_index_or cs m d) step.cursors
+    ∙ mixes.quiet m d (subst (λ (cs : List Cursor). m < length cs) step.cursors h) none
+    ∙ ap (λ (g : Geometry). record { frame = first_frame g; channel = 0 }) (sym step.geometry);
+  taken =
+    ap (λ (values : List ℤ). values ++ t.value ∷ []) mixes.taken
+    ∙ sym (map-append (λ (x : Taken). x.value) (taken_of mixes.history) (t ∷ []))
+    ∙ sym (ap values_of (filter_map-append taking_of mixes.history (row ∷ [])));
+}
+  where
+    row : Row
+    row = (Take, Took t.frame t.channel t.value)
+
+pub Mixes-published : (v w : View) (wavs : List Sound) (segments : List (Option Segment)) (played : List ℤ)
+    → IsPublished v w → Mixes v wavs segments played → Mixes w wavs segments played
+Mixes-published v w wavs segments played step mixes = record {
+  history = mixes.history ++ row ∷ [];
+  stands = step.stands mixes.history mixes.stands;
+  totals = λ f c. ap (λ (es : List Entry). total es f c) (laid_of-nothing mixes.history row refl) ∙ mixes.totals f c;
+  quiet = λ m d h none.
+    ap (λ (x : View). slice_index_or x.cursors m d) step.changed
+    ∙ mixes.quiet m d (subst (λ (x : View). m < length x.cursors) step.changed h) none
+    ∙ ap (λ (x : View). record { frame = first_frame x.geometry; channel = 0 }) (sym step.changed);
+  taken =
+    mixes.taken
+    ∙ sym (ap values_of (filter_map-append taking_of mixes.history (row ∷ []) ∙ append-nil (taken_of mixes.history)));
+}
+  where
+    row : Row
+    row = (Publish, Published v.next.frame)

@@ -1,0 +1,5 @@
+use Rattle.lab_phase.proofs.Steps.{Mixes-published}
+use Rattle.lab_phase.proofs.play.play.Goals as goal
+
+pub returns-clause-mixes : goal.returns-clause-mixes
+returns-clause-mixes c = λ wavs segments mixes. Mixes-published _ _ wavs segments _ c.publish.ensures (c.loop-frame.invariant.mixes wavs segments mixes)
