@@ -1,5 +1,5 @@
 -- Entries that a turn lays, sample by sample and frame by frame.
-use Rattle.std.proofs.Common.{◌≡◌, ℕ, suc, zero, add-one, add-zero, ◌<◌, ◌≤◌, ◌+◌, ◌*◌, List, [], ◌∷◌, ◌++◌, refl, sym, ◌∙◌, ap, subst, arith, map, length, take, drop, get_or, zero-add, pos}
+use Rattle.std.proofs.Common.{◌≡◌, ℕ, suc, zero, add-one, add-zero, ◌<◌, ◌≤◌, ◌+◌, ◌*◌, List, [], ◌∷◌, ◌++◌, refl, sym, ◌∙◌, ap, subst, arith, map, length, take, drop, zero-add, pos}
 use Rattle.std.proofs.lemmas.List.{append-nil, get_or-drop, get_or-take, length-drop, length-take-le}
 use Rattle.std.proofs.Math.Seq.{take-length}
 use Rattle.std.proofs.lemmas.Grind.{flat_map-append}
@@ -11,7 +11,7 @@ use Rattle.mix_core.specs.declared.turn.Turn.{Turn}
 use Rattle.mix_core.specs.Turn.{TurnLaid, member_of}
 use Rattle.mix_core.specs.TurnLaws.{TurnLaid-joined}
 use Rattle.std.specs.Prelude.{slice_range}
-use Rattle.lab_phase.specs.Expansion.{entry_at, expand, frame_entries, identity, rising}
+use Rattle.lab_phase.specs.Expansion.{entry_at, expand, frame_entries, identity}
 use Rattle.lab_phase.proofs.Frames.{rising-identity}
 
 -- the entry of a sample of a frame, in the channel of its own number
@@ -31,7 +31,7 @@ laid-one_more p q r frame n samples sample first then is =
   where
     same : record { member = member_of q; frame = frame; channel = n; sample = sample } ≡ sample_entry (member_of p) frame samples n
     same = ap (λ (m : ℕ). record { member = m; frame = frame; channel = n; sample = sample }) first.same_member
-      ∙ ap (λ (s : ℤ). record { member = member_of p; frame = frame; channel = n; sample = s }) is
+        ∙ ap (λ (s : ℤ). record { member = member_of p; frame = frame; channel = n; sample = s }) is
 
 -- the entries of so many frames of interleaved samples, from a first frame on
 abbrev pub frames_laid : ℕ → List ℤ → ℕ → ℕ → ℕ → List Entry
@@ -48,26 +48,31 @@ entry_at-identity client samples channels frame card channel h =
 -- a frame that was laid out of a slice of all samples
 pub laid-frame : (client : ℕ) (samples : List ℤ) (channels frame card : ℕ) → frame * channels + channels ≤ length samples
     → map (sample_entry client card (slice_range samples (frame * channels) (frame * channels + channels))) (range_with_len 0 (length (slice_range samples (frame * channels) (frame * channels + channels))))
-      ≡ map (entry_at client samples (identity channels) frame card) (range_with_len 0 channels)
+    ≡ map (entry_at client samples (identity channels) frame card) (range_with_len 0 channels)
 laid-frame client samples channels frame card h =
     ap (λ (n : ℕ). map (sample_entry client card part) (range_with_len 0 n)) part_length
     ∙ fill_by_all (entry_at client samples (identity channels) frame card) (map (sample_entry client card part) (range_with_len 0 channels)) channels none
-      (length-map-range_with_len (sample_entry client card part) 0 channels)
-      (λ k within.
-        get_or-map-range_with_len (sample_entry client card part) 0 channels k k none within (zero-add k)
-        ∙ ap (λ (s : ℤ). record { member = client; frame = card; channel = k; sample = s }) (at_part k within)
-        ∙ sym (entry_at-identity client samples channels frame card k within))
+    (length-map-range_with_len (sample_entry client card part) 0 channels)
+    (λ k within.
+    get_or-map-range_with_len (sample_entry client card part) 0 channels k k none within (zero-add k)
+    ∙ ap (λ (s : ℤ). record { member = client; frame = card; channel = k; sample = s }) (at_part k within)
+    ∙ sym (entry_at-identity client samples channels frame card k within))
   where
     none : Entry
     none = record { member = 0; frame = 0; channel = 0; sample = pos 0 }
+
     part : List ℤ
     part = slice_range samples (frame * channels) (frame * channels + channels)
+
     from : ℕ
     from = frame * channels
+
     part_is : part ≡ take channels (drop from samples)
     part_is = ap (λ (n : ℕ). take n (drop from samples)) (omega arith)
+
     part_length : length part ≡ channels
     part_length = ap length part_is ∙ length-take-le channels (drop from samples) (omega (arith, length-drop from samples))
+
     at_part : (k : ℕ) → k < channels → slice_index_or part k (pos 0) ≡ slice_index_or samples (from + k) (pos 0)
     at_part k within =
         ap (λ (xs : List ℤ). slice_index_or xs k (pos 0)) part_is
@@ -103,8 +108,10 @@ expand-whole client samples channels first frames some few =
   where
     plain : ℕ → List Entry
     plain = λ frame. map (entry_at client samples (identity channels) frame (first + frame)) (range_with_len 0 channels)
+
     spelled : ℕ → List Entry
     spelled = λ frame. frame_entries client samples (identity channels) (length (identity channels)) (0 + frame) (first + frame)
+
     same : (frame : ℕ) → plain frame ≡ spelled frame
     same frame =
         ap (λ (qs : List ℕ). map (entry_at client samples (identity channels) frame (first + frame)) qs)

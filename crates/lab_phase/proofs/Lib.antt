@@ -1,9 +1,11 @@
 pub mod Commits
 pub mod Frames
 pub mod Laying
+pub mod Opening
 pub mod Phases
 pub mod Played
 pub mod Slots
 pub mod Steps
 pub mod Totals
 pub mod Turns
+pub mod Whole

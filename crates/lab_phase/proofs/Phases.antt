@@ -1,5 +1,5 @@
 -- The phases of a script and the segments that they give.
-use Rattle.std.proofs.Common.{◌≡◌, ◌≢◌, ℕ, ◌<◌, ◌≤◌, ◌+◌, ◌⊎◌, inl, inr, suc, zero, Bool, true, false, List, [], ◌∷◌, ◌++◌, refl, sym, ◌∙◌, ap, subst, arith, map, length, get_or, set, drop, cond, nat_eq}
+use Rattle.std.proofs.Common.{◌≡◌, ◌≢◌, ℕ, ◌<◌, ◌+◌, inl, inr, suc, List, [], ◌∷◌, refl, sym, ◌∙◌, ap, subst, arith, length, get_or, set, drop}
 use Rattle.std.proofs.lemmas.List.{get_or-drop, get_or-set_same, get_or-set_other, length-drop}
 use Rattle.std.proofs.lemmas.Bool.{cases_eq}
 use Rattle.std.proofs.lemmas.Bool.Decides.{nat_tests}
@@ -66,14 +66,15 @@ pub or_later-written : (card : CardLine) (held : ℕ → ℕ) (slots : List (Opt
     → (client : ℕ) → client < clients
     → or_later (get_or (set slots writer (segment_of card position (accepted card frames (held writer)))) client None) (client_segment card (held client) client position rest) ≡ whole client
 or_later-written card held slots writer frames position rest whole clients within fresh idle before client h = elim (cases_eq client writer) [
-    inl e ↦ subst (λ (n : ℕ). or_later (get_or (set slots writer new) n None) (client_segment card (held n) n position rest) ≡ whole n) (sym e) (here (subst (λ (n : ℕ). n < clients) e h))
+  | inl e ↦ subst (λ (n : ℕ). or_later (get_or (set slots writer new) n None) (client_segment card (held n) n position rest) ≡ whole n) (sym e) (here (subst (λ (n : ℕ). n < clients) e h))
   | inr ne ↦ ap (λ o. or_later o (client_segment card (held client) client position rest)) (get_or-set_other slots writer client new None ne)
       ∙ ap (or_later (get_or slots client None)) (sym (client_segment-elsewhere card (held client) client position writer frames rest (λ e. ne (sym e))))
       ∙ before client h
-  ]
+]
   where
     new : Option Segment
     new = segment_of card position (accepted card frames (held writer))
+
     here : writer < clients → or_later (get_or (set slots writer new) writer None) (client_segment card (held writer) writer position rest) ≡ whole writer
     here low =
         ap (λ o. or_later o (client_segment card (held writer) writer position rest)) (get_or-set_same slots writer new None within)
@@ -112,6 +113,6 @@ pub written-set : (slots : List (Option Segment)) (writer client : ℕ) (new : O
     → writer < length slots → P writer → ((segment : Segment) → get_or slots client None ≡ Some segment → P client)
     → get_or (set slots writer new) client None ≡ Some segment → P client
 written-set slots writer client new segment P within here there e = elim (cases_eq client writer) [
-    inl same ↦ subst P (sym same) here
+  | inl same ↦ subst P (sym same) here
   | inr ne ↦ there segment (sym (get_or-set_other slots writer client new None ne) ∙ e)
-  ]
+]

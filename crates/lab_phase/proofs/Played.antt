@@ -1,17 +1,17 @@
 -- What was taken is what is mixed.
-use Rattle.std.proofs.Common.{◌≡◌, ℕ, ◌<◌, ◌≤◌, ◌+◌, ◌/◌, ◌%◌, List, [], ◌∷◌, ◌++◌, refl, sym, ◌∙◌, ap, subst, arith, map, length, get_or}
+use Rattle.std.proofs.Common.{◌≡◌, ℕ, ◌<◌, ◌+◌, ◌/◌, ◌%◌, List, ◌∙◌, ap, map, length, get_or}
 use Rattle.std.proofs.lemmas.List.{get_or-map, length-map}
 use Rattle.std.proofs.lemmas.List.FromFn.{fill_by_all}
 use Rattle.std.proofs.lemmas.List.Elements.{All-get_or}
 use Rattle.snd_base.specs.declared.places.Cursor.{Cursor}
-use Rattle.std.specs.Prelude.{ℤ, pos, All}
+use Rattle.std.specs.Prelude.{pos}
 use Rattle.std.specs.List.{range_with_len}
 use Rattle.lap_word.specs.Clamp.{clamp_of}
 use Rattle.snd_base.specs.declared.geometry.Geometry.{Geometry}
-use Rattle.snd_base.specs.Places.{first_frame, next_word}
+use Rattle.snd_base.specs.Places.{first_frame}
 use Rattle.mix_core.specs.declared.port.Entry.{Entry}
 use Rattle.mix_core.specs.declared.event.Taken.{Taken}
-use Rattle.mix_core.specs.History.{AreExact, AreInOrder, place_of}
+use Rattle.mix_core.specs.History.{AreExact, AreInOrder}
 use Rattle.mix_core.specs.Laid.{total}
 use Rattle.lab_phase.specs.Meaning.{mixed_at}
 use Rattle.lab_phase.specs.Mixes.{values_of}
@@ -24,6 +24,7 @@ values_of-exact g taken laid entries in_order exact totals =
   where
     empty : Taken
     empty = record { frame = 0; channel = 0; value = pos 0 }
+
     at_each : (k : ℕ) → k < length taken → get_or (values_of taken) k (pos 0) ≡ mixed_at g.channels (first_frame g) entries k
     at_each k h =
         let t = get_or taken k empty in

@@ -1,7 +1,7 @@
 -- The clients' segments so far, one slot a client.
-use Rattle.std.proofs.Common.{◌≡◌, ℕ, ◌<◌, ◌≤◌, ◌+◌, suc, zero, add-zero, List, [], ◌∷◌, ◌++◌, refl, sym, ◌∙◌, ap, subst, arith, map, length, get_or, set}
+use Rattle.std.proofs.Common.{◌≡◌, ℕ, ◌+◌, suc, zero, add-zero, List, [], ◌∷◌, ◌∙◌, ap, arith, set}
 use Rattle.std.proofs.lemmas.Int.{ints}
-use Rattle.std.specs.Prelude.{ℤ, pos, ◌+ℤ◌, Option, None, Some, slice_get}
+use Rattle.std.specs.Prelude.{◌+ℤ◌, Option, None, Some, slice_get}
 use Rattle.snd_base.specs.declared.places.Segment.{Segment}
 use Rattle.mix_core.specs.Laid.{total}
 use Rattle.wav_io.specs.Sound.{Sound}
@@ -12,7 +12,7 @@ use Rattle.lab_phase.proofs.Totals.{total-append}
 pub total-numbered-set : (wavs : List Sound) (first client : ℕ) (segments : List (Option Segment)) (segment : Segment) (f c : ℕ)
     → slice_get segments client ≡ Some None
     → total (entries_of wavs (numbered first (set segments client (Some segment)))) f c
-      ≡ total (entries_of wavs (numbered first segments)) f c +ℤ total (laid_by wavs (first + client, segment)) f c
+    ≡ total (entries_of wavs (numbered first segments)) f c +ℤ total (laid_by wavs (first + client, segment)) f c
 total-numbered-set wavs first client [] segment f c h = absurd (cc)
 total-numbered-set wavs first zero (None ∷ segments) segment f c h =
     let here : total (laid_by wavs (first + 0, segment)) f c ≡ total (laid_by wavs (first, segment)) f c = ap (λ n. total (laid_by wavs (n, segment)) f c) (add-zero first) in

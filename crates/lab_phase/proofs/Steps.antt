@@ -1,9 +1,10 @@
 -- What a core that mixes the clients' segments mixes after a step of the card.
-use Rattle.std.proofs.Common.{◌≡◌, ℕ, ◌<◌, ◌≤◌, ◌+◌, true, List, [], ◌∷◌, ◌++◌, refl, sym, ◌∙◌, ap, subst, arith, map, length}
-use Rattle.std.proofs.lemmas.List.{append-nil, map-append}
+use Rattle.std.proofs.Common.{◌≡◌, ◌≢◌, ℕ, zero-add, get_or, set, ◌<◌, ◌+◌, List, [], ◌∷◌, ◌++◌, refl, sym, ◌∙◌, ap, subst, arith, map, length}
+use Rattle.std.proofs.lemmas.List.{append-nil, get_or-set_other, get_or-set_same, map-append}
 use Rattle.std.proofs.lemmas.List.Elements.{filter_map-append}
 use Rattle.std.proofs.lemmas.Bool.Decides.{nat_tests}
-use Rattle.std.specs.Prelude.{ℤ, Option, None, nat_lt, if◌then◌else◌, slice_index_or}
+use Rattle.std.specs.Prelude.{ℤ, ◌+ℤ◌, Option, None, Some, nat_lt, if◌then◌else◌, slice_get, slice_index_or}
+use Rattle.std.specs.Option.{option_map_or}
 use Rattle.snd_base.specs.declared.geometry.Geometry.{Geometry}
 use Rattle.snd_base.specs.declared.places.Cursor.{Cursor}
 use Rattle.snd_base.specs.declared.places.Segment.{Segment}
@@ -13,12 +14,17 @@ use Rattle.mix_core.specs.declared.event.Event.TheVariants.{Publish, Take}
 use Rattle.mix_core.specs.declared.event.Reply.TheVariants.{Published, Took}
 use Rattle.mix_core.specs.declared.event.Taken.{Taken}
 use Rattle.mix_core.specs.Calls.{IsPublished, IsTaken}
-use Rattle.mix_core.specs.History.{Row, entry_of, laid_of, taken_of, taking_of}
+use Rattle.mix_core.specs.History.{Row, entry_of, laid_of, row_of, taken_of, taking_of}
+use Rattle.mix_core.specs.Stands.{Stands}
+use Rattle.mix_core.specs.Turn.{KeepsRest}
 use Rattle.mix_core.specs.Laid.{total}
 use Rattle.mix_core.specs.View.{View}
 use Rattle.wav_io.specs.Sound.{Sound}
-use Rattle.lab_phase.specs.Meaning.{entries_of, numbered}
+use Rattle.lab_phase.specs.Expansion.{expand, identity}
+use Rattle.lab_phase.specs.Meaning.{entries_of, laid_by, numbered}
 use Rattle.lab_phase.specs.Mixes.{Mixes, values_of}
+use Rattle.lab_phase.proofs.Slots.{total-numbered-set}
+use Rattle.lab_phase.proofs.Totals.{laid_of-append_rows, taken_of-append_rows, total-append}
 
 -- the next word behind a channel of a frame
 pub behind-channel : (g : Geometry) (next : Cursor) (f n channels : ℕ) → g.channels ≡ channels → n < channels
@@ -42,13 +48,13 @@ Mixes-taken v w t wavs segments played step mixes = record {
   stands = step.stands mixes.history mixes.stands;
   totals = λ f c. ap (λ (es : List Entry). total es f c) (laid_of-nothing mixes.history row refl) ∙ mixes.totals f c;
   quiet = λ m d h none.
-    ap (λ (cs : List Cursor). slice_index_or cs m d) step.cursors
-    ∙ mixes.quiet m d (subst (λ (cs : List Cursor). m < length cs) step.cursors h) none
-    ∙ ap (λ (g : Geometry). record { frame = first_frame g; channel = 0 }) (sym step.geometry);
+      ap (λ (cs : List Cursor). slice_index_or cs m d) step.cursors
+      ∙ mixes.quiet m d (subst (λ (cs : List Cursor). m < length cs) step.cursors h) none
+      ∙ ap (λ (g : Geometry). record { frame = first_frame g; channel = 0 }) (sym step.geometry);
   taken =
-    ap (λ (values : List ℤ). values ++ t.value ∷ []) mixes.taken
-    ∙ sym (map-append (λ (x : Taken). x.value) (taken_of mixes.history) (t ∷ []))
-    ∙ sym (ap values_of (filter_map-append taking_of mixes.history (row ∷ [])));
+      ap (λ (values : List ℤ). values ++ t.value ∷ []) mixes.taken
+      ∙ sym (map-append (λ (x : Taken). x.value) (taken_of mixes.history) (t ∷ []))
+      ∙ sym (ap values_of (filter_map-append taking_of mixes.history (row ∷ [])));
 }
   where
     row : Row
@@ -61,13 +67,47 @@ Mixes-published v w wavs segments played step mixes = record {
   stands = step.stands mixes.history mixes.stands;
   totals = λ f c. ap (λ (es : List Entry). total es f c) (laid_of-nothing mixes.history row refl) ∙ mixes.totals f c;
   quiet = λ m d h none.
-    ap (λ (x : View). slice_index_or x.cursors m d) step.changed
-    ∙ mixes.quiet m d (subst (λ (x : View). m < length x.cursors) step.changed h) none
-    ∙ ap (λ (x : View). record { frame = first_frame x.geometry; channel = 0 }) (sym step.changed);
+      ap (λ (x : View). slice_index_or x.cursors m d) step.changed
+      ∙ mixes.quiet m d (subst (λ (x : View). m < length x.cursors) step.changed h) none
+      ∙ ap (λ (x : View). record { frame = first_frame x.geometry; channel = 0 }) (sym step.changed);
   taken =
-    mixes.taken
-    ∙ sym (ap values_of (filter_map-append taking_of mixes.history (row ∷ []) ∙ append-nil (taken_of mixes.history)));
+      mixes.taken
+      ∙ sym (ap values_of (filter_map-append taking_of mixes.history (row ∷ []) ∙ append-nil (taken_of mixes.history)));
 }
   where
     row : Row
     row = (Publish, Published v.next.frame)
+
+-- a client that had no segment committed one
+pub Mixes-committed : (v w : View) (wavs : List Sound) (segments : List (Option Segment)) (played : List ℤ) (client : ℕ) (segment : Segment) (wav : Sound)
+    → KeepsRest v w
+    → ((m : ℕ) (d : Cursor) → m ≢ client → slice_index_or w.cursors m d ≡ slice_index_or v.cursors m d)
+    → client < length segments → slice_get segments client ≡ Some None → slice_get wavs client ≡ Some wav
+    → ((h : List Row) → Stands v h → Stands w (h ++ map row_of (expand client segment wav.samples (identity wav.channels))))
+    → Mixes v wavs segments played → Mixes w wavs (set segments client (Some segment)) played
+Mixes-committed v w wavs segments played client segment wav rest others within fresh file stands mixes = record {
+  history = mixes.history ++ map row_of entries;
+  stands = stands mixes.history mixes.stands;
+  totals = λ f c.
+      ap (λ (es : List Entry). total es f c) (laid_of-append_rows mixes.history entries)
+      ∙ total-append (laid_of mixes.history) entries f c
+      ∙ ap (λ (n : ℤ). n +ℤ total entries f c) (mixes.totals f c)
+      ∙ ap (λ (es : List Entry). total (entries_of wavs (numbered 0 segments)) f c +ℤ total es f c) (sym laid)
+      ∙ sym (total-numbered-set wavs 0 client segments segment f c fresh);
+  quiet = λ m d h none.
+      let other : m ≢ client = λ e. filled (sym (ap (λ (k : ℕ). get_or (set segments client (Some segment)) k None) e) ∙ none) in
+      others m d other
+      ∙ mixes.quiet m d (omega (arith, h, rest.members)) (sym (get_or-set_other segments client m (Some segment) None other) ∙ none)
+      ∙ ap (λ (g : Geometry). record { frame = first_frame g; channel = 0 }) (sym rest.geometry);
+  taken = mixes.taken ∙ sym (ap values_of (taken_of-append_rows mixes.history entries));
+}
+  where
+    entries : List Entry
+    entries = expand client segment wav.samples (identity wav.channels)
+
+    laid : laid_by wavs (0 + client, segment) ≡ entries
+    laid = ap (λ (n : ℕ). laid_by wavs (n, segment)) (zero-add client)
+        ∙ ap (λ (o : Option Sound). option_map_or (λ (s : Sound). expand client segment s.samples (identity s.channels)) o []) file
+
+    filled : get_or (set segments client (Some segment)) client None ≡ None → ⊥
+    filled e = let some : Some segment ≡ None = sym (get_or-set_same segments client (Some segment) None within) ∙ e in absurd (cc)

@@ -33,10 +33,10 @@ pub record IsBehind (script : Script) (wavs : List Sound) (done : ℕ) (body : B
   pub position : body.position + frames_played (drop done script.phases) ≡ frames_played script.phases
   pub rows : body.rows.items ++ phase_rows script.card (map frames_of wavs) (done + 1) body.position (drop done script.phases) ≡ (report_of script (map frames_of wavs)).rows
   pub segments : (client : ℕ) → client < length script.clients
-    → or_later (slice_index_or body.segments.items client None) (client_segment script.card (slice_index (map frames_of wavs) client) client body.position (drop done script.phases))
+      → or_later (slice_index_or body.segments.items client None) (client_segment script.card (slice_index (map frames_of wavs) client) client body.position (drop done script.phases))
       ≡ client_segment script.card (slice_index (map frames_of wavs) client) client 0 script.phases
   pub written : (client : ℕ) (segment : Segment) → slice_index_or body.segments.items client None ≡ Some segment
-    → (k : ℕ) × ((k < done) × (writer_in (slice_index_or script.phases k (Play 0)) ≡ Some client))
+      → (k : ℕ) × ((k < done) × (writer_in (slice_index_or script.phases k (Play 0)) ≡ Some client))
 
 -- one frame more was taken
 pub record TakesFrame (v w : View) : Type 0 where

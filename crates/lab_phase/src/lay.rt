@@ -44,11 +44,7 @@ fn lay_frames(
 {
     for frame in 0..whole {
         let from = frame as usize * channels;
-        lay_frame(
-            port,
-            first + frame as u64,
-            &samples[from..from + channels],
-        );
+        lay_frame(port, first + frame as u64, &samples[from..from + channels]);
     }
 }
 

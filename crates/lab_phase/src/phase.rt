@@ -4,15 +4,14 @@ ghost use Rattle.lab_script.specs.Script.{IsScript};
 ghost use Rattle.lab_phase.specs.Meaning.{AreFiles, accepted, frames_of};
 ghost use Rattle.lab_phase.specs.Stage.{IsBehind};
 
+use crate::body::Body;
+use crate::play::play;
+use crate::start::start;
 use lab_report::{Answer, Row};
 use lab_script::{Actor, CardLine, Op, Phase, Script};
 use pcm_states::State;
 use snd_base::PcmError;
 use wav_io::Wav;
-
-use crate::body::Body;
-use crate::play::play;
-use crate::start::start;
 
 /// How many of the offered frames a client accepts: as many as its buffer holds and its file has.
 fn accepted(card: &CardLine, offered: u32, wav: &Wav) -> u32
@@ -24,16 +23,14 @@ fn accepted(card: &CardLine, offered: u32, wav: &Wav) -> u32
 
 /// The row of a write of so many frames, of which so many were accepted, at a position.
 fn write_row(phase: u32, client: u32, frames: u32, accepted: u32, position: u64) -> Row
-    ensures {
-        result ≡ record {
-          phase = phase;
-          actor = Actor.Client client;
-          op = Op.Write frames;
-          answer = Answer.Count accepted;
-          state = if nat_lt 0 accepted then State.Running else State.Prepared;
-          seen = if nat_lt 0 accepted then Some position else None;
-        }
-    }
+    ensures { result ≡ record {
+      phase = phase;
+      actor = Actor.Client client;
+      op = Op.Write frames;
+      answer = Answer.Count accepted;
+      state = if nat_lt 0 accepted then State.Running else State.Prepared;
+      seen = if nat_lt 0 accepted then Some position else None;
+    } }
 {
     let (state, seen) = if accepted > 0 {
         (State::Running, Some(position))
@@ -51,7 +48,13 @@ fn write_row(phase: u32, client: u32, frames: u32, accepted: u32, position: u64)
 }
 
 /// The card plays so many frames.
-fn play_phase(body: &mut Body, script: &Script, wavs: &[Wav], done: usize, frames: u32) -> Result<(), PcmError>
+fn play_phase(
+    body: &mut Body,
+    script: &Script,
+    wavs: &[Wav],
+    done: usize,
+    frames: u32,
+) -> Result<(), PcmError>
     requires script { IsScript script.now }
     requires files { AreFiles script.now wavs.now }
     requires done { done < length script.now.phases }
@@ -91,13 +94,7 @@ fn write_phase(
     ensures only { IfErr result (λ e. e ≡ PcmError.Memory) }
 {
     let accepted = accepted(&script.card, frames, &wavs[client as usize]);
-    let row = write_row(
-        done as u32 + 1,
-        client,
-        frames,
-        accepted,
-        body.position,
-    );
+    let row = write_row(done as u32 + 1, client, frames, accepted, body.position);
     body.rows.push(row)?;
     start(
         &mut body.core,
@@ -111,7 +108,12 @@ fn write_phase(
 }
 
 /// Does the script's next phase. It refuses for memory alone.
-pub(crate) fn do_phase(body: &mut Body, script: &Script, wavs: &[Wav], done: usize) -> Result<(), PcmError>
+pub(crate) fn do_phase(
+    body: &mut Body,
+    script: &Script,
+    wavs: &[Wav],
+    done: usize,
+) -> Result<(), PcmError>
     requires script { IsScript script.now }
     requires files { AreFiles script.now wavs.now }
     requires done { done < length script.now.phases }

@@ -4,6 +4,9 @@ ghost use Rattle.lab_script.specs.Script.{IsScript};
 ghost use Rattle.lab_phase.specs.Meaning.{AreFiles, IsRun, numbered, open_row};
 ghost use Rattle.lab_phase.specs.Stage.{IsBehind};
 
+use crate::body::Body;
+use crate::outcome::Outcome;
+use crate::phase::do_phase;
 use lab_report::{Answer, Report, Row, Rows, Segments};
 use lab_script::{Actor, Op, Script};
 use mix_core::Core;
@@ -11,10 +14,6 @@ use pcm_states::State;
 use snd_base::{Geometry, PcmError, Segment};
 use std::alloc::{AllocError, Global};
 use wav_io::Wav;
-
-use crate::body::Body;
-use crate::outcome::Outcome;
-use crate::phase::do_phase;
 
 /// The row of an opening.
 fn open_row(client: u32) -> Row
@@ -90,7 +89,8 @@ pub fn run_script(alloc: Global, script: &Script, wavs: &[Wav]) -> Result<Outcom
     for done in 0..script.phases.as_slice().len() {
         do_phase(&mut body, script, wavs, done)?;
     }
-    finish(alloc, body)
+    let outcome = finish(alloc, body)?;
+    Ok(outcome)
 }
 
 /// The outcome of a run whose phases are all done.
@@ -104,7 +104,12 @@ fn finish(alloc: Global, body: Body) -> Result<Outcome, PcmError>
     ensures only { IfErr result (λ e. e ≡ PcmError.Memory) }
 {
     let segments = numbered(alloc, &body.segments)?;
-    let Body { rows, played, position, .. } = body;
+    let Body {
+        rows,
+        played,
+        position,
+        ..
+    } = body;
     let report = Report {
         rows: Rows::from_vec(rows),
         segments: Segments::from_vec(segments),

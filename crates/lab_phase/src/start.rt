@@ -7,12 +7,11 @@ ghost use Rattle.lab_phase.specs.Meaning.{frames_of, segment_of};
 ghost use Rattle.lab_phase.specs.Mixes.{Mixes};
 ghost use Rattle.lab_phase.specs.Stage.{IsCoreAt};
 
+use crate::lay::commit;
 use lab_script::CardLine;
 use mix_core::Core;
 use snd_base::Segment;
 use wav_io::Wav;
-
-use crate::lay::commit;
 
 /// Starts a client that has accepted so many frames of its file, where it has any: commits those that fit into the ring,
 /// from one period past the position on, and notes the segment.

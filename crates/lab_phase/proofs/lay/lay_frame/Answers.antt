@@ -21,12 +21,12 @@ loop-channel-preserved c =
     record {
       laid = laid-one_more c.args.port.now port c.lay_sample.new.port c.args.frame n samples _ before.laid c.lay_sample.ensures.laid (to_z-of_z fits);
       cursor = λ h.
-        let next : n + 1 < geometry.channels = omega (arith, channels, c.requires.few, h) in
-        let high : first_free (behind geometry c.args.frame n) (n + 1) ≤ c.args.frame = omega (arith, first_free-behind_high geometry c.args.frame n (n + 1) (omega arith) next) in
-        subst (λ (at : Cursor). first_free at (n + 1) ≤ c.args.frame) (sym c.lay_sample.ensures.cursor) high;
+          let next : n + 1 < geometry.channels = omega (arith, channels, c.requires.few, h) in
+          let high : first_free (behind geometry c.args.frame n) (n + 1) ≤ c.args.frame = omega (arith, first_free-behind_high geometry c.args.frame n (n + 1) (omega arith) next) in
+          subst (λ (at : Cursor). first_free at (n + 1) ≤ c.args.frame) (sym c.lay_sample.ensures.cursor) high;
       behind = λ _.
-        let low : first_free (behind geometry c.args.frame n) 0 ≤ c.args.frame + 1 = omega (arith, first_free-behind_low geometry c.args.frame n 0 within (omega arith)) in
-        subst (λ (at : Cursor). first_free at 0 ≤ c.args.frame + 1) (sym c.lay_sample.ensures.cursor) low;
+          let low : first_free (behind geometry c.args.frame n) 0 ≤ c.args.frame + 1 = omega (arith, first_free-behind_low geometry c.args.frame n 0 within (omega arith)) in
+          subst (λ (at : Cursor). first_free at 0 ≤ c.args.frame + 1) (sym c.lay_sample.ensures.cursor) low;
     }
 
 pub returns-clause-laid : goal.returns-clause-laid

@@ -1,8 +1,7 @@
-use Rattle.std.proofs.Common.{◌≡◌, ◌∙◌, ◌≤◌, ◌<◌, ◌+◌, ◌*◌, ℕ, List, ap, subst, sym, arith, length, map}
+use Rattle.std.proofs.Common.{◌≡◌, ◌∙◌, ◌≤◌, ◌+◌, ◌*◌, ℕ, ap, subst, sym, arith, length, map}
 use Rattle.std.proofs.Math.Nat.{mul-le-mul_right}
 use Rattle.std.specs.Prelude.{slice_range}
 use Rattle.std.specs.List.{range_with_len}
-use Rattle.mix_core.specs.declared.port.Entry.{Entry}
 use Rattle.mix_core.specs.Turn.{TurnLaid, core_of, member_of}
 use Rattle.mix_core.specs.TurnLaws.{TurnLaid-joined}
 use Rattle.lab_phase.specs.Expansion.{entry_at, identity}
@@ -20,13 +19,13 @@ loop-frame-preserved c =
     let part = slice_range samples (frame * channels) (frame * channels + channels) in
     let member : member_of c.loop-frame.port ≡ c.args.client = before.laid.same_member ∙ c.requires.client in
     let held : frame * channels + channels ≤ length samples =
-      let below : (frame + 1) * channels ≤ c.args.whole * channels = mul-le-mul_right channels (omega (arith, c.loop-frame-test.true)) in
-      omega (arith, below, c.requires.held) in
+    let below : (frame + 1) * channels ≤ c.args.whole * channels = mul-le-mul_right channels (omega (arith, c.loop-frame-test.true)) in
+    omega (arith, below, c.requires.held) in
     record {
       laid =
-        subst (TurnLaid c.args.port.now c.lay_frame.new.port) (sym (frames_laid-more c.args.client samples channels first frame))
-        (TurnLaid-joined c.args.port.now c.loop-frame.port c.lay_frame.new.port (frames_laid c.args.client samples channels first frame) (map (entry_at c.args.client samples (identity channels) frame (first + frame)) (range_with_len 0 channels)) before.laid
-        (subst (TurnLaid c.loop-frame.port c.lay_frame.new.port) (ap (λ (m : ℕ). laid_of_frame m (first + frame) part) member ∙ laid-frame c.args.client samples channels frame (first + frame) held) c.lay_frame.ensures.laid));
+          subst (TurnLaid c.args.port.now c.lay_frame.new.port) (sym (frames_laid-more c.args.client samples channels first frame))
+          (TurnLaid-joined c.args.port.now c.loop-frame.port c.lay_frame.new.port (frames_laid c.args.client samples channels first frame) (map (entry_at c.args.client samples (identity channels) frame (first + frame)) (range_with_len 0 channels)) before.laid
+          (subst (TurnLaid c.loop-frame.port c.lay_frame.new.port) (ap (λ (m : ℕ). laid_of_frame m (first + frame) part) member ∙ laid-frame c.args.client samples channels frame (first + frame) held) c.lay_frame.ensures.laid));
       cursor = omega (arith, c.lay_frame.ensures.cursor);
     }
 

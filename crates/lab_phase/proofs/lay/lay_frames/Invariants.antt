@@ -1,6 +1,6 @@
-use Rattle.std.proofs.Common.{◌≡◌, ◌≤◌, ◌<◌, ◌+◌, ℕ}
+use Rattle.std.proofs.Common.{◌≤◌, ◌+◌}
 use Rattle.snd_base.specs.Places.{first_free}
-use Rattle.mix_core.specs.Turn.{TurnLaid, core_of, cursor_of_turn}
+use Rattle.mix_core.specs.Turn.{TurnLaid, cursor_of_turn}
 use Rattle.lab_phase.proofs.Laying.{frames_laid}
 use Rattle.lab_phase.proofs.lay.lay_frames.Given as goal
 

@@ -1,4 +1,4 @@
-use Rattle.std.proofs.Common.{◌≡◌, ℕ, ◌+◌, ◌∷◌, ◌++◌, [], ap, ◌∙◌, sym, arith, append_assoc, drop, get_or, refl}
+use Rattle.std.proofs.Common.{◌≡◌, ◌+◌, ◌∷◌, ◌++◌, [], ap, ◌∙◌, sym, arith, append_assoc, drop, get_or}
 use Rattle.std.proofs.lemmas.List.{drop_more}
 use Rattle.std.specs.Prelude.{List, map, slice_index, slice_index_or, None}
 use Rattle.lab_script.specs.declared.script.Phase.{Phase}
@@ -28,12 +28,12 @@ returns-clause-ok c =
       slots = behind.slots;
       position = omega (arith, sum, played, behind.position);
       rows =
-        ap (λ (rows : List Row). rows ++ phase_rows card lengths (c.args.done + 1 + 1) (body.position + c.args.frames) rest) c.in_ok-push.ensures.items
-        ∙ append_assoc body.rows.items (phase_row card lengths (c.args.done + 1) body.position (Play c.args.frames) ∷ []) (phase_rows card lengths (c.args.done + 1 + 1) (body.position + c.args.frames) rest)
-        ∙ ap (λ (ps : List Phase). body.rows.items ++ phase_rows card lengths (c.args.done + 1) body.position ps) (sym split)
-        ∙ behind.rows;
+          ap (λ (rows : List Row). rows ++ phase_rows card lengths (c.args.done + 1 + 1) (body.position + c.args.frames) rest) c.in_ok-push.ensures.items
+          ∙ append_assoc body.rows.items (phase_row card lengths (c.args.done + 1) body.position (Play c.args.frames) ∷ []) (phase_rows card lengths (c.args.done + 1 + 1) (body.position + c.args.frames) rest)
+          ∙ ap (λ (ps : List Phase). body.rows.items ++ phase_rows card lengths (c.args.done + 1) body.position ps) (sym split)
+          ∙ behind.rows;
       segments = λ client h.
-        ap (λ (ps : List Phase). or_later (slice_index_or body.segments.items client None) (client_segment card (slice_index lengths client) client body.position ps)) (sym split)
-        ∙ behind.segments client h;
+          ap (λ (ps : List Phase). or_later (slice_index_or body.segments.items client None) (client_segment card (slice_index lengths client) client body.position ps)) (sym split)
+          ∙ behind.segments client h;
       written = λ client segment e. let w = behind.written client segment e in (w.0, (omega (arith, w.1.0), w.1.1));
     }

@@ -1,4 +1,4 @@
-use Rattle.std.proofs.Common.{◌≡◌, ◌+◌, ℕ, List}
+use Rattle.std.proofs.Common.{◌≡◌, ◌+◌, List}
 use Rattle.std.specs.Prelude.{Option}
 use Rattle.snd_base.specs.declared.places.Segment.{Segment}
 use Rattle.wav_io.specs.Sound.{Sound}

@@ -1,4 +1,4 @@
-use Rattle.std.proofs.Common.{◌≡◌, ◌∙◌, ◌<◌, arith, rules, SFits, w16, to_z-of_z, ℕ, ap, subst, sym, List, ◌++◌, ◌∷◌, [], ◌+◌}
+use Rattle.std.proofs.Common.{◌≡◌, ◌∙◌, ◌<◌, arith, rules, SFits, w16, to_z-of_z, ap, subst, sym, List, ◌++◌, ◌∷◌, []}
 use Rattle.std.specs.Prelude.{ℤ}
 use Rattle.snd_base.specs.declared.geometry.Geometry.{Geometry}
 use Rattle.lab_phase.specs.Mixes.{Mixes}
@@ -21,6 +21,6 @@ loop-channel-preserved c =
       position = step.position ∙ before.position;
       next = step.next ∙ behind-channel core.geometry core.next c.args.core.now.next.frame c.loop-channel._channel c.args.core.now.geometry.channels channels within before.next;
       mixes = λ wavs segments mixes.
-        subst (λ (played : List ℤ). Mixes c.take.new.self wavs segments played) (sym items)
-        (Mixes-taken core c.take.new.self c.in_ok-taken.taken wavs segments c.loop-channel.played.items step (before.mixes wavs segments mixes));
+          subst (λ (played : List ℤ). Mixes c.take.new.self wavs segments played) (sym items)
+          (Mixes-taken core c.take.new.self c.in_ok-taken.taken wavs segments c.loop-channel.played.items step (before.mixes wavs segments mixes));
     }
