@@ -79,6 +79,7 @@ pub IsNew-of : (g : Geometry) (members word : ℕ) → StandsFor word g.first_la
 IsNew-of g members word stands = record {
   geometry = refl;
   members_is = length-replicate members (start g);
+  cursors = λ m d within. get_or-replicate members m (start g) d within;
   next = refl;
   position = refl;
   gone = refl;

@@ -108,6 +108,13 @@ impl Core {
         self.geometry
     }
 
+    /// How many members the core has, 1 to 64.
+    pub fn members(&self) -> u32
+        ensures { result ≡ length self.now.cursors }
+    {
+        self.cursors.len() as u32
+    }
+
     /// The next word to be taken: its frame and channel.
     pub fn next(&self) -> Cursor
         ensures { result ≡ self.now.next }
