@@ -11,6 +11,8 @@ use std::alloc::Global;
 use std::marker::Model;
 
 /// A mix ring with one owner: the words of its slots and channels, a cursor for each member, and the player's place.
+/// The clients' samples are summed as ALSA's dmix plugin sums them (alsa-lib, `snd_pcm_dmix`), in one word for each slot
+/// and channel, and cut to 16 bits once, when the player takes the word.
 ///
 /// A core keeps no history of what happened to it; that it stands for one is a relation. Each call of it, and of a
 /// `Turn` over it, appends its events and their replies to every history that it stood for.
