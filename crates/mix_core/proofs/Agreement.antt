@@ -1,6 +1,5 @@
 -- What each event does to the agreement of a core with what was laid and what was taken.
-use Rattle.std.proofs.Common.{◌≡◌, ◌≢◌, ℕ, ◌+◌, ◌*◌, ◌/◌, ◌<◌, ◌≤◌, Bool, true, false, ◌==◌, ◌&&◌, ◌||◌, List, [], ◌∷◌, ◌++◌, length, get_or, set, ℤ, pos, ◌+ℤ◌, ◌⊎◌, inl, inr, arith, subst, sym, refl, ap, ◌∙◌, nat_lt}
-use Rattle.std.specs.List.{All, list_any}
+use Rattle.std.proofs.Common.{◌≡◌, ℕ, ◌+◌, ◌<◌, ◌≤◌, Bool, true, false, ◌==◌, ◌&&◌, ◌||◌, List, [], ◌∷◌, ◌++◌, length, get_or, set, pos, ◌+ℤ◌, inl, inr, arith, subst, sym, refl, ap, ◌∙◌, nat_lt}
 use Rattle.std.proofs.Math.Bool.{or_comm}
 use Rattle.std.proofs.Math.Nat.{add-div_right}
 use Rattle.std.proofs.Math.Seq.{get_or-append_seam}
@@ -9,14 +8,13 @@ use Rattle.std.proofs.lemmas.List.{get_or-set_same, get_or-set_other, get_or_app
 use Rattle.std.proofs.lemmas.List.Elements.{All-push}
 use Rattle.std.proofs.lemmas.List.Folds.{list_any_at}
 use Rattle.snd_base.specs.declared.geometry.Geometry.{Geometry}
-use Rattle.snd_base.specs.declared.places.Cursor.{Cursor}
 use Rattle.snd_base.specs.PlaceLaws.{next_word-suc, nat_lt-behind}
-use Rattle.snd_base.specs.Places.{IsFrom, behind, first_frame, first_free, lap, next_word, word_index}
+use Rattle.snd_base.specs.Places.{behind, first_frame, first_free, lap, next_word, word_index}
 use Rattle.lap_word.specs.Clamp.{clamp_of}
 use Rattle.lap_word.specs.Word.{StandsFor, StandsFor-fields, count_of, lap_of, sum_of}
 use Rattle.mix_core.specs.declared.port.Entry.{Entry}
 use Rattle.mix_core.specs.declared.event.Taken.{Taken}
-use Rattle.mix_core.specs.History.{AreExact, AreInOrder, is_taken, place_of}
+use Rattle.mix_core.specs.History.{AreInOrder, is_taken, place_of}
 use Rattle.mix_core.specs.Laid.{at, cursor_of, total}
 use Rattle.mix_core.specs.Sound.{IsNow, IsSound}
 use Rattle.mix_core.specs.Stands.{Agrees}

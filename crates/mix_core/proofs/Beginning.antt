@@ -1,5 +1,5 @@
 -- A new core is sound, and stands for the empty history.
-use Rattle.std.proofs.Common.{◌≡◌, ℕ, ◌+◌, ◌-◌, ◌*◌, ◌/◌, ◌%◌, ◌<◌, ◌≤◌, Bool, true, false, [], length, get_or, ℤ, pos, arith, subst, sym, refl, ap, ◌∙◌, nat_lt}
+use Rattle.std.proofs.Common.{◌≡◌, ℕ, ◌+◌, ◌-◌, ◌*◌, ◌/◌, ◌<◌, ◌≤◌, false, [], pos, arith, subst, refl, ap, ◌∙◌}
 use Rattle.std.proofs.Math.ListN.{replicate}
 use Rattle.std.proofs.lemmas.Bool.Decides.{nat_tests}
 use Rattle.std.proofs.lemmas.List.{get_or-replicate, length-replicate}
@@ -11,7 +11,7 @@ use Rattle.snd_base.specs.Places.{IsWithin, end_frame, first_frame, first_free, 
 use Rattle.lap_word.specs.Word.{StandsFor}
 use Rattle.mix_core.specs.Calls.{IsNew}
 use Rattle.mix_core.specs.Sound.{IsNow, IsSound}
-use Rattle.mix_core.specs.Stands.{Agrees, Stands}
+use Rattle.mix_core.specs.Stands.{Stands}
 use Rattle.mix_core.specs.View.{View, word_at}
 use Rattle.mix_core.proofs.Soundness.{HoldsAtMost-empty}
 use Rattle.mix_core.proofs.Words.{word_index-lt}
@@ -79,6 +79,7 @@ pub IsNew-of : (g : Geometry) (members word : ℕ) → StandsFor word g.first_la
 IsNew-of g members word stands = record {
   geometry = refl;
   members_is = length-replicate members (start g);
+  cursors = λ m d within. get_or-replicate members m (start g) d within;
   next = refl;
   position = refl;
   gone = refl;

@@ -1,9 +1,8 @@
 -- Each event of a core appends its row to every history that the core stands for.
-use Rattle.std.proofs.Common.{◌≡◌, ◌≢◌, ℕ, ◌+◌, ◌<◌, ◌≤◌, Bool, true, false, List, [], ◌∷◌, ◌++◌, length, get_or, set, ℤ, pos, ◌+ℤ◌, arith, subst, sym, refl, ap, ◌∙◌, nat_lt}
+use Rattle.std.proofs.Common.{◌≡◌, ◌≢◌, ℕ, ◌+◌, ◌<◌, ◌≤◌, Bool, false, List, [], ◌∷◌, ◌++◌, length, get_or, ℤ, pos, ◌+ℤ◌, arith, subst, sym, refl, ap, ◌∙◌, nat_lt}
 use Rattle.std.proofs.lemmas.Bool.Decides.{nat_tests}
 use Rattle.std.proofs.lemmas.List.{length-set}
 use Rattle.std.proofs.lemmas.List.Sums.{fold_push}
-use Rattle.snd_base.specs.declared.geometry.Geometry.{Geometry}
 use Rattle.snd_base.specs.declared.places.Cursor.{Cursor}
 use Rattle.snd_base.specs.Places.{IsFrom, first_frame, first_free, lap}
 use Rattle.lap_word.specs.Clamp.{clamp_of}
@@ -12,7 +11,7 @@ use Rattle.mix_core.specs.declared.event.Event.TheVariants.{Publish, Take}
 use Rattle.mix_core.specs.declared.event.Reply.TheVariants.{LapEnd, Published, Took}
 use Rattle.mix_core.specs.declared.port.Entry.{Entry}
 use Rattle.mix_core.specs.declared.event.Taken.{Taken}
-use Rattle.mix_core.specs.History.{IsInside, Row, entry_of, is_taken, laid_of, next_of, position_after, position_of, row_of, taken_of, taking_of}
+use Rattle.mix_core.specs.History.{IsInside, Row, entry_of, laid_of, position_after, row_of, taken_of, taking_of}
 use Rattle.mix_core.specs.Laid.{total}
 use Rattle.mix_core.specs.Sound.{IsNow, IsSound}
 use Rattle.mix_core.specs.Stands.{Agrees, Stands}

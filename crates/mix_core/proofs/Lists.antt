@@ -1,6 +1,6 @@
 -- Laws of the lists of entries, takes and rows, when one more stands at the end.
-use Rattle.std.proofs.Common.{map, ◌≡◌, ◌≢◌, ℕ, ◌+◌, ◌<◌, ◌≤◌, Bool, true, false, ◌==◌, ◌&&◌, ◌||◌, List, [], ◌∷◌, ◌++◌, length, get_or, ℤ, ◌+ℤ◌, refl, sym, ap, ◌∙◌, ◌⊎◌, inl, inr, arith, subst, Option, None, Some}
-use Rattle.std.specs.List.{filter, filter_map, fold, list_any}
+use Rattle.std.proofs.Common.{map, ◌≡◌, ◌≢◌, ℕ, true, false, ◌==◌, ◌&&◌, ◌||◌, List, [], ◌∷◌, ◌++◌, ◌+ℤ◌, refl, ap, ◌⊎◌, inl, inr, arith, Option, None, Some}
+use Rattle.std.specs.List.{filter, filter_map}
 use Rattle.std.proofs.lemmas.List.{append-nil, map-append}
 use Rattle.std.proofs.lemmas.List.Elements.{filter-append, filter_map-append}
 use Rattle.std.proofs.lemmas.List.Folds.{list_any-append}

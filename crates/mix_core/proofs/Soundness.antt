@@ -1,6 +1,5 @@
 -- What each event keeps true of every core.
-use Rattle.std.proofs.Common.{◌≡◌, ◌≢◌, ℕ, ◌+◌, ◌*◌, ◌/◌, ◌%◌, ◌<◌, ◌≤◌, Bool, true, false, List, [], length, get_or, set, ℤ, pos, negsuc, ◌+ℤ◌, ◌≤ℤ◌, arith, subst, sym, refl, ap, ◌∙◌, nat_lt, cond}
-use Rattle.std.specs.List.{All, count_by}
+use Rattle.std.proofs.Common.{◌≡◌, ℕ, ◌+◌, ◌*◌, ◌<◌, ◌≤◌, true, false, List, length, get_or, set, ℤ, pos, negsuc, ◌+ℤ◌, ◌≤ℤ◌, arith, ◌∙◌, nat_lt, cond}
 use Rattle.std.proofs.Math.Nat.{add-div_right, div-lt_iff_lt-mul}
 use Rattle.std.proofs.lemmas.Bool.Decides.{nat_tests}
 use Rattle.std.proofs.lemmas.Int.{ints}

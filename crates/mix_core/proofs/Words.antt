@@ -1,5 +1,5 @@
 -- Which words of the ring change when one is written: that of one frame and channel of the window.
-use Rattle.std.proofs.Common.{◌≡◌, ◌≢◌, ℕ, ◌+◌, ◌*◌, ◌/◌, ◌%◌, ◌<◌, ◌≤◌, List, length, get_or, set, ◌⊎◌, inl, inr, arith, subst, sym, refl, ap, ◌∙◌}
+use Rattle.std.proofs.Common.{◌≡◌, ◌≢◌, ℕ, ◌+◌, ◌*◌, ◌%◌, ◌<◌, ◌≤◌, List, length, get_or, set, inl, inr, arith, subst, sym, refl, ap, ◌∙◌}
 use Rattle.std.proofs.lemmas.List.{get_or-set_same, get_or-set_other}
 use Rattle.std.proofs.lemmas.Nat.{mul-add-lt}
 use Rattle.std.proofs.Math.Nat.{add-mod_right, mod-lt}
@@ -7,7 +7,7 @@ use Rattle.std.proofs.lemmas.Bool.{cases_lt}
 use Rattle.std.proofs.lemmas.Bool.Decides.{nat_tests}
 use Rattle.snd_base.specs.declared.geometry.Geometry.{Geometry}
 use Rattle.snd_base.specs.declared.places.Cursor.{Cursor}
-use Rattle.snd_base.specs.PlaceLaws.{first_free-behind_grows, first_free-behind_high, first_free-behind_low, div-lt_same, mod-same, mod-window, word_index-same}
+use Rattle.snd_base.specs.PlaceLaws.{first_free-behind_grows, first_free-behind_low, div-lt_same, mod-same, mod-window, word_index-same}
 use Rattle.snd_base.specs.Places.{behind, first_free, lap, slot, word_index}
 use Rattle.lap_word.specs.Word.{lap_of}
 use Rattle.mix_core.specs.Sound.{IsNow, IsSound}

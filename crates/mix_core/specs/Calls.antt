@@ -1,5 +1,5 @@
 -- What each call of a core does to it, and to every history that it stands for.
-use Rattle.std.specs.Prelude.{◌≡◌, ◌≢◌, ℕ, true, false, List, [], ◌∷◌, ◌++◌, length, slice_index_or}
+use Rattle.std.specs.Prelude.{◌≡◌, ◌≢◌, ℕ, ◌<◌, true, false, List, [], ◌∷◌, ◌++◌, length, slice_index_or}
 use Rattle.snd_base.specs.declared.geometry.Geometry.{Geometry}
 use Rattle.snd_base.specs.declared.places.Cursor.{Cursor}
 use Rattle.snd_base.specs.Places.{behind, first_frame}
@@ -17,6 +17,7 @@ use Rattle.mix_core.specs.View.{View}
 pub record IsNew (v : View) (g : Geometry) (members : ℕ) : Type 0 where
   pub geometry : v.geometry ≡ g
   pub members_is : length v.cursors ≡ members
+  pub cursors : (m : ℕ) (d : Cursor) → m < members → slice_index_or v.cursors m d ≡ record { frame = first_frame g; channel = 0 }
   pub next : v.next ≡ record { frame = first_frame g; channel = 0 }
   pub position : v.position ≡ first_frame g
   pub gone : v.gone ≡ false

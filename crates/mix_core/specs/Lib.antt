@@ -1,6 +1,7 @@
 pub mod Calls
 pub mod Gate
 pub mod History
+pub mod HistoryLaws
 pub mod Laid
 pub mod Port
 pub mod Sound

@@ -1,5 +1,5 @@
 -- What a turn lays and loads in two steps is joined.
-use Rattle.std.specs.Prelude.{◌≡◌, ℕ, List, [], ◌++◌, All, map}
+use Rattle.std.specs.Prelude.{◌≡◌, List, ◌++◌, map}
 use Rattle.std.proofs.Common.{refl, sym, subst, ap, ◌∙◌, append_assoc, arith}
 use Rattle.std.proofs.lemmas.List.{append-nil, map-append}
 use Rattle.std.proofs.lemmas.List.Elements.{All-append}

@@ -13,3 +13,6 @@ pub use gate::{Gate, NeverStops, Pass, StepKind, ask};
 pub use port::{Entry, MixPort, Placed, Position};
 pub use ring::Core;
 pub use turn::Turn;
+
+#[cfg(test)]
+mod tests;

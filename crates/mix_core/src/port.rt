@@ -100,8 +100,8 @@ pub trait MixPort {
     /// Adds a sample at a frame (its absolute number) and channel, and moves the cursor right behind it.
     ///
     /// `Late` comes only where a word of this slot and channel was seen whose lap is past the frame's; nothing was
-    /// added. `LapEnd` comes exactly where the frame's lap is at least 4294967295, and `Stopped` exactly where the gate
-    /// stopped.
+    /// added. `LapEnd` comes exactly where the frame's lap is at least 4294967295, before the first ask, and `Stopped`
+    /// exactly where the gate stopped. The asks are one `Look` and one `Exchange` where it is in time.
     fn place<G: Gate>(
         &mut self,
         gate: &mut G,

@@ -11,6 +11,8 @@ use std::alloc::Global;
 use std::marker::Model;
 
 /// A mix ring with one owner: the words of its slots and channels, a cursor for each member, and the player's place.
+/// The clients' samples are summed as ALSA's dmix plugin sums them (alsa-lib, `snd_pcm_dmix`), in one word for each slot
+/// and channel, and cut to 16 bits once, when the player takes the word.
 ///
 /// A core keeps no history of what happened to it; that it stands for one is a relation. Each call of it, and of a
 /// `Turn` over it, appends its events and their replies to every history that it stood for.
@@ -106,6 +108,13 @@ impl Core {
         ensures { result ≡ self.now.geometry }
     {
         self.geometry
+    }
+
+    /// How many members the core has, 1 to 64.
+    pub fn members(&self) -> u32
+        ensures { result ≡ length self.now.cursors }
+    {
+        self.cursors.len() as u32
     }
 
     /// The next word to be taken: its frame and channel.

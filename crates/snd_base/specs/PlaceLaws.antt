@@ -50,9 +50,16 @@ mod-window n low f some =
     let x : ℕ = f + (n * low - low) in
     let k : ℕ = low + x % n in
     let enough : 1 * low ≤ n * low = grind arith in
-    let same_sum : k + n * (x / n) ≡ f + n * low = omega (arith, div-add-mod x n, enough) in
-    (k, (omega arith, (omega (arith, mod-lt x some),
-        sym (add-mul-mod_self_left k n (x / n)) ∙ (ap (λ y. y % n) same_sum ∙ add-mul-mod_self_left f n low))))
+    let same_sum : k + n * (x / n) ≡ f + n * low = omega (arith, div-add-mod x n, enough) in (
+      k,
+      (
+        omega arith,
+        (
+          omega (arith, mod-lt x some),
+          sym (add-mul-mod_self_left k n (x / n)) ∙ (ap (λ y. y % n) same_sum ∙ add-mul-mod_self_left f n low),
+        ),
+      ),
+    )
 
 -- the next number in the same row, or at the start of the next
 pub div-suc_low : (n w : ℕ) → n % w + 1 < w → (n + 1) / w ≡ n / w

@@ -1,13 +1,12 @@
 use Rattle.mix_core.proofs.ring.Core.add.Goals as goal
-use Rattle.std.proofs.Common.{◌≡◌, ◌≢◌, ℕ, ◌+◌, ◌<◌, ◌≤◌, length, get_or, ℤ, ◌+ℤ◌, ◌≤ℤ◌, pos, negsuc, subst, sym, ◌∙◌, rules, refl, arith, ap}
+use Rattle.std.proofs.Common.{◌≡◌, ℕ, ◌+◌, ◌<◌, ◌≤◌, length, get_or, ◌+ℤ◌, ◌≤ℤ◌, pos, negsuc, subst, sym, rules, refl, arith}
 use Rattle.std.proofs.lemmas.Int.{ints, to_z-of_z}
 use Rattle.std.proofs.lemmas.List.{get_or-set_other, get_or-set_same, get_or_read, length-set}
-use Rattle.snd_base.specs.declared.places.Cursor.{Cursor}
 use Rattle.snd_base.specs.Places.{IsFrom, first_free, lap, word_index}
 use Rattle.lap_word.specs.Word.{StandsFor, count_of, lap_of, sum_of}
 use Rattle.mix_core.specs.declared.port.Entry.{Entry}
 use Rattle.mix_core.specs.Calls.{IsAdded}
-use Rattle.mix_core.specs.Sound.{HoldsAtMost, IsNow, IsSound, past}
+use Rattle.mix_core.specs.Sound.{IsNow, IsSound, past}
 use Rattle.mix_core.specs.View.{View, word_at}
 use Rattle.mix_core.proofs.Agreement.{added_view}
 use Rattle.mix_core.proofs.History.{Stands-added}
@@ -15,7 +14,7 @@ use Rattle.mix_core.proofs.Soundness.{HasRoom, HasRoom-of, IsSound-added, past-l
 use Rattle.mix_core.proofs.Words.{IsNow-of}
 use Rattle.mix_core.specs.contracts.ring.Core.{the_view}
 use mir.Syntax.{w16}
-use mir.Val.{SFits, of_z, to_z}
+use mir.Val.{SFits}
 
 -- what the caller of `add` shows, at the core's fields
 record CanAdd (v : View) (e : Entry) : Type 0 where

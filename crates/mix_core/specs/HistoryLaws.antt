@@ -1,0 +1,70 @@
+-- What histories that were joined laid and took, and the sums of lists of entries that were joined.
+use Rattle.std.specs.Prelude.{◌≡◌, ℕ, List, [], ◌∷◌, ◌++◌, ℤ, pos, ◌+ℤ◌, filter, fold, map}
+use Rattle.std.specs.List.{filter_map}
+use Rattle.std.proofs.Common.{refl, ap, ◌∙◌, sym, arith}
+use Rattle.std.proofs.lemmas.Int.{ints}
+use Rattle.std.proofs.lemmas.List.{append-nil, map-append}
+use Rattle.std.proofs.lemmas.List.Elements.{filter-append, filter_map-append}
+use Rattle.mix_core.specs.declared.event.Event.TheVariants.{Publish, Take}
+use Rattle.mix_core.specs.declared.event.Reply.TheVariants.{LapEnd, Published, Took}
+use Rattle.mix_core.specs.declared.event.Taken.{Taken}
+use Rattle.mix_core.specs.declared.port.Entry.{Entry}
+use Rattle.mix_core.specs.History.{Row, entry_of, laid_of, row_of, taken_of, taking_of}
+use Rattle.mix_core.specs.Laid.{at, is_at, sum_of_samples, total}
+
+-- the rows of entries laid these, and took nothing
+pub laid_of-rows : (es : List Entry) → laid_of (map row_of es) ≡ es
+laid_of-rows [] = refl
+laid_of-rows (e ∷ es) = ap (λ xs. e ∷ xs) (laid_of-rows es)
+
+pub taken_of-rows : (es : List Entry) → taken_of (map row_of es) ≡ []
+taken_of-rows [] = refl
+taken_of-rows (e ∷ es) = taken_of-rows es
+
+-- a history that goes on with the rows of entries
+pub laid_of-append_rows : (h : List Row) (es : List Entry) → laid_of (h ++ map row_of es) ≡ laid_of h ++ es
+laid_of-append_rows h es = filter_map-append entry_of h (map row_of es) ∙ ap (λ xs. laid_of h ++ xs) (laid_of-rows es)
+
+pub taken_of-append_rows : (h : List Row) (es : List Entry) → taken_of (h ++ map row_of es) ≡ taken_of h
+taken_of-append_rows h es = filter_map-append taking_of h (map row_of es) ∙ (ap (λ xs. taken_of h ++ xs) (taken_of-rows es) ∙ append-nil (taken_of h))
+
+-- one that goes on with a take
+pub laid_of-append_took : (h : List Row) (f c : ℕ) (v : ℤ) → laid_of (h ++ (Take, Took f c v) ∷ []) ≡ laid_of h
+laid_of-append_took h f c v = filter_map-append entry_of h ((Take, Took f c v) ∷ []) ∙ append-nil (laid_of h)
+
+pub taken_of-append_took : (h : List Row) (f c : ℕ) (v : ℤ) → taken_of (h ++ (Take, Took f c v) ∷ []) ≡ taken_of h ++ record { frame = f; channel = c; value = v } ∷ []
+taken_of-append_took h f c v = filter_map-append taking_of h ((Take, Took f c v) ∷ [])
+
+-- with a take that was refused
+pub laid_of-append_refused : (h : List Row) → laid_of (h ++ (Take, LapEnd) ∷ []) ≡ laid_of h
+laid_of-append_refused h = filter_map-append entry_of h ((Take, LapEnd) ∷ []) ∙ append-nil (laid_of h)
+
+pub taken_of-append_refused : (h : List Row) → taken_of (h ++ (Take, LapEnd) ∷ []) ≡ taken_of h
+taken_of-append_refused h = filter_map-append taking_of h ((Take, LapEnd) ∷ []) ∙ append-nil (taken_of h)
+
+-- and with a publication
+pub laid_of-append_published : (h : List Row) (frame : ℕ) → laid_of (h ++ (Publish, Published frame) ∷ []) ≡ laid_of h
+laid_of-append_published h frame = filter_map-append entry_of h ((Publish, Published frame) ∷ []) ∙ append-nil (laid_of h)
+
+pub taken_of-append_published : (h : List Row) (frame : ℕ) → taken_of (h ++ (Publish, Published frame) ∷ []) ≡ taken_of h
+taken_of-append_published h frame = filter_map-append taking_of h ((Publish, Published frame) ∷ []) ∙ append-nil (taken_of h)
+
+-- the samples at a frame and channel, and their sum, of joined lists
+pub at-append : (xs ys : List Entry) (f c : ℕ) → at (xs ++ ys) f c ≡ at xs f c ++ at ys f c
+at-append xs ys f c =
+    ap (map (λ (e : Entry). e.sample)) (filter-append (is_at f c) xs ys)
+    ∙ map-append (λ (e : Entry). e.sample) (filter (is_at f c) xs) (filter (is_at f c) ys)
+
+pub fold-from : (a : ℤ) (xs : List ℤ) → fold (λ a s. a +ℤ s) a xs ≡ a +ℤ sum_of_samples xs
+fold-from a [] = omega (arith, ints)
+fold-from a (x ∷ xs) =
+    let first : fold (λ a s. a +ℤ s) (a +ℤ x) xs ≡ (a +ℤ x) +ℤ sum_of_samples xs = fold-from (a +ℤ x) xs in
+    let rest : fold (λ a s. a +ℤ s) (pos 0 +ℤ x) xs ≡ (pos 0 +ℤ x) +ℤ sum_of_samples xs = fold-from (pos 0 +ℤ x) xs in
+    omega (arith, ints, first, rest)
+
+pub fold-append_sum : (a : ℤ) (xs ys : List ℤ) → fold (λ a s. a +ℤ s) a (xs ++ ys) ≡ fold (λ a s. a +ℤ s) a xs +ℤ sum_of_samples ys
+fold-append_sum a [] ys = fold-from a ys
+fold-append_sum a (x ∷ xs) ys = fold-append_sum (a +ℤ x) xs ys
+
+pub total-append : (xs ys : List Entry) (f c : ℕ) → total (xs ++ ys) f c ≡ total xs f c +ℤ total ys f c
+total-append xs ys f c = ap sum_of_samples (at-append xs ys f c) ∙ fold-append_sum (pos 0) (at xs f c) (at ys f c)
