@@ -32,7 +32,8 @@ line words = joined words ++ 10 ∷ []
 
 -- the name of a client, by its number
 abbrev pub client_name : List ClientLine → ℕ → List ℕ
-client_name clients number = option_map_or (λ (c : ClientLine). c.name) (slice_get clients number) []
+client_name clients number =
+    option_map_or (λ (client : ClientLine). client.name) (slice_get clients number) []
 
 -- the name of who does something
 abbrev pub actor_name : List ClientLine → Actor → List ℕ
@@ -58,7 +59,7 @@ xrun_words (Avail avail seen) = codes "avail" ∷ decimal avail ∷ []
 xrun_words (Late frame channel seen) = codes "late" ∷ decimal frame ∷ decimal channel ∷ []
 xrun_words (Overtaken frame channel seen) = codes "overtaken" ∷ decimal frame ∷ decimal channel ∷ []
 
--- a refusal, by the name of its error number; two of them have no words in a report
+-- a refusal, by the name of its error number; `LapEnd` and `Memory` have no words in a report
 abbrev pub error_words : PcmError → List (List ℕ)
 error_words BadState = codes "EBADFD" ∷ []
 error_words (Xrun why) = codes "EPIPE" ∷ xrun_words why

@@ -1,4 +1,5 @@
-//! The report of a run: what each line of a script answered, and which samples were committed where.
+//! The report of a run: what each line of a script was answered, which samples were committed
+//! where, and the text that says so.
 #![tactic(auto)]
 
 mod print;

@@ -14,7 +14,8 @@ use std::alloc::{AllocError, Global};
 fn push_rows(text: &mut String, clients: &[ClientLine], rows: &[Row]) -> Result<(), AllocError>
     requires { All (IsRowOf clients.now) rows.now }
     ensures { OnOk result
-        (string_bytes text.new ≡ string_bytes text.old ++ flat_map (row_line clients.now) rows.now) }
+        (string_bytes text.new ≡ string_bytes text.old
+        ++ flat_map (row_line clients.now) rows.now) }
 {
     for row in rows {
         push_row(text, clients, row)?;
@@ -30,7 +31,8 @@ fn push_segments(
 ) -> Result<(), AllocError>
     requires { All (IsSegmentOf clients.now) segments.now }
     ensures { OnOk result
-        (string_bytes text.new ≡ string_bytes text.old ++ flat_map (segment_line clients.now) segments.now) }
+        (string_bytes text.new ≡ string_bytes text.old
+        ++ flat_map (segment_line clients.now) segments.now) }
 {
     for (client, segment) in segments {
         push_segment(text, clients, *client, segment)?;
@@ -51,21 +53,24 @@ fn push_tail(text: &mut String, report: &Report, clients: &[ClientLine]) -> Resu
     write!(text, "played {first} {frames}\nend\n")
 }
 
-/// The text of a report of a run of this script, as UTF-8 (and ASCII) bytes. Its lines end with a
-/// line feed, and their words are joined by one space:
+/// The text of a report of a run of this script, in bytes. Its lines end with a line feed, and their
+/// words are joined by one space:
 ///
 /// - `dmixlab 1`
-/// - `PHASE NAME OP = ANSWER STATE SEEN` for each row, where OP is as in a script, and SEEN is a
-///   position in frames, or `-`
-/// - `segment NAME SOURCE CARD WHOLE PART` for each segment
+/// - `PHASE NAME OP = ANSWER STATE SEEN` for each row, where NAME is `card` or a client's name, OP is
+///   as in a script (`open` for an opening), STATE is as `snd_pcm_state_name` gives it, and SEEN is
+///   a position in frames, or `-` where none was seen
+/// - `segment NAME SOURCE CARD WHOLE PART` for each segment, in frames, but for PART, in channels
 /// - `played FIRST FRAMES`
 /// - `end`
 ///
-/// An ANSWER is `ok`, a number, `stopped`, or the name of the error number that ALSA answers in
-/// that case (errno.h), with what it is about: `EBADFD`, `EPIPE empty`, `EPIPE already`,
+/// An ANSWER is `ok`, a number of frames, `stopped`, or the name of the error number (errno.h) that
+/// ALSA answers in that case, and what it is about: `EBADFD`, `EPIPE empty`, `EPIPE already`,
 /// `EPIPE avail FRAMES`, `EPIPE late FRAME CHANNEL`, `EPIPE overtaken FRAME CHANNEL`, `EAGAIN`,
 /// `ENODEV`, `EINVAL`, `EIO`, and `EBUSY UNTIL SEEN`, where UNTIL is `-` if it isn't known.
-/// `PcmError::LapEnd` and `PcmError::Memory` are no answers of a line, so the report may not have them.
+///
+/// The report's clients have to be the script's, and no answer in it may be `PcmError::LapEnd` or
+/// `PcmError::Memory`, which no line of a script is answered.
 ///
 /// The one error is `PcmError::Memory`.
 pub fn print_report(alloc: Global, report: &Report, script: &Script) -> Result<Vec<u8>, PcmError>

@@ -83,12 +83,15 @@ impl Segments {
     }
 }
 
-/// What a run did: the row of each opening and line, the samples that were committed, the number of
-/// the first frame that the card played, and how many frames it played.
+/// What a run did.
 #[derive(Debug, Drop)]
 pub struct Report {
+    /// What each opening and each line did, in the order of the script.
     pub rows: Rows,
+    /// Which samples of which client were committed, and where.
     pub segments: Segments,
+    /// The number of the first frame that the card played.
     pub first: u64,
+    /// How many frames the card played.
     pub frames: u64,
 }

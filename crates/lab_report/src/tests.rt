@@ -81,6 +81,9 @@ fn report_has_a_line_for_each_row_and_segment(rt: HostRuntime) -> Result<(), Fai
         "dmixlab 1\n0 a open = ok PREPARED -\n1 a write 64 = 64 RUNNING 0\n2 card play 256 = 256 RUNNING 256\nsegment a 0 64 64 0\nplayed 0 256\nend\n";
     let bytes = print_report(alloc, &report, &script)?;
     assert_eq!(rt; bytes.as_slice(), want.as_bytes());
+    let Report { rows, segments, .. } = report;
+    assert_eq!(rt; rows.into_vec().len(), 3);
+    assert_eq!(rt; segments.into_vec().as_slice(), [(0, segment)].as_slice());
     Ok(())
 }
 

@@ -132,7 +132,8 @@ pub(crate) fn push_segment(
 ) -> Result<(), AllocError>
     requires { client < length clients.now }
     ensures { OnOk result
-        (string_bytes text.new ≡ string_bytes text.old ++ segment_line clients.now (client, segment.now)) }
+        (string_bytes text.new ≡ string_bytes text.old
+        ++ segment_line clients.now (client, segment.now)) }
 {
     let name = name_of_client(clients, client);
     let source = segment.source;
