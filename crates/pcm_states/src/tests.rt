@@ -125,100 +125,272 @@ fn check_row(rt: &(impl Abort + Alloc), call: Call, facts: Facts, row: &str) -> 
     Ok(())
 }
 
+// The cells where the facts decide: a call in a state, what happened, the next state and the answer.
+const RULES: [(Call, State, &str, State, &str); 38] = [
+    // An empty playback does not start, whatever else happened. An empty capture does.
+    (
+        Call::Start,
+        State::Prepared,
+        "gone over late",
+        State::Prepared,
+        "empty",
+    ),
+    (Call::Start, State::Prepared, "", State::Prepared, "empty"),
+    (
+        Call::Start,
+        State::Prepared,
+        "queued gone over late",
+        State::Disconnected,
+        "gone",
+    ),
+    (
+        Call::Start,
+        State::Prepared,
+        "capture gone over late",
+        State::Disconnected,
+        "gone",
+    ),
+    (
+        Call::Start,
+        State::Prepared,
+        "queued over late",
+        State::Xrun,
+        "late",
+    ),
+    (
+        Call::Start,
+        State::Prepared,
+        "queued over",
+        State::Running,
+        "ok",
+    ),
+    (Call::Start, State::Prepared, "queued", State::Running, "ok"),
+    (
+        Call::Start,
+        State::Prepared,
+        "capture",
+        State::Running,
+        "ok",
+    ),
+    // A transfer starts only where it may.
+    (
+        Call::Transfer,
+        State::Prepared,
+        "gone over late",
+        State::Prepared,
+        "ok",
+    ),
+    (
+        Call::Transfer,
+        State::Prepared,
+        "starts gone over late",
+        State::Disconnected,
+        "gone",
+    ),
+    (
+        Call::Transfer,
+        State::Prepared,
+        "starts over late",
+        State::Xrun,
+        "late",
+    ),
+    (
+        Call::Transfer,
+        State::Prepared,
+        "starts",
+        State::Running,
+        "ok",
+    ),
+    // The stop threshold comes before a late frame.
+    (
+        Call::Transfer,
+        State::Running,
+        "gone over late",
+        State::Disconnected,
+        "gone",
+    ),
+    (
+        Call::Transfer,
+        State::Running,
+        "over late",
+        State::Xrun,
+        "avail",
+    ),
+    (
+        Call::Transfer,
+        State::Running,
+        "queued late",
+        State::Xrun,
+        "late",
+    ),
+    (Call::Transfer, State::Running, "", State::Running, "ok"),
+    (
+        Call::Sync,
+        State::Running,
+        "gone over late",
+        State::Disconnected,
+        "gone",
+    ),
+    (
+        Call::Sync,
+        State::Running,
+        "over late",
+        State::Xrun,
+        "avail",
+    ),
+    (
+        Call::Sync,
+        State::Running,
+        "queued late",
+        State::Xrun,
+        "late",
+    ),
+    (Call::Sync, State::Running, "", State::Running, "ok"),
+    (
+        Call::Transfer,
+        State::Xrun,
+        "gone over late",
+        State::Xrun,
+        "already",
+    ),
+    (
+        Call::Sync,
+        State::Xrun,
+        "gone over late",
+        State::Xrun,
+        "already",
+    ),
+    // A drain goes on until nothing is queued, whatever the stop threshold says.
+    (
+        Call::Sync,
+        State::Draining,
+        "gone over late",
+        State::Disconnected,
+        "gone",
+    ),
+    (
+        Call::Sync,
+        State::Draining,
+        "over late",
+        State::Xrun,
+        "late",
+    ),
+    (Call::Sync, State::Draining, "over", State::Setup, "ok"),
+    (
+        Call::Sync,
+        State::Draining,
+        "queued over",
+        State::Draining,
+        "ok",
+    ),
+    (
+        Call::Drain,
+        State::Draining,
+        "gone over late",
+        State::Disconnected,
+        "gone",
+    ),
+    (
+        Call::Drain,
+        State::Draining,
+        "over late",
+        State::Xrun,
+        "late",
+    ),
+    (Call::Drain, State::Draining, "over", State::Setup, "ok"),
+    (
+        Call::Drain,
+        State::Draining,
+        "queued over",
+        State::Draining,
+        "again",
+    ),
+    (
+        Call::Drain,
+        State::Running,
+        "gone over late",
+        State::Disconnected,
+        "gone",
+    ),
+    (
+        Call::Drain,
+        State::Running,
+        "over late",
+        State::Xrun,
+        "late",
+    ),
+    (Call::Drain, State::Running, "over", State::Setup, "ok"),
+    (
+        Call::Drain,
+        State::Running,
+        "queued over",
+        State::Draining,
+        "again",
+    ),
+    (
+        Call::Drain,
+        State::Prepared,
+        "gone over late",
+        State::Disconnected,
+        "gone",
+    ),
+    (
+        Call::Drain,
+        State::Prepared,
+        "over late",
+        State::Xrun,
+        "late",
+    ),
+    (Call::Drain, State::Prepared, "over", State::Setup, "ok"),
+    (
+        Call::Drain,
+        State::Prepared,
+        "queued over",
+        State::Draining,
+        "again",
+    ),
+];
+
 #[test]
 fn facts_decide_the_other_cells(rt: HostRuntime) {
-    let unstarted = Facts {
-        starts: false,
-        ..LOUD
-    };
-    let gone_with_one = Facts { queued: 1, ..LOUD };
-    let gone_capture = Facts {
-        capture: true,
-        ..LOUD
-    };
-    let all_but_gone = Facts {
-        gone: false,
-        ..LOUD
-    };
-    let late_with_one = Facts {
-        queued: 1,
-        ..all_but_gone
-    };
-    let late = Facts {
-        late: Some(LATE),
-        ..QUIET
-    };
-    let over = Facts {
-        over: Some((64, 512)),
-        ..QUIET
-    };
-    let played = Facts { queued: 0, ..QUIET };
-    let starting = Facts {
-        starts: true,
-        ..played
-    };
-    let capture = Facts {
-        capture: true,
-        ..played
-    };
-    let gone = (State::Disconnected, Err(PcmError::NoDevice));
-    let avail = (State::Xrun, Err(PcmError::Xrun(AVAIL)));
-    let is_late = (State::Xrun, Err(PcmError::Xrun(LATE)));
-    let empty = (State::Prepared, Err(PcmError::Xrun(XrunWhy::Empty)));
-    let runs = (State::Running, Ok(()));
-    let waits = (State::Prepared, Ok(()));
-    let ends = (State::Setup, Ok(()));
-    let drains = (State::Draining, Ok(()));
-    let again = (State::Draining, Err(PcmError::Again));
-    let already = (State::Xrun, Err(PcmError::Xrun(XrunWhy::Already)));
+    for (call, state, happened, to, answer) in RULES.iter() {
+        let outcome = next(*state, *call, facts_of(happened));
+        assert_eq!(rt; outcome.state, *to, "{call:?} in {state}: {happened}");
+        assert_eq!(rt;
+            outcome.answer,
+            answer_of(answer),
+            "{call:?} in {state}: {happened}"
+        );
+    }
+}
 
-    let cases = [
-        // An empty playback does not start, whatever else happened. An empty capture does.
-        (Call::Start, State::Prepared, LOUD, empty),
-        (Call::Start, State::Prepared, played, empty),
-        (Call::Start, State::Prepared, gone_with_one, gone),
-        (Call::Start, State::Prepared, gone_capture, gone),
-        (Call::Start, State::Prepared, late_with_one, is_late),
-        (Call::Start, State::Prepared, over, runs),
-        (Call::Start, State::Prepared, QUIET, runs),
-        (Call::Start, State::Prepared, capture, runs),
-        // A transfer starts only where it may.
-        (Call::Transfer, State::Prepared, unstarted, waits),
-        (Call::Transfer, State::Prepared, LOUD, gone),
-        (Call::Transfer, State::Prepared, all_but_gone, is_late),
-        (Call::Transfer, State::Prepared, starting, runs),
-        // The stop threshold comes before a late frame.
-        (Call::Transfer, State::Running, LOUD, gone),
-        (Call::Transfer, State::Running, all_but_gone, avail),
-        (Call::Transfer, State::Running, late, is_late),
-        (Call::Transfer, State::Running, played, runs),
-        (Call::Sync, State::Running, LOUD, gone),
-        (Call::Sync, State::Running, all_but_gone, avail),
-        (Call::Sync, State::Running, late, is_late),
-        (Call::Sync, State::Running, played, runs),
-        (Call::Transfer, State::Xrun, LOUD, already),
-        (Call::Sync, State::Xrun, LOUD, already),
-        // A drain goes on until nothing is queued, whatever the stop threshold says.
-        (Call::Sync, State::Draining, LOUD, gone),
-        (Call::Sync, State::Draining, all_but_gone, is_late),
-        (Call::Sync, State::Draining, played, ends),
-        (Call::Sync, State::Draining, over, drains),
-        (Call::Drain, State::Draining, LOUD, gone),
-        (Call::Drain, State::Draining, all_but_gone, is_late),
-        (Call::Drain, State::Draining, played, ends),
-        (Call::Drain, State::Draining, over, again),
-        (Call::Drain, State::Running, LOUD, gone),
-        (Call::Drain, State::Running, all_but_gone, is_late),
-        (Call::Drain, State::Running, played, ends),
-        (Call::Drain, State::Running, over, again),
-        (Call::Drain, State::Prepared, LOUD, gone),
-        (Call::Drain, State::Prepared, all_but_gone, is_late),
-        (Call::Drain, State::Prepared, played, ends),
-        (Call::Drain, State::Prepared, over, again),
-    ];
-    for (call, state, facts, (to, answer)) in cases.iter() {
-        let outcome = next(*state, *call, *facts);
-        assert_eq!(rt; outcome.state, *to, "{call:?} in {state} at {facts:?}");
-        assert_eq!(rt; outcome.answer, *answer, "{call:?} in {state} at {facts:?}");
+fn facts_of(happened: &str) -> Facts {
+    Facts {
+        capture: happened.contains("capture"),
+        queued: if happened.contains("queued") { 5 } else { 0 },
+        starts: happened.contains("starts"),
+        gone: happened.contains("gone"),
+        over: if happened.contains("over") {
+            Some((64, 512))
+        } else {
+            None
+        },
+        late: if happened.contains("late") {
+            Some(LATE)
+        } else {
+            None
+        },
+    }
+}
+
+fn answer_of(answer: &str) -> Result<(), PcmError> {
+    match answer {
+        "gone" => Err(PcmError::NoDevice),
+        "again" => Err(PcmError::Again),
+        "empty" => Err(PcmError::Xrun(XrunWhy::Empty)),
+        "already" => Err(PcmError::Xrun(XrunWhy::Already)),
+        "avail" => Err(PcmError::Xrun(AVAIL)),
+        "late" => Err(PcmError::Xrun(LATE)),
+        _ => Ok(()),
     }
 }
