@@ -1,9 +1,11 @@
 -- Lines, words and digits.
-use Rattle.std.proofs.Common.{◌≡◌, ℕ, ◌+◌, ◌-◌, ◌*◌, ◌^◌, ◌<◌, ◌≤◌, Bool, true, false, List, [], ◌∷◌, length, take, drop, get_or, refl, sym, ap, ◌∙◌, arith, rules, cond, ltb, Option, Some, None, option_map, All, ◌&&◌}
+use Rattle.std.proofs.Common.{◌≡◌, ℕ, ◌+◌, ◌-◌, ◌*◌, ◌^◌, ◌<◌, ◌≤◌, Bool, true, false, List, [], ◌∷◌, length, take, drop, get_or, refl, sym, ap, ◌∙◌, arith, rules, cond, ltb, Option, Some, None, option_map, ◌&&◌, zero, suc, IsAscii}
 use Rattle.std.specs.List.{slice_split, position, position_or_len, list_all, before_first, after_first}
 use Rattle.std.specs.Str.{all_ascii_digits}
 use Rattle.std.specs.Char.{is_ascii_digit}
 use Rattle.std.specs.Str.Parse.{digits_value}
+use Rattle.std.proofs.lemmas.Bool.{false≢true}
+use Rattle.std.proofs.lemmas.Str.Ascii.{IsAscii-nil}
 use Rattle.std.proofs.lemmas.Str.{digit_value_digit}
 use Rattle.std.proofs.lemmas.Str.Parse.{IsNumeralModel, numerals_by_value, tells_all_ascii_digits, digit_at, digits_value_short, digits_value-take-le}
 use Rattle.std.proofs.lemmas.Int.Digits.{digits_value_more}
@@ -14,7 +16,7 @@ use Rattle.std.proofs.lemmas.List.Quantifiers.{position-Some}
 use Rattle.std.proofs.lemmas.Bool.Decides.{nat_tests}
 use Rattle.std.proofs.lemmas.Option.{cond_some}
 use Rattle.std.proofs.lemmas.List.Sums.{fails_before_first}
-use Rattle.lab_script.specs.Word.{cut_line, is_feed, is_space, words_of}
+use Rattle.lab_script.specs.Word.{cut_line, is_feed, is_space, words_of, is_name, is_name_byte, is_file, is_file_byte}
 
 -- digits, one by one
 pub all_digits : (ds : List ℕ) → list_all is_ascii_digit ds ≡ all_ascii_digits ds
@@ -88,4 +90,29 @@ three_from w (x ∷ y ∷ []) = refl
 three_from w (x ∷ y ∷ z ∷ ws) = refl
 
 pub first_at : (line : List ℕ) (i : ℕ) → position is_space line ≡ Some i → first_of (words_of line) ≡ Some (take i line, words_of (take (length line - (i + 1)) (drop (i + 1) line)))
-first_at line i e = ap first_of (words_at line i e) ∙ first_some _ _ (words_some _)
+first_at line i e =
+    let rest = take (length line - (i + 1)) (drop (i + 1) line) in
+    ap first_of (words_at line i e) ∙ first_some (take i line) (words_of rest) (words_some rest)
+
+-- a conjunction's parts
+pub both : (a b : Bool) → (a && b) ≡ true → (a ≡ true) × (b ≡ true)
+both true b e = (refl, e)
+both false b e = absurd (false≢true e)
+
+pub ascii_all : (p : ℕ → Bool) → ((b : ℕ) → p b ≡ true → b < 128) → (bs : List ℕ) → list_all p bs ≡ true → IsAscii bs
+ascii_all p h [] e i = IsAscii-nil i
+ascii_all p h (b ∷ bs) e zero = h b (both (p b) (list_all p bs) e).0
+ascii_all p h (b ∷ bs) e (suc i) = ascii_all p h bs (both (p b) (list_all p bs) e).1 i
+
+name_byte_low : (b : ℕ) → is_name_byte b ≡ true → b < 128
+name_byte_low b e = grind (arith, nat_tests)
+
+file_byte_low : (b : ℕ) → is_file_byte b ≡ true → b < 128
+file_byte_low b e = grind (arith, nat_tests)
+
+-- names and files are ASCII
+pub ascii_name : (word : List ℕ) → is_name word ≡ true → IsAscii word
+ascii_name word e = ascii_all is_name_byte name_byte_low word (both _ _ (both _ _ e).0).1
+
+pub ascii_file : (word : List ℕ) → is_file word ≡ true → IsAscii word
+ascii_file word e = ascii_all is_file_byte file_byte_low word (both _ _ e).1

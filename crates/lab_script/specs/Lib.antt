@@ -3,3 +3,4 @@ pub mod Word
 pub mod Grammar
 pub mod Reading
 pub mod Spelling
+pub mod Written

@@ -1,0 +1,220 @@
+//! The reader of a script's text.
+ghost use Rattle.std.specs.Prelude.{◌≡◌, ◌+◌, ◌≤◌, ◌<◌, [], length, IfOk, Ok, option_map};
+ghost use Rattle.lab_script.specs.Grammar.{card_of, clients_of, open_of, alone, action_of};
+ghost use Rattle.lab_script.specs.Written.{Fits, IsDone};
+ghost use Rattle.lab_script.specs.Reading.{at, refused, known, line_of, line_by, opens_of, phase_of, phases_of, whole, script_of, Gives, Reads};
+
+use crate::error::{ScriptError, ScriptWhy};
+use crate::grammar::{client_line, read_alone, read_card, read_open};
+use crate::phases::Done;
+use crate::script::{CardLine, ClientLine, Clients, Phase, Phases, Script};
+use crate::word::cut_line;
+use std::alloc::{AllocError, Global};
+
+/// The refusal of the line of this number.
+fn refused(number: u32) -> ScriptError
+    ensures { result ≡ refused number }
+{
+    ScriptError {
+        line: number,
+        why: ScriptWhy::NotYet,
+    }
+}
+
+/// What the line of this number says, where it says something.
+fn known<X: Drop>(number: u32, found: Option<X>) -> Result<X, ScriptError>
+    ensures { result ≡ known number found }
+{
+    match found {
+        Some(x) => Ok(x),
+        None => Err(refused(number)),
+    }
+}
+
+/// The first line of a text, whose number is given, and what stands behind it.
+fn whole_line(number: u32, text: &[u8]) -> Result<(&[u8], &[u8]), ScriptError>
+    ensures { Gives (λ l. (l.0.now, at (number + 1) l.1.now)) result (line_of (at number text.now)) }
+{
+    match cut_line(text) {
+        Some(cut) => Ok(cut),
+        None => Err(refused(number)),
+    }
+}
+
+/// The card's line, and what stands behind it.
+#[tactic(auto, unfolding(crate::specs::Reading::line_by))]
+fn card_line(text: &[u8]) -> Result<(CardLine, &[u8]), ScriptError>
+    ensures { Gives (λ l. (l.0, at 2 l.1.now)) result (line_by card_of (at 1 text.now)) }
+{
+    let (line, rest) = whole_line(1, text)?;
+    let card = known(1, read_card(line))?;
+    Ok((card, rest))
+}
+
+/// The line that opens a client, and what stands behind it.
+#[tactic(auto, unfolding(crate::specs::Reading::line_by))]
+fn open_line<'a>(
+    number: u32,
+    client: &ClientLine,
+    text: &'a [u8],
+) -> Result<&'a [u8], ScriptError>
+    ensures { Gives (λ r. (tt, at (number + 1) r.now)) result
+        (line_by (open_of client.now.name) (at number text.now)) }
+{
+    let (line, rest) = whole_line(number, text)?;
+    known(number, read_open(client.name.as_str().as_bytes(), line))?;
+    Ok(rest)
+}
+
+/// A line of one given word, and what stands behind it.
+#[tactic(auto, unfolding(crate::specs::Reading::line_by))]
+fn alone_line<'a>(number: u32, word: &[u8], text: &'a [u8]) -> Result<&'a [u8], ScriptError>
+    ensures { Gives (λ r. (tt, at (number + 1) r.now)) result
+        (line_by (alone word.now) (at number text.now)) }
+{
+    let (line, rest) = whole_line(number, text)?;
+    known(number, read_alone(word, line))?;
+    Ok(rest)
+}
+
+/// The line of what is done in a phase, and what stands behind it.
+#[tactic(auto, unfolding(crate::specs::Reading::line_by))]
+fn action_line<'a>(
+    number: u32,
+    clients: &[ClientLine],
+    done: &Done,
+    text: &'a [u8],
+) -> Result<(Phase, &'a [u8]), ScriptError>
+    requires done { IsDone done.now }
+    requires few { length clients.now ≤ 64 }
+    ensures value { Gives (λ l. (l.0, at (number + 1) l.1.now)) result
+        (line_by (action_of clients.now done.now.phases.items) (at number text.now)) }
+    ensures fits { IfOk result (λ l. Fits done.now.phases.items l.0) }
+{
+    let (line, rest) = whole_line(number, text)?;
+    let action = known(number, done.action(clients, line))?;
+    Ok((action, rest))
+}
+
+/// A phase of three lines, of which the first has this number, and what stands behind it.
+#[tactic(auto, unfolding(crate::specs::Reading::phase_of))]
+fn phase<'a>(
+    number: u32,
+    clients: &[ClientLine],
+    done: &Done,
+    text: &'a [u8],
+) -> Result<(Phase, &'a [u8]), ScriptError>
+    requires done { IsDone done.now }
+    requires few { length clients.now ≤ 64 }
+    requires small { number < 1000000 }
+    ensures value { Gives (λ l. (l.0, at (number + 3) l.1.now)) result
+        (phase_of clients.now done.now.phases.items (at number text.now)) }
+    ensures fits { IfOk result (λ l. Fits done.now.phases.items l.0) }
+{
+    let rest = alone_line(number, b"phase", text)?;
+    let (action, rest) = action_line(number + 1, clients, done, rest)?;
+    let rest = alone_line(number + 2, b"end", rest)?;
+    Ok((action, rest))
+}
+
+/// The clients at the front of a text, and what stands behind them.
+fn read_clients(alloc: Global, text: &[u8]) -> Result<(Vec<ClientLine>, &[u8]), AllocError>
+    ensures few { IfOk result (λ c. length c.0.items ≤ 64) }
+    ensures value { IfOk result (λ c. clients_of 64 [] text.now ≡ (c.0.items, c.1.now)) }
+{
+    let mut clients = Vec::new(alloc);
+    let mut rest = text;
+    for _ in 0..64 {
+        match client_line(alloc, clients.as_slice(), rest)? {
+            Some((client, behind)) => {
+                clients.push(client)?;
+                rest = behind;
+            }
+            None => return Ok((clients, rest)),
+        }
+    }
+    Ok((clients, rest))
+}
+
+/// The lines that open the clients, of which the first has this number, and what stands behind them.
+fn read_opens<'a>(
+    number: u32,
+    clients: &[ClientLine],
+    text: &'a [u8],
+) -> Result<&'a [u8], ScriptError>
+    requires few { length clients.now ≤ 64 }
+    requires small { number ≤ 66 }
+    ensures { Gives (λ r. at (number + length clients.now) r.now) result
+        (opens_of clients.now (at number text.now)) }
+{
+    let mut rest = text;
+    let mut line = number;
+    for client in clients {
+        rest = open_line(line, client, rest)?;
+        line += 1;
+    }
+    Ok(rest)
+}
+
+/// The phases up to the end of a text, whose first line has this number.
+fn read_phases(
+    alloc: Global,
+    number: u32,
+    clients: &[ClientLine],
+    text: &[u8],
+) -> Result<Vec<Phase>, ScriptError>
+    requires few { length clients.now ≤ 64 }
+    requires small { number ≤ 130 }
+    ensures { Gives (λ v. v.items) result (phases_of 4096 clients.now [] (at number text.now)) }
+{
+    let mut done = Done::new(alloc)?;
+    let mut rest = text;
+    let mut line = number;
+    for _ in 0..4096 {
+        if rest.is_empty() {
+            return Ok(done.into_phases());
+        }
+        let (next, behind) = phase(line, clients, &done, rest)?;
+        done.push(next)?;
+        rest = behind;
+        line += 3;
+    }
+    if rest.is_empty() {
+        Ok(done.into_phases())
+    } else {
+        Err(refused(line))
+    }
+}
+
+/// The script of a text of any length that is in memory.
+#[tactic(auto, unfolding(crate::specs::Reading::whole))]
+fn read_whole(alloc: Global, text: &[u8]) -> Result<Script, ScriptError>
+    ensures { Reads result (whole text.now) }
+{
+    let (card, rest) = card_line(text)?;
+    let (clients, rest) = read_clients(alloc, rest)?;
+    let opens = 2 + clients.len() as u32;
+    let rest = read_opens(opens, clients.as_slice(), rest)?;
+    let first = opens + clients.len() as u32;
+    let phases = read_phases(alloc, first, clients.as_slice(), rest)?;
+    Ok(Script {
+        card,
+        clients: Clients::from_vec(clients),
+        phases: Phases::from_vec(phases),
+    })
+}
+
+/// Reads a script.
+#[tactic(auto, unfolding(crate::specs::Reading::script_of))]
+pub fn read_script(alloc: Global, text: &[u8]) -> Result<Script, ScriptError>
+    // The answer is what the text says, unless memory runs out.
+    ensures exact { Reads result (script_of text.now) }
+{
+    if text.len() > 1_048_576 {
+        return Err(ScriptError {
+            line: 0,
+            why: ScriptWhy::TooLong,
+        });
+    }
+    read_whole(alloc, text)
+}
