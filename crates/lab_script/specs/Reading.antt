@@ -1,5 +1,5 @@
 -- The script that a text says, or the first line that can't stand.
-use Rattle.std.specs.Prelude.{◌≡◌, ℕ, zero, suc, ◌+◌, List, [], ◌∷◌, ◌++◌, length, codes, Option, Some, None, Result, Ok, Err, nat_lt, ◌==◌, if◌then◌else◌}
+use Rattle.std.specs.Prelude.{◌≡◌, ℕ, zero, suc, ◌+◌, List, [], ◌∷◌, ◌++◌, length, codes, Option, Some, None, Result, Ok, Err, nat_lt, Bool, true, false, if◌then◌else◌}
 use Rattle.lab_script.specs.declared.error.ScriptError.{ScriptError}
 use Rattle.lab_script.specs.declared.error.ScriptWhy.{ScriptWhy}
 use Rattle.lab_script.specs.declared.error.ScriptWhy.TheVariants as why
@@ -61,10 +61,15 @@ phase_of clients before rest = do
   ended ← line_by (alone (codes "end")) action.1
   Ok (action.0, ended.1)
 
+-- nothing is left of a text
+abbrev pub is_end : List ℕ → Bool
+is_end [] = true
+is_end (b ∷ text) = false
+
 -- phases up to the end of the text, at most so many more
 unfoldable pub phases_of : ℕ → List ClientLine → List Phase → Rest → Result (List Phase) ScriptError
-phases_of zero clients before rest = if length rest.text == 0 then Ok before else Err (refused rest.number)
-phases_of (suc more) clients before rest = if length rest.text == 0 then Ok before else (do
+phases_of zero clients before rest = if is_end rest.text then Ok before else Err (refused rest.number)
+phases_of (suc more) clients before rest = if is_end rest.text then Ok before else (do
   phase ← phase_of clients before rest
   phases_of more clients (before ++ phase.0 ∷ []) phase.1)
 

@@ -2,7 +2,7 @@
 ghost use Rattle.std.specs.Prelude.{◌≡◌, ◌+◌, ◌≤◌, ◌<◌, [], length, IfOk, Ok, option_map};
 ghost use Rattle.lab_script.specs.Grammar.{card_of, clients_of, open_of, alone, action_of};
 ghost use Rattle.lab_script.specs.Written.{Fits, IsDone};
-ghost use Rattle.lab_script.specs.Reading.{at, refused, known, line_of, line_by, opens_of, phase_of, phases_of, whole, script_of, Gives, Reads};
+ghost use Rattle.lab_script.specs.Reading.{at, is_end, refused, known, line_of, line_by, opens_of, phase_of, phases_of, whole, script_of, Gives, Reads};
 
 use crate::error::{ScriptError, ScriptWhy};
 use crate::grammar::{client_line, read_alone, read_card, read_open};
@@ -124,7 +124,7 @@ fn read_clients(alloc: Global, text: &[u8]) -> Result<(Vec<ClientLine>, &[u8]), 
 {
     let mut clients = Vec::new(alloc);
     let mut rest = text;
-    for _ in 0..64 {
+    for _ in 0..64u32 {
         match client_line(alloc, clients.as_slice(), rest)? {
             Some((client, behind)) => {
                 clients.push(client)?;
@@ -156,6 +156,16 @@ fn read_opens<'a>(
     Ok(rest)
 }
 
+/// Whether nothing is left of a text.
+fn at_end(text: &[u8]) -> bool
+    ensures { result ≡ is_end text.now }
+{
+    match text {
+        [] => true,
+        [_, ..] => false,
+    }
+}
+
 /// The phases up to the end of a text, whose first line has this number.
 fn read_phases(
     alloc: Global,
@@ -170,8 +180,8 @@ fn read_phases(
     let mut done = Done::new(alloc)?;
     let mut rest = text;
     let mut line = number;
-    for _ in 0..4096 {
-        if rest.is_empty() {
+    for _ in 0..4096u32 {
+        if at_end(rest) {
             return Ok(done.into_phases());
         }
         let (next, behind) = phase(line, clients, &done, rest)?;
@@ -179,7 +189,7 @@ fn read_phases(
         rest = behind;
         line += 3;
     }
-    if rest.is_empty() {
+    if at_end(rest) {
         Ok(done.into_phases())
     } else {
         Err(refused(line))
