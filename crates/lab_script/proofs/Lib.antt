@@ -1,3 +1,5 @@
 pub mod Words
 pub mod Acts
 pub mod Steps
+pub mod Lines
+pub mod Found
