@@ -232,7 +232,7 @@ write_found clients before ws actor action number frames p are value e =
     let test = cond_some (nat_le frames 4194304 && not (list_any (is_write_of write.0) before)) (Write write.0 frames) p write.2 in
     let parts = both (nat_le frames 4194304) (not (list_any (is_write_of write.0) before)) test.0 in
     let index : client_at clients actor ≡ Some write.0 = client.1 ∙ ap Some said.1 in
-    let d = record { name = []; file = [] } in
+    let d : ClientLine = record { name = []; file = [] } in
     let place = position-Some (is_named actor) clients write.0 d index in
     let here = get_or clients write.0 d in
     let named : here.name ≡ actor = same_bytes here.name actor place.1 in

@@ -3,3 +3,4 @@ pub mod Acts
 pub mod Steps
 pub mod Lines
 pub mod Found
+pub mod Whole
