@@ -4,3 +4,5 @@ pub mod Steps
 pub mod Lines
 pub mod Found
 pub mod Whole
+pub mod Plain
+pub mod Again
