@@ -6,3 +6,5 @@ pub mod Found
 pub mod Whole
 pub mod Plain
 pub mod Again
+pub mod Back
+pub mod Answer

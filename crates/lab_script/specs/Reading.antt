@@ -82,9 +82,13 @@ whole text = do
   phases ← phases_of 4096 clients.0 [] opened
   Ok (record { card = card.0; clients = clients.0; phases = phases })
 
+-- the refusal of a text of more than 1048576 bytes
+abbrev pub too_long : ScriptError
+too_long = record { line = 0; why = why.TooLong }
+
 -- the script that a text says, or why it says none: its first line that can't stand, or its length
 unfoldable pub script_of : List ℕ → Result Script ScriptError
-script_of text = if nat_lt 1048576 (length text) then Err (record { line = 0; why = why.TooLong }) else whole text
+script_of text = if nat_lt 1048576 (length text) then Err too_long else whole text
 
 -- an error of a call is the one that is given, unless memory ran out
 abbrev pub Refuses : {X : Type 0} → ScriptWhy → ScriptError → Result X ScriptError → Type 0

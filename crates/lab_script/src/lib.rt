@@ -15,3 +15,7 @@ pub use line::{Actor, Op};
 pub use name::{FileName, Name};
 pub use reader::read_script;
 pub use script::{CardLine, ClientLine, Clients, Phase, Phases, Script};
+
+
+#[cfg(test)]
+mod tests;

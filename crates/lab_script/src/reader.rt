@@ -1,8 +1,11 @@
 //! The reader of a script's text.
-ghost use Rattle.std.specs.Prelude.{◌≡◌, ◌+◌, ◌≤◌, ◌<◌, [], length, IfOk, Ok, option_map};
+ghost use Rattle.std.specs.Prelude.{◌≡◌, ◌+◌, ◌≤◌, ◌<◌, [], ◌↔◌, length, IfOk, Ok, Err};
+ghost use Rattle.lab_script.specs.declared.script.Script.{Script};
+ghost use Rattle.lab_script.specs.Script.{IsScript};
+ghost use Rattle.lab_script.specs.Spelling.{Spells};
 ghost use Rattle.lab_script.specs.Grammar.{card_of, clients_of, open_of, alone, action_of};
 ghost use Rattle.lab_script.specs.Written.{Fits, IsDone};
-ghost use Rattle.lab_script.specs.Reading.{at, is_end, refused, known, line_of, line_by, opens_of, phase_of, phases_of, whole, script_of, Gives, Reads};
+ghost use Rattle.lab_script.specs.Reading.{at, is_end, refused, known, line_of, line_by, opens_of, phase_of, phases_of, whole, script_of, too_long, Gives, Reads};
 
 use crate::error::{ScriptError, ScriptWhy};
 use crate::grammar::{client_line, read_alone, read_card, read_open};
@@ -214,11 +217,11 @@ fn read_whole(alloc: Global, text: &[u8]) -> Result<Script, ScriptError>
     })
 }
 
-/// Reads a script.
+/// The script of a text.
 #[tactic(auto, unfolding(crate::specs::Reading::script_of))]
-pub fn read_script(alloc: Global, text: &[u8]) -> Result<Script, ScriptError>
-    // The answer is what the text says, unless memory runs out.
+fn read_any(alloc: Global, text: &[u8]) -> Result<Script, ScriptError>
     ensures exact { Reads result (script_of text.now) }
+    ensures too_long { (result ≡ Err too_long) ↔ (1048576 < length text.now) }
 {
     if text.len() > 1_048_576 {
         return Err(ScriptError {
@@ -227,4 +230,42 @@ pub fn read_script(alloc: Global, text: &[u8]) -> Result<Script, ScriptError>
         });
     }
     read_whole(alloc, text)
+}
+
+/// Reads a script.
+///
+/// A script is a text of whole lines, each ended by a line feed, whose words are separated by one
+/// space each. A number is 1 to 19 decimal digits. The lines are, in this order:
+///
+/// - `card channels 1 rate R period P ring N`: R from 4000 to 192000 Hz, N from 64 to 16384 frames,
+///   and P from 16 frames to half of N, dividing N;
+/// - up to 64 of `client NAME FILE`, with names that differ. A name is 1 to 32 bytes, a lower-case
+///   letter and then lower-case letters, digits or `_`, and none of `card`, `client`, `reader`,
+///   `open`, `close`, `phase` and `end`. A file is 1 to 255 bytes from 33 to 126 without `#`;
+/// - `open NAME` for each client, in the same order;
+/// - up to 4096 phases of three lines: `phase`, then `card play N` or `NAME write N`, then `end`.
+///   N is 0 to 4194304 frames. A client writes at most once, and the card plays at most 4194304
+///   frames in all.
+///
+/// # Errors
+///
+/// - `TooLong` on line 0, where the text has more than 1048576 bytes.
+/// - `NotYet` for any other text that isn't of this form, on the first line that can't stand in it,
+///   counted from 1. Where the text ends too early, or in a line without its line feed, that is the
+///   number of its line feeds and one.
+/// - `Memory`, where memory ran out.
+pub fn read_script(alloc: Global, text: &[u8]) -> Result<Script, ScriptError>
+    // The answer is what the text says, unless memory ran out.
+    ensures exact { Reads result (script_of text.now) }
+
+    // What is read is a script, and the text spells it.
+    ensures found { IfOk result (λ s. IsScript s × Spells text.now s) }
+
+    // A script that a text of at most 1048576 bytes spells is the answer, unless memory ran out.
+    ensures only { (s : Script) → length text.now ≤ 1048576 → Spells text.now s → Reads result (Ok s) }
+
+    // A text is too long exactly where it has more than 1048576 bytes.
+    ensures too_long { (result ≡ Err too_long) ↔ (1048576 < length text.now) }
+{
+    read_any(alloc, text)
 }
