@@ -1,19 +1,18 @@
 -- What is spelled is read again, line by line.
-use Rattle.std.proofs.Common.{◌≡◌, ◌≢◌, ℕ, zero, suc, ◌+◌, ◌*◌, ◌/◌, ◌%◌, ◌<◌, ◌≤◌, Bool, true, false, not, ◌&&◌, ◌||◌, List, [], ◌∷◌, ◌++◌, length, get_or, map, codes, refl, sym, ap, subst, append_assoc, ◌∙◌, arith, cond, eqb, ltb, Option, Some, None, All, AllPairs, bytes_eq, nat_le, ◌==◌}
-use Rattle.std.specs.List.{position, position_or_len, list_all, list_any, slice_get}
-use Rattle.std.proofs.lemmas.Bool.{eqb-true, eq-eqb, le-leb, lt-ltb, false≢true}
+use Rattle.std.proofs.Common.{◌≡◌, ◌≢◌, ℕ, ◌+◌, ◌/◌, ◌%◌, ◌<◌, ◌≤◌, Bool, true, false, not, ◌&&◌, List, [], ◌∷◌, length, get_or, codes, refl, sym, ap, ◌∙◌, arith, cond, ltb, Option, Some, None, AllPairs, bytes_eq, nat_le}
+use Rattle.std.specs.List.{position, position_or_len, list_any, slice_get}
+use Rattle.std.proofs.lemmas.Bool.{eq-eqb, le-leb, lt-ltb, false≢true}
 use Rattle.std.proofs.lemmas.Slice.Eq.{bytes_eq-Decides}
 use Rattle.std.proofs.lemmas.Option.{slice_get_within, get_or_from_slice_get}
 use Rattle.std.proofs.lemmas.List.Sums.{position_or_len_is}
-use Rattle.std.proofs.lemmas.List.Folds.{list_any_none}
 use Rattle.lab_script.specs.declared.script.CardLine.{CardLine}
 use Rattle.lab_script.specs.declared.script.ClientLine.{ClientLine}
 use Rattle.lab_script.specs.declared.script.Phase.{Phase}
 use Rattle.lab_script.specs.declared.script.Phase.TheVariants.{Play, Write}
-use Rattle.lab_script.specs.Script.{IsCardLine, AreOfTwo, IsPhase, frames_played, played_in}
+use Rattle.lab_script.specs.Script.{IsCardLine, frames_played}
 use Rattle.lab_script.specs.Word.{number_of, is_name, is_file}
-use Rattle.lab_script.specs.Grammar.{◌>>=◌, three_of, passed, behind, keyed, last_keyed, is_card, card_of, is_named, is_client, client_of, client_at, open_of, alone, is_write_of, play_of, write_of, write_line, action_of}
-use Rattle.lab_script.specs.Spelling.{IsNumeralOf, SpellsCard, client_words, open_words, SpellsPlay, SpellsWrite, SpellsAction}
+use Rattle.lab_script.specs.Grammar.{◌>>=◌, passed, behind, keyed, last_keyed, is_card, card_of, is_named, is_client, client_of, client_at, open_of, alone, is_write_of, play_of, write_line, action_of}
+use Rattle.lab_script.specs.Spelling.{SpellsCard, client_words, SpellsAction}
 
 some_then : {A B : Type 0} (o : Option A) (f : A → Option B) (x : A) → o ≡ Some x → (o >>= f) ≡ f x
 some_then o f x e = ap (λ o. o >>= f) e
@@ -96,8 +95,8 @@ client_place clients i client distinct e =
     let below = slice_get_within clients i client e in
     let here : get_or clients i client ≡ client = get_or_from_slice_get clients i client client e in
     place_some (is_named client.name) clients i (position_or_len_is (is_named client.name) clients i client (omega arith)
-      (λ k h. not_same (get_or clients k client).name client.name (λ same. distinct k i client h below (same ∙ ap (λ (c : ClientLine). c.name) (sym here))))
-      (λ h. ap (λ (c : ClientLine). bytes_eq c.name client.name) here ∙ itself client.name)) below
+    (λ k h. not_same (get_or clients k client).name client.name (λ same. distinct k i client h below (same ∙ ap (λ (c : ClientLine). c.name) (sym here))))
+    (λ h. ap (λ (c : ClientLine). bytes_eq c.name client.name) here ∙ itself client.name)) below
 
 -- a phase fits behind others
 abbrev pub Follows : List Phase → Phase → Type 0

@@ -1,6 +1,6 @@
 -- What is spelled is read, over a whole text.
-use Rattle.std.proofs.Common.{◌≡◌, ◌≢◌, ℕ, zero, suc, ◌+◌, ◌<◌, ◌≤◌, Bool, true, false, eqb, ◌&&◌, List, [], ◌∷◌, ◌++◌, length, get_or, map, codes, refl, sym, ap, subst, append_assoc, ◌∙◌, arith, Option, Some, None, All, AllPairs, Result, Ok, Err}
-use Rattle.std.specs.List.{flat_map, list_all, list_any, join_with_byte}
+use Rattle.std.proofs.Common.{◌≡◌, ◌≢◌, ℕ, zero, suc, ◌+◌, ◌<◌, ◌≤◌, Bool, true, false, eqb, ◌&&◌, List, [], ◌∷◌, ◌++◌, length, get_or, map, codes, refl, sym, ap, subst, append_assoc, ◌∙◌, arith, Some, None, All, AllPairs, Result, Ok}
+use Rattle.std.specs.List.{flat_map, list_all, list_any}
 use Rattle.std.proofs.lemmas.Bool.{eqb-true}
 use Rattle.std.proofs.lemmas.List.{append-nil, get_or_append_left, length-append}
 use Rattle.std.proofs.lemmas.List.Sums.{sum_by-append}
@@ -14,12 +14,11 @@ use Rattle.lab_script.specs.declared.script.ClientLine.{ClientLine}
 use Rattle.lab_script.specs.declared.script.Phase.{Phase}
 use Rattle.lab_script.specs.declared.script.Phase.TheVariants.{Play, Write}
 use Rattle.lab_script.specs.declared.script.Script.{Script}
-use Rattle.lab_script.specs.Script.{IsScript, IsPhase, AreOfTwo, frames_played, played_in}
-use Rattle.lab_script.specs.Word.{is_name, is_file, cut_line, words_of}
+use Rattle.lab_script.specs.Script.{IsPhase, AreOfTwo, frames_played, played_in}
+use Rattle.lab_script.specs.Word.{is_name, is_file}
 use Rattle.lab_script.specs.Grammar.{three_of, card_of, is_named, client_of, client_line, clients_of, open_of, alone, is_write_of, action_of}
-use Rattle.lab_script.specs.Spelling.{line, client_words, open_words, SpellsCard, SpellsAction, SpellsActions, phase_lines, lines_of, Spells}
-use Rattle.lab_script.specs.Reading.{Rest, at, line_by, opens_of, phase_of, phases_of, is_end, whole, ◌>>=◌}
-use Rattle.lab_script.proofs.Words.{both}
+use Rattle.lab_script.specs.Spelling.{line, client_words, open_words, SpellsCard, SpellsAction, SpellsActions, phase_lines, Spells}
+use Rattle.lab_script.specs.Reading.{at, line_by, opens_of, phase_of, phases_of, whole, ◌>>=◌}
 use Rattle.lab_script.proofs.Acts.{played_more}
 use Rattle.lab_script.proofs.Lines.{is_plain, line_again, words_again, line_read}
 use Rattle.lab_script.proofs.Steps.{clients_none, clients_stop, clients_more, phases_end, phases_more}
@@ -77,7 +76,7 @@ client_reads before client rest name file fresh =
 fresh_at : (before new : List ClientLine) (client : ClientLine) → IsClients (before ++ client ∷ new) → list_any (is_named client.name) before ≡ false
 fresh_at before new client ok = list_any_none (is_named client.name) before (λ k d h. not_same (get_or before k d).name client.name (λ same.
     ok.distinct k (length before) d h (omega (arith, length-append before (client ∷ new)))
-      (ap (λ (c : ClientLine). c.name) (get_or_append_left before (client ∷ new) d k h) ∙ (same ∙ ap (λ (c : ClientLine). c.name) (sym (get_or-append_seam before client new d))))))
+    (ap (λ (c : ClientLine). c.name) (get_or_append_left before (client ∷ new) d k h) ∙ (same ∙ ap (λ (c : ClientLine). c.name) (sym (get_or-append_seam before client new d))))))
 
 at_seam : (P : ClientLine → Type 0) (before new : List ClientLine) (client : ClientLine) → All P (before ++ client ∷ new) → P client
 at_seam P before new client h = subst P (get_or-append_seam before client new client) (h (length before) client (omega (arith, length-append before (client ∷ new))))
@@ -116,11 +115,12 @@ follows_at clients before new (Play frames) body =
     omega (arith, body.frames, one, parts, same)
 follows_at clients before new (Write client frames) body =
     let inside : length before < length (before ++ Write client frames ∷ new) = omega (arith, length-append before (Write client frames ∷ new)) in
-    let here = get_or-append_seam before (Write client frames) new (Write client frames) in
-    ((subst (IsPhase (length clients)) here (body.each (length before) (Write client frames) inside)).1,
-     list_any_none (is_write_of client) before (λ k d h. not_write (get_or before k d) client frames
-       (subst (λ (q : Phase). AreOfTwo q (Write client frames)) (get_or_append_left before (Write client frames ∷ new) d k h)
-         (subst (λ (q : Phase). AreOfTwo (get_or (before ++ Write client frames ∷ new) k d) q) (get_or-append_seam before (Write client frames) new d) (body.once k (length before) d h inside)))))
+    let here = get_or-append_seam before (Write client frames) new (Write client frames) in (
+      (subst (IsPhase (length clients)) here (body.each (length before) (Write client frames) inside)).1,
+      list_any_none (is_write_of client) before (λ k d h. not_write (get_or before k d) client frames
+          (subst (λ (q : Phase). AreOfTwo q (Write client frames)) (get_or_append_left before (Write client frames ∷ new) d k h)
+          (subst (λ (q : Phase). AreOfTwo (get_or (before ++ Write client frames ∷ new) k d) q) (get_or-append_seam before (Write client frames) new d) (body.once k (length before) d h inside)))),
+    )
 
 action_plain : (clients : List ClientLine) (ws : List (List ℕ)) (p : Phase) → All (λ (client : ClientLine). is_name client.name ≡ true) clients → SpellsAction clients ws p → (0 < length ws) × (list_all (list_all is_plain) ws ≡ true)
 action_plain clients ws (Play frames) names s = (subst (λ (v : List (List ℕ)). 0 < length v) (sym s.are) (omega arith), ap (list_all (list_all is_plain)) s.are ∙ plain_more s.number [] (number_plain s.number frames s.is_number.value) refl)

@@ -1,23 +1,19 @@
 -- What is read is spelled so, and is a script.
-use Rattle.std.proofs.Common.{◌≡◌, ◌≢◌, ℕ, zero, suc, ◌+◌, ◌*◌, ◌/◌, ◌%◌, ◌<◌, ◌≤◌, Bool, true, false, not, ◌&&◌, ◌||◌, List, [], ◌∷◌, ◌++◌, length, get_or, map, codes, refl, sym, ap, subst, append_assoc, ◌∙◌, arith, cond, eqb, Option, Some, None, option_map, All, AllPairs, Result, Ok, Err, bytes_eq, nat_le, ◌==◌}
-use Rattle.std.specs.List.{position, list_all, list_any, flat_map, slice_get, sum_by}
+use Rattle.std.proofs.Common.{◌≡◌, ℕ, zero, suc, ◌+◌, ◌/◌, ◌%◌, ◌<◌, ◌≤◌, Bool, true, false, not, ◌&&◌, ◌||◌, List, [], ◌∷◌, ◌++◌, length, get_or, codes, refl, sym, ap, subst, ◌∙◌, arith, cond, Option, Some, None, All, AllPairs, bytes_eq, nat_le}
+use Rattle.std.specs.List.{list_any}
 use Rattle.std.proofs.lemmas.Bool.{eqb-true, eq-eqb, leb-true, false≢true}
-use Rattle.std.proofs.lemmas.Bool.Decides.{nat_tests}
 use Rattle.std.proofs.lemmas.Slice.Eq.{bytes_eq-Decides}
 use Rattle.std.proofs.lemmas.Option.{cond_some, slice_get-get_or}
-use Rattle.std.proofs.lemmas.List.{length-append, append-nil}
-use Rattle.std.proofs.lemmas.List.Elements.{All-nil, All-push}
+use Rattle.std.proofs.lemmas.List.Elements.{All-push}
 use Rattle.std.proofs.lemmas.List.Quantifiers.{position-Some, all_pairs_push}
-use Rattle.lab_script.specs.declared.error.ScriptError.{ScriptError}
 use Rattle.lab_script.specs.declared.script.CardLine.{CardLine}
 use Rattle.lab_script.specs.declared.script.ClientLine.{ClientLine}
 use Rattle.lab_script.specs.declared.script.Phase.{Phase}
 use Rattle.lab_script.specs.declared.script.Phase.TheVariants.{Play, Write}
-use Rattle.lab_script.specs.declared.script.Script.{Script}
-use Rattle.lab_script.specs.Script.{IsScript, IsCardLine, IsPhase, AreOfTwo, frames_played, played_in}
+use Rattle.lab_script.specs.Script.{IsCardLine, IsPhase, AreOfTwo, frames_played}
 use Rattle.lab_script.specs.Word.{number_of, is_name, is_file}
-use Rattle.lab_script.specs.Grammar.{◌>>=◌, one_of, two_of, three_of, first_of, passed, behind, keyed, last_keyed, is_card, card_with, card_of, is_named, is_client, client_of, client_at, open_of, alone, is_write_of, play_of, write_of, write_line, action_of}
-use Rattle.lab_script.specs.Spelling.{IsNumeralOf, SpellsCard, client_words, open_words, SpellsPlay, SpellsWrite, SpellsAction}
+use Rattle.lab_script.specs.Grammar.{◌>>=◌, one_of, two_of, three_of, first_of, passed, behind, keyed, last_keyed, is_card, card_of, is_named, is_client, client_of, client_at, open_of, alone, is_write_of, play_of, write_line, action_of}
+use Rattle.lab_script.specs.Spelling.{SpellsCard, client_words, SpellsAction}
 use Rattle.lab_script.proofs.Words.{both}
 use Rattle.lab_script.proofs.Acts.{played_more}
 use Rattle.lab_script.proofs.Lines.{some_in}
@@ -75,7 +71,7 @@ keyed_is key ws n e =
     record {
       word = number.0.0;
       value = value.1 ∙ ap (λ (p : ℕ × List (List ℕ)). Some p.0) same;
-      are = behind_is key ws numbers.0 numbers.1 ∙ (ap (λ r. key ∷ r) (first_is numbers.0 number.0 number.1) ∙ ap (λ (p : ℕ × List (List ℕ)). key ∷ number.0.0 ∷ p.1) same)
+      are = behind_is key ws numbers.0 numbers.1 ∙ (ap (λ r. key ∷ r) (first_is numbers.0 number.0 number.1) ∙ ap (λ (p : ℕ × List (List ℕ)). key ∷ number.0.0 ∷ p.1) same);
     }
 
 pub last_is : (key : List ℕ) (ws : List (List ℕ)) (n : ℕ) → last_keyed key ws ≡ Some n → IsKeyed key ws n []
@@ -87,7 +83,7 @@ last_is key ws n e =
     record {
       word = number.0;
       value = number.2;
-      are = two_is ws pair.0 pair.1 ∙ (ap (λ w. w ∷ pair.0.1 ∷ []) (same_bytes pair.0.0 key test.0) ∙ ap (λ w. key ∷ w ∷ []) test.1)
+      are = two_is ws pair.0 pair.1 ∙ (ap (λ w. w ∷ pair.0.1 ∷ []) (same_bytes pair.0.0 key test.0) ∙ ap (λ w. key ∷ w ∷ []) test.1);
     }
 
 -- a card's numbers that pass the tests
@@ -102,15 +98,15 @@ card_fits channels rate period ring card e same =
     let h2 = both _ _ h3.0 in
     let half : period ≤ ring / 2 = leb-true period (ring / 2) h7.1 in
     let line : IsCardLine (record { channels = channels; rate = rate; period = period; ring = ring }) = record {
-        channels = eqb-true channels 1 h2.0;
-        rate_low = leb-true 4000 rate h2.1;
-        rate_high = leb-true rate 192000 h3.1;
-        ring_low = leb-true 64 ring h4.1;
-        ring_high = leb-true ring 16384 h5.1;
-        period_low = leb-true 16 period h6.1;
-        period_high = omega arith;
-        period_divides = eqb-true (ring % period) 0 h8.1
-      } in
+      channels = eqb-true channels 1 h2.0;
+      rate_low = leb-true 4000 rate h2.1;
+      rate_high = leb-true rate 192000 h3.1;
+      ring_low = leb-true 64 ring h4.1;
+      ring_high = leb-true ring 16384 h5.1;
+      period_low = leb-true 16 period h6.1;
+      period_high = omega arith;
+      period_divides = eqb-true (ring % period) 0 h8.1;
+    } in
     subst (λ (c : CardLine). IsCardLine c) same line
 
 pub card_found : (ws : List (List ℕ)) (card : CardLine) → card_of ws ≡ Some card → SpellsCard ws card × IsCardLine card
@@ -125,18 +121,20 @@ card_found ws card e =
     let k1 = keyed_is (codes "channels") keys.0 channels.0 channels.1 in
     let k2 = keyed_is (codes "rate") channels.0.1 rate.0 rate.1 in
     let k3 = keyed_is (codes "period") rate.0.1 period.0 period.1 in
-    let k4 = last_is (codes "ring") period.0.1 ring.0 ring.1 in
-    (record {
-      channels = k1.word;
-      rate = k2.word;
-      period = k3.word;
-      ring = k4.word;
-      is_channels = record { value = k1.value ∙ ap (λ (c : CardLine). Some c.channels) test.1 };
-      is_rate = record { value = k2.value ∙ ap (λ (c : CardLine). Some c.rate) test.1 };
-      is_period = record { value = k3.value ∙ ap (λ (c : CardLine). Some c.period) test.1 };
-      is_ring = record { value = k4.value ∙ ap (λ (c : CardLine). Some c.ring) test.1 };
-      are = behind_is (codes "card") ws keys.0 keys.1 ∙ ap (λ r. codes "card" ∷ r) (k1.are ∙ ap (λ r. codes "channels" ∷ k1.word ∷ r) (k2.are ∙ ap (λ r. codes "rate" ∷ k2.word ∷ r) (k3.are ∙ ap (λ r. codes "period" ∷ k3.word ∷ r) k4.are)))
-    }, card_fits channels.0.0 rate.0.0 period.0.0 ring.0 card test.0 test.1)
+    let k4 = last_is (codes "ring") period.0.1 ring.0 ring.1 in (
+      record {
+        channels = k1.word;
+        rate = k2.word;
+        period = k3.word;
+        ring = k4.word;
+        is_channels = record { value = k1.value ∙ ap (λ (c : CardLine). Some c.channels) test.1 };
+        is_rate = record { value = k2.value ∙ ap (λ (c : CardLine). Some c.rate) test.1 };
+        is_period = record { value = k3.value ∙ ap (λ (c : CardLine). Some c.period) test.1 };
+        is_ring = record { value = k4.value ∙ ap (λ (c : CardLine). Some c.ring) test.1 };
+        are = behind_is (codes "card") ws keys.0 keys.1 ∙ ap (λ r. codes "card" ∷ r) (k1.are ∙ ap (λ r. codes "channels" ∷ k1.word ∷ r) (k2.are ∙ ap (λ r. codes "rate" ∷ k2.word ∷ r) (k3.are ∙ ap (λ r. codes "period" ∷ k3.word ∷ r) k4.are)));
+      },
+      card_fits channels.0.0 rate.0.0 period.0.0 ring.0 card test.0 test.1,
+    )
 
 pub not_is : (b : Bool) → not b ≡ true → b ≡ false
 not_is true e = absurd (false≢true e)
@@ -158,11 +156,11 @@ client_found before ws client e =
     let fits = both (is_name three.0.1 && is_file three.0.2) (not (list_any (is_named three.0.1) before)) parts.1 in
     let forms = both (is_name three.0.1) (is_file three.0.2) fits.0 in
     let here : IsClientFound before ws (record { name = three.0.1; file = three.0.2 }) = record {
-        are = three_is ws three.0 three.1 ∙ ap (λ w. w ∷ three.0.1 ∷ three.0.2 ∷ []) (same_bytes three.0.0 (codes "client") parts.0);
-        name = forms.0;
-        file = forms.1;
-        fresh = not_is (list_any (is_named three.0.1) before) fits.1
-      } in
+      are = three_is ws three.0 three.1 ∙ ap (λ w. w ∷ three.0.1 ∷ three.0.2 ∷ []) (same_bytes three.0.0 (codes "client") parts.0);
+      name = forms.0;
+      file = forms.1;
+      fresh = not_is (list_any (is_named three.0.1) before) fits.1;
+    } in
     subst (λ (c : ClientLine). IsClientFound before ws c) test.1 here
 
 pub open_found : (name : List ℕ) (ws : List (List ℕ)) (u : Unit {0}) → open_of name ws ≡ Some u → ws ≡ codes "open" ∷ name ∷ []
@@ -206,17 +204,17 @@ apart_play (Write other more) frames = tt
 
 pub body_play : (clients : List ClientLine) (before : List Phase) (frames : ℕ) → frames_played before + frames ≤ 4194304 → IsBody clients before → IsBody clients (before ++ Play frames ∷ [])
 body_play clients before frames h body = record {
-    each = All-push (IsPhase (length clients)) before (Play frames) body.each (omega arith);
-    once = all_pairs_push AreOfTwo before (Play frames) body.once (λ k d below. apart_play (get_or before k d) frames);
-    frames = omega (arith, played_more before (Play frames))
-  }
+  each = All-push (IsPhase (length clients)) before (Play frames) body.each (omega arith);
+  once = all_pairs_push AreOfTwo before (Play frames) body.once (λ k d below. apart_play (get_or before k d) frames);
+  frames = omega (arith, played_more before (Play frames));
+}
 
 pub body_write : (clients : List ClientLine) (before : List Phase) (client frames : ℕ) → client < length clients → frames ≤ 4194304 → list_any (is_write_of client) before ≡ false → IsBody clients before → IsBody clients (before ++ Write client frames ∷ [])
 body_write clients before client frames there few fresh body = record {
-    each = All-push (IsPhase (length clients)) before (Write client frames) body.each (there, few);
-    once = all_pairs_push AreOfTwo before (Write client frames) body.once (λ k d below. apart (get_or before k d) client frames (none_pass (is_write_of client) before fresh k d below));
-    frames = omega (arith, played_more before (Write client frames), body.frames)
-  }
+  each = All-push (IsPhase (length clients)) before (Write client frames) body.each (there, few);
+  once = all_pairs_push AreOfTwo before (Write client frames) body.once (λ k d below. apart (get_or before k d) client frames (none_pass (is_write_of client) before fresh k d below));
+  frames = omega (arith, played_more before (Write client frames), body.frames);
+}
 
 -- an action, found behind others
 pub record IsActionFound (clients : List ClientLine) (before : List Phase) (ws : List (List ℕ)) (p : Phase) : Type 0 where
@@ -237,24 +235,24 @@ write_found clients before ws actor action number frames p are value e =
     let here = get_or clients write.0 d in
     let named : here.name ≡ actor = same_bytes here.name actor place.1 in
     let found : IsActionFound clients before ws (Write write.0 frames) = record {
-        spelled = record {
-          line = here;
-          number = number;
-          is_line = slice_get-get_or clients write.0 d place.0;
-          is_number = record { value = value };
-          are = are ∙ (ap (λ w. w ∷ action ∷ number ∷ []) (sym named) ∙ ap (λ w. here.name ∷ w ∷ number ∷ []) (same_bytes action (codes "write") said.0))
-        };
-        body = body_write clients before write.0 frames place.0 (leb-true frames 4194304 parts.0) (not_is (list_any (is_write_of write.0) before) parts.1)
-      } in
+      spelled = record {
+        line = here;
+        number = number;
+        is_line = slice_get-get_or clients write.0 d place.0;
+        is_number = record { value = value };
+        are = are ∙ (ap (λ w. w ∷ action ∷ number ∷ []) (sym named) ∙ ap (λ w. here.name ∷ w ∷ number ∷ []) (same_bytes action (codes "write") said.0));
+      };
+      body = body_write clients before write.0 frames place.0 (leb-true frames 4194304 parts.0) (not_is (list_any (is_write_of write.0) before) parts.1);
+    } in
     subst (λ (p : Phase). IsActionFound clients before ws p) test.1 found
 
 play_found : (clients : List ClientLine) (before : List Phase) (ws : List (List ℕ)) (number : List ℕ) (frames : ℕ) (p : Phase) → ws ≡ codes "card" ∷ codes "play" ∷ number ∷ [] → number_of number ≡ Some frames → play_of before frames ≡ Some p → IsActionFound clients before ws p
 play_found clients before ws number frames p are value e =
     let test = cond_some (nat_le (frames_played before + frames) 4194304) (Play frames) p e in
     let found : IsActionFound clients before ws (Play frames) = record {
-        spelled = record { number = number; is_number = record { value = value }; are = are };
-        body = body_play clients before frames (leb-true (frames_played before + frames) 4194304 test.0)
-      } in
+      spelled = record { number = number; is_number = record { value = value }; are = are };
+      body = body_play clients before frames (leb-true (frames_played before + frames) 4194304 test.0);
+    } in
     subst (λ (p : Phase). IsActionFound clients before ws p) test.1 found
 
 action_case : (clients : List ClientLine) (before : List Phase) (ws : List (List ℕ)) (actor action number : List ℕ) (frames : ℕ) (p : Phase) (b : Bool) → (bytes_eq actor (codes "card") && bytes_eq action (codes "play")) ≡ b → ws ≡ actor ∷ action ∷ number ∷ [] → number_of number ≡ Some frames → cond b (play_of before frames) (write_line clients before actor action frames) ≡ Some p → IsActionFound clients before ws p

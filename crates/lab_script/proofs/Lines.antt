@@ -1,11 +1,11 @@
 -- What cutting a text into lines and words tells, and the way back.
-use Rattle.std.proofs.Common.{◌≡◌, ℕ, zero, suc, ◌+◌, ◌<◌, ◌≤◌, Bool, true, false, not, ◌&&◌, List, [], ◌∷◌, ◌++◌, length, take, drop, get_or, refl, sym, ap, subst, append_assoc, ◌∙◌, arith, cond, ltb, Option, Some, None, option_map, All, Result, Ok, Err}
-use Rattle.std.specs.List.{slice_split, position, position_or_len, list_all, join_with_byte}
-use Rattle.std.proofs.lemmas.Bool.{eqb-true, lt-ltb, false≢true}
+use Rattle.std.proofs.Common.{◌≡◌, ℕ, zero, suc, ◌+◌, ◌<◌, Bool, true, false, not, ◌&&◌, List, [], ◌∷◌, ◌++◌, length, take, drop, get_or, refl, sym, ap, subst, append_assoc, ◌∙◌, arith, cond, ltb, Option, Some, None, option_map, Result, Ok, Err}
+use Rattle.std.specs.List.{position, position_or_len, list_all, join_with_byte}
+use Rattle.std.proofs.lemmas.Bool.{eqb-true, lt-ltb}
 use Rattle.std.proofs.lemmas.Bool.Decides.{nat_tests}
-use Rattle.std.proofs.lemmas.List.{get_or_append_left, length-append, append-nil}
+use Rattle.std.proofs.lemmas.List.{get_or_append_left, length-append}
 use Rattle.std.proofs.Math.Seq.{take-append_seam, drop-append-add, get_or-append_seam}
-use Rattle.std.proofs.lemmas.List.Splits.{slice_split_at, slice_split_none, length-slice_split, join_with_byte-slice_split}
+use Rattle.std.proofs.lemmas.List.Splits.{slice_split_at, slice_split_none, join_with_byte-slice_split}
 use Rattle.std.proofs.lemmas.List.Quantifiers.{position-Some}
 use Rattle.std.proofs.lemmas.List.Sums.{split_at_first, position_or_len_is}
 use Rattle.std.proofs.lemmas.List.Folds.{list_all-append}
@@ -109,8 +109,8 @@ cut_again l rest e =
     let text = l ++ 10 ∷ rest in
     let long : length text ≡ length l + (length rest + 1) = omega (arith, length-append l (10 ∷ rest)) in
     let place : position_or_len is_feed text ≡ length l = position_or_len_is is_feed text (length l) 0 (omega arith)
-        (λ k h. ap is_feed (get_or_append_left l (10 ∷ rest) 0 k h) ∙ all_tell is_unfed is_feed unfed l e k 0 h)
-        (λ h. ap is_feed (get_or-append_seam l 10 rest 0)) in
+    (λ k h. ap is_feed (get_or_append_left l (10 ∷ rest) 0 k h) ∙ all_tell is_unfed is_feed unfed l e k 0 h)
+    (λ h. ap is_feed (get_or-append_seam l 10 rest 0)) in
     let inside : ltb (length l) (length text) ≡ true = lt-ltb (length l) (length text) (omega arith) in
     let found : position is_feed text ≡ Some (length l) = ap (λ q. cond (ltb q (length text)) (Some q) None) place ∙ ap (λ b. cond b (Some (length l)) None) inside in
     ap (option_map (λ i. (take i text, drop (i + 1) text))) found ∙ ap (λ x. Some (x, drop (length l + 1) text)) (take-append_seam l (10 ∷ rest)) ∙ ap (λ x. Some (l, x)) (drop-append-add l (10 ∷ rest) 1)
@@ -136,7 +136,7 @@ line_cut reader n text x rest (Some cut) c e =
       words = words_of cut.0;
       says = known_ok n (reader (words_of cut.0)) said.0 said.1 ∙ ap Some what;
       text_is = line_whole text cut.0 cut.1 c ∙ ap (λ (r : Rest). line (words_of cut.0) ++ r.text) same;
-      number_is = ap (λ (r : Rest). r.number) (sym same)
+      number_is = ap (λ (r : Rest). r.number) (sym same);
     }
 
 pub line_found : {X : Type 0} (reader : List (List ℕ) → Option X) (n : ℕ) (text : List ℕ) (x : X) (rest : Rest) → line_by reader (at n text) ≡ Ok (x, rest) → IsLineBy reader n text x rest

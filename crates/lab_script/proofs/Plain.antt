@@ -1,12 +1,12 @@
 -- Words have no space and no line feed.
-use Rattle.std.proofs.Common.{◌≡◌, ℕ, ◌≤◌, Bool, true, false, not, ◌&&◌, ◌||◌, List, [], ◌∷◌, length, refl, sym, ◌∙◌, arith, Option, Some, None, nat_le}
+use Rattle.std.proofs.Common.{◌≡◌, ℕ, true, ◌&&◌, List, length, ◌∙◌, arith, Some, nat_le}
 use Rattle.std.specs.List.{list_all}
 use Rattle.std.specs.Str.{all_ascii_digits}
 use Rattle.std.specs.Char.{is_ascii_digit}
 use Rattle.std.specs.Str.Parse.{digits_value}
 use Rattle.std.proofs.lemmas.Bool.Decides.{nat_tests}
 use Rattle.std.proofs.lemmas.Option.{cond_some}
-use Rattle.lab_script.specs.Word.{number_of, is_name, is_name_byte, is_file, is_file_byte, begins_lower, is_reserved}
+use Rattle.lab_script.specs.Word.{number_of, is_name, is_name_byte, is_file, is_file_byte}
 use Rattle.lab_script.proofs.Words.{both, all_digits}
 use Rattle.lab_script.proofs.Lines.{is_plain, all_more}
 

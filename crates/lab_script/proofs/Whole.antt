@@ -1,6 +1,6 @@
 -- What is read of a whole text.
-use Rattle.std.proofs.Common.{◌≡◌, ◌≢◌, ℕ, zero, suc, ◌+◌, ◌<◌, ◌≤◌, Bool, true, false, cond, List, [], ◌∷◌, ◌++◌, length, get_or, map, codes, refl, sym, ap, subst, append_assoc, ◌∙◌, arith, Option, Some, None, All, AllPairs, Result, Ok, Err, eqb, bytes_eq}
-use Rattle.std.specs.List.{flat_map, list_any}
+use Rattle.std.proofs.Common.{◌≡◌, ◌≢◌, ℕ, zero, suc, ◌+◌, ◌≤◌, Bool, true, false, List, [], ◌∷◌, ◌++◌, length, get_or, map, codes, refl, sym, ap, subst, append_assoc, ◌∙◌, arith, Option, Some, None, All, AllPairs, Result, Ok, Err}
+use Rattle.std.specs.List.{flat_map}
 use Rattle.std.proofs.lemmas.Bool.{false≢true}
 use Rattle.std.proofs.lemmas.Slice.Eq.{bytes_eq-Decides}
 use Rattle.std.proofs.lemmas.List.{append-nil}
@@ -8,17 +8,16 @@ use Rattle.std.proofs.lemmas.Grind.{flat_map-append}
 use Rattle.std.proofs.lemmas.List.Elements.{All-nil, All-push}
 use Rattle.std.proofs.lemmas.List.Quantifiers.{all_pairs_push}
 use Rattle.lab_script.specs.declared.error.ScriptError.{ScriptError}
-use Rattle.lab_script.specs.declared.script.CardLine.{CardLine}
 use Rattle.lab_script.specs.declared.script.ClientLine.{ClientLine}
 use Rattle.lab_script.specs.declared.script.Phase.{Phase}
 use Rattle.lab_script.specs.declared.script.Script.{Script}
-use Rattle.lab_script.specs.Script.{IsScript, IsPhase, AreOfTwo, frames_played}
+use Rattle.lab_script.specs.Script.{IsPhase}
 use Rattle.lab_script.specs.Word.{is_name, is_file, cut_line, words_of}
 use Rattle.lab_script.specs.Grammar.{card_of, is_named, client_of, client_line, where_some, clients_of, open_of, alone, action_of}
-use Rattle.lab_script.specs.Spelling.{line, client_words, open_words, SpellsAction, SpellsActions, phase_lines, lines_of, Spells}
-use Rattle.lab_script.specs.Reading.{Rest, at, line_by, opens_of, phase_of, phases_of, is_end, whole, ◌>>=◌}
+use Rattle.lab_script.specs.Spelling.{line, client_words, open_words, SpellsActions, phase_lines, lines_of, Spells}
+use Rattle.lab_script.specs.Reading.{Rest, at, line_by, opens_of, phase_of, phases_of, is_end, whole}
 use Rattle.lab_script.proofs.Lines.{ok_bind, ok_in, some_in, line_whole, line_found}
-use Rattle.lab_script.proofs.Steps.{phases_end, phases_step, phases_past, clients_none}
+use Rattle.lab_script.proofs.Steps.{phases_end, phases_step, phases_past}
 use Rattle.lab_script.proofs.Found.{some_bind, none_pass, IsClientFound, client_found, open_found, alone_found, IsBody, IsActionFound, action_found, card_found}
 
 -- what is kept of clients
@@ -29,20 +28,20 @@ pub record IsClients (clients : List ClientLine) : Type 0 where
 
 pub no_clients : IsClients []
 no_clients = record {
-    names = All-nil (λ (client : ClientLine). is_name client.name ≡ true);
-    files = All-nil (λ (client : ClientLine). is_file client.file ≡ true);
-    distinct = λ i j d less below. absurd (omega arith)
-  }
+  names = All-nil (λ (client : ClientLine). is_name client.name ≡ true);
+  files = All-nil (λ (client : ClientLine). is_file client.file ≡ true);
+  distinct = λ i j d less below. absurd (omega arith);
+}
 
 other_name : (client : ClientLine) (name : List ℕ) → is_named name client ≡ false → client.name ≢ name
 other_name client name e = λ same. absurd (false≢true (sym e ∙ (bytes_eq-Decides client.name name).1 same))
 
 pub clients_push : (before : List ClientLine) (ws : List (List ℕ)) (client : ClientLine) → IsClientFound before ws client → IsClients before → IsClients (before ++ client ∷ [])
 clients_push before ws client f ok = record {
-    names = All-push (λ (client : ClientLine). is_name client.name ≡ true) before client ok.names f.name;
-    files = All-push (λ (client : ClientLine). is_file client.file ≡ true) before client ok.files f.file;
-    distinct = all_pairs_push (λ (a : ClientLine) (b : ClientLine). a.name ≢ b.name) before client ok.distinct (λ k d below. other_name (get_or before k d) client.name (none_pass (is_named client.name) before f.fresh k d below))
-  }
+  names = All-push (λ (client : ClientLine). is_name client.name ≡ true) before client ok.names f.name;
+  files = All-push (λ (client : ClientLine). is_file client.file ≡ true) before client ok.files f.file;
+  distinct = all_pairs_push (λ (a : ClientLine) (b : ClientLine). a.name ≢ b.name) before client ok.distinct (λ k d below. other_name (get_or before k d) client.name (none_pass (is_named client.name) before f.fresh k d below));
+}
 
 -- the clients found behind others
 pub record IsClientsFound (more : ℕ) (before : List ClientLine) (text : List ℕ) (found : List ClientLine × List ℕ) : Type 0 where
@@ -57,12 +56,12 @@ no_more more before text ok = record { new = []; are = sym (append-nil before); 
 
 one_more : (more : ℕ) (before : List ClientLine) (text : List ℕ) (client : ClientLine × List ℕ) (found : List ClientLine × List ℕ) → text ≡ line (client_words client.0) ++ client.1 → IsClientsFound more (before ++ client.0 ∷ []) client.1 found → IsClientsFound (suc more) before text found
 one_more more before text client found e f = record {
-    new = client.0 ∷ f.new;
-    are = f.are ∙ append_assoc before (client.0 ∷ []) f.new;
-    count = omega (arith, f.count);
-    text_is = e ∙ (ap (λ t. line (client_words client.0) ++ t) f.text_is ∙ sym (append_assoc (line (client_words client.0)) (flat_map line (map client_words f.new)) found.1));
-    ok = f.ok
-  }
+  new = client.0 ∷ f.new;
+  are = f.are ∙ append_assoc before (client.0 ∷ []) f.new;
+  count = omega (arith, f.count);
+  text_is = e ∙ (ap (λ t. line (client_words client.0) ++ t) f.text_is ∙ sym (append_assoc (line (client_words client.0)) (flat_map line (map client_words f.new)) found.1));
+  ok = f.ok;
+}
 
 record IsClientLine (before : List ClientLine) (text : List ℕ) (client : ClientLine × List ℕ) : Type 0 where
   words : List (List ℕ)
@@ -78,10 +77,10 @@ client_line_found before text client e =
     let whole = line_whole text cut.0.0 cut.0.1 cut.1 in
     let f = client_found before (words_of cut.0.0) said.0 said.1 in
     let here : IsClientLine before text (said.0, cut.0.1) = record {
-        words = words_of cut.0.0;
-        found = f;
-        text_is = whole ∙ ap (λ ws. line ws ++ cut.0.1) f.are
-      } in
+      words = words_of cut.0.0;
+      found = f;
+      text_is = whole ∙ ap (λ ws. line ws ++ cut.0.1) f.are;
+    } in
     subst (λ (c : ClientLine × List ℕ). IsClientLine before text c) same here
 
 clients_case : (more : ℕ) (before : List ClientLine) (text : List ℕ) (o : Option (ClientLine × List ℕ)) → client_line before text ≡ o → IsClients before → ((cs : List ClientLine) (t : List ℕ) → IsClients cs → IsClientsFound more cs t (clients_of more cs t)) → IsClientsFound (suc more) before text (where_some o (λ client. clients_of more (before ++ client.0 ∷ []) client.1) (before, text))
@@ -125,10 +124,10 @@ phase_found clients before n text p e =
     let act_is : opened.0.1.text ≡ line l2.words ++ (line (codes "end" ∷ []) ++ rest) = l2.text_is ∙ ap (λ t. line l2.words ++ t) end_is in
     let all_is : text ≡ line (codes "phase" ∷ []) ++ (line l2.words ++ (line (codes "end" ∷ []) ++ rest)) = l1.text_is ∙ (ap (λ ws. line ws ++ opened.0.1.text) (alone_found (codes "phase") l1.words opened.0.0 l1.says) ∙ ap (λ t. line (codes "phase" ∷ []) ++ t) act_is) in
     let here : IsPhaseFound clients before text (acted.0.0, ended.0.1) = record {
-        action = l2.words;
-        found = action_found clients before l2.words acted.0.0 l2.says;
-        text_is = all_is ∙ simp append_assoc
-      } in
+      action = l2.words;
+      found = action_found clients before l2.words acted.0.0 l2.says;
+      text_is = all_is ∙ simp append_assoc;
+    } in
     subst (λ (q : Phase × Rest). IsPhaseFound clients before text q) same here
 
 -- the phases, found behind others
@@ -146,10 +145,10 @@ not_both h = cc
 
 pub no_phases : (clients : List ClientLine) → IsBody clients []
 no_phases clients = record {
-    each = All-nil (IsPhase (length clients));
-    once = λ i j d less below. absurd (omega arith);
-    frames = omega arith
-  }
+  each = All-nil (IsPhase (length clients));
+  once = λ i j d less below. absurd (omega arith);
+  frames = omega arith;
+}
 
 ended : (more : ℕ) (clients : List ClientLine) (before : List Phase) (text : List ℕ) (all : List Phase) → IsBody clients before → is_end text ≡ true → before ≡ all → IsPhasesFound more clients before text all
 ended more clients before [] all body e same = record { new = []; actions = []; are = sym same ∙ sym (append-nil before); count = omega arith; spelled = tt; text_is = refl; body = subst (λ (ps : List Phase). IsBody clients ps) same body }
@@ -157,14 +156,14 @@ ended more clients before (b ∷ text) all body e same = absurd (false≢true e)
 
 one_phase : (more : ℕ) (clients : List ClientLine) (before : List Phase) (text : List ℕ) (p : Phase × Rest) (all : List Phase) → IsPhaseFound clients before text p → IsPhasesFound more clients (before ++ p.0 ∷ []) p.1.text all → IsPhasesFound (suc more) clients before text all
 one_phase more clients before text p all f g = record {
-    new = p.0 ∷ g.new;
-    actions = f.action ∷ g.actions;
-    are = g.are ∙ append_assoc before (p.0 ∷ []) g.new;
-    count = omega (arith, g.count);
-    spelled = (f.found.spelled, g.spelled);
-    text_is = f.text_is ∙ (ap (λ t. flat_map line (phase_lines f.action) ++ t) g.text_is ∙ sym (flat_map-append line (phase_lines f.action) (flat_map phase_lines g.actions)));
-    body = g.body
-  }
+  new = p.0 ∷ g.new;
+  actions = f.action ∷ g.actions;
+  are = g.are ∙ append_assoc before (p.0 ∷ []) g.new;
+  count = omega (arith, g.count);
+  spelled = (f.found.spelled, g.spelled);
+  text_is = f.text_is ∙ (ap (λ t. flat_map line (phase_lines f.action) ++ t) g.text_is ∙ sym (flat_map-append line (phase_lines f.action) (flat_map phase_lines g.actions)));
+  body = g.body;
+}
 
 phases_case : (more : ℕ) (clients : List ClientLine) (before : List Phase) (n : ℕ) (text : List ℕ) (all : List Phase) (b : Bool) → is_end text ≡ b → IsBody clients before → phases_of (suc more) clients before (at n text) ≡ Ok all → ((ps : List Phase) (m : ℕ) (t : List ℕ) → IsBody clients ps → phases_of more clients ps (at m t) ≡ Ok all → IsPhasesFound more clients ps t all) → IsPhasesFound (suc more) clients before text all
 phases_case more clients before n text all true b body e again =
@@ -205,21 +204,21 @@ whole_found text s e =
     let o = opens_found clients.0 first.number clients.1 opened.0 opened.1 in
     let p = phases_found 4096 clients.0 [] opened.0.number opened.0.text phases.0 (no_phases clients.0) phases.1 in
     let here : Spells text (record { card = card.0.0; clients = clients.0; phases = phases.0 }) = record {
-        valid = record {
-          card = c.1;
-          clients = omega (arith, f.count, ap length f.are);
-          distinct = f.ok.distinct;
-          phases = omega (arith, p.count, ap length p.are);
-          each = p.body.each;
-          once = p.body.once;
-          frames = p.body.frames
-        };
-        names = f.ok.names;
-        files = f.ok.files;
-        card = l.words;
-        actions = p.actions;
-        is_card = c.0;
-        are_actions = subst (λ (ps : List Phase). SpellsActions clients.0 p.actions ps) (sym p.are) p.spelled;
-        is_text = spelled text l.words card.0.1.text clients.0 clients.1 opened.0.text p.actions l.text_is (f.text_is ∙ ap (λ cs. flat_map line (map client_words cs) ++ clients.1) (sym f.are)) o p.text_is
-      } in
+      valid = record {
+        card = c.1;
+        clients = omega (arith, f.count, ap length f.are);
+        distinct = f.ok.distinct;
+        phases = omega (arith, p.count, ap length p.are);
+        each = p.body.each;
+        once = p.body.once;
+        frames = p.body.frames;
+      };
+      names = f.ok.names;
+      files = f.ok.files;
+      card = l.words;
+      actions = p.actions;
+      is_card = c.0;
+      are_actions = subst (λ (ps : List Phase). SpellsActions clients.0 p.actions ps) (sym p.are) p.spelled;
+      is_text = spelled text l.words card.0.1.text clients.0 clients.1 opened.0.text p.actions l.text_is (f.text_is ∙ ap (λ cs. flat_map line (map client_words cs) ++ clients.1) (sym f.are)) o p.text_is;
+    } in
     subst (λ (s : Script). Spells text s) same here

@@ -1,6 +1,6 @@
 -- Lines, words and digits.
-use Rattle.std.proofs.Common.{◌≡◌, ℕ, ◌+◌, ◌-◌, ◌*◌, ◌^◌, ◌<◌, ◌≤◌, Bool, true, false, List, [], ◌∷◌, length, take, drop, get_or, refl, sym, ap, ◌∙◌, arith, rules, cond, ltb, Option, Some, None, option_map, ◌&&◌, zero, suc, IsAscii}
-use Rattle.std.specs.List.{slice_split, position, position_or_len, list_all, before_first, after_first}
+use Rattle.std.proofs.Common.{◌≡◌, ℕ, ◌+◌, ◌-◌, ◌*◌, ◌^◌, ◌<◌, ◌≤◌, Bool, true, false, List, [], ◌∷◌, length, take, drop, get_or, refl, ap, ◌∙◌, arith, Some, None, option_map, ◌&&◌, zero, suc, IsAscii}
+use Rattle.std.specs.List.{slice_split, position, position_or_len, list_all}
 use Rattle.std.specs.Str.{all_ascii_digits}
 use Rattle.std.specs.Char.{is_ascii_digit}
 use Rattle.std.specs.Str.Parse.{digits_value}
@@ -12,7 +12,6 @@ use Rattle.std.proofs.lemmas.Int.Digits.{digits_value_more}
 use Rattle.std.proofs.lemmas.List.{take_all, length-drop}
 use Rattle.lab_script.specs.Grammar.{one_of, two_of, three_of, first_of}
 use Rattle.std.proofs.lemmas.List.Splits.{length-slice_split, slice_split_first, slice_split_none}
-use Rattle.std.proofs.lemmas.List.Quantifiers.{position-Some}
 use Rattle.std.proofs.lemmas.Bool.Decides.{nat_tests}
 use Rattle.std.proofs.lemmas.Option.{cond_some}
 use Rattle.std.proofs.lemmas.List.Sums.{fails_before_first}
@@ -63,7 +62,7 @@ digit_more ds i e h n =
       low = omega (arith, r);
       high = omega (arith, r);
       step = omega (arith, more, v);
-      bound = omega (arith, digits_value-take-le 10 ds (i + 1) (omega arith), digits_value_short own ds 19 e n)
+      bound = omega (arith, digits_value-take-le 10 ds (i + 1) (omega arith), digits_value_short own ds 19 e n);
     }
 
 -- a line has a word

@@ -63,7 +63,11 @@ fn last_keyed(key: &[u8], line: &[u8]) -> Option<u64>
     ensures { result ≡ last_keyed key.now (words_of line.now) }
 {
     let (first, number) = two_words(line)?;
-    if first == key { read_number(number) } else { None }
+    if first == key {
+        read_number(number)
+    } else {
+        None
+    }
 }
 
 /// Whether the card's numbers are in their ranges, and its period divides its ring at least twice.

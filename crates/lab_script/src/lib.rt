@@ -16,6 +16,5 @@ pub use name::{FileName, Name};
 pub use reader::read_script;
 pub use script::{CardLine, ClientLine, Clients, Phase, Phases, Script};
 
-
 #[cfg(test)]
 mod tests;

@@ -56,11 +56,7 @@ fn card_line(text: &[u8]) -> Result<(CardLine, &[u8]), ScriptError>
 
 /// The line that opens a client, and what stands behind it.
 #[tactic(auto, unfolding(crate::specs::Reading::line_by))]
-fn open_line<'a>(
-    number: u32,
-    client: &ClientLine,
-    text: &'a [u8],
-) -> Result<&'a [u8], ScriptError>
+fn open_line<'a>(number: u32, client: &ClientLine, text: &'a [u8]) -> Result<&'a [u8], ScriptError>
     ensures { Gives (λ r. (tt, at (number + 1) r.now)) result
         (line_by (open_of client.now.name) (at number text.now)) }
 {

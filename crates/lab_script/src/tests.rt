@@ -34,7 +34,8 @@ fn with_clients(alloc: Global, count: u32) -> Result<String, AllocError> {
 
 #[test]
 fn reads_each_field(rt: HostRuntime) -> Result<(), Fail> {
-    let text = b"card channels 01 rate 44100 period 064 ring 256\nclient a x.wav\nclient b_2 dir/y.wav\nopen a\nopen b_2\nphase\nb_2 write 0064\nend\nphase\ncard play 4194304\nend\n";
+    let text =
+        b"card channels 01 rate 44100 period 064 ring 256\nclient a x.wav\nclient b_2 dir/y.wav\nopen a\nopen b_2\nphase\nb_2 write 0064\nend\nphase\ncard play 4194304\nend\n";
     let script = read_script(rt.alloc(), text)
         .ok()
         .ok_or("the text is a script")?;
@@ -82,7 +83,11 @@ fn refuses_the_card(rt: HostRuntime) {
         "card rate 48000 channels 1 period 16 ring 64\n",
         "client a f\n",
     ] {
-        assert_eq!(rt; refusal(rt.alloc(), text.as_bytes()), Some((1, ScriptWhy::NotYet)), "at {text}");
+        assert_eq!(rt;
+            refusal(rt.alloc(), text.as_bytes()),
+            Some((1, ScriptWhy::NotYet)),
+            "at {text}"
+        );
     }
     let longest = b"card channels 1 rate 0000000000000048000 period 16 ring 64\n";
     assert_eq!(rt; refusal(rt.alloc(), longest), None);
@@ -104,12 +109,22 @@ fn refuses_later_lines(rt: HostRuntime) -> Result<(), Fail> {
         ("phase\nend\n", 3),
         ("phase\nz write 1\nend\n", 3),
         ("phase\ncard play 1\nend", 4),
-        ("phase\ncard play 4194304\nend\nphase\ncard play 1\nend\n", 6),
+        (
+            "phase\ncard play 4194304\nend\nphase\ncard play 1\nend\n",
+            6,
+        ),
         ("client a f\nopen a\nphase\na write 4194305\nend\n", 5),
-        ("client a f\nopen a\nphase\na write 1\nend\nphase\na write 1\nend\n", 8),
+        (
+            "client a f\nopen a\nphase\na write 1\nend\nphase\na write 1\nend\n",
+            8,
+        ),
     ] {
         let all = format!(in rt.alloc(); "{CARD}{text}")?;
-        assert_eq!(rt; refusal(rt.alloc(), all.as_bytes()), Some((line, ScriptWhy::NotYet)), "at {text}");
+        assert_eq!(rt;
+            refusal(rt.alloc(), all.as_bytes()),
+            Some((line, ScriptWhy::NotYet)),
+            "at {text}"
+        );
     }
     Ok(())
 }
@@ -117,14 +132,23 @@ fn refuses_later_lines(rt: HostRuntime) -> Result<(), Fail> {
 #[test]
 fn keeps_the_limits(rt: HostRuntime) -> Result<(), Fail> {
     let clients = with_clients(rt.alloc(), 65)?;
-    assert_eq!(rt; refusal(rt.alloc(), clients.as_bytes()), Some((66, ScriptWhy::NotYet)));
+    assert_eq!(rt;
+        refusal(rt.alloc(), clients.as_bytes()),
+        Some((66, ScriptWhy::NotYet))
+    );
     let phase = "phase\ncard play 1\nend\n";
     let most = repeated(rt.alloc(), phase, 4096)?;
     assert_eq!(rt; refusal(rt.alloc(), most.as_bytes()), None);
     let more = repeated(rt.alloc(), phase, 4097)?;
-    assert_eq!(rt; refusal(rt.alloc(), more.as_bytes()), Some((12290, ScriptWhy::NotYet)));
+    assert_eq!(rt;
+        refusal(rt.alloc(), more.as_bytes()),
+        Some((12290, ScriptWhy::NotYet))
+    );
     let long = repeated(rt.alloc(), "0123456789abcdef", 65534)?;
-    assert_eq!(rt; refusal(rt.alloc(), long.as_bytes()), Some((0, ScriptWhy::TooLong)));
+    assert_eq!(rt;
+        refusal(rt.alloc(), long.as_bytes()),
+        Some((0, ScriptWhy::TooLong))
+    );
     Ok(())
 }
 
@@ -134,6 +158,9 @@ fn prints_a_refusal(rt: HostRuntime) -> Result<(), Fail> {
         line: 7,
         why: ScriptWhy::BindingRange(3),
     };
-    assert_eq!(rt; format!(in rt.alloc(); "{error}")?.as_str(), "line 7: BindingRange 3");
+    assert_eq!(rt;
+        format!(in rt.alloc(); "{error}")?.as_str(),
+        "line 7: BindingRange 3"
+    );
     Ok(())
 }

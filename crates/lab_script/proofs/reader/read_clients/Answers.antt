@@ -14,7 +14,7 @@ loop-preserved c =
     let more : client_line c.loop.clients.items c.loop.rest.now ≡ Some (c.in-Some.client, c.in-Some.behind.now) = sym (rw (c.as_slice.ensures.value, c.in-Some.is) at c.in_ok-client.ensures) in
     record {
       count = omega (arith, ap length c.in_ok-push-in-Some.ensures.items, length_push c.loop.clients.items c.in-Some.client);
-      told = rw c.in_ok-push-in-Some.ensures.items (sym (clients_more (64 - c.loop.counter) (64 - (c.loop.counter + 1)) c.loop.clients.items c.loop.rest.now c.in-Some.client c.in-Some.behind.now (omega arith) more) ∙ c.loop.invariant.told)
+      told = rw c.in_ok-push-in-Some.ensures.items (sym (clients_more (64 - c.loop.counter) (64 - (c.loop.counter + 1)) c.loop.clients.items c.loop.rest.now c.in-Some.client c.in-Some.behind.now (omega arith) more) ∙ c.loop.invariant.told);
     }
 
 pub returns-clause-value : goal.returns-clause-value

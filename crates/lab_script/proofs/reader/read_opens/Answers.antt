@@ -12,9 +12,9 @@ returns-in_err-rest c =
 
 pub loop-client-preserved : goal.loop-client-preserved
 loop-client-preserved c = record {
-    line = omega arith;
-    told = sym (opens_more c.args.clients.now c.loop-client.client-index c.client-item.result (at c.loop-client.line c.loop-client.rest.now) (at (c.loop-client.line + 1) c.in_ok-rest.rest.now) c.loop-client-test.true c.client-item.is c.in_ok-rest.ensures) ∙ c.loop-client.invariant.told
-  }
+  line = omega arith;
+  told = sym (opens_more c.args.clients.now c.loop-client.client-index c.client-item.result (at c.loop-client.line c.loop-client.rest.now) (at (c.loop-client.line + 1) c.in_ok-rest.rest.now) c.loop-client-test.true c.client-item.is c.in_ok-rest.ensures) ∙ c.loop-client.invariant.told;
+}
 
 pub returns : goal.returns
 returns c =

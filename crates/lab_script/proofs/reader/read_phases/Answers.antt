@@ -22,7 +22,7 @@ loop-preserved c =
     record {
       done = c.in_ok-push.ensures.done;
       line = omega arith;
-      told = rw c.in_ok-push.ensures.more (sym (phases_more (4096 - c.loop.counter) (4096 - (c.loop.counter + 1)) c.args.clients.now c.loop.done.phases.items c.loop.line c.loop.rest.now c.in_ok-next.next (at (c.loop.line + 3) c.in_ok-next.behind.now) (omega arith) goes c.in_ok-next.ensures.value) ∙ c.loop.invariant.told)
+      told = rw c.in_ok-push.ensures.more (sym (phases_more (4096 - c.loop.counter) (4096 - (c.loop.counter + 1)) c.args.clients.now c.loop.done.phases.items c.loop.line c.loop.rest.now c.in_ok-next.next (at (c.loop.line + 3) c.in_ok-next.behind.now) (omega arith) goes c.in_ok-next.ensures.value) ∙ c.loop.invariant.told);
     }
 
 pub returns-then-at_end-2 : goal.returns-then-at_end-2

@@ -1,6 +1,6 @@
 use Rattle.std.proofs.Common.{◌≡◌, None, refl, sym}
 use Rattle.std.specs.List.{position}
-use Rattle.lab_script.specs.Word.{cut_line, is_feed}
+use Rattle.lab_script.specs.Word.{is_feed}
 use Rattle.lab_script.proofs.Words.{cut-at}
 use Rattle.lab_script.proofs.word.cut_line.Goals as goal
 

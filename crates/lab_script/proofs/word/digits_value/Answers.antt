@@ -1,5 +1,5 @@
-use Rattle.std.proofs.Common.{rules, ◌≡◌, ℕ, arith}
-use Rattle.lab_script.proofs.Words.{IsDigitMore, digit_more}
+use Rattle.std.proofs.Common.{arith}
+use Rattle.lab_script.proofs.Words.{digit_more}
 use Rattle.lab_script.proofs.word.digits_value.Goals as goal
 
 pub overflow_mul-value : goal.overflow_mul-value
