@@ -1,1 +1,6 @@
 pub mod Script
+pub mod Word
+pub mod Grammar
+pub mod Reading
+pub mod Spelling
+pub mod Written

@@ -2,11 +2,19 @@
 #![tactic(auto)]
 
 mod error;
+mod grammar;
 mod line;
 mod name;
+mod phases;
+mod reader;
 mod script;
+mod word;
 
 pub use error::{ScriptError, ScriptWhy};
 pub use line::{Actor, Op};
 pub use name::{FileName, Name};
+pub use reader::read_script;
 pub use script::{CardLine, ClientLine, Clients, Phase, Phases, Script};
+
+#[cfg(test)]
+mod tests;

@@ -1,0 +1,9 @@
+use Rattle.std.proofs.Common.{◌≡◌, ◌+◌, drop}
+use Rattle.lab_script.specs.Reading.{at, opens_of}
+use Rattle.lab_script.proofs.reader.read_opens.Given as goal
+
+abbrev pub invariant-loop-client : goal.invariant-loop-client
+invariant-loop-client l = record {
+  line : l.line ≡ l.number + l.client-index;
+  told : opens_of (drop l.client-index l.clients) (at l.line l.rest) ≡ opens_of l.clients (at l.number l.text);
+}

@@ -1,0 +1,8 @@
+use Rattle.lab_script.proofs.Answer.{read_found, read_only}
+use Rattle.lab_script.proofs.reader.read_script.Goals as goal
+
+pub returns-clause-found : goal.returns-clause-found
+returns-clause-found c = read_found c.read_any.result c.args.text.now c.read_any.ensures.exact
+
+pub returns-clause-only : goal.returns-clause-only
+returns-clause-only c = read_only c.read_any.result c.args.text.now c.read_any.ensures.exact
