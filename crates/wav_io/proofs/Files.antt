@@ -1,5 +1,5 @@
 -- A file is written as it is read.
-use Rattle.std.proofs.Common.{◌≡◌, ℕ, ◌+◌, ◌*◌, ◌/◌, ◌-◌, ◌%◌, ◌^◌, ◌<◌, ◌≤◌, Bool, true, false, cond, ◌&&◌, List, ◌++◌, length, take, drop, ℤ, Result, Ok, Err, refl, sym, ap, subst, ◌∙◌, arith, inl, inr, eqb, leb, ltb}
+use Rattle.std.proofs.Common.{◌≡◌, ℕ, ◌+◌, ◌*◌, ◌/◌, ◌-◌, ◌%◌, ◌^◌, ◌<◌, ◌≤◌, Bool, true, ◌&&◌, List, ◌++◌, length, take, drop, ℤ, Result, Ok, Err, refl, sym, ap, subst, ◌∙◌, arith, inl, inr, leb}
 use Rattle.std.specs.Prelude.{IfOk, FitsSigned}
 use Rattle.std.specs.List.{flat_map}
 use Rattle.std.specs.Int.{w16, w32}
@@ -11,7 +11,7 @@ use Rattle.std.proofs.lemmas.List.{take-append-drop, length-append, length-drop,
 use Rattle.std.proofs.lemmas.List.Elements.{All-from_recursion, recursion_from_All}
 use Rattle.std.proofs.lemmas.Slice.Eq.{bytes_eq-Decides}
 use Rattle.wav_io.specs.declared.error.WavError.{WavError}
-use Rattle.wav_io.specs.declared.error.WavError.TheVariants.{NotYet, Memory}
+use Rattle.wav_io.specs.declared.error.WavError.TheVariants.{NotYet}
 use Rattle.wav_io.specs.Sound.{Sound, IsSound}
 use Rattle.wav_io.specs.Canonical.{head, sample_bytes, canonical, HasFile}
 use Rattle.wav_io.specs.Reading.{number_at, samples_of, shown, passes, canonical_wav, most_bytes, Reads, HasTerms, HasHead, IsWritten}

@@ -3,9 +3,9 @@ use Rattle.std.specs.Prelude.{◌≡◌, ℕ, ◌+◌, ◌^◌, ◌<◌, ◌≤�
 use Rattle.std.specs.Int.{Width, w16, w32, from_le_bytes, cast_signed}
 use Rattle.std.specs.Str.{bytes_eq}
 use Rattle.wav_io.specs.declared.error.WavError.{WavError}
-use Rattle.wav_io.specs.declared.error.WavError.TheVariants.{NotRiff, NotWave, NoFormat, FormatTwice, ShortFormat, Tag, Bits, Channels, RateZero, NoData, TooLong, NotYet, Memory}
+use Rattle.wav_io.specs.declared.error.WavError.TheVariants.{NotYet, Memory}
 use Rattle.wav_io.specs.Sound.{Sound, IsSound}
-use Rattle.wav_io.specs.Canonical.{head, canonical, HasFile}
+use Rattle.wav_io.specs.Canonical.{head, canonical}
 
 -- the error is the one that is given, but for want of memory
 abbrev pub IsRefusal : WavError → Result Sound WavError → Type 0

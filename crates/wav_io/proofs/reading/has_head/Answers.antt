@@ -2,7 +2,6 @@ use Rattle.std.proofs.Common.{◌∙◌, sym, arith}
 use Rattle.std.proofs.lemmas.Bool.{false≢true}
 use Rattle.std.proofs.lemmas.Bool.Decides.{Decides-eqb}
 use Rattle.std.proofs.lemmas.Slice.Eq.{slice_eq-Decides}
-use Rattle.wav_io.specs.Canonical.{head}
 use Rattle.wav_io.proofs.Files.{no_head, frames_of, head_from}
 use Rattle.wav_io.proofs.reading.has_head.Goals as goal
 
