@@ -1,4 +1,3 @@
-pub mod Commits
 pub mod Frames
 pub mod Laying
 pub mod Opening
