@@ -5,6 +5,5 @@ pub mod Phases
 pub mod Played
 pub mod Slots
 pub mod Steps
-pub mod Totals
 pub mod Turns
 pub mod Whole

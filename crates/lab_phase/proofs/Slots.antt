@@ -6,7 +6,7 @@ use Rattle.snd_base.specs.declared.places.Segment.{Segment}
 use Rattle.mix_core.specs.Laid.{total}
 use Rattle.wav_io.specs.Sound.{Sound}
 use Rattle.lab_phase.specs.Meaning.{entries_of, laid_by, numbered}
-use Rattle.lab_phase.proofs.Totals.{total-append}
+use Rattle.mix_core.specs.HistoryLaws.{total-append}
 
 -- a client's first segment adds what it laid to each total
 pub total-numbered-set : (wavs : List Sound) (first client : ℕ) (segments : List (Option Segment)) (segment : Segment) (f c : ℕ)

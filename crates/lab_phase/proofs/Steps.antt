@@ -1,7 +1,6 @@
 -- What a core that mixes the clients' segments mixes after a step of the card.
-use Rattle.std.proofs.Common.{◌≡◌, ◌≢◌, ℕ, zero-add, get_or, set, ◌<◌, ◌+◌, List, [], ◌∷◌, ◌++◌, refl, sym, ◌∙◌, ap, subst, arith, map, length}
-use Rattle.std.proofs.lemmas.List.{append-nil, get_or-set_other, get_or-set_same, map-append}
-use Rattle.std.proofs.lemmas.List.Elements.{filter_map-append}
+use Rattle.std.proofs.Common.{◌≡◌, ◌≢◌, ℕ, zero-add, get_or, set, ◌<◌, ◌+◌, List, [], ◌∷◌, ◌++◌, sym, ◌∙◌, ap, subst, arith, map, length}
+use Rattle.std.proofs.lemmas.List.{get_or-set_other, get_or-set_same, map-append}
 use Rattle.std.proofs.lemmas.Bool.Decides.{nat_tests}
 use Rattle.std.specs.Prelude.{ℤ, ◌+ℤ◌, Option, None, Some, nat_lt, if◌then◌else◌, slice_get, slice_index_or}
 use Rattle.std.specs.Option.{option_map_or}
@@ -14,7 +13,8 @@ use Rattle.mix_core.specs.declared.event.Event.TheVariants.{Publish, Take}
 use Rattle.mix_core.specs.declared.event.Reply.TheVariants.{Published, Took}
 use Rattle.mix_core.specs.declared.event.Taken.{Taken}
 use Rattle.mix_core.specs.Calls.{IsPublished, IsTaken}
-use Rattle.mix_core.specs.History.{Row, entry_of, laid_of, row_of, taken_of, taking_of}
+use Rattle.mix_core.specs.History.{Row, laid_of, row_of, taken_of}
+use Rattle.mix_core.specs.HistoryLaws.{laid_of-append_published, laid_of-append_rows, laid_of-append_took, taken_of-append_published, taken_of-append_rows, taken_of-append_took, total-append}
 use Rattle.mix_core.specs.Stands.{Stands}
 use Rattle.mix_core.specs.Turn.{KeepsRest}
 use Rattle.mix_core.specs.Laid.{total}
@@ -24,7 +24,6 @@ use Rattle.lab_phase.specs.Expansion.{expand, identity}
 use Rattle.lab_phase.specs.Meaning.{entries_of, laid_by, numbered}
 use Rattle.lab_phase.specs.Mixes.{Mixes, values_of}
 use Rattle.lab_phase.proofs.Slots.{total-numbered-set}
-use Rattle.lab_phase.proofs.Totals.{laid_of-append_rows, taken_of-append_rows, total-append}
 
 -- the next word behind a channel of a frame
 pub behind-channel : (g : Geometry) (next : Cursor) (f n channels : ℕ) → g.channels ≡ channels → n < channels
@@ -37,16 +36,12 @@ behind-channel g next f n channels same within is =
     here : ◌≡◌ {A = Cursor} (if nat_lt n channels then record { frame = f; channel = n } else record { frame = f + 1; channel = 0 }) (record { frame = f; channel = n })
     here = grind (arith, nat_tests)
 
--- a row that laid nothing, at a history's end
-laid_of-nothing : (h : List Row) (row : Row) → laid_of (row ∷ []) ≡ [] → laid_of (h ++ row ∷ []) ≡ laid_of h
-laid_of-nothing h row nothing = filter_map-append entry_of h (row ∷ []) ∙ ap (λ (es : List Entry). laid_of h ++ es) nothing ∙ append-nil (laid_of h)
-
 pub Mixes-taken : (v w : View) (t : Taken) (wavs : List Sound) (segments : List (Option Segment)) (played : List ℤ)
     → IsTaken v w t → Mixes v wavs segments played → Mixes w wavs segments (played ++ t.value ∷ [])
 Mixes-taken v w t wavs segments played step mixes = record {
   history = mixes.history ++ row ∷ [];
   stands = step.stands mixes.history mixes.stands;
-  totals = λ f c. ap (λ (es : List Entry). total es f c) (laid_of-nothing mixes.history row refl) ∙ mixes.totals f c;
+  totals = λ f c. ap (λ (es : List Entry). total es f c) (laid_of-append_took mixes.history t.frame t.channel t.value) ∙ mixes.totals f c;
   quiet = λ m d h none.
       ap (λ (cs : List Cursor). slice_index_or cs m d) step.cursors
       ∙ mixes.quiet m d (subst (λ (cs : List Cursor). m < length cs) step.cursors h) none
@@ -54,7 +49,7 @@ Mixes-taken v w t wavs segments played step mixes = record {
   taken =
       ap (λ (values : List ℤ). values ++ t.value ∷ []) mixes.taken
       ∙ sym (map-append (λ (x : Taken). x.value) (taken_of mixes.history) (t ∷ []))
-      ∙ sym (ap values_of (filter_map-append taking_of mixes.history (row ∷ [])));
+      ∙ sym (ap values_of (taken_of-append_took mixes.history t.frame t.channel t.value));
 }
   where
     row : Row
@@ -65,14 +60,14 @@ pub Mixes-published : (v w : View) (wavs : List Sound) (segments : List (Option 
 Mixes-published v w wavs segments played step mixes = record {
   history = mixes.history ++ row ∷ [];
   stands = step.stands mixes.history mixes.stands;
-  totals = λ f c. ap (λ (es : List Entry). total es f c) (laid_of-nothing mixes.history row refl) ∙ mixes.totals f c;
+  totals = λ f c. ap (λ (es : List Entry). total es f c) (laid_of-append_published mixes.history v.next.frame) ∙ mixes.totals f c;
   quiet = λ m d h none.
       ap (λ (x : View). slice_index_or x.cursors m d) step.changed
       ∙ mixes.quiet m d (subst (λ (x : View). m < length x.cursors) step.changed h) none
       ∙ ap (λ (x : View). record { frame = first_frame x.geometry; channel = 0 }) (sym step.changed);
   taken =
       mixes.taken
-      ∙ sym (ap values_of (filter_map-append taking_of mixes.history (row ∷ []) ∙ append-nil (taken_of mixes.history)));
+      ∙ sym (ap values_of (taken_of-append_published mixes.history v.next.frame));
 }
   where
     row : Row
