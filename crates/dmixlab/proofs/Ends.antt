@@ -1,0 +1,55 @@
+-- Exit statuses 2 and 3 come exactly where their causes do.
+use Rattle.std.proofs.Common.{◌≡◌, ℕ, ap, refl, List, arith}
+use Rattle.std.specs.Prelude.{Option, Some, None, Result, Ok, Err}
+use Rattle.lab_script.specs.declared.error.ScriptError.{ScriptError}
+use Rattle.wav_io.specs.declared.error.WavError.{WavError}
+use Rattle.lab_shelf.specs.Files.{Files}
+use Rattle.lab_shelf.specs.Counts.{Rose}
+use Rattle.dmixlab.specs.declared.stop.Stop.{Stop}
+use Rattle.dmixlab.specs.declared.stop.Stop.TheVariants.{Words, Script, Wav, Read, Write, Memory}
+use Rattle.dmixlab.specs.Words.{Form}
+use Rattle.dmixlab.specs.Input.{script_refused, wav_refused}
+use Rattle.dmixlab.specs.Stops.{status_of, EndsOf, Refuses, InputFaults}
+use Rattle.dmixlab.specs.Top.{cause_in, ComesExactly}
+
+-- words without a form have no cause
+none_caused : (form : Option Form) (files : Files) → form ≡ None → cause_in form files ≡ None
+none_caused form files none = ap (λ f. cause_in f files) none
+
+-- status 2 comes exactly where the script is refused
+pub status_of-script : {T : Type 0} (end : Result T Stop) (form : Option Form) (files : Files) (before now : ℕ)
+    → EndsOf end (cause_in form files) → Refuses end form → InputFaults end before now
+    → ComesExactly 2 (status_of end) (Rose before now) ((e : ScriptError) × (cause_in form files ≡ Some (script_refused e)))
+status_of-script (Ok x) form files before now ends refuses faults =
+    record { only = λ is. absurd (omega arith); always = λ given kept left. absurd (let e = given.1 in cc) }
+status_of-script (Err Words) form files before now ends refuses faults =
+    record { only = λ is. absurd (omega arith); always = λ given kept left. absurd (let e = given.1 in let n = none_caused form files refuses in cc) }
+status_of-script (Err (Script error)) form files before now ends refuses faults =
+    record { only = λ is. (error, ends); always = λ given kept left. refl }
+status_of-script (Err (Wav name why)) form files before now ends refuses faults =
+    record { only = λ is. absurd (omega arith); always = λ given kept left. absurd (let e = given.1 in cc) }
+status_of-script (Err (Read name)) form files before now ends refuses faults =
+    record { only = λ is. absurd (omega arith); always = λ given kept left. absurd (kept faults) }
+status_of-script (Err Write) form files before now ends refuses faults =
+    record { only = λ is. absurd (omega arith); always = λ given kept left. absurd (let e = given.1 in cc) }
+status_of-script (Err Memory) form files before now ends refuses faults =
+    record { only = λ is. absurd (omega arith); always = λ given kept left. absurd (left refl) }
+
+-- status 3 comes exactly where a client's file is refused
+pub status_of-wav : {T : Type 0} (end : Result T Stop) (form : Option Form) (files : Files) (before now : ℕ)
+    → EndsOf end (cause_in form files) → Refuses end form → InputFaults end before now
+    → ComesExactly 3 (status_of end) (Rose before now) ((name : List ℕ) × ((e : WavError) × (cause_in form files ≡ Some (wav_refused name e))))
+status_of-wav (Ok x) form files before now ends refuses faults =
+    record { only = λ is. absurd (omega arith); always = λ given kept left. absurd (let e = given.1.1 in cc) }
+status_of-wav (Err Words) form files before now ends refuses faults =
+    record { only = λ is. absurd (omega arith); always = λ given kept left. absurd (let e = given.1.1 in let n = none_caused form files refuses in cc) }
+status_of-wav (Err (Script error)) form files before now ends refuses faults =
+    record { only = λ is. absurd (omega arith); always = λ given kept left. absurd (let e = given.1.1 in cc) }
+status_of-wav (Err (Wav name why)) form files before now ends refuses faults =
+    record { only = λ is. (name.items, (why, ends)); always = λ given kept left. refl }
+status_of-wav (Err (Read name)) form files before now ends refuses faults =
+    record { only = λ is. absurd (omega arith); always = λ given kept left. absurd (kept faults) }
+status_of-wav (Err Write) form files before now ends refuses faults =
+    record { only = λ is. absurd (omega arith); always = λ given kept left. absurd (let e = given.1.1 in cc) }
+status_of-wav (Err Memory) form files before now ends refuses faults =
+    record { only = λ is. absurd (omega arith); always = λ given kept left. absurd (left refl) }

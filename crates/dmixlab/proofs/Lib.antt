@@ -1,0 +1,6 @@
+mod Texts
+mod Sounds
+mod Sessions
+mod Outputs
+mod Commands
+mod Ends

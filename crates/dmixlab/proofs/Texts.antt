@@ -1,0 +1,12 @@
+-- Tests of bytes.
+use Rattle.std.proofs.Common.{◌≡◌, sym, List, ℕ, true, false}
+use Rattle.std.specs.Prelude.{Result, Ok, Err, MatchResult, is_ok}
+use Rattle.std.specs.Str.{IsUtf8, is_utf8}
+use Rattle.std.proofs.lemmas.Str.{IsUtf8-from_is_utf8, is_utf8-from_IsUtf8}
+use Rattle.std.proofs.lemmas.Bool.{false_from_ne_true}
+
+-- a reading that works exactly at UTF-8 tells whether bytes are UTF-8
+pub is_ok-is_utf8 : {T E : Type 0} (r : Result T E) (bs : List ℕ) (P : T → Type 0) (Q : E → Type 0)
+    → MatchResult r (λ s. P s × IsUtf8 bs) (λ e. ¬ (IsUtf8 bs) × Q e) → is_ok r ≡ is_utf8 bs
+is_ok-is_utf8 (Ok s) bs P Q h = sym (is_utf8-from_IsUtf8 bs h.1)
+is_ok-is_utf8 (Err e) bs P Q h = sym (false_from_ne_true _ (λ is. h.0 (IsUtf8-from_is_utf8 bs is)))

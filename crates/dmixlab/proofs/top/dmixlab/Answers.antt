@@ -1,0 +1,16 @@
+use Rattle.std.proofs.Common.{◌≡◌}
+use Rattle.dmixlab.specs.Words.{form_of, texts}
+use Rattle.dmixlab.proofs.Ends.{status_of-script, status_of-wav}
+use Rattle.dmixlab.proofs.top.dmixlab.Goals as goal
+
+pub returns-clause-script : goal.returns-clause-script
+returns-clause-script g c files told =
+    rw c.status.ensures
+    (status_of-script c.command-end.result (form_of (texts c.args.words.now)) files _ _ (c.command-end.ensures.cause files told)
+    c.command-end.ensures.words c.command-end.ensures.reads)
+
+pub returns-clause-wav : goal.returns-clause-wav
+returns-clause-wav g c files told =
+    rw c.status.ensures
+    (status_of-wav c.command-end.result (form_of (texts c.args.words.now)) files _ _ (c.command-end.ensures.cause files told)
+    c.command-end.ensures.words c.command-end.ensures.reads)

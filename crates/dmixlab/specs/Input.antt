@@ -1,0 +1,86 @@
+-- What a run reads, or the first cause for which it can't: a function of the files.
+use Rattle.std.specs.Prelude.{◌≡◌, ℕ, ◌==◌, ◌&&◌, nat_le, if◌then◌else◌, List, [], ◌∷◌, Option, Some, None, Result, Ok, Err}
+use Rattle.lab_script.specs.declared.error.ScriptError.{ScriptError}
+use Rattle.lab_script.specs.declared.script.CardLine.{CardLine}
+use Rattle.lab_script.specs.declared.script.ClientLine.{ClientLine}
+use Rattle.lab_script.specs.declared.script.Script.{Script}
+use Rattle.lab_script.specs.Reading.{script_of}
+use Rattle.lab_script.specs.Spelling.{Spells}
+use Rattle.wav_io.specs.declared.error.WavError.{WavError}
+use Rattle.wav_io.specs.declared.error.WavError.TheVariants.{NotYet}
+use Rattle.wav_io.specs.Sound.{Sound}
+use Rattle.wav_io.specs.Reading.{canonical_wav}
+use Rattle.lab_shelf.specs.Files.{Files, piece}
+
+-- why input can't be read: a file isn't there, the script is refused, or a client's file is
+pub data Cause : Type 0 where
+  missing : List ℕ → Cause
+  script_refused : ScriptError → Cause
+  wav_refused : List ℕ → WavError → Cause
+
+-- the script of a run, and its clients' sounds in the order of their lines
+pub record Input : Type 0 where
+  pub script : Script
+  pub sounds : List Sound
+
+infixl 10 ◌>>=◌
+abbrev pub ◌>>=◌ : {A B : Type 0} → Result A Cause → (A → Result B Cause) → Result B Cause
+(Ok x) >>= f = f x
+(Err e) >>= f = Err e
+
+-- the bytes that are there under a name
+abbrev pub found : List ℕ → Option (List ℕ) → Result (List ℕ) Cause
+found name None = Err (missing name)
+found name (Some bytes) = Ok bytes
+
+-- the first bytes of a file, at most so many of them
+abbrev pub fetched : Files → List ℕ → ℕ → Result (List ℕ) Cause
+fetched files name most = found name (piece files name 0 most)
+
+-- what a text spells as a script
+abbrev pub as_script : Result Script ScriptError → Result Script Cause
+as_script (Ok script) = Ok script
+as_script (Err e) = Err (script_refused e)
+
+-- what a client's file holds
+abbrev pub as_sound : List ℕ → Result Sound WavError → Result Sound Cause
+as_sound name (Ok sound) = Ok sound
+as_sound name (Err e) = Err (wav_refused name e)
+
+-- a sound that a card can play: of the card's rate, with no more channels than the card has
+abbrev pub suiting : CardLine → Result Sound WavError → Result Sound WavError
+suiting card (Ok sound) = if sound.rate == card.rate && nat_le sound.channels card.channels then Ok sound else Err NotYet
+suiting card (Err e) = Err e
+
+-- the script in a file, of which one byte more is fetched than a script may have
+unfoldable pub script_in : Files → List ℕ → Result Script Cause
+script_in files name = do
+  text ← fetched files name 1048577
+  as_script (script_of text)
+
+-- the sound in a client's file, of which one byte more is fetched than a file may have
+unfoldable pub sound_in : Files → CardLine → List ℕ → Result Sound Cause
+sound_in files card name = do
+  bytes ← fetched files name 67108865
+  as_sound name (suiting card (canonical_wav bytes))
+
+-- the text of a file, of which one byte more is fetched than a script may have, spells a script
+pub record SpelledIn (files : Files) (name : List ℕ) (script : Script) : Type 0 where
+  pub text : List ℕ
+  pub is_text : fetched files name 1048577 ≡ Ok text
+  pub spells : Spells text script
+
+-- the sounds of some clients, in order
+unfoldable pub sounds_in : Files → CardLine → List ClientLine → Result (List Sound) Cause
+sounds_in files card [] = Ok []
+sounds_in files card (client ∷ clients) = do
+  sound ← sound_in files card client.file
+  sounds ← sounds_in files card clients
+  Ok (sound ∷ sounds)
+
+-- what a run of the script in this file reads
+unfoldable pub input_in : Files → List ℕ → Result Input Cause
+input_in files name = do
+  script ← script_in files name
+  sounds ← sounds_in files script.card script.clients
+  Ok (record { script = script; sounds = sounds })

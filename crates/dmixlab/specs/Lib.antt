@@ -1,0 +1,6 @@
+pub mod Words
+pub mod Input
+pub mod Stops
+pub mod Loaded
+pub mod Run
+pub mod Top

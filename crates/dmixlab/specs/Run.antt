@@ -1,0 +1,68 @@
+-- What a run leaves: a file with what the card played, and the text of a report.
+use Rattle.std.specs.Prelude.{◌≡◌, ◌⊎◌, ◌++◌, ℕ, ℤ, List, Option, Result, Ok, Err}
+use Rattle.std.specs.Option.{ForSome, option_map}
+use Rattle.wav_io.specs.Sound.{Sound}
+use Rattle.wav_io.specs.Canonical.{canonical}
+use Rattle.lab_script.specs.declared.script.CardLine.{CardLine}
+use Rattle.lab_script.specs.declared.script.Script.{Script}
+use Rattle.lab_report.specs.declared.report.Report.{Report}
+use Rattle.lab_report.specs.Text.{report_text}
+use Rattle.lab_phase.specs.Meaning.{IsRun}
+use Rattle.lab_shelf.specs.Files.{Files, with_file, TookPart}
+use Rattle.lab_shelf.specs.Changes.{Changes, PartOf}
+use Rattle.dmixlab.specs.declared.output.Output.{Output}
+use Rattle.dmixlab.specs.Input.{SpelledIn, input_in}
+use Rattle.dmixlab.specs.Words.{wav_name}
+
+-- the file of the samples that a card played: the canonical WAV with the card's channels and rate
+abbrev pub wav_of : CardLine → List ℤ → List ℕ
+wav_of card played = canonical (record { channels = card.channels; rate = card.rate; samples = played })
+
+-- a file's text spells a script, it and its clients' sounds are what the files hold, and a report and the played samples are
+-- what the script does with them
+pub record IsSession (files : Option Files) (name : List ℕ) (script : Script) (sounds : List Sound) (report : Report) (played : List ℤ) : Type 0 where
+  pub spelled : ForSome files (λ m. SpelledIn m name script)
+  pub read : ForSome files (λ m. input_in m name ≡ Ok (record { script = script; sounds = sounds }))
+  pub run : IsRun script sounds report played
+
+-- the name, the file and the text of a run's output
+pub record IsOutput (script : Script) (report : Report) (played : List ℤ) (out : List ℕ) (o : Output) : Type 0 where
+  pub name : o.name.items ≡ wav_name out
+  pub file : o.file.items ≡ wav_of script.card played
+  pub text : o.text.items ≡ report_text report script
+
+-- an output is that of a session that the files hold
+pub record IsReady (files : Option Files) (name out : List ℕ) (o : Output) : Type 0 where
+  pub script : Script
+  pub sounds : List Sound
+  pub report : Report
+  pub played : List ℤ
+  pub session : IsSession files name script sounds report played
+  pub output : IsOutput script report played out o
+
+-- a run is done: there are a script and sounds that the files hold, a report and the samples that the card played, which
+-- are the script's run; the samples stand in the one file that changed, and the report's text was taken
+pub record Finished (name out : List ℕ) (before after : Option Files) (taken told : Option (List ℕ)) : Type 0 where
+  pub script : Script
+  pub sounds : List Sound
+  pub report : Report
+  pub played : List ℤ
+  pub session : IsSession before name script sounds report played
+  pub file : after ≡ option_map (λ files. with_file files (wav_name out) (wav_of script.card played)) before
+  pub text : told ≡ option_map (λ t. t ++ report_text report script) taken
+
+-- a run ended in its output: its file is as it was or holds the first bytes of what it was to hold, no other changed, and
+-- the first bytes of the report's text were taken
+pub record Unfinished (name out : List ℕ) (before after : Option Files) (taken told : Option (List ℕ)) : Type 0 where
+  pub script : Script
+  pub sounds : List Sound
+  pub report : Report
+  pub played : List ℤ
+  pub session : IsSession before name script sounds report played
+  pub file : Changes (PartOf (wav_name out) (wav_of script.card played)) before after
+  pub text : TookPart taken told (report_text report script)
+
+-- nothing was written
+pub record Untouched (before after : Option Files) (taken told : Option (List ℕ)) : Type 0 where
+  pub files : after ≡ before
+  pub text : told ≡ taken

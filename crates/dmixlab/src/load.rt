@@ -1,0 +1,137 @@
+//! The input of a run: its script, and its clients' files.
+ghost use Rattle.std.specs.Prelude.{◌≡◌, ◌≤◌, IfOk, All, length, vec_len};
+ghost use Rattle.std.specs.Option.{ForSome};
+ghost use Rattle.lab_script.specs.Script.{IsScript};
+ghost use Rattle.lab_phase.specs.Meaning.{AreFiles};
+ghost use Rattle.wav_io.specs.Reading.{canonical_wav, Reads};
+ghost use Rattle.dmixlab.specs.Input.{SpelledIn, fetched, input_in, script_in, sound_in, sounds_in, suiting};
+ghost use Rattle.dmixlab.specs.Stops.{FetchFaults, Follows};
+ghost use Rattle.dmixlab.specs.Loaded.{input_of};
+
+use crate::stop::{Stop, wav_stop};
+use lab_script::{CardLine, ClientLine, Script, read_script};
+use lab_shelf::{Shelf, ShelfFault};
+use std::alloc::Global;
+use wav_io::{Wav, WavError, read_wav};
+
+/// One byte more than a script may have.
+const SCRIPT_MOST: u64 = 1_048_577;
+
+/// One byte more than a client's file may have.
+const WAV_MOST: u64 = 67_108_865;
+
+/// What a run reads: the script, and its clients' samples in the order of their lines.
+#[derive(Drop)]
+pub(crate) struct Loaded {
+    pub script: Script,
+    pub wavs: Vec<Wav>,
+}
+
+/// Reads a script's file, and then the file of each of its clients. Nothing is written.
+#[tactic(auto, unfolding(crate::specs::Input::input_in))]
+pub(crate) fn load<S: Shelf>(shelf: &mut S, alloc: Global, name: &[u8]) -> Result<Loaded, Stop>
+    ensures input { ForSome (S.files shelf.old) (λ files. Follows input_of result (input_in files name.now)) }
+    ensures spelled { ForSome (S.files shelf.old) (λ files. IfOk result (λ loaded. SpelledIn files name.now loaded.script)) }
+    ensures script { IfOk result (λ loaded. IsScript loaded.script) }
+    ensures are_files { IfOk result (λ loaded. AreFiles loaded.script loaded.wavs.items) }
+    ensures files { S.files shelf.new ≡ S.files shelf.old }
+    ensures faults { FetchFaults result (S.fetch_faults shelf.old) (S.fetch_faults shelf.new) }
+    ensures write_faults { S.write_faults shelf.new ≡ S.write_faults shelf.old }
+{
+    let script = load_script(shelf, alloc, name)?;
+    let wavs = load_wavs(shelf, alloc, &script.card, script.clients.as_slice())?;
+    Ok(Loaded { script, wavs })
+}
+
+/// The script in a file.
+#[tactic(auto, unfolding(crate::specs::Input::script_in))]
+fn load_script<S: Shelf>(shelf: &mut S, alloc: Global, name: &[u8]) -> Result<Script, Stop>
+    ensures script { ForSome (S.files shelf.old) (λ files. Follows (λ s. s) result (script_in files name.now)) }
+    ensures spelled { ForSome (S.files shelf.old) (λ files. IfOk result (λ s. SpelledIn files name.now s)) }
+    ensures valid { IfOk result (λ s. IsScript s) }
+    ensures files { S.files shelf.new ≡ S.files shelf.old }
+    ensures faults { FetchFaults result (S.fetch_faults shelf.old) (S.fetch_faults shelf.new) }
+    ensures write_faults { S.write_faults shelf.new ≡ S.write_faults shelf.old }
+{
+    let text = fetch_most(shelf, alloc, name, SCRIPT_MOST)?;
+    let script = read_script(alloc, &text)?;
+    Ok(script)
+}
+
+/// The samples in the clients' files, in the order of the clients.
+fn load_wavs<S: Shelf>(
+    shelf: &mut S,
+    alloc: Global,
+    card: &CardLine,
+    clients: &[ClientLine],
+) -> Result<Vec<Wav>, Stop>
+    ensures sounds { ForSome (S.files shelf.old)
+        (λ files. Follows (λ v. v.items) result (sounds_in files card.now clients.now)) }
+    ensures channels { IfOk result (λ wavs. All (λ w. w.channels ≤ card.now.channels) wavs.items) }
+    ensures number { IfOk result (λ wavs. length wavs.items ≡ length clients.now) }
+    ensures files { S.files shelf.new ≡ S.files shelf.old }
+    ensures faults { FetchFaults result (S.fetch_faults shelf.old) (S.fetch_faults shelf.new) }
+    ensures write_faults { S.write_faults shelf.new ≡ S.write_faults shelf.old }
+{
+    let mut wavs = Vec::new(alloc);
+    for client in clients {
+        let wav = load_wav(shelf, alloc, card, client.file.as_str().as_bytes())?;
+        wavs.push(wav)?;
+    }
+    Ok(wavs)
+}
+
+/// The samples in a client's file.
+#[tactic(auto, unfolding(crate::specs::Input::sound_in))]
+fn load_wav<S: Shelf>(
+    shelf: &mut S,
+    alloc: Global,
+    card: &CardLine,
+    name: &[u8],
+) -> Result<Wav, Stop>
+    ensures sound { ForSome (S.files shelf.old) (λ files. Follows (λ w. w) result (sound_in files card.now name.now)) }
+    ensures channels { IfOk result (λ w. w.channels ≤ card.now.channels) }
+    ensures files { S.files shelf.new ≡ S.files shelf.old }
+    ensures faults { FetchFaults result (S.fetch_faults shelf.old) (S.fetch_faults shelf.new) }
+    ensures write_faults { S.write_faults shelf.new ≡ S.write_faults shelf.old }
+{
+    let bytes = fetch_most(shelf, alloc, name, WAV_MOST)?;
+    match read_suiting(alloc, card, &bytes) {
+        Ok(wav) => Ok(wav),
+        Err(why) => Err(wav_stop(alloc, name, why)),
+    }
+}
+
+/// The samples of a client's file for this card.
+fn read_suiting(alloc: Global, card: &CardLine, bytes: &[u8]) -> Result<Wav, WavError>
+    ensures sound { Reads result (suiting card.now (canonical_wav bytes.now)) }
+    ensures channels { IfOk result (λ w. w.channels ≤ card.now.channels) }
+{
+    let wav = read_wav(alloc, bytes)?;
+    if wav.rate == card.rate && wav.channels <= u16::from(card.channels) {
+        Ok(wav)
+    } else {
+        Err(WavError::NotYet)
+    }
+}
+
+/// The first bytes of a file, at most so many.
+fn fetch_most<S: Shelf>(
+    shelf: &mut S,
+    alloc: Global,
+    name: &[u8],
+    most: u64,
+) -> Result<Vec<u8>, Stop>
+    ensures bytes { ForSome (S.files shelf.old) (λ files. Follows (λ v. v.items) result (fetched files name.now most)) }
+    ensures files { S.files shelf.new ≡ S.files shelf.old }
+    ensures faults { FetchFaults result (S.fetch_faults shelf.old) (S.fetch_faults shelf.new) }
+    ensures write_faults { S.write_faults shelf.new ≡ S.write_faults shelf.old }
+{
+    match shelf.fetch(alloc, name, 0, most) {
+        Ok(bytes) => Ok(bytes),
+        Err(ShelfFault::Failed) => Err(Stop::Read {
+            name: Vec::from_slice(alloc, name)?,
+        }),
+        Err(ShelfFault::Memory) => Err(Stop::Memory),
+    }
+}

@@ -1,0 +1,144 @@
+//! The program's call: words, files and streams in, an exit status out.
+ghost use Rattle.std.specs.Prelude.{◌≡◌, ◌≢◌, ◌≤◌, ◌⊎◌, ◌↔◌, length, map, IfOk, IfErr, OnOk, OnErr, None, Some};
+ghost use Rattle.std.specs.Option.{ForSome};
+ghost use Rattle.lab_shelf.specs.Counts.{Rose};
+ghost use Rattle.dmixlab.specs.Words.{form_of, run, texts};
+ghost use Rattle.dmixlab.specs.Input.{input_in};
+ghost use Rattle.dmixlab.specs.Stops.{EndsOf, InputFaults, IsReadStop, OutputFaults, Refuses};
+ghost use Rattle.dmixlab.specs.Run.{IsReady};
+ghost use Rattle.dmixlab.specs.Top.{cause, cause_in, ComesExactly, Headline, IsLeft, IsMissing, IsScriptRefused, IsValid, IsWavRefused, Leaves};
+
+use crate::load::load;
+use crate::output::{Output, prepare, put, write};
+use crate::stop::{Stop, status, tell};
+use crate::words::{Command, help, read_command, version};
+use crate::work::work;
+use lab_shelf::{Shelf, Sink};
+use mix_core::Gate;
+use std::alloc::Global;
+use std::thread::Threads;
+
+/// Does what `words` ask for, which are the program's words after its name, and gives its exit
+/// status.
+///
+/// - `run SCRIPT OUT` reads the script in the file SCRIPT and the WAV file of each of its clients,
+///   runs it, stores what the card played as the WAV file `OUT.wav`, and puts the report on `out`.
+/// - `--help` and `--version`, each alone, put their text on `out`.
+///
+/// A word for a file is 1 to 4,096 bytes of UTF-8 without a zero byte. The status is 0 where all
+/// was done. Otherwise one line on `errors` says why it is not, and a fault there changes nothing:
+///
+/// - 1: the words are none of these;
+/// - 2: the script is refused;
+/// - 3: a client's file is refused;
+/// - 4: a file can't be read, as where there is none of its name;
+/// - 5: `OUT.wav` can't be stored, or the text can't be put;
+/// - 6: memory ran out.
+///
+/// A file has at most 67,108,864 bytes where it is a client's, and 1,048,576 where it is the
+/// script. `gates` are the clients' gates, at least 128; a run of one thread asks none of them.
+pub fn dmixlab<R: Threads + Sync, S: Shelf, K: Sink, E: Sink, G: Gate + Send>(
+    _rt: &R,
+    alloc: Global,
+    words: &[Vec<u8>],
+    shelf: &mut S,
+    out: &mut K,
+    errors: &mut E,
+    gates: &mut [G],
+) -> u8
+    requires { 128 ≤ length gates.old }
+
+    // With status 0 the files and the text on `out` are those of a run of what the words name.
+    ensures headline { result ≡ 0 → Headline (texts words.now)
+        (S.files shelf.old) (S.files shelf.new) (K.taken out.old) (K.taken out.new) }
+
+    // The gates that were handed in aren't asked.
+    ensures gates { map G.stops gates.new ≡ map G.stops gates.old }
+
+    // When each status comes.
+    ensures statuses { result ≤ 6 }
+    ensures words { (result ≡ 1) ↔ (form_of (texts words.now) ≡ None) }
+    ensures script { ForSome (S.files shelf.old) (λ files. ComesExactly 2 result
+        (Rose (S.fetch_faults shelf.old) (S.fetch_faults shelf.new)) (IsScriptRefused (texts words.now) files)) }
+    ensures wav { ForSome (S.files shelf.old) (λ files. ComesExactly 3 result
+        (Rose (S.fetch_faults shelf.old) (S.fetch_faults shelf.new)) (IsWavRefused (texts words.now) files)) }
+    ensures read { result ≡ 4 → Rose (S.fetch_faults shelf.old) (S.fetch_faults shelf.new) }
+    ensures missing { ForSome (S.files shelf.old)
+        (λ files. IsMissing (texts words.now) files → (result ≡ 4) ⊎ (result ≡ 6)) }
+    ensures write { result ≡ 5 → Rose (S.write_faults shelf.old) (S.write_faults shelf.new)
+        ⊎ Rose (K.faults out.old) (K.faults out.new) }
+
+    // Valid input is done where nothing fails, unless memory runs out.
+    ensures complete { ForSome (S.files shelf.old) (λ files. IsValid (texts words.now) files
+        → ¬ Rose (S.fetch_faults shelf.old) (S.fetch_faults shelf.new)
+        → ¬ Rose (S.write_faults shelf.old) (S.write_faults shelf.new)
+        → ¬ Rose (K.faults out.old) (K.faults out.new)
+        → (result ≡ 0) ⊎ (result ≡ 6)) }
+
+    // What stands after another status.
+    ensures rest { result ≢ 0 → IsLeft result (texts words.now)
+        (S.files shelf.old) (S.files shelf.new) (K.taken out.old) (K.taken out.new) }
+{
+    let end = command(alloc, words, shelf, out);
+    if let Err(stop) = &end {
+        tell(alloc, errors, stop);
+    }
+    status(&end)
+}
+
+/// Does what the words ask for.
+fn command<S: Shelf, K: Sink>(
+    alloc: Global,
+    words: &[Vec<u8>],
+    shelf: &mut S,
+    out: &mut K,
+) -> Result<(), Stop>
+    ensures leaves { Leaves result (form_of (texts words.now))
+        (S.files shelf.old) (S.files shelf.new) (K.taken out.old) (K.taken out.new) }
+    ensures cause { ForSome (S.files shelf.old) (λ files. EndsOf result (cause_in (form_of (texts words.now)) files)) }
+    ensures words { Refuses result (form_of (texts words.now)) }
+    ensures reads { InputFaults result (S.fetch_faults shelf.old) (S.fetch_faults shelf.new) }
+    ensures writes { OutputFaults result (S.write_faults shelf.old) (S.write_faults shelf.new)
+        (K.faults out.old) (K.faults out.new) }
+{
+    match read_command(words) {
+        Some(Command::Run { script, out: name }) => run_command(alloc, shelf, out, script, name),
+        Some(Command::Help) => put(out, help()),
+        Some(Command::Version) => put(out, version()),
+        None => Err(Stop::Words),
+    }
+}
+
+/// Runs the script in a file, and writes what came of it.
+fn run_command<S: Shelf, K: Sink>(
+    alloc: Global,
+    shelf: &mut S,
+    out: &mut K,
+    script: &[u8],
+    name: &[u8],
+) -> Result<(), Stop>
+    ensures leaves { Leaves result (Some (run script.now name.now))
+        (S.files shelf.old) (S.files shelf.new) (K.taken out.old) (K.taken out.new) }
+    ensures cause { ForSome (S.files shelf.old) (λ files. EndsOf result (cause (input_in files script.now))) }
+    ensures words { Refuses result (Some (run script.now name.now)) }
+    ensures reads { InputFaults result (S.fetch_faults shelf.old) (S.fetch_faults shelf.new) }
+    ensures writes { OutputFaults result (S.write_faults shelf.old) (S.write_faults shelf.new)
+        (K.faults out.old) (K.faults out.new) }
+{
+    let output = make(alloc, shelf, script, name)?;
+    write(shelf, out, &output)
+}
+
+/// Runs the script in a file, and gives what it writes. Nothing is written yet.
+fn make<S: Shelf>(alloc: Global, shelf: &mut S, script: &[u8], name: &[u8]) -> Result<Output, Stop>
+    ensures ready { IfOk result (IsReady (S.files shelf.old) script.now name.now) }
+    ensures cause { ForSome (S.files shelf.old) (λ files. EndsOf result (cause (input_in files script.now))) }
+    ensures only { IfErr result IsReadStop }
+    ensures files { S.files shelf.new ≡ S.files shelf.old }
+    ensures reads { InputFaults result (S.fetch_faults shelf.old) (S.fetch_faults shelf.new) }
+    ensures write_faults { S.write_faults shelf.new ≡ S.write_faults shelf.old }
+{
+    let loaded = load(shelf, alloc, script)?;
+    let outcome = work(alloc, &loaded.script, &loaded.wavs)?;
+    prepare(alloc, &loaded.script, outcome, name)
+}

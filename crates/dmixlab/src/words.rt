@@ -1,0 +1,99 @@
+//! The words of a call: which commands there are, and their texts.
+ghost use Rattle.std.specs.Prelude.{◌≡◌, ◌==◌};
+ghost use Rattle.std.specs.List.{list_any};
+ghost use Rattle.std.specs.Str.{is_utf8};
+ghost use Rattle.dmixlab.specs.Words.{form_of, form_seen, help_text, names_file, run_of, single_of, texts, version_text};
+
+use std::str;
+
+/// The most bytes that a word for a file has.
+const LONGEST_NAME: usize = 4096;
+
+/// What a call's words ask for.
+#[derive(Clone, Copy, Debug)]
+pub(crate) enum Command<'a> {
+    /// A run of the script in a file, with the name of the output without its ending.
+    Run { script: &'a [u8], out: &'a [u8] },
+    /// The help text.
+    Help,
+    /// The program's version.
+    Version,
+}
+
+/// The command that the words are, or `None` where they are no listed form.
+pub(crate) fn read_command(words: &[Vec<u8>]) -> Option<Command<'_>>
+    ensures { form_seen result ≡ form_of (texts words.now) }
+{
+    match words {
+        [word] => read_single(word.as_slice()),
+        [word, script, out] if word.as_slice() == b"run".as_slice() => {
+            read_run(script.as_slice(), out.as_slice())
+        }
+        _ => None,
+    }
+}
+
+/// The command of one word.
+fn read_single(word: &[u8]) -> Option<Command<'_>>
+    ensures { form_seen result ≡ single_of word.now }
+{
+    if word == b"--help".as_slice() {
+        Some(Command::Help)
+    } else if word == b"--version".as_slice() {
+        Some(Command::Version)
+    } else {
+        None
+    }
+}
+
+/// The run of a script's file, with the output's name.
+fn read_run<'a>(script: &'a [u8], out: &'a [u8]) -> Option<Command<'a>>
+    ensures { form_seen result ≡ run_of script.now out.now }
+{
+    if is_file_name(script) && is_file_name(out) {
+        Some(Command::Run { script, out })
+    } else {
+        None
+    }
+}
+
+/// Whether a word can name a file: 1 to 4,096 bytes of UTF-8, none of them zero.
+fn is_file_name(word: &[u8]) -> bool
+    ensures { result ≡ names_file word.now }
+{
+    !word.is_empty() && word.len() <= LONGEST_NAME && is_text(word) && !has_zero(word)
+}
+
+/// Whether some bytes are UTF-8.
+fn is_text(word: &[u8]) -> bool
+    ensures { result ≡ is_utf8 word.now }
+{
+    str::from_utf8(word).is_ok()
+}
+
+/// Whether one of some bytes is zero.
+fn has_zero(word: &[u8]) -> bool
+    ensures { result ≡ list_any (λ b. b == 0) word.now }
+{
+    word.iter().any(|byte| *byte == 0)
+}
+
+/// What `--help` puts.
+pub(crate) fn help() -> &'static [u8]
+    ensures { result.now ≡ help_text }
+{
+    b"usage: dmixlab run SCRIPT OUT
+       dmixlab --help
+       dmixlab --version
+
+run reads SCRIPT and the WAV file of each of its clients, mixes what they write
+as ALSA's dmix does, stores what the card plays as OUT.wav, and prints a report.
+"
+}
+
+/// What `--version` puts.
+pub(crate) fn version() -> &'static [u8]
+    ensures { result.now ≡ version_text }
+{
+    b"dmixlab 0.1.0\n"
+}

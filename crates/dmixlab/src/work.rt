@@ -1,0 +1,28 @@
+//! The run itself.
+ghost use Rattle.std.specs.Prelude.{◌≡◌, ◌≤◌, IfOk, IfErr, length};
+ghost use Rattle.lab_script.specs.Script.{IsScript};
+ghost use Rattle.lab_phase.specs.Meaning.{AreFiles, IsRun};
+ghost use Rattle.lab_report.specs.Text.{IsReportOf};
+ghost use Rattle.dmixlab.specs.declared.stop.Stop.TheVariants as stops;
+
+use crate::stop::Stop;
+use lab_phase::{Outcome, run_script};
+use lab_script::Script;
+use std::alloc::Global;
+use wav_io::Wav;
+
+/// Runs a script on the samples of its clients' files, which are as many and have no more channels
+/// than the card.
+pub(crate) fn work(alloc: Global, script: &Script, wavs: &[Wav]) -> Result<Outcome, Stop>
+    requires script { IsScript script.now }
+    requires files { AreFiles script.now wavs.now }
+    ensures run { IfOk result (λ o. IsRun script.now wavs.now o.report o.played.items) }
+    ensures report { IfOk result (λ o. IsReportOf o.report script.now) }
+    ensures frames { IfOk result (λ o. length o.played.items ≤ 4194304) }
+    ensures only { IfErr result (λ stop. stop ≡ stops.Memory) }
+{
+    match run_script(alloc, script, wavs) {
+        Ok(outcome) => Ok(outcome),
+        Err(_) => Err(Stop::Memory),
+    }
+}
