@@ -1,9 +1,11 @@
 //! A WAV file from its content.
 
-ghost use Rattle.std.specs.Prelude.{◌≡◌, ◌++◌, ◌+◌, ◌*◌, ◌^◌, ◌<◌, length, IfOk, OnOk, IfErr};
+ghost use Rattle.std.specs.Prelude.{◌≡◌, ◌++◌, ◌+◌, ◌*◌, ◌^◌, ◌<◌, ◌≤◌, length, Ok, IfOk, OnOk, IfErr};
 ghost use Rattle.std.specs.List.{flat_map};
 ghost use Rattle.wav_io.specs.declared.error.WavError.TheVariants.{Memory};
-ghost use Rattle.wav_io.specs.Canonical.{sample_bytes, canonical};
+ghost use Rattle.wav_io.specs.Canonical.{sample_bytes, canonical, HasFile};
+ghost use Rattle.wav_io.specs.Reading.{most_bytes, wav_file};
+ghost use Rattle.wav_io.specs.Sound.{Sound};
 
 use crate::error::WavError;
 use crate::head::header;
@@ -25,6 +27,10 @@ pub fn write_wav(alloc: Global, wav: &Wav) -> Result<Vec<u8>, WavError>
     requires size { length wav.now.samples * 2 + 36 < 2 ^ 32 }
     ensures file { IfOk result (λ bytes. bytes.items ≡ canonical wav.now) }
     ensures err { IfErr result (λ e. e ≡ Memory) }
+
+    // No other content has this file, and where the file isn't too long it is read as this content.
+    ensures one { IfOk result (λ bytes. (s : Sound) → HasFile s → bytes.items ≡ canonical s → s ≡ wav.now) }
+    ensures back { IfOk result (λ bytes. length bytes.items ≤ most_bytes → wav_file bytes.items ≡ Ok wav.now) }
 {
     let samples = wav.samples.as_slice();
     let frames = samples.len() / wav.channels as usize;
