@@ -1,6 +1,7 @@
 -- A canonical file is read as what it was written from.
-use Rattle.std.proofs.Common.{◌≡◌, ℕ, ◌+◌, ◌-◌, ◌*◌, ◌/◌, ◌%◌, ◌^◌, ◌<◌, ◌≤◌, Bool, true, false, cond, ◌||◌, List, ◌++◌, length, take, drop, ℤ, Option, Some, None, Result, Ok, Err, refl, sym, ap, ◌∙◌, arith, eqb, leb, ltb}
-use Rattle.std.specs.Prelude.{FitsSigned, codes}
+use Rattle.std.proofs.Common.{◌≡◌, ℕ, ◌+◌, ◌-◌, ◌*◌, ◌/◌, ◌%◌, ◌^◌, ◌<◌, ◌≤◌, Bool, true, false, cond, ◌||◌, List, ◌++◌, length, take, drop, ℤ, Option, Some, None, Result, Ok, Err, refl, sym, ap, subst, ◌∙◌, arith, eqb, leb, ltb}
+use Rattle.std.specs.Global.{Vec}
+use Rattle.std.specs.Prelude.{All, FitsSigned, IfOk, OnOk, codes}
 use Rattle.std.specs.List.{flat_map}
 use Rattle.std.specs.Int.{w16, w32, to_le_bytes, from_le_bytes}
 use Rattle.std.proofs.Math.Nat.{mul-div_cancel}
@@ -11,7 +12,7 @@ use Rattle.std.proofs.lemmas.List.Elements.{recursion_from_All}
 use Rattle.wav_io.specs.declared.error.WavError.{WavError}
 use Rattle.wav_io.specs.declared.error.WavError.TheVariants.{Channels, RateZero, Bits, NotRiff, NotWave}
 use Rattle.wav_io.specs.declared.format.Format.{Format}
-use Rattle.wav_io.specs.Sound.{Sound}
+use Rattle.wav_io.specs.Sound.{Sound, IsSound}
 use Rattle.wav_io.specs.Canonical.{head, sample_bytes, canonical, HasFile}
 use Rattle.wav_io.specs.Fields.{number_at, samples_of, whole_frames}
 use Rattle.wav_io.specs.Chunks.{Chunk, size_at, first_chunk, after_chunk, chunks}
@@ -142,3 +143,19 @@ wav_file-canonical s file short =
     cond-true (leb (length (canonical s)) most_bytes) (at_end (found_in (canonical s))) (before_end (found_in (take most_bytes (canonical s)))) (le-leb _ _ short)
     ∙ ap at_end (found_in-canonical s file)
     ∙ ap (λ (t : Sound). Ok t) (sound_of-body s file)
+
+pub wav_file-written : (s : Sound) (bytes : List ℕ) → HasFile s → bytes ≡ canonical s → length bytes ≤ most_bytes → wav_file bytes ≡ Ok s
+wav_file-written s bytes file same short = ap wav_file same ∙ wav_file-canonical s file (omega (arith, ap length same))
+
+pub file_from : (s : Sound) (samples : List ℤ) → IsSound s → s.rate < 2 ^ 28 → length s.samples * 2 + 36 < 2 ^ 32 → samples ≡ s.samples → All (FitsSigned w16) samples → HasFile s
+file_from s samples sound low size same fit = record { sound = sound; low_rate = low; size = size; fits = subst (All (FitsSigned w16)) same fit }
+
+-- ---- what is written
+
+pub one_content : (s : Sound) (r : Result (Vec ℕ) WavError) → IfOk r (λ bytes. bytes.items ≡ canonical s) → OnOk r (HasFile s) → IfOk r (λ bytes. (t : Sound) → HasFile t → bytes.items ≡ canonical t → t ≡ s)
+one_content s (Ok bytes) same file = λ t other e. canonical_one t s other file (sym e ∙ same)
+one_content s (Err e) same file = tt
+
+pub read_back : (s : Sound) (r : Result (Vec ℕ) WavError) → IfOk r (λ bytes. bytes.items ≡ canonical s) → OnOk r (HasFile s) → IfOk r (λ bytes. length bytes.items ≤ most_bytes → wav_file bytes.items ≡ Ok s)
+read_back s (Ok bytes) same file = λ short. wav_file-written s bytes.items file same short
+read_back s (Err e) same file = tt

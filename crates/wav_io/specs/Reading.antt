@@ -98,7 +98,7 @@ found_in bytes = finding None (chunks (drop 12 bytes))
 unfoldable pub wav_file : List ℕ → Result Sound WavError
 wav_file bytes =
     if bytes_eq (take 4 bytes) (codes "RIFF") then
-      (if bytes_eq (take 4 (drop 8 bytes)) (codes "WAVE") then
-        (if nat_le (length bytes) most_bytes then at_end (found_in bytes) else before_end (found_in (take most_bytes bytes)))
-      else Err NotWave)
+    (if bytes_eq (take 4 (drop 8 bytes)) (codes "WAVE") then
+    (if nat_le (length bytes) most_bytes then at_end (found_in bytes) else before_end (found_in (take most_bytes bytes)))
+    else Err NotWave)
     else Err NotRiff

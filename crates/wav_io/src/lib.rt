@@ -22,5 +22,5 @@ pub use samples::Samples;
 pub use wav::Wav;
 pub use writing::write_wav;
 
-
-
+#[cfg(test)]
+mod tests;
