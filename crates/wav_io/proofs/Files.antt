@@ -1,23 +1,23 @@
 -- A canonical file is read as what it was written from.
-use Rattle.std.proofs.Common.{◌≡◌, ℕ, ◌+◌, ◌-◌, ◌*◌, ◌/◌, ◌%◌, ◌^◌, ◌<◌, ◌≤◌, Bool, true, false, cond, ◌||◌, List, ◌++◌, length, take, drop, ℤ, Option, Some, None, Result, Ok, Err, refl, sym, ap, subst, ◌∙◌, arith, eqb, leb, ltb}
+use Rattle.std.proofs.Common.{◌≡◌, ℕ, ◌+◌, ◌*◌, ◌/◌, ◌^◌, ◌<◌, ◌≤◌, cond, ◌||◌, List, ◌++◌, length, take, drop, ℤ, Some, None, Result, Ok, Err, refl, sym, ap, subst, ◌∙◌, arith, eqb, leb, ltb}
 use Rattle.std.specs.Global.{Vec}
 use Rattle.std.specs.Prelude.{All, FitsSigned, IfOk, OnOk, codes}
 use Rattle.std.specs.List.{flat_map}
 use Rattle.std.specs.Int.{w16, w32, to_le_bytes, from_le_bytes}
 use Rattle.std.proofs.Math.Nat.{mul-div_cancel}
 use Rattle.std.proofs.lemmas.Nat.{div-add-mod', from_le_bytes-to_le_bytes_2, from_le_bytes-to_le_bytes_4}
-use Rattle.std.proofs.lemmas.Bool.{le-leb, le-ltb, lt-leb, ne_eqb, or_from, cond-true, cond-false}
-use Rattle.std.proofs.lemmas.List.{length-append, take_all}
+use Rattle.std.proofs.lemmas.Bool.{le-leb, le-ltb, ne_eqb, or_from, cond-true, cond-false}
+use Rattle.std.proofs.lemmas.List.{take_all}
 use Rattle.std.proofs.lemmas.List.Elements.{recursion_from_All}
 use Rattle.wav_io.specs.declared.error.WavError.{WavError}
-use Rattle.wav_io.specs.declared.error.WavError.TheVariants.{Channels, RateZero, Bits, NotRiff, NotWave}
+use Rattle.wav_io.specs.declared.error.WavError.TheVariants.{Channels, RateZero, Bits}
 use Rattle.wav_io.specs.declared.format.Format.{Format}
 use Rattle.wav_io.specs.Sound.{Sound, IsSound}
-use Rattle.wav_io.specs.Canonical.{head, sample_bytes, canonical, HasFile}
+use Rattle.wav_io.specs.Canonical.{sample_bytes, canonical, HasFile}
 use Rattle.wav_io.specs.Fields.{number_at, samples_of, whole_frames}
-use Rattle.wav_io.specs.Chunks.{Chunk, size_at, first_chunk, after_chunk, chunks}
-use Rattle.wav_io.specs.Formats.{IsFormat, terms_of, extensible_of, format_of}
-use Rattle.wav_io.specs.Reading.{most_bytes, Finding, body_found, Verdict, decides, goes_on, format_chunk, settled, judged, finding, sound_of, at_end, before_end, found_in, wav_file}
+use Rattle.wav_io.specs.Chunks.{Chunk, chunks}
+use Rattle.wav_io.specs.Formats.{terms_of, format_of}
+use Rattle.wav_io.specs.Reading.{most_bytes, body_found, decides, goes_on, settled, judged, finding, sound_of, at_end, before_end, found_in, wav_file}
 use Rattle.wav_io.proofs.Bodies.{samples_of-sample_bytes, length-sample_bytes}
 use Rattle.wav_io.proofs.Cutting.{finding-decides, finding-goes_on}
 

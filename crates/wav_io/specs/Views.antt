@@ -1,5 +1,5 @@
 -- Values of the code without where they lie in memory.
-use Rattle.std.specs.Prelude.{Option, Some, None, IfSome}
+use Rattle.std.specs.Prelude.{IfSome}
 use Rattle.wav_io.specs.declared.chunk.ChunkRef.{ChunkRef}
 use Rattle.wav_io.specs.declared.finding.Found.{Found}
 use Rattle.wav_io.specs.declared.finding.Found.TheVariants.{Refused, Body, FormatCut, Ended}

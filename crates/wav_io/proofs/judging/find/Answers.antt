@@ -1,4 +1,4 @@
-use Rattle.std.proofs.Common.{◌≡◌, ◌≤◌, length, sym, ap, ◌∙◌, arith}
+use Rattle.std.proofs.Common.{◌≡◌, sym, ap, ◌∙◌, arith}
 use Rattle.wav_io.specs.Reading.{judged, decides, goes_on}
 use Rattle.wav_io.specs.Views.{found_of}
 use Rattle.wav_io.specs.Chunks.{first_chunk}
