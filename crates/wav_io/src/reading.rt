@@ -86,7 +86,13 @@ fn read_file(alloc: Global, bytes: &[u8]) -> Result<Wav, WavError>
     read_found(alloc, found(bytes))
 }
 
-/// The content of a WAV file, which the bytes are, at most 67,108,864 of them.
+/// The content of a WAV file (RIFF WAVE, 16-bit PCM) of at most 67,108,864 bytes.
+///
+/// Whole frames are taken from the first data chunk, and a rest is dropped. Other chunks are skipped, and the RIFF
+/// size isn't looked at. An extensible format is read where its sub-format begins with tag 1.
+/// Each refusal comes where `WavError` says; in a format chunk the tag is judged first, then the channels, the rate
+/// and the bits. A file that is too long is refused as `TooLong`, but where its first 67,108,864 bytes show another
+/// refusal that doesn't need the file's end.
 pub fn read_wav(alloc: Global, bytes: &[u8]) -> Result<Wav, WavError>
     // What is read, and which refusal it is; memory may run out at any file.
     ensures exact { Reads result (wav_file bytes.now) }

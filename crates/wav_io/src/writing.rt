@@ -39,7 +39,8 @@ fn write_file(alloc: Global, wav: &Wav) -> Result<Vec<u8>, WavError>
     Ok(bytes)
 }
 
-/// The canonical file of a WAV's content: the head of 44 bytes and the samples, little-endian.
+/// The canonical file of a WAV's content: the head of 44 bytes that `header` gives, and the samples, two bytes each,
+/// little-endian (RIFF WAVE). Refused as `Memory` alone.
 pub fn write_wav(alloc: Global, wav: &Wav) -> Result<Vec<u8>, WavError>
     requires rate { wav.now.rate < 2 ^ 28 }
     requires size { length wav.now.samples * 2 + 36 < 2 ^ 32 }
