@@ -8,20 +8,23 @@ use Rattle.lab_script.specs.declared.script.Phase.TheVariants.{Play, Write}
 use Rattle.lab_script.specs.Script.{frames_played}
 use Rattle.lab_script.specs.Word.{cut_line, words_of, number_of, is_name, is_file}
 
+-- what follows from a value where there is one
 infixl 10 ◌>>=◌
 abbrev pub ◌>>=◌ : {A B : Type 0} → Option A → (A → Option B) → Option B
 (Some x) >>= f = f x
 None >>= f = None
 
--- one word alone, two words, and three words
+-- the word of a line of one word
 abbrev pub one_of : List (List ℕ) → Option (List ℕ)
 one_of (first ∷ []) = Some first
 one_of words = None
 
+-- the words of a line of two words
 abbrev pub two_of : List (List ℕ) → Option (List ℕ × List ℕ)
 two_of (first ∷ second ∷ []) = Some (first, second)
 two_of words = None
 
+-- the words of a line of three words
 abbrev pub three_of : List (List ℕ) → Option (List ℕ × List ℕ × List ℕ)
 three_of (first ∷ second ∷ third ∷ []) = Some (first, second, third)
 three_of words = None
