@@ -5,21 +5,19 @@ usage: bench/many_clients.py        from the top of the repository; wants sox, a
 
 For 1, 8 and 64 clients: each client writes its file (of as many frames as the ring takes), and the card plays in 4,000
 phases. A run that only plays is subtracted, so the first figure is the time of reading and placing a client's samples, and the
-second that of taking, writing and reporting a played word. Each figure is the best of five runs.
+second that of taking, writing and reporting a played word. Times are processor time, the best of forty runs.
 """
 import os
-import resource
 import struct
 import subprocess
 import sys
 import tempfile
-import time
 from pathlib import Path
 
 TOP = Path(__file__).resolve().parent.parent
 PROGRAM = TOP / "crates/dmixlab/out/dmixlab"
 RATE, PERIOD, RING, PHASES, PLAY = 48000, 16, 16384, 4000, 1048
-RUNS = 5
+RUNS = 40
 
 
 def wav(path, frames, seed):
@@ -47,10 +45,9 @@ def script(clients, plays):
 def timed(command, folder):
     best, peak = None, 0
     for _ in range(RUNS):
-        start = time.perf_counter()
         process = subprocess.Popen(command, cwd=folder, stdout=subprocess.DEVNULL)
         _, status, usage = os.wait4(process.pid, 0)
-        spent = time.perf_counter() - start
+        spent = usage.ru_utime + usage.ru_stime
         if status != 0:
             sys.exit(f"{command[0]} ended with {status}")
         best = spent if best is None else min(best, spent)
