@@ -1,0 +1,6 @@
+//! The hardware parameters of a PCM stream.
+#![tactic(auto)]
+
+mod config;
+
+pub use config::Config;

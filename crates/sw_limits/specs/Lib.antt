@@ -1,0 +1,4 @@
+pub mod Boundary
+pub mod BoundaryLaws
+pub mod ParamLaws
+pub mod Params
