@@ -1,4 +1,8 @@
 //! What no clause says: that calls work where there is memory, and what real files and streams do.
+ghost use Rattle.std.specs.Prelude.{◌≡◌, [], None, IfOk, IsErrOf};
+ghost use Rattle.std.specs.Option.{ForSome};
+ghost use Rattle.lab_shelf.specs.Files.{held};
+
 use crate::{FileShelf, MemoryShelf, MemorySink, Shelf, ShelfFault, Sink, StdSink};
 use std::alloc::Global;
 use std::io::Write;
@@ -10,10 +14,45 @@ fn copied(alloc: Global, bytes: &[u8]) -> Result<Vec<u8>, ShelfFault> {
 }
 
 // A shelf that holds `hello` under the name `a`.
-fn one_file(alloc: Global, failing: Vec<u64>) -> Result<MemoryShelf, ShelfFault> {
+fn one_file(alloc: Global, failing: Vec<u64>) -> Result<MemoryShelf, ShelfFault>
+    ensures { IfOk result (λ shelf. shelf.failing ≡ failing.items) }
+{
     let mut files = Vec::new(alloc);
     files.push((copied(alloc, b"a")?, copied(alloc, b"hello")?))?;
     Ok(MemoryShelf::new(files, failing))
+}
+
+// A caller over any reliable shelf and sink: it stores a file under another name, and puts it out.
+fn copy_out<S: Shelf, K: Sink>(
+    shelf: &mut S,
+    sink: &mut K,
+    alloc: Global,
+    name: &[u8],
+    copy: &[u8],
+) -> Result<(), ShelfFault>
+    requires shelf { S.is_reliable shelf.old }
+    requires sink { K.is_reliable sink.old }
+    ensures reliable { S.is_reliable shelf.new × K.is_reliable sink.new }
+    ensures missing { IsErrOf result ShelfFault.Failed → ForSome (S.files shelf.old) (λ files. held files name.now ≡ None) }
+{
+    let bytes = shelf.fetch(alloc, name, 0, 9)?;
+    shelf.store(copy, &bytes)?;
+    sink.put(&bytes)
+}
+
+#[test]
+fn reliable_forms_fail_only_for_a_missing_name(rt: HostRuntime) -> Result<(), Fail> {
+    let alloc = rt.alloc();
+    let mut shelf = one_file(alloc, Vec::new(alloc))?;
+    let mut sink = MemorySink::new(alloc, Vec::new(alloc));
+    copy_out(&mut shelf, &mut sink, alloc, b"a", b"b")?;
+    copy_out(&mut shelf, &mut sink, alloc, b"b", b"c")?;
+    assert_eq!(rt;
+        copy_out(&mut shelf, &mut sink, alloc, b"d", b"e").err(),
+        Some(ShelfFault::Failed)
+    );
+    assert_eq!(rt; sink.bytes(), b"hellohello".as_slice());
+    Ok(())
 }
 
 #[test]

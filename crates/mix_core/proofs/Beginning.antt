@@ -7,9 +7,10 @@ use Rattle.std.proofs.lemmas.List.Elements.{All-replicate}
 use Rattle.std.proofs.lemmas.Nat.{div-mul-add}
 use Rattle.snd_base.specs.declared.geometry.Geometry.{Geometry}
 use Rattle.snd_base.specs.declared.places.Cursor.{Cursor}
-use Rattle.snd_base.specs.Places.{IsWithin, end_frame, first_frame, first_free, lap, word_index}
+use Rattle.snd_base.specs.Places.{IsWithin, first_frame, first_free, lap, word_index}
 use Rattle.lap_word.specs.Word.{StandsFor}
 use Rattle.mix_core.specs.Calls.{IsNew}
+use Rattle.mix_core.specs.LegalLaws.{first_frame-le}
 use Rattle.mix_core.specs.Sound.{IsNow, IsSound}
 use Rattle.mix_core.specs.Stands.{Stands}
 use Rattle.mix_core.specs.View.{View, word_at}
@@ -43,9 +44,6 @@ lap-first g f c now =
 
 pub word_at-new : (g : Geometry) (members word f c : ℕ) → c < g.channels → word_at (new_view g members word) f c ≡ word
 word_at-new g members word f c in_range = get_or-replicate (g.frames * g.channels) (word_index g f c) word 0 (word_index-lt g f c in_range)
-
-pub first_frame-le : (g : Geometry) → first_frame g ≤ end_frame g
-first_frame-le g = grind (arith, g.first_lap_most)
 
 pub IsSound-new : (g : Geometry) (members word : ℕ) → members ≤ 64 → StandsFor word g.first_lap 0 (pos 0) → IsSound (new_view g members word)
 IsSound-new g members word few stands = record {

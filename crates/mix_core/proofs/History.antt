@@ -17,7 +17,7 @@ use Rattle.mix_core.specs.Sound.{IsNow, IsSound}
 use Rattle.mix_core.specs.Stands.{Agrees, Stands}
 use Rattle.mix_core.specs.View.{View, word_at}
 use Rattle.mix_core.proofs.Agreement.{Agrees-added, Agrees-published, Agrees-taken, Agrees-unplugged, added_view, taken_view}
-use Rattle.mix_core.proofs.Legality.{IsLegal-more}
+use Rattle.mix_core.specs.LegalLaws.{IsLegal-more}
 use Rattle.mix_core.proofs.Lists.{filter_map-none, filter_map-some}
 
 -- a publication

@@ -1,7 +1,6 @@
 pub mod Agreement
 pub mod Beginning
 pub mod History
-pub mod Legality
 pub mod Lists
 pub mod Soundness
 pub mod Words

@@ -21,6 +21,10 @@ Row = Event × Reply
 abbrev pub row_of : Entry → Row
 row_of e = (Add e.member e.frame e.channel e.sample, In)
 
+-- the row of an entry that was late: its frame and channel were taken before the add
+abbrev pub late_row : Entry → Row
+late_row e = (Add e.member e.frame e.channel e.sample, Late)
+
 -- the entry that a row laid: that of an add with the reply `In`
 abbrev pub entry_of : Row → Option Entry
 entry_of (Add m f c s, In) = Some (record { member = m; frame = f; channel = c; sample = s })

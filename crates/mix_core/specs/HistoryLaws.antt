@@ -1,13 +1,11 @@
 -- What histories that were joined laid and took, and the sums of lists of entries that were joined.
 use Rattle.std.specs.Prelude.{◌≡◌, ℕ, List, [], ◌∷◌, ◌++◌, ℤ, pos, ◌+ℤ◌, filter, fold, map}
-use Rattle.std.specs.List.{filter_map}
-use Rattle.std.proofs.Common.{refl, ap, ◌∙◌, sym, arith}
+use Rattle.std.proofs.Common.{refl, ap, ◌∙◌, arith}
 use Rattle.std.proofs.lemmas.Int.{ints}
 use Rattle.std.proofs.lemmas.List.{append-nil, map-append}
 use Rattle.std.proofs.lemmas.List.Elements.{filter-append, filter_map-append}
 use Rattle.mix_core.specs.declared.event.Event.TheVariants.{Publish, Take}
 use Rattle.mix_core.specs.declared.event.Reply.TheVariants.{LapEnd, Published, Took}
-use Rattle.mix_core.specs.declared.event.Taken.{Taken}
 use Rattle.mix_core.specs.declared.port.Entry.{Entry}
 use Rattle.mix_core.specs.History.{Row, entry_of, laid_of, row_of, taken_of, taking_of}
 use Rattle.mix_core.specs.Laid.{at, is_at, sum_of_samples, total}

@@ -3,6 +3,7 @@ pub mod Gate
 pub mod History
 pub mod HistoryLaws
 pub mod Laid
+pub mod LegalLaws
 pub mod Port
 pub mod Sound
 pub mod Stands

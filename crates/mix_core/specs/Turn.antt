@@ -1,12 +1,12 @@
 -- What a turn lays and loads: its core is a value behind a reference, and every history that the core stands for goes on.
-use Rattle.std.specs.Prelude.{◌≡◌, ◌≢◌, ℕ, List, ◌++◌, All, length, map}
+use Rattle.std.specs.Prelude.{◌≡◌, ◌≢◌, ℕ, List, [], ◌∷◌, ◌++◌, All, length, map}
 use Rattle.std.specs.Borrow.{MutBor}
 use Rattle.std.specs.List.{slice_index_or}
 use Rattle.snd_base.specs.declared.places.Cursor.{Cursor}
 use Rattle.mix_core.specs.declared.port.Entry.{Entry}
 use Rattle.mix_core.specs.declared.port.Position.{Position}
 use Rattle.mix_core.specs.declared.turn.Turn.{Turn}
-use Rattle.mix_core.specs.History.{Row, row_of}
+use Rattle.mix_core.specs.History.{Row, late_row, row_of}
 use Rattle.mix_core.specs.Stands.{Stands}
 use Rattle.mix_core.specs.View.{View}
 
@@ -42,6 +42,10 @@ pub record TurnLaid (t u : Turn) (es : List Entry) : Type 0 where
   pub own : All (λ (e : Entry). e.member ≡ t.member) es
   pub others : (m : ℕ) (d : Cursor) → m ≢ t.member → slice_index_or (core_of u).cursors m d ≡ slice_index_or (core_of t).cursors m d
   pub stands : (h : List Row) → Stands (core_of t) h → Stands (core_of u) (h ++ map row_of es)
+
+-- a turn's add of an entry was late: each history that the core stood for has this add at its end
+abbrev pub TurnMissed : Turn → Turn → Entry → Type 0
+TurnMissed t u e = (h : List Row) → Stands (core_of t) h → Stands (core_of u) (h ++ late_row e ∷ [])
 
 -- a turn loaded some positions: each is the core's, with its gone bit
 pub record TurnLoaded (t u : Turn) (ps : List Position) : Type 0 where

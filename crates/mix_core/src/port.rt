@@ -43,26 +43,45 @@ pub struct Entry {
 /// Its meaning is its geometry, its member, the cursor (the first frame and channel that it may still add to), the
 /// greatest position that it has seen, and two relations between an earlier and a later state of it: which entries it
 /// laid in between, and which positions it loaded. It shows words of the ring at frames and channels.
+///
+/// Four further facts are each ring's own. `can_add` is what a port needs for any placement, whatever the frame: loads
+/// of the position and placements keep it. A placement is in time only where `can_be_in` holds of its frame and channel,
+/// and late only where `can_be_late` does; a ring with one owner knows by them beforehand which of the two comes, and one
+/// whose words others may take in between promises nothing by them. `missed` is what a ring promises of an entry that
+/// came too late, between the states before and after the placement.
 pub trait MixPort {
+    // The ring's geometry.
     ghost geometry: { Self → Geometry };
 
+    // The number of the member.
     ghost member: { Self → ℕ };
 
+    // The first frame and channel that the member may still add to.
     ghost cursor: { Self → Cursor };
 
+    // The greatest position that was seen, or the first frame.
     ghost seen: { Self → ℕ };
 
+    // Whether the port may make placements at all.
     ghost can_add: { Self → Type 0 };
 
+    // Which entries were laid between two states, in order.
     ghost laid: { Self → Self → List Entry → Type 0 };
 
+    // Which positions were loaded between two states, in order.
     ghost loaded: { Self → Self → List Position → Type 0 };
 
+    // The word that the ring shows at a frame and channel, where it tells one.
     ghost shows: { Self → ℕ → ℕ → Option ℕ };
 
+    // Whether a placement at a frame and channel can be in time.
     ghost can_be_in: { Self → ℕ → ℕ → Type 0 } = { λ _ _ _. ⊤ };
 
+    // Whether a placement at a frame and channel can be late.
     ghost can_be_late: { Self → ℕ → ℕ → Type 0 } = { λ _ _ _. ⊤ };
+
+    // What a placement of an entry that was late means for the states before and after it.
+    ghost missed: { Self → Self → Entry → Type 0 } = { λ _ _ _. ⊤ };
 
     /// The ring's geometry.
     fn geometry(&self) -> Geometry
@@ -99,9 +118,17 @@ pub trait MixPort {
 
     /// Adds a sample at a frame (its absolute number) and channel, and moves the cursor right behind it.
     ///
+    /// A caller shows four things: the port may add at all (`can_add`); the channel is one of the ring's; the frame and
+    /// channel are at the port's cursor or behind it, so that no member adds twice to one word; and the frame is less than
+    /// the ring's length past the position that the port has seen, so that its slot isn't still in use by an earlier frame.
+    ///
     /// `Late` comes only where a word of this slot and channel was seen whose lap is past the frame's; nothing was
-    /// added. `LapEnd` comes exactly where the frame's lap is at least 4294967295, before the first ask, and `Stopped`
-    /// exactly where the gate stopped. The asks are one `Look` and one `Exchange` where it is in time.
+    /// added, and the cursor stays. `LapEnd` comes exactly where the frame's lap is at least 4294967295, before the first
+    /// ask, and `Stopped` exactly where the gate stopped; nothing was added then either.
+    ///
+    /// The asks are one `Look` and one `Exchange` where it is in time, one `Look`, and an `Exchange` if need be, where it
+    /// is late. The clause `asks` counts them, and tells neither their kinds nor their order; it leaves out those of kind
+    /// `Again`.
     fn place<G: Gate>(
         &mut self,
         gate: &mut G,
@@ -127,6 +154,7 @@ pub trait MixPort {
         // Nothing was laid, and the word of a later lap is shown.
         ensures late { IfLate result (λ word. IsNotIn laid cursor self.old self.new × IsPast geometry shows self.new frame channel word) }
         ensures only_late { IfLate result (λ _. can_be_late self.old frame channel) }
+        ensures missed { IfLate result (λ _. missed self.old self.new (record { member = member self.old; frame = frame; channel = channel; sample = sample })) }
 
         ensures err { OnErr result (IsNotIn laid cursor self.old self.new) }
         ensures lap_end { G.stops gate.new ≡ G.stops gate.old → IsErrOf result PcmError.LapEnd ↔ (4294967295 ≤ lap (geometry self.old) frame) }

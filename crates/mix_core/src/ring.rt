@@ -14,8 +14,18 @@ use std::marker::Model;
 /// The clients' samples are summed as ALSA's dmix plugin sums them (alsa-lib, `snd_pcm_dmix`), in one word for each slot
 /// and channel, and cut to 16 bits once, when the player takes the word.
 ///
-/// A core keeps no history of what happened to it; that it stands for one is a relation. Each call of it, and of a
-/// `Turn` over it, appends its events and their replies to every history that it stood for.
+/// A core keeps no history of what happened to it; that it stands for one is a relation. A new core stands for the empty
+/// history. For each history that a core stood for before a call, it stands afterwards for that history with this at its
+/// end:
+///
+/// - after `take` a take with the frame, channel and value that were taken, or one that was refused with `LapEnd`;
+/// - after `publish` a publication of the position;
+/// - after a placement through a `Turn` that answers `In` an add of the member that was in time, and after one that
+///   answers `Late` an add that was late;
+/// - after `unplug` and every other call nothing. So it is after a placement that ends with `LapEnd`, since it could only
+///   be an add with the reply `Outside`, and those are left out, and after one that ends with `Stopped`, since it is none.
+///
+/// An add that was late changes nothing, so the core stands for the history without it too.
 #[derive(Drop)]
 pub struct Core {
     geometry: Geometry,

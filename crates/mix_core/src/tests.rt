@@ -1,6 +1,6 @@
 ghost use Rattle.std.specs.Prelude.{◌≡◌, ◌<◌, ◌≤◌, ◌+◌, ◌∷◌, ◌++◌, [], List, length, slice_index_or, IfErr};
 ghost use Rattle.snd_base.specs.Places.{IsFrom, first_free};
-ghost use Rattle.mix_core.specs.History.{Row, row_of};
+ghost use Rattle.mix_core.specs.History.{Row, late_row, row_of};
 ghost use Rattle.mix_core.specs.Port.{IfLate, OnIn};
 ghost use Rattle.mix_core.specs.Stands.{Stands};
 ghost use Rattle.mix_core.specs.Turn.{KeepsRest};
@@ -23,6 +23,7 @@ fn place_once<P: MixPort, G: Gate>(
     requires ahead { frame < P.seen port.old + (P.geometry port.old).frames }
     ensures in_time { OnIn result (P.laid port.old port.new (record { member = P.member port.old; frame = frame; channel = channel; sample = sample } ∷ [])) }
     ensures late { IfLate result (λ _. P.laid port.old port.new [] × P.can_be_late port.old frame channel) }
+    ensures missed { IfLate result (λ _. P.missed port.old port.new (record { member = P.member port.old; frame = frame; channel = channel; sample = sample })) }
     ensures err { IfErr result (λ e. P.laid port.old port.new []) }
     ensures only { G.stops gate.new ≡ G.stops gate.old → IfErr result (λ e. e ≡ PcmError.LapEnd) }
 {
@@ -43,6 +44,7 @@ fn lay(
     requires ahead { frame < core.old.position + core.old.geometry.frames }
     ensures in_time { OnIn result ((h : List Row) → Stands core.old h → Stands core.new (h ++ row_of (record { member = member; frame = frame; channel = channel; sample = sample }) ∷ [])) }
     ensures late { IfLate result (λ _. frame < first_free core.old.next channel) }
+    ensures missed { IfLate result (λ _. (h : List Row) → Stands core.old h → Stands core.new (h ++ late_row (record { member = member; frame = frame; channel = channel; sample = sample }) ∷ [])) }
     ensures only { IfErr result (λ e. e ≡ PcmError.LapEnd) }
     ensures rest { KeepsRest core.old core.new }
 {

@@ -8,9 +8,11 @@ use snd_base::{Cursor, Geometry, PcmError};
 
 /// The port of one member over a core, which it borrows as long as it lasts.
 ///
-/// For every history that the core stood for, it stands afterwards for that history with what was laid through the turn
-/// at its end, as adds of this member that were in time. The positions that it loads are the core's. Over a turn a
-/// placement is late exactly where its frame and channel were taken.
+/// For every history that the core stood for before a placement, it stands afterwards for that history with the add of
+/// this member at its end: with the reply `In` where it was laid (the relation `laid`, which joins the adds of several
+/// calls), and with the reply `Late` where it came too late (the relation `missed`). A placement that ends with `LapEnd`
+/// or `Stopped` appends nothing, nor does a load of the position. The positions that it loads are the core's. Over a turn
+/// a placement is late exactly where its frame and channel were taken.
 #[derive(Drop)]
 pub struct Turn<'a> {
     core: &'a mut Core,
@@ -37,7 +39,7 @@ impl MixPort for Turn<'_> {
     ghost use Rattle.std.specs.Prelude.{Some, slice_index_or, ◌<◌, ◌≤◌, ⊤};
     ghost use Rattle.snd_base.specs.Places.{first_free};
     ghost use Rattle.snd_base.specs.Relations.{Composes-none_after, Composes-none_before};
-    ghost use Rattle.mix_core.specs.Turn.{TurnLaid, TurnLoaded, core_of, cursor_of_turn, member_of};
+    ghost use Rattle.mix_core.specs.Turn.{TurnLaid, TurnLoaded, TurnMissed, core_of, cursor_of_turn, member_of};
     ghost use Rattle.mix_core.specs.TurnLaws.{TurnLaid-composes, TurnLoaded-composes};
     ghost use Rattle.mix_core.specs.View.{word_at};
 
@@ -60,6 +62,8 @@ impl MixPort for Turn<'_> {
     ghost can_be_in = { λ t f c. first_free (core_of t).next c ≤ f };
 
     ghost can_be_late = { λ t f c. f < first_free (core_of t).next c };
+
+    ghost missed = { TurnMissed };
 
     ghost laid_composes = { TurnLaid-composes };
 

@@ -1,0 +1,118 @@
+-- What is true of every legal history: how it goes on, and where its cursors and its next word stand.
+use Rattle.std.specs.Prelude.{◌≡◌, ◌≢◌, ◌⊎◌, ℕ, ◌*◌, ◌<◌, ◌≤◌, None, Some, List, [], ◌∷◌, ◌++◌, length}
+use Rattle.std.proofs.Common.{refl, sym, subst, ap, ◌∙◌, append_assoc, arith, inl, inr}
+use Rattle.std.proofs.Math.Nat.{div-lt_iff_lt-mul}
+use Rattle.std.proofs.lemmas.Bool.Decides.{nat_tests}
+use Rattle.std.proofs.lemmas.List.{append-nil, length-append}
+use Rattle.std.proofs.lemmas.List.Elements.{filter_map-append}
+use Rattle.std.proofs.lemmas.List.Sums.{fold_push}
+use Rattle.snd_base.specs.declared.geometry.Geometry.{Geometry}
+use Rattle.snd_base.specs.declared.places.Cursor.{Cursor}
+use Rattle.snd_base.specs.PlaceLaws.{next_word-suc}
+use Rattle.snd_base.specs.Places.{IsFrom, behind, end_frame, first_frame, first_free, lap, next_word}
+use Rattle.mix_core.specs.declared.port.Entry.{Entry}
+use Rattle.mix_core.specs.declared.event.Event.TheVariants.{Add, Take, Publish}
+use Rattle.mix_core.specs.declared.event.Reply.TheVariants.{In, Late, Outside, Took, Published, LapEnd}
+use Rattle.mix_core.specs.declared.event.Taken.{Taken}
+use Rattle.mix_core.specs.History.{AreReplies, IsInside, IsLegal, IsReply, Row, entry_of, laid_of, next_of, taken_of, taking_of}
+use Rattle.mix_core.specs.Laid.{cursor_after, cursor_of}
+
+-- one more row at the end
+pub AreReplies-more : (g : Geometry) (members : ℕ) (h rs : List Row) (r : Row)
+    → AreReplies g members h rs → IsReply g members (h ++ rs) r → AreReplies g members h (rs ++ r ∷ [])
+AreReplies-more g members h [] r are is = (subst (λ x. IsReply g members x r) (append-nil h) is, tt)
+AreReplies-more g members h (x ∷ xs) r are is =
+    (are.0, AreReplies-more g members (h ++ x ∷ []) xs r are.1 (subst (λ y. IsReply g members y r) (sym (append_assoc h (x ∷ []) xs)) is))
+
+pub IsLegal-more : (g : Geometry) (members : ℕ) (h : List Row) (r : Row) → IsLegal g members h → IsReply g members h r → IsLegal g members (h ++ r ∷ [])
+IsLegal-more g members h r legal is = AreReplies-more g members [] h r legal is
+
+-- what each reply keeps true stands after all of them
+pub AreReplies-keep : (g : Geometry) (members : ℕ) (P : List Row → Type 0)
+    → ((h : List Row) (r : Row) → IsReply g members h r → P h → P (h ++ r ∷ []))
+    → (h rs : List Row) → P h → AreReplies g members h rs → P (h ++ rs)
+AreReplies-keep g members P step h [] holds are = subst P (sym (append-nil h)) holds
+AreReplies-keep g members P step h (r ∷ rs) holds are =
+    subst P (append_assoc h (r ∷ []) rs) (AreReplies-keep g members P step (h ++ r ∷ []) rs (step h r are.0 holds) are.1)
+
+-- a row lays nothing, or one entry where its member may add
+pub entry_of-cases : (g : Geometry) (members : ℕ) (h : List Row) (r : Row) → IsReply g members h r
+    → (entry_of r ≡ None) ⊎ ((e : Entry) × ((entry_of r ≡ Some e) × IsInside g members h e.member e.frame e.channel))
+entry_of-cases g members h (Add m f c s, In) is = inr (record { member = m; frame = f; channel = c; sample = s }, (refl, is.0))
+entry_of-cases g members h (Add m f c s, Late) is = inl refl
+entry_of-cases g members h (Add m f c s, Outside) is = inl refl
+entry_of-cases g members h (Add m f c s, Took k d v) is = inl refl
+entry_of-cases g members h (Add m f c s, Published k) is = inl refl
+entry_of-cases g members h (Add m f c s, LapEnd) is = inl refl
+entry_of-cases g members h (Take, r) is = inl refl
+entry_of-cases g members h (Publish, r) is = inl refl
+
+-- a row takes nothing, or one word whose frame has a lap that fits
+pub taking_of-cases : (g : Geometry) (members : ℕ) (h : List Row) (r : Row) → IsReply g members h r
+    → (taking_of r ≡ None) ⊎ ((t : Taken) × ((taking_of r ≡ Some t) × (lap g (next_of g h).frame ≢ 4294967295)))
+taking_of-cases g members h (Add m f c s, r) is = inl refl
+taking_of-cases g members h (Publish, r) is = inl refl
+taking_of-cases g members h (Take, In) is = inl refl
+taking_of-cases g members h (Take, Late) is = inl refl
+taking_of-cases g members h (Take, Outside) is = inl refl
+taking_of-cases g members h (Take, Took k d v) is = inr (record { frame = k; channel = d; value = v }, (refl, is.0))
+taking_of-cases g members h (Take, Published k) is = inl refl
+taking_of-cases g members h (Take, LapEnd) is = inl refl
+
+-- a cursor behind an entry is not before the cursor that it was laid from
+cursor_after-grows : (g : Geometry) (m : ℕ) (at own : Cursor) (e : Entry)
+    → first_frame g ≤ at.frame → first_frame g ≤ own.frame → IsFrom own e.frame e.channel → first_frame g ≤ (cursor_after g m at e).frame
+cursor_after-grows g m at own e least from_first from = grind (arith, nat_tests)
+
+-- no cursor is before the first frame
+pub cursor_of-least : (g : Geometry) (members : ℕ) (h : List Row) (m : ℕ) → IsLegal g members h → first_frame g ≤ (cursor_of g m (laid_of h)).frame
+cursor_of-least g members h m legal =
+    let P : List Row → Type 0 = λ x. (k : ℕ) → first_frame g ≤ (cursor_of g k (laid_of x)).frame in
+    AreReplies-keep g members P (
+    λ x r is holds k. elim (entry_of-cases g members x r is) [
+      | inl none ↦ rw (filter_map-append entry_of x (r ∷ []), none, append-nil (laid_of x)) (holds k)
+      | inr one ↦
+          rw (filter_map-append entry_of x (r ∷ []), one.1.0, fold_push (cursor_after g k) (record { frame = first_frame g; channel = 0 }) (laid_of x) one.0)
+          (cursor_after-grows g k (cursor_of g k (laid_of x)) (cursor_of g one.0.member (laid_of x)) one.0 (holds k) (holds one.0.member) one.1.1.from_cursor)
+    ]
+    ) [] h (λ k. omega arith) legal m
+
+-- the first frame is not past the end
+pub first_frame-le : (g : Geometry) → first_frame g ≤ end_frame g
+first_frame-le g = grind (arith, g.first_lap_most)
+
+-- a frame up to the end whose lap fits is before the end
+frame-before_end : (g : Geometry) (f : ℕ) → f ≤ end_frame g → lap g f ≢ 4294967295 → f < end_frame g
+frame-before_end g f within other =
+    let some : 0 < g.frames = omega (arith, g.frames_least) in
+    let below : f < 4294967296 * g.frames = omega (arith, g.frames_least) in
+    let fits : lap g f < 4294967296 = (div-lt_iff_lt-mul some).1 below in
+    (div-lt_iff_lt-mul some).0 (omega (arith, other, fits))
+
+-- the word behind one before the end is none past it
+behind-within : (g : Geometry) (at : Cursor) (c : ℕ) → at.frame < end_frame g → first_free (behind g at.frame at.channel) c ≤ end_frame g
+behind-within g at c before = grind (arith, nat_tests)
+
+-- no frame from the end on is taken
+pub next_of-most : (g : Geometry) (members : ℕ) (h : List Row) (c : ℕ) → IsLegal g members h → first_free (next_of g h) c ≤ end_frame g
+next_of-most g members h c legal =
+    let P : List Row → Type 0 = λ x. (d : ℕ) → first_free (next_of g x) d ≤ end_frame g in
+    let start_is : next_word g 0 ≡ record { frame = first_frame g; channel = 0 } = grind arith in
+    AreReplies-keep g members P (
+    λ x r is holds d. elim (taking_of-cases g members x r is) [
+      | inl none ↦ rw (filter_map-append taking_of x (r ∷ []), none, append-nil (taken_of x)) (holds d)
+      | inr one ↦
+          let at : Cursor = next_of g x in
+          let own : at.frame ≤ end_frame g = grind (arith, nat_tests, holds at.channel) in
+          let more : taken_of (x ++ r ∷ []) ≡ taken_of x ++ one.0 ∷ [] = rw (filter_map-append taking_of x (r ∷ []), one.1.0) refl in
+          let next_is : next_of g (x ++ r ∷ []) ≡ behind g at.frame at.channel =
+          ap (λ ts. next_word g (length ts)) more ∙ (ap (next_word g) (length-append (taken_of x) (one.0 ∷ [])) ∙ next_word-suc g (length (taken_of x))) in
+          subst (λ (y : Cursor). first_free y d ≤ end_frame g) (sym next_is) (behind-within g at d (frame-before_end g at.frame own one.1.1))
+    ]
+    ) [] h (λ d. subst (λ (x : Cursor). first_free x d ≤ end_frame g) (sym start_is) (grind (arith, nat_tests, first_frame-le g))) legal c
+
+-- the lap of a frame and channel that were taken fits a word
+pub lap-taken : (g : Geometry) (members : ℕ) (h : List Row) (f c : ℕ) → IsLegal g members h → f < first_free (next_of g h) c → lap g f < 4294967295
+lap-taken g members h f c legal before =
+    let some : 0 < g.frames = omega (arith, g.frames_least) in
+    (div-lt_iff_lt-mul some).1 (omega (arith, next_of-most g members h c legal, before))
