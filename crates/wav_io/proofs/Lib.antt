@@ -1,3 +1,4 @@
 pub mod Bodies
 pub mod Cutting
 pub mod Files
+pub mod Refusals

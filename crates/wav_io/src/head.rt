@@ -3,8 +3,12 @@
 ghost use Rattle.std.specs.Prelude.{◌≡◌, ◌+◌, ◌*◌, ◌^◌, ◌<◌, ◌≤◌};
 ghost use Rattle.wav_io.specs.Canonical.{head};
 
-/// The canonical head of 44 bytes: `RIFF`, a format chunk of 16 bytes for 16-bit PCM, and the head of a
-/// data chunk of `frames` frames. `rate` is in Hz. The numbers are little-endian (RIFF WAVE).
+/// The canonical head of a WAV file (RIFF WAVE): the 44 bytes before the samples.
+///
+/// These are `RIFF`, the size of what follows it, `WAVE`, a format chunk of 16 bytes for 16-bit PCM, and the head of a
+/// data chunk of `frames` frames, that is of `frames * channels * 2` bytes. All numbers are little-endian.
+/// There are 1 to 8 `channels`. `rate` is in frames per second (Hz), from 1 to `2^28 - 1`. The size after `RIFF`,
+/// `frames * channels * 2 + 36` bytes, is below `2^32`. Takes no memory.
 pub fn header(channels: u16, rate: u32, frames: u32) -> [u8; 44]
     requires some_channel { 1 ≤ channels }
     requires few_channels { channels ≤ 8 }

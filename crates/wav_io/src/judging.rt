@@ -1,7 +1,8 @@
 //! What the chunks of a WAV file come to.
 
-ghost use Rattle.std.specs.Prelude.{◌≡◌, ◌+◌, ◌≤◌, length, None, Some, IfSome, IfOk};
+ghost use Rattle.std.specs.Prelude.{◌≡◌, ◌≢◌, ◌+◌, ◌≤◌, length, None, Some, IfSome, IfOk, IfErr};
 ghost use Rattle.std.specs.Int.{w16, w32};
+ghost use Rattle.wav_io.specs.declared.error.WavError.TheVariants.{Memory};
 ghost use Rattle.wav_io.specs.Chunks.{chunks};
 ghost use Rattle.wav_io.specs.Formats.{IsFormat, terms_of, extensible_of, format_of};
 ghost use Rattle.wav_io.specs.Reading.{judged, format_chunk, data_chunk, finding};
@@ -18,6 +19,7 @@ fn read_terms(body: &[u8]) -> Result<Format, WavError>
     requires { 16 ≤ length body.now }
     ensures value { result ≡ terms_of body.now }
     ensures in_order { IfOk result IsFormat }
+    ensures refused { IfErr result (λ e. e ≢ Memory) }
 {
     let channels = u16_at(body, 2);
     if channels < 1 || 8 < channels {
@@ -40,6 +42,7 @@ fn read_extensible(body: &[u8]) -> Result<Format, WavError>
     requires { 16 ≤ length body.now }
     ensures value { result ≡ extensible_of body.now }
     ensures in_order { IfOk result IsFormat }
+    ensures refused { IfErr result (λ e. e ≢ Memory) }
 {
     if body.len() < 40 {
         return Err(WavError::ShortFormat);
@@ -57,6 +60,7 @@ fn read_format(body: &[u8]) -> Result<Format, WavError>
     requires { 16 ≤ length body.now }
     ensures value { result ≡ format_of body.now }
     ensures in_order { IfOk result IsFormat }
+    ensures refused { IfErr result (λ e. e ≢ Memory) }
 {
     let tag = u16_at(body, 0);
     if tag == 1 {

@@ -4,7 +4,7 @@ ghost use Rattle.std.specs.Prelude.{◌≡◌, ◌==◌, ◌↔◌, [], length, 
 
 use std::marker::Model;
 
-/// Signed 16-bit samples. Contracts see them as the list of their numbers.
+/// Signed 16-bit samples, of whichever shape. Contracts see them as the list of their numbers.
 #[derive(Debug, Drop)]
 pub struct Samples {
     items: Vec<i16>,
@@ -40,7 +40,7 @@ impl Samples {
         self.items.as_slice()
     }
 
-    /// How many samples there are.
+    /// How many samples there are, in all channels together.
     pub fn len(&self) -> usize
         ensures { result ≡ length self.now }
     {

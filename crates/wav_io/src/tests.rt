@@ -1,3 +1,5 @@
+mod real_files;
+
 use super::*;
 use std::alloc::{AllocError, Global};
 use std::test::*;

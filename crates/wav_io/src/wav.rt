@@ -3,9 +3,10 @@
 use crate::samples::Samples;
 use std::marker::Model;
 
-/// The content of a WAV file. Contracts see it as the record `Sound` of its fields.
+/// The content of a WAV file (RIFF WAVE, 16-bit PCM). Contracts see it as the record `Sound` of its fields.
 ///
-/// There are 1 to 8 channels, the rate isn't 0, and the samples are whole frames.
+/// There are 1 to 8 channels, the rate isn't 0, and the samples are whole frames: their number is a multiple of the
+/// channels.
 #[derive(Debug, Drop)]
 pub struct Wav {
     /// Samples per frame, 1 to 8.
