@@ -1,0 +1,19 @@
+//! Sample formats, and buffers of samples: the bytes of a sample, and frames that are copied or
+//! silenced in a buffer of any layout.
+//!
+//! The formats and their numbers are those of ALSA (`snd_pcm_format_t` of alsa/pcm.h). No call takes
+//! memory.
+#![tactic(auto)]
+
+mod areas;
+mod copying;
+mod format;
+mod sample;
+
+pub use areas::Areas;
+pub use copying::{copy_frames, silence_frames};
+pub use format::Format;
+pub use sample::{print_sample, read_sample};
+
+#[cfg(test)]
+mod tests;
