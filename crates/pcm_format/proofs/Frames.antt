@@ -1,10 +1,10 @@
 -- Frames that are written one after another, sample by sample.
-use Rattle.std.proofs.Common.{◌≡◌, ◌≢◌, ℕ, zero, suc, ◌+◌, ◌*◌, ◌/◌, ◌<◌, ◌≤◌, Bool, true, false, cond, List, [], ◌∷◌, length, ℤ, Option, Some, refl, sym, ap, subst, ◌∙◌, arith, below_more}
+use Rattle.std.proofs.Common.{◌≡◌, ◌≢◌, ℕ, zero, suc, ◌+◌, ◌<◌, List, [], ◌∷◌, length, ℤ, Option, Some, refl, sym, ap, ◌∙◌, arith, below_more}
 use Rattle.std.proofs.Math.ListN.{set}
-use Rattle.std.proofs.lemmas.Nat.{div-mul-add}
 use Rattle.std.specs.Prelude.{slice_get}
 use Rattle.pcm_format.specs.declared.areas.Areas.{Areas}
 use Rattle.pcm_format.specs.Places.{place_of, IsOutsideFrame, ChangesOnlyFrame, ChangesOnly}
+use Rattle.pcm_format.specs.PlaceLaws.{place_of-frame, place_of-channel}
 
 -- a written element is there
 pub slice_get-set_same : (xs : List ℤ) (i : ℕ) (v : ℤ) → i < length xs → slice_get (set xs i v) i ≡ Some v
@@ -20,32 +20,6 @@ slice_get-set_other (x ∷ xs) zero (suc k) v other = refl
 slice_get-set_other (x ∷ xs) (suc i) zero v other = refl
 slice_get-set_other (x ∷ xs) (suc i) (suc k) v other = slice_get-set_other xs i k v (λ e. other (ap suc e))
 
--- two numbers in rows of one width that are one number stand in one row
-same_row : (a b w c d : ℕ) → c < w → d < w → a * w + c ≡ b * w + d → a ≡ b
-same_row a b w c d low high same = sym (div-mul-add a w c low) ∙ ap (λ (n : ℕ). n / w) same ∙ div-mul-add b w d high
-
--- and in one column
-same_column : (a b w c d : ℕ) → c < w → d < w → a * w + c ≡ b * w + d → c ≡ d
-same_column a b w c d low high same = omega (arith, same, ap (λ (n : ℕ). n * w) (same_row a b w c d low high same))
-
--- of two frames no sample stands at one place
-pub place_of-frame : (areas : Areas) (f g c d : ℕ) → f < areas.frames → g < areas.frames → c < areas.channels → d < areas.channels
-    → place_of areas f c ≡ place_of areas g d → f ≡ g
-place_of-frame areas f g c d f_in g_in c_in d_in same =
-    elim areas.interleaved as (λ b. cond b (f * areas.channels + c) (c * areas.frames + f) ≡ cond b (g * areas.channels + d) (d * areas.frames + g) → f ≡ g) [
-      true ↦ λ e. same_row f g areas.channels c d c_in d_in e
-    | false ↦ λ e. same_column c d areas.frames f g f_in g_in e
-    ] same
-
--- of two channels no sample stands at one place
-pub place_of-channel : (areas : Areas) (f g c d : ℕ) → f < areas.frames → g < areas.frames → c < areas.channels → d < areas.channels
-    → place_of areas f c ≡ place_of areas g d → c ≡ d
-place_of-channel areas f g c d f_in g_in c_in d_in same =
-    elim areas.interleaved as (λ b. cond b (f * areas.channels + c) (c * areas.frames + f) ≡ cond b (g * areas.channels + d) (d * areas.frames + g) → c ≡ d) [
-      true ↦ λ e. same_column f g areas.channels c d c_in d_in e
-    | false ↦ λ e. same_row c d areas.frames f g f_in g_in e
-    ] same
-
 -- the first n channels of a frame are these
 abbrev pub FrameHas : Areas → ℕ → ℕ → (ℕ → Option ℤ) → List ℤ → Type 0
 FrameHas areas frame n value xs = (c : ℕ) → c < n → slice_get xs (place_of areas frame c) ≡ value c
@@ -60,8 +34,8 @@ pub FrameHas-more : (areas : Areas) (frame n p : ℕ) (value : ℕ → Option �
 FrameHas-more areas frame n p value xs v frame_in n_in here inside is so_far =
     below_more (λ c. slice_get (set xs p v) (place_of areas frame c) ≡ value c) n
     (λ c low.
-      let apart : place_of areas frame c ≢ p = λ e. absurd (let one : c ≡ n = place_of-channel areas frame frame c n frame_in frame_in (omega arith) n_in (e ∙ here) in omega arith) in
-      slice_get-set_other xs p (place_of areas frame c) v apart ∙ so_far c low)
+    let apart : place_of areas frame c ≢ p = λ e. absurd (let one : c ≡ n = place_of-channel areas frame frame c n frame_in frame_in (omega arith) n_in (e ∙ here) in omega arith) in
+    slice_get-set_other xs p (place_of areas frame c) v apart ∙ so_far c low)
     (ap (λ (k : ℕ). slice_get (set xs p v) k) (sym here) ∙ (slice_get-set_same xs p v inside ∙ is))
 
 pub FrameOnly-more : (areas : Areas) (frame n p : ℕ) (old xs : List ℤ) (v : ℤ) → p ≡ place_of areas frame n → FrameOnly areas frame n old xs → FrameOnly areas frame (n + 1) old (set xs p v)
@@ -78,10 +52,10 @@ pub RangeHas-more : (areas : Areas) (at n : ℕ) (value : ℕ → ℕ → Option
 RangeHas-more areas at n value mid new within here only so_far =
     below_more (λ i. FrameHas areas (at + i) areas.channels (value i) new) n
     (λ i low c c_in.
-      let outside : IsOutsideFrame areas (at + n) (place_of areas (at + i) c) =
-        λ d d_in e. absurd (let one : at + i ≡ at + n = place_of-frame areas (at + i) (at + n) c d (omega arith) within c_in d_in e in omega arith)
-      in
-      only (place_of areas (at + i) c) outside ∙ so_far i low c c_in)
+    let outside : IsOutsideFrame areas (at + n) (place_of areas (at + i) c) =
+    λ d d_in e. absurd (let one : at + i ≡ at + n = place_of-frame areas (at + i) (at + n) c d (omega arith) within c_in d_in e in omega arith)
+    in
+    only (place_of areas (at + i) c) outside ∙ so_far i low c c_in)
     here
 
 pub ChangesOnly-more : (areas : Areas) (at n : ℕ) (old mid new : List ℤ) → ChangesOnlyFrame areas (at + n) mid new → ChangesOnly areas at n old mid → ChangesOnly areas at (n + 1) old new

@@ -1,2 +1,3 @@
-pub mod Samples
+pub mod PlaceLaws
 pub mod Places
+pub mod Samples

@@ -8,11 +8,16 @@
 mod areas;
 mod copying;
 mod format;
+mod laws;
 mod sample;
 
 pub use areas::Areas;
 pub use copying::{copy_frames, silence_frames};
 pub use format::Format;
+pub use laws::{
+    high_part_is_rounded_down, places_are_apart, printed_samples_are_read_back,
+    whole_buffers_hold_every_range,
+};
 pub use sample::{print_sample, read_sample};
 
 #[cfg(test)]

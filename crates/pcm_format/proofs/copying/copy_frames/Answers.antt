@@ -1,4 +1,4 @@
-use Rattle.std.proofs.Common.{◌<◌, ◌+◌, arith, rules}
+use Rattle.std.proofs.Common.{◌<◌, ◌+◌, arith}
 use Rattle.std.specs.Prelude.{slice_get}
 use Rattle.pcm_format.specs.Places.{place_of}
 use Rattle.pcm_format.proofs.Frames.{RangeHas-more, ChangesOnly-more}
