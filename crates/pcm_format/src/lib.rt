@@ -10,15 +10,17 @@ mod copying;
 mod format;
 mod laws;
 mod sample;
+mod silencing;
 
 pub use areas::Areas;
-pub use copying::{copy_frames, silence_frames};
+pub use copying::copy_frames;
 pub use format::Format;
 pub use laws::{
     high_part_is_rounded_down, places_are_apart, printed_samples_are_read_back,
     whole_buffers_hold_every_range,
 };
 pub use sample::{print_sample, read_sample};
+pub use silencing::silence_frames;
 
 #[cfg(test)]
 mod tests;

@@ -1,6 +1,6 @@
 use Rattle.std.specs.Prelude.{Some, pos}
 use Rattle.pcm_format.proofs.Frames.{FrameHas, FrameOnly}
-use Rattle.pcm_format.proofs.copying.silence_frame.Given as goal
+use Rattle.pcm_format.proofs.silencing.silence_frame.Given as goal
 
 abbrev pub invariant-loop-channel : goal.invariant-loop-channel
 invariant-loop-channel l = record {

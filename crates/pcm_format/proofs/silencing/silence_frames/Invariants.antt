@@ -1,7 +1,7 @@
 use Rattle.std.specs.Prelude.{Some, pos}
 use Rattle.pcm_format.specs.Places.{ChangesOnly}
 use Rattle.pcm_format.proofs.Frames.{RangeHas}
-use Rattle.pcm_format.proofs.copying.silence_frames.Given as goal
+use Rattle.pcm_format.proofs.silencing.silence_frames.Given as goal
 
 abbrev pub invariant-loop-i : goal.invariant-loop-i
 invariant-loop-i l = record {

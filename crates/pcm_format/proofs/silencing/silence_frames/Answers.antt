@@ -1,6 +1,6 @@
 use Rattle.std.proofs.Common.{◌<◌, ◌+◌, arith, Some, pos}
 use Rattle.pcm_format.proofs.Frames.{RangeHas-more, ChangesOnly-more}
-use Rattle.pcm_format.proofs.copying.silence_frames.Goals as goal
+use Rattle.pcm_format.proofs.silencing.silence_frames.Goals as goal
 
 pub loop-i-preserved : goal.loop-i-preserved
 loop-i-preserved c =
