@@ -38,6 +38,7 @@ FrameHas-more areas frame n p value xs v frame_in n_in here inside is so_far =
     slice_get-set_other xs p (place_of areas frame c) v apart ∙ so_far c low)
     (ap (λ (k : ℕ). slice_get (set xs p v) k) (sym here) ∙ (slice_get-set_same xs p v inside ∙ is))
 
+-- and nothing else of the frame is
 pub FrameOnly-more : (areas : Areas) (frame n p : ℕ) (old xs : List ℤ) (v : ℤ) → p ≡ place_of areas frame n → FrameOnly areas frame n old xs → FrameOnly areas frame (n + 1) old (set xs p v)
 FrameOnly-more areas frame n p old xs v here so_far k outside =
     slice_get-set_other xs p k v (λ e. outside n (omega arith) (e ∙ here)) ∙ so_far k (λ c low. outside c (omega arith))
@@ -58,6 +59,7 @@ RangeHas-more areas at n value mid new within here only so_far =
     only (place_of areas (at + i) c) outside ∙ so_far i low c c_in)
     here
 
+-- and nothing outside it is
 pub ChangesOnly-more : (areas : Areas) (at n : ℕ) (old mid new : List ℤ) → ChangesOnlyFrame areas (at + n) mid new → ChangesOnly areas at n old mid → ChangesOnly areas at (n + 1) old new
 ChangesOnly-more areas at n old mid new only so_far k outside =
     only k (outside n (omega arith)) ∙ so_far k (λ i low. outside i (omega arith))
