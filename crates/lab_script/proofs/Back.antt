@@ -44,10 +44,10 @@ not_write : (q : Phase) (client frames : ℕ) → AreOfTwo q (Write client frame
 not_write (Play more) client frames h = refl
 not_write (Write other more) client frames h = unequal other client (eqb other client) refl h
 
-plain_more : (x : List ℕ) (ws : List (List ℕ)) → list_all is_plain x ≡ true → list_all (list_all is_plain) ws ≡ true → list_all (list_all is_plain) (x ∷ ws) ≡ true
+pub plain_more : (x : List ℕ) (ws : List (List ℕ)) → list_all is_plain x ≡ true → list_all (list_all is_plain) ws ≡ true → list_all (list_all is_plain) (x ∷ ws) ≡ true
 plain_more x ws e f = ap (λ b. b && list_all (list_all is_plain) ws) e ∙ f
 
-card_plain : (ws : List (List ℕ)) (card : CardLine) → SpellsCard ws card → (0 < length ws) × (list_all (list_all is_plain) ws ≡ true)
+pub card_plain : (ws : List (List ℕ)) (card : CardLine) → SpellsCard ws card → (0 < length ws) × (list_all (list_all is_plain) ws ≡ true)
 card_plain ws card s =
     let n4 = plain_more s.ring [] (number_plain s.ring card.ring s.is_ring.value) refl in
     let n3 = plain_more s.period (codes "ring" ∷ s.ring ∷ []) (number_plain s.period card.period s.is_period.value) n4 in
@@ -55,7 +55,7 @@ card_plain ws card s =
     let n1 = plain_more s.channels (codes "rate" ∷ s.rate ∷ codes "period" ∷ s.period ∷ codes "ring" ∷ s.ring ∷ []) (number_plain s.channels card.channels s.is_channels.value) n2 in
     (subst (λ (v : List (List ℕ)). 0 < length v) (sym s.are) (omega arith), ap (list_all (list_all is_plain)) s.are ∙ n1)
 
-client_plain : (client : ClientLine) → is_name client.name ≡ true → is_file client.file ≡ true → list_all (list_all is_plain) (client_words client) ≡ true
+pub client_plain : (client : ClientLine) → is_name client.name ≡ true → is_file client.file ≡ true → list_all (list_all is_plain) (client_words client) ≡ true
 client_plain client name file = plain_more client.name (client.file ∷ []) (name_plain client.name name) (plain_more client.file [] (file_plain client.file file) refl)
 
 -- the first line is no client's where it doesn't have three words
@@ -81,11 +81,11 @@ fresh_at before new client ok = list_any_none (is_named client.name) before (λ 
 at_seam : (P : ClientLine → Type 0) (before new : List ClientLine) (client : ClientLine) → All P (before ++ client ∷ new) → P client
 at_seam P before new client h = subst P (get_or-append_seam before client new client) (h (length before) client (omega (arith, length-append before (client ∷ new))))
 
-pub clients_again : (more : ℕ) (before new : List ClientLine) (rest : List ℕ) → length new ≤ more → IsClients (before ++ new) → client_line (before ++ new) rest ≡ None → clients_of more before (flat_map line (map client_words new) ++ rest) ≡ (before ++ new, rest)
+pub clients_again : (more : ℕ) (before new : List ClientLine) (rest : List ℕ) → length new ≤ more → IsClients (before ++ new) → (length new < more → client_line (before ++ new) rest ≡ None) → clients_of more before (flat_map line (map client_words new) ++ rest) ≡ (before ++ new, rest)
 clients_again zero before [] rest h ok stop = clients_none before rest ∙ ap (λ (cs : List ClientLine). with_rest cs rest) (sym (append-nil before))
 clients_again zero before (client ∷ new) rest h ok stop = absurd (omega arith)
 clients_again (suc more) before [] rest h ok stop =
-    clients_stop (suc more) before rest (omega arith) (ap (λ (cs : List ClientLine). client_line cs rest) (sym (append-nil before)) ∙ stop) ∙ ap (λ (cs : List ClientLine). with_rest cs rest) (sym (append-nil before))
+    clients_stop (suc more) before rest (omega arith) (ap (λ (cs : List ClientLine). client_line cs rest) (sym (append-nil before)) ∙ stop (omega arith)) ∙ ap (λ (cs : List ClientLine). with_rest cs rest) (sym (append-nil before))
 clients_again (suc more) before (client ∷ new) rest h ok stop =
     let same : before ++ client ∷ new ≡ (before ++ client ∷ []) ++ new = sym (append_assoc before (client ∷ []) new) in
     let tail = flat_map line (map client_words new) ++ rest in
@@ -93,17 +93,20 @@ clients_again (suc more) before (client ∷ new) rest h ok stop =
     let file = at_seam (λ (c : ClientLine). is_file c.file ≡ true) before new client ok.files in
     ap (clients_of (suc more) before) (append_assoc (line (client_words client)) (flat_map line (map client_words new)) rest)
     ∙ (clients_more (suc more) more before (line (client_words client) ++ tail) client tail (omega arith) (client_reads before client tail name file (fresh_at before new client ok))
-    ∙ (clients_again more (before ++ client ∷ []) new rest (omega arith) (subst (λ (cs : List ClientLine). IsClients cs) same ok) (ap (λ (cs : List ClientLine). client_line cs rest) (sym same) ∙ stop)
+    ∙ (clients_again more (before ++ client ∷ []) new rest (omega arith) (subst (λ (cs : List ClientLine). IsClients cs) same ok) (λ few. ap (λ (cs : List ClientLine). client_line cs rest) (sym same) ∙ stop (omega arith))
     ∙ ap (λ (cs : List ClientLine). with_rest cs rest) (sym same)))
 
-pub opens_again : (clients : List ClientLine) (n : ℕ) (rest : List ℕ) → All (λ (client : ClientLine). is_name client.name ≡ true) clients → (m : ℕ) × (opens_of clients (at n (flat_map line (map open_words clients) ++ rest)) ≡ Ok (at m rest))
+pub opens_again : (clients : List ClientLine) (n : ℕ) (rest : List ℕ) → All (λ (client : ClientLine). is_name client.name ≡ true) clients → opens_of clients (at n (flat_map line (map open_words clients) ++ rest)) ≡ Ok (at (n + length clients) rest)
 unfolding opens_of
-opens_again [] n rest names = (n, refl)
+opens_again [] n rest names =
+    let same : n ≡ n + 0 = omega arith in
+    ap (λ k. Ok (at k rest)) same
 opens_again (client ∷ clients) n rest names =
     let tail = flat_map line (map open_words clients) ++ rest in
     let again = opens_again clients (n + 1) rest (λ k d h. names (suc k) d (omega arith)) in
     let read = line_read (open_of client.name) n (open_words client) tail tt (omega arith) (plain_more client.name [] (name_plain client.name (names 0 client (omega arith))) refl) (open_again client.name) in
-    (again.0, ap (λ t. line_by (open_of client.name) (at n t) >>= λ o. opens_of clients o.1) (append_assoc (line (open_words client)) (flat_map line (map open_words clients)) rest) ∙ (ap (λ r. r >>= λ o. opens_of clients o.1) read ∙ again.1))
+    let count : n + 1 + length clients ≡ n + suc (length clients) = omega arith in
+    ap (λ t. line_by (open_of client.name) (at n t) >>= λ o. opens_of clients o.1) (append_assoc (line (open_words client)) (flat_map line (map open_words clients)) rest) ∙ (ap (λ r. r >>= λ o. opens_of clients o.1) read ∙ (again ∙ ap (λ k. Ok (at k rest)) count))
 
 -- what is known of a phase behind others
 follows_at : (clients : List ClientLine) (before new : List Phase) (p : Phase) → IsBody clients (before ++ p ∷ new) → Follows before p
@@ -122,7 +125,7 @@ follows_at clients before new (Write client frames) body =
           (subst (λ (q : Phase). AreOfTwo (get_or (before ++ Write client frames ∷ new) k d) q) (get_or-append_seam before (Write client frames) new d) (body.once k (length before) d h inside)))),
     )
 
-action_plain : (clients : List ClientLine) (ws : List (List ℕ)) (p : Phase) → All (λ (client : ClientLine). is_name client.name ≡ true) clients → SpellsAction clients ws p → (0 < length ws) × (list_all (list_all is_plain) ws ≡ true)
+pub action_plain : (clients : List ClientLine) (ws : List (List ℕ)) (p : Phase) → All (λ (client : ClientLine). is_name client.name ≡ true) clients → SpellsAction clients ws p → (0 < length ws) × (list_all (list_all is_plain) ws ≡ true)
 action_plain clients ws (Play frames) names s = (subst (λ (v : List (List ℕ)). 0 < length v) (sym s.are) (omega arith), ap (list_all (list_all is_plain)) s.are ∙ plain_more s.number [] (number_plain s.number frames s.is_number.value) refl)
 action_plain clients ws (Write client frames) names s =
     let below = slice_get_within clients client s.line s.is_line in
@@ -130,7 +133,7 @@ action_plain clients ws (Write client frames) names s =
     let name : is_name s.line.name ≡ true = ap (λ (c : ClientLine). is_name c.name) (sym here) ∙ names client s.line below in
     (subst (λ (v : List (List ℕ)). 0 < length v) (sym s.are) (omega arith), ap (list_all (list_all is_plain)) s.are ∙ plain_more s.line.name (codes "write" ∷ s.number ∷ []) (name_plain s.line.name name) (plain_more s.number [] (number_plain s.number frames s.is_number.value) refl))
 
-phase_reads : (clients : List ClientLine) (before : List Phase) (n : ℕ) (ws : List (List ℕ)) (p : Phase) (rest : List ℕ) → 0 < length ws → list_all (list_all is_plain) ws ≡ true → action_of clients before ws ≡ Some p → phase_of clients before (at n (line (codes "phase" ∷ []) ++ (line ws ++ (line (codes "end" ∷ []) ++ rest)))) ≡ Ok (p, at (n + 1 + 1 + 1) rest)
+pub phase_reads : (clients : List ClientLine) (before : List Phase) (n : ℕ) (ws : List (List ℕ)) (p : Phase) (rest : List ℕ) → 0 < length ws → list_all (list_all is_plain) ws ≡ true → action_of clients before ws ≡ Some p → phase_of clients before (at n (line (codes "phase" ∷ []) ++ (line ws ++ (line (codes "end" ∷ []) ++ rest)))) ≡ Ok (p, at (n + 1 + 1 + 1) rest)
 unfolding phase_of
 phase_reads clients before n ws p rest h e says =
     let t2 = line (codes "end" ∷ []) ++ rest in
@@ -179,9 +182,9 @@ whole_again text s spelled =
     let split : text ≡ line spelled.card ++ clients_text = spelled.is_text ∙ ap (λ t. line spelled.card ++ t) (flat_map-append line (map client_words s.clients) (map open_words s.clients ++ flat_map phase_lines spelled.actions) ∙ ap (λ t. flat_map line (map client_words s.clients) ++ t) (flat_map-append line (map open_words s.clients) (flat_map phase_lines spelled.actions))) in
     let plain = card_plain spelled.card s.card spelled.is_card in
     let card = line_read card_of 1 spelled.card clients_text s.card plain.0 plain.1 (card_again spelled.card s.card spelled.valid.card spelled.is_card) in
-    let clients = clients_again 64 [] s.clients opens_text spelled.valid.clients ok (behind_stops s.clients s.clients spelled.actions spelled.names) in
+    let clients = clients_again 64 [] s.clients opens_text spelled.valid.clients ok (λ few. behind_stops s.clients s.clients spelled.actions spelled.names) in
     let opens = opens_again s.clients (1 + 1 + length s.clients) phases_text spelled.names in
-    let phases = phases_again 4096 s.clients [] s.phases spelled.actions opens.0 spelled.valid.phases spelled.names spelled.valid.distinct body spelled.are_actions in
+    let phases = phases_again 4096 s.clients [] s.phases spelled.actions (1 + 1 + length s.clients + length s.clients) spelled.valid.phases spelled.names spelled.valid.distinct body spelled.are_actions in
     ap whole split ∙ (ok_then _ _ _ card
     ∙ (ap (λ (c : List ClientLine × List ℕ). opens_of c.0 (at (1 + 1 + length c.0) c.1) >>= λ o. phases_of 4096 c.0 [] o >>= λ ps. made s.card c.0 ps) clients
-    ∙ (ok_then _ _ _ opens.1 ∙ ok_then _ _ _ phases)))
+    ∙ (ok_then _ _ _ opens ∙ ok_then _ _ _ phases)))

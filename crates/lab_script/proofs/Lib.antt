@@ -8,3 +8,6 @@ pub mod Plain
 pub mod Again
 pub mod Back
 pub mod Answer
+pub mod Ends
+pub mod Wrong
+pub mod First

@@ -15,7 +15,7 @@ use Rattle.lab_script.specs.Spelling.{line}
 use Rattle.lab_script.specs.Reading.{Rest, at, line_by, known, cut_at, ◌>>=◌}
 use Rattle.lab_script.proofs.Words.{position_place, both}
 
-abbrev paired : {A B : Type 0} → A → B → A × B
+abbrev pub paired : {A B : Type 0} → A → B → A × B
 paired a b = (a, b)
 
 -- what a result's steps gave
@@ -85,7 +85,7 @@ plain_space b e = grind (arith, nat_tests)
 plain_unfed : (b : ℕ) → is_plain b ≡ true → is_unfed b ≡ true
 plain_unfed b e = (both (is_unfed b) (not (is_space b)) e).0
 
-unfed : (b : ℕ) → is_unfed b ≡ true → is_feed b ≡ false
+pub unfed : (b : ℕ) → is_unfed b ≡ true → is_feed b ≡ false
 unfed b e = grind (arith, nat_tests)
 
 -- the words of a line of words are these words
@@ -104,16 +104,19 @@ join_unfed (x ∷ y ∷ ws) e =
     list_all-append is_unfed x (32 ∷ join_with_byte 32 (y ∷ ws)) ∙ rw (all_more is_plain is_unfed plain_unfed x parts.0, join_unfed (y ∷ ws) parts.1) refl
 
 -- a line is cut off where it ends
-pub cut_again : (l rest : List ℕ) → list_all is_unfed l ≡ true → cut_line (l ++ 10 ∷ rest) ≡ Some (l, rest)
-cut_again l rest e =
+pub cut_at_feed : (l rest : List ℕ) → ((k d : ℕ) → k < length l → is_feed (get_or l k d) ≡ false) → cut_line (l ++ 10 ∷ rest) ≡ Some (l, rest)
+cut_at_feed l rest clear =
     let text = l ++ 10 ∷ rest in
     let long : length text ≡ length l + (length rest + 1) = omega (arith, length-append l (10 ∷ rest)) in
     let place : position_or_len is_feed text ≡ length l = position_or_len_is is_feed text (length l) 0 (omega arith)
-    (λ k h. ap is_feed (get_or_append_left l (10 ∷ rest) 0 k h) ∙ all_tell is_unfed is_feed unfed l e k 0 h)
+    (λ k h. ap is_feed (get_or_append_left l (10 ∷ rest) 0 k h) ∙ clear k 0 h)
     (λ h. ap is_feed (get_or-append_seam l 10 rest 0)) in
     let inside : ltb (length l) (length text) ≡ true = lt-ltb (length l) (length text) (omega arith) in
     let found : position is_feed text ≡ Some (length l) = ap (λ q. cond (ltb q (length text)) (Some q) None) place ∙ ap (λ b. cond b (Some (length l)) None) inside in
     ap (option_map (λ i. (take i text, drop (i + 1) text))) found ∙ ap (λ x. Some (x, drop (length l + 1) text)) (take-append_seam l (10 ∷ rest)) ∙ ap (λ x. Some (l, x)) (drop-append-add l (10 ∷ rest) 1)
+
+pub cut_again : (l rest : List ℕ) → list_all is_unfed l ≡ true → cut_line (l ++ 10 ∷ rest) ≡ Some (l, rest)
+cut_again l rest e = cut_at_feed l rest (all_tell is_unfed is_feed unfed l e)
 
 pub line_again : (ws : List (List ℕ)) (rest : List ℕ) → list_all (list_all is_plain) ws ≡ true → cut_line (line ws ++ rest) ≡ Some (join_with_byte 32 ws, rest)
 line_again ws rest e = ap cut_line (line_append ws rest) ∙ cut_again (join_with_byte 32 ws) rest (join_unfed ws e)

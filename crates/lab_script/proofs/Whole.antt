@@ -1,5 +1,5 @@
 -- What is read of a whole text.
-use Rattle.std.proofs.Common.{◌≡◌, ◌≢◌, ℕ, zero, suc, ◌+◌, ◌≤◌, Bool, true, false, List, [], ◌∷◌, ◌++◌, length, get_or, map, codes, refl, sym, ap, subst, append_assoc, ◌∙◌, arith, Option, Some, None, All, AllPairs, Result, Ok, Err}
+use Rattle.std.proofs.Common.{◌≡◌, ◌≢◌, ℕ, zero, suc, ◌+◌, ◌<◌, ◌≤◌, Bool, true, false, List, [], ◌∷◌, ◌++◌, length, get_or, map, codes, refl, sym, ap, subst, append_assoc, ◌∙◌, arith, Option, Some, None, All, AllPairs, Result, Ok, Err}
 use Rattle.std.specs.List.{flat_map}
 use Rattle.std.proofs.lemmas.Bool.{false≢true}
 use Rattle.std.proofs.lemmas.Slice.Eq.{bytes_eq-Decides}
@@ -50,9 +50,10 @@ pub record IsClientsFound (more : ℕ) (before : List ClientLine) (text : List �
   pub count : length new ≤ more
   pub text_is : text ≡ flat_map line (map client_words new) ++ found.1
   pub ok : IsClients found.0
+  pub stops : length new < more → client_line found.0 found.1 ≡ None
 
-no_more : (more : ℕ) (before : List ClientLine) (text : List ℕ) → IsClients before → IsClientsFound more before text (before, text)
-no_more more before text ok = record { new = []; are = sym (append-nil before); count = omega arith; text_is = refl; ok = ok }
+no_more : (more : ℕ) (before : List ClientLine) (text : List ℕ) → IsClients before → (0 < more → client_line before text ≡ None) → IsClientsFound more before text (before, text)
+no_more more before text ok stops = record { new = []; are = sym (append-nil before); count = omega arith; text_is = refl; ok = ok; stops = stops }
 
 one_more : (more : ℕ) (before : List ClientLine) (text : List ℕ) (client : ClientLine × List ℕ) (found : List ClientLine × List ℕ) → text ≡ line (client_words client.0) ++ client.1 → IsClientsFound more (before ++ client.0 ∷ []) client.1 found → IsClientsFound (suc more) before text found
 one_more more before text client found e f = record {
@@ -61,6 +62,7 @@ one_more more before text client found e f = record {
   count = omega (arith, f.count);
   text_is = e ∙ (ap (λ t. line (client_words client.0) ++ t) f.text_is ∙ sym (append_assoc (line (client_words client.0)) (flat_map line (map client_words f.new)) found.1));
   ok = f.ok;
+  stops = λ h. f.stops (omega arith);
 }
 
 record IsClientLine (before : List ClientLine) (text : List ℕ) (client : ClientLine × List ℕ) : Type 0 where
@@ -84,14 +86,14 @@ client_line_found before text client e =
     subst (λ (c : ClientLine × List ℕ). IsClientLine before text c) same here
 
 clients_case : (more : ℕ) (before : List ClientLine) (text : List ℕ) (o : Option (ClientLine × List ℕ)) → client_line before text ≡ o → IsClients before → ((cs : List ClientLine) (t : List ℕ) → IsClients cs → IsClientsFound more cs t (clients_of more cs t)) → IsClientsFound (suc more) before text (where_some o (λ client. clients_of more (before ++ client.0 ∷ []) client.1) (before, text))
-clients_case more before text None e ok again = no_more (suc more) before text ok
+clients_case more before text None e ok again = no_more (suc more) before text ok (λ h. e)
 clients_case more before text (Some client) e ok again =
     let f = client_line_found before text client e in
     one_more more before text client (clients_of more (before ++ client.0 ∷ []) client.1) f.text_is (again (before ++ client.0 ∷ []) client.1 (clients_push before f.words client.0 f.found ok))
 
 pub clients_found : (more : ℕ) (before : List ClientLine) (text : List ℕ) → IsClients before → IsClientsFound more before text (clients_of more before text)
 unfolding clients_of
-clients_found zero before text ok = no_more 0 before text ok
+clients_found zero before text ok = no_more 0 before text ok (λ h. absurd (omega arith))
 clients_found (suc more) before text ok = clients_case more before text (client_line before text) refl ok (λ cs t k. clients_found more cs t k)
 
 pub opens_found : (clients : List ClientLine) (n : ℕ) (text : List ℕ) (rest : Rest) → opens_of clients (at n text) ≡ Ok rest → text ≡ flat_map line (map open_words clients) ++ rest.text
@@ -104,12 +106,13 @@ opens_found (client ∷ clients) n text rest e =
     l.text_is ∙ (ap (λ ws. line ws ++ opened.0.1.text) (open_found client.name l.words opened.0.0 l.says) ∙ (ap (λ t. line (open_words client) ++ t) again ∙ sym (append_assoc (line (open_words client)) (flat_map line (map open_words clients)) rest.text)))
 
 -- a phase, found behind others
-record IsPhaseFound (clients : List ClientLine) (before : List Phase) (text : List ℕ) (p : Phase × Rest) : Type 0 where
-  action : List (List ℕ)
-  found : IsActionFound clients before action p.0
-  text_is : text ≡ flat_map line (phase_lines action) ++ p.1.text
+pub record IsPhaseFound (clients : List ClientLine) (before : List Phase) (text : List ℕ) (p : Phase × Rest) : Type 0 where
+  pub action : List (List ℕ)
+  pub says : action_of clients before action ≡ Some p.0
+  pub found : IsActionFound clients before action p.0
+  pub text_is : text ≡ flat_map line (phase_lines action) ++ p.1.text
 
-phase_found : (clients : List ClientLine) (before : List Phase) (n : ℕ) (text : List ℕ) (p : Phase × Rest) → phase_of clients before (at n text) ≡ Ok p → IsPhaseFound clients before text p
+pub phase_found : (clients : List ClientLine) (before : List Phase) (n : ℕ) (text : List ℕ) (p : Phase × Rest) → phase_of clients before (at n text) ≡ Ok p → IsPhaseFound clients before text p
 unfolding phase_of
 phase_found clients before n text p e =
     let opened = ok_bind (line_by (alone (codes "phase")) (at n text)) _ p e in
@@ -125,6 +128,7 @@ phase_found clients before n text p e =
     let all_is : text ≡ line (codes "phase" ∷ []) ++ (line l2.words ++ (line (codes "end" ∷ []) ++ rest)) = l1.text_is ∙ (ap (λ ws. line ws ++ opened.0.1.text) (alone_found (codes "phase") l1.words opened.0.0 l1.says) ∙ ap (λ t. line (codes "phase" ∷ []) ++ t) act_is) in
     let here : IsPhaseFound clients before text (acted.0.0, ended.0.1) = record {
       action = l2.words;
+      says = l2.says;
       found = action_found clients before l2.words acted.0.0 l2.says;
       text_is = all_is ∙ simp append_assoc;
     } in
@@ -140,7 +144,7 @@ pub record IsPhasesFound (more : ℕ) (clients : List ClientLine) (before : List
   pub text_is : text ≡ flat_map line (flat_map phase_lines actions)
   pub body : IsBody clients all
 
-not_both : {A : Type 0} {x : A} {e : ScriptError} → ◌≡◌ {A = Result A ScriptError} (Err e) (Ok x) → ⊥
+pub not_both : {A : Type 0} {x : A} {e : ScriptError} → ◌≡◌ {A = Result A ScriptError} (Err e) (Ok x) → ⊥
 not_both h = cc
 
 pub no_phases : (clients : List ClientLine) → IsBody clients []
@@ -150,11 +154,11 @@ no_phases clients = record {
   frames = omega arith;
 }
 
-ended : (more : ℕ) (clients : List ClientLine) (before : List Phase) (text : List ℕ) (all : List Phase) → IsBody clients before → is_end text ≡ true → before ≡ all → IsPhasesFound more clients before text all
-ended more clients before [] all body e same = record { new = []; actions = []; are = sym same ∙ sym (append-nil before); count = omega arith; spelled = tt; text_is = refl; body = subst (λ (ps : List Phase). IsBody clients ps) same body }
-ended more clients before (b ∷ text) all body e same = absurd (false≢true e)
+pub no_phase_more : (more : ℕ) (clients : List ClientLine) (before : List Phase) (text : List ℕ) (all : List Phase) → IsBody clients before → is_end text ≡ true → before ≡ all → IsPhasesFound more clients before text all
+no_phase_more more clients before [] all body e same = record { new = []; actions = []; are = sym same ∙ sym (append-nil before); count = omega arith; spelled = tt; text_is = refl; body = subst (λ (ps : List Phase). IsBody clients ps) same body }
+no_phase_more more clients before (b ∷ text) all body e same = absurd (false≢true e)
 
-one_phase : (more : ℕ) (clients : List ClientLine) (before : List Phase) (text : List ℕ) (p : Phase × Rest) (all : List Phase) → IsPhaseFound clients before text p → IsPhasesFound more clients (before ++ p.0 ∷ []) p.1.text all → IsPhasesFound (suc more) clients before text all
+pub one_phase : (more : ℕ) (clients : List ClientLine) (before : List Phase) (text : List ℕ) (p : Phase × Rest) (all : List Phase) → IsPhaseFound clients before text p → IsPhasesFound more clients (before ++ p.0 ∷ []) p.1.text all → IsPhasesFound (suc more) clients before text all
 one_phase more clients before text p all f g = record {
   new = p.0 ∷ g.new;
   actions = f.action ∷ g.actions;
@@ -167,14 +171,14 @@ one_phase more clients before text p all f g = record {
 
 phases_case : (more : ℕ) (clients : List ClientLine) (before : List Phase) (n : ℕ) (text : List ℕ) (all : List Phase) (b : Bool) → is_end text ≡ b → IsBody clients before → phases_of (suc more) clients before (at n text) ≡ Ok all → ((ps : List Phase) (m : ℕ) (t : List ℕ) → IsBody clients ps → phases_of more clients ps (at m t) ≡ Ok all → IsPhasesFound more clients ps t all) → IsPhasesFound (suc more) clients before text all
 phases_case more clients before n text all true b body e again =
-    ended (suc more) clients before text all body b (ok_in before all (sym (phases_end (suc more) clients before n text b) ∙ e))
+    no_phase_more (suc more) clients before text all body b (ok_in before all (sym (phases_end (suc more) clients before n text b) ∙ e))
 phases_case more clients before n text all false b body e again =
     let steps = ok_bind (phase_of clients before (at n text)) (λ p. phases_of more clients (before ++ p.0 ∷ []) p.1) all (sym (phases_step (suc more) more clients before n text (omega arith) b) ∙ e) in
     let f = phase_found clients before n text steps.0 steps.1 in
     one_phase more clients before text steps.0 all f (again (before ++ steps.0.0 ∷ []) steps.0.1.number steps.0.1.text (f.found.body body) steps.2)
 
 none_left : (clients : List ClientLine) (before : List Phase) (n : ℕ) (text : List ℕ) (all : List Phase) (b : Bool) → is_end text ≡ b → IsBody clients before → phases_of 0 clients before (at n text) ≡ Ok all → IsPhasesFound 0 clients before text all
-none_left clients before n text all true b body e = ended 0 clients before text all body b (ok_in before all (sym (phases_end 0 clients before n text b) ∙ e))
+none_left clients before n text all true b body e = no_phase_more 0 clients before text all body b (ok_in before all (sym (phases_end 0 clients before n text b) ∙ e))
 none_left clients before n text all false b body e = absurd (not_both (sym (phases_past clients before n text b) ∙ e))
 
 pub phases_found : (more : ℕ) (clients : List ClientLine) (before : List Phase) (n : ℕ) (text : List ℕ) (all : List Phase) → IsBody clients before → phases_of more clients before (at n text) ≡ Ok all → IsPhasesFound more clients before text all
@@ -182,7 +186,7 @@ phases_found zero clients before n text all body e = none_left clients before n 
 phases_found (suc more) clients before n text all body e = phases_case more clients before n text all (is_end text) refl body e (λ ps m t k h. phases_found more clients ps m t all k h)
 
 -- the parts of a text, one behind the other
-spelled : (text : List ℕ) (card : List (List ℕ)) (t1 : List ℕ) (clients : List ClientLine) (t2 t3 : List ℕ) (actions : List (List (List ℕ))) → text ≡ line card ++ t1 → t1 ≡ flat_map line (map client_words clients) ++ t2 → t2 ≡ flat_map line (map open_words clients) ++ t3 → t3 ≡ flat_map line (flat_map phase_lines actions) → text ≡ flat_map line (lines_of card clients actions)
+pub spelled : (text : List ℕ) (card : List (List ℕ)) (t1 : List ℕ) (clients : List ClientLine) (t2 t3 : List ℕ) (actions : List (List (List ℕ))) → text ≡ line card ++ t1 → t1 ≡ flat_map line (map client_words clients) ++ t2 → t2 ≡ flat_map line (map open_words clients) ++ t3 → t3 ≡ flat_map line (flat_map phase_lines actions) → text ≡ flat_map line (lines_of card clients actions)
 spelled text card t1 clients t2 t3 actions a b c d =
     let tail : t2 ≡ flat_map line (map open_words clients ++ flat_map phase_lines actions) = c ∙ (ap (λ t. flat_map line (map open_words clients) ++ t) d ∙ sym (flat_map-append line (map open_words clients) (flat_map phase_lines actions))) in
     let middle : t1 ≡ flat_map line (map client_words clients ++ (map open_words clients ++ flat_map phase_lines actions)) = b ∙ (ap (λ t. flat_map line (map client_words clients) ++ t) tail ∙ sym (flat_map-append line (map client_words clients) (map open_words clients ++ flat_map phase_lines actions))) in

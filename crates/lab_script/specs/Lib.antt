@@ -3,4 +3,5 @@ pub mod Word
 pub mod Grammar
 pub mod Reading
 pub mod Spelling
+pub mod First
 pub mod Written

@@ -2,8 +2,9 @@ ghost use Rattle.std.specs.Prelude.{◌≡◌, string_bytes};
 
 use std::marker::Model;
 
-/// A declared name: 1 to 32 bytes, a lower-case letter and then lower-case letters, digits or `_`.
-/// Contracts see it as its bytes.
+/// A declared name. The reader makes each of 1 to 32 bytes, a lower-case letter and then lower-case
+/// letters, digits or `_`, and none of the words `card`, `client`, `reader`, `open`, `close`, `phase`
+/// and `end`. Contracts see it as its bytes.
 #[derive(Debug, Drop)]
 pub struct Name {
     text: String,
@@ -18,7 +19,7 @@ impl Model for Name {
 }
 
 impl Name {
-    /// The name over a text, as it stands.
+    /// The name over a text, which is taken as it stands, whatever its form.
     pub fn from_text(text: String) -> Name
         ensures { result ≡ string_bytes text }
     {
@@ -31,10 +32,17 @@ impl Name {
     {
         self.text.as_str()
     }
+
+    /// The text that it was made of.
+    pub fn into_text(self) -> String
+        ensures { string_bytes result ≡ self }
+    {
+        self.text
+    }
 }
 
-/// A file's name in a script: 1 to 255 bytes from 33 to 126, without `#`. Contracts see it as its
-/// bytes.
+/// A file's name in a script. The reader makes each of 1 to 255 bytes from 33 to 126, without `#`.
+/// Contracts see it as its bytes.
 #[derive(Debug, Drop)]
 pub struct FileName {
     text: String,
@@ -49,7 +57,7 @@ impl Model for FileName {
 }
 
 impl FileName {
-    /// The file's name over a text, as it stands.
+    /// The file's name over a text, which is taken as it stands, whatever its form.
     pub fn from_text(text: String) -> FileName
         ensures { result ≡ string_bytes text }
     {
@@ -61,5 +69,12 @@ impl FileName {
         ensures { result.now ≡ self.now }
     {
         self.text.as_str()
+    }
+
+    /// The text that it was made of.
+    pub fn into_text(self) -> String
+        ensures { string_bytes result ≡ self }
+    {
+        self.text
     }
 }

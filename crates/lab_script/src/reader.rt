@@ -1,8 +1,10 @@
 //! The reader of a script's text.
-ghost use Rattle.std.specs.Prelude.{◌≡◌, ◌+◌, ◌≤◌, ◌<◌, [], ◌↔◌, length, IfOk, Ok, Err};
+ghost use Rattle.std.specs.Prelude.{◌≡◌, ◌+◌, ◌≤◌, ◌<◌, [], ◌↔◌, length, IfOk, IfErr, Ok, Err};
 ghost use Rattle.lab_script.specs.declared.script.Script.{Script};
+ghost use Rattle.lab_script.specs.declared.error.ScriptWhy.TheVariants as why;
 ghost use Rattle.lab_script.specs.Script.{IsScript};
 ghost use Rattle.lab_script.specs.Spelling.{Spells};
+ghost use Rattle.lab_script.specs.First.{IsFirstWrong};
 ghost use Rattle.lab_script.specs.Grammar.{card_of, clients_of, open_of, alone, action_of};
 ghost use Rattle.lab_script.specs.Written.{Fits, IsDone};
 ghost use Rattle.lab_script.specs.Reading.{at, is_end, refused, known, line_of, line_by, opens_of, phase_of, phases_of, whole, script_of, too_long, Gives, Reads};
@@ -259,6 +261,10 @@ pub fn read_script(alloc: Global, text: &[u8]) -> Result<Script, ScriptError>
 
     // A script that a text of at most 1048576 bytes spells is the answer, unless memory ran out.
     ensures only { (s : Script) → length text.now ≤ 1048576 → Spells text.now s → Reads result (Ok s) }
+
+    // A line is refused where it is the first that can't stand in a script, whatever stands behind it,
+    // or where the text ends too early.
+    ensures first { IfErr result (λ e. e.why ≡ why.NotYet → IsFirstWrong e.line text.now) }
 
     // A text is too long exactly where it has more than 1048576 bytes.
     ensures too_long { (result ≡ Err too_long) ↔ (1048576 < length text.now) }

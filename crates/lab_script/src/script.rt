@@ -65,6 +65,13 @@ impl Clients {
     {
         self.lines.len()
     }
+
+    /// The lines that they were made of.
+    pub fn into_vec(self) -> Vec<ClientLine>
+        ensures { result.items ≡ self }
+    {
+        self.lines
+    }
 }
 
 /// The phases in order. Contracts see the list of them.
@@ -95,6 +102,13 @@ impl Phases {
         ensures { result.now ≡ self.now }
     {
         self.phases.as_slice()
+    }
+
+    /// The phases that they were made of.
+    pub fn into_vec(self) -> Vec<Phase>
+        ensures { result.items ≡ self }
+    {
+        self.phases
     }
 }
 

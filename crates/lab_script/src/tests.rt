@@ -166,3 +166,26 @@ fn prints_a_refusal(rt: HostRuntime) -> Result<(), Fail> {
     );
     Ok(())
 }
+
+#[test]
+fn gives_back_what_it_holds(rt: HostRuntime) -> Result<(), Fail> {
+    let text = format!(in rt.alloc(); "{CARD}client a x.wav\nopen a\nphase\na write 7\nend\n")?;
+    let script = read_script(rt.alloc(), text.as_bytes())
+        .ok()
+        .ok_or("the text is a script")?;
+    let phases = script.phases.into_vec();
+    assert!(rt;
+        matches!(
+            phases.as_slice(),
+            [Phase::Write {
+                client: 0,
+                frames: 7
+            }]
+        )
+    );
+    for client in script.clients.into_vec() {
+        assert_eq!(rt; client.name.into_text().as_str(), "a");
+        assert_eq!(rt; client.file.into_text().as_str(), "x.wav");
+    }
+    Ok(())
+}
