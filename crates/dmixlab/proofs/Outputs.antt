@@ -1,5 +1,5 @@
 -- What a store and a put leave.
-use Rattle.std.proofs.Common.{◌≡◌, ℕ, sym, ap, ◌∙◌, refl, subst, List, [], ◌++◌, take, length}
+use Rattle.std.proofs.Common.{◌≡◌, ℕ, sym, ap, ◌∙◌, refl, subst, List, ◌++◌}
 use Rattle.std.specs.Prelude.{ℤ, Option, Some, None, Result, Ok, Err, IfOk}
 use Rattle.std.specs.Option.{option_map}
 use Rattle.std.proofs.lemmas.List.{append-nil}
@@ -7,9 +7,8 @@ use Rattle.lab_shelf.specs.Files.{Files, with_file, IsPartWritten, TookPart}
 use Rattle.lab_shelf.specs.Changes.{Changes, PartOf, Changes-stored, Changes-part_stored}
 use Rattle.dmixlab.specs.declared.output.Output.{Output}
 use Rattle.dmixlab.specs.Words.{wav_name}
-use Rattle.dmixlab.specs.Run.{IsReady, IsOutput, IsSession, Finished, Unfinished, wav_of}
+use Rattle.dmixlab.specs.Run.{IsReady, IsOutput, IsSession, Finished, Unfinished}
 use Rattle.dmixlab.specs.declared.stop.Stop.{Stop}
-use Rattle.lab_report.specs.Text.{report_text}
 use Rattle.lab_report.specs.declared.report.Report.{Report}
 use Rattle.lab_script.specs.declared.script.Script.{Script}
 use Rattle.wav_io.specs.Sound.{Sound}

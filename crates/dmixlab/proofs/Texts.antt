@@ -1,5 +1,5 @@
 -- Tests of bytes.
-use Rattle.std.proofs.Common.{◌≡◌, sym, List, ℕ, true, false}
+use Rattle.std.proofs.Common.{◌≡◌, sym, List, ℕ}
 use Rattle.std.specs.Prelude.{Result, Ok, Err, MatchResult, is_ok}
 use Rattle.std.specs.Str.{IsUtf8, is_utf8}
 use Rattle.std.proofs.lemmas.Str.{IsUtf8-from_is_utf8, is_utf8-from_IsUtf8}

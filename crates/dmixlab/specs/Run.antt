@@ -1,5 +1,5 @@
 -- What a run leaves: a file with what the card played, and the text of a report.
-use Rattle.std.specs.Prelude.{◌≡◌, ◌⊎◌, ◌++◌, ℕ, ℤ, List, Option, Result, Ok, Err}
+use Rattle.std.specs.Prelude.{◌≡◌, ◌++◌, ℕ, ℤ, List, Option, Ok}
 use Rattle.std.specs.Option.{ForSome, option_map}
 use Rattle.wav_io.specs.Sound.{Sound}
 use Rattle.wav_io.specs.Canonical.{canonical}

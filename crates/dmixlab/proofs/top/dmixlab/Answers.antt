@@ -1,4 +1,3 @@
-use Rattle.std.proofs.Common.{◌≡◌}
 use Rattle.dmixlab.specs.Words.{form_of, texts}
 use Rattle.dmixlab.proofs.Ends.{status_of-script, status_of-wav}
 use Rattle.dmixlab.proofs.top.dmixlab.Goals as goal
