@@ -1,14 +1,21 @@
 -- Samples, two bytes each.
-use Rattle.std.proofs.Common.{◌≡◌, ℕ, zero, suc, ◌+◌, ◌*◌, ◌^◌, ◌<◌, List, [], ◌∷◌, ◌++◌, length, get_or, drop, ℤ, refl, sym, ap, ◌∙◌, append_assoc, arith}
+use Rattle.std.proofs.Common.{◌≡◌, ℕ, zero, suc, ◌+◌, ◌*◌, ◌^◌, ◌<◌, List, [], ◌∷◌, ◌++◌, length, get_or, drop, ℤ, refl, sym, ap, ◌∙◌, append_assoc, arith, false, ◌%◌, ◌/◌, take, ◌≤◌}
 use Rattle.std.specs.Prelude.{FitsSigned}
+use Rattle.std.specs.Str.{bytes_eq}
+use Rattle.std.proofs.Math.Nat.{mul-mod_left, div-mul-le_self}
+use Rattle.std.proofs.lemmas.Bool.{false_from_ne_true}
+use Rattle.std.proofs.lemmas.Slice.Eq.{bytes_eq-Decides}
 use Rattle.std.specs.List.{flat_map, AllByRecursion}
 use Rattle.std.specs.Int.{w16, from_le_bytes, to_le_bytes, cast_signed, cast_unsigned}
 use Rattle.std.proofs.Math.Facts.{sfits_to_z, Fits-of_lt, Fits-of_z}
 use Rattle.std.proofs.lemmas.Int.{to_z-of_z, of_z-to_z}
-use Rattle.std.proofs.lemmas.List.{append-nil, drop_more, length-drop}
+use Rattle.std.proofs.lemmas.List.{append-nil, drop_more, length-drop, length-take, length-take-le}
 use Rattle.std.proofs.lemmas.Nat.{le_bytes_2, from_le_bytes-to_le_bytes_2}
+use Rattle.wav_io.specs.declared.format.Format.{Format}
+use Rattle.wav_io.specs.Sound.{IsSound}
 use Rattle.wav_io.specs.Canonical.{sample_bytes}
-use Rattle.wav_io.specs.Reading.{samples_of}
+use Rattle.wav_io.specs.Formats.{IsFormat}
+use Rattle.wav_io.specs.Fields.{samples_of, whole_frames}
 
 abbrev pub IsBytes : List ℕ → Type 0
 IsBytes bytes = (i : ℕ) → get_or bytes i 0 < 256
@@ -83,3 +90,25 @@ samples_of-fit (low ∷ high ∷ rest) fits = (sfits_to_z (Fits-of_lt (pair_fits
 pub length-sample_bytes : (zs : List ℤ) → length (flat_map sample_bytes zs) ≡ 2 * length zs
 length-sample_bytes [] = refl
 length-sample_bytes (z ∷ zs) = ap (λ (n : ℕ). suc (suc n)) (length-sample_bytes zs) ∙ omega arith
+
+-- ---- whole frames
+
+pub whole_frames-whole : (channels : ℕ) (body : List ℕ) → length (samples_of (whole_frames channels body)) % channels ≡ 0
+whole_frames-whole channels body =
+    let frames = length body / (2 * channels) in
+    let inside : frames * (2 * channels) ≤ length body = div-mul-le_self (length body) (2 * channels) in
+    let even : length (whole_frames channels body) ≡ 2 * (frames * channels) = omega (arith, length-take-le (frames * (2 * channels)) body inside) in
+    ap (λ (n : ℕ). n % channels) (length-samples_of (frames * channels) (whole_frames channels body) even) ∙ mul-mod_left frames channels
+
+pub is_sound : (f : Format) (body : List ℕ) (zs : List ℤ) → IsFormat f → zs ≡ samples_of (whole_frames f.channels body) → IsSound (record { channels = f.channels; rate = f.rate; samples = zs })
+is_sound f body zs in_order e = record {
+  some_channel = in_order.some_channel;
+  few_channels = in_order.few_channels;
+  some_rate = in_order.some_rate;
+  whole = ap (λ (xs : List ℤ). length xs % f.channels) e ∙ whole_frames-whole f.channels body;
+}
+
+-- four bytes don't stand where fewer are left
+pub no_room : (place : ℕ) (bytes name : List ℕ) → length name ≡ 4 → length bytes < place + 4 → bytes_eq (take 4 (drop place bytes)) name ≡ false
+no_room place bytes name four short =
+    false_from_ne_true _ (λ same. omega (arith, four, ap length ((bytes_eq-Decides (take 4 (drop place bytes)) name).0 same), length-take 4 (drop place bytes), length-drop place bytes))

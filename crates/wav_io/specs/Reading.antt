@@ -1,11 +1,13 @@
 -- What reading a file of bytes gives.
-use Rattle.std.specs.Prelude.{◌≡◌, ℕ, ◌+◌, ◌^◌, ◌<◌, ◌≤◌, ◌*◌, ◌%◌, Bool, ◌&&◌, ◌==◌, nat_lt, nat_le, if◌then◌else◌, List, [], ◌∷◌, length, take, drop, ℤ, Result, Ok, Err}
-use Rattle.std.specs.Int.{Width, w16, w32, from_le_bytes, cast_signed}
+use Rattle.std.specs.Prelude.{◌≡◌, ℕ, nat_lt, nat_le, if◌then◌else◌, List, [], ◌∷◌, length, take, drop, codes, Option, Some, None, Result, Ok, Err}
 use Rattle.std.specs.Str.{bytes_eq}
 use Rattle.wav_io.specs.declared.error.WavError.{WavError}
-use Rattle.wav_io.specs.declared.error.WavError.TheVariants.{NotYet, Memory}
-use Rattle.wav_io.specs.Sound.{Sound, IsSound}
-use Rattle.wav_io.specs.Canonical.{head, canonical}
+use Rattle.wav_io.specs.declared.error.WavError.TheVariants.{NotRiff, NotWave, NoFormat, FormatTwice, ShortFormat, NoData, TooLong, Memory}
+use Rattle.wav_io.specs.declared.format.Format.{Format}
+use Rattle.wav_io.specs.Sound.{Sound}
+use Rattle.wav_io.specs.Fields.{samples_of, whole_frames}
+use Rattle.wav_io.specs.Chunks.{Chunk, chunks}
+use Rattle.wav_io.specs.Formats.{format_of}
 
 -- the error is the one that is given, but for want of memory
 abbrev pub IsRefusal : WavError → Result Sound WavError → Type 0
@@ -21,45 +23,82 @@ Reads (Err e) given = IsRefusal e given
 abbrev pub most_bytes : ℕ
 most_bytes = 67_108_864
 
--- the little-endian number at a place
-abbrev pub number_at : Width → ℕ → List ℕ → ℕ
-number_at w place bytes = from_le_bytes w (drop place bytes)
+-- what the chunks of a file come to: a refusal, the first data chunk's body, a format chunk that the
+-- end cuts, or the end, behind a format or not
+pub data Finding : Type 0 where
+  refused : WavError → Finding
+  body_found : Format → List ℕ → Finding
+  format_cut : Finding
+  ended : Option Format → Finding
 
--- signed samples of two bytes each, the low byte first; a last single byte is none
-abbrev pub samples_of : List ℕ → List ℤ
-samples_of (low ∷ high ∷ rest) = cast_signed w16 (from_le_bytes w16 (low ∷ high ∷ [])) ∷ samples_of rest
-samples_of (low ∷ []) = []
-samples_of [] = []
+-- whether a chunk decides, or the next one is looked at
+pub data Verdict : Type 0 where
+  decides : Finding → Verdict
+  goes_on : Option Format → Verdict
 
--- what the fields and the body of a canonical file show
-unfoldable pub shown : List ℕ → Sound
-shown bytes = record { channels = number_at w16 22 bytes; rate = number_at w32 24 bytes; samples = samples_of (drop 44 bytes) }
+-- a format that is in order is kept
+abbrev pub settled : Result Format WavError → Verdict
+settled (Ok f) = goes_on (Some f)
+settled (Err e) = decides (refused e)
 
--- channels and rate that a canonical head has
-pub record HasTerms (channels rate : ℕ) : Type 0 where
-  pub some_channel : 1 ≤ channels
-  pub few_channels : channels ≤ 8
-  pub some_rate : 1 ≤ rate
-  pub low_rate : rate < 2 ^ 28
+-- a second format chunk is refused before its size, a size below 16 before its body
+abbrev pub format_chunk : Option Format → Chunk → Verdict
+format_chunk (Some f) chunk = decides (refused FormatTwice)
+format_chunk None chunk =
+    if nat_lt chunk.size 16 then decides (refused ShortFormat)
+    else if nat_lt (length chunk.body) chunk.size then decides format_cut
+    else settled (format_of chunk.body)
 
--- the file begins with the canonical head of all its frames
-pub record HasHead (bytes : List ℕ) (channels rate : ℕ) : Type 0 where
-  pub frames : ℕ
-  pub size : length bytes ≡ 44 + frames * channels * 2
-  pub same : take 44 bytes ≡ head channels rate frames
+-- the first data chunk has the samples
+abbrev pub data_chunk : Option Format → Chunk → Verdict
+data_chunk (Some f) chunk = decides (body_found f chunk.body)
+data_chunk None chunk = decides (refused NoFormat)
 
--- the file is the canonical one of what it shows, of at most 64 MiB
-pub record IsWritten (bytes : List ℕ) : Type 0 where
-  pub short : length bytes ≤ most_bytes
-  pub sound : IsSound (shown bytes)
-  pub low_rate : (shown bytes).rate < 2 ^ 28
-  pub same : bytes ≡ canonical (shown bytes)
+-- every other chunk is skipped
+unfoldable pub judged : Option Format → Chunk → Verdict
+judged format chunk =
+    if bytes_eq chunk.name (codes "fmt ") then format_chunk format chunk
+    else if bytes_eq chunk.name (codes "data") then data_chunk format chunk
+    else goes_on format
 
--- the tests of `IsSound`, and that the rate has a canonical head
-unfoldable pub passes : Sound → Bool
-passes s = nat_le 1 s.channels && nat_le s.channels 8 && nat_le 1 s.rate && nat_lt s.rate (2 ^ 28) && (length s.samples % s.channels == 0)
+-- the first chunk that decides
+abbrev pub followed : Verdict → (Option Format → Finding) → Finding
+followed (decides f) next = f
+followed (goes_on format) next = next format
 
--- the sound whose canonical file this is, if it has at most 64 MiB
-unfoldable pub canonical_wav : List ℕ → Result Sound WavError
-canonical_wav bytes =
-    if nat_le (length bytes) most_bytes && passes (shown bytes) && bytes_eq bytes (canonical (shown bytes)) then Ok (shown bytes) else Err NotYet
+-- what the chunks come to, after the format that stood before them
+abbrev pub finding : Option Format → List Chunk → Finding
+finding format [] = ended format
+finding format (chunk ∷ behind) = followed (judged format chunk) (λ kept. finding kept behind)
+
+-- the sound of a body: whole frames, without a rest
+abbrev pub sound_of : Format → List ℕ → Sound
+sound_of f body = record { channels = f.channels; rate = f.rate; samples = samples_of (whole_frames f.channels body) }
+
+-- at the end of the file
+abbrev pub at_end : Finding → Result Sound WavError
+at_end (refused e) = Err e
+at_end (body_found f body) = Ok (sound_of f body)
+at_end format_cut = Err ShortFormat
+at_end (ended None) = Err NoFormat
+at_end (ended (Some f)) = Err NoData
+
+-- in a file that is too long, after as many bytes as a file may have
+abbrev pub before_end : Finding → Result Sound WavError
+before_end (refused e) = Err e
+before_end (body_found f body) = Err TooLong
+before_end format_cut = Err TooLong
+before_end (ended format) = Err TooLong
+
+-- the chunks behind `RIFF`, the RIFF size, which isn't looked at, and `WAVE`
+abbrev pub found_in : List ℕ → Finding
+found_in bytes = finding None (chunks (drop 12 bytes))
+
+-- what reading a file gives
+unfoldable pub wav_file : List ℕ → Result Sound WavError
+wav_file bytes =
+    if bytes_eq (take 4 bytes) (codes "RIFF") then
+    (if bytes_eq (take 4 (drop 8 bytes)) (codes "WAVE") then
+    (if nat_le (length bytes) most_bytes then at_end (found_in bytes) else before_end (found_in (take most_bytes bytes)))
+    else Err NotWave)
+    else Err NotRiff

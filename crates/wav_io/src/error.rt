@@ -21,10 +21,10 @@ pub enum WavError {
     /// A second format chunk stands before the data.
     #[error("FormatTwice")]
     FormatTwice,
-    /// The format chunk is too short, or cut by the end of the file.
+    /// The format chunk has fewer than 16 bytes, or as an extensible one than 40, or the file's end cuts it.
     #[error("ShortFormat")]
     ShortFormat,
-    /// The samples are of another format than PCM.
+    /// The samples are of another format than PCM (tag 1, also as an extensible format's).
     #[error("Tag {0}")]
     Tag(u16),
     /// A sample has another number of bits than 16.
@@ -42,7 +42,7 @@ pub enum WavError {
     /// The file has more than 67,108,864 bytes.
     #[error("TooLong")]
     TooLong,
-    /// The file is of a form that isn't read yet.
+    /// The content can't be used yet. No call of this crate gives it.
     #[error("NotYet")]
     NotYet,
     /// Memory ran out.

@@ -3,8 +3,13 @@
 //! The format is RIFF WAVE (Multimedia Programming Interface and Data Specifications 1.0).
 #![tactic(auto)]
 
+mod chunk;
 mod error;
+mod fields;
+mod finding;
+mod format;
 mod head;
+mod judging;
 mod reading;
 mod samples;
 mod wav;

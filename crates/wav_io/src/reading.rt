@@ -1,105 +1,104 @@
 //! A WAV's content from a file of bytes.
 
-ghost use Rattle.std.specs.Prelude.{◌≡◌, ◌+◌, ◌*◌, ◌^◌, ◌<◌, ◌≤◌, length, IfOk, IsTrue, ◌↔◌, MatchOption};
-ghost use Rattle.wav_io.specs.Sound.{Sound, IsSound};
+ghost use Rattle.std.specs.Prelude.{◌≡◌, ◌+◌, ◌≤◌, length, take, drop, IsTrue};
+ghost use Rattle.std.specs.Str.{bytes_eq};
+ghost use Rattle.wav_io.specs.Sound.{Sound};
 ghost use Rattle.wav_io.specs.Canonical.{canonical, HasFile};
-ghost use Rattle.wav_io.specs.Reading.{samples_of, shown, canonical_wav, most_bytes, Reads, IsWritten, HasHead, HasTerms};
+ghost use Rattle.wav_io.specs.Reading.{wav_file, found_in, at_end, before_end, most_bytes, Reads};
+ghost use Rattle.wav_io.specs.Views.{found_of, FoundInOrder};
 
 use crate::error::WavError;
-use crate::head::header;
+use crate::fields::read_samples;
+use crate::finding::Found;
+use crate::judging::find;
 use crate::samples::Samples;
 use crate::wav::Wav;
-use std::alloc::{AllocError, Global};
+use std::alloc::Global;
 
 const MOST: usize = 67_108_864;
 
-fn read_samples(alloc: Global, body: &[u8]) -> Result<Vec<i16>, AllocError>
-    ensures { IfOk result (λ v. v.items ≡ samples_of body.now) }
+fn read_found(alloc: Global, found: Found<'_>) -> Result<Wav, WavError>
+    requires { FoundInOrder found }
+    ensures { Reads result (at_end (found_of found.entry)) }
 {
-    let count = body.len() / 2;
-    let mut samples = Vec::with_capacity(alloc, count)?;
-    for i in 0..count {
-        samples.push(i16::from_le_bytes([body[2 * i], body[2 * i + 1]]))?;
+    match found {
+        Found::Refused(error) => Err(error),
+        Found::Body(format, body) => {
+            let frame = 2 * format.channels as usize;
+            let whole = &body[..body.len() / frame * frame];
+            let samples = Samples::from_vec(read_samples(alloc, whole)?);
+            Ok(Wav {
+                channels: format.channels,
+                rate: format.rate,
+                samples,
+            })
+        }
+        Found::FormatCut => Err(WavError::ShortFormat),
+        Found::Ended(None) => Err(WavError::NoFormat),
+        Found::Ended(Some(_)) => Err(WavError::NoData),
     }
-    Ok(samples)
 }
 
-fn shown_format(bytes: &[u8]) -> (u16, u32)
-    requires { 44 ≤ length bytes.now }
-    ensures channels { result.0 ≡ (shown bytes.now).channels }
-    ensures rate { result.1 ≡ (shown bytes.now).rate }
+fn refusal_before_end(found: Found<'_>) -> WavError
+    ensures { before_end (found_of found.entry) ≡ Err result }
 {
-    let channels = u16::from_le_bytes([bytes[22], bytes[23]]);
-    let rate = u32::from_le_bytes([bytes[24], bytes[25], bytes[26], bytes[27]]);
-    (channels, rate)
+    match found {
+        Found::Refused(error) => error,
+        _ => WavError::TooLong,
+    }
 }
 
-fn has_terms(channels: u16, rate: u32) -> bool
-    ensures { IsTrue result ↔ HasTerms channels rate }
+fn is_at(bytes: &[u8], place: usize, name: &[u8]) -> bool
+    requires near { place ≤ 8 }
+    requires four { length name.now ≡ 4 }
+    ensures value { result ≡ bytes_eq (take 4 (drop place bytes.now)) name.now }
+    ensures room { IsTrue result → place + 4 ≤ length bytes.now }
 {
-    channels != 0 && channels <= 8 && rate != 0 && rate < 0x1000_0000
-}
-
-fn has_head(bytes: &[u8], channels: u16, rate: u32) -> bool
-    requires long { 44 ≤ length bytes.now }
-    requires short { length bytes.now ≤ most_bytes }
-    requires terms { HasTerms channels rate }
-    ensures { IsTrue result ↔ HasHead bytes.now channels rate }
-{
-    let size = bytes.len() - 44;
-    let frame = 2 * channels as usize;
-    if size % frame != 0 {
+    if bytes.len() < place + 4 {
         return false;
     }
-    let frames = (size / frame) as u32;
-    let head = header(channels, rate, frames);
-    &bytes[..44] == head.as_slice()
+    &bytes[place..place + 4] == name
 }
 
-fn format_of(bytes: &[u8]) -> Option<(u16, u32)>
-    ensures { MatchOption result (IsWritten bytes.now → ⊥) (λ f. IsWritten bytes.now × (f.0 ≡ (shown bytes.now).channels) × (f.1 ≡ (shown bytes.now).rate)) }
+fn found(bytes: &[u8]) -> Found<'_>
+    requires { 12 ≤ length bytes.now }
+    ensures value { found_of result ≡ found_in bytes.now }
+    ensures in_order { FoundInOrder result }
 {
-    if bytes.len() < 44 {
-        return None;
+    let (_, chunks) = bytes.split_at(12);
+    find(chunks)
+}
+
+#[tactic(auto, unfolding(crate::specs::Reading::wav_file))]
+fn read_file(alloc: Global, bytes: &[u8]) -> Result<Wav, WavError>
+    ensures { Reads result (wav_file bytes.now) }
+{
+    if !is_at(bytes, 0, b"RIFF") {
+        return Err(WavError::NotRiff);
+    }
+    if !is_at(bytes, 8, b"WAVE") {
+        return Err(WavError::NotWave);
     }
     if bytes.len() > MOST {
-        return None;
+        let (seen, _) = bytes.split_at(MOST);
+        return Err(refusal_before_end(found(seen)));
     }
-    let (channels, rate) = shown_format(bytes);
-    if !has_terms(channels, rate) {
-        return None;
-    }
-    if !has_head(bytes, channels, rate) {
-        return None;
-    }
-    Some((channels, rate))
+    read_found(alloc, found(bytes))
 }
 
-fn read_canonical(alloc: Global, bytes: &[u8]) -> Result<Wav, WavError>
-    ensures { Reads result (canonical_wav bytes.now) }
-{
-    let Some((channels, rate)) = format_of(bytes) else {
-        return Err(WavError::NotYet);
-    };
-    let samples = Samples::from_vec(read_samples(alloc, &bytes[44..])?);
-    Ok(Wav {
-        channels,
-        rate,
-        samples,
-    })
-}
-
-/// The content of a WAV file, which the bytes are. Only the canonical form of at most 67,108,864 bytes is
-/// read: the head that `header` gives, and whole frames. Any other file is refused as `NotYet`.
+/// The content of a WAV file (RIFF WAVE, 16-bit PCM) of at most 67,108,864 bytes.
+///
+/// Whole frames are taken from the first data chunk, and a rest is dropped. Other chunks are skipped, and the RIFF
+/// size isn't looked at. An extensible format is read where its sub-format begins with tag 1.
+/// Each refusal comes where `WavError` says; in a format chunk the tag is judged first, then the channels, the rate
+/// and the bits. A file that is too long is refused as `TooLong`, but where its first 67,108,864 bytes show another
+/// refusal that doesn't need the file's end.
 pub fn read_wav(alloc: Global, bytes: &[u8]) -> Result<Wav, WavError>
     // What is read, and which refusal it is; memory may run out at any file.
-    ensures exact { Reads result (canonical_wav bytes.now) }
+    ensures exact { Reads result (wav_file bytes.now) }
 
-    // What is read is spelled so.
-    ensures found { IfOk result (λ w. HasFile w × (bytes.now ≡ canonical w)) }
-
-    // What is spelled so is read.
+    // A canonical file is read as what it was written from.
     ensures only { (s : Sound) → HasFile s → bytes.now ≡ canonical s → length bytes.now ≤ most_bytes → Reads result (Ok s) }
 {
-    read_canonical(alloc, bytes)
+    read_file(alloc, bytes)
 }

@@ -1,12 +1,9 @@
-use Rattle.std.proofs.Common.{ap, subst, ◌∙◌, ◌≤◌, List, ℕ, length, arith}
-use Rattle.wav_io.specs.Reading.{Reads, canonical_wav, most_bytes}
-use Rattle.wav_io.proofs.Files.{is_found, canonical_wav-canonical}
+use Rattle.std.proofs.Common.{ap, subst, ◌∙◌, ◌≤◌, List, ℕ, length}
+use Rattle.wav_io.specs.Reading.{Reads, wav_file, most_bytes}
+use Rattle.wav_io.proofs.Files.{wav_file-canonical}
 use Rattle.wav_io.proofs.reading.read_wav.Goals as goal
-
-pub returns-clause-found : goal.returns-clause-found
-returns-clause-found c = is_found c.args.bytes.now c.read_canonical.result (λ i. omega (arith, c.type_inv.bytes i)) c.read_canonical.ensures
 
 pub returns-clause-only : goal.returns-clause-only
 returns-clause-only c = λ s file same short.
     let short' = subst (λ (bytes : List ℕ). length bytes ≤ most_bytes) same short in
-    subst (λ given. Reads c.read_canonical.result given) (ap canonical_wav same ∙ canonical_wav-canonical s file short') c.read_canonical.ensures
+    subst (λ given. Reads c.read_file.result given) (ap wav_file same ∙ wav_file-canonical s file short') c.read_file.ensures

@@ -2,7 +2,7 @@ use Rattle.std.proofs.Common.{◌≡◌, ◌*◌, ◌+◌, [], ◌∷◌, get_or
 use Rattle.std.specs.Int.{w16, cast_signed, from_le_bytes}
 use Rattle.std.proofs.lemmas.Int.{to_z-of_z}
 use Rattle.wav_io.proofs.Bodies.{goes_on, ends}
-use Rattle.wav_io.proofs.reading.read_samples.Goals as goal
+use Rattle.wav_io.proofs.fields.read_samples.Goals as goal
 
 pub loop-i-preserved : goal.loop-i-preserved
 loop-i-preserved c =
