@@ -53,7 +53,7 @@ last_again key word n e = some_then _ _ _ (passes (bytes_eq key key) word (itsel
 card_passes : (card : CardLine) → IsCardLine card → is_card card.channels card.rate card.period card.ring ≡ true
 card_passes card ok =
     let half : card.period ≤ card.ring / 2 = omega (arith, ok.period_high) in
-    and_true _ _ (and_true _ _ (and_true _ _ (and_true _ _ (and_true _ _ (and_true _ _ (and_true _ _ (eq-eqb card.channels 1 ok.channels) (le-leb 4000 card.rate ok.rate_low)) (le-leb card.rate 192000 ok.rate_high)) (le-leb 64 card.ring ok.ring_low)) (le-leb card.ring 16384 ok.ring_high)) (le-leb 16 card.period ok.period_low)) (le-leb card.period (card.ring / 2) half)) (eq-eqb (card.ring % card.period) 0 ok.period_divides)
+    and_true _ _ (and_true _ _ (and_true _ _ (and_true _ _ (and_true _ _ (and_true _ _ (and_true _ _ (and_true _ _ (le-leb 1 card.channels ok.channels_low) (le-leb card.channels 8 ok.channels_high)) (le-leb 4000 card.rate ok.rate_low)) (le-leb card.rate 192000 ok.rate_high)) (le-leb 64 card.ring ok.ring_low)) (le-leb card.ring 16384 ok.ring_high)) (le-leb 16 card.period ok.period_low)) (le-leb card.period (card.ring / 2) half)) (eq-eqb (card.ring % card.period) 0 ok.period_divides)
 
 pub card_again : (ws : List (List ℕ)) (card : CardLine) → IsCardLine card → SpellsCard ws card → card_of ws ≡ Some card
 unfolding card_of

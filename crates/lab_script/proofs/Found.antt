@@ -96,9 +96,11 @@ card_fits channels rate period ring card e same =
     let h4 = both _ _ h5.0 in
     let h3 = both _ _ h4.0 in
     let h2 = both _ _ h3.0 in
+    let h1 = both _ _ h2.0 in
     let half : period ≤ ring / 2 = leb-true period (ring / 2) h7.1 in
     let line : IsCardLine (record { channels = channels; rate = rate; period = period; ring = ring }) = record {
-      channels = eqb-true channels 1 h2.0;
+      channels_low = leb-true 1 channels h1.0;
+      channels_high = leb-true channels 8 h1.1;
       rate_low = leb-true 4000 rate h2.1;
       rate_high = leb-true rate 192000 h3.1;
       ring_low = leb-true 64 ring h4.1;

@@ -8,20 +8,23 @@ use Rattle.lab_script.specs.declared.script.Phase.TheVariants.{Play, Write}
 use Rattle.lab_script.specs.Script.{frames_played}
 use Rattle.lab_script.specs.Word.{cut_line, words_of, number_of, is_name, is_file}
 
+-- what follows from a value where there is one
 infixl 10 ◌>>=◌
 abbrev pub ◌>>=◌ : {A B : Type 0} → Option A → (A → Option B) → Option B
 (Some x) >>= f = f x
 None >>= f = None
 
--- one word alone, two words, and three words
+-- the word of a line of one word
 abbrev pub one_of : List (List ℕ) → Option (List ℕ)
 one_of (first ∷ []) = Some first
 one_of words = None
 
+-- the words of a line of two words
 abbrev pub two_of : List (List ℕ) → Option (List ℕ × List ℕ)
 two_of (first ∷ second ∷ []) = Some (first, second)
 two_of words = None
 
+-- the words of a line of three words
 abbrev pub three_of : List (List ℕ) → Option (List ℕ × List ℕ × List ℕ)
 three_of (first ∷ second ∷ third ∷ []) = Some (first, second, third)
 three_of words = None
@@ -58,13 +61,13 @@ last_keyed key words = do
 
 -- the card's numbers are in their ranges, and its period divides its ring at least twice
 abbrev pub is_card : ℕ → ℕ → ℕ → ℕ → Bool
-is_card channels rate period ring = channels == 1 && nat_le 4000 rate && nat_le rate 192000 && nat_le 64 ring && nat_le ring 16384 && nat_le 16 period && nat_le period (ring / 2) && ring % period == 0
+is_card channels rate period ring = nat_le 1 channels && nat_le channels 8 && nat_le 4000 rate && nat_le rate 192000 && nat_le 64 ring && nat_le ring 16384 && nat_le 16 period && nat_le period (ring / 2) && ring % period == 0
 
 -- the card of these numbers
 abbrev pub card_with : ℕ → ℕ → ℕ → ℕ → Option CardLine
 card_with channels rate period ring = passed (is_card channels rate period ring) (record { channels = channels; rate = rate; period = period; ring = ring })
 
--- `card channels 1 rate R period P ring N`
+-- `card channels C rate R period P ring N`
 unfoldable pub card_of : List (List ℕ) → Option CardLine
 card_of words = do
   keys ← behind (codes "card") words

@@ -14,9 +14,11 @@ pub record Rest : Type 0 where
   pub number : ℕ
   pub text : List ℕ
 
+-- what is left, by the number of its first line and its text
 abbrev pub at : ℕ → List ℕ → Rest
 at number text = record { number = number; text = text }
 
+-- what follows from a result where it is Ok
 infixl 10 ◌>>=◌
 abbrev pub ◌>>=◌ : {A B : Type 0} → Result A ScriptError → (A → Result B ScriptError) → Result B ScriptError
 (Ok x) >>= f = f x
@@ -26,11 +28,12 @@ abbrev pub ◌>>=◌ : {A B : Type 0} → Result A ScriptError → (A → Result
 abbrev pub refused : ℕ → ScriptError
 refused number = record { line = number; why = why.NotYet }
 
--- the whole first line, and what is left behind it
+-- a line that is cut off, and what is left behind it, or the refusal of the line of this number
 abbrev pub cut_at : ℕ → Option (List ℕ × List ℕ) → Result (List ℕ × Rest) ScriptError
 cut_at number None = Err (refused number)
 cut_at number (Some cut) = Ok (cut.0, at (number + 1) cut.1)
 
+-- the whole first line, and what is left behind it
 abbrev pub line_of : Rest → Result (List ℕ × Rest) ScriptError
 line_of rest = cut_at rest.number (cut_line rest.text)
 

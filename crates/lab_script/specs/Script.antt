@@ -33,7 +33,8 @@ AreOfTwo (Write client frames) (Play more) = Unit {0}
 
 -- the card's numbers are in their ranges, and its period divides its ring at least twice
 pub record IsCardLine (card : CardLine) : Type 0 where
-  pub channels : card.channels ≡ 1
+  pub channels_low : 1 ≤ card.channels
+  pub channels_high : card.channels ≤ 8
   pub rate_low : 4000 ≤ card.rate
   pub rate_high : card.rate ≤ 192000
   pub ring_low : 64 ≤ card.ring

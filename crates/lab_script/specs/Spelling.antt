@@ -29,19 +29,21 @@ pub record SpellsCard (words : List (List ℕ)) (card : CardLine) : Type 0 where
   pub is_ring : IsNumeralOf ring card.ring
   pub are : words ≡ codes "card" ∷ codes "channels" ∷ channels ∷ codes "rate" ∷ rate ∷ codes "period" ∷ period ∷ codes "ring" ∷ ring ∷ []
 
--- the words of a client's line, and of the line that opens it
+-- the words of a client's line
 abbrev pub client_words : ClientLine → List (List ℕ)
 client_words client = codes "client" ∷ client.name ∷ client.file ∷ []
 
+-- the words of the line that opens a client
 abbrev pub open_words : ClientLine → List (List ℕ)
 open_words client = codes "open" ∷ client.name ∷ []
 
--- the words of what is done in a phase: the card plays, or the client of this number writes
+-- the words with which the card plays
 pub record SpellsPlay (words : List (List ℕ)) (frames : ℕ) : Type 0 where
   pub number : List ℕ
   pub is_number : IsNumeralOf number frames
   pub are : words ≡ codes "card" ∷ codes "play" ∷ number ∷ []
 
+-- the words with which the client of this number writes
 pub record SpellsWrite (clients : List ClientLine) (words : List (List ℕ)) (client frames : ℕ) : Type 0 where
   pub line : ClientLine
   pub number : List ℕ
@@ -49,6 +51,7 @@ pub record SpellsWrite (clients : List ClientLine) (words : List (List ℕ)) (cl
   pub is_number : IsNumeralOf number frames
   pub are : words ≡ line.name ∷ codes "write" ∷ number ∷ []
 
+-- the words of what is done in a phase
 abbrev pub SpellsAction : List ClientLine → List (List ℕ) → Phase → Type 0
 SpellsAction clients words (Play frames) = SpellsPlay words frames
 SpellsAction clients words (Write client frames) = SpellsWrite clients words client frames

@@ -74,7 +74,8 @@ fn last_keyed(key: &[u8], line: &[u8]) -> Option<u64>
 fn is_card(channels: u64, rate: u64, period: u64, ring: u64) -> bool
     ensures { result ≡ is_card channels rate period ring }
 {
-    channels == 1
+    1 <= channels
+        && channels <= 8
         && 4000 <= rate
         && rate <= 192_000
         && 64 <= ring
@@ -99,7 +100,7 @@ fn card_with(channels: u64, rate: u64, period: u64, ring: u64) -> Option<CardLin
     })
 }
 
-/// The card's line, `card channels 1 rate R period P ring N`.
+/// The card's line, `card channels C rate R period P ring N`.
 #[tactic(auto, unfolding(crate::specs::Grammar::card_of))]
 pub fn read_card(line: &[u8]) -> Option<CardLine>
     ensures { result ≡ card_of (words_of line.now) }

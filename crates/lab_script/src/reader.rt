@@ -233,8 +233,8 @@ fn read_any(alloc: Global, text: &[u8]) -> Result<Script, ScriptError>
 /// A script is a text of whole lines, each ended by a line feed, whose words are separated by one
 /// space each. A number is 1 to 19 decimal digits. The lines are, in this order:
 ///
-/// - `card channels 1 rate R period P ring N`: R from 4000 to 192000 Hz, N from 64 to 16384 frames,
-///   and P from 16 frames to half of N, dividing N;
+/// - `card channels C rate R period P ring N`: C from 1 to 8, R from 4000 to 192000 Hz, N from 64 to
+///   16384 frames, and P from 16 frames to half of N, dividing N;
 /// - up to 64 of `client NAME FILE`, with names that differ. A name is 1 to 32 bytes, a lower-case
 ///   letter and then lower-case letters, digits or `_`, and none of `card`, `client`, `reader`,
 ///   `open`, `close`, `phase` and `end`. A file is 1 to 255 bytes from 33 to 126 without `#`;

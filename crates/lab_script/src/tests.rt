@@ -35,11 +35,11 @@ fn with_clients(alloc: Global, count: u32) -> Result<String, AllocError> {
 #[test]
 fn reads_each_field(rt: HostRuntime) -> Result<(), Fail> {
     let text =
-        b"card channels 01 rate 44100 period 064 ring 256\nclient a x.wav\nclient b_2 dir/y.wav\nopen a\nopen b_2\nphase\nb_2 write 0064\nend\nphase\ncard play 4194304\nend\n";
+        b"card channels 08 rate 44100 period 064 ring 256\nclient a x.wav\nclient b_2 dir/y.wav\nopen a\nopen b_2\nphase\nb_2 write 0064\nend\nphase\ncard play 4194304\nend\n";
     let script = read_script(rt.alloc(), text)
         .ok()
         .ok_or("the text is a script")?;
-    assert_eq!(rt; script.card.channels, 1);
+    assert_eq!(rt; script.card.channels, 8);
     assert_eq!(rt; script.card.rate, 44100);
     assert_eq!(rt; script.card.period, 64);
     assert_eq!(rt; script.card.ring, 256);
@@ -73,7 +73,9 @@ fn refuses_the_card(rt: HostRuntime) {
     for text in [
         "",
         "\n",
-        "card channels 2 rate 48000 period 16 ring 64\n",
+        "card channels 0 rate 48000 period 16 ring 64\n",
+        "card channels 9 rate 48000 period 16 ring 64\n",
+        "card channels eight rate 48000 period 16 ring 64\n",
         "card  channels 1 rate 48000 period 16 ring 64\n",
         "card channels 1 rate 48000 period 16 ring 64\r\n",
         "card channels 1 rate 48000 period 16 ring 64",
@@ -89,7 +91,7 @@ fn refuses_the_card(rt: HostRuntime) {
             "at {text}"
         );
     }
-    let longest = b"card channels 1 rate 0000000000000048000 period 16 ring 64\n";
+    let longest = b"card channels 2 rate 0000000000000048000 period 16 ring 64\n";
     assert_eq!(rt; refusal(rt.alloc(), longest), None);
 }
 
