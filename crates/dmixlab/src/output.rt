@@ -1,5 +1,5 @@
 //! What a run writes: the file with what the card played, and the text of the report.
-ghost use Rattle.std.specs.Prelude.{◌≡◌, ◌≤◌, ◌*◌, ◌++◌, IfOk, IfErr, OnOk, OnErr, length, codes};
+ghost use Rattle.std.specs.Prelude.{◌≡◌, ◌≤◌, ◌%◌, ◌++◌, IfOk, IfErr, OnOk, OnErr, length, codes};
 ghost use Rattle.lab_script.specs.Script.{IsCardLine, IsScript};
 ghost use Rattle.lab_report.specs.Text.{IsReportOf, report_text};
 ghost use Rattle.lab_phase.specs.Meaning.{IsRun};
@@ -37,7 +37,8 @@ pub(crate) fn prepare(
 ) -> Result<Output, Stop>
     requires script { IsScript script.now }
     requires report { IsReportOf outcome.report script.now }
-    requires frames { length outcome.played.items ≤ 4194304 }
+    requires whole { length outcome.played.items % script.now.card.channels ≡ 0 }
+    requires few { length outcome.played.items ≤ 33554432 }
     ensures output { IfOk result (IsOutput script.now outcome.report outcome.played.items out.now) }
     ensures only { IfErr result (λ stop. stop ≡ stops.Memory) }
 {
@@ -61,7 +62,8 @@ fn file_name(alloc: Global, out: &[u8]) -> Result<Vec<u8>, Stop>
 /// The file of the samples that the card played, with its channels and rate.
 fn wav_file(alloc: Global, card: &CardLine, played: Vec<i16>) -> Result<Vec<u8>, Stop>
     requires card { IsCardLine card.now }
-    requires frames { length played.items ≤ 4194304 }
+    requires whole { length played.items % card.now.channels ≡ 0 }
+    requires few { length played.items ≤ 33554432 }
     ensures file { IfOk result (λ file. file.items ≡ wav_of card.now played.items) }
     ensures only { IfErr result (λ stop. stop ≡ stops.Memory) }
 {
