@@ -1,4 +1,4 @@
-// Names with their bytes, of which the first of a name stands.
+//! Names with their bytes, of which the first of a name stands.
 ghost use Rattle.std.specs.Prelude.{◌≡◌, length, take, drop, position, bytes_eq, OnOk, OnErr, option_map};
 ghost use Rattle.std.specs.Option.{option_copied};
 ghost use Rattle.lab_shelf.specs.Files.{held, with_file};

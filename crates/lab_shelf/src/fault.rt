@@ -1,4 +1,4 @@
-// Why a call of a shelf or a sink gave no answer.
+//! Why a call of a shelf or a sink gave no answer.
 ghost use Rattle.std.specs.Prelude.{◌≡◌};
 ghost use Rattle.lab_shelf.specs.declared.fault.ShelfFault.TheVariants.{Memory};
 

@@ -1,5 +1,5 @@
-// The forms in memory, whose calls fail where the caller lists their numbers.
-ghost use Rattle.std.specs.Prelude.{◌≡◌, ◌≤◌, ◌++◌, [], Some, IfOk, OnOk, OnErr, vec_len};
+//! The forms in memory, whose calls fail where the caller lists their numbers.
+ghost use Rattle.std.specs.Prelude.{◌≡◌, ◌≢◌, ◌≤◌, ◌++◌, [], None, Some, Err, IsErrOf, IfOk, OnOk, OnErr, vec_len};
 ghost use Rattle.std.specs.Option.{option_copied};
 ghost use Rattle.lab_shelf.specs.Files.{held, with_file, piece, IsPartWritten, TookPart};
 ghost use Rattle.lab_shelf.specs.Counts.{Counted, Foreseen};
@@ -13,7 +13,7 @@ use std::marker::Model;
 
 /// Files in memory. Its calls of `fetch` and `store` are numbered together from 1, and one fails
 /// with `Failed` exactly where its number is listed, or where it fetches a name that isn't there.
-/// A call that fails changes no file.
+/// A call that fails changes no file. The shelf is reliable where no number is listed.
 #[derive(Drop)]
 pub struct MemoryShelf {
     entries: Vec<(Vec<u8>, Vec<u8>)>,
@@ -79,6 +79,8 @@ impl Shelf for MemoryShelf {
 
     ghost store_works = { λ s. Some (write_answers s.failing s.calls) };
 
+    ghost is_reliable = { λ s. s.failing ≡ [] };
+
     fn fetch(
         &mut self,
         alloc: Global,
@@ -94,6 +96,9 @@ impl Shelf for MemoryShelf {
         ensures files { Some self.new.files ≡ Some self.old.files }
         ensures faults { Counted result self.old.fetch_faults self.new.fetch_faults }
         ensures write_faults { self.new.write_faults ≡ self.old.write_faults }
+        ensures reliable { self.old.failing ≡ [] → self.new.failing ≡ [] }
+        ensures missing { self.old.failing ≡ [] → IsErrOf result ShelfFault.Failed
+            → held self.old.files name.now ≡ None }
     {
         self.calls = self.calls.saturating_add(1);
         let is_listed = self.failing.contains(&self.calls);
@@ -115,6 +120,8 @@ impl Shelf for MemoryShelf {
             (IsPartWritten (Some self.old.files) (Some self.new.files) name.now bytes.now) }
         ensures faults { Counted result self.old.write_faults self.new.write_faults }
         ensures fetch_faults { self.new.fetch_faults ≡ self.old.fetch_faults }
+        ensures reliable { self.old.failing ≡ [] → self.new.failing ≡ [] }
+        ensures stores { self.old.failing ≡ [] → result ≢ Err ShelfFault.Failed }
     {
         self.calls = self.calls.saturating_add(1);
         if self.failing.contains(&self.calls) {
@@ -127,7 +134,8 @@ impl Shelf for MemoryShelf {
 }
 
 /// Bytes that were put, in memory. Its calls of `put` are numbered from 1, and one fails with
-/// `Failed` exactly where its number is listed. A call that fails takes no byte.
+/// `Failed` exactly where its number is listed. A call that fails takes no byte. The sink is reliable where no
+/// number is listed.
 #[derive(Drop)]
 pub struct MemorySink {
     bytes: Vec<u8>,
@@ -179,12 +187,16 @@ impl Sink for MemorySink {
 
     ghost put_works = { λ s. Some (write_answers s.failing s.calls) };
 
+    ghost is_reliable = { λ s. s.failing ≡ [] };
+
     fn put(&mut self, bytes: &[u8]) -> Result<(), ShelfFault>
         ensures foreseen { Foreseen result (Some (write_answers self.old.failing self.old.calls)) }
         ensures after { self.new ≡ after_put result self.old bytes.now }
         ensures ok { OnOk result (Some self.new.taken ≡ Some (self.old.taken ++ bytes.now)) }
         ensures err { OnErr result (TookPart (Some self.old.taken) (Some self.new.taken) bytes.now) }
         ensures faults { Counted result self.old.faults self.new.faults }
+        ensures reliable { self.old.failing ≡ [] → self.new.failing ≡ [] }
+        ensures puts { self.old.failing ≡ [] → result ≢ Err ShelfFault.Failed }
     {
         self.calls = self.calls.saturating_add(1);
         if self.failing.contains(&self.calls) {

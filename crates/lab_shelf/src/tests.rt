@@ -1,4 +1,4 @@
-// What no clause says: that calls work where there is memory, and what real files and streams do.
+//! What no clause says: that calls work where there is memory, and what real files and streams do.
 use crate::{FileShelf, MemoryShelf, MemorySink, Shelf, ShelfFault, Sink, StdSink};
 use std::alloc::Global;
 use std::io::Write;

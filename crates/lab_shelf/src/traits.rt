@@ -1,7 +1,7 @@
-// What a program asks of its files and of a stream that it writes to.
-ghost use Rattle.std.specs.Prelude.{◌≡◌, ◌≤◌, ◌++◌, ℕ, List, Bool, Option, None, Some, IfOk, IfSome, OnOk, OnErr, vec_len};
+//! What a program asks of its files and of a stream that it writes to.
+ghost use Rattle.std.specs.Prelude.{◌≡◌, ◌≢◌, ◌≤◌, ◌++◌, ℕ, List, Bool, Option, None, Some, Err, IsErrOf, IfOk, IfSome, OnOk, OnErr, vec_len};
 ghost use Rattle.std.specs.Option.{option_map};
-ghost use Rattle.lab_shelf.specs.Files.{Files, with_file, piece, IsPartWritten, TookPart};
+ghost use Rattle.lab_shelf.specs.Files.{Files, held, with_file, piece, IsPartWritten, TookPart};
 ghost use Rattle.lab_shelf.specs.Counts.{Counted, Foreseen};
 
 use crate::fault::ShelfFault;
@@ -9,7 +9,8 @@ use std::alloc::Global;
 
 /// Files by name. A contract sees a finite map from names to bytes, where the shelf tells it, and
 /// two counts of faults: of fetches that failed, and of writes that failed. Neither count falls,
-/// and each stands still at `u64::MAX`.
+/// and each stands still at `u64::MAX`. A reliable shelf stays reliable: its fetches fail only for
+/// names that it doesn't hold, and its stores never fail, but for want of memory.
 pub trait Shelf {
     // The files, where the shelf tells them.
     ghost files: { Self → Option Files };
@@ -26,9 +27,13 @@ pub trait Shelf {
     // Whether the next store works, where the shelf tells that.
     ghost store_works: { Self → Option Bool } = { λ _. None };
 
+    // Whether its calls fail only for a name that it doesn't hold, or for want of memory.
+    ghost is_reliable: { Self → Type 0 } = { λ _. ⊥ };
+
     /// Gives the bytes of the file `name` from the byte `from` on: `most` of them, or as many as
     /// there are. `Failed` comes where the file can't be read, and `fetch_faults` counts it;
-    /// `Memory` where there is no room for the bytes. The files stay as they are.
+    /// `Memory` where there is no room for the bytes. The files stay as they are. A reliable shelf
+    /// that tells its files answers `Failed` only where it holds none of this name.
     fn fetch(
         &mut self,
         alloc: Global,
@@ -42,11 +47,15 @@ pub trait Shelf {
         ensures files { files self.new ≡ files self.old }
         ensures faults { Counted result (fetch_faults self.old) (fetch_faults self.new) }
         ensures write_faults { write_faults self.new ≡ write_faults self.old }
-        ensures foreseen { Foreseen result (fetch_works self.old name.now) };
+        ensures foreseen { Foreseen result (fetch_works self.old name.now) }
+        ensures reliable { is_reliable self.old → is_reliable self.new }
+        ensures missing { is_reliable self.old → IsErrOf result ShelfFault.Failed
+            → IfSome (files self.old) (λ held_files. held held_files name.now ≡ None) };
 
     /// Makes the file `name` hold exactly `bytes`. After an error it holds a prefix of them, or is
     /// as it was. `Failed` comes where the file can't be written, and `write_faults` counts it;
-    /// `Memory` where there is no room for the bytes. No other file changes.
+    /// `Memory` where there is no room for the bytes. No other file changes. A reliable shelf never
+    /// answers `Failed`.
     fn store(&mut self, name: &[u8], bytes: &[u8]) -> Result<(), ShelfFault>
         ensures ok { OnOk result (files self.new ≡ option_map
             (λ held_files. with_file held_files name.now bytes.now) (files self.old)) }
@@ -54,11 +63,14 @@ pub trait Shelf {
             (IsPartWritten (files self.old) (files self.new) name.now bytes.now) }
         ensures faults { Counted result (write_faults self.old) (write_faults self.new) }
         ensures fetch_faults { fetch_faults self.new ≡ fetch_faults self.old }
-        ensures foreseen { Foreseen result (store_works self.old) };
+        ensures foreseen { Foreseen result (store_works self.old) }
+        ensures reliable { is_reliable self.old → is_reliable self.new }
+        ensures stores { is_reliable self.old → result ≢ Err ShelfFault.Failed };
 }
 
 /// A stream that takes bytes. A contract sees the bytes that it took, where the sink tells them,
-/// and a count of faults, which never falls and stands still at `u64::MAX`.
+/// and a count of faults, which never falls and stands still at `u64::MAX`. A reliable sink stays
+/// reliable, and its puts never fail, but for want of memory.
 pub trait Sink {
     // The bytes that were taken, in order, where the sink tells them.
     ghost taken: { Self → Option (List ℕ) };
@@ -69,13 +81,18 @@ pub trait Sink {
     // Whether the next put works, where the sink tells that.
     ghost put_works: { Self → Option Bool } = { λ _. None };
 
+    // Whether its puts fail only for want of memory.
+    ghost is_reliable: { Self → Type 0 } = { λ _. ⊥ };
+
     /// Takes all of `bytes`. After an error it took a prefix of them. `Failed` comes where the
     /// stream can't be written, or takes nothing of a piece that isn't empty, and `faults` counts
-    /// it; `Memory` where there is no room for the bytes.
+    /// it; `Memory` where there is no room for the bytes. A reliable sink never answers `Failed`.
     fn put(&mut self, bytes: &[u8]) -> Result<(), ShelfFault>
         ensures ok { OnOk result
             (taken self.new ≡ option_map (λ before. before ++ bytes.now) (taken self.old)) }
         ensures err { OnErr result (TookPart (taken self.old) (taken self.new) bytes.now) }
         ensures faults { Counted result (faults self.old) (faults self.new) }
-        ensures foreseen { Foreseen result (put_works self.old) };
+        ensures foreseen { Foreseen result (put_works self.old) }
+        ensures reliable { is_reliable self.old → is_reliable self.new }
+        ensures puts { is_reliable self.old → result ≢ Err ShelfFault.Failed };
 }
