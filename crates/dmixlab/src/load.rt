@@ -5,7 +5,7 @@ ghost use Rattle.lab_script.specs.Script.{IsScript};
 ghost use Rattle.lab_phase.specs.Meaning.{AreFiles};
 ghost use Rattle.wav_io.specs.Reading.{wav_file, Reads};
 ghost use Rattle.dmixlab.specs.Input.{SpelledIn, fetched, input_in, most_of_run, script_in, sound_in, sounds_in, suiting, within_run};
-ghost use Rattle.dmixlab.specs.Stops.{FetchFaults, Follows};
+ghost use Rattle.dmixlab.specs.Stops.{FetchFaults, Follows, Misses};
 ghost use Rattle.dmixlab.specs.Loaded.{input_of};
 
 use crate::stop::{Stop, wav_stop};
@@ -40,6 +40,9 @@ pub(crate) fn load<S: Shelf>(shelf: &mut S, alloc: Global, name: &[u8]) -> Resul
     ensures files { S.files shelf.new ≡ S.files shelf.old }
     ensures faults { FetchFaults result (S.fetch_faults shelf.old) (S.fetch_faults shelf.new) }
     ensures write_faults { S.write_faults shelf.new ≡ S.write_faults shelf.old }
+    ensures reliable { S.is_reliable shelf.old → S.is_reliable shelf.new }
+    ensures missing { S.is_reliable shelf.old → ForSome (S.files shelf.old)
+        (λ files. Misses result (input_in files name.now)) }
 {
     let script = load_script(shelf, alloc, name)?;
     let wavs = load_wavs(shelf, alloc, &script.card, script.clients.as_slice())?;
@@ -55,6 +58,9 @@ fn load_script<S: Shelf>(shelf: &mut S, alloc: Global, name: &[u8]) -> Result<Sc
     ensures files { S.files shelf.new ≡ S.files shelf.old }
     ensures faults { FetchFaults result (S.fetch_faults shelf.old) (S.fetch_faults shelf.new) }
     ensures write_faults { S.write_faults shelf.new ≡ S.write_faults shelf.old }
+    ensures reliable { S.is_reliable shelf.old → S.is_reliable shelf.new }
+    ensures missing { S.is_reliable shelf.old → ForSome (S.files shelf.old)
+        (λ files. Misses result (script_in files name.now)) }
 {
     let text = fetch_most(shelf, alloc, name, SCRIPT_MOST)?;
     let script = read_script(alloc, &text)?;
@@ -75,6 +81,9 @@ fn load_wavs<S: Shelf>(
     ensures files { S.files shelf.new ≡ S.files shelf.old }
     ensures faults { FetchFaults result (S.fetch_faults shelf.old) (S.fetch_faults shelf.new) }
     ensures write_faults { S.write_faults shelf.new ≡ S.write_faults shelf.old }
+    ensures reliable { S.is_reliable shelf.old → S.is_reliable shelf.new }
+    ensures missing { S.is_reliable shelf.old → ForSome (S.files shelf.old)
+        (λ files. Misses result (sounds_in files card.now 0 clients.now)) }
 {
     let mut wavs = Vec::new(alloc);
     let mut total = 0;
@@ -104,6 +113,9 @@ fn load_wav<S: Shelf>(
     ensures files { S.files shelf.new ≡ S.files shelf.old }
     ensures faults { FetchFaults result (S.fetch_faults shelf.old) (S.fetch_faults shelf.new) }
     ensures write_faults { S.write_faults shelf.new ≡ S.write_faults shelf.old }
+    ensures reliable { S.is_reliable shelf.old → S.is_reliable shelf.new }
+    ensures missing { S.is_reliable shelf.old → ForSome (S.files shelf.old)
+        (λ files. Misses result (sound_in files card.now total name.now)) }
 {
     let bytes = fetch_most(shelf, alloc, name, WAV_MOST)?;
     let total = total + bytes.len() as u64;
@@ -153,6 +165,9 @@ fn fetch_most<S: Shelf>(
     ensures files { S.files shelf.new ≡ S.files shelf.old }
     ensures faults { FetchFaults result (S.fetch_faults shelf.old) (S.fetch_faults shelf.new) }
     ensures write_faults { S.write_faults shelf.new ≡ S.write_faults shelf.old }
+    ensures reliable { S.is_reliable shelf.old → S.is_reliable shelf.new }
+    ensures missing { S.is_reliable shelf.old → ForSome (S.files shelf.old)
+        (λ files. Misses result (fetched files name.now most)) }
 {
     match shelf.fetch(alloc, name, 0, most) {
         Ok(bytes) => Ok(bytes),

@@ -4,9 +4,9 @@ ghost use Rattle.std.specs.Option.{ForSome};
 ghost use Rattle.lab_shelf.specs.Counts.{Rose};
 ghost use Rattle.dmixlab.specs.Words.{form_of, run, texts};
 ghost use Rattle.dmixlab.specs.Input.{input_in};
-ghost use Rattle.dmixlab.specs.Stops.{EndsOf, InputFaults, IsReadStop, OutputFaults, Refuses};
+ghost use Rattle.dmixlab.specs.Stops.{EndsOf, EndsReliably, InputFaults, IsReadStop, OutputFaults, Refuses};
 ghost use Rattle.dmixlab.specs.Run.{IsReady};
-ghost use Rattle.dmixlab.specs.Top.{cause, cause_in, ComesExactly, Headline, IsLeft, IsMissing, IsScriptRefused, IsValid, IsWavRefused, Leaves};
+ghost use Rattle.dmixlab.specs.Top.{cause, cause_in, ComesExactly, EndsWell, Headline, IsLeft, IsMissing, IsScriptRefused, IsValid, IsWavRefused, Leaves};
 
 use crate::load::load;
 use crate::output::{Output, prepare, put, write};
@@ -88,6 +88,10 @@ pub fn dmixlab<R: Threads + Sync, S: Shelf, K: Sink, E: Sink, G: Gate + Send>(
         → ¬ Rose (K.faults out.old) (K.faults out.new)
         → (result ≡ 0) ⊎ (result ≡ 6)) }
 
+    // Over a reliable shelf and a reliable `out` nothing fails but by a missing file or want of memory.
+    ensures reliable { S.is_reliable shelf.old → K.is_reliable out.old
+        → ForSome (S.files shelf.old) (λ files. EndsWell result (texts words.now) files) }
+
     // What stands after another status.
     ensures rest { result ≢ 0 → IsLeft result (texts words.now)
         (S.files shelf.old) (S.files shelf.new) (K.taken out.old) (K.taken out.new) }
@@ -112,6 +116,8 @@ fn command<S: Shelf, K: Sink>(
     ensures leaves { Leaves result (form_of (texts words.now))
         (S.files shelf.old) (S.files shelf.new) (K.taken out.old) (K.taken out.new) }
     ensures cause { ForSome (S.files shelf.old) (λ files. EndsOf result (cause_in (form_of (texts words.now)) files)) }
+    ensures reliable { S.is_reliable shelf.old → K.is_reliable out.old → ForSome (S.files shelf.old)
+        (λ files. EndsReliably result (cause_in (form_of (texts words.now)) files)) }
     ensures words { Refuses result (form_of (texts words.now)) }
     ensures reads { InputFaults result (S.fetch_faults shelf.old) (S.fetch_faults shelf.new) }
     ensures writes { OutputFaults result (S.write_faults shelf.old) (S.write_faults shelf.new)
@@ -136,6 +142,8 @@ fn run_command<S: Shelf, K: Sink>(
     ensures leaves { Leaves result (Some (run script.now name.now))
         (S.files shelf.old) (S.files shelf.new) (K.taken out.old) (K.taken out.new) }
     ensures cause { ForSome (S.files shelf.old) (λ files. EndsOf result (cause (input_in files script.now))) }
+    ensures reliable { S.is_reliable shelf.old → K.is_reliable out.old → ForSome (S.files shelf.old)
+        (λ files. EndsReliably result (cause (input_in files script.now))) }
     ensures words { Refuses result (Some (run script.now name.now)) }
     ensures reads { InputFaults result (S.fetch_faults shelf.old) (S.fetch_faults shelf.new) }
     ensures writes { OutputFaults result (S.write_faults shelf.old) (S.write_faults shelf.new)
@@ -149,6 +157,9 @@ fn run_command<S: Shelf, K: Sink>(
 fn make<S: Shelf>(alloc: Global, shelf: &mut S, script: &[u8], name: &[u8]) -> Result<Output, Stop>
     ensures ready { IfOk result (IsReady (S.files shelf.old) script.now name.now) }
     ensures cause { ForSome (S.files shelf.old) (λ files. EndsOf result (cause (input_in files script.now))) }
+    ensures missing { S.is_reliable shelf.old → ForSome (S.files shelf.old)
+        (λ files. EndsReliably result (cause (input_in files script.now))) }
+    ensures reliable { S.is_reliable shelf.old → S.is_reliable shelf.new }
     ensures only { IfErr result IsReadStop }
     ensures files { S.files shelf.new ≡ S.files shelf.old }
     ensures reads { InputFaults result (S.fetch_faults shelf.old) (S.fetch_faults shelf.new) }
