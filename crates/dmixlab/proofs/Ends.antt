@@ -1,16 +1,16 @@
--- Exit statuses 2 and 3 come exactly where their causes do.
-use Rattle.std.proofs.Common.{◌≡◌, ℕ, ap, refl, List, arith}
-use Rattle.std.specs.Prelude.{Option, Some, None, Result, Ok, Err}
+-- Exit statuses 2 and 3 come exactly where their causes do, and how a call ends where nothing fails.
+use Rattle.std.proofs.Common.{◌≡◌, ℕ, ap, refl, subst, inl, inr, List, arith}
+use Rattle.std.specs.Prelude.{Option, Some, None, IsSome, Result, Ok, Err}
 use Rattle.lab_script.specs.declared.error.ScriptError.{ScriptError}
 use Rattle.wav_io.specs.declared.error.WavError.{WavError}
 use Rattle.lab_shelf.specs.Files.{Files}
 use Rattle.lab_shelf.specs.Counts.{Rose}
 use Rattle.dmixlab.specs.declared.stop.Stop.{Stop}
 use Rattle.dmixlab.specs.declared.stop.Stop.TheVariants.{Words, Script, Wav, Read, Write, Memory}
-use Rattle.dmixlab.specs.Words.{Form}
+use Rattle.dmixlab.specs.Words.{Form, form_of}
 use Rattle.dmixlab.specs.Input.{script_refused, wav_refused}
-use Rattle.dmixlab.specs.Stops.{status_of, EndsOf, Refuses, InputFaults}
-use Rattle.dmixlab.specs.Top.{cause_in, ComesExactly}
+use Rattle.dmixlab.specs.Stops.{status_of, EndsOf, EndsReliably, Refuses, InputFaults}
+use Rattle.dmixlab.specs.Top.{cause_in, ComesExactly, EndsWell}
 
 -- words without a form have no cause
 none_caused : (form : Option Form) (files : Files) → form ≡ None → cause_in form files ≡ None
@@ -53,3 +53,21 @@ status_of-wav (Err Write) form files before now ends refuses faults =
     record { only = λ is. absurd (omega arith); always = λ given kept left. absurd (let e = given.1.1 in cc) }
 status_of-wav (Err Memory) form files before now ends refuses faults =
     record { only = λ is. absurd (omega arith); always = λ given kept left. absurd (left refl) }
+
+-- over reliable files and a reliable output a call ends well
+pub status_of-reliable : {T : Type 0} (end : Result T Stop) (words : List (List ℕ)) (files : Files)
+    → EndsOf end (cause_in (form_of words) files) → Refuses end (form_of words) → EndsReliably end (cause_in (form_of words) files)
+    → EndsWell (status_of end) words files
+status_of-reliable (Ok x) words files ends refuses reliable =
+    record { reads = λ is. absurd (omega arith); writes = λ is. omega arith; valid = λ given. inl refl }
+status_of-reliable (Err Words) words files ends refuses reliable =
+    record { reads = λ is. absurd (omega arith); writes = λ is. omega arith; valid = λ given. absurd (let some = subst IsSome refuses given.0 in cc) }
+status_of-reliable (Err (Script error)) words files ends refuses reliable =
+    record { reads = λ is. absurd (omega arith); writes = λ is. omega arith; valid = λ given. absurd (let e = given.1 in cc) }
+status_of-reliable (Err (Wav name why)) words files ends refuses reliable =
+    record { reads = λ is. absurd (omega arith); writes = λ is. omega arith; valid = λ given. absurd (let e = given.1 in cc) }
+status_of-reliable (Err (Read name)) words files ends refuses reliable =
+    record { reads = λ is. (name.items, reliable); writes = λ is. omega arith; valid = λ given. absurd (let e = given.1 in cc) }
+status_of-reliable (Err Write) words files ends refuses reliable = absurd reliable
+status_of-reliable (Err Memory) words files ends refuses reliable =
+    record { reads = λ is. absurd (omega arith); writes = λ is. omega arith; valid = λ given. inr refl }

@@ -1,5 +1,6 @@
 -- What the run of a script says of its report and of the samples that the card played.
-use Rattle.std.proofs.Common.{◌≡◌, ◌≤◌, ◌<◌, ◌+◌, ◌*◌, ℕ, sym, ap, ◌∙◌, subst, List, [], ◌∷◌, All, length, map, arith}
+use Rattle.std.proofs.Common.{◌≡◌, ◌≤◌, ◌<◌, ◌+◌, ◌*◌, ◌%◌, mul-le-mul, ℕ, sym, ap, ◌∙◌, subst, List, [], ◌∷◌, All, length, map, arith}
+use Rattle.std.proofs.Math.Nat.{mul-mod_left}
 use Rattle.std.specs.Prelude.{ℤ, Option, Some, None, slice_index}
 use Rattle.std.specs.List.{range_with_len}
 use Rattle.std.proofs.lemmas.List.Elements.{All-append, All-cons, All-nil, All-head, All-tail, All-map}
@@ -67,12 +68,24 @@ pub IsRun-IsReportOf : (script : Script) (sounds : List Sound) (report : Report)
 IsRun-IsReportOf script sounds report played is run =
     subst (λ r. IsReportOf r script) (sym run.reported) (report_of-IsReportOf script (map frames_of sounds) is)
 
--- a script's run plays at most as many samples as a script may play frames
-pub IsRun-length : (script : Script) (sounds : List Sound) (report : Report) (played : List ℤ)
-    → IsScript script → IsRun script sounds report played → length played ≤ 4194304
-IsRun-length script sounds report played is run =
-    let samples : length played ≡ report.frames * script.card.channels =
-    ap length run.mixes ∙ length-map-range_with_len (mixed_at script.card.channels report.first (entries_of sounds report.segments)) 0 (report.frames * script.card.channels) in
+-- a script's run plays a sample for each channel of each frame
+IsRun-length : (script : Script) (sounds : List Sound) (report : Report) (played : List ℤ)
+    → IsRun script sounds report played → length played ≡ report.frames * script.card.channels
+IsRun-length script sounds report played run =
+    ap length run.mixes
+    ∙ length-map-range_with_len (mixed_at script.card.channels report.first (entries_of sounds report.segments)) 0 (report.frames * script.card.channels)
+
+-- a script's run plays whole frames
+pub IsRun-whole : (script : Script) (sounds : List Sound) (report : Report) (played : List ℤ)
+    → IsRun script sounds report played → length played % script.card.channels ≡ 0
+IsRun-whole script sounds report played run =
+    ap (λ n. n % script.card.channels) (IsRun-length script sounds report played run) ∙ mul-mod_left report.frames script.card.channels
+
+-- a script's run plays at most the samples of eight channels in as many frames as a script may play
+pub IsRun-few : (script : Script) (sounds : List Sound) (report : Report) (played : List ℤ)
+    → IsScript script → IsRun script sounds report played → length played ≤ 33554432
+IsRun-few script sounds report played is run =
     let frames : report.frames ≡ frames_played script.phases = ap (λ r. r.frames) run.reported in
-    let one : report.frames * script.card.channels ≡ report.frames * 1 = ap (λ c. report.frames * c) is.card.channels in
-    omega (arith, samples, frames, one, is.frames)
+    let most : report.frames * script.card.channels ≤ 4194304 * 8 =
+    mul-le-mul {n₁ = report.frames} {m₁ = script.card.channels} {n₂ = 4194304} {m₂ = 8} (omega (arith, frames, is.frames)) is.card.channels_high in
+    omega (arith, most, IsRun-length script sounds report played run)

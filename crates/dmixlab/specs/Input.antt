@@ -1,5 +1,5 @@
 -- What a run reads, or the first cause for which it can't: a function of the files.
-use Rattle.std.specs.Prelude.{◌≡◌, ℕ, ◌==◌, ◌&&◌, nat_le, if◌then◌else◌, List, [], ◌∷◌, Option, Some, None, Result, Ok, Err}
+use Rattle.std.specs.Prelude.{◌≡◌, ℕ, ◌+◌, ◌==◌, ◌&&◌, nat_le, if◌then◌else◌, List, [], ◌∷◌, length, Option, Some, None, Result, Ok, Err}
 use Rattle.lab_script.specs.declared.error.ScriptError.{ScriptError}
 use Rattle.lab_script.specs.declared.script.CardLine.{CardLine}
 use Rattle.lab_script.specs.declared.script.ClientLine.{ClientLine}
@@ -7,9 +7,9 @@ use Rattle.lab_script.specs.declared.script.Script.{Script}
 use Rattle.lab_script.specs.Reading.{script_of}
 use Rattle.lab_script.specs.Spelling.{Spells}
 use Rattle.wav_io.specs.declared.error.WavError.{WavError}
-use Rattle.wav_io.specs.declared.error.WavError.TheVariants.{NotYet}
+use Rattle.wav_io.specs.declared.error.WavError.TheVariants.{NotYet, TooLong}
 use Rattle.wav_io.specs.Sound.{Sound}
-use Rattle.wav_io.specs.Reading.{canonical_wav}
+use Rattle.wav_io.specs.Reading.{wav_file}
 use Rattle.lab_shelf.specs.Files.{Files, piece}
 
 -- why input can't be read: a file isn't there, the script is refused, or a client's file is
@@ -52,17 +52,28 @@ abbrev pub suiting : CardLine → Result Sound WavError → Result Sound WavErro
 suiting card (Ok sound) = if sound.rate == card.rate && nat_le sound.channels card.channels then Ok sound else Err NotYet
 suiting card (Err e) = Err e
 
+-- the most bytes that the clients' files of a run have together
+abbrev pub most_of_run : ℕ
+most_of_run = 268_435_456
+
+-- a sound whose file and all files fetched before it have so many bytes together
+abbrev pub within_run : ℕ → Result Sound WavError → Result Sound WavError
+within_run total (Ok sound) = if nat_le total most_of_run then Ok sound else Err TooLong
+within_run total (Err e) = Err e
+
 -- the script in a file, of which one byte more is fetched than a script may have
 unfoldable pub script_in : Files → List ℕ → Result Script Cause
 script_in files name = do
   text ← fetched files name 1048577
   as_script (script_of text)
 
--- the sound in a client's file, of which one byte more is fetched than a file may have
-unfoldable pub sound_in : Files → CardLine → List ℕ → Result Sound Cause
-sound_in files card name = do
+-- the sound in a client's file, of which one byte more is fetched than a file may have, and the bytes that were fetched of
+-- all files so far, where those before it had this many
+unfoldable pub sound_in : Files → CardLine → ℕ → List ℕ → Result (Sound × ℕ) Cause
+sound_in files card total name = do
   bytes ← fetched files name 67108865
-  as_sound name (suiting card (canonical_wav bytes))
+  sound ← as_sound name (within_run (total + length bytes) (suiting card (wav_file bytes)))
+  Ok (sound, total + length bytes)
 
 -- the text of a file, of which one byte more is fetched than a script may have, spells a script
 pub record SpelledIn (files : Files) (name : List ℕ) (script : Script) : Type 0 where
@@ -70,17 +81,17 @@ pub record SpelledIn (files : Files) (name : List ℕ) (script : Script) : Type 
   pub is_text : fetched files name 1048577 ≡ Ok text
   pub spells : Spells text script
 
--- the sounds of some clients, in order
-unfoldable pub sounds_in : Files → CardLine → List ClientLine → Result (List Sound) Cause
-sounds_in files card [] = Ok []
-sounds_in files card (client ∷ clients) = do
-  sound ← sound_in files card client.file
-  sounds ← sounds_in files card clients
-  Ok (sound ∷ sounds)
+-- the sounds of some clients, in order, behind files of this many bytes
+unfoldable pub sounds_in : Files → CardLine → ℕ → List ClientLine → Result (List Sound) Cause
+sounds_in files card total [] = Ok []
+sounds_in files card total (client ∷ clients) = do
+  read ← sound_in files card total client.file
+  sounds ← sounds_in files card read.1 clients
+  Ok (read.0 ∷ sounds)
 
 -- what a run of the script in this file reads
 unfoldable pub input_in : Files → List ℕ → Result Input Cause
 input_in files name = do
   script ← script_in files name
-  sounds ← sounds_in files script.card script.clients
+  sounds ← sounds_in files script.card 0 script.clients
   Ok (record { script = script; sounds = sounds })

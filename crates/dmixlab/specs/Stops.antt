@@ -8,7 +8,7 @@ use Rattle.wav_io.specs.declared.error.WavError.TheVariants as wav_whys
 use Rattle.lab_shelf.specs.Counts.{Rose}
 use Rattle.dmixlab.specs.declared.stop.Stop.{Stop}
 use Rattle.dmixlab.specs.declared.stop.Stop.TheVariants.{Words, Script, Wav, Read, Write, Memory}
-use Rattle.dmixlab.specs.Input.{Cause, script_refused, wav_refused}
+use Rattle.dmixlab.specs.Input.{Cause, missing, script_refused, wav_refused}
 
 -- the stop at a script that is refused
 abbrev pub IsScriptStop : ScriptWhy → ScriptError → Stop → Type 0
@@ -64,6 +64,16 @@ FetchFaults (Err (Wav name why)) before now = before ≤ now
 FetchFaults (Err Write) before now = ⊥
 FetchFaults (Err Memory) before now = before ≤ now
 
+-- a call that only reads, over reliable files, stops at a read only where the file is missing that the stop names
+abbrev pub Misses : {X Y : Type 0} → Result X Stop → Result Y Cause → Type 0
+Misses (Err (Read name)) given = given ≡ Err (missing name.items)
+Misses (Ok x) given = ⊤
+Misses (Err Words) given = ⊤
+Misses (Err (Script error)) given = ⊤
+Misses (Err (Wav name why)) given = ⊤
+Misses (Err Write) given = ⊤
+Misses (Err Memory) given = ⊤
+
 -- a call that only writes stops for a write or for memory
 abbrev pub IsWriteStop : Stop → Type 0
 IsWriteStop Words = ⊥
@@ -113,6 +123,17 @@ EndsOf (Err (Wav name why)) cause = cause ≡ Some (wav_refused name.items why)
 EndsOf (Err (Read name)) cause = ⊤
 EndsOf (Err Write) cause = cause ≡ None
 EndsOf (Err Memory) cause = ⊤
+
+-- a command that reads and writes, over reliable files and a reliable output, stops at a read only where the first cause is
+-- that the file is missing that the stop names, and never at a write
+abbrev pub EndsReliably : {X : Type 0} → Result X Stop → Option Cause → Type 0
+EndsReliably (Err (Read name)) cause = cause ≡ Some (missing name.items)
+EndsReliably (Err Write) cause = ⊥
+EndsReliably (Ok x) cause = ⊤
+EndsReliably (Err Words) cause = ⊤
+EndsReliably (Err (Script error)) cause = ⊤
+EndsReliably (Err (Wav name why)) cause = ⊤
+EndsReliably (Err Memory) cause = ⊤
 
 -- a command refuses the words exactly where they have no form
 abbrev pub Refuses : {X Y : Type 0} → Result X Stop → Option Y → Type 0

@@ -47,6 +47,13 @@ pub record ComesExactly (status result : ℕ) (rose cause : Type 0) : Type 0 whe
   pub only : result ≡ status → cause
   pub always : cause → ¬ rose → result ≢ 6 → result ≡ status
 
+-- how a call ends over reliable files and a reliable output: with status 4 only where a file that is read isn't there, never
+-- with 5, and where all that it reads is there and right, with 0, or with 6 for want of memory
+pub record EndsWell (result : ℕ) (words : List (List ℕ)) (files : Files) : Type 0 where
+  pub reads : result ≡ 4 → IsMissing words files
+  pub writes : result ≢ 5
+  pub valid : IsValid words files → (result ≡ 0) ⊎ (result ≡ 6)
+
 -- a text was put, and no file changed
 pub record Told (text : List ℕ) (before after : Option Files) (taken told : Option (List ℕ)) : Type 0 where
   pub files : after ≡ before

@@ -1,11 +1,11 @@
 //! The input of a run: its script, and its clients' files.
-ghost use Rattle.std.specs.Prelude.{◌≡◌, ◌≤◌, IfOk, All, length, vec_len};
+ghost use Rattle.std.specs.Prelude.{◌≡◌, ◌≤◌, ℕ, IfOk, All, length, vec_len};
 ghost use Rattle.std.specs.Option.{ForSome};
 ghost use Rattle.lab_script.specs.Script.{IsScript};
 ghost use Rattle.lab_phase.specs.Meaning.{AreFiles};
-ghost use Rattle.wav_io.specs.Reading.{canonical_wav, Reads};
-ghost use Rattle.dmixlab.specs.Input.{SpelledIn, fetched, input_in, script_in, sound_in, sounds_in, suiting};
-ghost use Rattle.dmixlab.specs.Stops.{FetchFaults, Follows};
+ghost use Rattle.wav_io.specs.Reading.{wav_file, Reads};
+ghost use Rattle.dmixlab.specs.Input.{SpelledIn, fetched, input_in, most_of_run, script_in, sound_in, sounds_in, suiting, within_run};
+ghost use Rattle.dmixlab.specs.Stops.{FetchFaults, Follows, Misses};
 ghost use Rattle.dmixlab.specs.Loaded.{input_of};
 
 use crate::stop::{Stop, wav_stop};
@@ -19,6 +19,9 @@ const SCRIPT_MOST: u64 = 1_048_577;
 
 /// One byte more than a client's file may have.
 const WAV_MOST: u64 = 67_108_865;
+
+/// The most bytes that the clients' files of a run have together.
+const RUN_MOST: u64 = 268_435_456;
 
 /// What a run reads: the script, and its clients' samples in the order of their lines.
 #[derive(Drop)]
@@ -37,6 +40,9 @@ pub(crate) fn load<S: Shelf>(shelf: &mut S, alloc: Global, name: &[u8]) -> Resul
     ensures files { S.files shelf.new ≡ S.files shelf.old }
     ensures faults { FetchFaults result (S.fetch_faults shelf.old) (S.fetch_faults shelf.new) }
     ensures write_faults { S.write_faults shelf.new ≡ S.write_faults shelf.old }
+    ensures reliable { S.is_reliable shelf.old → S.is_reliable shelf.new }
+    ensures missing { S.is_reliable shelf.old → ForSome (S.files shelf.old)
+        (λ files. Misses result (input_in files name.now)) }
 {
     let script = load_script(shelf, alloc, name)?;
     let wavs = load_wavs(shelf, alloc, &script.card, script.clients.as_slice())?;
@@ -52,6 +58,9 @@ fn load_script<S: Shelf>(shelf: &mut S, alloc: Global, name: &[u8]) -> Result<Sc
     ensures files { S.files shelf.new ≡ S.files shelf.old }
     ensures faults { FetchFaults result (S.fetch_faults shelf.old) (S.fetch_faults shelf.new) }
     ensures write_faults { S.write_faults shelf.new ≡ S.write_faults shelf.old }
+    ensures reliable { S.is_reliable shelf.old → S.is_reliable shelf.new }
+    ensures missing { S.is_reliable shelf.old → ForSome (S.files shelf.old)
+        (λ files. Misses result (script_in files name.now)) }
 {
     let text = fetch_most(shelf, alloc, name, SCRIPT_MOST)?;
     let script = read_script(alloc, &text)?;
@@ -66,45 +75,74 @@ fn load_wavs<S: Shelf>(
     clients: &[ClientLine],
 ) -> Result<Vec<Wav>, Stop>
     ensures sounds { ForSome (S.files shelf.old)
-        (λ files. Follows (λ v. v.items) result (sounds_in files card.now clients.now)) }
+        (λ files. Follows (λ v. v.items) result (sounds_in files card.now 0 clients.now)) }
     ensures channels { IfOk result (λ wavs. All (λ w. w.channels ≤ card.now.channels) wavs.items) }
     ensures number { IfOk result (λ wavs. length wavs.items ≡ length clients.now) }
     ensures files { S.files shelf.new ≡ S.files shelf.old }
     ensures faults { FetchFaults result (S.fetch_faults shelf.old) (S.fetch_faults shelf.new) }
     ensures write_faults { S.write_faults shelf.new ≡ S.write_faults shelf.old }
+    ensures reliable { S.is_reliable shelf.old → S.is_reliable shelf.new }
+    ensures missing { S.is_reliable shelf.old → ForSome (S.files shelf.old)
+        (λ files. Misses result (sounds_in files card.now 0 clients.now)) }
 {
     let mut wavs = Vec::new(alloc);
+    let mut total = 0;
     for client in clients {
-        let wav = load_wav(shelf, alloc, card, client.file.as_str().as_bytes())?;
+        let name = client.file.as_str().as_bytes();
+        let (wav, fetched) = load_wav(shelf, alloc, card, total, name)?;
         wavs.push(wav)?;
+        total = fetched;
     }
     Ok(wavs)
 }
 
-/// The samples in a client's file.
+/// The samples in a client's file, and the bytes fetched of all files so far, of which there were
+/// `total` before.
 #[tactic(auto, unfolding(crate::specs::Input::sound_in))]
 fn load_wav<S: Shelf>(
     shelf: &mut S,
     alloc: Global,
     card: &CardLine,
+    total: u64,
     name: &[u8],
-) -> Result<Wav, Stop>
-    ensures sound { ForSome (S.files shelf.old) (λ files. Follows (λ w. w) result (sound_in files card.now name.now)) }
-    ensures channels { IfOk result (λ w. w.channels ≤ card.now.channels) }
+) -> Result<(Wav, u64), Stop>
+    requires few { total ≤ most_of_run }
+    ensures sound { ForSome (S.files shelf.old) (λ files. Follows (λ r. r) result (sound_in files card.now total name.now)) }
+    ensures channels { IfOk result (λ r. r.0.channels ≤ card.now.channels) }
+    ensures few { IfOk result (λ r. r.1 ≤ most_of_run) }
     ensures files { S.files shelf.new ≡ S.files shelf.old }
     ensures faults { FetchFaults result (S.fetch_faults shelf.old) (S.fetch_faults shelf.new) }
     ensures write_faults { S.write_faults shelf.new ≡ S.write_faults shelf.old }
+    ensures reliable { S.is_reliable shelf.old → S.is_reliable shelf.new }
+    ensures missing { S.is_reliable shelf.old → ForSome (S.files shelf.old)
+        (λ files. Misses result (sound_in files card.now total name.now)) }
 {
     let bytes = fetch_most(shelf, alloc, name, WAV_MOST)?;
-    match read_suiting(alloc, card, &bytes) {
-        Ok(wav) => Ok(wav),
+    let total = total + bytes.len() as u64;
+    match read_within(alloc, card, total, &bytes) {
+        Ok(wav) => Ok((wav, total)),
         Err(why) => Err(wav_stop(alloc, name, why)),
+    }
+}
+
+/// The samples of a client's file for this card, where all files so far have at most the bytes that
+/// a run may have.
+fn read_within(alloc: Global, card: &CardLine, total: u64, bytes: &[u8]) -> Result<Wav, WavError>
+    ensures sound { Reads result (within_run total (suiting card.now (wav_file bytes.now))) }
+    ensures channels { IfOk result (λ w. w.channels ≤ card.now.channels) }
+    ensures few { IfOk result (λ _. total ≤ most_of_run) }
+{
+    let wav = read_suiting(alloc, card, bytes)?;
+    if total <= RUN_MOST {
+        Ok(wav)
+    } else {
+        Err(WavError::TooLong)
     }
 }
 
 /// The samples of a client's file for this card.
 fn read_suiting(alloc: Global, card: &CardLine, bytes: &[u8]) -> Result<Wav, WavError>
-    ensures sound { Reads result (suiting card.now (canonical_wav bytes.now)) }
+    ensures sound { Reads result (suiting card.now (wav_file bytes.now)) }
     ensures channels { IfOk result (λ w. w.channels ≤ card.now.channels) }
 {
     let wav = read_wav(alloc, bytes)?;
@@ -123,9 +161,13 @@ fn fetch_most<S: Shelf>(
     most: u64,
 ) -> Result<Vec<u8>, Stop>
     ensures bytes { ForSome (S.files shelf.old) (λ files. Follows (λ v. v.items) result (fetched files name.now most)) }
+    ensures most { IfOk result (λ v. vec_len v ≤ most) }
     ensures files { S.files shelf.new ≡ S.files shelf.old }
     ensures faults { FetchFaults result (S.fetch_faults shelf.old) (S.fetch_faults shelf.new) }
     ensures write_faults { S.write_faults shelf.new ≡ S.write_faults shelf.old }
+    ensures reliable { S.is_reliable shelf.old → S.is_reliable shelf.new }
+    ensures missing { S.is_reliable shelf.old → ForSome (S.files shelf.old)
+        (λ files. Misses result (fetched files name.now most)) }
 {
     match shelf.fetch(alloc, name, 0, most) {
         Ok(bytes) => Ok(bytes),

@@ -1,5 +1,5 @@
 //! What a run writes: the file with what the card played, and the text of the report.
-ghost use Rattle.std.specs.Prelude.{◌≡◌, ◌≤◌, ◌*◌, ◌++◌, IfOk, IfErr, OnOk, OnErr, length, codes};
+ghost use Rattle.std.specs.Prelude.{◌≡◌, ◌≢◌, ◌≤◌, ◌%◌, ◌++◌, Err, IfOk, IfErr, OnOk, OnErr, length, codes};
 ghost use Rattle.lab_script.specs.Script.{IsCardLine, IsScript};
 ghost use Rattle.lab_report.specs.Text.{IsReportOf, report_text};
 ghost use Rattle.lab_phase.specs.Meaning.{IsRun};
@@ -37,7 +37,8 @@ pub(crate) fn prepare(
 ) -> Result<Output, Stop>
     requires script { IsScript script.now }
     requires report { IsReportOf outcome.report script.now }
-    requires frames { length outcome.played.items ≤ 4194304 }
+    requires whole { length outcome.played.items % script.now.card.channels ≡ 0 }
+    requires few { length outcome.played.items ≤ 33554432 }
     ensures output { IfOk result (IsOutput script.now outcome.report outcome.played.items out.now) }
     ensures only { IfErr result (λ stop. stop ≡ stops.Memory) }
 {
@@ -61,7 +62,8 @@ fn file_name(alloc: Global, out: &[u8]) -> Result<Vec<u8>, Stop>
 /// The file of the samples that the card played, with its channels and rate.
 fn wav_file(alloc: Global, card: &CardLine, played: Vec<i16>) -> Result<Vec<u8>, Stop>
     requires card { IsCardLine card.now }
-    requires frames { length played.items ≤ 4194304 }
+    requires whole { length played.items % card.now.channels ≡ 0 }
+    requires few { length played.items ≤ 33554432 }
     ensures file { IfOk result (λ file. file.items ≡ wav_of card.now played.items) }
     ensures only { IfErr result (λ stop. stop ≡ stops.Memory) }
 {
@@ -102,6 +104,7 @@ pub(crate) fn write<S: Shelf, K: Sink>(
     ensures only { IfErr result IsWriteStop }
     ensures fetch_faults { S.fetch_faults shelf.new ≡ S.fetch_faults shelf.old }
     ensures faults { OutputFaults result (S.write_faults shelf.old) (S.write_faults shelf.new) (K.faults out.old) (K.faults out.new) }
+    ensures reliable { S.is_reliable shelf.old → K.is_reliable out.old → result ≢ Err stops.Write }
 {
     store(shelf, output)?;
     put(out, output.text.as_slice())
@@ -115,6 +118,7 @@ fn store<S: Shelf>(shelf: &mut S, output: &Output) -> Result<(), Stop>
     ensures only { IfErr result IsWriteStop }
     ensures fetch_faults { S.fetch_faults shelf.new ≡ S.fetch_faults shelf.old }
     ensures faults { WriteFaults result (S.write_faults shelf.old) (S.write_faults shelf.new) }
+    ensures reliable { S.is_reliable shelf.old → result ≢ Err stops.Write }
 {
     match shelf.store(output.name.as_slice(), output.file.as_slice()) {
         Ok(()) => Ok(()),
@@ -129,6 +133,7 @@ pub(crate) fn put<K: Sink>(out: &mut K, text: &[u8]) -> Result<(), Stop>
     ensures text { OnErr result (TookPart (K.taken out.old) (K.taken out.new) text.now) }
     ensures only { IfErr result IsWriteStop }
     ensures faults { WriteFaults result (K.faults out.old) (K.faults out.new) }
+    ensures reliable { K.is_reliable out.old → result ≢ Err stops.Write }
 {
     match out.put(text) {
         Ok(()) => Ok(()),

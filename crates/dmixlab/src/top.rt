@@ -4,9 +4,9 @@ ghost use Rattle.std.specs.Option.{ForSome};
 ghost use Rattle.lab_shelf.specs.Counts.{Rose};
 ghost use Rattle.dmixlab.specs.Words.{form_of, run, texts};
 ghost use Rattle.dmixlab.specs.Input.{input_in};
-ghost use Rattle.dmixlab.specs.Stops.{EndsOf, InputFaults, IsReadStop, OutputFaults, Refuses};
+ghost use Rattle.dmixlab.specs.Stops.{EndsOf, EndsReliably, InputFaults, IsReadStop, OutputFaults, Refuses};
 ghost use Rattle.dmixlab.specs.Run.{IsReady};
-ghost use Rattle.dmixlab.specs.Top.{cause, cause_in, ComesExactly, Headline, IsLeft, IsMissing, IsScriptRefused, IsValid, IsWavRefused, Leaves};
+ghost use Rattle.dmixlab.specs.Top.{cause, cause_in, ComesExactly, EndsWell, Headline, IsLeft, IsMissing, IsScriptRefused, IsValid, IsWavRefused, Leaves};
 
 use crate::load::load;
 use crate::output::{Output, prepare, put, write};
@@ -26,17 +26,30 @@ use std::thread::Threads;
 /// - `--help` and `--version`, each alone, put their text on `out`.
 ///
 /// A word for a file is 1 to 4,096 bytes of UTF-8 without a zero byte. The status is 0 where all
-/// was done. Otherwise one line on `errors` says why it is not, and a fault there changes nothing:
+/// was done, and then `errors` takes nothing. Otherwise one line on `errors` says why it is not, and
+/// a fault there changes nothing:
 ///
 /// - 1: the words are none of these;
-/// - 2: the script is refused;
-/// - 3: a client's file is refused;
+/// - 2: the script has more than 1,048,576 bytes, or isn't a script as `lab_script::read_script`
+///   reads it, in the short form: a card of 1 to 8 channels, clients that are all opened before the
+///   first phase, and phases of one line, a `write` or a `card play`;
+/// - 3: a client's file isn't a WAV file of 16-bit PCM, isn't at the card's rate, has more channels
+///   than the card, has more than 67,108,864 bytes, or is the one with which the files of all clients
+///   so far, each counted as often as a client names it, have more than 268,435,456 bytes;
 /// - 4: a file can't be read, as where there is none of its name;
 /// - 5: `OUT.wav` can't be stored, or the text can't be put;
 /// - 6: memory ran out.
 ///
-/// A file has at most 67,108,864 bytes where it is a client's, and 1,048,576 where it is the
-/// script. `gates` are the clients' gates, at least 128; a run of one thread asks none of them.
+/// The first cause in the order of the work decides: the words, the script, each client's file in
+/// the order of the clients' lines, `OUT.wav`, the text.
+///
+/// With status 0 `OUT.wav` holds the canonical WAV file of what the card played, at the card's rate
+/// and with its channels (a client's channel is the card's of the same number), and `out` took the
+/// whole report. With 1 to 4 no file changed and `out` took nothing. With 5 and 6 that is so, or
+/// `OUT.wav` holds the first bytes of what it was to hold, or all, or is as it was, no other file
+/// changed, and `out` took the first bytes of the text.
+///
+/// `gates` are the clients' gates, at least 128; a run of one thread asks none of them.
 pub fn dmixlab<R: Threads + Sync, S: Shelf, K: Sink, E: Sink, G: Gate + Send>(
     _rt: &R,
     alloc: Global,
@@ -75,9 +88,16 @@ pub fn dmixlab<R: Threads + Sync, S: Shelf, K: Sink, E: Sink, G: Gate + Send>(
         → ¬ Rose (K.faults out.old) (K.faults out.new)
         → (result ≡ 0) ⊎ (result ≡ 6)) }
 
+    // Over a reliable shelf and a reliable `out` nothing fails but by a missing file or want of memory.
+    ensures reliable { S.is_reliable shelf.old → K.is_reliable out.old
+        → ForSome (S.files shelf.old) (λ files. EndsWell result (texts words.now) files) }
+
     // What stands after another status.
     ensures rest { result ≢ 0 → IsLeft result (texts words.now)
         (S.files shelf.old) (S.files shelf.new) (K.taken out.old) (K.taken out.new) }
+
+    // `errors` takes nothing where all was done.
+    ensures silent { result ≡ 0 → E.taken errors.new ≡ E.taken errors.old }
 {
     let end = command(alloc, words, shelf, out);
     if let Err(stop) = &end {
@@ -96,6 +116,8 @@ fn command<S: Shelf, K: Sink>(
     ensures leaves { Leaves result (form_of (texts words.now))
         (S.files shelf.old) (S.files shelf.new) (K.taken out.old) (K.taken out.new) }
     ensures cause { ForSome (S.files shelf.old) (λ files. EndsOf result (cause_in (form_of (texts words.now)) files)) }
+    ensures reliable { S.is_reliable shelf.old → K.is_reliable out.old → ForSome (S.files shelf.old)
+        (λ files. EndsReliably result (cause_in (form_of (texts words.now)) files)) }
     ensures words { Refuses result (form_of (texts words.now)) }
     ensures reads { InputFaults result (S.fetch_faults shelf.old) (S.fetch_faults shelf.new) }
     ensures writes { OutputFaults result (S.write_faults shelf.old) (S.write_faults shelf.new)
@@ -120,6 +142,8 @@ fn run_command<S: Shelf, K: Sink>(
     ensures leaves { Leaves result (Some (run script.now name.now))
         (S.files shelf.old) (S.files shelf.new) (K.taken out.old) (K.taken out.new) }
     ensures cause { ForSome (S.files shelf.old) (λ files. EndsOf result (cause (input_in files script.now))) }
+    ensures reliable { S.is_reliable shelf.old → K.is_reliable out.old → ForSome (S.files shelf.old)
+        (λ files. EndsReliably result (cause (input_in files script.now))) }
     ensures words { Refuses result (Some (run script.now name.now)) }
     ensures reads { InputFaults result (S.fetch_faults shelf.old) (S.fetch_faults shelf.new) }
     ensures writes { OutputFaults result (S.write_faults shelf.old) (S.write_faults shelf.new)
@@ -133,6 +157,9 @@ fn run_command<S: Shelf, K: Sink>(
 fn make<S: Shelf>(alloc: Global, shelf: &mut S, script: &[u8], name: &[u8]) -> Result<Output, Stop>
     ensures ready { IfOk result (IsReady (S.files shelf.old) script.now name.now) }
     ensures cause { ForSome (S.files shelf.old) (λ files. EndsOf result (cause (input_in files script.now))) }
+    ensures missing { S.is_reliable shelf.old → ForSome (S.files shelf.old)
+        (λ files. EndsReliably result (cause (input_in files script.now))) }
+    ensures reliable { S.is_reliable shelf.old → S.is_reliable shelf.new }
     ensures only { IfErr result IsReadStop }
     ensures files { S.files shelf.new ≡ S.files shelf.old }
     ensures reads { InputFaults result (S.fetch_faults shelf.old) (S.fetch_faults shelf.new) }

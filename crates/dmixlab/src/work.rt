@@ -1,5 +1,5 @@
 //! The run itself.
-ghost use Rattle.std.specs.Prelude.{◌≡◌, ◌≤◌, IfOk, IfErr, length};
+ghost use Rattle.std.specs.Prelude.{◌≡◌, ◌≤◌, ◌%◌, IfOk, IfErr, length};
 ghost use Rattle.lab_script.specs.Script.{IsScript};
 ghost use Rattle.lab_phase.specs.Meaning.{AreFiles, IsRun};
 ghost use Rattle.lab_report.specs.Text.{IsReportOf};
@@ -18,7 +18,8 @@ pub(crate) fn work(alloc: Global, script: &Script, wavs: &[Wav]) -> Result<Outco
     requires files { AreFiles script.now wavs.now }
     ensures run { IfOk result (λ o. IsRun script.now wavs.now o.report o.played.items) }
     ensures report { IfOk result (λ o. IsReportOf o.report script.now) }
-    ensures frames { IfOk result (λ o. length o.played.items ≤ 4194304) }
+    ensures whole { IfOk result (λ o. length o.played.items % script.now.card.channels ≡ 0) }
+    ensures few { IfOk result (λ o. length o.played.items ≤ 33554432) }
     ensures only { IfErr result (λ stop. stop ≡ stops.Memory) }
 {
     match run_script(alloc, script, wavs) {

@@ -1,5 +1,5 @@
 use Rattle.dmixlab.specs.Words.{form_of, texts}
-use Rattle.dmixlab.proofs.Ends.{status_of-script, status_of-wav}
+use Rattle.dmixlab.proofs.Ends.{status_of-script, status_of-wav, status_of-reliable}
 use Rattle.dmixlab.proofs.top.dmixlab.Goals as goal
 
 pub returns-clause-script : goal.returns-clause-script
@@ -13,3 +13,9 @@ returns-clause-wav g c files told =
     rw c.status.ensures
     (status_of-wav c.command-end.result (form_of (texts c.args.words.now)) files _ _ (c.command-end.ensures.cause files told)
     c.command-end.ensures.words c.command-end.ensures.reads)
+
+pub returns-clause-reliable : goal.returns-clause-reliable
+returns-clause-reliable g c shelf out files told =
+    rw c.status.ensures
+    (status_of-reliable c.command-end.result (texts c.args.words.now) files (c.command-end.ensures.cause files told) c.command-end.ensures.words
+    (c.command-end.ensures.reliable shelf out files told))
