@@ -72,7 +72,7 @@ script_found : (text : List ℕ) (s : Script) → script_of text ≡ Ok s → Sp
 unfolding script_of
 script_found text s e = found_case (nat_lt 1048576 (length text)) text s e
 
-short : (n m : ℕ) → n ≤ m → nat_lt m n ≡ false
+pub short : (n m : ℕ) → n ≤ m → nat_lt m n ≡ false
 short n m h = grind (arith, nat_tests)
 
 script_again : (text : List ℕ) (s : Script) → length text ≤ 1048576 → Spells text s → script_of text ≡ Ok s
