@@ -1,4 +1,4 @@
-use Rattle.lab_script.proofs.Answer.{read_found, read_only}
+use Rattle.lab_script.proofs.Answer.{read_found, read_only, read_causes}
 use Rattle.lab_script.proofs.First.{read_first, read_refuses}
 use Rattle.lab_script.proofs.reader.read_script.Goals as goal
 
@@ -13,3 +13,6 @@ returns-clause-first c = read_first c.read_any.result c.args.text.now c.read_any
 
 pub returns-clause-refuses : goal.returns-clause-refuses
 returns-clause-refuses c = read_refuses c.read_any.result c.args.text.now c.read_any.ensures.exact
+
+pub returns-clause-causes : goal.returns-clause-causes
+returns-clause-causes c = read_causes c.read_any.result c.args.text.now c.read_any.ensures.exact
