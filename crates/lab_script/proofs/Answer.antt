@@ -1,7 +1,8 @@
 -- What the answer to a text tells.
-use Rattle.std.proofs.Common.{◌≡◌, ℕ, zero, suc, ◌+◌, ◌≤◌, Bool, true, false, cond, List, [], ◌∷◌, ◌++◌, length, refl, ap, subst, ◌∙◌, arith, Option, Some, None, Result, Ok, Err, IfOk, nat_lt, codes}
+use Rattle.std.proofs.Common.{◌≡◌, ℕ, zero, suc, ◌+◌, ◌≤◌, Bool, true, false, cond, List, [], ◌∷◌, ◌++◌, length, refl, ap, subst, ◌∙◌, arith, Option, Some, None, Result, Ok, Err, IfOk, IfErr, nat_lt, codes, ◌⊎◌, inl, inr, sym}
 use Rattle.std.proofs.lemmas.Bool.Decides.{nat_tests}
 use Rattle.lab_script.specs.declared.error.ScriptError.{ScriptError}
+use Rattle.lab_script.specs.declared.error.ScriptWhy.{ScriptWhy}
 use Rattle.lab_script.specs.declared.error.ScriptWhy.TheVariants as why
 use Rattle.lab_script.specs.declared.script.ClientLine.{ClientLine}
 use Rattle.lab_script.specs.declared.script.Phase.{Phase}
@@ -10,7 +11,7 @@ use Rattle.lab_script.specs.Script.{IsScript}
 use Rattle.lab_script.specs.Word.{cut_line, words_of}
 use Rattle.lab_script.specs.Grammar.{card_of, clients_of, open_of, alone, action_of}
 use Rattle.lab_script.specs.Spelling.{Spells}
-use Rattle.lab_script.specs.Reading.{Rest, at, cut_at, known, line_by, opens_of, phase_of, phases_of, is_end, whole, script_of, too_long, ◌>>=◌, Reads}
+use Rattle.lab_script.specs.Reading.{Rest, at, cut_at, known, line_by, opens_of, phase_of, phases_of, is_end, whole, script_of, too_long, ◌>>=◌, Refuses, Reads}
 use Rattle.lab_script.proofs.Whole.{whole_found}
 use Rattle.lab_script.proofs.Back.{whole_again}
 
@@ -72,7 +73,7 @@ script_found : (text : List ℕ) (s : Script) → script_of text ≡ Ok s → Sp
 unfolding script_of
 script_found text s e = found_case (nat_lt 1048576 (length text)) text s e
 
-short : (n m : ℕ) → n ≤ m → nat_lt m n ≡ false
+pub short : (n m : ℕ) → n ≤ m → nat_lt m n ≡ false
 short n m h = grind (arith, nat_tests)
 
 script_again : (text : List ℕ) (s : Script) → length text ≤ 1048576 → Spells text s → script_of text ≡ Ok s
@@ -89,3 +90,26 @@ read_found (Err e) text h = tt
 -- what is spelled is read
 pub read_only : (r : Result Script ScriptError) (text : List ℕ) → Reads r (script_of text) → (s : Script) → length text ≤ 1048576 → Spells text s → Reads r (Ok s)
 read_only r text h s few spelled = subst (λ (g : Result Script ScriptError). Reads r g) (script_again text s few spelled) h
+
+-- the causes of a refusal
+abbrev Caused : ScriptError → Type 0
+Caused e = (e.why ≡ why.NotYet) ⊎ ((e ≡ too_long) ⊎ (e.why ≡ why.Memory))
+
+cause_case : (b : Bool) (text : List ℕ) (e : ScriptError) → cond b (Err too_long) (whole text) ≡ Err e → Caused e
+cause_case true text e h =
+    let same : too_long ≡ e = cc in
+    inr (inl (sym same))
+cause_case false text e h = inl (subst (λ (r : Result Script ScriptError). IsNotYet r) h (whole_not_yet text))
+
+script_cause : (text : List ℕ) (e : ScriptError) → script_of text ≡ Err e → Caused e
+unfolding script_of
+script_cause text e h = cause_case (nat_lt 1048576 (length text)) text e h
+
+refusal_cause : (w : ScriptWhy) (e : ScriptError) (text : List ℕ) → e.why ≡ w → Refuses w e (script_of text) → Caused e
+refusal_cause why.Memory e text y h = inr (inr y)
+refusal_cause w e text y h = script_cause text e h
+
+-- a text is refused for one of three causes
+pub read_causes : (r : Result Script ScriptError) (text : List ℕ) → Reads r (script_of text) → IfErr r (λ e. (e.why ≡ why.NotYet) ⊎ ((e ≡ too_long) ⊎ (e.why ≡ why.Memory)))
+read_causes (Ok s) text h = tt
+read_causes (Err e) text h = refusal_cause e.why e text refl h

@@ -1,7 +1,8 @@
 -- The refused line is the first that can't stand.
-use Rattle.std.proofs.Common.{◌≡◌, ℕ, suc, ◌+◌, ◌-◌, ◌<◌, ◌≤◌, true, List, [], ◌∷◌, ◌++◌, length, take, map, codes, refl, sym, ap, subst, append_assoc, ◌∙◌, arith, Option, Some, None, All, ◌&&◌, Result, Ok, Err, IfErr, cond, Bool, false, nat_lt, inl, inr}
+use Rattle.std.proofs.Common.{◌≡◌, ℕ, suc, ◌+◌, ◌-◌, ◌<◌, ◌≤◌, true, List, [], ◌∷◌, ◌++◌, length, take, drop, map, codes, refl, sym, ap, subst, append_assoc, ◌∙◌, arith, Option, Some, None, All, ◌&&◌, Result, Ok, Err, IfErr, cond, Bool, false, nat_lt, inl, inr}
 use Rattle.std.specs.List.{flat_map, list_all, join_with_byte}
-use Rattle.std.proofs.lemmas.List.{append-nil, length-append, length-map, take_at}
+use Rattle.std.proofs.lemmas.List.{append-nil, length-append, length-map, length-take, take-append-drop, take-append-le, take_at}
+use Rattle.std.proofs.lemmas.Bool.{cases_order}
 use Rattle.std.proofs.lemmas.Grind.{flat_map-append}
 use Rattle.lab_script.specs.declared.error.ScriptError.{ScriptError}
 use Rattle.lab_script.specs.declared.error.ScriptWhy.{ScriptWhy}
@@ -16,11 +17,12 @@ use Rattle.lab_script.specs.Grammar.{card_of, client_of, client_line, clients_of
 use Rattle.lab_script.specs.Grammar as G
 use Rattle.lab_script.specs.Spelling.{line, client_words, open_words, SpellsCard, SpellsActions, phase_lines, Spells}
 use Rattle.lab_script.specs.First.{ended, ended_lines, CanStand, IsFirstWrong}
-use Rattle.lab_script.specs.Reading.{Rest, at, line_by, opens_of, phases_of, whole, script_of, too_long, ◌>>=◌, Refuses, Reads}
+use Rattle.lab_script.specs.Reading.{Rest, at, refused, line_by, opens_of, phases_of, whole, script_of, too_long, ◌>>=◌, Refuses, Reads}
 use Rattle.lab_script.proofs.Words.{both}
 use Rattle.lab_script.proofs.Lines.{cut_whole, ok_in, is_plain, line_again, line_found}
 use Rattle.lab_script.proofs.Found.{IsBody, card_found}
-use Rattle.lab_script.proofs.Whole.{IsClients, no_clients, clients_found, opens_found, no_phases, not_both, spelled}
+use Rattle.lab_script.proofs.Whole.{IsClients, no_clients, clients_found, opens_found, no_phases, not_both, spelled, whole_found}
+use Rattle.lab_script.proofs.Answer.{short}
 use Rattle.lab_script.proofs.Back.{client_plain, card_plain, clients_again, opens_again, whole_again}
 use Rattle.lab_script.proofs.Ends.{ArePlain, cut_other, cut_unfed, ended_lines-cons, ended_lines-front, ended_lines-none, flat_map-ended}
 use Rattle.lab_script.proofs.Wrong.{Wrong, err_in, bind_err, wrong_here, wrong_next, wrong_after, wrong_can, wrong_bind, CanOpens, open_plain, opens_wrong, CanPhases, phases_wrong}
@@ -301,3 +303,42 @@ script_first text e y h = first_case (nat_lt 1048576 (length text)) text e y h
 pub read_first : (r : Result Script ScriptError) (text : List ℕ) → Reads r (script_of text) → IfErr r (λ e. e.why ≡ why.NotYet → IsFirstWrong e.line text)
 read_first (Ok s) text h = tt
 read_first (Err e) text h = λ y. script_first text e y (subst (λ (w : ScriptWhy). Refuses w e (script_of text)) y h)
+
+-- fewer lines can stand too
+shorter : (n m : ℕ) (lines : List (List ℕ)) → n ≤ m → m ≤ length lines → CanStand (take m lines) → CanStand (take n lines)
+shorter n m lines less within c =
+    let front = take m lines in
+    let a = take n front in
+    let b = drop n front in
+    let split : flat_map ended front ≡ flat_map ended a ++ flat_map ended b = ap (λ (ls : List (List ℕ)). flat_map ended ls) (sym (take-append-drop n front)) ∙ flat_map-append ended a b in
+    let text_is : flat_map ended front ++ c.more ≡ flat_map ended a ++ (flat_map ended b ++ c.more) = ap (λ t. t ++ c.more) split ∙ append_assoc (flat_map ended a) (flat_map ended b) c.more in
+    let here : CanStand a = record { script = c.script; more = flat_map ended b ++ c.more; spells = subst (λ (t : List ℕ). Spells t c.script) text_is c.spells } in
+    let same : a ≡ take n lines = sym (take-append-le n front (drop m lines) (omega (arith, length-take m lines))) ∙ ap (take n) (take-append-drop m lines) in
+    subst (λ (ls : List (List ℕ)). CanStand ls) same here
+
+not_less : (n m : ℕ) (text : List ℕ) → IsFirstWrong n text → IsFirstWrong m text → n < m → ⊥
+not_less n m text f g h = f.wrong (omega (arith, g.high)) (shorter n (m - 1) (ended_lines text) (omega arith) (omega (arith, g.high)) g.before)
+
+-- there is one first line that can't stand
+one_first : (n m : ℕ) (text : List ℕ) → IsFirstWrong n text → IsFirstWrong m text → n ≡ m
+one_first n m text f g = elim (cases_order n m) [
+  | inl same ↦ same
+  | inr other ↦ elim other [ inl less ↦ absurd (not_less n m text f g less) | inr more ↦ absurd (not_less m n text g f more) ]
+]
+
+whole_error : (text : List ℕ) (e : ScriptError) → whole text ≡ Err e → e ≡ refused e.line
+whole_error text e h =
+    let w = whole_wrong text e (sym (whole_is text) ∙ h) in
+    w.error_is ∙ ap refused (sym (ap (λ (d : ScriptError). d.line) w.error_is))
+
+whole_refuses : (r : Result Script ScriptError) (text : List ℕ) (n : ℕ) → whole text ≡ r → IsFirstWrong n text → r ≡ Err (refused n)
+whole_refuses (Ok s) text n h f = absurd (f.none s (whole_found text s h))
+whole_refuses (Err e) text n h f = ap Err (whole_error text e h ∙ ap refused (one_first e.line n text (whole_first text e h) f))
+
+script_refuses : (text : List ℕ) (n : ℕ) → length text ≤ 1048576 → IsFirstWrong n text → script_of text ≡ Err (refused n)
+unfolding script_of
+script_refuses text n few f = ap (λ b. cond b (Err too_long) (whole text)) (short (length text) 1048576 few) ∙ whole_refuses (whole text) text n refl f
+
+-- the first line that can't stand is refused
+pub read_refuses : (r : Result Script ScriptError) (text : List ℕ) → Reads r (script_of text) → (n : ℕ) → length text ≤ 1048576 → IsFirstWrong n text → Reads r (Err (refused n))
+read_refuses r text h n few f = subst (λ (g : Result Script ScriptError). Reads r g) (script_refuses text n few f) h

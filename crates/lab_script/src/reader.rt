@@ -1,5 +1,5 @@
 //! The reader of a script's text.
-ghost use Rattle.std.specs.Prelude.{◌≡◌, ◌+◌, ◌≤◌, ◌<◌, [], ◌↔◌, length, IfOk, IfErr, Ok, Err};
+ghost use Rattle.std.specs.Prelude.{◌≡◌, ℕ, ◌+◌, ◌≤◌, ◌<◌, [], ◌↔◌, ◌⊎◌, length, IfOk, IfErr, Ok, Err};
 ghost use Rattle.lab_script.specs.declared.script.Script.{Script};
 ghost use Rattle.lab_script.specs.declared.error.ScriptWhy.TheVariants as why;
 ghost use Rattle.lab_script.specs.Script.{IsScript};
@@ -262,9 +262,16 @@ pub fn read_script(alloc: Global, text: &[u8]) -> Result<Script, ScriptError>
     // A script that a text of at most 1048576 bytes spells is the answer, unless memory ran out.
     ensures only { (s : Script) → length text.now ≤ 1048576 → Spells text.now s → Reads result (Ok s) }
 
-    // A line is refused where it is the first that can't stand in a script, whatever stands behind it,
-    // or where the text ends too early.
+    // What is refused as NotYet is on the first line that can't stand in a script: the lines before it
+    // can, with some lines behind them, and it can't, or the text ends too early.
     ensures first { IfErr result (λ e. e.why ≡ why.NotYet → IsFirstWrong e.line text.now) }
+
+    // A text of at most 1048576 bytes is refused on its first line that can't stand, unless memory ran
+    // out.
+    ensures refuses { (n : ℕ) → length text.now ≤ 1048576 → IsFirstWrong n text.now → Reads result (Err (refused n)) }
+
+    // There is no other cause of a refusal.
+    ensures causes { IfErr result (λ e. (e.why ≡ why.NotYet) ⊎ ((e ≡ too_long) ⊎ (e.why ≡ why.Memory))) }
 
     // A text is too long exactly where it has more than 1048576 bytes.
     ensures too_long { (result ≡ Err too_long) ↔ (1048576 < length text.now) }
