@@ -23,11 +23,17 @@ pub fn high_part_is_rounded_down()
 
 /// No two samples of a buffer stand at one place.
 pub fn places_are_apart()
-    ensures frames { (areas : Areas) → (f g c d : ℕ) → f < areas.frames → g < areas.frames → c < areas.channels → d < areas.channels → place_of areas f c ≡ place_of areas g d → f ≡ g }
-    ensures channels { (areas : Areas) → (f g c d : ℕ) → f < areas.frames → g < areas.frames → c < areas.channels → d < areas.channels → place_of areas f c ≡ place_of areas g d → c ≡ d }
+    ensures frames { (areas : Areas) → (f g c d : ℕ)
+        → f < areas.frames → g < areas.frames → c < areas.channels → d < areas.channels
+        → place_of areas f c ≡ place_of areas g d → f ≡ g }
+    ensures channels { (areas : Areas) → (f g c d : ℕ)
+        → f < areas.frames → g < areas.frames → c < areas.channels → d < areas.channels
+        → place_of areas f c ≡ place_of areas g d → c ≡ d }
 {}
 
 /// A buffer that has all samples of its frames holds every range of them.
 pub fn whole_buffers_hold_every_range()
-    ensures { (areas : Areas) → (samples first count : ℕ) → areas.channels * areas.frames ≤ samples → first + count ≤ areas.frames → HoldsRange areas samples first count }
+    ensures { (areas : Areas) → (samples first count : ℕ)
+        → areas.channels * areas.frames ≤ samples → first + count ≤ areas.frames
+        → HoldsRange areas samples first count }
 {}
