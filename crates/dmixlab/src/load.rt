@@ -1,5 +1,5 @@
 //! The input of a run: its script, and its clients' files.
-ghost use Rattle.std.specs.Prelude.{◌≡◌, ◌≤◌, ℕ, IfOk, All, length, vec_len};
+ghost use Rattle.std.specs.Prelude.{◌≡◌, ◌≤◌, IfOk, All, length, vec_len};
 ghost use Rattle.std.specs.Option.{ForSome};
 ghost use Rattle.lab_script.specs.Script.{IsScript};
 ghost use Rattle.lab_phase.specs.Meaning.{AreFiles};

@@ -41,7 +41,8 @@ use std::thread::Threads;
 /// - 6: memory ran out.
 ///
 /// The first cause in the order of the work decides: the words, the script, each client's file in
-/// the order of the clients' lines, `OUT.wav`, the text.
+/// the order of the clients' lines, `OUT.wav`, the text. Over a reliable shelf and a reliable `out`
+/// 4 comes only where a file isn't there, and 5 never.
 ///
 /// With status 0 `OUT.wav` holds the canonical WAV file of what the card played, at the card's rate
 /// and with its channels (a client's channel is the card's of the same number), and `out` took the
