@@ -1,2 +1,3 @@
 pub mod Clamp
+pub mod Position
 pub mod Word

@@ -1,4 +1,4 @@
--- The error numbers of errno.h that the ALSA library answers for the refusals of PCM calls.
+-- The error numbers of errno.h for the refusals of PCM calls.
 use Rattle.std.specs.Prelude.{ℕ}
 use Rattle.snd_base.specs.declared.errors.PcmError.{PcmError}
 use Rattle.snd_base.specs.declared.errors.PcmError.TheVariants.{BadState, Xrun, Again, NoDevice, Invalid, Busy, NotSupported, LapEnd, Stopped, Memory}

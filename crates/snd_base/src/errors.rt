@@ -1,4 +1,5 @@
-//! The refusals of PCM calls, with the error numbers that ALSA answers for them.
+//! The refusals of PCM calls, with their error numbers: those of errno.h that stand for such refusals in ALSA's PCM
+//! interface. When each comes is this project's own rule.
 ghost use Rattle.std.specs.Prelude.{◌≡◌};
 ghost use Rattle.snd_base.specs.declared.errors.PcmError.TheVariants.{Memory};
 ghost use Rattle.snd_base.specs.Errors.{code_of};
@@ -58,7 +59,7 @@ pub enum Why {
     BindingTwice(u32),
 }
 
-/// The refusals of PCM calls. `code` gives the error number of each (errno.h, as the ALSA library answers it).
+/// The refusals of PCM calls. `code` gives the error number of each (errno.h).
 #[derive(Clone, Copy, Debug, PartialEq, Eq, Error)]
 pub enum PcmError {
     /// EBADFD: the call is not allowed in the stream's state.
@@ -94,7 +95,7 @@ pub enum PcmError {
 }
 
 impl PcmError {
-    /// The error number, as errno.h has it and the ALSA library answers it (there with a minus sign).
+    /// The error number, as errno.h has it. A call of the ALSA library answers such a number with a minus sign.
     pub fn code(&self) -> u32
         ensures { result ≡ code_of self.now }
     {

@@ -1,0 +1,48 @@
+//! The word of the card's position.
+ghost use Rattle.std.specs.Prelude.{◌≡◌, ◌<◌, ◌^◌};
+ghost use Rattle.lap_word.specs.Position.{gone_in, position_in, word_of};
+
+/// What the bit of a card that is gone is worth in a position word: 2 to the power 63.
+const GONE: u64 = 9223372036854775808;
+
+/// The word of a position, a frame number below 2 to the power 63, and of whether the card is gone.
+pub fn position_word(position: u64, gone: bool) -> u64
+    requires { position < 2 ^ 63 }
+    ensures { result ≡ word_of position gone }
+{
+    if gone { position + GONE } else { position }
+}
+
+/// The position, a frame number, that any word has.
+pub fn position_of(word: u64) -> u64
+    ensures { result ≡ position_in word }
+{
+    word % GONE
+}
+
+/// Whether the card is gone, as any word has it.
+pub fn gone_of(word: u64) -> bool
+    ensures { result ≡ gone_in word }
+{
+    word >= GONE
+}
+
+#[cfg(test)]
+mod tests {
+    use super::*;
+
+    #[test]
+    fn a_position_word_has_the_position_and_the_gone_bit(rt: HostRuntime) {
+        for (position, gone, word) in [
+            (0, false, 0),
+            (192, false, 192),
+            (0, true, 9223372036854775808),
+            (1099511627264, true, 9223373136366403072),
+            (9223372036854775807, true, 18446744073709551615),
+        ] {
+            assert_eq!(rt; position_word(position, gone), word);
+            assert_eq!(rt; position_of(word), position);
+            assert_eq!(rt; gone_of(word), gone);
+        }
+    }
+}
