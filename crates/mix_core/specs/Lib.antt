@@ -7,6 +7,7 @@ pub mod LegalLaws
 pub mod Port
 pub mod Sound
 pub mod Stands
+pub mod TakenLaws
 pub mod Turn
 pub mod TurnLaws
 pub mod View
