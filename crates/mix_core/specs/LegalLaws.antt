@@ -27,6 +27,12 @@ AreReplies-more g members h (x ∷ xs) r are is =
 pub IsLegal-more : (g : Geometry) (members : ℕ) (h : List Row) (r : Row) → IsLegal g members h → IsReply g members h r → IsLegal g members (h ++ r ∷ [])
 IsLegal-more g members h r legal is = AreReplies-more g members [] h r legal is
 
+-- the last of such rows has the reply that all before it determine
+pub AreReplies-last : (g : Geometry) (members : ℕ) (h rs : List Row) (r : Row) → AreReplies g members h (rs ++ r ∷ []) → IsReply g members (h ++ rs) r
+AreReplies-last g members h [] r are = subst (λ x. IsReply g members x r) (sym (append-nil h)) are.0
+AreReplies-last g members h (x ∷ xs) r are =
+    subst (λ y. IsReply g members y r) (append_assoc h (x ∷ []) xs) (AreReplies-last g members (h ++ x ∷ []) xs r are.1)
+
 -- what each reply keeps true stands after all of them
 pub AreReplies-keep : (g : Geometry) (members : ℕ) (P : List Row → Type 0)
     → ((h : List Row) (r : Row) → IsReply g members h r → P h → P (h ++ r ∷ []))
