@@ -1,9 +1,9 @@
 -- What a core does at an event is a reply to it after every history that the core stands for.
-use Rattle.std.proofs.Common.{◌≡◌, ℕ, ◌+◌, ◌<◌, true, List, [], ◌∷◌, ◌++◌, length, get_or, subst, sym, refl, ap, ◌∙◌, append_assoc, arith}
+use Rattle.std.proofs.Common.{◌≡◌, ◌+◌, ◌<◌, true, List, [], ◌∷◌, ◌++◌, length, subst, sym, refl, ap, ◌∙◌, append_assoc, arith}
 use Rattle.std.specs.List.{zip}
 use Rattle.std.proofs.lemmas.List.{append-nil, length-append}
 use Rattle.std.proofs.lemmas.List.Elements.{filter-append}
-use Rattle.snd_base.specs.Places.{IsFrom, first_free}
+use Rattle.snd_base.specs.Places.{first_free}
 use Rattle.mix_core.specs.declared.event.Event.{Event}
 use Rattle.mix_core.specs.declared.event.Event.TheVariants.{Add, Take}
 use Rattle.mix_core.specs.declared.event.Reply.{Reply}
@@ -11,7 +11,7 @@ use Rattle.mix_core.specs.declared.event.Reply.TheVariants.{Late, Took}
 use Rattle.mix_core.specs.declared.event.Taken.{Taken}
 use Rattle.mix_core.specs.declared.port.Entry.{Entry}
 use Rattle.mix_core.specs.Calls.{IsTaken}
-use Rattle.mix_core.specs.History.{AreReplies, IsInside, IsLegal, IsReply, Row}
+use Rattle.mix_core.specs.History.{AreReplies, IsReply, Row}
 use Rattle.mix_core.specs.KeptLaws.{AreAlike-kept, IsReply-alike, kept_rows-kept}
 use Rattle.mix_core.specs.LegalLaws.{AreReplies-last, AreReplies-more}
 use Rattle.mix_core.specs.Run.{IsAnswered, IsRun, is_kept, kept_rows}

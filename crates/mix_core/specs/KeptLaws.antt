@@ -1,8 +1,8 @@
 -- Rows with the reply `Outside` may be left out of a history: what it laid and took and its position stay the same, and
 -- so do the replies that it determines.
-use Rattle.std.specs.Prelude.{◌≡◌, ◌≢◌, ℕ, ◌+◌, ◌<◌, Bool, length, true, false, Option, None, Some, List, [], ◌∷◌, ◌++◌, fold, filter}
+use Rattle.std.specs.Prelude.{◌↔◌, ◌≡◌, ◌≢◌, ℕ, ◌+◌, ◌<◌, Bool, length, true, false, Option, None, List, [], ◌∷◌, ◌++◌, fold, filter}
 use Rattle.std.specs.List.{filter_map}
-use Rattle.std.proofs.Common.{refl, sym, subst, ap, ◌∙◌, inl, inr}
+use Rattle.std.proofs.Common.{refl, sym, subst, ap, inl, inr}
 use Rattle.std.proofs.lemmas.Bool.{cases_Bool}
 use Rattle.std.proofs.lemmas.List.Elements.{filter_map-append}
 use Rattle.std.proofs.lemmas.List.{append-nil}
@@ -108,6 +108,12 @@ IsReply-alike g members h k (Take, Took f c v) alike is = (
 )
 IsReply-alike g members h k (Publish, Published frame) alike is = subst (λ ts. frame ≡ (next_word g (length ts)).frame) alike.taken is
 IsReply-alike g members h k (e, r) alike is = is
+
+-- so a history determines the replies that it determines without the rows that are left out
+pub IsReply-kept : (g : Geometry) (members : ℕ) (h : List Row) (r : Row) → IsReply g members (kept_rows h) r ↔ IsReply g members h r
+IsReply-kept g members h r =
+    let alike : AreAlike g (kept_rows h) h = AreAlike-kept g [] h in
+    (IsReply-alike g members (kept_rows h) h r alike, IsReply-alike g members h (kept_rows h) r (AreAlike-sym g (kept_rows h) h alike))
 
 pub AreReplies-alike : (g : Geometry) (members : ℕ) (h k rs : List Row) → AreAlike g h k → AreReplies g members h rs → AreReplies g members k rs
 AreReplies-alike g members h k [] alike are = tt
