@@ -2,5 +2,6 @@ pub mod Agreement
 pub mod Beginning
 pub mod History
 pub mod Lists
+pub mod Replies
 pub mod Soundness
 pub mod Words

@@ -27,6 +27,12 @@ AreReplies-more g members h (x ∷ xs) r are is =
 pub IsLegal-more : (g : Geometry) (members : ℕ) (h : List Row) (r : Row) → IsLegal g members h → IsReply g members h r → IsLegal g members (h ++ r ∷ [])
 IsLegal-more g members h r legal is = AreReplies-more g members [] h r legal is
 
+-- the last of such rows has the reply that all before it determine
+pub AreReplies-last : (g : Geometry) (members : ℕ) (h rs : List Row) (r : Row) → AreReplies g members h (rs ++ r ∷ []) → IsReply g members (h ++ rs) r
+AreReplies-last g members h [] r are = subst (λ x. IsReply g members x r) (sym (append-nil h)) are.0
+AreReplies-last g members h (x ∷ xs) r are =
+    subst (λ y. IsReply g members y r) (append_assoc h (x ∷ []) xs) (AreReplies-last g members (h ++ x ∷ []) xs r are.1)
+
 -- what each reply keeps true stands after all of them
 pub AreReplies-keep : (g : Geometry) (members : ℕ) (P : List Row → Type 0)
     → ((h : List Row) (r : Row) → IsReply g members h r → P h → P (h ++ r ∷ []))
@@ -93,6 +99,15 @@ frame-before_end g f within other =
 behind-within : (g : Geometry) (at : Cursor) (c : ℕ) → at.frame < end_frame g → first_free (behind g at.frame at.channel) c ≤ end_frame g
 behind-within g at c before = grind (arith, nat_tests)
 
+-- after one more take the next word is the one right behind it, and after any other row it is the same
+pub next_of-took : (g : Geometry) (h : List Row) (r : Row) (t : Taken) → taking_of r ≡ Some t → next_of g (h ++ r ∷ []) ≡ behind g (next_of g h).frame (next_of g h).channel
+next_of-took g h r t one =
+    let more : taken_of (h ++ r ∷ []) ≡ taken_of h ++ t ∷ [] = rw (filter_map-append taking_of h (r ∷ []), one) refl in
+    ap (λ ts. next_word g (length ts)) more ∙ (ap (next_word g) (length-append (taken_of h) (t ∷ [])) ∙ next_word-suc g (length (taken_of h)))
+
+pub next_of-kept : (g : Geometry) (h : List Row) (r : Row) → taking_of r ≡ None → next_of g (h ++ r ∷ []) ≡ next_of g h
+next_of-kept g h r none = rw (filter_map-append taking_of h (r ∷ []), none, append-nil (taken_of h)) refl
+
 -- no frame from the end on is taken
 pub next_of-most : (g : Geometry) (members : ℕ) (h : List Row) (c : ℕ) → IsLegal g members h → first_free (next_of g h) c ≤ end_frame g
 next_of-most g members h c legal =
@@ -100,14 +115,11 @@ next_of-most g members h c legal =
     let start_is : next_word g 0 ≡ record { frame = first_frame g; channel = 0 } = grind arith in
     AreReplies-keep g members P (
     λ x r is holds d. elim (taking_of-cases g members x r is) [
-      | inl none ↦ rw (filter_map-append taking_of x (r ∷ []), none, append-nil (taken_of x)) (holds d)
+      | inl none ↦ subst (λ (y : Cursor). first_free y d ≤ end_frame g) (sym (next_of-kept g x r none)) (holds d)
       | inr one ↦
           let at : Cursor = next_of g x in
           let own : at.frame ≤ end_frame g = grind (arith, nat_tests, holds at.channel) in
-          let more : taken_of (x ++ r ∷ []) ≡ taken_of x ++ one.0 ∷ [] = rw (filter_map-append taking_of x (r ∷ []), one.1.0) refl in
-          let next_is : next_of g (x ++ r ∷ []) ≡ behind g at.frame at.channel =
-          ap (λ ts. next_word g (length ts)) more ∙ (ap (next_word g) (length-append (taken_of x) (one.0 ∷ [])) ∙ next_word-suc g (length (taken_of x))) in
-          subst (λ (y : Cursor). first_free y d ≤ end_frame g) (sym next_is) (behind-within g at d (frame-before_end g at.frame own one.1.1))
+          subst (λ (y : Cursor). first_free y d ≤ end_frame g) (sym (next_of-took g x r one.0 one.1.0)) (behind-within g at d (frame-before_end g at.frame own one.1.1))
     ]
     ) [] h (λ d. subst (λ (x : Cursor). first_free x d ≤ end_frame g) (sym start_is) (grind (arith, nat_tests, first_frame-le g))) legal c
 

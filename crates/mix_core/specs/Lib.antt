@@ -2,11 +2,15 @@ pub mod Calls
 pub mod Gate
 pub mod History
 pub mod HistoryLaws
+pub mod KeptLaws
 pub mod Laid
 pub mod LegalLaws
 pub mod Port
+pub mod ReplyLaws
+pub mod Run
 pub mod Sound
 pub mod Stands
+pub mod TakenLaws
 pub mod Turn
 pub mod TurnLaws
 pub mod View

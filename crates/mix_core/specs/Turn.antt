@@ -1,8 +1,9 @@
 -- What a turn lays and loads: its core is a value behind a reference, and every history that the core stands for goes on.
-use Rattle.std.specs.Prelude.{◌≡◌, ◌≢◌, ℕ, List, [], ◌∷◌, ◌++◌, All, length, map}
+use Rattle.std.specs.Prelude.{◌≡◌, ◌≢◌, ◌≤◌, ℕ, List, [], ◌∷◌, ◌++◌, All, length, map}
 use Rattle.std.specs.Borrow.{MutBor}
 use Rattle.std.specs.List.{slice_index_or}
 use Rattle.snd_base.specs.declared.places.Cursor.{Cursor}
+use Rattle.snd_base.specs.Places.{first_free}
 use Rattle.mix_core.specs.declared.port.Entry.{Entry}
 use Rattle.mix_core.specs.declared.port.Position.{Position}
 use Rattle.mix_core.specs.declared.turn.Turn.{Turn}
@@ -40,6 +41,8 @@ pub record TurnLaid (t u : Turn) (es : List Entry) : Type 0 where
   pub same_member : u.member ≡ t.member
   pub rest : KeepsRest (core_of t) (core_of u)
   pub own : All (λ (e : Entry). e.member ≡ t.member) es
+  -- each entry's frame and channel were not taken yet
+  pub in_time : All (λ (e : Entry). first_free (core_of t).next e.channel ≤ e.frame) es
   pub others : (m : ℕ) (d : Cursor) → m ≢ t.member → slice_index_or (core_of u).cursors m d ≡ slice_index_or (core_of t).cursors m d
   pub stands : (h : List Row) → Stands (core_of t) h → Stands (core_of u) (h ++ map row_of es)
 

@@ -1,7 +1,7 @@
 -- What a turn lays and loads in two steps is joined, and an add that is late goes on each history.
 use Rattle.std.specs.Prelude.{◌≡◌, ◌+◌, ◌<◌, ◌≤◌, true, List, [], ◌∷◌, ◌++◌, length, map, nat_lt}
 use Rattle.std.specs.List.{slice_index_or}
-use Rattle.std.proofs.Common.{refl, sym, subst, ap, ◌∙◌, append_assoc, arith}
+use Rattle.std.proofs.Common.{get_or, refl, sym, subst, ap, ◌∙◌, append_assoc, arith}
 use Rattle.std.proofs.lemmas.Bool.Decides.{nat_tests}
 use Rattle.std.proofs.lemmas.List.{append-nil, map-append}
 use Rattle.std.proofs.lemmas.List.Elements.{All-append, filter_map-append}
@@ -38,6 +38,8 @@ TurnLaid-joined p q r xs ys first then = record {
   same_member = then.same_member ∙ first.same_member;
   rest = KeepsRest-joined (core_of p) (core_of q) (core_of r) first.rest then.rest;
   own = All-append (λ (e : Entry). e.member ≡ p.member) xs ys first.own (λ k d within. then.own k d within ∙ first.same_member);
+  in_time = All-append (λ (e : Entry). first_free (core_of p).next e.channel ≤ e.frame) xs ys first.in_time
+      (λ k d within. subst (λ (next : Cursor). first_free next (get_or ys k d).channel ≤ (get_or ys k d).frame) first.rest.next (then.in_time k d within));
   others = λ m d other. then.others m d (λ same. other (same ∙ first.same_member)) ∙ first.others m d other;
   stands = λ h s. subst (Stands (core_of r)) (rows-joined h xs ys) (then.stands (h ++ map row_of xs) (first.stands h s));
 }
@@ -49,6 +51,7 @@ TurnLaid-composes = record {
     same_member = refl;
     rest = record { geometry = refl; members = refl; next = refl; position = refl; gone = refl };
     own = λ k d within. absurd (omega arith);
+    in_time = λ k d within. absurd (omega arith);
     others = λ m d other. refl;
     stands = λ h s. subst (Stands (core_of p)) (sym (append-nil h)) s;
   };

@@ -8,8 +8,8 @@ pub struct Taken {
     pub value: i16,
 }
 
-/// One thing that happens to a core: a member adds a sample at a frame and channel, the player takes the next word, or
-/// the player publishes its position.
+/// One thing that happens to a core: a member adds a sample at a frame (by its absolute number) and channel, the player
+/// takes the next word, or the player publishes its position.
 #[derive(Clone, Copy, Debug, PartialEq, Eq)]
 pub enum Event {
     Add {
@@ -24,9 +24,12 @@ pub enum Event {
 
 /// What a core replies to an event.
 ///
-/// To an add: `In` where the sample was added, `Late` where its frame and channel were taken before, `Outside` where
-/// the member may not add there. To a take: `Took`, or `LapEnd` where the next frame's lap does not fit a word. To a
-/// publication: the position that was published, the number of the first frame that is not wholly taken.
+/// To an add: `Outside` exactly where the member or the channel is out of range, the frame and channel are before the
+/// member's cursor (the place right behind its last add that was in time), the frame's lap is 4294967295 or more, or the
+/// frame is the ring's length or more past the position; to any other add `Late` exactly where its frame and channel were
+/// taken before, and else `In`, where the sample was added. To a take: `Took` with the value, or `LapEnd` exactly where the
+/// next frame's lap is 4294967295. To a publication: `Published` with the position, the number of the first frame that is
+/// not wholly taken.
 #[derive(Clone, Copy, Debug, PartialEq, Eq)]
 pub enum Reply {
     In,

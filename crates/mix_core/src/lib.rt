@@ -6,6 +6,7 @@ mod event;
 mod gate;
 mod port;
 mod ring;
+mod run;
 mod turn;
 
 pub use event::{Event, Reply, Taken};

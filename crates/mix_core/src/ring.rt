@@ -22,6 +22,7 @@ use std::marker::Model;
 /// - after `publish` a publication of the position;
 /// - after a placement through a `Turn` that answers `In` an add of the member that was in time, and after one that
 ///   answers `Late` an add that was late;
+/// - after `run` its events, each with its reply, but for the adds with the reply `Outside`;
 /// - after `unplug` and every other call nothing. So it is after a placement that ends with `LapEnd`, since it could only
 ///   be an add with the reply `Outside`, and those are left out, and after one that ends with `Stopped`, since it is none.
 ///

@@ -126,3 +126,128 @@ fn a_frame_is_late_in_the_channel_that_was_taken(rt: HostRuntime) -> Result<(), 
     assert_eq!(rt; core.position(), position);
     Ok(())
 }
+
+// A stereo core of 256 frames for two members.
+fn stereo_core(rt: &HostRuntime, first_lap: u32) -> Result<Core, Fail>
+    requires { first_lap ≤ 4294967294 }
+{
+    let geometry = Geometry {
+        frames: 256,
+        channels: 2,
+        first_lap,
+    };
+    Ok(Core::new(rt.alloc(), geometry, 2)?)
+}
+
+fn add(member: u32, frame: u64, channel: u8) -> Event {
+    Event::Add {
+        member,
+        frame,
+        channel,
+        sample: 1,
+    }
+}
+
+// So many takes, one after the other; answers the last reply.
+fn take_words(rt: &HostRuntime, core: &mut Core, words: usize) -> Result<Reply, Fail> {
+    let takes = vec![in rt.alloc(); Event::Take; words]?;
+    let replies = core.run(rt.alloc(), &takes)?;
+    Ok(*replies.last().ok_or("no reply")?)
+}
+
+#[test]
+fn events_are_answered_in_their_order(rt: HostRuntime) -> Result<(), Fail> {
+    let mut core = stereo_core(&rt, 0)?;
+    let events = [
+        add(0, 0, 0),
+        add(1, 0, 0),
+        Event::Take,
+        Event::Take,
+        Event::Publish,
+    ];
+    let replies = core.run(rt.alloc(), &events)?;
+    let first = Reply::Took {
+        frame: 0,
+        channel: 0,
+        value: 2,
+    };
+    let second = Reply::Took {
+        frame: 0,
+        channel: 1,
+        value: 0,
+    };
+    let wanted = [Reply::In, Reply::In, first, second, Reply::Published(1)];
+    assert_eq!(rt; replies.as_slice(), wanted.as_slice());
+    Ok(())
+}
+
+// After 129 takes frame 64 is taken in channel 0 alone. An add that was in time moves its member's cursor, so that the
+// same add is outside afterwards.
+#[test]
+fn an_add_is_late_then_in_time_then_outside(rt: HostRuntime) -> Result<(), Fail> {
+    let mut core = stereo_core(&rt, 0)?;
+    let last = Reply::Took {
+        frame: 64,
+        channel: 0,
+        value: 0,
+    };
+    assert_eq!(rt; take_words(&rt, &mut core, 129)?, last);
+    let events = [add(0, 64, 0), add(0, 64, 1), add(0, 64, 1), Event::Publish];
+    let replies = core.run(rt.alloc(), &events)?;
+    let wanted = [Reply::Late, Reply::In, Reply::Outside, Reply::Published(64)];
+    assert_eq!(rt; replies.as_slice(), wanted.as_slice());
+    Ok(())
+}
+
+// The frames of lap 4294967294 begin at 1099511627264. A take behind its last word is refused, as often as it is tried.
+#[test]
+fn the_last_lap_ends(rt: HostRuntime) -> Result<(), Fail> {
+    let mut core = stereo_core(&rt, 4294967294)?;
+    let last = Reply::Took {
+        frame: 1099511627519,
+        channel: 1,
+        value: 0,
+    };
+    assert_eq!(rt; take_words(&rt, &mut core, 512)?, last);
+    assert_eq!(rt; take_words(&rt, &mut core, 1)?, Reply::LapEnd);
+    assert_eq!(rt; take_words(&rt, &mut core, 2)?, Reply::LapEnd);
+    Ok(())
+}
+
+// Each cause of an add that is outside: the member, the channel, the cursor (in three ways), and the ring's length.
+#[test]
+fn an_add_is_outside(rt: HostRuntime) -> Result<(), Fail> {
+    let mut core = stereo_core(&rt, 0)?;
+    let table = [
+        (add(1, 255, 1), Reply::In),
+        (add(2, 0, 0), Reply::Outside),
+        (add(0, 0, 2), Reply::Outside),
+        (add(0, 10, 1), Reply::In),
+        (add(0, 9, 1), Reply::Outside),
+        (add(0, 10, 0), Reply::Outside),
+        (add(0, 10, 1), Reply::Outside),
+        (add(0, 11, 0), Reply::In),
+        (add(0, 256, 0), Reply::Outside),
+    ];
+    for (event, wanted) in table {
+        let replies = core.run(rt.alloc(), &[event])?;
+        assert_eq!(rt; replies.as_slice(), [wanted].as_slice());
+    }
+    Ok(())
+}
+
+// The first frame of lap 4294967295 is outside though it is less than the ring's length past the position.
+#[test]
+fn an_add_past_the_last_lap_is_outside(rt: HostRuntime) -> Result<(), Fail> {
+    let mut core = stereo_core(&rt, 4294967294)?;
+    let _ = take_words(&rt, &mut core, 4)?;
+    let events = [
+        Event::Publish,
+        add(0, 1099511627520, 0),
+        add(0, 1099511627519, 0),
+    ];
+    let replies = core.run(rt.alloc(), &events)?;
+    let wanted = [Reply::Published(1099511627266), Reply::Outside, Reply::In];
+    assert_eq!(rt; replies.as_slice(), wanted.as_slice());
+    Ok(())
+}
