@@ -1,0 +1,146 @@
+//! Arithmetic between intervals, as alsa-lib's `src/pcm/interval.c` has it: the lower end is made of the ends that make
+//! it least and is rounded down, the upper end is made of those that make it greatest and is rounded up. An end is open
+//! where it was rounded, or where an end that it was made of is open. An end above 4294967295 becomes that number,
+//! closed.
+//!
+//! Every input has a lower end of at least 1 and is not empty.
+ghost use Rattle.std.specs.Prelude.{◌≡◌, ℕ, ◌*◌, ◌≤◌};
+ghost use Rattle.pcm_interval.specs.Arithmetic.{lower_end_of, lower_is_open, upper_end_of, upper_is_open, end_max, product_of, quotient_of, scaled_product_of, scaled_quotient_of};
+ghost use Rattle.pcm_interval.specs.Intervals.{IsMember, IsNonEmpty};
+
+use crate::interval::Interval;
+
+/// The greatest number that an end can have.
+const END_MAX: u64 = 4294967295;
+
+/// The product of two intervals, a·b (alsa-lib's `snd_interval_mul`). It is integer where both are.
+///
+/// Each product of a member of `a` and one of `b` is a member of it, if it is at most 4294967295.
+pub fn mul(a: &Interval, b: &Interval) -> Interval
+    requires a_min { 1 ≤ a.now.min }
+    requires b_min { 1 ≤ b.now.min }
+    requires a_filled { IsNonEmpty a.now }
+    requires b_filled { IsNonEmpty b.now }
+    ensures product { result ≡ product_of a.now b.now }
+    ensures members { (n d m e : ℕ) → IsMember a.now n d → IsMember b.now m e
+        → n * m ≤ end_max * (d * e) → IsMember result (n * m) (d * e) }
+{
+    let (min, openmin) = lower_end(product(a.min, b.min), 1, a.openmin || b.openmin);
+    let (max, openmax) = upper_end(product(a.max, b.max), 1, a.openmax || b.openmax);
+    let integer = a.integer && b.integer;
+    Interval {
+        min,
+        max,
+        openmin,
+        openmax,
+        integer,
+    }
+}
+
+/// The quotient of two intervals, a/b (alsa-lib's `snd_interval_div`). It is not integer.
+///
+/// Each quotient of a member of `a` by one of `b` is a member of it, if it is at most 4294967295.
+pub fn div(a: &Interval, b: &Interval) -> Interval
+    requires a_min { 1 ≤ a.now.min }
+    requires b_min { 1 ≤ b.now.min }
+    requires a_filled { IsNonEmpty a.now }
+    requires b_filled { IsNonEmpty b.now }
+    ensures quotient { result ≡ quotient_of a.now b.now }
+    ensures members { (n d m e : ℕ) → IsMember a.now n d → IsMember b.now m e
+        → n * e ≤ end_max * (d * m) → IsMember result (n * e) (d * m) }
+{
+    let (min, openmin) = lower_end(a.min as u64, b.max as u64, a.openmin || b.openmax);
+    let (max, openmax) = upper_end(a.max as u64, b.min as u64, a.openmax || b.openmin);
+    Interval {
+        min,
+        max,
+        openmin,
+        openmax,
+        integer: false,
+    }
+}
+
+/// The product of two intervals divided by a number of at least 1, a·b/k (alsa-lib's `snd_interval_muldivk`). It is not
+/// integer.
+///
+/// Each such fraction of a member of `a` and one of `b` is a member of it, if it is at most 4294967295.
+pub fn muldivk(a: &Interval, b: &Interval, k: u32) -> Interval
+    requires a_min { 1 ≤ a.now.min }
+    requires b_min { 1 ≤ b.now.min }
+    requires k_min { 1 ≤ k }
+    requires a_filled { IsNonEmpty a.now }
+    requires b_filled { IsNonEmpty b.now }
+    ensures scaled { result ≡ scaled_product_of a.now b.now k }
+    ensures members { (n d m e : ℕ) → IsMember a.now n d → IsMember b.now m e
+        → n * m ≤ end_max * (d * e * k) → IsMember result (n * m) (d * e * k) }
+{
+    let (min, openmin) = lower_end(product(a.min, b.min), k as u64, a.openmin || b.openmin);
+    let (max, openmax) = upper_end(product(a.max, b.max), k as u64, a.openmax || b.openmax);
+    Interval {
+        min,
+        max,
+        openmin,
+        openmax,
+        integer: false,
+    }
+}
+
+/// An interval times a number of at least 1, divided by an interval, a·k/b (alsa-lib's `snd_interval_mulkdiv`). It is
+/// not integer.
+///
+/// Each such fraction of a member of `a` and one of `b` is a member of it, if it is at most 4294967295.
+pub fn mulkdiv(a: &Interval, k: u32, b: &Interval) -> Interval
+    requires a_min { 1 ≤ a.now.min }
+    requires b_min { 1 ≤ b.now.min }
+    requires k_min { 1 ≤ k }
+    requires a_filled { IsNonEmpty a.now }
+    requires b_filled { IsNonEmpty b.now }
+    ensures scaled { result ≡ scaled_quotient_of a.now k b.now }
+    ensures members { (n d m e : ℕ) → IsMember a.now n d → IsMember b.now m e
+        → n * k * e ≤ end_max * (d * m) → IsMember result (n * k * e) (d * m) }
+{
+    let (min, openmin) = lower_end(product(a.min, k), b.max as u64, a.openmin || b.openmax);
+    let (max, openmax) = upper_end(product(a.max, k), b.min as u64, a.openmax || b.openmin);
+    Interval {
+        min,
+        max,
+        openmin,
+        openmax,
+        integer: false,
+    }
+}
+
+/// The product of two numbers of 32 bits, which fits 64.
+fn product(a: u32, b: u32) -> u64
+    ensures { result ≡ a * b }
+{
+    a as u64 * b as u64
+}
+
+/// The fraction `numerator`/`denominator` as a lower end: rounded down, with whether it is open.
+fn lower_end(numerator: u64, denominator: u64, made_open: bool) -> (u32, bool)
+    requires { 1 ≤ denominator }
+    ensures end { result.0 ≡ lower_end_of numerator denominator }
+    ensures open_at { result.1 ≡ lower_is_open numerator denominator made_open }
+{
+    let whole = numerator / denominator;
+    let rest = numerator % denominator;
+    if whole > END_MAX {
+        return (u32::MAX, false);
+    }
+    (whole as u32, made_open || rest > 0)
+}
+
+/// The fraction `numerator`/`denominator` as an upper end: rounded up, with whether it is open.
+fn upper_end(numerator: u64, denominator: u64, made_open: bool) -> (u32, bool)
+    requires { 1 ≤ denominator }
+    ensures end { result.0 ≡ upper_end_of numerator denominator }
+    ensures open_at { result.1 ≡ upper_is_open numerator denominator made_open }
+{
+    let rest = numerator % denominator;
+    let whole = numerator / denominator + u64::from(rest > 0);
+    if whole > END_MAX {
+        return (u32::MAX, false);
+    }
+    (whole as u32, made_open || rest > 0)
+}
