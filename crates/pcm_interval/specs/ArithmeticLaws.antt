@@ -1,27 +1,226 @@
 -- Laws of rounded arithmetic: smaller intervals give a smaller one, and fractions of members are members.
-use Rattle.std.specs.Prelude.{◌≡◌, ℕ, ◌+◌, ◌*◌, ◌/◌, ◌%◌, ◌<◌, ◌≤◌, Bool, true, false, IsTrue}
-use Rattle.std.proofs.Common.{arith}
+use Rattle.std.specs.Prelude.{◌≡◌, ℕ, ◌+◌, ◌*◌, ◌/◌, ◌%◌, ◌<◌, ◌≤◌, min, Bool, true, false, not, ◌&&◌, ◌||◌, IsTrue, refl}
+use Rattle.std.proofs.Common.{arith, ap, sym, subst, inl, inr, ◌∙◌, ⊎_elim}
+use Rattle.std.proofs.Math.Nat.{div-add-mod', div-one, div-mul-le_self, eq_of_mul-eq-mul_right, le-div_iff_mul-le, le_of_mul-le-mul_right, lt_of_mul-lt-mul_right, mod-lt, mul-le-mul, mul-le-mul_left, mul-le-mul_right, mul-lt-mul_of_pos_right, mul-lt-mul_of_pos_left, mul-mod_left, mul-one}
+use Rattle.std.proofs.lemmas.Bool.{and_from, and_parts, cases_Bool, cases_eq, cases_lt, or_cases, or_left, or_right}
+use Rattle.std.proofs.lemmas.Bool.Decides.{nat_tests}
 use Rattle.pcm_interval.specs.declared.interval.Interval.{Interval}
-use Rattle.pcm_interval.specs.Intervals.{IsNonEmpty, IsWithin, IsMember}
-use Rattle.pcm_interval.specs.Arithmetic.{between, product_of, quotient_of, scaled_product_of, scaled_quotient_of, end_max}
+use Rattle.pcm_interval.specs.Intervals.{IsNonEmpty, IsWithin, IsLowerWithin, IsUpperWithin, IsMember, bit_of}
+use Rattle.pcm_interval.specs.IntervalLaws.{IsNonEmpty-le, IsWithin-from_places, IsWithin-max, IsWithin-min}
+use Rattle.pcm_interval.specs.Arithmetic.{between, product_of, quotient_of, scaled_product_of, scaled_quotient_of, end_max, is_broken, rounded_up, lower_end_of, lower_is_open, upper_end_of, upper_is_open}
+
+-- ---- fractions and their ends
+
+-- of two fractions the smaller has the smaller whole part, and where the parts are equal and the greater fraction is
+-- whole, both are the same
+quotient_order : (n d m e : ℕ) → 0 < d → 0 < e → n * e ≤ m * d
+    → (n / d ≤ m / e) × (n / d ≡ m / e → m % e ≡ 0 → (n % d ≡ 0) × (n * e ≡ m * d))
+quotient_order n d m e d_pos e_pos low =
+    let part : n / d * d ≤ n = div-mul-le_self n d in
+    let scaled : n / d * d * e ≤ n * e = mul-le-mul_right e part in
+    let turned : n / d * e * d ≤ m * d = omega arith in
+    let cancelled : n / d * e ≤ m = le_of_mul-le-mul_right turned d_pos in (
+      (le-div_iff_mul-le e_pos).1 cancelled,
+      λ same whole.
+          let left : n / d * d + n % d ≡ n = div-add-mod' n d in
+          let right : m / e * e + m % e ≡ m = div-add-mod' m e in
+          let m_is : m ≡ n / d * e = omega (arith, ap (λ (v : ℕ). v * e) same) in
+          let n_scaled : n / d * d * e + n % d * e ≡ n * e = omega (arith, ap (λ (v : ℕ). v * e) left) in
+          let m_scaled : m * d ≡ n / d * e * d = ap (λ (v : ℕ). v * d) m_is in
+          let rest : n % d * e ≤ 0 * e = omega arith in
+          let none : n % d ≤ 0 = le_of_mul-le-mul_right rest e_pos in
+          let gone : n % d * e ≡ 0 * e = ap (λ (v : ℕ). v * e) (let z : n % d ≡ 0 = omega arith in z) in
+          (omega arith, omega arith),
+    )
+
+-- a fraction that is not lower has a lower end that is not lower, if this is not cut
+lower_end-le : (n d m e : ℕ) (n_open m_open : Bool) → 0 < d → 0 < e → n * e ≤ m * d
+    → (n * e ≡ m * d → IsTrue n_open → IsTrue m_open) → m / e ≤ end_max
+    → 2 * lower_end_of n d + bit_of (lower_is_open n d n_open) ≤ 2 * lower_end_of m e + bit_of (lower_is_open m e m_open)
+lower_end-le n d m e n_open m_open d_pos e_pos low opens uncut =
+    let order = quotient_order n d m e d_pos e_pos low in
+    elim (cases_lt (n / d) (m / e)) [
+      | inl less ↦ grind (arith, nat_tests)
+      | inr not_less ↦
+          let same : n / d ≡ m / e = omega (arith, order.0) in
+          elim (cases_eq (m % e) 0) [
+            | inl whole ↦
+                let both = order.1 same whole in
+                let both_open = opens both.1 in
+                let n_whole = both.0 in
+                grind (arith, nat_tests)
+            | inr broken ↦ grind (arith, nat_tests)
+          ]
+    ]
+
+-- a fraction that is not higher has an upper end that is not higher
+upper_end-le : (m e n d : ℕ) (m_open n_open : Bool) → 0 < e → 0 < d → m * d ≤ n * e
+    → (m * d ≡ n * e → IsTrue n_open → IsTrue m_open)
+    → 2 * upper_end_of m e + bit_of (not (upper_is_open m e m_open)) ≤ 2 * upper_end_of n d + bit_of (not (upper_is_open n d n_open))
+upper_end-le m e n d m_open n_open e_pos d_pos low opens =
+    let order = quotient_order m e n d e_pos d_pos low in
+    elim (cases_lt (m / e) (n / d)) [
+      | inl less ↦ grind (arith, nat_tests)
+      | inr not_less ↦
+          let same : m / e ≡ n / d = omega (arith, order.0) in
+          elim (cases_eq (n % d) 0) [
+            | inl whole ↦
+                let both = order.1 same whole in
+                let both_open = opens both.1 in
+                let m_whole = both.0 in
+                grind (arith, nat_tests)
+            | inr broken ↦ grind (arith, nat_tests)
+          ]
+    ]
+
+-- so the interval between two fractions that are not further out lies within
+between-IsWithin : (low_n low_d low_m low_e : ℕ) (low_o low_p : Bool) (high_n high_d high_m high_e : ℕ) (high_o high_p : Bool) (whole part : Bool)
+    → 0 < low_d → 0 < low_e → low_n * low_e ≤ low_m * low_d → (low_n * low_e ≡ low_m * low_d → IsTrue low_o → IsTrue low_p) → low_m / low_e ≤ end_max
+    → 0 < high_d → 0 < high_e → high_m * high_d ≤ high_n * high_e → (high_m * high_d ≡ high_n * high_e → IsTrue high_o → IsTrue high_p)
+    → (IsTrue whole → IsTrue part)
+    → IsWithin (between low_m low_e low_p high_m high_e high_p part) (between low_n low_d low_o high_n high_d high_o whole)
+unfolding between
+between-IsWithin low_n low_d low_m low_e low_o low_p high_n high_d high_m high_e high_o high_p whole part ld le low lows uncut hd he high highs integer =
+    IsWithin-from_places _ _
+    (lower_end-le low_n low_d low_m low_e low_o low_p ld le low lows uncut)
+    (upper_end-le high_m high_e high_n high_d high_p high_o he hd high highs)
+    integer
+
+-- ---- ends of intervals
+
+open_lower : (a c : Interval) → IsWithin a c → c.min ≡ a.min → IsTrue c.openmin → IsTrue a.openmin
+open_lower a c h same = ⊎_elim (λ (less : c.min < a.min). absurd (omega arith)) (λ (at : (a.min ≡ c.min) × (IsTrue c.openmin → IsTrue a.openmin)). at.1) h.lower
+
+open_upper : (a c : Interval) → IsWithin a c → a.max ≡ c.max → IsTrue c.openmax → IsTrue a.openmax
+open_upper a c h same = ⊎_elim (λ (less : a.max < c.max). absurd (omega arith)) (λ (at : (a.max ≡ c.max) × (IsTrue c.openmax → IsTrue a.openmax)). at.1) h.upper
+
+either : (v w x y : Bool) → (IsTrue v → IsTrue x) → (IsTrue w → IsTrue y) → IsTrue (v || w) → IsTrue (x || y)
+either v w x y left right h =
+    elim (or_cases v w h) [
+      | inl l ↦ or_left x y (left l)
+      | inr r ↦ or_right x y (right r)
+    ]
+
+both_flags : (v w x y : Bool) → (IsTrue v → IsTrue x) → (IsTrue w → IsTrue y) → IsTrue (v && w) → IsTrue (x && y)
+both_flags v w x y left right h = let parts = and_parts v w h in and_from x y (left parts.0) (right parts.1)
+
+-- a product of smaller positive factors is smaller, and strictly where one of them is
+mul-order : (x u y v : ℕ) → x ≤ u → y ≤ v → 0 < u → 0 < v → (x * y ≤ u * v) × (x < u → x * y < u * v) × (y < v → x * y < u * v)
+mul-order x u y v x_low y_low u_pos v_pos =
+    let first : x * y ≤ x * v = mul-le-mul_left x y_low in
+    let second : x * v ≤ u * v = mul-le-mul_right v x_low in
+    let other : x * y ≤ u * y = mul-le-mul_right y x_low in (
+      omega arith,
+      λ less. let strict : x * v < u * v = mul-lt-mul_of_pos_right less v_pos in omega arith,
+      λ less. let strict : u * y < u * v = mul-lt-mul_of_pos_left less u_pos in omega arith,
+    )
+
+-- so equal products have equal factors
+mul-same : (x u y v : ℕ) → x ≤ u → y ≤ v → 0 < u → 0 < v → x * y ≡ u * v → (x ≡ u) × (y ≡ v)
+mul-same x u y v x_low y_low u_pos v_pos same =
+    let order = mul-order x u y v x_low y_low u_pos v_pos in (
+      elim (cases_lt x u) [
+        | inl less ↦ absurd (omega (arith, order.1 less))
+        | inr not_less ↦ omega arith
+      ],
+      elim (cases_lt y v) [
+        | inl less ↦ absurd (omega (arith, order.2 less))
+        | inr not_less ↦ omega arith
+      ],
+    )
+
+-- the same beside a third factor, however the factors are grouped
+mul-order_by : (x u y v k p q : ℕ) → x ≤ u → y ≤ v → 0 < u → 0 < v → 0 < k → p ≡ x * y * k → q ≡ u * v * k
+    → (p ≤ q) × (x < u → p < q) × (y < v → p < q) × (p ≡ q → (x ≡ u) × (y ≡ v))
+mul-order_by x u y v k p q x_low y_low u_pos v_pos k_pos p_is q_is =
+    let order = mul-order x u y v x_low y_low u_pos v_pos in (
+      omega (arith, mul-le-mul_right k order.0),
+      λ less. let strict : x * y * k < u * v * k = mul-lt-mul_of_pos_right (order.1 less) k_pos in omega arith,
+      λ less. let strict : x * y * k < u * v * k = mul-lt-mul_of_pos_right (order.2 less) k_pos in omega arith,
+      λ same. let scaled : x * y * k ≡ u * v * k = omega arith in
+          mul-same x u y v x_low y_low u_pos v_pos (eq_of_mul-eq-mul_right k k_pos (x * y) (u * v) scaled),
+    )
+
+-- an interval within one whose lower end is at least 1, and that is not empty, has positive ends
+max-positive : (a : Interval) → IsNonEmpty a → 1 ≤ a.min → 0 < a.max
+max-positive a filled min = omega (arith, IsNonEmpty-le a filled, min)
 
 -- ---- smaller intervals give a smaller one, where its lower end was not cut
 
+-- a times b divided by k, integer as told
+abbrev product_by : Interval → Interval → ℕ → Bool → Interval
+product_by a b k integer = between (a.min * b.min) k (a.openmin || b.openmin) (a.max * b.max) k (a.openmax || b.openmax) integer
+
+product_by-IsWithin : (a b c d : Interval) (k : ℕ) (part whole : Bool) → IsNonEmpty a → IsNonEmpty b → IsWithin a c → IsWithin b d
+    → 1 ≤ c.min → 1 ≤ d.min → 1 ≤ k → a.min * b.min / k ≤ end_max → (IsTrue whole → IsTrue part)
+    → IsWithin (product_by a b k part) (product_by c d k whole)
+product_by-IsWithin a b c d k part whole filled_a filled_b in_c in_d c_min d_min k_min uncut integer =
+    let a_low = IsWithin-min a c in_c in
+    let b_low = IsWithin-min b d in_d in
+    let a_high = IsWithin-max a c in_c in
+    let b_high = IsWithin-max b d in_d in
+    let a_pos : 0 < a.max = max-positive a filled_a (omega arith) in
+    let b_pos : 0 < b.max = max-positive b filled_b (omega arith) in
+    let low = mul-order_by c.min a.min d.min b.min k (c.min * d.min * k) (a.min * b.min * k) a_low b_low (omega arith) (omega arith) k_min refl refl in
+    let high = mul-order_by a.max c.max b.max d.max k (a.max * b.max * k) (c.max * d.max * k) a_high b_high (omega arith) (omega arith) k_min refl refl in
+    between-IsWithin (c.min * d.min) k (a.min * b.min) k (c.openmin || d.openmin) (a.openmin || b.openmin)
+    (c.max * d.max) k (a.max * b.max) k (c.openmax || d.openmax) (a.openmax || b.openmax) whole part
+    k_min k_min low.0
+    (λ same. let ends = low.3 same in either c.openmin d.openmin a.openmin b.openmin (open_lower a c in_c ends.0) (open_lower b d in_d ends.1))
+    uncut
+    k_min k_min high.0
+    (λ same. let ends = high.3 same in either c.openmax d.openmax a.openmax b.openmax (open_upper a c in_c ends.0) (open_upper b d in_d ends.1))
+    integer
+
 pub product_of-IsWithin : (a b c d : Interval) → IsNonEmpty a → IsNonEmpty b → IsWithin a c → IsWithin b d
     → 1 ≤ c.min → 1 ≤ d.min → a.min * b.min ≤ end_max → IsWithin (product_of a b) (product_of c d)
-product_of-IsWithin a b c d filled_a filled_b in_c in_d c_min d_min uncut = ?
-
-pub quotient_of-IsWithin : (a b c d : Interval) → IsNonEmpty a → IsNonEmpty b → IsWithin a c → IsWithin b d
-    → 1 ≤ c.min → 1 ≤ d.min → a.min / b.max ≤ end_max → IsWithin (quotient_of a b) (quotient_of c d)
-quotient_of-IsWithin a b c d filled_a filled_b in_c in_d c_min d_min uncut = ?
+unfolding product_of
+product_of-IsWithin a b c d filled_a filled_b in_c in_d c_min d_min uncut =
+    product_by-IsWithin a b c d 1 (a.integer && b.integer) (c.integer && d.integer) filled_a filled_b in_c in_d c_min d_min (omega arith)
+    (omega (arith, div-one (a.min * b.min)))
+    (both_flags c.integer d.integer a.integer b.integer in_c.integer in_d.integer)
 
 pub scaled_product_of-IsWithin : (a b c d : Interval) (k : ℕ) → IsNonEmpty a → IsNonEmpty b → IsWithin a c → IsWithin b d
     → 1 ≤ c.min → 1 ≤ d.min → 1 ≤ k → a.min * b.min / k ≤ end_max → IsWithin (scaled_product_of a b k) (scaled_product_of c d k)
-scaled_product_of-IsWithin a b c d k filled_a filled_b in_c in_d c_min d_min k_min uncut = ?
+unfolding scaled_product_of
+scaled_product_of-IsWithin a b c d k filled_a filled_b in_c in_d c_min d_min k_min uncut =
+    product_by-IsWithin a b c d k false false filled_a filled_b in_c in_d c_min d_min k_min uncut (λ h. h)
 
 pub scaled_quotient_of-IsWithin : (a : Interval) (k : ℕ) (b c d : Interval) → IsNonEmpty a → IsNonEmpty b → IsWithin a c → IsWithin b d
     → 1 ≤ c.min → 1 ≤ d.min → 1 ≤ k → a.min * k / b.max ≤ end_max → IsWithin (scaled_quotient_of a k b) (scaled_quotient_of c k d)
-scaled_quotient_of-IsWithin a k b c d filled_a filled_b in_c in_d c_min d_min k_min uncut = ?
+unfolding scaled_quotient_of
+scaled_quotient_of-IsWithin a k b c d filled_a filled_b in_c in_d c_min d_min k_min uncut =
+    let a_low = IsWithin-min a c in_c in
+    let b_low = IsWithin-min b d in_d in
+    let a_high = IsWithin-max a c in_c in
+    let b_high = IsWithin-max b d in_d in
+    let a_pos : 0 < a.max = max-positive a filled_a (omega arith) in
+    let b_pos : 0 < b.max = max-positive b filled_b (omega arith) in
+    let low = mul-order_by c.min a.min b.max d.max k (c.min * k * b.max) (a.min * k * d.max) a_low b_high (omega arith) (omega arith) k_min
+    (omega arith) (omega arith) in
+    let high = mul-order_by a.max c.max d.min b.min k (a.max * k * d.min) (c.max * k * b.min) a_high b_low (omega arith) (omega arith) k_min
+    (omega arith) (omega arith) in
+    between-IsWithin (c.min * k) d.max (a.min * k) b.max (c.openmin || d.openmax) (a.openmin || b.openmax)
+    (c.max * k) d.min (a.max * k) b.min (c.openmax || d.openmin) (a.openmax || b.openmin) false false
+    (omega arith) b_pos low.0
+    (λ same. let ends = low.3 same in either c.openmin d.openmax a.openmin b.openmax (open_lower a c in_c ends.0) (open_upper b d in_d ends.1))
+    uncut
+    d_min (omega arith) high.0
+    (λ same. let ends = high.3 same in either c.openmax d.openmin a.openmax b.openmin (open_upper a c in_c ends.0) (open_lower b d in_d ends.1))
+    (λ h. h)
+
+-- a quotient is a quotient of a product with 1
+quotient_of-scaled : (a b : Interval) → scaled_quotient_of a 1 b ≡ quotient_of a b
+unfolding quotient_of scaled_quotient_of
+quotient_of-scaled a b = simp mul-one
+
+pub quotient_of-IsWithin : (a b c d : Interval) → IsNonEmpty a → IsNonEmpty b → IsWithin a c → IsWithin b d
+    → 1 ≤ c.min → 1 ≤ d.min → a.min / b.max ≤ end_max → IsWithin (quotient_of a b) (quotient_of c d)
+quotient_of-IsWithin a b c d filled_a filled_b in_c in_d c_min d_min uncut =
+    let uncut_one : a.min * 1 / b.max ≤ end_max = rw mul-one uncut in
+    let scaled = scaled_quotient_of-IsWithin a 1 b c d filled_a filled_b in_c in_d c_min d_min (omega arith) uncut_one in
+    subst (λ (q : Interval). IsWithin q (quotient_of c d)) (quotient_of-scaled a b)
+    (subst (λ (q : Interval). IsWithin (scaled_quotient_of a 1 b) q) (quotient_of-scaled c d) scaled)
 
 -- ---- fractions of members are members, where they are at most the greatest number
 
