@@ -1,8 +1,8 @@
 -- Laws of rounded arithmetic: smaller intervals give a smaller one, and fractions of members are members.
-use Rattle.std.specs.Prelude.{◌≡◌, ℕ, ◌+◌, ◌*◌, ◌/◌, ◌%◌, ◌<◌, ◌≤◌, min, Bool, true, false, not, ◌&&◌, ◌||◌, IsTrue, refl}
+use Rattle.std.specs.Prelude.{◌≡◌, ℕ, ◌+◌, ◌*◌, ◌/◌, ◌%◌, ◌<◌, ◌≤◌, min, Bool, true, false, not, ◌&&◌, ◌||◌, nat_le, IsTrue, refl}
 use Rattle.std.proofs.Common.{arith, ap, sym, subst, inl, inr, ◌∙◌, ⊎_elim}
 use Rattle.std.proofs.Math.Nat.{div-add-mod', div-one, div-mul-le_self, eq_of_mul-eq-mul_right, le-div_iff_mul-le, le_of_mul-le-mul_right, lt_of_mul-lt-mul_right, mod-lt, mul-le-mul, mul-le-mul_left, mul-le-mul_right, mul-lt-mul_of_pos_right, mul-lt-mul_of_pos_left, mul-mod_left, mul-one}
-use Rattle.std.proofs.lemmas.Bool.{and_from, and_parts, cases_Bool, cases_eq, cases_lt, or_cases, or_left, or_right}
+use Rattle.std.proofs.lemmas.Bool.{and_from, and_parts, both_ways, cases_Bool, cases_eq, cases_lt, or_cases, or_left, or_right, cond-true, cond-false, false≢true, leb-true, ltb-true, ltb-false}
 use Rattle.std.proofs.lemmas.Bool.Decides.{nat_tests}
 use Rattle.pcm_interval.specs.declared.interval.Interval.{Interval}
 use Rattle.pcm_interval.specs.Intervals.{IsNonEmpty, IsWithin, IsLowerWithin, IsUpperWithin, IsMember, bit_of}
@@ -115,6 +115,9 @@ mul-order x u y v x_low y_low u_pos v_pos =
       λ less. let strict : u * y < u * v = mul-lt-mul_of_pos_left less u_pos in omega arith,
     )
 
+mul-pos : (x y : ℕ) → 0 < x → 0 < y → 0 < x * y
+mul-pos x y x_pos y_pos = let more : 0 * y < x * y = mul-lt-mul_of_pos_right x_pos y_pos in omega arith
+
 -- so equal products have equal factors
 mul-same : (x u y v : ℕ) → x ≤ u → y ≤ v → 0 < u → 0 < v → x * y ≡ u * v → (x ≡ u) × (y ≡ v)
 mul-same x u y v x_low y_low u_pos v_pos same =
@@ -224,18 +227,176 @@ quotient_of-IsWithin a b c d filled_a filled_b in_c in_d c_min d_min uncut =
 
 -- ---- fractions of members are members, where they are at most the greatest number
 
+-- a fraction that is not below another is not below its lower end
+lower_end-IsMember : (n d m e : ℕ) (is_open : Bool) → 0 < d → 0 < e → n * e ≤ m * d → (IsTrue is_open → n * e < m * d)
+    → (lower_end_of n d * e ≤ m) × (IsTrue (lower_is_open n d is_open) → lower_end_of n d * e < m)
+lower_end-IsMember n d m e is_open d_pos e_pos low opens =
+    let cut : lower_end_of n d ≤ n / d = omega arith in
+    let cut_scaled : lower_end_of n d * e ≤ n / d * e = mul-le-mul_right e cut in
+    let parts : n / d * d + n % d ≡ n = div-add-mod' n d in
+    let scaled : n / d * d * e + n % d * e ≡ n * e = omega (arith, ap (λ (v : ℕ). v * e) parts) in
+    let under : n / d * e * d ≤ m * d = omega arith in
+    let below : n / d * e ≤ m = le_of_mul-le-mul_right under d_pos in (
+      omega arith,
+      λ told.
+          elim (or_cases is_open (is_broken n d) (and_parts (nat_le (n / d) end_max) (is_open || is_broken n d) told).1) [
+            | inl made_open ↦
+                let strict : n / d * e * d < m * d = omega (arith, opens made_open) in
+                let less : n / d * e < m = lt_of_mul-lt-mul_right d strict in
+                omega arith
+            | inr broken ↦
+                let rest : 0 < n % d = ltb-true 0 (n % d) broken in
+                let rest_scaled : 0 * e < n % d * e = mul-lt-mul_of_pos_right rest e_pos in
+                let strict : n / d * e * d < m * d = omega arith in
+                let less : n / d * e < m = lt_of_mul-lt-mul_right d strict in
+                omega arith
+          ],
+    )
+
+-- what is rounded up is not above what it comes to
+rounded_up-le : (n d : ℕ) → 0 < d → (n ≤ rounded_up n d * d) × (IsTrue (is_broken n d) → n < rounded_up n d * d)
+rounded_up-le n d d_pos =
+    let parts : n / d * d + n % d ≡ n = div-add-mod' n d in
+    let rest : n % d < d = mod-lt n d_pos in
+    elim (cases_Bool (is_broken n d)) [
+      | inl broken ↦
+          let up : rounded_up n d ≡ n / d + 1 = cond-true (is_broken n d) (n / d + 1) (n / d) broken in
+          let scaled : rounded_up n d * d ≡ (n / d + 1) * d = ap (λ (v : ℕ). v * d) up in
+          (omega arith, λ told. omega arith)
+      | inr whole ↦
+          let none : n % d ≤ 0 = ltb-false 0 (n % d) whole in
+          let up : rounded_up n d ≡ n / d = cond-false (is_broken n d) (n / d + 1) (n / d) whole in
+          let scaled : rounded_up n d * d ≡ n / d * d = ap (λ (v : ℕ). v * d) up in
+          (omega arith, λ told. absurd (both_ways (is_broken n d) whole told))
+    ]
+
+-- a fraction that is not above another is not above its upper end, where it is at most the greatest number
+upper_end-IsMember : (n d m e : ℕ) (is_open : Bool) → 0 < d → 0 < e → m * d ≤ n * e → (IsTrue is_open → m * d < n * e) → m ≤ end_max * e
+    → (m ≤ upper_end_of n d * e) × (IsTrue (upper_is_open n d is_open) → m < upper_end_of n d * e)
+upper_end-IsMember n d m e is_open d_pos e_pos high opens low =
+    let up = rounded_up-le n d d_pos in
+    let scaled : n * e ≤ rounded_up n d * d * e = mul-le-mul_right e up.0 in
+    let under : m * d ≤ rounded_up n d * e * d = omega arith in
+    let below : m ≤ rounded_up n d * e = le_of_mul-le-mul_right under d_pos in (
+      elim (cases_lt end_max (rounded_up n d)) [
+        | inl above ↦
+            let cut : upper_end_of n d ≡ end_max = omega arith in
+            omega (arith, ap (λ (v : ℕ). v * e) cut)
+        | inr fits ↦
+            let uncut : upper_end_of n d ≡ rounded_up n d = omega arith in
+            omega (arith, ap (λ (v : ℕ). v * e) uncut)
+      ],
+      λ told.
+          let parts = and_parts (nat_le (rounded_up n d) end_max) (is_open || is_broken n d) told in
+          let fits : rounded_up n d ≤ end_max = leb-true (rounded_up n d) end_max parts.0 in
+          let uncut : upper_end_of n d ≡ rounded_up n d = omega arith in
+          let end_scaled : upper_end_of n d * e ≡ rounded_up n d * e = ap (λ (v : ℕ). v * e) uncut in
+          elim (or_cases is_open (is_broken n d) parts.1) [
+            | inl made_open ↦
+                let strict : m * d < rounded_up n d * e * d = omega (arith, opens made_open) in
+                let less : m < rounded_up n d * e = lt_of_mul-lt-mul_right d strict in
+                omega arith
+            | inr broken ↦
+                let more : n * e < rounded_up n d * d * e = mul-lt-mul_of_pos_right (up.1 broken) e_pos in
+                let strict : m * d < rounded_up n d * e * d = omega arith in
+                let less : m < rounded_up n d * e = lt_of_mul-lt-mul_right d strict in
+                omega arith
+          ],
+    )
+
+-- so a fraction between two fractions is a member of the interval between them
+between-IsMember : (low_n low_d high_n high_d n d : ℕ) (low_o high_o whole : Bool) → 0 < low_d → 0 < high_d → 0 < d
+    → low_n * d ≤ n * low_d → (IsTrue low_o → low_n * d < n * low_d) → n * high_d ≤ high_n * d → (IsTrue high_o → n * high_d < high_n * d)
+    → n ≤ end_max * d → (IsTrue whole → n % d ≡ 0) → IsMember (between low_n low_d low_o high_n high_d high_o whole) n d
+unfolding between
+between-IsMember low_n low_d high_n high_d n d low_o high_o whole ld hd pos low lows high highs fits integer =
+    let lower = lower_end-IsMember low_n low_d n d low_o ld pos low lows in
+    let upper = upper_end-IsMember high_n high_d n d high_o hd pos high highs fits in
+    record { positive = pos; lower = lower.0; above = lower.1; upper = upper.0; below = upper.1; whole = integer }
+
+-- a member of an interval whose lower end is at least 1 is positive
+IsMember-positive : (a : Interval) (n d : ℕ) → 1 ≤ a.min → IsMember a n d → 0 < n
+IsMember-positive a n d min h =
+    let scaled : 1 * d ≤ a.min * d = mul-le-mul_right d min in
+    omega (arith, h.lower, h.positive)
+
+IsMember-max : (b : Interval) (m e : ℕ) → 0 < m → IsMember b m e → 0 < b.max
+IsMember-max b m e positive h =
+    elim (cases_eq b.max 0) [
+      | inl none ↦ absurd (omega (arith, ap (λ (v : ℕ). v * e) none, h.upper))
+      | inr some ↦ omega arith
+    ]
+
+-- products of whole numbers are whole
+whole-mul : (n d m e : ℕ) → n % d ≡ 0 → m % e ≡ 0 → n * m % (d * e) ≡ 0
+whole-mul n d m e left right =
+    let n_is : n / d * d ≡ n = omega (arith, div-add-mod' n d) in
+    let m_is : m / e * e ≡ m = omega (arith, div-add-mod' m e) in
+    let first : n * m ≡ n / d * d * m = ap (λ (v : ℕ). v * m) (sym n_is) in
+    let second : n / d * d * m ≡ n / d * d * (m / e * e) = ap (λ (v : ℕ). n / d * d * v) (sym m_is) in
+    let product : n * m ≡ n / d * (m / e) * (d * e) = omega arith in
+    ap (λ (v : ℕ). v % (d * e)) product ∙ mul-mod_left (n / d * (m / e)) (d * e)
+
+product_by-IsMember : (a b : Interval) (k : ℕ) (whole : Bool) (n d m e : ℕ) → 1 ≤ a.min → 1 ≤ b.min → 1 ≤ k → IsMember a n d → IsMember b m e
+    → n * m ≤ end_max * (d * e * k) → (IsTrue whole → n * m % (d * e * k) ≡ 0) → IsMember (product_by a b k whole) (n * m) (d * e * k)
+product_by-IsMember a b k whole n d m e a_min b_min k_min in_a in_b fits integer =
+    let n_pos = IsMember-positive a n d a_min in_a in
+    let m_pos = IsMember-positive b m e b_min in_b in
+    let d_pos = in_a.positive in
+    let e_pos = in_b.positive in
+    let n_high = in_a.upper in
+    let m_high = in_b.upper in
+    let low = mul-order_by (a.min * d) n (b.min * e) m k (a.min * b.min * (d * e * k)) (n * m * k) in_a.lower in_b.lower n_pos m_pos k_min
+    (omega arith) refl in
+    let high = mul-order_by n (a.max * d) m (b.max * e) k (n * m * k) (a.max * b.max * (d * e * k)) n_high m_high (omega arith) (omega arith) k_min
+    refl (omega arith) in
+    between-IsMember (a.min * b.min) k (a.max * b.max) k (n * m) (d * e * k) (a.openmin || b.openmin) (a.openmax || b.openmax) whole k_min k_min
+    (mul-pos (d * e) k (mul-pos d e d_pos e_pos) k_min)
+    low.0 (λ told. ⊎_elim (λ o. low.1 (in_a.above o)) (λ o. low.2 (in_b.above o)) (or_cases a.openmin b.openmin told))
+    high.0 (λ told. ⊎_elim (λ o. high.1 (in_a.below o)) (λ o. high.2 (in_b.below o)) (or_cases a.openmax b.openmax told))
+    fits integer
+
 pub product_of-IsMember : (a b : Interval) (n d m e : ℕ) → 1 ≤ a.min → 1 ≤ b.min → IsMember a n d → IsMember b m e
     → n * m ≤ end_max * (d * e) → IsMember (product_of a b) (n * m) (d * e)
-product_of-IsMember a b n d m e a_min b_min in_a in_b low = ?
-
-pub quotient_of-IsMember : (a b : Interval) (n d m e : ℕ) → 1 ≤ a.min → 1 ≤ b.min → IsMember a n d → IsMember b m e
-    → n * e ≤ end_max * (d * m) → IsMember (quotient_of a b) (n * e) (d * m)
-quotient_of-IsMember a b n d m e a_min b_min in_a in_b low = ?
+unfolding product_of
+product_of-IsMember a b n d m e a_min b_min in_a in_b low =
+    let one : d * e * 1 ≡ d * e = omega arith in
+    let scaled = product_by-IsMember a b 1 (a.integer && b.integer) n d m e a_min b_min (omega arith) in_a in_b (omega arith)
+    (λ told. let flags = and_parts a.integer b.integer told in
+    ap (λ (v : ℕ). n * m % v) one ∙ whole-mul n d m e (in_a.whole flags.0) (in_b.whole flags.1)) in
+    subst (λ (v : ℕ). IsMember (product_by a b 1 (a.integer && b.integer)) (n * m) v) one scaled
 
 pub scaled_product_of-IsMember : (a b : Interval) (k n d m e : ℕ) → 1 ≤ a.min → 1 ≤ b.min → 1 ≤ k → IsMember a n d → IsMember b m e
     → n * m ≤ end_max * (d * e * k) → IsMember (scaled_product_of a b k) (n * m) (d * e * k)
-scaled_product_of-IsMember a b k n d m e a_min b_min k_min in_a in_b low = ?
+unfolding scaled_product_of
+scaled_product_of-IsMember a b k n d m e a_min b_min k_min in_a in_b low = product_by-IsMember a b k false n d m e a_min b_min k_min in_a in_b low (λ no. absurd (false≢true no))
 
 pub scaled_quotient_of-IsMember : (a : Interval) (k : ℕ) (b : Interval) (n d m e : ℕ) → 1 ≤ a.min → 1 ≤ b.min → 1 ≤ k
     → IsMember a n d → IsMember b m e → n * k * e ≤ end_max * (d * m) → IsMember (scaled_quotient_of a k b) (n * k * e) (d * m)
-scaled_quotient_of-IsMember a k b n d m e a_min b_min k_min in_a in_b low = ?
+unfolding scaled_quotient_of
+scaled_quotient_of-IsMember a k b n d m e a_min b_min k_min in_a in_b low =
+    let n_pos = IsMember-positive a n d a_min in_a in
+    let m_pos = IsMember-positive b m e b_min in_b in
+    let d_pos = in_a.positive in
+    let e_pos = in_b.positive in
+    let n_high = in_a.upper in
+    let m_high = in_b.upper in
+    let b_max : 0 < b.max = IsMember-max b m e m_pos in_b in
+    let low_side = mul-order_by (a.min * d) n m (b.max * e) k (a.min * k * (d * m)) (n * k * e * b.max) in_a.lower m_high n_pos (omega arith) k_min
+    (omega arith) (omega arith) in
+    let high_side = mul-order_by n (a.max * d) (b.min * e) m k (n * k * e * b.min) (a.max * k * (d * m)) n_high in_b.lower (omega arith) m_pos k_min
+    (omega arith) (omega arith) in
+    between-IsMember (a.min * k) b.max (a.max * k) b.min (n * k * e) (d * m) (a.openmin || b.openmax) (a.openmax || b.openmin) false b_max b_min
+    (mul-pos d m d_pos m_pos)
+    low_side.0 (λ told. ⊎_elim (λ o. low_side.1 (in_a.above o)) (λ o. low_side.2 (in_b.below o)) (or_cases a.openmin b.openmax told))
+    high_side.0 (λ told. ⊎_elim (λ o. high_side.1 (in_a.below o)) (λ o. high_side.2 (in_b.above o)) (or_cases a.openmax b.openmin told))
+    low (λ no. absurd (false≢true no))
+
+pub quotient_of-IsMember : (a b : Interval) (n d m e : ℕ) → 1 ≤ a.min → 1 ≤ b.min → IsMember a n d → IsMember b m e
+    → n * e ≤ end_max * (d * m) → IsMember (quotient_of a b) (n * e) (d * m)
+quotient_of-IsMember a b n d m e a_min b_min in_a in_b low =
+    let one : n * 1 * e ≡ n * e = omega arith in
+    let fits : n * 1 * e ≤ end_max * (d * m) = omega arith in
+    let scaled = scaled_quotient_of-IsMember a 1 b n d m e a_min b_min (omega arith) in_a in_b fits in
+    subst (λ (q : Interval). IsMember q (n * e) (d * m)) (quotient_of-scaled a b)
+    (subst (λ (v : ℕ). IsMember (scaled_quotient_of a 1 b) v (d * m)) one scaled)
