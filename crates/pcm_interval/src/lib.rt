@@ -11,3 +11,6 @@ pub use arithmetic::{div, mul, muldivk, mulkdiv};
 pub use empty::Empty;
 pub use interval::Interval;
 pub use mask::Mask;
+
+#[cfg(test)]
+mod tests;
