@@ -1,7 +1,6 @@
-//! Arithmetic between intervals, as alsa-lib's `src/pcm/interval.c` has it: the lower end is made of the ends that make
-//! it least and is rounded down, the upper end is made of those that make it greatest and is rounded up. An end is open
-//! where it was rounded, or where an end that it was made of is open. An end above 4294967295 becomes that number,
-//! closed.
+//! Arithmetic between intervals: the lower end is made of the ends that make it least and is rounded down, the upper end is
+//! made of those that make it greatest and is rounded up. An end is open where it was rounded, or where an end that it was
+//! made of is open. An end above 4294967295, once rounded, becomes that number, closed.
 //!
 //! Every input has a lower end of at least 1 and is not empty.
 ghost use Rattle.std.specs.Prelude.{◌≡◌, ℕ, ◌*◌, ◌≤◌, ◌&&◌, min, nat_le};
