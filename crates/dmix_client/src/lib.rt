@@ -1,0 +1,9 @@
+//! The client of a mixed playback: a PCM stream that lays its frames into the card's ring through a port.
+#![tactic(auto)]
+
+mod commit;
+mod placing;
+mod plain;
+
+pub use commit::{Commit, Ended};
+pub use plain::Plain;
