@@ -12,7 +12,7 @@ use Rattle.snd_base.specs.declared.places.Segment.{Segment}
 use Rattle.snd_base.specs.Places.{end_frame, first_free}
 use Rattle.mix_core.specs.declared.port.Entry.{Entry}
 use Rattle.mix_core.specs.declared.port.Position.{Position}
-use Rattle.bindings.specs.Bound.{rising}
+use Rattle.bindings.specs.Bound.{identity, rising}
 use Rattle.hw_space.specs.declared.config.Config.{Config}
 use Rattle.sw_limits.specs.declared.params.SwParams.{SwParams}
 use Rattle.pcm_states.specs.declared.states.State.{State}
@@ -62,7 +62,34 @@ refusal_in (Err e) = if is_refusal e then Some e else None
 abbrev pub refusal_of : Plain → Call → Option PcmError
 refusal_of c call = if c.stopped then Some Stopped else refusal_in (next_of c.state call nothing_found).answer
 
+-- the answer of a test: that a call isn't refused, or the refusal
+abbrev pub refused_by : Option PcmError → Result (Unit {0}) PcmError
+refused_by None = Ok tt
+refused_by (Some e) = Err e
+
 -- the calls that take no step
+
+-- a client that is opened
+abbrev pub opened : Geometry → ℕ → ℕ → Plain
+opened g member lead = record {
+  geometry = g;
+  member = member;
+  lead = lead;
+  state = Open;
+  stopped = false;
+  configured = false;
+  config = record { channels = 1; rate = 1; period_size = 1; buffer_size = 1; periods = 1 };
+  bindings = identity 1;
+  params = record { start_threshold = 1; stop_threshold = 1; avail_min = 1 };
+  written = 0;
+  committed = 0;
+  part = 0;
+  card = 0;
+  started = false;
+  seen = None;
+  fed = 0;
+  source = 0;
+}
 
 -- nothing is written, and nothing is laid since now
 abbrev pub prepared : Plain → Plain

@@ -1,14 +1,19 @@
 -- What a port did for a client: what it loaded and laid, what it kept, and how a commit ended there.
-use Rattle.std.specs.Prelude.{◌≡◌, ℕ, ◌+◌, ◌<◌, ◌≤◌, List, [], ◌∷◌, Option, ⊤, All, slice_index}
+use Rattle.std.specs.Prelude.{◌≡◌, ℕ, ◌+◌, ◌<◌, ◌≤◌, true, false, ℤ, List, [], ◌∷◌, Option, None, Some, IfNone, IfSome, ⊤, All, slice_index, unwrap_or}
+use Rattle.std.specs.Option.{option_to_list}
 use Rattle.snd_base.specs.declared.geometry.Geometry.{Geometry}
 use Rattle.snd_base.specs.declared.places.Cursor.{Cursor}
 use Rattle.snd_base.specs.Places.{IsFrom, end_frame}
+use Rattle.mix_core.specs.declared.port.Entry.{Entry}
 use Rattle.mix_core.specs.declared.port.Position.{Position}
 use Rattle.mix_core.specs.Port.{IsPast}
 use Rattle.bindings.specs.Bound.{AreBindings, rising}
 use Rattle.dmix_client.specs.declared.commit.Commit.{Commit}
 use Rattle.dmix_client.specs.declared.commit.Ended.{Ended}
 use Rattle.dmix_client.specs.declared.commit.Ended.TheVariants.{Whole, Late, Stopped}
+use Rattle.dmix_client.specs.declared.plain.Plain.{Plain}
+use Rattle.dmix_client.specs.Calls.{Answered, commit_entries, end_channel, end_of_commit}
+use Rattle.dmix_client.specs.View.{is_moving}
 
 -- a fact of an end that leaves nothing
 abbrev pub OnWhole : Ended → Type 0 → Type 0
@@ -54,3 +59,40 @@ least_channel bindings = slice_index bindings (slice_index (rising bindings) 0)
 pub record IsOnCard (bindings : List ℕ) (g : Geometry) : Type 0 where
   pub bound : AreBindings bindings
   pub below : All (λ channel. channel < g.channels) bindings
+
+-- a port that a client can use: it is the client's, it can add, and where the client moves frames nobody else has used
+-- it since the start
+pub record CanUse (c : Plain) (geometry : Geometry) (member : ℕ) (cursor : Cursor) (seen : ℕ) (can_add : Type 0) : Type 0 where
+  pub same_geometry : geometry ≡ c.geometry
+  pub same_member : member ≡ c.member
+  pub can : can_add
+  pub behind : is_moving c.state ≡ true → c.stopped ≡ false → IsFrom cursor (c.card + c.committed) (least_channel c.bindings)
+  pub newer : is_moving c.state ≡ true → c.stopped ≡ false → unwrap_or c.seen 0 ≤ seen
+
+-- what a load and the commit behind it laid, by the client at the commit
+abbrev pub entries_at : Option Position → (Position → Plain) → List ℤ → Commit → List Entry
+entries_at None at ring commit = []
+entries_at (Some position) at ring commit = commit_entries (at position) ring commit
+
+-- the gate's count of stops rose where a load or the commit behind it was stopped, and else it stayed
+abbrev pub StoppedBy : Option Position → Ended → ℕ → ℕ → Type 0
+StoppedBy None ended before after = before < after
+StoppedBy (Some position) ended before after = ToldBy ended before after
+
+-- a load and the commit behind it: the client `at` the commit had `count` frames to lay
+pub record IsFound (load : Option Position) (commit : Commit) (at : Position → Plain) (count : Position → ℕ) (channels : ℕ) : Type 0 where
+  pub nothing : IfNone load (commit ≡ record { frames = 0; part = 0; ended = Whole })
+  pub commit_is : IfSome load (λ (position : Position). IsCommit commit.ended commit.frames commit.part (count position) channels)
+  pub in_time : IfSome load (λ (position : Position). 0 < commit.frames + commit.part → position.frame ≤ (at position).card + (at position).committed)
+
+-- what a call with one load and one commit did at a port, and what it made of the client
+pub record TakesStep {S T : Type 0} (laid : S → S → List Entry → Type 0) (loaded : S → S → List Position → Type 0) (geometry : S → Geometry) (shows : S → ℕ → ℕ → Option ℕ) (p q : S)
+    (before after : ℕ) (ring : List ℤ) (at : Position → Plain) (count : Position → ℕ) (channels : ℕ) (call : Option Position → Commit → Answered T) (done : Answered T) : Type 0 where
+  pub load : Option Position
+  pub commit : Commit
+  pub found : IsFound load commit at count channels
+  pub outcome : call load commit ≡ done
+  pub loaded_them : loaded p q (option_to_list load)
+  pub laid_them : laid p q (entries_at load at ring commit)
+  pub shown : IfSome load (λ position. OnLate commit.ended (λ word. IsPast geometry shows q (end_of_commit (at position) commit) (end_channel (at position) commit) word))
+  pub told : StoppedBy load commit.ended before after

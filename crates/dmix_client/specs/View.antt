@@ -1,7 +1,8 @@
 -- What contracts see of a client: how it is at a moment, and the samples in its local ring.
-use Rattle.std.specs.Prelude.{◌≡◌, ℕ, ◌+◌, ◌-◌, ◌*◌, ◌%◌, ◌^◌, ◌<◌, ◌≤◌, Bool, true, false, if◌then◌else◌, min, ℤ, pos, List, All, length, slice_index_or, Option, unwrap_or}
+use Rattle.std.specs.Prelude.{◌≡◌, ℕ, ◌+◌, ◌-◌, ◌*◌, ◌%◌, ◌^◌, ◌<◌, ◌≤◌, Bool, true, false, if◌then◌else◌, min, ℤ, pos, List, All, length, slice_index_or, Option, None, Some, ⊤, unwrap_or}
 use Rattle.snd_base.specs.declared.geometry.Geometry.{Geometry}
 use Rattle.snd_base.specs.Places.{end_frame}
+use Rattle.mix_core.specs.declared.port.Position.{Position}
 use Rattle.bindings.specs.Bound.{AreBindings}
 use Rattle.pcm_states.specs.declared.states.State.{State}
 use Rattle.pcm_states.specs.declared.states.State.TheVariants.{Open, Setup, Prepared, Running, Xrun, Draining, Paused, Suspended, Disconnected}
@@ -29,6 +30,18 @@ queued_of c = c.written - hw_of c
 -- the client's channels
 abbrev pub channels_of : Plain → ℕ
 channels_of c = length c.bindings
+
+-- the counts are near each other, so that the frames available are told by pointers that wrap
+pub record IsReady (c : Plain) : Type 0 where
+  pub buffer_least : 1 ≤ c.config.buffer_size
+  pub buffer_most : c.config.buffer_size ≤ 16384
+  pub fits : c.written ≤ hw_of c + c.config.buffer_size
+  pub near : hw_of c < 2 ^ 47
+
+-- where a position was loaded, they are near each other then
+abbrev pub IsReadyAt : Plain → Option Position → Type 0
+IsReadyAt c None = ⊤
+IsReadyAt c (Some position) = IsReady (record c { seen = Some position.frame })
 
 -- a stream in these states moves frames
 abbrev pub is_moving : State → Bool

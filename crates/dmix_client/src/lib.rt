@@ -2,8 +2,10 @@
 #![tactic(auto)]
 
 mod commit;
+mod moving;
 mod placing;
 mod plain;
+mod steps;
 
 pub use commit::{Commit, Ended};
 pub use plain::Plain;
