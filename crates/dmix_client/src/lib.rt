@@ -1,10 +1,12 @@
 //! The client of a mixed playback: a PCM stream that lays its frames into the card's ring through a port.
 #![tactic(auto)]
 
+mod calls;
 mod commit;
 mod moving;
 mod placing;
 mod plain;
+mod ring;
 mod steps;
 
 pub use commit::{Commit, Ended};

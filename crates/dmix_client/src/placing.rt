@@ -94,7 +94,7 @@ fn place_frame<P: MixPort, G: Gate>(
 }
 
 /// Where the samples of a frame begin in a local ring of `buffer_size` frames.
-fn slot_of(frame: u64, buffer_size: u32, channels: u8) -> usize
+pub(crate) fn slot_of(frame: u64, buffer_size: u32, channels: u8) -> usize
     requires some { 1 ≤ buffer_size }
     ensures value { result ≡ frame % buffer_size * channels }
     ensures within { result + channels ≤ buffer_size * channels }
