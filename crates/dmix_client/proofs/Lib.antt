@@ -1,3 +1,4 @@
 mod Frames
 mod Runs
+mod Sound
 mod Started

@@ -8,6 +8,10 @@ use Rattle.mix_core.specs.declared.port.Entry.{Entry}
 use Rattle.mix_core.specs.declared.port.Position.{Position}
 use Rattle.mix_core.specs.Port.{IsPast}
 use Rattle.bindings.specs.Bound.{AreBindings, rising}
+use Rattle.pcm_states.specs.declared.states.State.{State}
+use Rattle.pcm_states.specs.declared.states.State.TheVariants.{Running, Draining}
+use Rattle.pcm_states.specs.declared.calls.Call.{Call}
+use Rattle.pcm_states.specs.declared.calls.Call.TheVariants.{Sync, Transfer, Drain}
 use Rattle.dmix_client.specs.declared.commit.Commit.{Commit}
 use Rattle.dmix_client.specs.declared.commit.Ended.{Ended}
 use Rattle.dmix_client.specs.declared.commit.Ended.TheVariants.{Whole, Late, Stopped}
@@ -59,6 +63,14 @@ least_channel bindings = slice_index bindings (slice_index (rising bindings) 0)
 pub record IsOnCard (bindings : List ℕ) (g : Geometry) : Type 0 where
   pub bound : AreBindings bindings
   pub below : All (λ channel. channel < g.channels) bindings
+
+-- the calls that take the step of a stream which moves frames
+abbrev pub IsStep : State → Call → Type 0
+IsStep Running Sync = ⊤
+IsStep Running Transfer = ⊤
+IsStep Draining Sync = ⊤
+IsStep Draining Drain = ⊤
+IsStep state call = ⊥
 
 -- a port that a client can use: it is the client's, it can add, and where the client moves frames nobody else has used
 -- it since the start
