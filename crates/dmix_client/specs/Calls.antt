@@ -105,6 +105,22 @@ configured_with c config bindings = prepared (record c {
   params = record { start_threshold = 1; stop_threshold = config.buffer_size; avail_min = config.period_size };
 })
 
+-- the client gives its configuration up
+abbrev pub freed : Plain → Plain
+freed c = record c { state = Open; configured = false }
+
+-- the client has other software parameters
+abbrev pub with_params : Plain → SwParams → Plain
+with_params c params = record c { params = params }
+
+-- what is pending is given up
+abbrev pub dropped : Plain → Plain
+dropped c = record c { state = Setup }
+
+-- the configuration, where there is one
+abbrev pub config_of : Plain → Option Config
+config_of c = if c.configured then Some c.config else None
+
 -- the segment since the last prepare
 abbrev pub segment_of : Plain → Segment
 segment_of c = record { source = c.source; card = c.card; whole = c.committed; part = c.part }

@@ -2,6 +2,7 @@
 #![tactic(auto)]
 
 mod calls;
+mod client;
 mod commit;
 mod moving;
 mod placing;
@@ -9,5 +10,6 @@ mod plain;
 mod ring;
 mod steps;
 
+pub use client::Client;
 pub use commit::{Commit, Ended};
 pub use plain::Plain;

@@ -1,16 +1,18 @@
 //! What a client is after each part of a call, by what the part found.
 ghost use Rattle.std.specs.Prelude.{◌≡◌, ℕ, ◌+◌, ◌*◌, ◌^◌, ◌<◌, ◌≤◌, IfSome, length};
-ghost use Rattle.dmix_client.specs.Calls.{accepted, accepted_if, filled, written_after, avail_answer, commit_count, committed_by, delay_answer, facts_of, found_at, going_on, is_stop, late_of, over_of, prepared, seen_at, segment_of, settled, start_count, start_frame, started, started_in, stopped_in, sync_count, synced, taken_of, window_end};
+ghost use Rattle.dmix_client.specs.Calls.{configured_with, dropped, freed, opened, accepted, accepted_if, filled, written_after, avail_answer, commit_count, committed_by, delay_answer, facts_of, found_at, going_on, is_stop, late_of, over_of, prepared, seen_at, segment_of, settled, start_count, start_frame, started, started_in, stopped_in, sync_count, synced, taken_of, window_end};
 ghost use Rattle.dmix_client.specs.Port.{OnLate};
 ghost use Rattle.dmix_client.specs.View.{IsReady, IsReadyAt, avail_of, hw_of, queued_of};
 
 use crate::commit::{Commit, Ended};
 use crate::plain::Plain;
+use bindings::Bindings;
+use hw_space::Config;
 use mix_core::Position;
 use pcm_states::{Call, Facts, Outcome, State, next};
 use ring_pointers::Pointers;
-use snd_base::{Cursor, PcmError, Segment, XrunWhy};
-use sw_limits::boundary;
+use snd_base::{Cursor, Geometry, PcmError, Segment, XrunWhy};
+use sw_limits::{SwParams, boundary};
 
 /// A client after a part of a call, and the call's answer so far.
 pub(crate) type Answered<T> = (Plain, Result<T, PcmError>);
@@ -416,5 +418,80 @@ pub(crate) fn filled(
         accepted_if(taken, started(plain, State::Running, cursor, load, commit))
     } else {
         (plain.accepted(taken), Ok(taken))
+    }
+}
+
+impl Plain {
+    /// A client that is opened.
+    pub(crate) fn opened(geometry: Geometry, member: u32, lead: u32) -> Plain
+        ensures { result ≡ opened geometry member lead }
+    {
+        Plain {
+            geometry,
+            member,
+            lead,
+            state: State::Open,
+            stopped: false,
+            configured: false,
+            config: Config {
+                channels: 1,
+                rate: 1,
+                period_size: 1,
+                buffer_size: 1,
+                periods: 1,
+            },
+            bindings: Bindings::identity(1),
+            params: SwParams {
+                start_threshold: 1,
+                stop_threshold: 1,
+                avail_min: 1,
+            },
+            written: 0,
+            committed: 0,
+            part: 0,
+            card: 0,
+            started: false,
+            seen: None,
+            fed: 0,
+            source: 0,
+        }
+    }
+
+    /// The client runs with a configuration, with the default thresholds.
+    pub(crate) fn configured_with(&self, config: Config, bindings: Bindings) -> Plain
+        ensures { result ≡ configured_with self.now config bindings }
+    {
+        Plain {
+            configured: true,
+            config,
+            bindings,
+            params: SwParams {
+                start_threshold: 1,
+                stop_threshold: config.buffer_size as u64,
+                avail_min: config.period_size as u64,
+            },
+            ..self.prepared()
+        }
+    }
+
+    /// The client gives its configuration up.
+    pub(crate) fn freed(&self) -> Plain
+        ensures { result ≡ freed self.now }
+    {
+        Plain {
+            state: State::Open,
+            configured: false,
+            ..*self
+        }
+    }
+
+    /// What is pending is given up.
+    pub(crate) fn dropped(&self) -> Plain
+        ensures { result ≡ dropped self.now }
+    {
+        Plain {
+            state: State::Setup,
+            ..*self
+        }
     }
 }
