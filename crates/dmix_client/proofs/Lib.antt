@@ -1,4 +1,5 @@
 mod Frames
 mod Runs
 mod Sound
+mod Starting
 mod Started

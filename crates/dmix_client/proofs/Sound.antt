@@ -83,17 +83,17 @@ window_end-above h frames stop low = grind (arith, nat_tests)
 laid_most : (w k card n h frames stop : ℕ) → card + k ≤ stop + frames → n ≤ min w (min (h + frames) stop - card) - k → card + (k + n) ≤ stop + frames
 laid_most w k card n h frames stop before is = grind (arith, nat_tests)
 
-if-le : (b : Bool) (n : ℕ) → (if b then 0 else n) ≤ n
+pub if-le : (b : Bool) (n : ℕ) → (if b then 0 else n) ≤ n
 if-le true n = omega arith
 if-le false n = omega arith
 
-frames-le : (e : Ended) (frames part count channels : ℕ) → IsCommit e frames part count channels → frames ≤ count
+pub frames-le : (e : Ended) (frames part count channels : ℕ) → IsCommit e frames part count channels → frames ≤ count
 frames-le ended.Whole frames part count channels is = omega (arith, is.0)
 frames-le (ended.Late word) frames part count channels is = omega (arith, is.0)
 frames-le ended.Stopped frames part count channels is = omega (arith, is.0)
 
 -- a commit that is not late and not stopped laid all
-whole-of : (e : Ended) (frames part count channels frame channel : ℕ) → IsCommit e frames part count channels → is_stop e ≡ false → late_at e frame channel ≡ None → (frames ≡ count) × (part ≡ 0)
+pub whole-of : (e : Ended) (frames part count channels frame channel : ℕ) → IsCommit e frames part count channels → is_stop e ≡ false → late_at e frame channel ≡ None → (frames ≡ count) × (part ≡ 0)
 whole-of ended.Whole frames part count channels frame channel is going in_time = is
 whole-of (ended.Late word) frames part count channels frame channel is going in_time = absurd (cc)
 whole-of ended.Stopped frames part count channels frame channel is going in_time = absurd (cc)
@@ -220,7 +220,7 @@ pub IsSound-synced : (c : Plain) (ring : List ℤ) (call : Call) (load : Option 
 IsSound-synced c ring call None commit syncing = IsSound-stopped c ring syncing.sound syncing.moves
 IsSound-synced c ring call (Some position) commit syncing = synced-by c ring call position commit (is_stop commit.ended) refl syncing
 
-OnWhole-of : (e : Ended) (P : Type 0) (frame channel : ℕ) → is_stop e ≡ false → late_at e frame channel ≡ None → OnWhole e P → P
+pub OnWhole-of : (e : Ended) (P : Type 0) (frame channel : ℕ) → is_stop e ≡ false → late_at e frame channel ≡ None → OnWhole e P → P
 OnWhole-of ended.Whole P frame channel going in_time is = is
 OnWhole-of (ended.Late word) P frame channel going in_time is = absurd (cc)
 OnWhole-of ended.Stopped P frame channel going in_time is = absurd (cc)

@@ -8,6 +8,7 @@ mod moving;
 mod placing;
 mod plain;
 mod ring;
+mod stepping;
 mod steps;
 
 pub use client::Client;
