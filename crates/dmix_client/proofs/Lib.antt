@@ -1,4 +1,5 @@
 mod Frames
+mod Left
 mod Runs
 mod Sound
 mod Starting

@@ -268,3 +268,7 @@ first-of (Some p) P Q R is = (is.0, is.1)
 pub last-of : (load : Option Position) (P Q R : Position → Type 0) → IfSome load (λ p. P p × Q p × R p) → IfSome load R
 last-of None P Q R is = tt
 last-of (Some p) P Q R is = is.2
+
+pub both-of : (load : Option Position) (P Q : Position → Type 0) → IfSome load (λ p. P p × Q p) → IfSome load P × IfSome load Q
+both-of None P Q is = (tt, tt)
+both-of (Some p) P Q is = is

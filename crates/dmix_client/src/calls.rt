@@ -123,6 +123,7 @@ pub(crate) fn start_call<P: MixPort, G: Gate>(
     ensures member { P.member port.new ≡ P.member port.old }
     ensures can_add { P.can_add port.new }
     ensures seen { IfSome result.found.load (λ position. (position.frame ≤ end_frame plain.now.geometry) × (P.seen port.new ≡ position.frame)) }
+    ensures cursor_most { (P.cursor port.old).frame ≤ end_frame plain.now.geometry }
     ensures stayed { IfSome result.found.load (λ position. OnWhole result.found.commit.ended (IsFrom (P.cursor port.new) (end_of_commit (started_in plain.now State.Running position (P.cursor port.old)) result.found.commit) (least_channel plain.now.bindings))) }
 {
     let cursor = port.cursor();
@@ -132,5 +133,35 @@ pub(crate) fn start_call<P: MixPort, G: Gate>(
         found,
         plain: after,
         answer,
+    }
+}
+
+/// The start of a client that is prepared and has frames, which leads to `state`.
+pub(crate) fn begin<P: MixPort, G: Gate>(
+    plain: &mut Plain,
+    ring: &[i16],
+    port: &mut P,
+    gate: &mut G,
+    state: State,
+) -> Stepped
+    requires sound { IsSound plain.old ring.now }
+    requires prepared { plain.old.state ≡ State.Prepared }
+    requires leads { is_moving state ≡ true }
+    requires port { CanUse plain.old (P.geometry port.old) (P.member port.old) (P.cursor port.old) (P.seen port.old) (P.can_add port.old) }
+    ensures outcome { started plain.old state (P.cursor port.old) result.found.load result.found.commit ≡ (plain.new, result.answer) }
+    ensures found { IsFound result.found.load result.found.commit (λ position. started_in plain.old State.Running position (P.cursor port.old)) (λ position. start_count plain.old (P.cursor port.old) position plain.old.written) (length plain.old.bindings) }
+    ensures loaded { P.loaded port.old port.new (option_to_list result.found.load) }
+    ensures laid { P.laid port.old port.new (entries_at result.found.load (λ position. started_in plain.old State.Running position (P.cursor port.old)) ring.now result.found.commit) }
+    ensures shown { IfSome result.found.load (λ position. OnLate result.found.commit.ended (λ word. IsPast P.geometry P.shows port.new (end_of_commit (started_in plain.old State.Running position (P.cursor port.old)) result.found.commit) (end_channel plain.old result.found.commit) word)) }
+    ensures told { StoppedBy result.found.load result.found.commit.ended (G.stops gate.old) (G.stops gate.new) }
+    ensures sound { IsSound plain.new ring.now }
+    ensures port { CanUse plain.new (P.geometry port.new) (P.member port.new) (P.cursor port.new) (P.seen port.new) (P.can_add port.new) }
+{
+    let written = plain.written;
+    let begun = start_call(plain, ring, port, gate, state, written);
+    *plain = begun.plain;
+    Stepped {
+        found: begun.found,
+        answer: begun.answer,
     }
 }
