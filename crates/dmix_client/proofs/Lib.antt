@@ -1,4 +1,5 @@
 mod Frames
+mod Going
 mod Left
 mod Runs
 mod Sound

@@ -84,6 +84,11 @@ pub record IsMoving (c : Plain) : Type 0 where
   pub laid_least : min c.written (hw_of c) ≤ c.committed
   pub fits : c.written ≤ hw_of c + c.config.buffer_size
 
+-- a client that wasn't stopped, and moves frames unless it is at its end
+pub record IsGoing (c : Plain) : Type 0 where
+  pub unstopped : c.stopped ≡ false
+  pub moves : (c.state ≡ Setup → ⊥) → is_moving c.state ≡ true
+
 -- a client that is prepared: nothing is laid, and what is written fits the buffer
 pub record IsPrepared (c : Plain) : Type 0 where
   pub waiting : c.started ≡ false

@@ -1,11 +1,12 @@
 //! The calls of a client, on its counts, its local ring and its port.
-ghost use Rattle.std.specs.Prelude.{◌≡◌, ℕ, ◌+◌, ◌*◌, ◌^◌, ◌<◌, ◌≤◌, true, false, IfNone, IfSome, [], List, length, unwrap_or};
+ghost use Rattle.std.specs.Prelude.{◌≡◌, ℕ, ◌+◌, ◌*◌, ◌^◌, ◌<◌, ◌≤◌, true, false, IfNone, IfSome, OnOk, [], List, length, unwrap_or};
 ghost use Rattle.std.specs.Option.{option_to_list};
 ghost use Rattle.snd_base.specs.Places.{IsFrom, end_frame};
+ghost use Rattle.mix_core.specs.Gate.{Told};
 ghost use Rattle.mix_core.specs.Port.{IsPast};
 ghost use Rattle.dmix_client.specs.Calls.{end_channel, end_of_commit, is_refusal, refusal_of, refused_by, start_count, started, started_in, sync_count, synced};
 ghost use Rattle.dmix_client.specs.Port.{CanUse, IsFound, IsStep, OnLate, OnWhole, StoppedBy, ToldBy, entries_at, least_channel};
-ghost use Rattle.dmix_client.specs.View.{IsSound, is_moving};
+ghost use Rattle.dmix_client.specs.View.{IsGoing, IsSound, is_moving};
 
 use crate::moving::{Found, look_and_commit, look_and_start};
 use crate::plain::Plain;
@@ -94,6 +95,8 @@ pub(crate) fn sync_call<P: MixPort, G: Gate>(
     ensures told { StoppedBy result.found.load result.found.commit.ended (G.stops gate.old) (G.stops gate.new) }
     ensures sound { IsSound plain.new ring.now }
     ensures port { CanUse plain.new (P.geometry port.new) (P.member port.new) (P.cursor port.new) (P.seen port.new) (P.can_add port.new) }
+    ensures goes { OnOk result.answer (IsGoing plain.new) }
+    ensures gate { Told result.answer (G.stops gate.old) (G.stops gate.new) }
 {
     let found = look_and_commit(plain, ring, port, gate);
     let (after, answer) = synced(*plain, call, found.load, found.commit);
@@ -156,6 +159,8 @@ pub(crate) fn begin<P: MixPort, G: Gate>(
     ensures told { StoppedBy result.found.load result.found.commit.ended (G.stops gate.old) (G.stops gate.new) }
     ensures sound { IsSound plain.new ring.now }
     ensures port { CanUse plain.new (P.geometry port.new) (P.member port.new) (P.cursor port.new) (P.seen port.new) (P.can_add port.new) }
+    ensures goes { OnOk result.answer (plain.new.state ≡ state × plain.new.stopped ≡ plain.old.stopped) }
+    ensures gate { Told result.answer (G.stops gate.old) (G.stops gate.new) }
 {
     let written = plain.written;
     let begun = start_call(plain, ring, port, gate, state, written);

@@ -1,6 +1,6 @@
 //! What a client is after each part of a call, by what the part found.
-ghost use Rattle.std.specs.Prelude.{◌≡◌, ℕ, ◌+◌, ◌*◌, ◌^◌, ◌<◌, ◌≤◌, IfSome, length};
-ghost use Rattle.dmix_client.specs.Calls.{configured_with, dropped, freed, opened, accepted, accepted_if, filled, written_after, avail_answer, commit_count, committed_by, delay_answer, facts_of, found_at, going_on, is_stop, late_of, over_of, prepared, seen_at, segment_of, settled, start_count, start_frame, started, started_in, stopped_in, sync_count, synced, taken_of, window_end};
+ghost use Rattle.std.specs.Prelude.{◌≡◌, ℕ, ◌+◌, ◌*◌, ◌^◌, ◌<◌, ◌≤◌, IfSome, OnOk, length};
+ghost use Rattle.dmix_client.specs.Calls.{with_number, configured_with, dropped, freed, opened, accepted, accepted_if, filled, written_after, avail_answer, commit_count, committed_by, delay_answer, facts_of, found_at, going_on, is_stop, late_of, over_of, prepared, seen_at, segment_of, settled, start_count, start_frame, started, started_in, stopped_in, sync_count, synced, taken_of, window_end};
 ghost use Rattle.dmix_client.specs.Port.{OnLate};
 ghost use Rattle.dmix_client.specs.View.{IsReady, IsReadyAt, avail_of, hw_of, queued_of};
 
@@ -300,7 +300,7 @@ impl Plain {
 
     /// The frames that `avail_update` answers after its sync.
     pub(crate) fn avail_answer(&self) -> u64
-        requires { IsReady self.now }
+        requires { (self.now.state ≡ State.Setup → ⊥) → IsReady self.now }
         ensures { result ≡ avail_answer self.now }
     {
         match self.state {
@@ -311,7 +311,7 @@ impl Plain {
 
     /// The frames that `delay` answers after its sync.
     pub(crate) fn delay_answer(&self) -> u64
-        requires { self.now.card + self.now.written < 2 ^ 64 }
+        requires { (self.now.state ≡ State.Setup → ⊥) → self.now.card + self.now.written < 2 ^ 64 }
         ensures { result ≡ delay_answer self.now }
     {
         match self.state {
@@ -493,5 +493,27 @@ impl Plain {
             state: State::Setup,
             ..*self
         }
+    }
+}
+
+/// The frames available after a sync that went well.
+pub(crate) fn with_avail(plain: &Plain, answer: Result<(), PcmError>) -> Result<u64, PcmError>
+    requires { OnOk answer ((plain.now.state ≡ State.Setup → ⊥) → IsReady plain.now) }
+    ensures { with_number avail_answer (plain.now, answer) ≡ (plain.now, result) }
+{
+    match answer {
+        Ok(()) => Ok(plain.avail_answer()),
+        Err(error) => Err(error),
+    }
+}
+
+/// The frames until the end of what is written, after a sync that went well.
+pub(crate) fn with_delay(plain: &Plain, answer: Result<(), PcmError>) -> Result<u64, PcmError>
+    requires { OnOk answer ((plain.now.state ≡ State.Setup → ⊥) → plain.now.card + plain.now.written < 2 ^ 64) }
+    ensures { with_number delay_answer (plain.now, answer) ≡ (plain.now, result) }
+{
+    match answer {
+        Ok(()) => Ok(plain.delay_answer()),
+        Err(error) => Err(error),
     }
 }

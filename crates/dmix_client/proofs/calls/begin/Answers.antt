@@ -1,11 +1,13 @@
 use Rattle.std.proofs.Common.{◌≡◌, ◌≤◌, ◌∙◌, ℕ, ap, sym, subst}
-use Rattle.std.specs.Prelude.{IfSome}
+use Rattle.std.specs.Prelude.{IfSome, OnOk}
 use Rattle.snd_base.specs.Places.{end_frame}
 use Rattle.mix_core.specs.declared.port.Position.{Position}
 use Rattle.dmix_client.specs.declared.plain.Plain.{Plain}
 use Rattle.dmix_client.specs.Calls.{Answered, started}
 use Rattle.dmix_client.specs.Port.{CanUse}
+use Rattle.mix_core.specs.Gate.{Told}
 use Rattle.dmix_client.specs.View.{IsSound}
+use Rattle.dmix_client.proofs.Going.{gone-whole, started-told}
 use Rattle.dmix_client.proofs.Left.{IsAfter, IsLeft, IsLeft-started, grown, grown-same}
 use Rattle.dmix_client.proofs.Sound.{both-of}
 use Rattle.dmix_client.proofs.Started.{KeepsAccepted-started}
@@ -67,3 +69,25 @@ returns-clause-port g c =
     let left = IsLeft-started plain c.args.ring.now c.args.state c.requires.leads cursor found.commit plain.written plain.fed c.requires.sound.fed (port.geometry after) (port.member after) (port.cursor after) (port.seen after) (port.can_add after) found.load starting is_after in
     let same = grown-same plain (started plain c.args.state cursor found.load found.commit) (KeepsAccepted-started plain c.args.state cursor found.load found.commit) in
     subst (λ (d : Plain). CanUse d (port.geometry after) (port.member after) (port.cursor after) (port.seen after) (port.can_add after)) (sym same ∙ ap (λ (a : Answered (Unit {0})). a.0) now.outcome) left.use_it
+
+pub returns-clause-goes : goal.returns-clause-goes
+returns-clause-goes g c =
+    let now = c.start_call-begun.ensures in
+    let found = c.start_call-begun.result.found in
+    let plain = c.args.plain.now in
+    let cursor = g.P.MixPort.cursor c.args.port.now in
+    let stops = g.G.Gate.stops c.args.gate.now in
+    let after = g.G.Gate.stops c.start_call-begun.new.gate in
+    let all = started-told plain c.args.state cursor found.load found.commit stops after now.told (gone-whole plain cursor found.load found.commit plain.written stops after now.found now.told) in
+    subst (λ (a : Answered (Unit {0})). OnOk a.1 (a.0.state ≡ c.args.state × a.0.stopped ≡ plain.stopped)) now.outcome all.goes
+
+pub returns-clause-gate : goal.returns-clause-gate
+returns-clause-gate g c =
+    let now = c.start_call-begun.ensures in
+    let found = c.start_call-begun.result.found in
+    let plain = c.args.plain.now in
+    let cursor = g.P.MixPort.cursor c.args.port.now in
+    let stops = g.G.Gate.stops c.args.gate.now in
+    let after = g.G.Gate.stops c.start_call-begun.new.gate in
+    let all = started-told plain c.args.state cursor found.load found.commit stops after now.told (gone-whole plain cursor found.load found.commit plain.written stops after now.found now.told) in
+    subst (λ (a : Answered (Unit {0})). Told a.1 stops after) now.outcome all.told

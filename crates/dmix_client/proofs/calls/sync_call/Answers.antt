@@ -1,11 +1,13 @@
 use Rattle.std.proofs.Common.{◌≡◌, ◌≤◌, ◌∙◌, ℕ, sym, subst}
-use Rattle.std.specs.Prelude.{unwrap_or}
+use Rattle.std.specs.Prelude.{OnOk, unwrap_or}
 use Rattle.snd_base.specs.Places.{end_frame}
 use Rattle.mix_core.specs.declared.port.Position.{Position}
 use Rattle.dmix_client.specs.declared.plain.Plain.{Plain}
 use Rattle.dmix_client.specs.Calls.{Answered}
 use Rattle.dmix_client.specs.Port.{CanUse}
-use Rattle.dmix_client.specs.View.{IsSound}
+use Rattle.mix_core.specs.Gate.{Told}
+use Rattle.dmix_client.specs.View.{IsGoing, IsSound}
+use Rattle.dmix_client.proofs.Going.{synced-told}
 use Rattle.dmix_client.proofs.Sound.{CanUse-synced, IsSound-synced, IsSyncing, first-of, last-of}
 use Rattle.dmix_client.proofs.calls.sync_call.Goals as goal
 
@@ -44,3 +46,19 @@ returns-clause-port g c =
     subst (λ (a : Answered (Unit {0})). CanUse a.0 (port.geometry after) (port.member after) (port.cursor after) (port.seen after) (port.can_add after)) (sym c.synced-after.ensures)
     (CanUse-synced plain c.args.ring.now c.args.call found.load found.commit (port.geometry after) (port.member after) (port.cursor after) (port.seen after) (port.can_add after)
       syncing (now.geometry ∙ c.requires.port.same_geometry) (now.member ∙ c.requires.port.same_member) now.can_add now.cursor saw)
+
+pub returns-clause-goes : goal.returns-clause-goes
+returns-clause-goes g c =
+    let found = c.look_and_commit-found.result in
+    let stops = g.G.Gate.stops c.args.gate.now in
+    let after = g.G.Gate.stops c.look_and_commit-found.new.gate in
+    let all = synced-told c.args.plain.now c.args.call found.load found.commit stops after c.requires.unstopped c.requires.step c.look_and_commit-found.ensures.told in
+    subst (λ (a : Answered (Unit {0})). OnOk a.1 (IsGoing a.0)) (sym c.synced-after.ensures) all.goes
+
+pub returns-clause-gate : goal.returns-clause-gate
+returns-clause-gate g c =
+    let found = c.look_and_commit-found.result in
+    let stops = g.G.Gate.stops c.args.gate.now in
+    let after = g.G.Gate.stops c.look_and_commit-found.new.gate in
+    let all = synced-told c.args.plain.now c.args.call found.load found.commit stops after c.requires.unstopped c.requires.step c.look_and_commit-found.ensures.told in
+    subst (λ (a : Answered (Unit {0})). Told a.1 stops after) (sym c.synced-after.ensures) all.told
