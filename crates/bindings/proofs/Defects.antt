@@ -61,12 +61,12 @@ entry_defect-None list card_channels k none = cases (nat_le card_channels (get_o
     cases false false is_out is_twice none = (grind (arith, nat_tests), is_twice)
 
 -- entries without a defect are bindings
-pub AreBindings-none : (list : List ℕ) (card_channels : ℕ) → (length list == 0) ≡ false → length list ≤ 8 → card_channels ≤ 8
+pub AreBindings-none : (list : List ℕ) (card_channels : ℕ) → (length list == 0) ≡ false → length list ≤ 8 → card_channels ≤ 256
     → ((k : ℕ) → k < length list → entry_defect list card_channels k ≡ None) → AreBindings list
 AreBindings-none list card_channels some few low none = record {
   some = grind (arith, nat_tests);
   most = few;
-  below = λ k d within. subst (λ x. x < 8) (get_or_default list k 0 d within) (omega (arith, (entry_defect-None list card_channels k (none k within)).0));
+  below = λ k d within. subst (λ x. x < 256) (get_or_default list k 0 d within) (omega (arith, (entry_defect-None list card_channels k (none k within)).0));
   distinct = λ i j before within same.
       let at : list_any (λ bound. bound == get_or list j 0) (take j list) ≡ false = (entry_defect-None list card_channels j (none j within)).1 in
       let here : i < length (take j list) = omega (arith, length-take j list) in

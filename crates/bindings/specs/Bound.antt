@@ -1,13 +1,13 @@
 -- Bindings of a stream's channels to channels of the card: a list of card channels, one for each client channel.
-use Rattle.std.specs.Prelude.{◌≡◌, ◌≢◌, ℕ, ◌-◌, ◌<◌, ◌≤◌, ◌==◌, ◌++◌, List, All, length, position, replicate, slice_index, take, Option}
+use Rattle.std.specs.Prelude.{◌≡◌, ◌≢◌, ℕ, ◌-◌, ◌<◌, ◌≤◌, ◌==◌, nat_lt, ◌++◌, List, All, count_by, length, position, replicate, slice_index, take, Option}
 use Rattle.std.specs.List.{filter_map, range_with_len}
 use Rattle.bindings.specs.declared.channels.Bindings.TheInside.{Inside}
 
--- a list binds 1 to 8 client channels, each to a card channel of its own below 8
+-- a list binds 1 to 8 client channels, each to a card channel of its own below 256
 pub record AreBindings (list : List ℕ) : Type 0 where
   pub some : 1 ≤ length list
   pub most : length list ≤ 8
-  pub below : All (λ channel. channel < 8) list
+  pub below : All (λ channel. channel < 256) list
   pub distinct : (i j : ℕ) → i < j → j < length list → slice_index list i ≢ slice_index list j
 
 -- the bindings that bind each client channel to the card channel of the same number
@@ -24,7 +24,11 @@ rising_from bindings first n = filter_map (bound_to bindings) (range_with_len fi
 
 -- all client channels, by rising card channel
 unfoldable pub rising : List ℕ → List ℕ
-rising bindings = rising_from bindings 0 8
+rising bindings = rising_from bindings 0 256
+
+-- how many of the bound card channels are below a card channel
+abbrev pub count_below : List ℕ → ℕ → ℕ
+count_below bindings card_channel = count_by (λ bound. nat_lt bound card_channel) bindings
 
 -- so many zeros
 abbrev pub zeros : ℕ → List ℕ

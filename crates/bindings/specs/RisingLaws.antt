@@ -6,9 +6,9 @@ use Rattle.std.proofs.lemmas.Bool.{cases_eq, cases_lt}
 use Rattle.std.proofs.lemmas.Bool.Decides.{nat_tests}
 use Rattle.std.proofs.lemmas.List.FromFn.{get_or-range_with_len, length-range_with_len}
 use Rattle.std.proofs.lemmas.List.Quantifiers.{position-Some}
-use Rattle.std.proofs.lemmas.List.Sums.{position_or_len_is}
+use Rattle.std.proofs.lemmas.List.Sums.{position_or_len_is, sum_by-cons}
 use Rattle.bindings.specs.declared.channels.Bindings.TheInside.{Inside}
-use Rattle.bindings.specs.Bound.{AreBindings, IsHeld, bound_to, identity, list_of, padded, rising, rising_from}
+use Rattle.bindings.specs.Bound.{AreBindings, IsHeld, bound_to, count_below, identity, list_of, padded, rising, rising_from}
 
 fields_are : (c d o p : List ℕ) (m n : ℕ) → c ≡ d → o ≡ p → m ≡ n → (let b : Inside = record { channels = c; order = o; len = m } in b) ≡ record { channels = d; order = p; len = n }
 fields_are c d o p m n same_channels same_order same_length = cc
@@ -139,36 +139,79 @@ length-rising_from-cons x xs first (suc n) apart =
           (grind (arith, nat_tests, later))
     ]
 
--- there are as many as there are bindings
-length-rising_from : (bindings : List ℕ) → ((k : ℕ) → k < length bindings → slice_index bindings k < 8)
-    → ((i j : ℕ) → i < j → j < length bindings → slice_index bindings i ≢ slice_index bindings j) → length (rising_from bindings 0 8) ≡ length bindings
-length-rising_from [] below distinct = refl
-length-rising_from (x ∷ xs) below distinct =
-    let rest = length-rising_from xs (λ k h. below (suc k) (omega arith)) (λ i j before within. distinct (suc i) (suc j) (omega arith) (omega arith)) in
-    let one = length-rising_from-cons x xs 0 8 (λ k h same. distinct 0 (suc k) (omega arith) (omega arith) (sym same)) in
-    let low : x < 8 = below 0 (omega arith) in
-    let extra : counted 0 8 x ≡ 1 = grind (arith, nat_tests) in
-    omega (arith, rest, one, extra)
+-- 1 where a number is below a bound
+abbrev below_once : ℕ → ℕ → ℕ
+below_once bound x = if nat_lt x bound then 1 else 0
 
+length-rising_from-nil : (first n : ℕ) → length (rising_from [] first n) ≡ 0
+length-rising_from-nil first zero = refl
+length-rising_from-nil first (suc n) = length-rising_from-nil (first + 1) n
+
+-- there are as many below a card channel as there are bindings to a lower one
+length-rising_from : (bindings : List ℕ) (n : ℕ) → ((i j : ℕ) → i < j → j < length bindings → slice_index bindings i ≢ slice_index bindings j)
+    → length (rising_from bindings 0 n) ≡ count_below bindings n
+length-rising_from [] n distinct = length-rising_from-nil 0 n
+length-rising_from (x ∷ xs) n distinct =
+    let rest = length-rising_from xs n (λ i j before within. distinct (suc i) (suc j) (omega arith) (omega arith)) in
+    let one = length-rising_from-cons x xs 0 n (λ k h same. distinct 0 (suc k) (omega arith) (omega arith) (sym same)) in
+    let extra : counted 0 n x ≡ below_once n x = grind (arith, nat_tests) in
+    omega (arith, rest, one, extra, sum_by-cons (below_once n) x xs)
+
+count_below-all : (bindings : List ℕ) (n : ℕ) → ((k : ℕ) → k < length bindings → slice_index bindings k < n) → count_below bindings n ≡ length bindings
+count_below-all [] n below = refl
+count_below-all (x ∷ xs) n below =
+    let rest = count_below-all xs n (λ k h. below (suc k) (omega arith)) in
+    let low : x < n = below 0 (omega arith) in
+    let one : below_once n x ≡ 1 = grind (arith, nat_tests) in
+    omega (arith, rest, one, sum_by-cons (below_once n) x xs)
+
+-- there are as many as there are bindings
 pub length-rising : (bindings : List ℕ) → AreBindings bindings → length (rising bindings) ≡ length bindings
 unfolding rising
-length-rising bindings are = length-rising_from bindings (λ k h. are.below k 0 h) are.distinct
+length-rising bindings are = length-rising_from bindings 256 are.distinct ∙ count_below-all bindings 256 (λ k h. are.below k 0 h)
 
 -- each is a client channel
 pub rising-within : (bindings : List ℕ) (k : ℕ) → AreBindings bindings → k < length bindings → slice_index (rising bindings) k < length bindings
 unfolding rising
-rising-within bindings k are within = (rising_from-within bindings 0 8 k (omega (arith, length-rising bindings are))).client_in_range
+rising-within bindings k are within = (rising_from-within bindings 0 256 k (omega (arith, length-rising bindings are))).client_in_range
 
 -- the card channels rise
 pub rising-rises : (bindings : List ℕ) (i j : ℕ) → AreBindings bindings → i < j → j < length bindings
     → slice_index bindings (slice_index (rising bindings) i) < slice_index bindings (slice_index (rising bindings) j)
 unfolding rising
-rising-rises bindings i j are before within = rising_from-rises bindings 0 8 i j before (omega (arith, length-rising bindings are))
+rising-rises bindings i j are before within = rising_from-rises bindings 0 256 i j before (omega (arith, length-rising bindings are))
 
 -- each client channel stands there
 pub rising-complete : (bindings : List ℕ) (client : ℕ) → AreBindings bindings → client < length bindings → StandsIn (rising bindings) client
 unfolding rising
-rising-complete bindings client are within = rising_from-complete bindings 0 8 client are within (omega arith) (are.below client 0 within)
+rising-complete bindings client are within = rising_from-complete bindings 0 256 client are within (omega arith) (are.below client 0 within)
+
+-- the client channel of the m-th card channel of a row stands behind those of the card channels before it
+slice_index-rising_from : (bindings : List ℕ) (first m n client : ℕ) → m < n → bound_to bindings (first + m) ≡ Some client
+    → (length (rising_from bindings first m) < length (rising_from bindings first n)) × (slice_index (rising_from bindings first n) (length (rising_from bindings first m)) ≡ client)
+slice_index-rising_from bindings first m zero client within is = absurd (omega arith)
+slice_index-rising_from bindings first zero (suc n) client within is =
+    subst (λ o. (0 < length (cons_option o (rising_from bindings (first + 1) n))) × (slice_index (cons_option o (rising_from bindings (first + 1) n)) 0 ≡ client))
+    (sym (subst (λ c. bound_to bindings c ≡ Some client) (omega arith) is)) (omega arith, refl)
+slice_index-rising_from bindings first (suc m) (suc n) client within is =
+    behind (bound_to bindings first) (rising_from bindings (first + 1) m) (rising_from bindings (first + 1) n) client
+    (slice_index-rising_from bindings (first + 1) m n client (omega arith) (subst (λ c. bound_to bindings c ≡ Some client) (omega arith) is))
+  where
+    behind : (o : Option ℕ) (r s : List ℕ) (client : ℕ) → (length r < length s) × (slice_index s (length r) ≡ client)
+        → (length (cons_option o r) < length (cons_option o s)) × (slice_index (cons_option o s) (length (cons_option o r)) ≡ client)
+    behind None r s client at = at
+    behind (Some x) r s client at = (omega (arith, at.0), at.1)
+
+-- a client channel's place is the number of bindings to a lower card channel
+pub rising-place : (bindings : List ℕ) (client : ℕ) → AreBindings bindings → client < length bindings
+    → (count_below bindings (slice_index bindings client) < length bindings) × (slice_index (rising bindings) (count_below bindings (slice_index bindings client)) ≡ client)
+unfolding rising
+rising-place bindings client are within =
+    let channel = slice_index bindings client in
+    let at = slice_index-rising_from bindings 0 channel 256 client (are.below client 0 within)
+    (subst (λ c. bound_to bindings c ≡ Some client) (let same : channel ≡ 0 + channel = omega arith in same) (bound_to-distinct bindings client are within)) in
+    let place : length (rising_from bindings 0 channel) ≡ count_below bindings channel = length-rising_from bindings channel are.distinct in
+    (omega (arith, at.0, place, length-rising bindings are), ap (slice_index (rising_from bindings 0 256)) (sym place) ∙ at.1)
 
 -- the identity's client channels stand in their own order
 bound_to-range : (a n channel : ℕ) → a ≤ channel → channel < a + n → bound_to (range_with_len a n) channel ≡ Some (channel - a)
@@ -210,7 +253,7 @@ rising_from-identity n first (suc k) most = elim (cases_lt first n) [
 
 pub rising-identity : (n : ℕ) → n ≤ 8 → rising (identity n) ≡ identity n
 unfolding rising
-rising-identity n most = rising_from-identity n 0 8 (omega arith) ∙ ap (range_with_len 0) (let same : n - 0 ≡ n = omega arith in same)
+rising-identity n most = rising_from-identity n 0 256 (omega arith) ∙ ap (range_with_len 0) (let same : n - 0 ≡ n = omega arith in same)
 
 -- the identity of 1 to 8 channels binds them
 pub AreBindings-identity : (n : ℕ) → 1 ≤ n → n ≤ 8 → AreBindings (identity n)

@@ -1,11 +1,11 @@
 //! To which channel of the card each channel of a stream goes.
-ghost use Rattle.std.specs.Prelude.{◌≡◌, ℕ, ◌<◌, ◌≤◌, IfSome, length, slice_index};
-ghost use Rattle.bindings.specs.Bound.{AreBindings, bound_to, identity, padded, rising};
+ghost use Rattle.std.specs.Prelude.{◌≡◌, ℕ, ◌<◌, ◌≤◌, length, slice_index};
+ghost use Rattle.bindings.specs.Bound.{AreBindings, count_below, identity, padded, rising};
 
 use std::marker::Model;
 
 /// To which channel of the card each channel of a stream goes: at least 1 channel and at most 8, each bound to a card
-/// channel of its own below 8 (the `bindings` of a `pcm_dmix` or `pcm_dsnoop` definition in asound.conf).
+/// channel of its own (the `bindings` of a `pcm_dmix` or `pcm_dsnoop` definition in asound.conf).
 ///
 /// Contracts see the list of the card channels, in the order of the stream's channels.
 #[derive(Clone, Copy, Debug, PartialEq, Eq)]
@@ -71,7 +71,7 @@ impl Bindings {
         self.channels[client as usize]
     }
 
-    /// The client channel whose card channel is the smallest but `place` of all that are bound.
+    /// The client channel at a place, counted from 0, when they are sorted by card channel, the smallest first.
     pub fn rising(&self, place: u8) -> u8
         requires { place < length self.now }
         ensures value { result ≡ slice_index (rising self.now) place }
@@ -96,24 +96,19 @@ fn in_eight_places(list: &[u8]) -> [u8; 8]
 
 /// The client channels by rising card channel, in 8 places.
 fn rising_order(list: &[u8]) -> [u8; 8]
-    requires { length list.now ≤ 8 }
+    requires { AreBindings list.now }
     ensures { result ≡ padded (rising list.now) }
 {
     let mut order = [0; 8];
-    let mut found = 0;
-    for card_channel in 0..8u8 {
-        if let Some(client) = client_of(list, card_channel) {
-            order[found] = client as u8;
-            found += 1;
-        }
+    for (client, card_channel) in list.iter().enumerate() {
+        order[count_below(list, *card_channel)] = client as u8;
     }
     order
 }
 
-/// The client channel that is bound to a card channel, where there is one.
-fn client_of(list: &[u8], card_channel: u8) -> Option<usize>
-    ensures value { result ≡ bound_to list.now card_channel }
-    ensures within { IfSome result (λ client. client < length list.now) }
+/// How many of the bound card channels are below a card channel.
+fn count_below(list: &[u8], card_channel: u8) -> usize
+    ensures { result ≡ count_below list.now card_channel }
 {
-    list.iter().position(|bound| *bound == card_channel)
+    list.iter().filter(|bound| **bound < card_channel).count()
 }

@@ -7,14 +7,13 @@ use crate::channels::Bindings;
 use snd_base::Why;
 
 impl Bindings {
-    /// Binds client channel i to card channel `list[i]`, on a card of `card_channels` channels, at most 8.
+    /// Binds client channel i to card channel `list[i]`, on a card of `card_channels` channels.
     ///
     /// - `BindingsEmpty`: the list has no entry.
     /// - `BindingsTooMany`: it has more than 8.
     /// - `BindingRange(channel)`: the first entry with a defect is a channel that the card does not have.
     /// - `BindingTwice(channel)`: the first entry with a defect is a channel that stood earlier in the list.
     pub fn read(list: &[u32], card_channels: u8) -> Result<Bindings, Why>
-        requires { card_channels ≤ 8 }
         ensures answer { result ≡ answer_of list.now card_channels }
         ensures below { IfOk result (λ bindings. All (λ channel. channel < card_channels) bindings) }
     {

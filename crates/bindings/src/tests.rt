@@ -49,3 +49,20 @@ fn bindings_may_leave_channels_of_the_card_out(rt: HostRuntime) -> Result<(), Wh
     assert_eq!(rt; order, [1, 2, 0]);
     Ok(())
 }
+
+#[test]
+fn a_card_of_255_channels_has_channels_up_to_254(rt: HostRuntime) -> Result<(), Why> {
+    let bindings = Bindings::read(&[254, 8, 0, 200], 255)?;
+    assert_eq!(rt; bindings.len(), 4);
+    assert_eq!(rt; bindings.card_channel(0), 254);
+    assert_eq!(rt; bindings.card_channel(3), 200);
+    let order = [
+        bindings.rising(0),
+        bindings.rising(1),
+        bindings.rising(2),
+        bindings.rising(3),
+    ];
+    assert_eq!(rt; order, [2, 1, 3, 0]);
+    assert_eq!(rt; Bindings::read(&[8, 255], 255), Err(Why::BindingRange(255)));
+    Ok(())
+}

@@ -1,6 +1,5 @@
-use Rattle.std.proofs.Common.{◌≡◌, length}
-use Rattle.bindings.specs.Bound.{padded, rising_from}
+use Rattle.bindings.proofs.Places.{IsPlaced}
 use Rattle.bindings.proofs.channels.rising_order.Given as goal
 
-abbrev pub invariant-loop-card_channel : goal.invariant-loop-card_channel
-invariant-loop-card_channel l = (l.order ≡ padded (rising_from l.list 0 l.card_channel)) × (l.found ≡ length (rising_from l.list 0 l.card_channel))
+abbrev pub invariant-loop-client : goal.invariant-loop-client
+invariant-loop-client l = IsPlaced l.list l.order l.client

@@ -20,7 +20,7 @@ pub bind-requires : goal.bind-requires
 bind-requires c =
     let at_end : c.loop-place.place ≡ length c.args.list.now = omega arith in
     subst AreBindings (sym (take-all c.args.list.now c.loop-place.channels c.loop-place.place at_end c.loop-place.invariant.0))
-    (AreBindings-none c.args.list.now c.args.card_channels (sym c.if-is_empty.ensures) c.if-list-gt8.false c.requires (λ k h. c.loop-place.invariant.1 k (omega arith)))
+    (AreBindings-none c.args.list.now c.args.card_channels (sym c.if-is_empty.ensures) c.if-list-gt8.false (omega arith) (λ k h. c.loop-place.invariant.1 k (omega arith)))
 
 pub returns-clause-answer : goal.returns-clause-answer
 returns-clause-answer c =
