@@ -1,0 +1,6 @@
+use Rattle.std.proofs.Common.{◌≡◌, take}
+use Rattle.bindings.specs.Bound.{padded}
+use Rattle.bindings.proofs.channels.in_eight_places.Given as goal
+
+abbrev pub invariant-loop-place : goal.invariant-loop-place
+invariant-loop-place l = l.places ≡ padded (take l.place l.list)

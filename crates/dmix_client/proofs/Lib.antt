@@ -1,0 +1,7 @@
+mod Frames
+mod Going
+mod Left
+mod Runs
+mod Sound
+mod Starting
+mod Started

@@ -1,0 +1,89 @@
+-- How frames are laid one after another.
+use Rattle.std.proofs.Common.{◌≡◌, ℕ, ◌+◌, ◌<◌, ◌≤◌, suc, zero, List, [], ◌∷◌, ◌++◌, ◌∙◌, ap, sym, refl, subst, arith, length, get_or, take, add-zero}
+use Rattle.std.proofs.Math.Numerals.{add-one}
+use Rattle.std.proofs.lemmas.List.{append-nil, append_assoc, get_or-take, length-take, map-append}
+use Rattle.std.proofs.lemmas.List.Concat.{flat_map-append}
+use Rattle.std.specs.Prelude.{ℤ, map, slice_index}
+use Rattle.std.specs.List.{flat_map, range_with_len}
+use Rattle.snd_base.specs.Relations.{Composes}
+use Rattle.mix_core.specs.declared.port.Entry.{Entry}
+use Rattle.bindings.specs.Bound.{AreBindings, rising}
+use Rattle.bindings.specs.RisingLaws.{length-rising, rising-within}
+use Rattle.dmix_client.specs.declared.commit.Ended.{Ended}
+use Rattle.dmix_client.specs.declared.commit.Ended.TheVariants.{Whole, Late, Stopped}
+use Rattle.dmix_client.specs.Expansion.{frame_entries, run_entries}
+use Rattle.dmix_client.specs.Port.{IsCommit, IsUpTo, OnWhole}
+
+-- two functions that agree on a list's elements give one list
+pub map-same : {X : Type 0} (f g : ℕ → X) (xs : List ℕ) → ((k : ℕ) → k < length xs → f (get_or xs k 0) ≡ g (get_or xs k 0)) → map f xs ≡ map g xs
+map-same f g [] same = refl
+map-same f g (x ∷ xs) same = cc (same 0 (omega arith), map-same f g xs (λ k h. same (suc k) (omega arith)))
+
+-- a frame's entries are told by the samples of the client's channels
+pub frame_entries-same : (member : ℕ) (bindings : List ℕ) (s t : ℕ → ℤ) (channels card : ℕ) → AreBindings bindings
+    → ((q : ℕ) → q < length bindings → s q ≡ t q) → frame_entries member bindings s channels card ≡ frame_entries member bindings t channels card
+frame_entries-same member bindings s t channels card are same =
+    let entry : (ℕ → ℤ) → ℕ → Entry = λ u q. record { member = member; frame = card; channel = slice_index bindings q; sample = u q } in
+    map-same (entry s) (entry t) (take channels (rising bindings)) (λ k within.
+      let low : k < channels = omega (arith, length-take channels (rising bindings)) in
+      let in_range : k < length bindings = omega (arith, length-take channels (rising bindings), length-rising bindings are) in
+      let is : get_or (take channels (rising bindings)) k 0 ≡ get_or (rising bindings) k 0 = get_or-take channels (rising bindings) k 0 low in
+      let here : s (get_or (rising bindings) k 0) ≡ t (get_or (rising bindings) k 0) = same (get_or (rising bindings) k 0) (rising-within bindings k are in_range) in
+      let one : entry s (get_or (rising bindings) k 0) ≡ entry t (get_or (rising bindings) k 0) = ap (λ (x : ℤ). let e : Entry = record { member = member; frame = card; channel = slice_index bindings (get_or (rising bindings) k 0); sample = x } in e) here in
+      subst (λ q. entry s q ≡ entry t q) (sym is) one)
+
+-- what was laid whole, with some channels of the next frame
+run_entries-part : (member : ℕ) (bindings : List ℕ) (s : ℕ → ℕ → ℤ) (card first n part : ℕ)
+    → run_entries member bindings s card first n 0 ++ frame_entries member bindings (s (first + n)) part (card + (first + n)) ≡ run_entries member bindings s card first n part
+run_entries-part member bindings s card first n part =
+    ap (λ es. es ++ frame_entries member bindings (s (first + n)) part (card + (first + n)))
+    (append-nil (flat_map (λ j. frame_entries member bindings (s j) (length bindings) (card + j)) (range_with_len first n)))
+
+range_with_len-suc : (a n : ℕ) → range_with_len a (suc n) ≡ range_with_len a n ++ (a + n) ∷ []
+range_with_len-suc a zero = ap (λ (k : ℕ). k ∷ []) (sym (add-zero a))
+range_with_len-suc a (suc n) = ap (λ (ks : List ℕ). a ∷ ks) (range_with_len-suc (a + 1) n ∙ ap (λ (k : ℕ). range_with_len (a + 1) n ++ k ∷ []) (omega arith))
+
+pub run_entries-whole : (member : ℕ) (bindings : List ℕ) (s : ℕ → ℕ → ℤ) (card first n : ℕ)
+    → run_entries member bindings s card first n (length bindings) ≡ run_entries member bindings s card first (n + 1) 0
+run_entries-whole member bindings s card first n =
+    let laid : ℕ → List Entry = λ j. frame_entries member bindings (s j) (length bindings) (card + j) in
+    let more : flat_map laid (range_with_len first (n + 1)) ≡ flat_map laid (range_with_len first n) ++ laid (first + n) =
+        ap (flat_map laid) (ap (range_with_len first) (add-one n) ∙ range_with_len-suc first n)
+        ∙ flat_map-append laid (range_with_len first n) ((first + n) ∷ [])
+        ∙ ap (λ (es : List Entry). flat_map laid (range_with_len first n) ++ es) (append-nil (laid (first + n))) in
+    sym (append-nil (flat_map laid (range_with_len first (n + 1))) ∙ more)
+
+-- frames were laid, and then channels of the next
+pub laid-part : {S : Type 0} (laid : S → S → List Entry → Type 0) (composes : Composes laid) (p q r : S) (member : ℕ) (bindings : List ℕ) (s : ℕ → ℕ → ℤ) (card first n m frame part : ℕ) (t : ℕ → ℤ)
+    → AreBindings bindings → m ≡ member → frame ≡ card + (first + n) → ((k : ℕ) → k < length bindings → t k ≡ s (first + n) k)
+    → laid p q (run_entries member bindings s card first n 0) → laid q r (frame_entries m bindings t part frame) → laid p r (run_entries member bindings s card first n part)
+laid-part laid composes p q r member bindings s card first n m frame part t are is_member is_frame same before then =
+    let there : frame_entries m bindings t part frame ≡ frame_entries member bindings (s (first + n)) part (card + (first + n)) =
+        ap (λ (k : ℕ). frame_entries k bindings t part frame) is_member ∙ ap (frame_entries member bindings t part) is_frame
+        ∙ frame_entries-same member bindings t (s (first + n)) part (card + (first + n)) are same in
+    subst (laid p r) (ap (λ (es : List Entry). run_entries member bindings s card first n 0 ++ es) there ∙ run_entries-part member bindings s card first n part)
+    (composes.joined p q r (run_entries member bindings s card first n 0) (frame_entries m bindings t part frame) before then)
+
+-- frames were laid, and then the next one whole
+pub laid-whole : {S : Type 0} (laid : S → S → List Entry → Type 0) (composes : Composes laid) (p q r : S) (member : ℕ) (bindings : List ℕ) (s : ℕ → ℕ → ℤ) (card first n m frame part : ℕ) (t : ℕ → ℤ)
+    → AreBindings bindings → m ≡ member → frame ≡ card + (first + n) → ((k : ℕ) → k < length bindings → t k ≡ s (first + n) k) → part ≡ length bindings
+    → laid p q (run_entries member bindings s card first n 0) → laid q r (frame_entries m bindings t part frame) → laid p r (run_entries member bindings s card first (n + 1) 0)
+laid-whole laid composes p q r member bindings s card first n m frame part t are is_member is_frame same all before then =
+    subst (laid p r) (ap (run_entries member bindings s card first n) all ∙ run_entries-whole member bindings s card first n)
+    (laid-part laid composes p q r member bindings s card first n m frame part t are is_member is_frame same before then)
+
+-- a commit that ended before its end
+pub IsCommit-part : (e : Ended) (frames part count channels : ℕ) → (e ≡ Whole → ⊥) → frames < count → IsUpTo e part channels → IsCommit e frames part count channels
+IsCommit-part Whole frames part count channels not_whole within up_to = absurd (not_whole refl)
+IsCommit-part (Late word) frames part count channels not_whole within up_to = (within, up_to)
+IsCommit-part Stopped frames part count channels not_whole within up_to = (within, up_to)
+
+pub OnWhole-not : (e : Ended) (P : Type 0) → (e ≡ Whole → ⊥) → OnWhole e P
+OnWhole-not Whole P not_whole = absurd (not_whole refl)
+OnWhole-not (Late word) P not_whole = tt
+OnWhole-not Stopped P not_whole = tt
+
+-- what was laid is not before a position, over the frames before and the next
+pub not_before-joined : (n placed seen now first number : ℕ) → now ≡ seen → number ≡ first + n → (0 < n → seen ≤ first) → (0 < placed → now ≤ number) → 0 < n + placed → seen ≤ first
+not_before-joined zero placed seen now first number same is before here some = omega (arith, here (omega arith))
+not_before-joined (suc n) placed seen now first number same is before here some = before (omega arith)

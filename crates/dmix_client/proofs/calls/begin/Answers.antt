@@ -1,0 +1,93 @@
+use Rattle.std.proofs.Common.{◌≡◌, ◌≤◌, ◌∙◌, ℕ, ap, sym, subst}
+use Rattle.std.specs.Prelude.{IfSome, OnOk}
+use Rattle.snd_base.specs.Places.{end_frame}
+use Rattle.mix_core.specs.declared.port.Position.{Position}
+use Rattle.dmix_client.specs.declared.plain.Plain.{Plain}
+use Rattle.dmix_client.specs.Calls.{Answered, started}
+use Rattle.dmix_client.specs.Port.{CanUse}
+use Rattle.mix_core.specs.Gate.{Told}
+use Rattle.dmix_client.specs.View.{IsSound}
+use Rattle.dmix_client.proofs.Going.{gone-whole, started-told}
+use Rattle.dmix_client.proofs.Left.{IsAfter, IsLeft, IsLeft-started, grown, grown-same}
+use Rattle.dmix_client.proofs.Sound.{both-of}
+use Rattle.dmix_client.proofs.Started.{KeepsAccepted-started}
+use Rattle.dmix_client.proofs.Starting.{IsStarting}
+use Rattle.dmix_client.proofs.calls.begin.Goals as goal
+
+pub returns-clause-sound : goal.returns-clause-sound
+returns-clause-sound g c =
+    let port = g.P.MixPort in
+    let now = c.start_call-begun.ensures in
+    let found = c.start_call-begun.result.found in
+    let plain = c.args.plain.now in
+    let cursor = port.cursor c.args.port.now in
+    let after = c.start_call-begun.new.port in
+    let both = both-of found.load (λ (p : Position). p.frame ≤ end_frame plain.geometry) (λ (p : Position). port.seen after ≡ p.frame) now.seen in
+    let starting : IsStarting plain c.args.ring.now cursor found.load found.commit plain.written = record {
+      sound = c.requires.sound;
+      prepared = c.requires.prepared;
+      cursor_most = now.cursor_most;
+      found = now.found;
+      loaded = both.0;
+      fits = (c.requires.sound.prepared c.requires.prepared).fits;
+    } in
+    let is_after : IsAfter plain cursor found.load found.commit (port.geometry after) (port.member after) (port.cursor after) (port.seen after) (port.can_add after) = record {
+      same_geometry = now.geometry ∙ c.requires.port.same_geometry;
+      same_member = now.member ∙ c.requires.port.same_member;
+      able = now.can_add;
+      stayed = now.stayed;
+      saw = both.1;
+    } in
+    let left = IsLeft-started plain c.args.ring.now c.args.state c.requires.leads cursor found.commit plain.written plain.fed c.requires.sound.fed (port.geometry after) (port.member after) (port.cursor after) (port.seen after) (port.can_add after) found.load starting is_after in
+    let same = grown-same plain (started plain c.args.state cursor found.load found.commit) (KeepsAccepted-started plain c.args.state cursor found.load found.commit) in
+    subst (λ (d : Plain). IsSound d c.args.ring.now) (sym same ∙ ap (λ (a : Answered (Unit {0})). a.0) now.outcome) left.sound
+
+pub returns-clause-port : goal.returns-clause-port
+returns-clause-port g c =
+    let port = g.P.MixPort in
+    let now = c.start_call-begun.ensures in
+    let found = c.start_call-begun.result.found in
+    let plain = c.args.plain.now in
+    let cursor = port.cursor c.args.port.now in
+    let after = c.start_call-begun.new.port in
+    let both = both-of found.load (λ (p : Position). p.frame ≤ end_frame plain.geometry) (λ (p : Position). port.seen after ≡ p.frame) now.seen in
+    let starting : IsStarting plain c.args.ring.now cursor found.load found.commit plain.written = record {
+      sound = c.requires.sound;
+      prepared = c.requires.prepared;
+      cursor_most = now.cursor_most;
+      found = now.found;
+      loaded = both.0;
+      fits = (c.requires.sound.prepared c.requires.prepared).fits;
+    } in
+    let is_after : IsAfter plain cursor found.load found.commit (port.geometry after) (port.member after) (port.cursor after) (port.seen after) (port.can_add after) = record {
+      same_geometry = now.geometry ∙ c.requires.port.same_geometry;
+      same_member = now.member ∙ c.requires.port.same_member;
+      able = now.can_add;
+      stayed = now.stayed;
+      saw = both.1;
+    } in
+    let left = IsLeft-started plain c.args.ring.now c.args.state c.requires.leads cursor found.commit plain.written plain.fed c.requires.sound.fed (port.geometry after) (port.member after) (port.cursor after) (port.seen after) (port.can_add after) found.load starting is_after in
+    let same = grown-same plain (started plain c.args.state cursor found.load found.commit) (KeepsAccepted-started plain c.args.state cursor found.load found.commit) in
+    subst (λ (d : Plain). CanUse d (port.geometry after) (port.member after) (port.cursor after) (port.seen after) (port.can_add after)) (sym same ∙ ap (λ (a : Answered (Unit {0})). a.0) now.outcome) left.use_it
+
+pub returns-clause-goes : goal.returns-clause-goes
+returns-clause-goes g c =
+    let now = c.start_call-begun.ensures in
+    let found = c.start_call-begun.result.found in
+    let plain = c.args.plain.now in
+    let cursor = g.P.MixPort.cursor c.args.port.now in
+    let stops = g.G.Gate.stops c.args.gate.now in
+    let after = g.G.Gate.stops c.start_call-begun.new.gate in
+    let all = started-told plain c.args.state cursor found.load found.commit stops after now.told (gone-whole plain cursor found.load found.commit plain.written stops after now.found now.told) in
+    subst (λ (a : Answered (Unit {0})). OnOk a.1 (a.0.state ≡ c.args.state × a.0.stopped ≡ plain.stopped)) now.outcome all.goes
+
+pub returns-clause-gate : goal.returns-clause-gate
+returns-clause-gate g c =
+    let now = c.start_call-begun.ensures in
+    let found = c.start_call-begun.result.found in
+    let plain = c.args.plain.now in
+    let cursor = g.P.MixPort.cursor c.args.port.now in
+    let stops = g.G.Gate.stops c.args.gate.now in
+    let after = g.G.Gate.stops c.start_call-begun.new.gate in
+    let all = started-told plain c.args.state cursor found.load found.commit stops after now.told (gone-whole plain cursor found.load found.commit plain.written stops after now.found now.told) in
+    subst (λ (a : Answered (Unit {0})). Told a.1 stops after) now.outcome all.told

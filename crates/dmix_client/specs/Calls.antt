@@ -1,0 +1,336 @@
+-- What each call of a client makes of it, by the parts that the call does one after the other: with the positions that
+-- its loads gave, and with what its commits came to.
+use Rattle.std.specs.Prelude.{◌≡◌, ℕ, ◌+◌, ◌-◌, ◌*◌, ◌<◌, ◌≤◌, Bool, true, false, not, ◌&&◌, ◌||◌, ◌==◌, nat_le, nat_lt, nat_eq, if◌then◌else◌, min, max, ℤ, List, [], ◌∷◌, length, slice_index, Option, Some, None, is_some, unwrap_or, Result, Ok, Err}
+use Rattle.snd_base.specs.declared.errors.PcmError.{PcmError}
+use Rattle.snd_base.specs.declared.errors.PcmError.TheVariants.{Again, BadState, NotSupported, Stopped}
+use Rattle.snd_base.specs.declared.errors.PcmError.TheVariants as error
+use Rattle.snd_base.specs.declared.errors.XrunWhy.{XrunWhy}
+use Rattle.snd_base.specs.declared.errors.XrunWhy.TheVariants as why
+use Rattle.snd_base.specs.declared.geometry.Geometry.{Geometry}
+use Rattle.snd_base.specs.declared.places.Cursor.{Cursor}
+use Rattle.snd_base.specs.declared.places.Segment.{Segment}
+use Rattle.snd_base.specs.Places.{end_frame, first_free}
+use Rattle.mix_core.specs.declared.port.Entry.{Entry}
+use Rattle.mix_core.specs.declared.port.Position.{Position}
+use Rattle.bindings.specs.Bound.{identity, rising}
+use Rattle.hw_space.specs.declared.config.Config.{Config}
+use Rattle.sw_limits.specs.declared.params.SwParams.{SwParams}
+use Rattle.pcm_states.specs.declared.states.State.{State}
+use Rattle.pcm_states.specs.declared.states.State.TheVariants.{Open, Setup, Prepared, Running, Xrun, Draining, Disconnected}
+use Rattle.pcm_states.specs.declared.calls.Call.{Call}
+use Rattle.pcm_states.specs.declared.calls.Call.TheVariants as call
+use Rattle.pcm_states.specs.declared.calls.Facts.{Facts}
+use Rattle.pcm_states.specs.declared.calls.Outcome.{Outcome}
+use Rattle.pcm_states.specs.Table.{next_of}
+use Rattle.dmix_client.specs.declared.commit.Commit.{Commit}
+use Rattle.dmix_client.specs.declared.commit.Ended.{Ended}
+use Rattle.dmix_client.specs.declared.commit.Ended.TheVariants as ended
+use Rattle.dmix_client.specs.declared.plain.Plain.{Plain}
+use Rattle.dmix_client.specs.Expansion.{run_entries}
+use Rattle.dmix_client.specs.View.{avail_of, channels_of, held, hw_of, is_moving, queued_of}
+
+-- a client and the answer of a call
+abbrev pub Answered : Type 0 → Type 0
+Answered T = Plain × Result T PcmError
+
+-- the gate stopped the call
+abbrev pub stopped_in : {T : Type 0} → Plain → Answered T
+stopped_in c = (record c { stopped = true }, Err Stopped)
+
+-- the call comes to an outcome of the state table
+abbrev pub settled : Plain → Outcome → Answered (Unit {0})
+settled c outcome = (record c { state = outcome.state }, outcome.answer)
+
+-- what stands whatever a call finds: that the client was stopped, or a refusal of the state table
+abbrev pub is_refusal : PcmError → Bool
+is_refusal BadState = true
+is_refusal error.NoDevice = true
+is_refusal NotSupported = true
+is_refusal (error.Xrun why.Already) = true
+is_refusal other = false
+
+-- the facts of a call that finds nothing
+abbrev pub nothing_found : Facts
+nothing_found = record { capture = false; queued = 1; starts = false; gone = false; over = None; late = None }
+
+-- the refusal among an answer's errors
+abbrev pub refusal_in : Result (Unit {0}) PcmError → Option PcmError
+refusal_in (Ok done) = None
+refusal_in (Err e) = if is_refusal e then Some e else None
+
+-- why a call is refused before it does anything
+abbrev pub refusal_of : Plain → Call → Option PcmError
+refusal_of c call = if c.stopped then Some Stopped else refusal_in (next_of c.state call nothing_found).answer
+
+-- the answer of a test: that a call isn't refused, or the refusal
+abbrev pub refused_by : Option PcmError → Result (Unit {0}) PcmError
+refused_by None = Ok tt
+refused_by (Some e) = Err e
+
+-- the calls that take no step
+
+-- a client that is opened
+abbrev pub opened : Geometry → ℕ → ℕ → Plain
+opened g member lead = record {
+  geometry = g;
+  member = member;
+  lead = lead;
+  state = Open;
+  stopped = false;
+  configured = false;
+  config = record { channels = 1; rate = 1; period_size = 1; buffer_size = 1; periods = 1 };
+  bindings = identity 1;
+  params = record { start_threshold = 1; stop_threshold = 1; avail_min = 1 };
+  written = 0;
+  committed = 0;
+  part = 0;
+  card = 0;
+  started = false;
+  seen = None;
+  fed = 0;
+  source = 0;
+}
+
+-- nothing is written, and nothing is laid since now
+abbrev pub prepared : Plain → Plain
+prepared c =
+    record c { state = Prepared; written = 0; committed = 0; part = 0; card = 0; started = false; source = c.fed }
+
+-- the client runs with a configuration, with the default thresholds
+abbrev pub configured_with : Plain → Config → List ℕ → Plain
+configured_with c config bindings = prepared (record c {
+  configured = true;
+  config = config;
+  bindings = bindings;
+  params = record { start_threshold = 1; stop_threshold = config.buffer_size; avail_min = config.period_size };
+})
+
+-- the client gives its configuration up
+abbrev pub freed : Plain → Plain
+freed c = record c { state = Open; configured = false }
+
+-- the client has other software parameters
+abbrev pub with_params : Plain → SwParams → Plain
+with_params c params = record c { params = params }
+
+-- what is pending is given up
+abbrev pub dropped : Plain → Plain
+dropped c = record c { state = Setup }
+
+-- the configuration, where there is one
+abbrev pub config_of : Plain → Option Config
+config_of c = if c.configured then Some c.config else None
+
+-- the segment since the last prepare
+abbrev pub segment_of : Plain → Segment
+segment_of c = record { source = c.source; card = c.card; whole = c.committed; part = c.part }
+
+-- the parts of the calls that take steps
+
+-- a position was loaded
+abbrev pub seen_at : Plain → Position → Plain
+seen_at c position = record c { seen = Some position.frame }
+
+-- where a start begins: past the position by the lead, and not before the port's cursor
+abbrev pub start_frame : Plain → ℕ → Cursor → ℕ
+start_frame c position cursor = max (position + c.lead) (first_free cursor 0)
+
+-- the stream starts, and is in a state
+abbrev pub started_in : Plain → State → Position → Cursor → Plain
+started_in c state position cursor =
+    record c { state = state; card = start_frame c position.frame cursor; started = true; seen = Some position.frame }
+
+-- the frame that the window of a position ends before
+abbrev pub window_end : Geometry → ℕ → ℕ
+window_end g position = min (position + g.frames) (end_frame g)
+
+-- how many frames a commit at a position is to lay, of those before one
+abbrev pub commit_count : Plain → ℕ → ℕ → ℕ
+commit_count c position upto = min upto (window_end c.geometry position - c.card) - c.committed
+
+-- the client after a commit
+abbrev pub committed_by : Plain → Commit → Plain
+committed_by c commit = record c { committed = c.committed + commit.frames; part = commit.part }
+
+-- the frame at which a commit ended, and the card channel
+abbrev pub end_of_commit : Plain → Commit → ℕ
+end_of_commit c commit = c.card + (c.committed + commit.frames)
+
+abbrev pub end_channel : Plain → Commit → ℕ
+end_channel c commit = slice_index c.bindings (slice_index (rising c.bindings) commit.part)
+
+-- what a commit laid of the local ring
+abbrev pub commit_entries : Plain → List ℤ → Commit → List Entry
+commit_entries c ring commit =
+    run_entries c.member c.bindings (held c ring) c.card c.committed commit.frames commit.part
+
+abbrev pub is_stop : Ended → Bool
+is_stop ended.Whole = false
+is_stop (ended.Late word) = false
+is_stop ended.Stopped = true
+
+-- why a commit that ended at a frame and channel was late
+abbrev pub late_at : Ended → ℕ → ℕ → Option XrunWhy
+late_at ended.Whole frame channel = None
+late_at (ended.Late word) frame channel = Some (why.Late frame channel word)
+late_at ended.Stopped frame channel = None
+
+abbrev pub late_of : Plain → Commit → Option XrunWhy
+late_of c commit = late_at commit.ended (end_of_commit c commit) (end_channel c commit)
+
+abbrev pub is_prepared : State → Bool
+is_prepared Prepared = true
+is_prepared other = false
+
+abbrev pub is_running : State → Bool
+is_running Running = true
+is_running other = false
+
+-- the stop threshold was reached in RUNNING, at a position: the frames available
+abbrev pub over_of : Plain → Position → Option (ℕ × ℕ)
+over_of c position =
+    if is_running c.state && nat_le c.params.stop_threshold (avail_of c) then Some (avail_of c, position.frame) else None
+
+-- the facts for the state table: of a client after its commit, with what stood at the load
+abbrev pub facts_of : Plain → Position → Option (ℕ × ℕ) → Option XrunWhy → Facts
+facts_of c position over late =
+    record { capture = false; queued = queued_of c; starts = true; gone = position.gone; over = over; late = late }
+
+-- how many frames the sync at a position is to commit
+abbrev pub sync_count : Plain → Position → ℕ
+sync_count c position =
+    if position.gone || is_some (over_of (seen_at c position) position) then 0 else commit_count c position.frame c.written
+
+-- the sync of a client that moves frames: the load, the stop threshold, the commit
+abbrev pub synced : Plain → Call → Option Position → Commit → Answered (Unit {0})
+synced c call None commit = stopped_in c
+synced c call (Some position) commit =
+    let loaded = seen_at c position in
+    let done = committed_by loaded commit in
+    if is_stop commit.ended
+    then stopped_in done
+    else settled done (next_of c.state call (facts_of done position (over_of loaded position) (late_of loaded commit)))
+
+-- the facts of a start, or of a commit behind a sync, that isn't empty
+abbrev pub found_at : Position → Option XrunWhy → Facts
+found_at position late =
+    record { capture = false; queued = 1; starts = true; gone = position.gone; over = None; late = late }
+
+-- how many frames a start at a position is to commit, of those before one
+abbrev pub start_count : Plain → Cursor → Position → ℕ → ℕ
+start_count c cursor position upto =
+    if position.gone then 0 else commit_count (started_in c Running position cursor) position.frame upto
+
+-- an answer leads to a state, or a refusal to another
+abbrev pub going_on_by : Result (Unit {0}) PcmError → Plain → State → State → Answered (Unit {0})
+going_on_by (Ok done) c state refused = (record c { state = state }, Ok tt)
+going_on_by (Err e) c state refused = (record c { state = refused }, Err e)
+
+-- the call goes on in a state, unless the table refuses it
+abbrev pub going_on : Plain → State → Outcome → Answered (Unit {0})
+going_on c state outcome = going_on_by outcome.answer c state outcome.state
+
+-- the start of a client that is prepared and has frames, which leads to a state: the load, and the commit
+abbrev pub started : Plain → State → Cursor → Option Position → Commit → Answered (Unit {0})
+started c state cursor None commit = stopped_in c
+started c state cursor (Some position) commit =
+    if position.gone
+    then going_on (seen_at c position) state (next_of Prepared call.Start (found_at position None))
+    else (
+    let from = started_in c state position cursor in
+    let done = committed_by from commit in
+    if is_stop commit.ended
+    then stopped_in done
+    else going_on done state (next_of Prepared call.Start (found_at position (late_of from commit)))
+    )
+
+-- the calls that take steps, where the client isn't refused before
+
+-- `start`
+abbrev pub start_of : Plain → Cursor → Option Position → Commit → Answered (Unit {0})
+start_of c cursor load commit =
+    if nat_eq c.written 0
+    then settled c (next_of c.state call.Start (record nothing_found { queued = 0 }))
+    else started c Running cursor load commit
+
+-- `sync`
+abbrev pub sync_of : Plain → Option Position → Commit → Answered (Unit {0})
+sync_of c load commit = if is_moving c.state then synced c call.Sync load commit else (c, Ok tt)
+
+-- an answer's number, where there is one
+abbrev pub with_number : (Plain → ℕ) → Answered (Unit {0}) → Answered ℕ
+with_number number (c, Ok done) = (c, Ok (number c))
+with_number number (c, Err e) = (c, Err e)
+
+-- the frames that `avail_update` answers, in the state after its sync
+abbrev pub avail_in : State → Plain → ℕ
+avail_in Setup c = c.config.buffer_size
+avail_in other c = avail_of c
+
+abbrev pub avail_answer : Plain → ℕ
+avail_answer c = avail_in c.state c
+
+-- the frames that `delay` answers: from the position seen to the end of what is written
+abbrev pub delay_in : State → Plain → ℕ
+delay_in Setup c = 0
+delay_in Prepared c = c.written
+delay_in other c = c.card + c.written - unwrap_or c.seen 0
+
+abbrev pub delay_answer : Plain → ℕ
+delay_answer c = delay_in c.state c
+
+-- a drain that started goes on with its sync
+abbrev pub drained_on : Answered (Unit {0}) → Option Position → Commit → Answered (Unit {0})
+drained_on (c, Ok done) later last = synced c call.Drain later last
+drained_on (c, Err e) later last = (c, Err e)
+
+-- `drain`
+abbrev pub drain_of : Plain → Cursor → Option Position → Commit → Option Position → Commit → Answered (Unit {0})
+drain_of c cursor load commit later last =
+    if is_moving c.state
+    then synced (record c { state = Draining }) call.Drain load commit
+    else (
+    if is_prepared c.state && nat_lt 0 c.written
+    then drained_on (started c Draining cursor load commit) later last
+    else settled c (next_of c.state call.Drain (record nothing_found { queued = 0 }))
+    )
+
+-- how many frames a write of n takes
+abbrev pub taken_of : Plain → ℕ → ℕ
+taken_of c n = min n (min (avail_of c) c.config.buffer_size)
+
+-- frames were accepted
+abbrev pub accepted : Plain → ℕ → Plain
+accepted c n = record c { written = c.written + n; fed = c.fed + n }
+
+-- frames that were taken are accepted where the call goes well
+abbrev pub accepted_if : ℕ → Answered (Unit {0}) → Answered ℕ
+accepted_if n (c, Ok done) = (accepted c n, Ok n)
+accepted_if n (c, Err e) = (c, Err e)
+
+-- a write into a stream that runs, after its sync: nothing can be taken, or some frames are taken and committed
+abbrev pub written_after : Plain → ℕ → Commit → Answered ℕ
+written_after c n commit =
+    if nat_lt 0 n && nat_eq (avail_of c) 0
+    then (c, Err Again)
+    else (
+    if is_stop commit.ended
+    then stopped_in (committed_by c commit)
+    else accepted_if (taken_of c n) (settled (committed_by c commit) (next_of Running call.Transfer (found_at (record { frame = 0; gone = false }) (late_of c commit))))
+    )
+
+abbrev pub written_on : Answered (Unit {0}) → ℕ → Commit → Answered ℕ
+written_on (c, Ok done) n commit = written_after c n commit
+written_on (c, Err e) n commit = (c, Err e)
+
+-- a write of n frames into a prepared stream, which starts it at its threshold
+abbrev pub filled : Plain → ℕ → Cursor → Option Position → Commit → Answered ℕ
+filled c n cursor load commit =
+    if nat_le c.params.start_threshold (c.written + taken_of c n)
+    then accepted_if (taken_of c n) (started c Running cursor load commit)
+    else (accepted c (taken_of c n), Ok (taken_of c n))
+
+-- `writei` of n frames
+abbrev pub writei_of : Plain → ℕ → Cursor → Option Position → Commit → Commit → Answered ℕ
+writei_of c n cursor load commit last =
+    if is_running c.state then written_on (synced c call.Transfer load commit) n last else filled c n cursor load commit

@@ -1,0 +1,5 @@
+pub mod Calls
+pub mod Expansion
+pub mod Port
+pub mod Ring
+pub mod View

@@ -1,0 +1,168 @@
+//! The client: a PCM stream for playback that is mixed with others in the card's ring.
+ghost use Rattle.std.specs.Prelude.{◌≡◌, ℕ, ◌+◌, ◌*◌, ◌^◌, ◌<◌, ◌≤◌, ◌⊎◌, true, false, pos, replicate, All, IfErr, OnErr, OnOk, [], List, length, unwrap_or};
+ghost use Rattle.pcm_states.specs.declared.calls.Call.TheVariants as call;
+ghost use Rattle.dmix_client.specs.Calls.{config_of, configured_with, dropped, freed, opened, prepared, refusal_of, segment_of, with_params};
+ghost use Rattle.dmix_client.specs.View.{ClientView};
+
+use crate::plain::Plain;
+use bindings::Bindings;
+use hw_space::Config;
+use pcm_states::{Call, State};
+use snd_base::{Geometry, PcmError, Segment};
+use std::alloc::Global;
+use std::marker::Model;
+use sw_limits::SwParams;
+
+/// A playback stream whose frames are mixed with other clients' in the card's ring, as ALSA's `dmix` plugin mixes them
+/// (alsa-lib, `snd_pcm_dmix`). It is used as a `snd_pcm_t` that is opened without waiting (`SND_PCM_NONBLOCK`).
+///
+/// Contracts see its counts and settings, and its local ring. Frames of the card are absolute numbers, samples are
+/// interleaved.
+#[derive(Drop)]
+pub struct Client {
+    pub(crate) plain: Plain,
+    pub(crate) ring: Vec<i16>,
+}
+
+impl Model for Client {
+    ghost use Rattle.dmix_client.specs.View.{ClientView};
+
+    ghost Value = { ClientView };
+
+    ghost use Rattle.dmix_client.specs.View.{IsSound};
+
+    ghost view = { λ c. record { plain = c.plain; ring = c.ring.items } };
+
+    ghost invariant = { λ c. IsSound c.plain c.ring.items };
+}
+
+impl Client {
+    /// A client in OPEN, of the member `member` of a ring of this geometry. A start begins `lead` frames, less than the
+    /// ring's length, past the card's position.
+    pub fn new(alloc: Global, geometry: Geometry, member: u32, lead: u32) -> Client
+        requires { lead < geometry.frames }
+        ensures { result ≡ record { plain = opened geometry member lead; ring = [] } }
+    {
+        Client {
+            plain: Plain::opened(geometry, member, lead),
+            ring: Vec::new(alloc),
+        }
+    }
+
+    /// The state of the stream (`snd_pcm_state`).
+    pub fn state(&self) -> State
+        ensures { result ≡ self.now.plain.state }
+    {
+        self.plain.state
+    }
+
+    /// Whether the gate has stopped the client. Every later call but `pause` is then refused with `Stopped`.
+    pub fn is_stopped(&self) -> bool
+        ensures { result ≡ self.now.plain.stopped }
+    {
+        self.plain.stopped
+    }
+
+    /// The configuration that `hw_params` set, until `hw_free` (`snd_pcm_hw_params_current`).
+    pub fn config(&self) -> Option<Config>
+        ensures { result ≡ config_of self.now.plain }
+    {
+        if self.plain.configured {
+            Some(self.plain.config)
+        } else {
+            None
+        }
+    }
+
+    /// The position of the card, a frame number, that this client loaded last.
+    pub fn seen(&self) -> Option<u64>
+        ensures { result ≡ self.now.plain.seen }
+    {
+        self.plain.seen
+    }
+
+    /// How many frames its `writei` calls have accepted since `new`.
+    pub fn fed(&self) -> u64
+        ensures { result ≡ self.now.plain.fed }
+    {
+        self.plain.fed
+    }
+
+    /// What the client has laid into the card's ring since the last `prepare`.
+    pub fn segment(&self) -> Segment
+        ensures { result ≡ segment_of self.now.plain }
+    {
+        self.plain.segment()
+    }
+
+    /// Sets the configuration and the bindings, takes the local ring's memory, sets the default software parameters and
+    /// prepares the stream (`snd_pcm_hw_params`, which also prepares).
+    ///
+    /// The caller has bindings of the configuration's channels to channels that the ring has, and a buffer of 1 to
+    /// 16,384 frames. `BadState` comes unless the state is OPEN, SETUP or PREPARED, and `Memory` where no memory is left.
+    /// A refused call changes nothing.
+    pub fn hw_params(
+        &mut self,
+        alloc: Global,
+        config: Config,
+        bindings: Bindings,
+    ) -> Result<(), PcmError>
+        requires channels { length bindings ≡ config.channels }
+        requires on_card { All (λ channel. channel < self.old.plain.geometry.channels) bindings }
+        requires buffer_least { 1 ≤ config.buffer_size }
+        requires buffer_most { config.buffer_size ≤ 16384 }
+        ensures refused { (e : PcmError) → refusal_of self.old.plain call.HwParams ≡ Some e → result ≡ Err e }
+        ensures ok { OnOk result (self.new ≡ record { plain = configured_with self.old.plain config bindings; ring = replicate (config.buffer_size * length bindings) (pos 0) }) }
+        ensures err { OnErr result (self.new ≡ self.old) }
+        ensures only { IfErr result (λ e. (refusal_of self.old.plain call.HwParams ≡ Some e) ⊎ (e ≡ PcmError.Memory)) }
+    {
+        self.plain.admit(Call::HwParams)?;
+        let room = config.buffer_size as usize * bindings.len() as usize;
+        let ring = vec![in alloc; 0i16; room]?;
+        self.ring = ring;
+        self.plain = self.plain.configured_with(config, bindings);
+        Ok(())
+    }
+
+    /// Gives the configuration up (`snd_pcm_hw_free`): OPEN, from SETUP or PREPARED. A refused call changes nothing.
+    pub fn hw_free(&mut self) -> Result<(), PcmError>
+        ensures refused { (e : PcmError) → refusal_of self.old.plain call.HwFree ≡ Some e → (result ≡ Err e) × (self.new ≡ self.old) }
+        ensures freed { refusal_of self.old.plain call.HwFree ≡ None → (result ≡ Ok tt) × (self.new ≡ record { plain = freed self.old.plain; ring = [] }) }
+    {
+        self.plain.admit(Call::HwFree)?;
+        self.plain = self.plain.freed();
+        self.ring.clear();
+        Ok(())
+    }
+
+    /// Prepares the stream (`snd_pcm_prepare`): what is pending is discarded, and nothing is written or laid since now.
+    /// PREPARED, from SETUP, PREPARED or XRUN. A refused call changes nothing.
+    pub fn prepare(&mut self) -> Result<(), PcmError>
+        ensures refused { (e : PcmError) → refusal_of self.old.plain call.Prepare ≡ Some e → (result ≡ Err e) × (self.new ≡ self.old) }
+        ensures prepared { refusal_of self.old.plain call.Prepare ≡ None → (result ≡ Ok tt) × (self.new ≡ record { plain = prepared self.old.plain; ring = self.old.ring }) }
+    {
+        self.plain.admit(Call::Prepare)?;
+        self.plain = self.plain.prepared();
+        Ok(())
+    }
+
+    /// Stops the stream (`snd_pcm_drop`): what is pending is discarded. SETUP, from every state but OPEN and
+    /// DISCONNECTED. Unlike ALSA's `snd_pcm_drop` it leaves what was committed in the card's ring. A refused call changes
+    /// nothing.
+    pub fn drop_pending(&mut self) -> Result<(), PcmError>
+        ensures refused { (e : PcmError) → refusal_of self.old.plain call.Drop ≡ Some e → (result ≡ Err e) × (self.new ≡ self.old) }
+        ensures dropped { refusal_of self.old.plain call.Drop ≡ None → (result ≡ Ok tt) × (self.new ≡ record { plain = dropped self.old.plain; ring = self.old.ring }) }
+    {
+        self.plain.admit(Call::Drop)?;
+        self.plain = self.plain.dropped();
+        Ok(())
+    }
+
+    /// Pausing (`snd_pcm_pause`) is refused with `NotSupported` in every state, also of a client that is stopped.
+    pub fn pause(&mut self, _on: bool) -> Result<(), PcmError>
+        ensures answer { result ≡ Err PcmError.NotSupported }
+        ensures unchanged { self.new ≡ self.old }
+    {
+        Err(PcmError::NotSupported)
+    }
+}

@@ -1,0 +1,519 @@
+//! What a client is after each part of a call, by what the part found.
+ghost use Rattle.std.specs.Prelude.{◌≡◌, ℕ, ◌+◌, ◌*◌, ◌^◌, ◌<◌, ◌≤◌, IfSome, OnOk, length};
+ghost use Rattle.dmix_client.specs.Calls.{with_number, configured_with, dropped, freed, opened, accepted, accepted_if, filled, written_after, avail_answer, commit_count, committed_by, delay_answer, facts_of, found_at, going_on, is_stop, late_of, over_of, prepared, seen_at, segment_of, settled, start_count, start_frame, started, started_in, stopped_in, sync_count, synced, taken_of, window_end};
+ghost use Rattle.dmix_client.specs.Port.{OnLate};
+ghost use Rattle.dmix_client.specs.View.{IsReady, IsReadyAt, avail_of, hw_of, queued_of};
+
+use crate::commit::{Commit, Ended};
+use crate::plain::Plain;
+use bindings::Bindings;
+use hw_space::Config;
+use mix_core::Position;
+use pcm_states::{Call, Facts, Outcome, State, next};
+use ring_pointers::Pointers;
+use snd_base::{Cursor, Geometry, PcmError, Segment, XrunWhy};
+use sw_limits::{SwParams, boundary};
+
+/// A client after a part of a call, and the call's answer so far.
+pub(crate) type Answered<T> = (Plain, Result<T, PcmError>);
+
+impl Plain {
+    /// The frames that the card has played since the start, as far as the client saw.
+    pub(crate) fn hw(&self) -> u64
+        ensures { result ≡ hw_of self.now }
+    {
+        if self.started {
+            self.seen.unwrap_or(0).saturating_sub(self.card)
+        } else {
+            0
+        }
+    }
+
+    /// The frames that a write can take.
+    pub(crate) fn avail(&self) -> u64
+        requires { IsReady self.now }
+        ensures { result ≡ avail_of self.now }
+    {
+        let size = self.config.buffer_size;
+        let boundary = boundary(size);
+        let hw = self.hw();
+        Pointers::at(size, boundary, hw % boundary, self.written % boundary).avail_playback()
+    }
+
+    /// The frames that are written and not played.
+    pub(crate) fn queued(&self) -> u64
+        ensures { result ≡ queued_of self.now }
+    {
+        self.written.saturating_sub(self.hw())
+    }
+
+    /// A position was loaded.
+    pub(crate) fn seen_at(&self, position: Position) -> Plain
+        ensures { result ≡ seen_at self.now position }
+    {
+        Plain {
+            seen: Some(position.frame),
+            ..*self
+        }
+    }
+
+    /// A commit laid frames.
+    pub(crate) fn committed_by(&self, commit: Commit) -> Plain
+        requires { self.now.committed + commit.frames < 2 ^ 64 }
+        ensures { result ≡ committed_by self.now commit }
+    {
+        Plain {
+            committed: self.committed + commit.frames,
+            part: commit.part,
+            ..*self
+        }
+    }
+
+    /// The frames available and the position, where the stop threshold was reached in RUNNING.
+    pub(crate) fn over(&self, position: Position) -> Option<(u64, u64)>
+        requires { IsReady self.now }
+        ensures { result ≡ over_of self.now position }
+    {
+        let avail = self.avail();
+        if self.state == State::Running && self.params.stop_threshold <= avail {
+            Some((avail, position.frame))
+        } else {
+            None
+        }
+    }
+
+    /// Why a commit was late, where it was.
+    pub(crate) fn late(&self, commit: Commit) -> Option<XrunWhy>
+        requires fits { self.now.card + (self.now.committed + commit.frames) < 2 ^ 64 }
+        requires part { OnLate commit.ended (λ _. commit.part < length self.now.bindings) }
+        ensures { result ≡ late_of self.now commit }
+    {
+        match commit.ended {
+            Ended::Late { seen } => Some(XrunWhy::Late {
+                frame: self.card + (self.committed + commit.frames),
+                channel: self.bindings.card_channel(self.bindings.rising(commit.part)),
+                seen,
+            }),
+            _ => None,
+        }
+    }
+
+    /// How many frames a commit at a position is to lay, of those before one.
+    pub(crate) fn commit_count(&self, position: u64, upto: u64) -> u64
+        requires { position < 2 ^ 63 }
+        ensures { result ≡ commit_count self.now position upto }
+    {
+        let window_end = (position + self.geometry.frames as u64).min(self.geometry.end_frame());
+        upto.min(window_end.saturating_sub(self.card)).saturating_sub(self.committed)
+    }
+
+    /// How many frames the sync at a position is to commit.
+    pub(crate) fn sync_count(&self, position: Position) -> u64
+        requires position { position.frame < 2 ^ 63 }
+        requires ready { IsReady (seen_at self.now position) }
+        ensures { result ≡ sync_count self.now position }
+    {
+        if position.gone || self.seen_at(position).over(position).is_some() {
+            0
+        } else {
+            self.commit_count(position.frame, self.written)
+        }
+    }
+
+    /// The client is prepared: nothing is written, and nothing is laid since now.
+    pub(crate) fn prepared(&self) -> Plain
+        ensures { result ≡ prepared self.now }
+    {
+        Plain {
+            state: State::Prepared,
+            written: 0,
+            committed: 0,
+            part: 0,
+            card: 0,
+            started: false,
+            source: self.fed,
+            ..*self
+        }
+    }
+
+    /// The segment since the last prepare.
+    pub(crate) fn segment(&self) -> Segment
+        ensures { result ≡ segment_of self.now }
+    {
+        Segment {
+            source: self.source,
+            card: self.card,
+            whole: self.committed,
+            part: self.part,
+        }
+    }
+}
+
+impl Ended {
+    /// Whether the gate stopped the commit.
+    pub(crate) fn is_stop(self) -> bool
+        ensures { result ≡ is_stop self }
+    {
+        match self {
+            Ended::Stopped => true,
+            _ => false,
+        }
+    }
+}
+
+/// The gate stopped the call.
+pub(crate) fn stopped_in<T>(plain: Plain) -> Answered<T>
+    ensures { result ≡ stopped_in plain }
+{
+    let stopped = Plain {
+        stopped: true,
+        ..plain
+    };
+    (stopped, Err(PcmError::Stopped))
+}
+
+/// The call comes to an outcome of the state table.
+pub(crate) fn settled(plain: Plain, outcome: Outcome) -> Answered<()>
+    ensures { result ≡ settled plain outcome }
+{
+    let after = Plain {
+        state: outcome.state,
+        ..plain
+    };
+    (after, outcome.answer)
+}
+
+/// The sync of a client that moves frames, by what its load and its commit found.
+pub(crate) fn synced(plain: Plain, call: Call, load: Option<Position>, commit: Commit) -> Answered<()>
+    requires ready { IsReadyAt plain load }
+    requires fits { plain.card + (plain.committed + commit.frames) < 2 ^ 64 }
+    requires part { OnLate commit.ended (λ _. commit.part < length plain.bindings) }
+    ensures { result ≡ synced plain call load commit }
+{
+    let Some(position) = load else {
+        return stopped_in(plain);
+    };
+    let loaded = plain.seen_at(position);
+    let done = loaded.committed_by(commit);
+    if commit.ended.is_stop() {
+        return stopped_in(done);
+    }
+    let facts = Facts {
+        capture: false,
+        queued: done.queued(),
+        starts: true,
+        gone: position.gone,
+        over: loaded.over(position),
+        late: loaded.late(commit),
+    };
+    settled(done, next(plain.state, call, facts))
+}
+
+/// The call goes on in `state`, unless the table refuses it.
+fn going_on(plain: Plain, state: State, outcome: Outcome) -> Answered<()>
+    ensures { result ≡ going_on plain state outcome }
+{
+    match outcome.answer {
+        Ok(()) => (Plain { state, ..plain }, Ok(())),
+        Err(error) => {
+            let refused = Plain {
+                state: outcome.state,
+                ..plain
+            };
+            (refused, Err(error))
+        }
+    }
+}
+
+/// What a start found, or a commit behind a sync.
+fn found_at(position: Position, late: Option<XrunWhy>) -> Facts
+    ensures { result ≡ found_at position late }
+{
+    Facts {
+        capture: false,
+        queued: 1,
+        starts: true,
+        gone: position.gone,
+        over: None,
+        late,
+    }
+}
+
+impl Plain {
+    /// Where a start begins: past the position by the lead, and not before the port's cursor.
+    pub(crate) fn start_frame(&self, position: u64, cursor: Cursor) -> u64
+        requires position { position < 2 ^ 63 }
+        requires cursor { cursor.frame < 2 ^ 63 }
+        ensures { result ≡ start_frame self.now position cursor }
+    {
+        (position + self.lead as u64).max(cursor.first_free(0))
+    }
+
+    /// The stream starts, and is in `state`.
+    pub(crate) fn started_in(&self, state: State, position: Position, cursor: Cursor) -> Plain
+        requires position { position.frame < 2 ^ 63 }
+        requires cursor { cursor.frame < 2 ^ 63 }
+        ensures { result ≡ started_in self.now state position cursor }
+    {
+        Plain {
+            state,
+            card: self.start_frame(position.frame, cursor),
+            started: true,
+            seen: Some(position.frame),
+            ..*self
+        }
+    }
+
+    /// How many frames a start at a position is to commit, of those before one.
+    pub(crate) fn start_count(&self, cursor: Cursor, position: Position, upto: u64) -> u64
+        requires position { position.frame < 2 ^ 63 }
+        requires cursor { cursor.frame < 2 ^ 63 }
+        ensures { result ≡ start_count self.now cursor position upto }
+    {
+        if position.gone {
+            0
+        } else {
+            self.started_in(State::Running, position, cursor).commit_count(position.frame, upto)
+        }
+    }
+
+    /// How many frames a write of `frames` takes.
+    pub(crate) fn taken(&self, frames: u64) -> u64
+        requires { IsReady self.now }
+        ensures { result ≡ taken_of self.now frames }
+    {
+        frames.min(self.avail().min(self.config.buffer_size as u64))
+    }
+
+    /// Frames were accepted.
+    pub(crate) fn accepted(&self, frames: u64) -> Plain
+        requires written { self.now.written + frames < 2 ^ 64 }
+        requires fed { self.now.fed + frames < 2 ^ 64 }
+        ensures { result ≡ accepted self.now frames }
+    {
+        Plain {
+            written: self.written + frames,
+            fed: self.fed + frames,
+            ..*self
+        }
+    }
+
+    /// The frames that `avail_update` answers after its sync.
+    pub(crate) fn avail_answer(&self) -> u64
+        requires { (self.now.state ≡ State.Setup → ⊥) → IsReady self.now }
+        ensures { result ≡ avail_answer self.now }
+    {
+        match self.state {
+            State::Setup => self.config.buffer_size as u64,
+            _ => self.avail(),
+        }
+    }
+
+    /// The frames that `delay` answers after its sync.
+    pub(crate) fn delay_answer(&self) -> u64
+        requires { (self.now.state ≡ State.Setup → ⊥) → self.now.card + self.now.written < 2 ^ 64 }
+        ensures { result ≡ delay_answer self.now }
+    {
+        match self.state {
+            State::Setup => 0,
+            State::Prepared => self.written,
+            _ => (self.card + self.written).saturating_sub(self.seen.unwrap_or(0)),
+        }
+    }
+}
+
+/// The start of a client that is prepared and has frames, which leads to `state`.
+pub(crate) fn started(
+    plain: Plain,
+    state: State,
+    cursor: Cursor,
+    load: Option<Position>,
+    commit: Commit,
+) -> Answered<()>
+    requires position { IfSome load (λ position. position.frame < 2 ^ 63) }
+    requires cursor { cursor.frame < 2 ^ 63 }
+    requires fits { plain.committed + commit.frames < 2 ^ 62 }
+    requires part { OnLate commit.ended (λ _. commit.part < length plain.bindings) }
+    ensures { result ≡ started plain state cursor load commit }
+{
+    let Some(position) = load else {
+        return stopped_in(plain);
+    };
+    if position.gone {
+        let facts = found_at(position, None);
+        return going_on(
+            plain.seen_at(position),
+            state,
+            next(State::Prepared, Call::Start, facts),
+        );
+    }
+    let from = plain.started_in(state, position, cursor);
+    let done = from.committed_by(commit);
+    if commit.ended.is_stop() {
+        return stopped_in(done);
+    }
+    let facts = found_at(position, from.late(commit));
+    going_on(done, state, next(State::Prepared, Call::Start, facts))
+}
+
+/// Frames that were taken are accepted where the call went well.
+pub(crate) fn accepted_if(frames: u64, answered: Answered<()>) -> Answered<u64>
+    requires written { answered.0.written + frames < 2 ^ 64 }
+    requires fed { answered.0.fed + frames < 2 ^ 64 }
+    ensures { result ≡ accepted_if frames answered }
+{
+    let (plain, answer) = answered;
+    match answer {
+        Ok(()) => (plain.accepted(frames), Ok(frames)),
+        Err(error) => (plain, Err(error)),
+    }
+}
+
+/// A write of `frames` into a stream that runs, after its sync.
+pub(crate) fn written_after(plain: Plain, frames: u64, commit: Commit) -> Answered<u64>
+    requires ready { IsReady plain }
+    requires fits { plain.card + (plain.committed + commit.frames) < 2 ^ 64 }
+    requires part { OnLate commit.ended (λ _. commit.part < length plain.bindings) }
+    requires written { plain.written + frames < 2 ^ 64 }
+    requires fed { plain.fed + frames < 2 ^ 64 }
+    ensures { result ≡ written_after plain frames commit }
+{
+    if frames > 0 && plain.avail() == 0 {
+        return (plain, Err(PcmError::Again));
+    }
+    let done = plain.committed_by(commit);
+    if commit.ended.is_stop() {
+        return stopped_in(done);
+    }
+    let here = Position {
+        frame: 0,
+        gone: false,
+    };
+    let facts = found_at(here, plain.late(commit));
+    accepted_if(
+        plain.taken(frames),
+        settled(done, next(State::Running, Call::Transfer, facts)),
+    )
+}
+
+/// A write of `frames` into a prepared stream, which starts it at its threshold.
+pub(crate) fn filled(
+    plain: Plain,
+    frames: u64,
+    cursor: Cursor,
+    load: Option<Position>,
+    commit: Commit,
+) -> Answered<u64>
+    requires ready { IsReady plain }
+    requires position { IfSome load (λ position. position.frame < 2 ^ 63) }
+    requires cursor { cursor.frame < 2 ^ 63 }
+    requires fits { plain.committed + commit.frames < 2 ^ 62 }
+    requires part { OnLate commit.ended (λ _. commit.part < length plain.bindings) }
+    requires written { plain.written + frames < 2 ^ 64 }
+    requires fed { plain.fed + frames < 2 ^ 64 }
+    ensures { result ≡ filled plain frames cursor load commit }
+{
+    let taken = plain.taken(frames);
+    if plain.params.start_threshold <= plain.written + taken {
+        accepted_if(taken, started(plain, State::Running, cursor, load, commit))
+    } else {
+        (plain.accepted(taken), Ok(taken))
+    }
+}
+
+impl Plain {
+    /// A client that is opened.
+    pub(crate) fn opened(geometry: Geometry, member: u32, lead: u32) -> Plain
+        ensures { result ≡ opened geometry member lead }
+    {
+        Plain {
+            geometry,
+            member,
+            lead,
+            state: State::Open,
+            stopped: false,
+            configured: false,
+            config: Config {
+                channels: 1,
+                rate: 1,
+                period_size: 1,
+                buffer_size: 1,
+                periods: 1,
+            },
+            bindings: Bindings::identity(1),
+            params: SwParams {
+                start_threshold: 1,
+                stop_threshold: 1,
+                avail_min: 1,
+            },
+            written: 0,
+            committed: 0,
+            part: 0,
+            card: 0,
+            started: false,
+            seen: None,
+            fed: 0,
+            source: 0,
+        }
+    }
+
+    /// The client runs with a configuration, with the default thresholds.
+    pub(crate) fn configured_with(&self, config: Config, bindings: Bindings) -> Plain
+        ensures { result ≡ configured_with self.now config bindings }
+    {
+        Plain {
+            configured: true,
+            config,
+            bindings,
+            params: SwParams {
+                start_threshold: 1,
+                stop_threshold: config.buffer_size as u64,
+                avail_min: config.period_size as u64,
+            },
+            ..self.prepared()
+        }
+    }
+
+    /// The client gives its configuration up.
+    pub(crate) fn freed(&self) -> Plain
+        ensures { result ≡ freed self.now }
+    {
+        Plain {
+            state: State::Open,
+            configured: false,
+            ..*self
+        }
+    }
+
+    /// What is pending is given up.
+    pub(crate) fn dropped(&self) -> Plain
+        ensures { result ≡ dropped self.now }
+    {
+        Plain {
+            state: State::Setup,
+            ..*self
+        }
+    }
+}
+
+/// The frames available after a sync that went well.
+pub(crate) fn with_avail(plain: &Plain, answer: Result<(), PcmError>) -> Result<u64, PcmError>
+    requires { OnOk answer ((plain.now.state ≡ State.Setup → ⊥) → IsReady plain.now) }
+    ensures { with_number avail_answer (plain.now, answer) ≡ (plain.now, result) }
+{
+    match answer {
+        Ok(()) => Ok(plain.avail_answer()),
+        Err(error) => Err(error),
+    }
+}
+
+/// The frames until the end of what is written, after a sync that went well.
+pub(crate) fn with_delay(plain: &Plain, answer: Result<(), PcmError>) -> Result<u64, PcmError>
+    requires { OnOk answer ((plain.now.state ≡ State.Setup → ⊥) → plain.now.card + plain.now.written < 2 ^ 64) }
+    ensures { with_number delay_answer (plain.now, answer) ≡ (plain.now, result) }
+{
+    match answer {
+        Ok(()) => Ok(plain.delay_answer()),
+        Err(error) => Err(error),
+    }
+}
