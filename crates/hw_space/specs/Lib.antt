@@ -1,0 +1,10 @@
+pub mod Boxes
+pub mod BoxLaws
+pub mod ConfigurationLaws
+pub mod Formats
+pub mod FormatLaws
+pub mod Proper
+pub mod Rules
+pub mod Settled
+pub mod SettledLaws
+pub mod Steps
