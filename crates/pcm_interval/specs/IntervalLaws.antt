@@ -1,5 +1,5 @@
 -- Laws of intervals: within is an order, and a refinement leaves the greatest interval of normal form within both.
-use Rattle.std.specs.Prelude.{◌≡◌, ◌≢◌, ℕ, ◌+◌, ◌-◌, ◌*◌, ◌/◌, ◌%◌, ◌<◌, ◌≤◌, ◌⊎◌, min, max, Bool, true, false, not, ◌||◌, nat_lt, if◌then◌else◌, IsTrue, IsFalse, refl}
+use Rattle.std.specs.Prelude.{◌≡◌, ◌≢◌, ℕ, ◌+◌, ◌-◌, ◌*◌, ◌/◌, ◌%◌, ◌<◌, ◌≤◌, ◌⊎◌, min, max, Bool, true, false, not, ◌||◌, ◌==◌, nat_lt, if◌then◌else◌, IsTrue, IsFalse, refl}
 use Rattle.std.proofs.Common.{arith, inl, inr, ap, sym, subst, ◌∙◌, ⊎_elim}
 use Rattle.std.proofs.Math.Nat.{div-add-mod', mul-mod_left, mul-le-mul_right, le_of_mul-le-mul_right, lt_of_mul-lt-mul_right}
 use Rattle.std.proofs.lemmas.Bool.{or_left, or_right, or_cases, cond-true, cond-false, cases_Bool, cases_lt, cases_order, cond_both, both_ways, false_from_ne_true, false≢true}
@@ -131,17 +131,21 @@ common_part-greatest s a b in_a in_b = IsWithin-from_places s (common_part a b)
     (λ h. ⊎_elim in_a.integer in_b.integer (common_part-integer a b h))
 
 -- the normal form, case by case
-normal_form-empty : (i : Interval) → IsEmpty i → normal_form i ≡ i
+pub normal_form-empty : (i : Interval) → IsEmpty i → normal_form i ≡ i
 unfolding normal_form
 normal_form-empty i h = cond-true (is_empty i) _ _ h
 
-normal_form-integer : (i : Interval) → IsNonEmpty i → IsTrue i.integer → normal_form i ≡ with_ends_closed i
+pub normal_form-integer : (i : Interval) → IsNonEmpty i → IsTrue i.integer → normal_form i ≡ with_ends_closed i
 unfolding normal_form
 normal_form-integer i h integer = cond-false (is_empty i) _ _ h ∙ cond-true i.integer _ _ integer
 
-normal_form-fraction : (i : Interval) → IsNonEmpty i → IsFalse i.integer → normal_form i ≡ record i { integer = is_point i }
+pub normal_form-fraction : (i : Interval) → IsNonEmpty i → IsFalse i.integer → normal_form i ≡ record i { integer = is_point i }
 unfolding normal_form
 normal_form-fraction i h integer = cond-false (is_empty i) _ _ h ∙ cond-false i.integer _ _ integer
+
+-- one that is not empty is a point where its ends are one number
+pub is_point-ends : (i : Interval) → IsNonEmpty i → is_point i ≡ (i.min == i.max)
+is_point-ends i filled = grind (arith, nat_tests)
 
 -- what holds in each case holds
 normal_form-cases : (i : Interval) (P : Interval → Type 0) → (IsEmpty i → P i) → (IsNonEmpty i → IsTrue i.integer → P (with_ends_closed i))
@@ -196,6 +200,11 @@ normal_form-greatest s i filled normal within = normal_form-cases i (λ n. IsWit
     (λ before integer. with_ends_closed-greatest s i before integer normal within)
     (λ before fraction. IsWithin-from_places s (record i { integer = is_point i })
     (IsWithin-lower_place s i within) (IsWithin-upper_place s i within) (point-integer s i filled normal within))
+
+-- of an empty common part nothing is left
+pub refined-empty : (a b : Interval) → IsEmpty (common_part a b) → IsEmpty (refined a b)
+unfolding refined
+refined-empty a b h = subst IsEmpty (sym (normal_form-empty (common_part a b) h)) h
 
 -- it lies within both
 pub refined-IsWithin_left : (a b : Interval) → IsWithin (refined a b) a

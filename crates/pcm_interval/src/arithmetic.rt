@@ -5,13 +5,21 @@
 //!
 //! Every input has a lower end of at least 1 and is not empty.
 ghost use Rattle.std.specs.Prelude.{◌≡◌, ℕ, ◌*◌, ◌≤◌};
-ghost use Rattle.pcm_interval.specs.Arithmetic.{lower_end_of, lower_is_open, upper_end_of, upper_is_open, end_max, product_of, quotient_of, scaled_product_of, scaled_quotient_of};
+ghost use Rattle.pcm_interval.specs.Arithmetic.{between, lower_end_of, lower_is_open, upper_end_of, upper_is_open, end_max, product_of, quotient_of, scaled_product_of, scaled_quotient_of};
 ghost use Rattle.pcm_interval.specs.Intervals.{IsMember, IsNonEmpty};
 
 use crate::interval::Interval;
 
 /// The greatest number that an end can have.
 const END_MAX: u64 = 4294967295;
+
+/// An end before it is rounded: a fraction, and whether an end that it is made of is open.
+#[derive(Clone, Copy)]
+struct Fraction {
+    numerator: u64,
+    denominator: u64,
+    made_open: bool,
+}
 
 /// The product of two intervals, a·b (alsa-lib's `snd_interval_mul`). It is integer where both are.
 ///
@@ -25,16 +33,17 @@ pub fn mul(a: &Interval, b: &Interval) -> Interval
     ensures members { (n d m e : ℕ) → IsMember a.now n d → IsMember b.now m e
         → n * m ≤ end_max * (d * e) → IsMember result (n * m) (d * e) }
 {
-    let (min, openmin) = lower_end(product(a.min, b.min), 1, a.openmin || b.openmin);
-    let (max, openmax) = upper_end(product(a.max, b.max), 1, a.openmax || b.openmax);
-    let integer = a.integer && b.integer;
-    Interval {
-        min,
-        max,
-        openmin,
-        openmax,
-        integer,
-    }
+    let low = Fraction {
+        numerator: product(a.min, b.min),
+        denominator: 1,
+        made_open: a.openmin | b.openmin,
+    };
+    let high = Fraction {
+        numerator: product(a.max, b.max),
+        denominator: 1,
+        made_open: a.openmax | b.openmax,
+    };
+    between(low, high, a.integer & b.integer)
 }
 
 /// The quotient of two intervals, a/b (alsa-lib's `snd_interval_div`). It is not integer.
@@ -49,15 +58,17 @@ pub fn div(a: &Interval, b: &Interval) -> Interval
     ensures members { (n d m e : ℕ) → IsMember a.now n d → IsMember b.now m e
         → n * e ≤ end_max * (d * m) → IsMember result (n * e) (d * m) }
 {
-    let (min, openmin) = lower_end(a.min as u64, b.max as u64, a.openmin || b.openmax);
-    let (max, openmax) = upper_end(a.max as u64, b.min as u64, a.openmax || b.openmin);
-    Interval {
-        min,
-        max,
-        openmin,
-        openmax,
-        integer: false,
-    }
+    let low = Fraction {
+        numerator: a.min as u64,
+        denominator: b.max as u64,
+        made_open: a.openmin | b.openmax,
+    };
+    let high = Fraction {
+        numerator: a.max as u64,
+        denominator: b.min as u64,
+        made_open: a.openmax | b.openmin,
+    };
+    between(low, high, false)
 }
 
 /// The product of two intervals divided by a number of at least 1, a·b/k (alsa-lib's `snd_interval_muldivk`). It is not
@@ -74,15 +85,17 @@ pub fn muldivk(a: &Interval, b: &Interval, k: u32) -> Interval
     ensures members { (n d m e : ℕ) → IsMember a.now n d → IsMember b.now m e
         → n * m ≤ end_max * (d * e * k) → IsMember result (n * m) (d * e * k) }
 {
-    let (min, openmin) = lower_end(product(a.min, b.min), k as u64, a.openmin || b.openmin);
-    let (max, openmax) = upper_end(product(a.max, b.max), k as u64, a.openmax || b.openmax);
-    Interval {
-        min,
-        max,
-        openmin,
-        openmax,
-        integer: false,
-    }
+    let low = Fraction {
+        numerator: product(a.min, b.min),
+        denominator: k as u64,
+        made_open: a.openmin | b.openmin,
+    };
+    let high = Fraction {
+        numerator: product(a.max, b.max),
+        denominator: k as u64,
+        made_open: a.openmax | b.openmax,
+    };
+    between(low, high, false)
 }
 
 /// An interval times a number of at least 1, divided by an interval, a·k/b (alsa-lib's `snd_interval_mulkdiv`). It is
@@ -99,15 +112,17 @@ pub fn mulkdiv(a: &Interval, k: u32, b: &Interval) -> Interval
     ensures members { (n d m e : ℕ) → IsMember a.now n d → IsMember b.now m e
         → n * k * e ≤ end_max * (d * m) → IsMember result (n * k * e) (d * m) }
 {
-    let (min, openmin) = lower_end(product(a.min, k), b.max as u64, a.openmin || b.openmax);
-    let (max, openmax) = upper_end(product(a.max, k), b.min as u64, a.openmax || b.openmin);
-    Interval {
-        min,
-        max,
-        openmin,
-        openmax,
-        integer: false,
-    }
+    let low = Fraction {
+        numerator: product(a.min, k),
+        denominator: b.max as u64,
+        made_open: a.openmin | b.openmax,
+    };
+    let high = Fraction {
+        numerator: product(a.max, k),
+        denominator: b.min as u64,
+        made_open: a.openmax | b.openmin,
+    };
+    between(low, high, false)
 }
 
 /// The product of two numbers of 32 bits, which fits 64.
@@ -117,30 +132,48 @@ fn product(a: u32, b: u32) -> u64
     a as u64 * b as u64
 }
 
-/// The fraction `numerator`/`denominator` as a lower end: rounded down, with whether it is open.
-fn lower_end(numerator: u64, denominator: u64, made_open: bool) -> (u32, bool)
-    requires { 1 ≤ denominator }
-    ensures end { result.0 ≡ lower_end_of numerator denominator }
-    ensures open_at { result.1 ≡ lower_is_open numerator denominator made_open }
+/// The interval between two fractions, their ends rounded outward.
+#[tactic(auto, unfolding(crate::specs::Arithmetic::between))]
+fn between(low: Fraction, high: Fraction, integer: bool) -> Interval
+    requires low { 1 ≤ low.denominator }
+    requires high { 1 ≤ high.denominator }
+    ensures { result ≡ between low.numerator low.denominator low.made_open high.numerator high.denominator high.made_open integer }
 {
-    let whole = numerator / denominator;
-    let rest = numerator % denominator;
-    if whole > END_MAX {
-        return (u32::MAX, false);
+    let (min, openmin) = lower_end(low);
+    let (max, openmax) = upper_end(high);
+    Interval {
+        min,
+        max,
+        openmin,
+        openmax,
+        integer,
     }
-    (whole as u32, made_open || rest > 0)
 }
 
-/// The fraction `numerator`/`denominator` as an upper end: rounded up, with whether it is open.
-fn upper_end(numerator: u64, denominator: u64, made_open: bool) -> (u32, bool)
-    requires { 1 ≤ denominator }
-    ensures end { result.0 ≡ upper_end_of numerator denominator }
-    ensures open_at { result.1 ≡ upper_is_open numerator denominator made_open }
+/// A fraction as a lower end: rounded down, with whether it is open.
+fn lower_end(low: Fraction) -> (u32, bool)
+    requires { 1 ≤ low.denominator }
+    ensures end { result.0 ≡ lower_end_of low.numerator low.denominator }
+    ensures is_open { result.1 ≡ lower_is_open low.numerator low.denominator low.made_open }
 {
-    let rest = numerator % denominator;
-    let whole = numerator / denominator + u64::from(rest > 0);
+    let whole = low.numerator / low.denominator;
+    let broken = low.numerator % low.denominator > 0;
     if whole > END_MAX {
         return (u32::MAX, false);
     }
-    (whole as u32, made_open || rest > 0)
+    (whole as u32, low.made_open | broken)
+}
+
+/// A fraction as an upper end: rounded up, with whether it is open.
+fn upper_end(high: Fraction) -> (u32, bool)
+    requires { 1 ≤ high.denominator }
+    ensures end { result.0 ≡ upper_end_of high.numerator high.denominator }
+    ensures is_open { result.1 ≡ upper_is_open high.numerator high.denominator high.made_open }
+{
+    let broken = high.numerator % high.denominator > 0;
+    let whole = high.numerator / high.denominator + u64::from(broken);
+    if whole > END_MAX {
+        return (u32::MAX, false);
+    }
+    (whole as u32, high.made_open | broken)
 }

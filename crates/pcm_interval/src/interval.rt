@@ -1,6 +1,6 @@
 //! Intervals of numbers, whose ends may be open.
-ghost use Rattle.std.specs.Prelude.{◌≡◌, ◌↔◌, ℕ, OnOk, OnErr, IfOk, IsErr, IsTrue, IsFalse};
-ghost use Rattle.pcm_interval.specs.Intervals.{is_empty, common_part, normal_form, refined, IsEmpty, IsMember};
+ghost use Rattle.std.specs.Prelude.{◌≡◌, ◌↔◌, ◌||◌, ℕ, OnOk, OnErr, IfOk, IsErr, IsFalse};
+ghost use Rattle.pcm_interval.specs.Intervals.{is_empty, larger_lower_is_open, smaller_upper_is_open, common_part, with_ends_closed, normal_form, refined, IsEmpty, IsNonEmpty, IsMember};
 
 use crate::empty::Empty;
 
@@ -53,36 +53,80 @@ impl Interval {
     }
 
     /// What two intervals have in common, with ends as they are.
+    #[tactic(auto, unfolding(crate::specs::Intervals::common_part))]
     fn common_part(&self, other: &Interval) -> Interval
         ensures { result ≡ common_part self.now other.now }
     {
+        let openmin = self.larger_lower_is_open(other);
+        let openmax = self.smaller_upper_is_open(other);
+        let integer = self.is_integer_with(other);
         Interval {
             min: self.min.max(other.min),
             max: self.max.min(other.max),
-            openmin: (self.openmin && self.min >= other.min)
-                || (other.openmin && other.min >= self.min),
-            openmax: (self.openmax && self.max <= other.max)
-                || (other.openmax && other.max <= self.max),
-            integer: self.integer || other.integer,
+            openmin,
+            openmax,
+            integer,
         }
     }
 
-    /// The one form that a refinement leaves, for an interval that is not empty.
+    /// Whether the larger of two lower ends is open.
+    fn larger_lower_is_open(&self, other: &Interval) -> bool
+        ensures { result ≡ larger_lower_is_open self.now other.now }
+    {
+        if self.min < other.min {
+            other.openmin
+        } else if other.min < self.min {
+            self.openmin
+        } else {
+            self.openmin || other.openmin
+        }
+    }
+
+    /// Whether the smaller of two upper ends is open.
+    fn smaller_upper_is_open(&self, other: &Interval) -> bool
+        ensures { result ≡ smaller_upper_is_open self.now other.now }
+    {
+        if self.max < other.max {
+            self.openmax
+        } else if other.max < self.max {
+            other.openmax
+        } else {
+            self.openmax || other.openmax
+        }
+    }
+
+    /// Whether one of two intervals is integer.
+    fn is_integer_with(&self, other: &Interval) -> bool
+        ensures { result ≡ (self.now.integer || other.now.integer) }
+    {
+        self.integer || other.integer
+    }
+
+    /// The one form that a refinement leaves, of an interval that is not empty.
     fn normal_form(&self) -> Interval
-        requires { IsFalse (is_empty self.now) }
+        requires { IsNonEmpty self.now }
         ensures { result ≡ normal_form self.now }
     {
         if self.integer {
-            Interval {
-                min: self.min + u32::from(self.openmin),
-                max: self.max - u32::from(self.openmax),
-                openmin: false,
-                openmax: false,
-                integer: true,
-            }
-        } else {
-            let integer = self.min == self.max;
-            Interval { integer, ..*self }
+            return self.with_ends_closed();
+        }
+        let integer = self.min == self.max;
+        Interval { integer, ..*self }
+    }
+
+    /// Moves each open end inward by 1 and closes it. The interval is not empty.
+    fn with_ends_closed(&self) -> Interval
+        requires { IsNonEmpty self.now }
+        ensures { result ≡ with_ends_closed self.now }
+    {
+        let min = if self.openmin { self.min + 1 } else { self.min };
+        let max = if self.openmax { self.max - 1 } else { self.max };
+        Interval {
+            min,
+            max,
+            openmin: false,
+            openmax: false,
+            integer: self.integer,
         }
     }
 }

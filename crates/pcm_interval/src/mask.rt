@@ -15,6 +15,7 @@ impl Mask {
     ///
     /// `Ok(true)` says that the mask changed. `Empty` comes exactly where no number is left, and then the mask is as
     /// before.
+    #[tactic(auto, unfolding(crate::specs::Masks::common_mask))]
     pub fn refine(&mut self, other: &Mask) -> Result<bool, Empty>
         ensures ok { OnOk result (self.new ≡ common_mask self.old other.now) }
         ensures unchanged { IfOk result (λ changed. IsFalse changed ↔ (self.new ≡ self.old)) }
