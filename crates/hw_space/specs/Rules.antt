@@ -1,5 +1,5 @@
 -- The rules that tie the quantities of a configuration to one another.
-use Rattle.std.specs.Prelude.{ℕ, ◌≤◌, List, [], ◌∷◌}
+use Rattle.std.specs.Prelude.{◌≡◌, ℕ, ◌<◌, ◌≤◌, List, [], ◌∷◌, slice_index_or}
 use Rattle.pcm_interval.specs.declared.interval.Interval.{Interval}
 use Rattle.pcm_interval.specs.Arithmetic.{product_of, quotient_of, scaled_product_of, scaled_quotient_of}
 use Rattle.hw_space.specs.declared.quantity.Quantity.{Quantity}
@@ -52,3 +52,13 @@ abbrev pub HasScale : Operation → Type 0
 HasScale (MulDivK k) = 1 ≤ k
 HasScale (MulKDiv k) = 1 ≤ k
 HasScale other = Unit {0}
+
+-- any rule, where one is asked for past the end of the table
+abbrev pub no_rule : Rule
+no_rule = rule_for SampleBits Mul SampleBits SampleBits
+
+-- a rule is one of the table
+pub record IsListed (r : Rule) : Type 0 where
+  pub place : ℕ
+  pub below : place < 18
+  pub found : slice_index_or rules place no_rule ≡ r

@@ -20,13 +20,9 @@ use Rattle.hw_space.specs.Boxes.{part, IsBoxWithin}
 use Rattle.hw_space.specs.BoxLaws.{IsBoxWithin-antisym}
 use Rattle.hw_space.specs.Formats.{bits_of_formats}
 use Rattle.hw_space.specs.FormatLaws.{max-bits_of_formats}
-use Rattle.hw_space.specs.Rules.{rules, rule_for, computed_by, HasScale}
+use Rattle.hw_space.specs.Rules.{rules, no_rule, computed_by, HasScale}
 use Rattle.hw_space.specs.Settled.{IsSettled, IsGreatest, Keeps, computed}
 use Rattle.hw_space.specs.Proper.{IsProper}
-
--- any rule, where one is asked for past the end of the table
-abbrev no_rule : Rule
-no_rule = rule_for SampleBits Mul SampleBits SampleBits
 
 -- ---- one at most
 
