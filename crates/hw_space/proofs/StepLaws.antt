@@ -4,12 +4,12 @@ use Rattle.std.proofs.Common.{arith, sym, subst, ap, ◌∙◌}
 use Rattle.pcm_interval.specs.declared.interval.Interval.{Interval}
 use Rattle.pcm_interval.specs.declared.mask.Mask.{Mask}
 use Rattle.pcm_interval.specs.Intervals.{IsEmpty, IsNonEmpty, IsWithin, IsMember, refined, size_of}
-use Rattle.pcm_interval.specs.IntervalLaws.{IsWithin-trans, IsWithin-from_same, IsWithin-min, IsWithin-max, IsNonEmpty-IsWithin, refined-IsWithin_left, refined-greatest, refined-IsMember, IsNonEmpty-IsMember, size_of-refined}
+use Rattle.pcm_interval.specs.IntervalLaws.{IsWithin-refl, IsWithin-trans, IsWithin-from_same, IsWithin-min, IsWithin-max, IsNonEmpty-IsWithin, refined-IsWithin_left, refined-greatest, refined-IsMember, IsNonEmpty-IsMember, size_of-refined}
 use Rattle.pcm_interval.specs.Masks.{IsMaskWithin, HasNumber, common_mask}
 use Rattle.pcm_interval.specs.MaskLaws.{IsMaskWithin-refl, IsMaskWithin-trans, IsMaskWithin-from_same, IsMaskWithin-bits, HasNumber-bits, common_mask-IsMaskWithin_left, common_mask-greatest, common_mask-HasNumber, bits-common_mask}
 use Rattle.hw_space.specs.declared.param_box.ParamBox.{ParamBox}
 use Rattle.hw_space.specs.declared.quantity.Quantity.{Quantity}
-use Rattle.hw_space.specs.declared.quantity.Quantity.TheVariants.{Channels, Rate, PeriodSize, Periods, BufferSize}
+use Rattle.hw_space.specs.declared.quantity.Quantity.TheVariants.{SampleBits, FrameBits, Channels, Rate, PeriodTime, PeriodSize, PeriodBytes, Periods, BufferTime, BufferSize, BufferBytes}
 use Rattle.hw_space.specs.declared.rule.Rule.{Rule}
 use Rattle.hw_space.specs.Boxes.{part, with_part, IsBoxWithin, size_of_box}
 use Rattle.hw_space.specs.BoxLaws.{with_part-each, access-with_part, format-with_part, with_part-same, size_of_box-with_part, IsBoxWithin-refl, IsBoxWithin-trans, IsBoxWithin-with_part, with_part-IsBoxWithin, IsBoxWithin-part}
@@ -131,4 +131,69 @@ IsVoid-part b q x missed empty = record {
       let member = refined-IsMember (part b q) x (y.value q).over (y.value q).under (held.parts q) (missed.configurations y exact held) in
       let filled : IsNonEmpty (refined (part b q) x) = IsNonEmpty-IsMember (refined (part b q) x) (y.value q).over (y.value q).under member in
       absurd (cc);
+}
+
+-- ---- a mask is refined
+
+-- each settled box within a box has a mask within another, and each configuration has its number there
+pub record IsFormatMissedByNone (b : ParamBox) (m : Mask) : Type 0 where
+  pub settled : (s : ParamBox) → IsSettled s → IsBoxWithin s b → IsMaskWithin s.format m
+  pub configurations : (x : Configuration) → IsExact x → IsHeld b x → HasNumber m x.format
+
+abbrev pub with_format : ParamBox → Mask → ParamBox
+with_format b m = record b { format = m }
+
+-- the intervals stay
+parts-format : (b : ParamBox) (m : Mask) (q : Quantity) (P : Quantity → Interval → Type 0) → P q (part b q) → P q (part (with_format b m) q)
+parts-format b m SampleBits P h = h
+parts-format b m FrameBits P h = h
+parts-format b m Channels P h = h
+parts-format b m Rate P h = h
+parts-format b m PeriodTime P h = h
+parts-format b m PeriodSize P h = h
+parts-format b m PeriodBytes P h = h
+parts-format b m Periods P h = h
+parts-format b m BufferTime P h = h
+parts-format b m BufferSize P h = h
+parts-format b m BufferBytes P h = h
+
+with_format-IsBoxWithin : (b : ParamBox) (m : Mask) → IsMaskWithin m b.format → IsBoxWithin (with_format b m) b
+with_format-IsBoxWithin b m within = record {
+  access = IsMaskWithin-refl b.access;
+  format = within;
+  parts = λ q. parts-format b m q (λ p i. IsWithin i (part b p)) (IsWithin-refl (part b q));
+}
+
+pub with_format-IsStep : (b : ParamBox) (m : Mask) (changed : Bool) → IsProper b → IsFormatMissedByNone b m
+    → (common_mask b.format m).bits ≢ 0
+    → (changed ≡ false → common_mask b.format m ≡ b.format) → (common_mask b.format m ≡ b.format → changed ≡ false)
+    → IsStep b (with_format b (common_mask b.format m)) changed
+with_format-IsStep b m changed proper missed filled same differs = record {
+  within = with_format-IsBoxWithin b (common_mask b.format m) (common_mask-IsMaskWithin_left b.format m);
+  settled = λ s h in_b. record {
+    access = in_b.access;
+    format = common_mask-greatest s.format b.format m in_b.format (missed.settled s h in_b);
+    parts = λ q. parts-format b (common_mask b.format m) q (λ p i. IsWithin (part s p) i) (in_b.parts q);
+  };
+  configurations = λ x exact held. record {
+    access = held.access;
+    format = common_mask-HasNumber b.format m x.format held.format (missed.configurations x exact held);
+    parts = λ q. parts-format b (common_mask b.format m) q (λ p i. IsMember i (x.value p).over (x.value p).under) (held.parts q);
+  };
+  proper =
+      IsProper-within (with_format b (common_mask b.format m)) b proper
+      (with_format-IsBoxWithin b (common_mask b.format m) (common_mask-IsMaskWithin_left b.format m)) proper.access filled
+      (λ q. parts-format b (common_mask b.format m) q (λ p i. IsNonEmpty i) (proper.filled q));
+  moved = λ e. omega (arith, bits-common_mask b.format m (λ s. let f : changed ≡ false = differs s in absurd (cc)));
+  still = λ e. ap (with_format b) (same e);
+}
+
+pub IsVoid-format : (b : ParamBox) (m : Mask) → IsFormatMissedByNone b m → (common_mask b.format m).bits ≡ 0 → IsVoid b
+IsVoid-format b m missed empty = record {
+  settled = λ s h in_b.
+      IsMaskWithin-bits s.format (common_mask b.format m)
+      (common_mask-greatest s.format b.format m in_b.format (missed.settled s h in_b)) h.format empty;
+  configurations = λ x exact held.
+      HasNumber-bits (common_mask b.format m) x.format
+      (common_mask-HasNumber b.format m x.format held.format (missed.configurations x exact held)) empty;
 }

@@ -1,0 +1,91 @@
+-- Laws of rules: no settled box and no configuration is missed by what a rule computes.
+use Rattle.std.specs.Prelude.{◌≡◌, ℕ, ◌<◌, ◌≤◌, Bool, true, refl, nat_le, slice_index_or}
+use Rattle.std.specs.List.{list_all}
+use Rattle.std.proofs.Common.{arith, subst}
+use Rattle.std.proofs.lemmas.Bool.Decides.{nat_tests}
+use Rattle.std.proofs.lemmas.List.Sums.{AllPass-from_list_all}
+use Rattle.pcm_interval.specs.Intervals.{IsWithin, IsMember}
+use Rattle.pcm_interval.specs.IntervalLaws.{IsWithin-trans, IsWithin-from_same}
+use Rattle.pcm_interval.specs.Masks.{IsMaskWithin, HasNumber}
+use Rattle.pcm_interval.specs.MaskLaws.{IsMaskWithin-trans, IsMaskWithin-from_same}
+use Rattle.hw_space.specs.declared.param_box.ParamBox.{ParamBox}
+use Rattle.hw_space.specs.declared.quantity.Quantity.TheVariants.{SampleBits}
+use Rattle.hw_space.specs.declared.rule.Operation.{Operation}
+use Rattle.hw_space.specs.declared.rule.Operation.TheVariants.{Mul, Div, MulDivK, MulKDiv}
+use Rattle.hw_space.specs.declared.rule.Rule.{Rule}
+use Rattle.hw_space.specs.Boxes.{part, IsBoxWithin}
+use Rattle.hw_space.specs.Formats.{bits_of_formats, formats_of_bits}
+use Rattle.hw_space.specs.FormatLaws.{bits_of_formats-IsWithin, bits_of_formats-IsMember, formats_of_bits-IsMaskWithin, formats_of_bits-HasNumber}
+use Rattle.hw_space.specs.Rules.{rules, no_rule, IsListed, HasScale}
+use Rattle.hw_space.specs.Settled.{IsSettled, Configuration, IsExact, IsHeld, IsResult, Keeps, computed}
+use Rattle.hw_space.specs.SettledLaws.{computed-IsWithin}
+use Rattle.hw_space.specs.ConfigurationLaws.{computed-IsMember}
+use Rattle.hw_space.specs.Proper.{IsProper}
+use Rattle.hw_space.proofs.StepLaws.{IsMissedByNone}
+
+-- ---- the table
+
+abbrev has_scale : Operation → Bool
+has_scale Mul = true
+has_scale Div = true
+has_scale (MulDivK k) = nat_le 1 k
+has_scale (MulKDiv k) = nat_le 1 k
+
+HasScale-from_test : (o : Operation) → has_scale o ≡ true → HasScale o
+HasScale-from_test Mul test = tt
+HasScale-from_test Div test = tt
+HasScale-from_test (MulDivK k) test = grind (arith, nat_tests)
+HasScale-from_test (MulKDiv k) test = grind (arith, nat_tests)
+
+-- each rule of the table has a number of at least 1, if it has one
+pub IsListed-HasScale : (r : Rule) → IsListed r → HasScale r.operation
+IsListed-HasScale r listed =
+    let scaled = AllPass-from_list_all (λ q. has_scale q.operation) rules refl listed.place no_rule listed.below in
+    subst (λ (q : Rule). HasScale q.operation) listed.found (HasScale-from_test (slice_index_or rules listed.place no_rule).operation scaled)
+
+-- a settled box is kept by each rule of the table
+pub IsListed-Keeps : (s : ParamBox) (r : Rule) → IsSettled s → IsListed r → Keeps s r
+IsListed-Keeps s r settled listed = subst (Keeps s) listed.found (settled.by_rules listed.place no_rule listed.below)
+
+-- a configuration meets each rule of the table
+pub IsListed-IsResult : (x : Configuration) (r : Rule) → IsExact x → IsListed r
+    → IsResult r.operation (x.value r.first) (x.value r.second) (x.value r.target)
+IsListed-IsResult x r exact listed =
+    subst (λ (q : Rule). IsResult q.operation (x.value q.first) (x.value q.second) (x.value q.target)) listed.found
+    (exact.by_rules listed.place no_rule listed.below)
+
+-- ---- nothing is missed
+
+pub computed-IsMissedByNone : (b : ParamBox) (r : Rule) → IsProper b → IsListed r → IsMissedByNone b r.target (computed r b)
+computed-IsMissedByNone b r proper listed = record {
+  settled = λ s settled within.
+      let same = IsListed-Keeps s r settled listed in
+      IsWithin-trans (part s r.target) (computed r s) (computed r b)
+      (IsWithin-from_same (part s r.target) (computed r s) same)
+      (computed-IsWithin s b settled within proper r (IsListed-HasScale r listed) same);
+  configurations = λ x exact held.
+      computed-IsMember b r x proper (IsListed-HasScale r listed) held (IsListed-IsResult x r exact listed);
+}
+
+pub bits_of_formats-IsMissedByNone : (b : ParamBox) → IsMissedByNone b SampleBits (bits_of_formats b.format)
+bits_of_formats-IsMissedByNone b = record {
+  settled = λ s settled within.
+      IsWithin-trans s.sample_bits (bits_of_formats s.format) (bits_of_formats b.format)
+      (IsWithin-from_same s.sample_bits (bits_of_formats s.format) settled.by_formats)
+      (bits_of_formats-IsWithin s.format b.format within.format);
+  configurations = λ x exact held.
+      bits_of_formats-IsMember b.format x.format (x.value SampleBits).over (x.value SampleBits).under
+      held.format exact.format (held.parts SampleBits).positive exact.sample_bits;
+}
+
+-- no settled box and no configuration is missed by the formats of some sample bits
+pub IsMaskWithin-formats_of_bits : (b s : ParamBox) → IsSettled s → IsBoxWithin s b → IsMaskWithin s.format (formats_of_bits b.sample_bits)
+IsMaskWithin-formats_of_bits b s settled within =
+    IsMaskWithin-trans s.format (formats_of_bits s.sample_bits) (formats_of_bits b.sample_bits)
+    (IsMaskWithin-from_same s.format (formats_of_bits s.sample_bits) settled.by_sample_bits)
+    (formats_of_bits-IsMaskWithin s.sample_bits b.sample_bits (within.parts SampleBits))
+
+pub HasNumber-formats_of_bits : (b : ParamBox) (x : Configuration) → IsExact x → IsHeld b x → HasNumber (formats_of_bits b.sample_bits) x.format
+HasNumber-formats_of_bits b x exact held =
+    formats_of_bits-HasNumber b.sample_bits x.format (x.value SampleBits).over (x.value SampleBits).under
+    (held.parts SampleBits) exact.format exact.sample_bits
