@@ -1,10 +1,12 @@
 -- Laws of rules: no settled box and no configuration is missed by what a rule computes.
-use Rattle.std.specs.Prelude.{◌≡◌, ℕ, ◌<◌, ◌≤◌, Bool, true, refl, nat_le, slice_index_or}
+use Rattle.std.specs.Prelude.{◌≡◌, ℕ, ◌+◌, ◌<◌, ◌≤◌, ◌↔◌, List, length, Bool, true, false, refl, nat_le, slice_index_or}
 use Rattle.std.specs.List.{list_all}
-use Rattle.std.proofs.Common.{arith, subst}
+use Rattle.std.proofs.Common.{arith, subst, sym, below_more}
+use Rattle.std.proofs.lemmas.List.{get_or_default}
 use Rattle.std.proofs.lemmas.Bool.Decides.{nat_tests}
 use Rattle.std.proofs.lemmas.List.Sums.{AllPass-from_list_all}
-use Rattle.pcm_interval.specs.Intervals.{IsWithin, IsMember}
+use Rattle.pcm_interval.specs.declared.interval.Interval.{Interval}
+use Rattle.pcm_interval.specs.Intervals.{IsEmpty, IsNonEmpty, IsWithin, IsMember, refined}
 use Rattle.pcm_interval.specs.IntervalLaws.{IsWithin-trans, IsWithin-from_same}
 use Rattle.pcm_interval.specs.Masks.{IsMaskWithin, HasNumber}
 use Rattle.pcm_interval.specs.MaskLaws.{IsMaskWithin-trans, IsMaskWithin-from_same}
@@ -21,7 +23,9 @@ use Rattle.hw_space.specs.Settled.{IsSettled, Configuration, IsExact, IsHeld, Is
 use Rattle.hw_space.specs.SettledLaws.{computed-IsWithin}
 use Rattle.hw_space.specs.ConfigurationLaws.{computed-IsMember}
 use Rattle.hw_space.specs.Proper.{IsProper}
-use Rattle.hw_space.proofs.StepLaws.{IsMissedByNone}
+use Rattle.hw_space.specs.Narrowings.{narrowed}
+use Rattle.hw_space.specs.Steps.{IsStep, IsVoid}
+use Rattle.hw_space.proofs.StepLaws.{IsMissedByNone, with_part-IsStep, IsVoid-part}
 
 -- ---- the table
 
@@ -89,3 +93,34 @@ pub HasNumber-formats_of_bits : (b : ParamBox) (x : Configuration) → IsExact x
 HasNumber-formats_of_bits b x exact held =
     formats_of_bits-HasNumber b.sample_bits x.format (x.value SampleBits).over (x.value SampleBits).under
     (held.parts SampleBits) exact.format exact.sample_bits
+
+-- ---- one rule is applied
+
+-- nothing is missed by an interval that a rule computed
+missed_by_equal : (b : ParamBox) (r : Rule) (x : Interval) → IsProper b → IsListed r → x ≡ computed r b → IsMissedByNone b r.target x
+missed_by_equal b r x proper listed equal =
+    let P : Interval → Type 0 = IsMissedByNone b r.target in subst P (sym equal) (computed-IsMissedByNone b r proper listed)
+
+pub apply-IsStep : (b new : ParamBox) (r : Rule) (x : Interval) (changed : Bool) → IsProper b → IsListed r → x ≡ computed r b
+    → IsNonEmpty (refined (part b r.target) x)
+    → (changed ≡ false ↔ (refined (part b r.target) x ≡ part b r.target))
+    → new ≡ narrowed b r.target x → IsStep b new changed
+apply-IsStep b new r x changed proper listed equal filled unchanged becomes =
+    let P : ParamBox → Type 0 = λ d. IsStep b d changed in
+    subst P (sym becomes)
+    (with_part-IsStep b r.target x changed proper (missed_by_equal b r x proper listed equal) filled unchanged.0 unchanged.1)
+
+pub apply-IsVoid : (b : ParamBox) (r : Rule) (x : Interval) → IsProper b → IsListed r → x ≡ computed r b
+    → IsEmpty (refined (part b r.target) x) → IsVoid b
+apply-IsVoid b r x proper listed equal empty = IsVoid-part b r.target x (missed_by_equal b r x proper listed equal) empty
+
+-- ---- some rules in a row
+
+-- what keeps a box up to a place, and at it, keeps it up to the next
+pub kept_more : (a b : ParamBox) (rs : List Rule) (i : ℕ) (x : Rule) → i < length rs → b ≡ a
+    → ((k : ℕ) (d : Rule) → k < i → Keeps a (slice_index_or rs k d)) → Keeps b (slice_index_or rs i x)
+    → (k : ℕ) (d : Rule) → k < i + 1 → Keeps a (slice_index_or rs k d)
+kept_more a b rs i x inside same so_far here k d below =
+    let at_d : Keeps b (slice_index_or rs i d) = subst (Keeps b) (get_or_default rs i x d inside) here in
+    let at_a : Keeps a (slice_index_or rs i d) = subst (λ (v : ParamBox). Keeps v (slice_index_or rs i d)) same at_d in
+    below_more (λ j. Keeps a (slice_index_or rs j d)) i (λ j h. so_far j d h) at_a k below

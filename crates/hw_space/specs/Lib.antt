@@ -3,6 +3,7 @@ pub mod BoxLaws
 pub mod ConfigurationLaws
 pub mod Formats
 pub mod FormatLaws
+pub mod Narrowings
 pub mod Proper
 pub mod Rules
 pub mod Settled

@@ -5,8 +5,9 @@ mod config;
 mod param_box;
 mod quantity;
 mod rule;
+mod settle;
 
 pub use config::Config;
-pub use quantity::Quantity;
 pub use param_box::ParamBox;
+pub use quantity::Quantity;
 pub use rule::{Operation, RULES, Rule};
