@@ -1,14 +1,15 @@
 -- Laws of rules: no settled box and no configuration is missed by what a rule computes.
-use Rattle.std.specs.Prelude.{◌≡◌, ℕ, ◌+◌, ◌<◌, ◌≤◌, ◌↔◌, List, length, Bool, true, false, refl, nat_le, slice_index_or}
+use Rattle.std.specs.Prelude.{◌≡◌, ◌≢◌, ℕ, ◌+◌, ◌<◌, ◌≤◌, ◌↔◌, List, length, Bool, true, false, refl, nat_le, slice_index_or}
 use Rattle.std.specs.List.{list_all}
 use Rattle.std.proofs.Common.{arith, subst, sym, below_more}
 use Rattle.std.proofs.lemmas.List.{get_or_default}
 use Rattle.std.proofs.lemmas.Bool.Decides.{nat_tests}
 use Rattle.std.proofs.lemmas.List.Sums.{AllPass-from_list_all}
 use Rattle.pcm_interval.specs.declared.interval.Interval.{Interval}
+use Rattle.pcm_interval.specs.declared.mask.Mask.{Mask}
 use Rattle.pcm_interval.specs.Intervals.{IsEmpty, IsNonEmpty, IsWithin, IsMember, refined}
 use Rattle.pcm_interval.specs.IntervalLaws.{IsWithin-trans, IsWithin-from_same}
-use Rattle.pcm_interval.specs.Masks.{IsMaskWithin, HasNumber}
+use Rattle.pcm_interval.specs.Masks.{IsMaskWithin, HasNumber, common_mask}
 use Rattle.pcm_interval.specs.MaskLaws.{IsMaskWithin-trans, IsMaskWithin-from_same}
 use Rattle.hw_space.specs.declared.param_box.ParamBox.{ParamBox}
 use Rattle.hw_space.specs.declared.quantity.Quantity.TheVariants.{SampleBits}
@@ -25,7 +26,7 @@ use Rattle.hw_space.specs.ConfigurationLaws.{computed-IsMember}
 use Rattle.hw_space.specs.Proper.{IsProper}
 use Rattle.hw_space.specs.Narrowings.{narrowed}
 use Rattle.hw_space.specs.Steps.{IsStep, IsVoid}
-use Rattle.hw_space.proofs.StepLaws.{IsMissedByNone, with_part-IsStep, IsVoid-part}
+use Rattle.hw_space.proofs.StepLaws.{IsMissedByNone, with_part-IsStep, IsVoid-part, IsFormatMissedByNone, with_format, with_format-IsStep, IsVoid-format}
 
 -- ---- the table
 
@@ -124,3 +125,41 @@ kept_more a b rs i x inside same so_far here k d below =
     let at_d : Keeps b (slice_index_or rs i d) = subst (Keeps b) (get_or_default rs i x d inside) here in
     let at_a : Keeps a (slice_index_or rs i d) = subst (λ (v : ParamBox). Keeps v (slice_index_or rs i d)) same at_d in
     below_more (λ j. Keeps a (slice_index_or rs j d)) i (λ j h. so_far j d h) at_a k below
+
+-- ---- formats and sample bits
+
+pub sample_bits-IsStep : (b new : ParamBox) (x : Interval) (changed : Bool) → IsProper b → x ≡ bits_of_formats b.format
+    → IsNonEmpty (refined b.sample_bits x)
+    → (changed ≡ false ↔ (refined b.sample_bits x ≡ b.sample_bits))
+    → new ≡ narrowed b SampleBits x → IsStep b new changed
+sample_bits-IsStep b new x changed proper equal filled unchanged becomes =
+    let P : ParamBox → Type 0 = λ d. IsStep b d changed in
+    let Q : Interval → Type 0 = IsMissedByNone b SampleBits in
+    subst P (sym becomes)
+    (with_part-IsStep b SampleBits x changed proper (subst Q (sym equal) (bits_of_formats-IsMissedByNone b)) filled unchanged.0 unchanged.1)
+
+pub sample_bits-IsVoid : (b : ParamBox) (x : Interval) → x ≡ bits_of_formats b.format → IsEmpty (refined b.sample_bits x) → IsVoid b
+sample_bits-IsVoid b x equal empty =
+    let Q : Interval → Type 0 = IsMissedByNone b SampleBits in
+    IsVoid-part b SampleBits x (subst Q (sym equal) (bits_of_formats-IsMissedByNone b)) empty
+
+formats_of_bits-IsFormatMissedByNone : (b : ParamBox) → IsFormatMissedByNone b (formats_of_bits b.sample_bits)
+formats_of_bits-IsFormatMissedByNone b = record {
+  settled = IsMaskWithin-formats_of_bits b;
+  configurations = HasNumber-formats_of_bits b;
+}
+
+pub format-IsStep : (b new : ParamBox) (m : Mask) (changed : Bool) → IsProper b → m ≡ formats_of_bits b.sample_bits
+    → (common_mask b.format m).bits ≢ 0
+    → (changed ≡ false ↔ (common_mask b.format m ≡ b.format))
+    → new ≡ with_format b (common_mask b.format m) → IsStep b new changed
+format-IsStep b new m changed proper equal filled unchanged becomes =
+    let P : ParamBox → Type 0 = λ d. IsStep b d changed in
+    let Q : Mask → Type 0 = IsFormatMissedByNone b in
+    subst P (sym becomes)
+    (with_format-IsStep b m changed proper (subst Q (sym equal) (formats_of_bits-IsFormatMissedByNone b)) filled unchanged.0 unchanged.1)
+
+pub format-IsVoid : (b : ParamBox) (m : Mask) → m ≡ formats_of_bits b.sample_bits → (common_mask b.format m).bits ≡ 0 → IsVoid b
+format-IsVoid b m equal empty =
+    let Q : Mask → Type 0 = IsFormatMissedByNone b in
+    IsVoid-format b m (subst Q (sym equal) (formats_of_bits-IsFormatMissedByNone b)) empty

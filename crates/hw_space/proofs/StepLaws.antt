@@ -197,3 +197,13 @@ IsVoid-format b m missed empty = record {
       HasNumber-bits (common_mask b.format m) x.format
       (common_mask-HasNumber b.format m x.format held.format (missed.configurations x exact held)) empty;
 }
+
+-- ---- a step that changes something
+
+or_true : (c : Bool) → (c || true) ≡ true
+or_true true = refl
+or_true false = refl
+
+pub IsStep-moved : (a b d : ParamBox) (c e : Bool) → IsStep a b c → IsStep b d e → e ≡ true → IsStep a d true
+IsStep-moved a b d c true h g some = subst (IsStep a d) (or_true c) (IsStep-trans a b d c true h g)
+IsStep-moved a b d c false h g some = absurd (cc)

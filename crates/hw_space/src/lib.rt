@@ -2,6 +2,7 @@
 #![tactic(auto)]
 
 mod config;
+mod formats;
 mod param_box;
 mod quantity;
 mod rule;
