@@ -1,8 +1,9 @@
 -- Laws of rules: no settled box and no configuration is missed by what a rule computes.
-use Rattle.std.specs.Prelude.{◌≡◌, ◌≢◌, ℕ, ◌+◌, ◌<◌, ◌≤◌, ◌↔◌, List, length, Bool, true, false, refl, nat_le, slice_index_or}
+use Rattle.std.specs.Prelude.{◌≡◌, ◌≢◌, ℕ, ◌+◌, ◌<◌, ◌≤◌, ◌↔◌, List, [], ◌∷◌, length, All, Bool, ◌||◌, true, false, refl, nat_le, slice_index_or}
 use Rattle.std.specs.List.{list_all}
-use Rattle.std.proofs.Common.{arith, subst, sym, below_more}
+use Rattle.std.proofs.Common.{arith, subst, sym, ◌∙◌, below_more}
 use Rattle.std.proofs.lemmas.List.{get_or_default}
+use Rattle.std.proofs.lemmas.List.Elements.{All-cons, All-nil}
 use Rattle.std.proofs.lemmas.Bool.Decides.{nat_tests}
 use Rattle.std.proofs.lemmas.List.Sums.{AllPass-from_list_all}
 use Rattle.pcm_interval.specs.declared.interval.Interval.{Interval}
@@ -26,7 +27,7 @@ use Rattle.hw_space.specs.ConfigurationLaws.{computed-IsMember}
 use Rattle.hw_space.specs.Proper.{IsProper}
 use Rattle.hw_space.specs.Narrowings.{narrowed}
 use Rattle.hw_space.specs.Steps.{IsStep, IsVoid}
-use Rattle.hw_space.proofs.StepLaws.{IsMissedByNone, with_part-IsStep, IsVoid-part, IsFormatMissedByNone, with_format, with_format-IsStep, IsVoid-format}
+use Rattle.hw_space.proofs.StepLaws.{IsStep-trans, either_false, IsMissedByNone, with_part-IsStep, IsVoid-part, IsFormatMissedByNone, with_format, with_format-IsStep, IsVoid-format}
 
 -- ---- the table
 
@@ -163,3 +164,59 @@ pub format-IsVoid : (b : ParamBox) (m : Mask) → m ≡ formats_of_bits b.sample
 format-IsVoid b m equal empty =
     let Q : Mask → Type 0 = IsFormatMissedByNone b in
     IsVoid-format b m (subst Q (sym equal) (formats_of_bits-IsFormatMissedByNone b)) empty
+
+-- ---- the tables that are passed
+
+-- each rule of the table is listed
+pub all-IsListed : All IsListed rules
+all-IsListed k d below = record {
+  place = k;
+  below = below;
+  found = get_or_default rules k no_rule d below;
+}
+
+listed : (k : ℕ) → k < 18 → IsListed (slice_index_or rules k no_rule)
+listed k below = record {
+  place = k;
+  below = below;
+  found = refl;
+}
+
+-- and so are two that are picked
+pub pair-IsListed : (i j : ℕ) → i < 18 → j < 18
+    → All IsListed (slice_index_or rules i no_rule ∷ slice_index_or rules j no_rule ∷ [])
+pair-IsListed i j first second =
+    All-cons IsListed (slice_index_or rules i no_rule) (slice_index_or rules j no_rule ∷ []) (listed i first)
+    (All-cons IsListed (slice_index_or rules j no_rule) [] (listed j second) (All-nil IsListed))
+
+-- ---- a pass over all rules
+
+pub pass-IsStep : (a b c d e f : ParamBox) (p q r s t : Bool)
+    → IsStep a b p → IsStep b c q → IsStep c d r → IsStep d e s → IsStep e f t → IsStep a f ((((p || q) || r) || s) || t)
+pass-IsStep a b c d e f p q r s t one two three four five =
+    IsStep-trans a e f (((p || q) || r) || s) t
+    (IsStep-trans a d e ((p || q) || r) s (IsStep-trans a c d (p || q) r (IsStep-trans a b c p q one two) three) four) five
+
+-- where it changes nothing, the box was settled
+pub pass-IsSettled : (a b c d e : ParamBox) (p q r s t : Bool)
+    → IsProper a → IsStep a b p → IsStep b c q → IsStep c d r → IsStep d e s
+    → (r ≡ false → All (Keeps c) rules)
+    → (s ≡ false → refined d.sample_bits (bits_of_formats d.format) ≡ d.sample_bits)
+    → (t ≡ false → common_mask e.format (formats_of_bits e.sample_bits) ≡ e.format)
+    → ((((p || q) || r) || s) || t) ≡ false → IsSettled a
+pass-IsSettled a b c d e p q r s t proper one two three four by_rules by_formats by_sample_bits none =
+    let last = either_false (((p || q) || r) || s) t none in
+    let fourth = either_false ((p || q) || r) s last.0 in
+    let third = either_false (p || q) r fourth.0 in
+    let second = either_false p q third.0 in
+    let c_is : c ≡ a = two.still second.1 ∙ one.still second.0 in
+    let d_is : d ≡ a = three.still third.1 ∙ c_is in
+    let e_is : e ≡ a = four.still fourth.1 ∙ d_is in
+    record {
+      access = proper.access;
+      format = proper.format;
+      parts = proper.filled;
+      by_rules = subst (λ (x : ParamBox). All (Keeps x) rules) c_is (by_rules third.1);
+      by_formats = subst (λ (x : ParamBox). refined x.sample_bits (bits_of_formats x.format) ≡ x.sample_bits) d_is (by_formats fourth.1);
+      by_sample_bits = subst (λ (x : ParamBox). common_mask x.format (formats_of_bits x.sample_bits) ≡ x.format) e_is (by_sample_bits last.1);
+    }
