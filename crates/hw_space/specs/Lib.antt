@@ -4,8 +4,10 @@ pub mod ConfigurationLaws
 pub mod Formats
 pub mod FormatLaws
 pub mod Narrowings
+pub mod Params
 pub mod Proper
 pub mod Rules
 pub mod Settled
 pub mod SettledLaws
 pub mod Steps
+pub mod Widest

@@ -3,12 +3,16 @@
 
 mod config;
 mod formats;
+mod narrowing;
+mod param;
 mod param_box;
 mod quantity;
 mod rule;
 mod settle;
+mod slave;
+mod space;
 
 pub use config::Config;
-pub use param_box::ParamBox;
-pub use quantity::Quantity;
-pub use rule::{Operation, RULES, Rule};
+pub use param::Param;
+pub use slave::Slave;
+pub use space::Space;
