@@ -6,7 +6,7 @@ ghost use Rattle.hw_space.specs.Widest.{widest};
 
 use crate::param_box::ParamBox;
 use crate::quantity::Quantity;
-use crate::settle::{narrow_part, settle};
+use crate::settle::{narrow, settle};
 use crate::narrowing::{from_to, whole_from_to};
 use crate::slave::Slave;
 use pcm_interval::{Empty, Interval, Mask};
@@ -90,8 +90,7 @@ impl Space {
         ensures err { OnErr result (self.new ≡ self.old) }
     {
         let mut ranges = self.ranges;
-        narrow_part(&mut ranges, quantity, other)?;
-        settle(&mut ranges)?;
+        narrow(&mut ranges, quantity, other)?;
         self.ranges = ranges;
         Ok(())
     }
