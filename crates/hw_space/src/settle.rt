@@ -6,9 +6,9 @@ ghost use Rattle.hw_space.specs.Boxes.{part};
 ghost use Rattle.hw_space.specs.Formats.{bits_of_formats, formats_of_bits};
 ghost use Rattle.hw_space.specs.Narrowings.{narrowed};
 ghost use Rattle.hw_space.specs.Rules.{IsListed};
-ghost use Rattle.hw_space.specs.Settled.{Keeps, IsSettled, IsGreatest, KeepsConfigurations};
+ghost use Rattle.hw_space.specs.Settled.{Keeps, IsSettled, IsVoid};
 ghost use Rattle.hw_space.specs.Proper.{IsProper};
-ghost use Rattle.hw_space.specs.Steps.{IsStep, IsVoid};
+ghost use Rattle.hw_space.specs.Steps.{IsStep};
 
 use crate::formats::{bits_of_formats, formats_of_bits};
 use crate::param_box::ParamBox;
@@ -146,19 +146,4 @@ pub fn settle(ranges: &mut ParamBox) -> Result<bool, Empty>
         changed = true;
     }
     Ok(changed)
-}
-
-/// Refines the interval of one quantity, and then applies the rules until none changes anything.
-///
-/// `Empty` comes exactly where no settled box lies within the narrowed one; then the box may be narrowed in part.
-pub fn narrow(ranges: &mut ParamBox, quantity: Quantity, other: &Interval) -> Result<(), Empty>
-    requires { IsProper ranges.old }
-    ensures greatest { OnOk result (IsGreatest (narrowed ranges.old quantity other.now) ranges.new) }
-    ensures configurations { OnOk result (KeepsConfigurations (narrowed ranges.old quantity other.now) ranges.new) }
-    ensures proper { OnOk result (IsProper ranges.new) }
-    ensures empty { OnErr result (IsVoid (narrowed ranges.old quantity other.now)) }
-{
-    narrow_part(ranges, quantity, other)?;
-    settle(ranges)?;
-    Ok(())
 }
