@@ -1,12 +1,16 @@
 //! A space: the configurations that a stream may still have.
 ghost use Rattle.std.specs.Prelude.{◌≡◌, ◌≢◌, ◌↔◌, IsTrue, OnErr, IfOk};
 ghost use Rattle.hw_space.specs.Boxes.{part};
-ghost use Rattle.hw_space.specs.Narrowings.{narrowed, with_value, with_min, with_max, with_integer, with_first, with_last, interval_of, mask_of, FitsParam};
+ghost use Rattle.hw_space.specs.Narrowings.{narrowed, with_value, with_min, with_max, with_integer, with_first, with_last, interval_of, mask_of, FitsParam, LeavesNear};
+ghost use Rattle.hw_space.specs.Choices.{IsChoice};
 ghost use Rattle.hw_space.specs.Params.{HasInterval};
 ghost use Rattle.hw_space.specs.Settled.{Leaves, left_of};
 ghost use Rattle.hw_space.specs.Widest.{widest};
 
+use crate::choice::choose;
+use crate::config::Config;
 use crate::narrowing::{at_least, at_most, from_to, greatest_end, least_end, narrow, take_value, whole_from_to, whole_numbers};
+use crate::near::take_near;
 use crate::param::{Param, ParamKind};
 use crate::param_box::ParamBox;
 use crate::quantity::Quantity;
@@ -155,6 +159,37 @@ impl Space {
         let quantity = param.quantity();
         let end = greatest_end(self.ranges.part(quantity));
         self.narrow(quantity, &end)
+    }
+
+    /// Narrows a parameter to the end that is nearest to a number, and refines (`snd_pcm_hw_params_set_rate_near` and the
+    /// like).
+    ///
+    /// It tries `set_max` with the number and takes the greatest end, and tries `set_min` and takes the least end. It
+    /// narrows to the nearer of the two as `set_last` or `set_first` does; at equal distance, which is measured to the
+    /// ends' numbers, open or closed, to the lower (this library's own choice). Where one try leaves nothing, it takes
+    /// the other's end.
+    ///
+    /// `Empty` comes exactly where both tries leave nothing, or the last narrowing does. Then the space is as before.
+    pub fn set_near(&mut self, param: Param, value: u32) -> Result<(), Empty>
+        requires { HasInterval param }
+        ensures near { LeavesNear self.old param value (left_of result self.new) }
+        ensures err { OnErr result (self.new ≡ self.old) }
+    {
+        let mut ranges = self.ranges;
+        take_near(&mut ranges, param.quantity(), value)?;
+        self.ranges = ranges;
+        Ok(())
+    }
+
+    /// Chooses one configuration of the space, which stays as it is. It refines, and then takes in this order, which is
+    /// this library's own: the first access, the first format, the least channels, the least rate, the period size
+    /// nearest to the slave's, the greatest buffer size, the least number of periods. After each it refines.
+    ///
+    /// `Empty` comes exactly where one of these steps leaves nothing.
+    pub fn choose(&self, slave: &Slave) -> Result<Config, Empty>
+        ensures { IsChoice self.now slave.now.period result }
+    {
+        choose(&self.ranges, slave.period)
     }
 
     /// The interval of a parameter; None for the access and the format.
