@@ -3,13 +3,14 @@ ghost use Rattle.std.specs.Prelude.{◌≡◌, ◌↔◌, ◌+◌, ◌-◌, ◌^
 ghost use Rattle.hw_space.specs.Proper.{IsProper};
 ghost use Rattle.hw_space.specs.Settled.{IsVoid};
 ghost use Rattle.hw_space.specs.Steps.{IsStep};
+ghost use Rattle.hw_space.specs.Widest.{whole_from_to};
 ghost use Rattle.hw_space.specs.WholeTimes.{HasWholeTime, HasNoneFrom, size_of_span, time_of_span};
 
 use crate::narrowing::whole_from_to;
 use crate::param_box::ParamBox;
 use crate::quantity::Quantity;
 use crate::settle::narrow_part;
-use pcm_interval::Empty;
+use pcm_interval::{Empty, Interval};
 
 /// A stretch of frames that has a size and a time.
 #[derive(Clone, Copy)]
@@ -51,20 +52,36 @@ pub fn refine_whole_time(ranges: &mut ParamBox, span: Span) -> Result<bool, Empt
     ensures empty { OnErr result (IsVoid ranges.old) }
 {
     let rate = ranges.rate;
-    if !ranges.part(span.time()).integer || rate.min < rate.max {
+    let time = ranges.part(span.time());
+    if !time.integer || rate.min < rate.max {
         return Ok(false);
     }
-    let size = ranges.part(span.size());
-    let least = first_whole(size.min, size.max, rate.min);
-    let greatest = last_whole(least, size.max, rate.min);
-    narrow_part(ranges, span.size(), &whole_from_to(least, greatest))
+    let sizes = whole_sizes(ranges.part(span.size()), rate.min);
+    let changed = narrow_part(ranges, span.size(), &sizes)?;
+    Ok(changed)
+}
+
+/// From the least to the greatest size within an interval whose time is whole; empty where there is none.
+fn whole_sizes(sizes: Interval, rate: u32) -> Interval
+    requires rate { 1 ≤ rate }
+    requires min { 1 ≤ sizes.min }
+    requires max { sizes.max + 1 < 2 ^ 32 }
+    ensures whole { result ≡ whole_from_to result.min result.max }
+    ensures below { HasNoneFrom rate sizes.min result.min }
+    ensures above { HasNoneFrom rate (result.max + 1) (sizes.max + 1) }
+{
+    let least = first_whole(sizes.min, sizes.max, rate);
+    let greatest = last_whole(least, sizes.max, rate);
+    whole_from_to(least, greatest)
 }
 
 /// The first size from `least` up to `most` whose time is whole, or `most + 1`.
 fn first_whole(least: u32, most: u32, rate: u32) -> u32
     requires rate { 1 ≤ rate }
+    requires least { 1 ≤ least }
     requires most { most + 1 < 2 ^ 32 }
-    ensures { HasNoneFrom rate least result }
+    ensures positive { 1 ≤ result }
+    ensures none { HasNoneFrom rate least result }
 {
     for size in least..most + 1 {
         if has_whole_time(size, rate) {
@@ -74,7 +91,7 @@ fn first_whole(least: u32, most: u32, rate: u32) -> u32
     most + 1
 }
 
-/// The last size from `most` down to `least` whose time is whole, or `least - 1`.
+/// The last size from `most` down to `least` whose time is whole, or a lower one.
 fn last_whole(least: u32, most: u32, rate: u32) -> u32
     requires rate { 1 ≤ rate }
     requires least { 1 ≤ least }
