@@ -14,3 +14,4 @@ pub mod SettledLaws
 pub mod Steps
 pub mod WholeTimes
 pub mod Widest
+pub mod WidestLaws
