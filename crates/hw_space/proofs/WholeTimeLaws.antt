@@ -1,11 +1,11 @@
 -- Laws of whole times: no settled box and no configuration is missed by the sizes whose time is whole.
-use Rattle.std.specs.Prelude.{◌≡◌, ◌↔◌, ◌⊎◌, ℕ, ◌+◌, ◌*◌, ◌/◌, ◌%◌, ◌<◌, ◌≤◌, Bool, true, false, not, ◌&&◌, ◌||◌, nat_le, IsTrue, refl}
+use Rattle.std.specs.Prelude.{◌≡◌, ◌↔◌, ℕ, ◌+◌, ◌*◌, ◌/◌, ◌%◌, ◌<◌, ◌≤◌, Bool, true, false, not, ◌&&◌, ◌||◌, nat_le, IsTrue, refl}
 use Rattle.std.proofs.Common.{arith, subst, sym, ap, ◌∙◌, inl, inr, lit<}
 use Rattle.std.proofs.lemmas.Bool.{cases_lt}
 use Rattle.std.proofs.lemmas.Bool.Decides.{nat_tests}
 use Rattle.std.proofs.Math.Nat.{mul-le-mul_right, lt-div-mul-add, div-mul-le_self, mul-mod_left, eq_of_mul-eq-mul_right, le_of_mul-le-mul_right, mul-pos}
 use Rattle.pcm_interval.specs.declared.interval.Interval.{Interval}
-use Rattle.pcm_interval.specs.Intervals.{refined, IsEmpty, IsNonEmpty, IsWithin, IsLowerWithin, IsUpperWithin, IsMember, IsNormal}
+use Rattle.pcm_interval.specs.Intervals.{refined, IsEmpty, IsNonEmpty, IsWithin, IsLowerWithin, IsUpperWithin, IsNormal}
 use Rattle.pcm_interval.specs.IntervalLaws.{IsWithin-min, IsWithin-max, IsWithin-from_same, IsNonEmpty-le}
 use Rattle.pcm_interval.specs.Arithmetic.{end_max, between, is_broken, rounded_up, scaled_product_of, scaled_quotient_of}
 use Rattle.hw_space.specs.declared.param_box.ParamBox.{ParamBox}
@@ -105,9 +105,9 @@ module _ (size time rate : Interval) (r : ℕ) (h : IsTimed size time rate r) wh
       let size_order : size.min ≤ size.max = IsNonEmpty-le size h.size_filled in
       let time_order : time.min ≤ time.max = IsNonEmpty-le time h.time_filled in
       let up = lower-fraction time (size.min * 1000000) rate.max (size.openmin || rate.openmax) (size.max * 1000000) rate.min
-          (size.openmax || rate.openmin) false h.by_size.lower (h.time_normal.lower h.time_whole) (omega (arith, h.rate_max, h.positive)) (omega (arith, h.time_uncut)) in
+      (size.openmax || rate.openmin) false h.by_size.lower (h.time_normal.lower h.time_whole) (omega (arith, h.rate_max, h.positive)) (omega (arith, h.time_uncut)) in
       let down = lower-fraction size (time.min * rate.min) 1000000 (time.openmin || rate.openmin) (time.max * rate.max) 1000000
-          (time.openmax || rate.openmax) false h.by_time.lower (h.size_normal.lower h.size_whole) (lit< tt) (omega (arith, h.size_uncut)) in
+      (time.openmax || rate.openmax) false h.by_time.lower (h.size_normal.lower h.size_whole) (lit< tt) (omega (arith, h.size_uncut)) in
       let high : size.min * 1000000 ≤ time.min * r = subst (λ (x : ℕ). size.min * 1000000 ≤ time.min * x) h.rate_max up in
       let low : time.min * r ≤ size.min * 1000000 = subst (λ (x : ℕ). time.min * x ≤ size.min * 1000000) h.rate_min down in
       let equal : size.min * 1000000 ≡ time.min * r = omega arith in
@@ -117,9 +117,9 @@ module _ (size time rate : Interval) (r : ℕ) (h : IsTimed size time rate r) wh
   unfolding scaled_quotient_of scaled_product_of
   IsTimed-max =
       let up = upper-fraction time (size.max * 1000000) rate.min (size.openmax || rate.openmin) (size.min * 1000000) rate.max
-          (size.openmin || rate.openmax) false h.by_size.upper (h.time_normal.upper h.time_whole) (omega (arith, h.rate_min, h.positive)) h.time_uncut in
+      (size.openmin || rate.openmax) false h.by_size.upper (h.time_normal.upper h.time_whole) (omega (arith, h.rate_min, h.positive)) h.time_uncut in
       let down = upper-fraction size (time.max * rate.max) 1000000 (time.openmax || rate.openmax) (time.min * rate.min) 1000000
-          (time.openmin || rate.openmin) false h.by_time.upper (h.size_normal.upper h.size_whole) (lit< tt) h.size_uncut in
+      (time.openmin || rate.openmin) false h.by_time.upper (h.size_normal.upper h.size_whole) (lit< tt) h.size_uncut in
       let high : time.max * r ≤ size.max * 1000000 = subst (λ (x : ℕ). time.max * x ≤ size.max * 1000000) h.rate_min up in
       let low : size.max * 1000000 ≤ time.max * r = subst (λ (x : ℕ). size.max * 1000000 ≤ time.max * x) h.rate_max down in
       let equal : size.max * 1000000 ≡ time.max * r = omega arith in
@@ -189,7 +189,7 @@ whole-value n d t u p e r d_pos u_pos e_pos whole_n whole_t rate exact =
     let by_t : u * (t / u) * (d * p) ≡ n * 1000000 * e * u = subst (λ (v : ℕ). v * (d * p) ≡ n * 1000000 * e * u) t_is exact in
     let by_p : u * (t / u) * (d * (r * e)) ≡ n * 1000000 * e * u = subst (λ (v : ℕ). u * (t / u) * (d * v) ≡ n * 1000000 * e * u) rate by_t in
     let by_n : u * (t / u) * (d * (r * e)) ≡ d * (n / d) * 1000000 * e * u =
-        subst (λ (v : ℕ). u * (t / u) * (d * (r * e)) ≡ v * 1000000 * e * u) n_is by_p in
+    subst (λ (v : ℕ). u * (t / u) * (d * (r * e)) ≡ v * 1000000 * e * u) n_is by_p in
     whole-exact (n / d) (t / u) d u r e d_pos u_pos e_pos by_n
 
 -- the rule from size to time
@@ -247,9 +247,9 @@ whole_sizes-IsMissedByNone b span r least greatest proper whole low high none_be
       let q = size_of_span span in
       let timed = settled-IsTimed s b span r proper settled within whole low high in
       let at_least = not_before r (part b q).min least (part s q).min none_below
-          (IsTimed-min (part s q) (part s (time_of_span span)) s.rate r timed) (IsWithin-min (part s q) (part b q) (within.parts q)) in
+      (IsTimed-min (part s q) (part s (time_of_span span)) s.rate r timed) (IsWithin-min (part s q) (part b q) (within.parts q)) in
       let at_most = not_after r greatest (part b q).max (part s q).max none_above
-          (IsTimed-max (part s q) (part s (time_of_span span)) s.rate r timed) (IsWithin-max (part s q) (part b q) (within.parts q)) in
+      (IsTimed-max (part s q) (part s (time_of_span span)) s.rate r timed) (IsWithin-max (part s q) (part b q) (within.parts q)) in
       IsWithin-whole (part s q) least greatest at_least at_most timed.size_whole;
   configurations = λ x exact held.
       let q = size_of_span span in
@@ -291,11 +291,11 @@ read-IsMissedByNone b span p q time size x proper p_is time_is whole one_rate q_
     let time_part : time ≡ part b (time_of_span span) = time_is ∙ ap (part b) p_is in
     let size_part : size ≡ part b (size_of_span span) = size_is ∙ ap (part b) q_is in
     let is_whole : IsTrue (part b (time_of_span span)).integer =
-        subst (λ (i : Interval). IsTrue i.integer) time_part (true_from_not time.integer whole) in
+    subst (λ (i : Interval). IsTrue i.integer) time_part (true_from_not time.integer whole) in
     let none_below : HasNoneFrom b.rate.min (part b (size_of_span span)).min x.min =
-        subst (λ (i : Interval). HasNoneFrom b.rate.min i.min x.min) size_part below in
+    subst (λ (i : Interval). HasNoneFrom b.rate.min i.min x.min) size_part below in
     let none_above : HasNoneFrom b.rate.min (x.max + 1) ((part b (size_of_span span)).max + 1) =
-        subst (λ (i : Interval). HasNoneFrom b.rate.min (x.max + 1) (i.max + 1)) size_part above in
+    subst (λ (i : Interval). HasNoneFrom b.rate.min (x.max + 1) (i.max + 1)) size_part above in
     subst (IsMissedByNone b (size_of_span span)) (sym x_is)
     (whole_sizes-IsMissedByNone b span b.rate.min x.min x.max proper is_whole refl one_rate none_below none_above)
 

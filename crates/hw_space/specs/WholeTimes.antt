@@ -1,5 +1,5 @@
 -- Sizes whose time is a whole number of microseconds.
-use Rattle.std.specs.Prelude.{◌≡◌, ◌≢◌, ℕ, ◌*◌, ◌%◌, ◌<◌, ◌≤◌}
+use Rattle.std.specs.Prelude.{◌≡◌, ℕ, ◌*◌, ◌%◌, ◌<◌, ◌≤◌}
 use Rattle.hw_space.specs.declared.quantity.Quantity.{Quantity}
 use Rattle.hw_space.specs.declared.quantity.Quantity.TheVariants.{PeriodTime, PeriodSize, BufferTime, BufferSize}
 use Rattle.hw_space.specs.declared.whole_time.Span.{Span}

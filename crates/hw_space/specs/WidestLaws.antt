@@ -2,7 +2,7 @@
 use Rattle.std.specs.Prelude.{◌≡◌, ℕ, ◌*◌, ◌/◌, ◌%◌, ◌<◌, ◌≤◌, List, [], ◌∷◌, All, refl}
 use Rattle.std.specs.List.{AllByRecursion}
 use Rattle.std.proofs.Common.{arith, zero, suc, lit<}
-use Rattle.std.proofs.Math.Nat.{div-le_of_le-mul, mul-le-mul_right, mul-le-mul_left}
+use Rattle.std.proofs.Math.Nat.{div-le_of_le-mul}
 use Rattle.std.proofs.lemmas.Nat.{le-div}
 use Rattle.pcm_interval.specs.Arithmetic.{end_max}
 use Rattle.pcm_interval.specs.Intervals.{IsMember}
@@ -12,7 +12,7 @@ use Rattle.hw_space.specs.declared.rule.Rule.{Rule}
 use Rattle.hw_space.specs.Boxes.{part}
 use Rattle.hw_space.specs.Rules.{rules}
 use Rattle.hw_space.specs.Settled.{Fraction, Configuration, IsResult, IsExact, IsHeld}
-use Rattle.hw_space.specs.Widest.{whole_from_to, from_to, only, widest}
+use Rattle.hw_space.specs.Widest.{whole_from_to, from_to, widest}
 
 all_at : {X : Type 0} (P : X → Type 0) (xs : List X) → AllByRecursion P xs → All P xs
 all_at P [] each k d below = absurd (omega arith)
@@ -55,9 +55,37 @@ slave-IsExact rate period ring positive divides =
       by_rules =
           all_at
           (λ (r : Rule). IsResult r.operation (slave_value rate period ring r.first) (slave_value rate period ring r.second) (slave_value rate period ring r.target))
-          rules
-          (refl, (refl, (refl, (omega arith, (omega arith, (omega arith, (omega arith, (omega arith, (omega arith, (omega arith,
-          (omega arith, (omega arith, (omega arith, (omega arith, (omega arith, (omega arith, (omega arith, (omega arith, tt))))))))))))))))));
+          rules (
+            refl,
+            (
+              refl,
+              (
+                refl,
+                (
+                  omega arith,
+                  (
+                    omega arith,
+                    (
+                      omega arith,
+                      (
+                        omega arith,
+                        (
+                          omega arith,
+                          (
+                            omega arith,
+                            (
+                              omega arith,
+                              (omega arith, (omega arith, (omega arith, (omega arith, (omega arith, (omega arith, (omega arith, (omega arith, tt)))))))),
+                            ),
+                          ),
+                        ),
+                      ),
+                    ),
+                  ),
+                ),
+              ),
+            ),
+          );
     }
 
 IsMember-whole : (a b n : ℕ) → a ≤ n → n ≤ b → IsMember (whole_from_to a b) n 1

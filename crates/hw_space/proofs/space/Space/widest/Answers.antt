@@ -10,7 +10,8 @@ returns-clause-some c =
     let slave = c.args.slave.now in
     let configuration = slave_configuration slave.rate slave.period slave.ring in
     let held = widest-IsHeld slave.channels slave.rate slave.period slave.ring slave.some_channels slave.rate_least slave.rate_most
-        slave.period_least slave.period_most slave.period_divides slave.ring_most in
-    (configuration,
-    slave-IsExact slave.rate slave.period slave.ring (omega (arith, slave.period_least)) slave.period_divides,
-    subst (λ (b : ParamBox). IsHeld b configuration) (sym c.widest_ranges.ensures) held)
+    slave.period_least slave.period_most slave.period_divides slave.ring_most in (
+      configuration,
+      slave-IsExact slave.rate slave.period slave.ring (omega (arith, slave.period_least)) slave.period_divides,
+      subst (λ (b : ParamBox). IsHeld b configuration) (sym c.widest_ranges.ensures) held,
+    )
