@@ -1,0 +1,6 @@
+pub mod NarrowingLaws
+pub mod PointLaws
+pub mod Results
+pub mod RuleLaws
+pub mod StepLaws
+pub mod WholeTimeLaws
