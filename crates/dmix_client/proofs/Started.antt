@@ -17,18 +17,19 @@ use Rattle.dmix_client.specs.Calls.{Answered, committed_by, found_at, going_on, 
 pub record KeepsAccepted (c d : Plain) : Type 0 where
   pub written : d.written ≡ c.written
   pub fed : d.fed ≡ c.fed
+  pub bindings : d.bindings ≡ c.bindings
 
 KeepsAccepted-going_on : (c : Plain) (answer : Result (Unit {0}) PcmError) (state refused : State) → KeepsAccepted c (going_on_by answer c state refused).0
-KeepsAccepted-going_on c (Ok done) state refused = record { written = refl; fed = refl }
-KeepsAccepted-going_on c (Err e) state refused = record { written = refl; fed = refl }
+KeepsAccepted-going_on c (Ok done) state refused = record { written = refl; fed = refl; bindings = refl }
+KeepsAccepted-going_on c (Err e) state refused = record { written = refl; fed = refl; bindings = refl }
 
 KeepsAccepted-committed : (c : Plain) (state : State) (cursor : Cursor) (position : Position) (commit : Commit) (stop : Bool)
     → KeepsAccepted c (if stop then stopped_in {T = Unit {0}} (committed_by (started_in c state position cursor) commit)
       else going_on (committed_by (started_in c state position cursor) commit) state (next_of Prepared call.Start (found_at position (late_of (started_in c state position cursor) commit)))).0
-KeepsAccepted-committed c state cursor position commit true = record { written = refl; fed = refl }
+KeepsAccepted-committed c state cursor position commit true = record { written = refl; fed = refl; bindings = refl }
 KeepsAccepted-committed c state cursor position commit false =
     let k = KeepsAccepted-going_on (committed_by (started_in c state position cursor) commit) (next_of Prepared call.Start (found_at position (late_of (started_in c state position cursor) commit))).answer state (next_of Prepared call.Start (found_at position (late_of (started_in c state position cursor) commit))).state in
-    record { written = k.written; fed = k.fed }
+    record { written = k.written; fed = k.fed; bindings = k.bindings }
 
 KeepsAccepted-gone : (c : Plain) (state : State) (cursor : Cursor) (position : Position) (commit : Commit) (gone : Bool)
     → KeepsAccepted c (if gone then going_on (seen_at c position) state (next_of Prepared call.Start (found_at position None))
@@ -36,9 +37,9 @@ KeepsAccepted-gone : (c : Plain) (state : State) (cursor : Cursor) (position : P
       else going_on (committed_by (started_in c state position cursor) commit) state (next_of Prepared call.Start (found_at position (late_of (started_in c state position cursor) commit))))).0
 KeepsAccepted-gone c state cursor position commit true =
     let k = KeepsAccepted-going_on (seen_at c position) (next_of Prepared call.Start (found_at position None)).answer state (next_of Prepared call.Start (found_at position None)).state in
-    record { written = k.written; fed = k.fed }
+    record { written = k.written; fed = k.fed; bindings = k.bindings }
 KeepsAccepted-gone c state cursor position commit false = KeepsAccepted-committed c state cursor position commit (is_stop commit.ended)
 
 pub KeepsAccepted-started : (c : Plain) (state : State) (cursor : Cursor) (load : Option Position) (commit : Commit) → KeepsAccepted c (started c state cursor load commit).0
-KeepsAccepted-started c state cursor None commit = record { written = refl; fed = refl }
+KeepsAccepted-started c state cursor None commit = record { written = refl; fed = refl; bindings = refl }
 KeepsAccepted-started c state cursor (Some position) commit = KeepsAccepted-gone c state cursor position commit position.gone

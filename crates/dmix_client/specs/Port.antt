@@ -123,4 +123,4 @@ pub record TakesDrain {S : Type 0} (laid : S → S → List Entry → Type 0) (l
   pub loaded_them : loaded p q (option_to_list load ++ option_to_list later)
   pub laid_them : laid p q (entries_at load (λ position. started_in c Running position cursor) ring commit ++ entries_at later (λ position. (started c Draining cursor load commit).0) ring last)
   pub shown : IfSome later (λ position. OnLate last.ended (λ word. IsPast geometry shows q (end_of_commit (started c Draining cursor load commit).0 last) (end_channel (started c Draining cursor load commit).0 last) word))
-  pub shown_first : IfNone later (IfSome load (λ position. OnLate commit.ended (λ word. IsPast geometry shows q (end_of_commit (started_in c Running position cursor) commit) (end_channel c commit) word)))
+  pub shown_first : OnErr (started c Draining cursor load commit).1 (IfSome load (λ position. OnLate commit.ended (λ word. IsPast geometry shows q (end_of_commit (started_in c Running position cursor) commit) (end_channel c commit) word)))

@@ -1,12 +1,12 @@
 //! The calls of a client that take steps at its port, but for those that move frames.
 ghost use Rattle.std.specs.Prelude.{◌≡◌, ◌≢◌, ℕ, ◌+◌, ◌*◌, ◌^◌, ◌<◌, ◌≤◌, true, false, [], List, length, unwrap_or};
 ghost use Rattle.pcm_states.specs.declared.calls.Call.TheVariants as call;
-ghost use Rattle.dmix_client.specs.Calls.{avail_answer, delay_answer, refusal_of, start_count, started, started_in, sync_count, synced, with_number};
+ghost use Rattle.dmix_client.specs.Calls.{draining, dropped, has_frames, avail_answer, delay_answer, refusal_of, start_count, started, started_in, sync_count, synced, with_number};
 ghost use Rattle.mix_core.specs.Gate.{Told};
-ghost use Rattle.dmix_client.specs.Port.{CanUse, TakesStep};
-ghost use Rattle.dmix_client.specs.View.{is_moving};
+ghost use Rattle.dmix_client.specs.Port.{CanUse, TakesDrain, TakesStep};
+ghost use Rattle.dmix_client.specs.View.{ClientView, is_moving};
 
-use crate::calls::{begin, sync_call};
+use crate::calls::{begin, start_and_drain, sync_call};
 use crate::client::Client;
 use crate::steps::{with_avail, with_delay};
 use mix_core::{Gate, MixPort};
@@ -108,5 +108,37 @@ impl Client {
         let ring = self.ring.as_slice();
         let stepped = sync_call(&mut self.plain, ring, port, gate, Call::Sync);
         with_delay(&self.plain, stepped.answer)
+    }
+
+    /// Plays what is written, and then stops the stream (`snd_pcm_drain` of a stream that doesn't wait).
+    ///
+    /// In RUNNING it is DRAINING before its load; in PREPARED with frames it makes the start first, so that it loads the
+    /// position twice. Then it makes the sync of a stream in DRAINING, which no stop threshold ends. `Ok` says that all is
+    /// played and the state is SETUP, `Again` that it is still DRAINING. In SETUP, XRUN and PREPARED without frames it is
+    /// `Ok` and leads to SETUP without a load. In OPEN it is refused with `BadState`, in DISCONNECTED with `NoDevice`.
+    pub fn drain<P: MixPort, G: Gate>(&mut self, port: &mut P, gate: &mut G) -> Result<(), PcmError>
+        requires { CanUse self.old.plain (P.geometry port.old) (P.member port.old) (P.cursor port.old) (P.seen port.old) (P.can_add port.old) }
+        ensures refused { (e : PcmError) → refusal_of self.old.plain call.Drain ≡ Some e → (result ≡ Err e) × (self.new ≡ self.old) × (port.new ≡ port.old) × (gate.new ≡ gate.old) }
+        ensures empty { refusal_of self.old.plain call.Drain ≡ None → is_moving self.old.plain.state ≡ false → has_frames self.old.plain ≡ false →
+            (result ≡ Ok tt) × (self.new ≡ record { plain = dropped self.old.plain; ring = self.old.ring }) × (port.new ≡ port.old) × (gate.new ≡ gate.old) }
+        ensures starts { has_frames self.old.plain ≡ true → refusal_of self.old.plain call.Drain ≡ None →
+            TakesDrain P.laid P.loaded P.geometry P.shows port.old port.new self.old.plain self.old.ring (P.cursor port.old) (self.new.plain, result) }
+        ensures steps { refusal_of self.old.plain call.Drain ≡ None → is_moving self.old.plain.state ≡ true →
+            TakesStep P.laid P.loaded P.geometry P.shows port.old port.new (G.stops gate.old) (G.stops gate.new) self.old.ring (λ position. draining self.old.plain) (sync_count (draining self.old.plain)) (length self.old.plain.bindings) (synced (draining self.old.plain) call.Drain) (self.new.plain, result) }
+        ensures ring { self.new.ring ≡ self.old.ring }
+        ensures port { CanUse self.new.plain (P.geometry port.new) (P.member port.new) (P.cursor port.new) (P.seen port.new) (P.can_add port.new) }
+        ensures told { refusal_of self.old.plain call.Drain ≡ None → Told result (G.stops gate.old) (G.stops gate.new) }
+    {
+        self.plain.admit(Call::Drain)?;
+        let ring = self.ring.as_slice();
+        if self.plain.is_moving() {
+            self.plain = self.plain.draining();
+            return sync_call(&mut self.plain, ring, port, gate, Call::Drain).answer;
+        }
+        if !self.plain.has_frames() {
+            self.plain = self.plain.dropped();
+            return Ok(());
+        }
+        start_and_drain(&mut self.plain, ring, port, gate).answer
     }
 }

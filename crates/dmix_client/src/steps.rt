@@ -1,6 +1,6 @@
 //! What a client is after each part of a call, by what the part found.
 ghost use Rattle.std.specs.Prelude.{◌≡◌, ℕ, ◌+◌, ◌*◌, ◌^◌, ◌<◌, ◌≤◌, IfSome, OnOk, length};
-ghost use Rattle.dmix_client.specs.Calls.{with_number, configured_with, dropped, freed, opened, accepted, accepted_if, filled, written_after, avail_answer, commit_count, committed_by, delay_answer, facts_of, found_at, going_on, is_stop, late_of, over_of, prepared, seen_at, segment_of, settled, start_count, start_frame, started, started_in, stopped_in, sync_count, synced, taken_of, window_end};
+ghost use Rattle.dmix_client.specs.Calls.{draining, has_frames, with_number, configured_with, dropped, freed, opened, accepted, accepted_if, filled, written_after, avail_answer, commit_count, committed_by, delay_answer, facts_of, found_at, going_on, is_stop, late_of, over_of, prepared, seen_at, segment_of, settled, start_count, start_frame, started, started_in, stopped_in, sync_count, synced, taken_of, window_end};
 ghost use Rattle.dmix_client.specs.Port.{OnLate};
 ghost use Rattle.dmix_client.specs.View.{IsReady, IsReadyAt, avail_of, hw_of, queued_of};
 
@@ -515,5 +515,24 @@ pub(crate) fn with_delay(plain: &Plain, answer: Result<(), PcmError>) -> Result<
     match answer {
         Ok(()) => Ok(plain.delay_answer()),
         Err(error) => Err(error),
+    }
+}
+
+impl Plain {
+    /// The stream drains.
+    pub(crate) fn draining(&self) -> Plain
+        ensures { result ≡ draining self.now }
+    {
+        Plain {
+            state: State::Draining,
+            ..*self
+        }
+    }
+
+    /// Whether the stream is prepared and has frames to play.
+    pub(crate) fn has_frames(&self) -> bool
+        ensures { result ≡ has_frames self.now }
+    {
+        self.state == State::Prepared && self.written > 0
     }
 }
