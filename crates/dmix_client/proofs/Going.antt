@@ -54,12 +54,12 @@ next-fair Draining call.Drain queued gone over late before after step same = dra
 next-fair state call queued gone over late before after step same = absurd step
 
 -- the gate stopped exactly where the commit ended so
-told-stop : (e : Ended) (before after : ℕ) → is_stop e ≡ true → ToldBy e before after → before < after
+pub told-stop : (e : Ended) (before after : ℕ) → is_stop e ≡ true → ToldBy e before after → before < after
 told-stop ended.Whole before after is told = absurd (cc)
 told-stop (ended.Late word) before after is told = absurd (cc)
 told-stop ended.Stopped before after is told = told
 
-told-going : (e : Ended) (before after : ℕ) → is_stop e ≡ false → ToldBy e before after → after ≡ before
+pub told-going : (e : Ended) (before after : ℕ) → is_stop e ≡ false → ToldBy e before after → after ≡ before
 told-going ended.Whole before after is told = told
 told-going (ended.Late word) before after is told = told
 told-going ended.Stopped before after is told = absurd (cc)

@@ -4,4 +4,5 @@ mod Left
 mod Runs
 mod Sound
 mod Starting
+mod Writes
 mod Started

@@ -3,3 +3,4 @@ pub mod Expansion
 pub mod Port
 pub mod Ring
 pub mod View
+pub mod Writes

@@ -10,6 +10,7 @@ mod plain;
 mod ring;
 mod stepping;
 mod steps;
+mod writing;
 
 pub use client::Client;
 pub use commit::{Commit, Ended};
