@@ -1,19 +1,21 @@
 //! The parts of a write.
 ghost use Rattle.std.specs.Prelude.{◌≡◌, ℕ, ◌+◌, ◌*◌, ◌^◌, ◌<◌, ◌≤◌, true, false, IfOk, IfSome, OnOk, [], List, length, unwrap_or};
+ghost use Rattle.std.specs.Option.{option_to_list};
 ghost use Rattle.snd_base.specs.Places.{IsFrom, end_frame};
 ghost use Rattle.mix_core.specs.Gate.{Told};
 ghost use Rattle.mix_core.specs.Port.{IsPast};
-ghost use Rattle.dmix_client.specs.Calls.{commit_entries, end_channel, end_of_commit, filled, start_count, started_in, taken_of, written_after};
-ghost use Rattle.dmix_client.specs.Port.{CanUse, IsCommit, OnLate, OnWhole, TakesStep, ToldBy, least_channel};
+ghost use Rattle.dmix_client.specs.Calls.{accepted_if, started, commit_entries, end_channel, end_of_commit, filled, start_count, started_in, taken_of, written_after};
+ghost use Rattle.dmix_client.specs.Port.{CanUse, IsCommit, IsFound, StoppedBy, entries_at, OnLate, OnWhole, TakesStep, ToldBy, least_channel};
 ghost use Rattle.dmix_client.specs.View.{IsSound, is_moving};
 ghost use Rattle.dmix_client.specs.Writes.{TakesWrite, count_with, ring_with};
 
-use crate::calls::sync_call;
+use crate::calls::{start_call, sync_call};
 use crate::commit::Commit;
+use crate::moving::Found;
 use crate::placing::lay_frames;
 use crate::plain::Plain;
 use crate::ring::store;
-use crate::steps::written_after;
+use crate::steps::{accepted_if, written_after};
 use mix_core::{Gate, MixPort};
 use pcm_states::{Call, State};
 use snd_base::PcmError;
@@ -137,4 +139,44 @@ pub(crate) fn write_running<P: MixPort, G: Gate>(
         return Err(error);
     }
     write_taken(plain, ring, port, gate, samples, frames).answer
+}
+
+/// What the start of a write found, and the write's answer.
+#[derive(Clone, Copy)]
+pub(crate) struct Filled {
+    pub found: Found,
+    pub answer: Result<u64, PcmError>,
+}
+
+/// The start of a prepared client in whose ring a write stored `taken` frames.
+fn start_write<P: MixPort, G: Gate>(
+    plain: &mut Plain,
+    ring: &[i16],
+    port: &mut P,
+    gate: &mut G,
+    taken: u64,
+) -> Filled
+    requires sound { IsSound plain.old ring.now }
+    requires prepared { plain.old.state ≡ State.Prepared }
+    requires fits { plain.old.written + taken ≤ plain.old.config.buffer_size }
+    requires fed { plain.old.fed < 2 ^ 63 }
+    requires port { CanUse plain.old (P.geometry port.old) (P.member port.old) (P.cursor port.old) (P.seen port.old) (P.can_add port.old) }
+    ensures outcome { accepted_if taken (started plain.old State.Running (P.cursor port.old) result.found.load result.found.commit) ≡ (plain.new, result.answer) }
+    ensures found { IsFound result.found.load result.found.commit (λ position. started_in plain.old State.Running position (P.cursor port.old)) (λ position. start_count plain.old (P.cursor port.old) position (plain.old.written + taken)) (length plain.old.bindings) }
+    ensures loaded { P.loaded port.old port.new (option_to_list result.found.load) }
+    ensures laid { P.laid port.old port.new (entries_at result.found.load (λ position. started_in plain.old State.Running position (P.cursor port.old)) ring.now result.found.commit) }
+    ensures shown { IfSome result.found.load (λ position. OnLate result.found.commit.ended (λ word. IsPast P.geometry P.shows port.new (end_of_commit (started_in plain.old State.Running position (P.cursor port.old)) result.found.commit) (end_channel plain.old result.found.commit) word)) }
+    ensures told { StoppedBy result.found.load result.found.commit.ended (G.stops gate.old) (G.stops gate.new) }
+    ensures sound { IsSound plain.new ring.now }
+    ensures port { CanUse plain.new (P.geometry port.new) (P.member port.new) (P.cursor port.new) (P.seen port.new) (P.can_add port.new) }
+    ensures count { IfOk result.answer (λ n. n ≡ taken) }
+{
+    let upto = plain.written + taken;
+    let begun = start_call(plain, ring, port, gate, State::Running, upto);
+    let (after, answer) = accepted_if(taken, (begun.plain, begun.answer));
+    *plain = after;
+    Filled {
+        found: begun.found,
+        answer,
+    }
 }
