@@ -1,5 +1,5 @@
 -- What a write does at a port.
-use Rattle.std.specs.Prelude.{◌≡◌, ℕ, ◌+◌, ◌/◌, ◌<◌, ◌≤◌, nat_eq, if◌then◌else◌, ℤ, List, ◌++◌, length, Option, IfSome, OnErr, Ok, Err, unwrap_or}
+use Rattle.std.specs.Prelude.{◌≡◌, ℕ, ◌+◌, ◌/◌, ◌%◌, ◌^◌, ◌<◌, ◌≤◌, Bool, nat_eq, nat_le, if◌then◌else◌, ℤ, List, ◌++◌, length, Option, IfSome, OnErr, Ok, Err, unwrap_or}
 use Rattle.std.specs.Option.{option_to_list}
 use Rattle.snd_base.specs.declared.geometry.Geometry.{Geometry}
 use Rattle.mix_core.specs.declared.port.Entry.{Entry}
@@ -48,3 +48,13 @@ pub record TakesWrite {S : Type 0} (laid : S → S → List Entry → Type 0) (l
   pub in_time : 0 < last.frames + last.part → unwrap_or (synced c call.Transfer load commit).0.seen 0 ≤ (synced c call.Transfer load commit).0.card + (synced c call.Transfer load commit).0.committed
   pub shown : OnLate last.ended (λ word. IsPast geometry shows q (end_of_commit (synced c call.Transfer load commit).0 last) (end_channel (synced c call.Transfer load commit).0 last) word)
   pub shown_first : OnErr (synced c call.Transfer load commit).1 (IfSome load (λ position. OnLate commit.ended (λ word. IsPast geometry shows q (end_of_commit c commit) (end_channel c commit) word)))
+
+-- a write of n frames into a prepared stream starts it
+abbrev pub starts_with : Plain → ℕ → Bool
+starts_with c n = nat_le c.params.start_threshold (c.written + taken_of c n)
+
+-- the samples of a write: whole frames, not too many, and the count of all frames has room
+pub record IsOffer (c : Plain) (samples : List ℤ) : Type 0 where
+  pub whole : length samples % length c.bindings ≡ 0
+  pub few : frames_in c samples ≤ 4194304
+  pub fed : c.fed < 2 ^ 63

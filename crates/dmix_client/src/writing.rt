@@ -4,10 +4,10 @@ ghost use Rattle.std.specs.Option.{option_to_list};
 ghost use Rattle.snd_base.specs.Places.{IsFrom, end_frame};
 ghost use Rattle.mix_core.specs.Gate.{Told};
 ghost use Rattle.mix_core.specs.Port.{IsPast};
-ghost use Rattle.dmix_client.specs.Calls.{accepted_if, started, commit_entries, end_channel, end_of_commit, filled, start_count, started_in, taken_of, written_after};
+ghost use Rattle.dmix_client.specs.Calls.{accepted, accepted_if, started, commit_entries, end_channel, end_of_commit, filled, start_count, started_in, taken_of, written_after};
 ghost use Rattle.dmix_client.specs.Port.{CanUse, IsCommit, IsFound, StoppedBy, entries_at, OnLate, OnWhole, TakesStep, ToldBy, least_channel};
 ghost use Rattle.dmix_client.specs.View.{IsSound, is_moving};
-ghost use Rattle.dmix_client.specs.Writes.{TakesWrite, count_with, ring_with};
+ghost use Rattle.dmix_client.specs.Writes.{TakesWrite, count_with, ring_with, starts_with};
 
 use crate::calls::{start_call, sync_call};
 use crate::commit::Commit;
@@ -179,4 +179,39 @@ fn start_write<P: MixPort, G: Gate>(
         found: begun.found,
         answer,
     }
+}
+
+/// A write of `frames` frames into a prepared stream.
+pub(crate) fn write_prepared<P: MixPort, G: Gate>(
+    plain: &mut Plain,
+    ring: &mut [i16],
+    port: &mut P,
+    gate: &mut G,
+    samples: &[i16],
+    frames: u64,
+) -> Filled
+    requires sound { IsSound plain.old ring.old }
+    requires prepared { plain.old.state ≡ State.Prepared }
+    requires held { frames * length plain.old.bindings ≤ length samples.now }
+    requires few { frames ≤ 4194304 }
+    requires fed { plain.old.fed < 2 ^ 63 }
+    requires port { CanUse plain.old (P.geometry port.old) (P.member port.old) (P.cursor port.old) (P.seen port.old) (P.can_add port.old) }
+    ensures ring { ring.new ≡ ring_with plain.old ring.old samples.now (taken_of plain.old frames) }
+    ensures fills { starts_with plain.old frames ≡ false → (result.answer ≡ Ok (taken_of plain.old frames)) × (plain.new ≡ accepted plain.old (taken_of plain.old frames)) × (port.new ≡ port.old) × (gate.new ≡ gate.old) }
+    ensures starts { starts_with plain.old frames ≡ true →
+        TakesStep P.laid P.loaded P.geometry P.shows port.old port.new (G.stops gate.old) (G.stops gate.new) ring.new (λ position. started_in plain.old State.Running position (P.cursor port.old)) (λ position. start_count plain.old (P.cursor port.old) position (plain.old.written + taken_of plain.old frames)) (length plain.old.bindings) (filled plain.old frames (P.cursor port.old)) (plain.new, result.answer) }
+    ensures sound { IsSound plain.new ring.new }
+    ensures port { CanUse plain.new (P.geometry port.new) (P.member port.new) (P.cursor port.new) (P.seen port.new) (P.can_add port.new) }
+    ensures count { IfOk result.answer (λ n. n ≤ 16384) }
+{
+    let taken = plain.taken(frames);
+    store_taken(plain, ring, samples, taken);
+    if plain.params.start_threshold > plain.written + taken {
+        *plain = plain.accepted(taken);
+        return Filled {
+            found: Found::NOTHING,
+            answer: Ok(taken),
+        };
+    }
+    start_write(plain, ring, port, gate, taken)
 }
