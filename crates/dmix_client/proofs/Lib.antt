@@ -1,6 +1,7 @@
 mod Frames
 mod Going
 mod Left
+mod Rings
 mod Runs
 mod Sound
 mod Starting
