@@ -1,4 +1,5 @@
 pub mod Calls
+pub mod Checked
 pub mod Expansion
 pub mod Port
 pub mod Ring

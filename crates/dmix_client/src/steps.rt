@@ -1,6 +1,6 @@
 //! What a client is after each part of a call, by what the part found.
 ghost use Rattle.std.specs.Prelude.{◌≡◌, ℕ, ◌+◌, ◌*◌, ◌^◌, ◌<◌, ◌≤◌, IfSome, OnOk, length, unwrap_or};
-ghost use Rattle.dmix_client.specs.Calls.{draining, has_frames, with_number, configured_with, dropped, freed, opened, accepted, accepted_if, filled, written_after, avail_answer, commit_count, committed_by, delay_answer, facts_of, found_at, going_on, is_stop, late_of, over_of, prepared, seen_at, segment_of, settled, start_count, start_frame, started, started_in, stopped_in, sync_count, synced, taken_of, window_end};
+ghost use Rattle.dmix_client.specs.Calls.{with_params, draining, has_frames, with_number, configured_with, dropped, freed, opened, accepted, accepted_if, filled, written_after, avail_answer, commit_count, committed_by, delay_answer, facts_of, found_at, going_on, is_stop, late_of, over_of, prepared, seen_at, segment_of, settled, start_count, start_frame, started, started_in, stopped_in, sync_count, synced, taken_of, window_end};
 ghost use Rattle.dmix_client.specs.Port.{OnLate};
 ghost use Rattle.dmix_client.specs.Writes.{count_with};
 ghost use Rattle.dmix_client.specs.View.{IsReady, IsReadyAt, avail_of, hw_of, queued_of};
@@ -550,5 +550,14 @@ impl Plain {
         } else {
             self.commit_count(self.seen.unwrap_or(0), self.written + taken)
         }
+    }
+}
+
+impl Plain {
+    /// The client has other software parameters.
+    pub(crate) fn with_params(&self, params: SwParams) -> Plain
+        ensures { result ≡ with_params self.now params }
+    {
+        Plain { params, ..*self }
     }
 }
