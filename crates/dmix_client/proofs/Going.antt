@@ -1,6 +1,6 @@
 -- What an answer tells: that the client goes on, or that the gate stopped it.
 use Rattle.std.proofs.Common.{◌≡◌, ℕ, ◌<◌, List, [], ◌∷◌, ◌∙◌, ap, sym, refl, subst, arith}
-use Rattle.std.specs.Prelude.{Bool, true, false, nat_eq, if◌then◌else◌, length, IfSome, Option, Some, None, OnOk, Result, Ok, Err}
+use Rattle.std.specs.Prelude.{Bool, true, false, nat_eq, ◌&&◌, if◌then◌else◌, length, IfSome, Option, Some, None, OnErr, OnOk, Result, Ok, Err}
 use Rattle.snd_base.specs.declared.errors.PcmError.{PcmError}
 use Rattle.snd_base.specs.declared.errors.XrunWhy.{XrunWhy}
 use Rattle.snd_base.specs.declared.places.Cursor.{Cursor}
@@ -16,7 +16,7 @@ use Rattle.dmix_client.specs.declared.commit.Commit.{Commit}
 use Rattle.dmix_client.specs.declared.commit.Ended.{Ended}
 use Rattle.dmix_client.specs.declared.commit.Ended.TheVariants as ended
 use Rattle.dmix_client.specs.declared.plain.Plain.{Plain}
-use Rattle.dmix_client.specs.Calls.{Answered, commit_count, start_count, committed_by, facts_of, found_at, going_on, is_stop, late_of, over_of, seen_at, settled, started, started_in, stopped_in, synced}
+use Rattle.dmix_client.specs.Calls.{Answered, is_prepared, commit_count, start_count, committed_by, facts_of, found_at, going_on, is_stop, late_of, over_of, seen_at, settled, started, started_in, stopped_in, synced}
 use Rattle.dmix_client.specs.Port.{IsCommit, IsFound, IsStep, StoppedBy, ToldBy}
 use Rattle.dmix_client.specs.View.{IsGoing, is_moving, queued_of}
 
@@ -54,12 +54,12 @@ next-fair Draining call.Drain queued gone over late before after step same = dra
 next-fair state call queued gone over late before after step same = absurd step
 
 -- the gate stopped exactly where the commit ended so
-told-stop : (e : Ended) (before after : ℕ) → is_stop e ≡ true → ToldBy e before after → before < after
+pub told-stop : (e : Ended) (before after : ℕ) → is_stop e ≡ true → ToldBy e before after → before < after
 told-stop ended.Whole before after is told = absurd (cc)
 told-stop (ended.Late word) before after is told = absurd (cc)
 told-stop ended.Stopped before after is told = told
 
-told-going : (e : Ended) (before after : ℕ) → is_stop e ≡ false → ToldBy e before after → after ≡ before
+pub told-going : (e : Ended) (before after : ℕ) → is_stop e ≡ false → ToldBy e before after → after ≡ before
 told-going ended.Whole before after is told = told
 told-going (ended.Late word) before after is told = told
 told-going ended.Stopped before after is told = absurd (cc)
@@ -130,3 +130,22 @@ gone-whole c cursor None commit upto before after found told = tt
 gone-whole c cursor (Some position) commit upto before after found told = λ gone.
     let none : start_count c cursor position upto ≡ 0 = ap (λ (b : Bool). if b then 0 else commit_count (started_in c Running position cursor) position.frame upto) gone in
     whole-none commit.ended commit.frames commit.part (length c.bindings) before after (subst (λ (n : ℕ). IsCommit commit.ended commit.frames commit.part n (length c.bindings)) none found.commit_is) told
+
+pub OnErr-any : (r : Result (Unit {0}) PcmError) (P : Type 0) → P → OnErr r P
+OnErr-any (Ok done) P p = tt
+OnErr-any (Err e) P p = p
+
+pub OnErr-ok : (r : Result (Unit {0}) PcmError) (P : Type 0) → r ≡ Ok tt → OnErr r P
+OnErr-ok (Ok done) P is = tt
+OnErr-ok (Err e) P is = absurd (cc)
+
+pub ok-of : (r : Result (Unit {0}) PcmError) → ((e : PcmError) → r ≡ Err e → ⊥) → r ≡ Ok tt
+ok-of (Ok done) never = refl
+ok-of (Err e) never = absurd (never e refl)
+
+-- a stream that moves frames has no frames to start with
+pub has_frames-moving : (state : State) (b : Bool) → is_moving state ≡ true → (is_prepared state && b) ≡ true → ⊥
+has_frames-moving Prepared b moves has = cc
+has_frames-moving Running b moves has = cc
+has_frames-moving Draining b moves has = cc
+has_frames-moving state b moves has = cc

@@ -50,7 +50,7 @@ CanUse-still d geometry member at seen can same_geometry same_member able still 
   newer = λ moves going. absurd (still moves going);
 }
 
-IsConfigured-as : (c d : Plain) (ring : List ℤ) → d.bindings ≡ c.bindings → d.geometry ≡ c.geometry → d.config ≡ c.config → IsConfigured c ring → IsConfigured d ring
+pub IsConfigured-as : (c d : Plain) (ring : List ℤ) → d.bindings ≡ c.bindings → d.geometry ≡ c.geometry → d.config ≡ c.config → IsConfigured c ring → IsConfigured d ring
 IsConfigured-as c d ring same_bindings same_geometry same_config k = record {
   bound = subst AreBindings (sym same_bindings) k.bound;
   on_card = subst (λ (bs : List ℕ). All (λ channel. channel < d.geometry.channels) bs) (sym same_bindings) (subst (λ (g : Geometry). All (λ channel. channel < g.channels) c.bindings) (sym same_geometry) k.on_card);

@@ -1,7 +1,9 @@
 mod Frames
 mod Going
 mod Left
+mod Rings
 mod Runs
 mod Sound
 mod Starting
+mod Writes
 mod Started

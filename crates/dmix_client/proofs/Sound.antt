@@ -77,10 +77,10 @@ whole_most w k card n h stop most is = grind (arith, nat_tests)
 whole_least : (w k card n h stop : ℕ) → h ≤ stop → n ≡ min w (stop - card) - k → min w (h - card) ≤ k + n
 whole_least w k card n h stop low is = grind (arith, nat_tests)
 
-window_end-above : (h frames stop : ℕ) → h ≤ stop → h ≤ min (h + frames) stop
+pub window_end-above : (h frames stop : ℕ) → h ≤ stop → h ≤ min (h + frames) stop
 window_end-above h frames stop low = grind (arith, nat_tests)
 
-laid_most : (w k card n h frames stop : ℕ) → card + k ≤ stop + frames → n ≤ min w (min (h + frames) stop - card) - k → card + (k + n) ≤ stop + frames
+pub laid_most : (w k card n h frames stop : ℕ) → card + k ≤ stop + frames → n ≤ min w (min (h + frames) stop - card) - k → card + (k + n) ≤ stop + frames
 laid_most w k card n h frames stop before is = grind (arith, nat_tests)
 
 pub if-le : (b : Bool) (n : ℕ) → (if b then 0 else n) ≤ n
@@ -111,7 +111,7 @@ count-whole c position over here none is = ap (λ (b : Bool). if b then 0 else c
     both true b x y = absurd (cc)
     both false true x y = absurd (cc)
 
-hw-started : (c : Plain) → c.started ≡ true → hw_of c ≡ unwrap_or c.seen 0 - c.card
+pub hw-started : (c : Plain) → c.started ≡ true → hw_of c ≡ unwrap_or c.seen 0 - c.card
 hw-started c is = ap (λ (b : Bool). if b then unwrap_or c.seen 0 - c.card else 0) is
 
 -- a client after a commit at a position, in any state
@@ -149,10 +149,10 @@ IsSound-done c ring position commit s stopped sound set loaded few not_prepared 
 }
 
 -- a stream that moves frames isn't prepared, and is set up
-not_prepared-moving : (s : State) → is_moving s ≡ true → (s ≡ Prepared → ⊥)
+pub not_prepared-moving : (s : State) → is_moving s ≡ true → (s ≡ Prepared → ⊥)
 not_prepared-moving s is prepared = let no : is_moving Prepared ≡ true = subst (λ (x : State). is_moving x ≡ true) prepared is in cc
 
-set_up-moving : (s : State) → is_moving s ≡ true → is_set_up s ≡ true
+pub set_up-moving : (s : State) → is_moving s ≡ true → is_set_up s ≡ true
 set_up-moving Running is = refl
 set_up-moving Draining is = refl
 set_up-moving s is = absurd (cc)

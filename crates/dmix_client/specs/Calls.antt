@@ -279,6 +279,14 @@ delay_in other c = c.card + c.written - unwrap_or c.seen 0
 abbrev pub delay_answer : Plain → ℕ
 delay_answer c = delay_in c.state c
 
+-- the stream drains
+abbrev pub draining : Plain → Plain
+draining c = record c { state = Draining }
+
+-- a prepared stream has frames to play
+abbrev pub has_frames : Plain → Bool
+has_frames c = is_prepared c.state && nat_lt 0 c.written
+
 -- a drain that started goes on with its sync
 abbrev pub drained_on : Answered (Unit {0}) → Option Position → Commit → Answered (Unit {0})
 drained_on (c, Ok done) later last = synced c call.Drain later last
@@ -288,12 +296,8 @@ drained_on (c, Err e) later last = (c, Err e)
 abbrev pub drain_of : Plain → Cursor → Option Position → Commit → Option Position → Commit → Answered (Unit {0})
 drain_of c cursor load commit later last =
     if is_moving c.state
-    then synced (record c { state = Draining }) call.Drain load commit
-    else (
-    if is_prepared c.state && nat_lt 0 c.written
-    then drained_on (started c Draining cursor load commit) later last
-    else settled c (next_of c.state call.Drain (record nothing_found { queued = 0 }))
-    )
+    then synced (draining c) call.Drain load commit
+    else (if has_frames c then drained_on (started c Draining cursor load commit) later last else (dropped c, Ok tt))
 
 -- how many frames a write of n takes
 abbrev pub taken_of : Plain → ℕ → ℕ

@@ -1,5 +1,5 @@
 -- What a port did for a client: what it loaded and laid, what it kept, and how a commit ended there.
-use Rattle.std.specs.Prelude.{◌≡◌, ℕ, ◌+◌, ◌<◌, ◌≤◌, true, false, ℤ, List, [], ◌∷◌, Option, None, Some, IfNone, IfSome, ⊤, All, slice_index, unwrap_or}
+use Rattle.std.specs.Prelude.{◌≡◌, ℕ, ◌+◌, ◌<◌, ◌≤◌, true, false, ℤ, List, [], ◌∷◌, ◌++◌, OnErr, length, Option, None, Some, IfNone, IfSome, ⊤, All, slice_index, unwrap_or}
 use Rattle.std.specs.Option.{option_to_list}
 use Rattle.snd_base.specs.declared.geometry.Geometry.{Geometry}
 use Rattle.snd_base.specs.declared.places.Cursor.{Cursor}
@@ -16,7 +16,7 @@ use Rattle.dmix_client.specs.declared.commit.Commit.{Commit}
 use Rattle.dmix_client.specs.declared.commit.Ended.{Ended}
 use Rattle.dmix_client.specs.declared.commit.Ended.TheVariants.{Whole, Late, Stopped}
 use Rattle.dmix_client.specs.declared.plain.Plain.{Plain}
-use Rattle.dmix_client.specs.Calls.{Answered, commit_entries, end_channel, end_of_commit}
+use Rattle.dmix_client.specs.Calls.{Answered, commit_entries, drained_on, end_channel, end_of_commit, start_count, started, started_in, sync_count}
 use Rattle.dmix_client.specs.View.{is_moving}
 
 -- a fact of an end that leaves nothing
@@ -108,3 +108,19 @@ pub record TakesStep {S T : Type 0} (laid : S → S → List Entry → Type 0) (
   pub laid_them : laid p q (entries_at load at ring commit)
   pub shown : IfSome load (λ position. OnLate commit.ended (λ word. IsPast geometry shows q (end_of_commit (at position) commit) (end_channel (at position) commit) word))
   pub told : StoppedBy load commit.ended before after
+
+-- what the drain of a prepared client did: its start, and, where that went well, its sync
+pub record TakesDrain {S : Type 0} (laid : S → S → List Entry → Type 0) (loaded : S → S → List Position → Type 0) (geometry : S → Geometry) (shows : S → ℕ → ℕ → Option ℕ) (p q : S)
+    (c : Plain) (ring : List ℤ) (cursor : Cursor) (done : Answered (Unit {0})) : Type 0 where
+  pub load : Option Position
+  pub commit : Commit
+  pub later : Option Position
+  pub last : Commit
+  pub found : IsFound load commit (λ position. started_in c Running position cursor) (λ position. start_count c cursor position c.written) (length c.bindings)
+  pub found_last : IsFound later last (λ position. (started c Draining cursor load commit).0) (sync_count (started c Draining cursor load commit).0) (length c.bindings)
+  pub none_later : OnErr (started c Draining cursor load commit).1 (later ≡ None)
+  pub outcome : drained_on (started c Draining cursor load commit) later last ≡ done
+  pub loaded_them : loaded p q (option_to_list load ++ option_to_list later)
+  pub laid_them : laid p q (entries_at load (λ position. started_in c Running position cursor) ring commit ++ entries_at later (λ position. (started c Draining cursor load commit).0) ring last)
+  pub shown : IfSome later (λ position. OnLate last.ended (λ word. IsPast geometry shows q (end_of_commit (started c Draining cursor load commit).0 last) (end_channel (started c Draining cursor load commit).0 last) word))
+  pub shown_first : OnErr (started c Draining cursor load commit).1 (IfSome load (λ position. OnLate commit.ended (λ word. IsPast geometry shows q (end_of_commit (started_in c Running position cursor) commit) (end_channel c commit) word)))

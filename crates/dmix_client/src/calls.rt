@@ -5,7 +5,7 @@ ghost use Rattle.snd_base.specs.Places.{IsFrom, end_frame};
 ghost use Rattle.mix_core.specs.Gate.{Told};
 ghost use Rattle.mix_core.specs.Port.{IsPast};
 ghost use Rattle.dmix_client.specs.Calls.{end_channel, end_of_commit, is_refusal, refusal_of, refused_by, start_count, started, started_in, sync_count, synced};
-ghost use Rattle.dmix_client.specs.Port.{CanUse, IsFound, IsStep, OnLate, OnWhole, StoppedBy, ToldBy, entries_at, least_channel};
+ghost use Rattle.dmix_client.specs.Port.{CanUse, IsFound, IsStep, OnLate, OnWhole, StoppedBy, TakesDrain, ToldBy, entries_at, least_channel};
 ghost use Rattle.dmix_client.specs.View.{IsGoing, IsSound, is_moving};
 
 use crate::moving::{Found, look_and_commit, look_and_start};
@@ -27,6 +27,14 @@ pub(crate) struct Stepped {
 pub(crate) struct Started {
     pub found: Found,
     pub plain: Plain,
+    pub answer: Result<(), PcmError>,
+}
+
+/// What a drain that started found, first at its start and then at its sync, and its answer.
+#[derive(Clone, Copy)]
+pub(crate) struct Drained {
+    pub first: Found,
+    pub last: Found,
     pub answer: Result<(), PcmError>,
 }
 
@@ -168,5 +176,37 @@ pub(crate) fn begin<P: MixPort, G: Gate>(
     Stepped {
         found: begun.found,
         answer: begun.answer,
+    }
+}
+
+/// The start of a client that is prepared and has frames, and, where it went well, the sync of its drain.
+pub(crate) fn start_and_drain<P: MixPort, G: Gate>(
+    plain: &mut Plain,
+    ring: &[i16],
+    port: &mut P,
+    gate: &mut G,
+) -> Drained
+    requires sound { IsSound plain.old ring.now }
+    requires prepared { plain.old.state ≡ State.Prepared }
+    requires unstopped { plain.old.stopped ≡ false }
+    requires port { CanUse plain.old (P.geometry port.old) (P.member port.old) (P.cursor port.old) (P.seen port.old) (P.can_add port.old) }
+    ensures drains { TakesDrain P.laid P.loaded P.geometry P.shows port.old port.new plain.old ring.now (P.cursor port.old) (plain.new, result.answer) }
+    ensures sound { IsSound plain.new ring.now }
+    ensures port { CanUse plain.new (P.geometry port.new) (P.member port.new) (P.cursor port.new) (P.seen port.new) (P.can_add port.new) }
+    ensures gate { Told result.answer (G.stops gate.old) (G.stops gate.new) }
+{
+    let begun = begin(plain, ring, port, gate, State::Draining);
+    if let Err(error) = begun.answer {
+        return Drained {
+            first: begun.found,
+            last: Found::NOTHING,
+            answer: Err(error),
+        };
+    }
+    let synced = sync_call(plain, ring, port, gate, Call::Drain);
+    Drained {
+        first: begun.found,
+        last: synced.found,
+        answer: synced.answer,
     }
 }

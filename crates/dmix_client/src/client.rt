@@ -2,7 +2,9 @@
 ghost use Rattle.std.specs.Prelude.{◌≡◌, ℕ, ◌+◌, ◌*◌, ◌^◌, ◌<◌, ◌≤◌, ◌⊎◌, true, false, pos, replicate, All, IfErr, OnErr, OnOk, [], List, length, unwrap_or};
 ghost use Rattle.pcm_states.specs.declared.calls.Call.TheVariants as call;
 ghost use Rattle.dmix_client.specs.Calls.{config_of, configured_with, dropped, freed, opened, prepared, refusal_of, segment_of, with_params};
+ghost use Rattle.dmix_client.specs.Checked.{Checks};
 ghost use Rattle.dmix_client.specs.View.{ClientView};
+ghost use Rattle.sw_limits.specs.Boundary.{IsBoundary};
 
 use crate::plain::Plain;
 use bindings::Bindings;
@@ -132,6 +134,22 @@ impl Client {
         self.plain.admit(Call::HwFree)?;
         self.plain = self.plain.freed();
         self.ring.clear();
+        Ok(())
+    }
+
+    /// Sets the software parameters (`snd_pcm_sw_params`), in every state but OPEN and DISCONNECTED. `Invalid` comes
+    /// exactly where they have a defect, with the first one. A refused call changes nothing.
+    pub fn sw_params(&mut self, params: SwParams) -> Result<(), PcmError>
+        ensures refused { (e : PcmError) → refusal_of self.old.plain call.SwParams ≡ Some e → (result ≡ Err e) × (self.new ≡ self.old) }
+        ensures checked { refusal_of self.old.plain call.SwParams ≡ None → (b : ℕ) × IsBoundary self.old.plain.config.buffer_size b × Checks result params b }
+        ensures ok { OnOk result (self.new ≡ record { plain = with_params self.old.plain params; ring = self.old.ring }) }
+        ensures err { OnErr result (self.new ≡ self.old) }
+    {
+        self.plain.admit(Call::SwParams)?;
+        if let Err(why) = params.check(&self.plain.config) {
+            return Err(PcmError::Invalid(why));
+        }
+        self.plain = self.plain.with_params(params);
         Ok(())
     }
 

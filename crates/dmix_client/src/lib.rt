@@ -10,7 +10,12 @@ mod plain;
 mod ring;
 mod stepping;
 mod steps;
+mod transfer;
+mod writing;
 
 pub use client::Client;
 pub use commit::{Commit, Ended};
 pub use plain::Plain;
+
+#[cfg(test)]
+mod tests;

@@ -1,7 +1,8 @@
 //! What a client is after each part of a call, by what the part found.
-ghost use Rattle.std.specs.Prelude.{◌≡◌, ℕ, ◌+◌, ◌*◌, ◌^◌, ◌<◌, ◌≤◌, IfSome, OnOk, length};
-ghost use Rattle.dmix_client.specs.Calls.{with_number, configured_with, dropped, freed, opened, accepted, accepted_if, filled, written_after, avail_answer, commit_count, committed_by, delay_answer, facts_of, found_at, going_on, is_stop, late_of, over_of, prepared, seen_at, segment_of, settled, start_count, start_frame, started, started_in, stopped_in, sync_count, synced, taken_of, window_end};
+ghost use Rattle.std.specs.Prelude.{◌≡◌, ℕ, ◌+◌, ◌*◌, ◌^◌, ◌<◌, ◌≤◌, IfSome, OnOk, length, unwrap_or};
+ghost use Rattle.dmix_client.specs.Calls.{with_params, draining, has_frames, with_number, configured_with, dropped, freed, opened, accepted, accepted_if, filled, written_after, avail_answer, commit_count, committed_by, delay_answer, facts_of, found_at, going_on, is_stop, late_of, over_of, prepared, seen_at, segment_of, settled, start_count, start_frame, started, started_in, stopped_in, sync_count, synced, taken_of, window_end};
 ghost use Rattle.dmix_client.specs.Port.{OnLate};
+ghost use Rattle.dmix_client.specs.Writes.{count_with};
 ghost use Rattle.dmix_client.specs.View.{IsReady, IsReadyAt, avail_of, hw_of, queued_of};
 
 use crate::commit::{Commit, Ended};
@@ -515,5 +516,48 @@ pub(crate) fn with_delay(plain: &Plain, answer: Result<(), PcmError>) -> Result<
     match answer {
         Ok(()) => Ok(plain.delay_answer()),
         Err(error) => Err(error),
+    }
+}
+
+impl Plain {
+    /// The stream drains.
+    pub(crate) fn draining(&self) -> Plain
+        ensures { result ≡ draining self.now }
+    {
+        Plain {
+            state: State::Draining,
+            ..*self
+        }
+    }
+
+    /// Whether the stream is prepared and has frames to play.
+    pub(crate) fn has_frames(&self) -> bool
+        ensures { result ≡ has_frames self.now }
+    {
+        self.state == State::Prepared && self.written > 0
+    }
+}
+
+impl Plain {
+    /// How many frames are to be committed where a write took some, at the position that was seen.
+    pub(crate) fn count_with(&self, taken: u64) -> u64
+        requires written { self.now.written + taken < 2 ^ 64 }
+        requires seen { unwrap_or self.now.seen 0 < 2 ^ 63 }
+        ensures { result ≡ count_with self.now taken }
+    {
+        if taken == 0 {
+            0
+        } else {
+            self.commit_count(self.seen.unwrap_or(0), self.written + taken)
+        }
+    }
+}
+
+impl Plain {
+    /// The client has other software parameters.
+    pub(crate) fn with_params(&self, params: SwParams) -> Plain
+        ensures { result ≡ with_params self.now params }
+    {
+        Plain { params, ..*self }
     }
 }

@@ -1,0 +1,26 @@
+use Rattle.std.proofs.Common.{◌≡◌, ◌∙◌, ℕ, List, ap, length, subst}
+use Rattle.std.specs.Prelude.{ℤ}
+use Rattle.pcm_states.specs.declared.calls.Call.TheVariants as call
+use Rattle.mix_core.specs.declared.port.Position.{Position}
+use Rattle.dmix_client.specs.Calls.{avail_answer, sync_count, synced, with_number}
+use Rattle.dmix_client.specs.Port.{TakesStep, entries_at}
+use Rattle.dmix_client.specs.View.{ClientView}
+use Rattle.dmix_client.proofs.client.Client.avail_update.Goals as goal
+
+pub returns-clause-steps : goal.returns-clause-steps
+returns-clause-steps g c admitted moves =
+    let port = g.P.MixPort in
+    let now = c.sync_call-stepped.ensures in
+    let found = c.sync_call-stepped.result.found in
+    let plain = c.self.inside.plain in
+    let before = c.args.port.now in
+    let after = c.sync_call-stepped.new.port in
+    let ring : List ℤ = c.self.inside.ring.items in
+    let stops = g.G.Gate.stops c.args.gate.now in
+    let stops_after = g.G.Gate.stops c.sync_call-stepped.new.gate in
+    let laid : port.laid before after (entries_at found.load (λ position. plain) ring found.commit) =
+        subst (λ (samples : List ℤ). port.laid before after (entries_at found.load (λ position. plain) samples found.commit)) c.as_slice-ring.ensures.value now.laid in
+    subst
+    (λ (v : ClientView). TakesStep {T = ℕ} port.laid port.loaded port.geometry port.shows before after stops stops_after v.ring (λ position. v.plain) (sync_count v.plain) (length v.plain.bindings) (λ load commit. with_number avail_answer (synced v.plain call.Sync load commit)) (c.sync_call-stepped.new.plain, c.with_avail.result))
+    c.self.view_is
+    (record { load = found.load; commit = found.commit; found = now.found; outcome = ap (with_number avail_answer) now.outcome ∙ c.with_avail.ensures; loaded_them = now.loaded; laid_them = laid; shown = now.shown; told = now.told })

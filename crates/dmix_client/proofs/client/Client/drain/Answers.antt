@@ -1,0 +1,35 @@
+use Rattle.std.proofs.Common.{◌≡◌, ℕ, List, length, subst, sym}
+use Rattle.std.specs.Prelude.{ℤ, nat_lt, true}
+use Rattle.pcm_states.specs.declared.calls.Call.TheVariants as call
+use Rattle.mix_core.specs.declared.port.Position.{Position}
+use Rattle.dmix_client.specs.Calls.{draining, has_frames, sync_count, synced}
+use Rattle.dmix_client.specs.Port.{TakesStep, entries_at}
+use Rattle.dmix_client.specs.declared.plain.Plain.{Plain}
+use Rattle.dmix_client.specs.View.{ClientView, is_moving}
+use Rattle.dmix_client.proofs.Going.{has_frames-moving}
+use Rattle.dmix_client.proofs.client.Client.drain.Goals as goal
+
+pub returns-then-is_moving-clause-steps : goal.returns-then-is_moving-clause-steps
+returns-then-is_moving-clause-steps g c admitted moves =
+    let port = g.P.MixPort in
+    let now = c.sync_call.ensures in
+    let found = c.sync_call.result.found in
+    let plain = c.draining-self-inside.result in
+    let before = c.args.port.now in
+    let after = c.sync_call.new.port in
+    let ring : List ℤ = c.self.inside.ring.items in
+    let stops = g.G.Gate.stops c.args.gate.now in
+    let stops_after = g.G.Gate.stops c.sync_call.new.gate in
+    let laid : port.laid before after (entries_at found.load (λ position. plain) ring found.commit) =
+        subst (λ (samples : List ℤ). port.laid before after (entries_at found.load (λ position. plain) samples found.commit)) c.as_slice-ring.ensures.value now.laid in
+    let taken : TakesStep {T = Unit {0}} port.laid port.loaded port.geometry port.shows before after stops stops_after ring (λ position. plain) (sync_count plain) (length plain.bindings) (synced plain call.Drain) (c.sync_call.new.plain, c.sync_call.result.answer) =
+        record { load = found.load; commit = found.commit; found = now.found; outcome = now.outcome; loaded_them = now.loaded; laid_them = laid; shown = now.shown; told = now.told } in
+    subst
+    (λ (v : ClientView). TakesStep {T = Unit {0}} port.laid port.loaded port.geometry port.shows before after stops stops_after v.ring (λ position. draining v.plain) (sync_count (draining v.plain)) (length v.plain.bindings) (synced (draining v.plain) call.Drain) (c.sync_call.new.plain, c.sync_call.result.answer))
+    c.self.view_is
+    (subst (λ (d : Plain). TakesStep {T = Unit {0}} port.laid port.loaded port.geometry port.shows before after stops stops_after ring (λ position. d) (sync_count d) (length d.bindings) (synced d call.Drain) (c.sync_call.new.plain, c.sync_call.result.answer)) c.draining-self-inside.ensures taken)
+
+pub returns-then-is_moving-clause-starts : goal.returns-then-is_moving-clause-starts
+returns-then-is_moving-clause-starts g c has admitted =
+    let moves : is_moving c.args.self.now.plain.state ≡ true = subst (λ (v : ClientView). is_moving v.plain.state ≡ true) c.self.view_is (sym c.if-is_moving.ensures) in
+    absurd (has_frames-moving c.args.self.now.plain.state (nat_lt 0 c.args.self.now.plain.written) moves has)

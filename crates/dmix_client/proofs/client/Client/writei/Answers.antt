@@ -1,0 +1,27 @@
+use Rattle.std.proofs.Common.{◌≡◌, ◌/◌, ◌∙◌, ℕ, List, length, ap, arith, subst, sym, take, drop, ◌++◌}
+use Rattle.std.specs.Prelude.{ℤ, Result}
+use Rattle.snd_base.specs.declared.errors.PcmError.{PcmError}
+use Rattle.dmix_client.specs.Calls.{Answered}
+use Rattle.dmix_client.specs.View.{ClientView}
+use Rattle.dmix_client.specs.Writes.{TakesWrite, frames_in}
+use Rattle.dmix_client.proofs.Rings.{take-written}
+use Rattle.dmix_client.proofs.client.Client.writei.Goals as goal
+
+pub returns-then-eq-clause-steps : goal.returns-then-eq-clause-steps
+returns-then-eq-clause-steps g c admitted running =
+    let port = g.P.MixPort in
+    let writes = c.write_running-answer.ensures.writes in
+    let plain = c.self.inside.plain in
+    let samples = c.args.samples.now in
+    let new_ring : List ℤ = c.write_running-answer.new.ring in
+    let before = c.args.port.now in
+    let after = c.write_running-answer.new.port in
+    let new_plain = c.write_running-answer.new.plain in
+    let frames : c.whole_frames-frames.result ≡ frames_in plain samples = c.whole_frames-frames.ensures.value ∙ ap (λ (n : ℕ). length samples / n) c.len.ensures.value in
+    let whole : c.self.inside.ring.len ≡ length new_ring = omega (arith, c.as_mut_slice-ring.ensures.len) in
+    let back : new_ring ≡ take c.self.inside.ring.len (new_ring ++ drop (length new_ring) c.self.inside.ring.items) = sym (take-written c.self.inside.ring.len new_ring c.self.inside.ring.items whole) in
+    let by_ring = subst (λ (ring : List ℤ). TakesWrite port.laid port.loaded port.geometry port.shows before after plain ring new_ring samples c.whole_frames-frames.result (new_plain, c.write_running-answer.result)) c.as_mut_slice-ring.ensures.value writes in
+    let by_frames = subst (λ (n : ℕ). TakesWrite port.laid port.loaded port.geometry port.shows before after plain c.self.inside.ring.items new_ring samples n (new_plain, c.write_running-answer.result)) frames by_ring in
+    let by_answer = subst (λ (r : Result ℕ PcmError). TakesWrite port.laid port.loaded port.geometry port.shows before after plain c.self.inside.ring.items new_ring samples (frames_in plain samples) (new_plain, r)) (sym c.few_frames.ensures) by_frames in
+    let by_back = subst (λ (ring : List ℤ). TakesWrite port.laid port.loaded port.geometry port.shows before after plain c.self.inside.ring.items ring samples (frames_in plain samples) (new_plain, c.few_frames.result)) back by_answer in
+    subst (λ (v : ClientView). TakesWrite port.laid port.loaded port.geometry port.shows before after v.plain v.ring (take c.self.inside.ring.len (new_ring ++ drop (length new_ring) c.self.inside.ring.items)) samples (frames_in v.plain samples) (new_plain, c.few_frames.result)) c.self.view_is by_back

@@ -1,0 +1,202 @@
+use super::*;
+use bindings::Bindings;
+use hw_space::Config;
+use mix_core::{Core, NeverStops};
+use pcm_states::State;
+use snd_base::{Geometry, PcmError, Segment, XrunWhy};
+use std::alloc::Global;
+use std::test::Fail;
+use sw_limits::SwParams;
+
+const RING: Geometry = Geometry {
+    frames: 256,
+    channels: 1,
+    first_lap: 0,
+};
+
+const MONO: Config = Config {
+    channels: 1,
+    rate: 48000,
+    period_size: 64,
+    buffer_size: 256,
+    periods: 4,
+};
+
+/// The card takes frames and then publishes its position.
+fn play(core: &mut Core, frames: u32, channels: u32) -> Result<(), PcmError> {
+    for _ in 0..frames {
+        for _ in 0..channels {
+            core.take()?;
+        }
+    }
+    core.publish();
+    Ok(())
+}
+
+/// A core of a mono ring, and a client that is prepared and starts one period of 64 frames ahead.
+fn opened(alloc: Global) -> Result<(Core, Client), PcmError> {
+    let core = Core::new(alloc, RING, 1)?;
+    let mut client = Client::new(alloc, RING, 0, 64);
+    client.hw_params(alloc, MONO, Bindings::identity(1))?;
+    Ok((core, client))
+}
+
+// A stream of 64 frames runs out: it is XRUN, refuses a write, and is prepared again.
+#[test]
+fn a_stream_that_runs_out_is_an_xrun(rt: HostRuntime) -> Result<(), Fail> {
+    let (mut core, mut client) = opened(rt.alloc())?;
+    let samples = [100; 64];
+    let wrote = client.writei(&mut core.turn(0), &mut NeverStops, &samples);
+    assert_eq!(rt; wrote, Ok(64));
+    assert_eq!(rt; client.state(), State::Running);
+    play(&mut core, 128, 1)?;
+    let over = XrunWhy::Avail {
+        avail: 256,
+        seen: 128,
+    };
+    let synced = client.sync(&mut core.turn(0), &mut NeverStops);
+    assert_eq!(rt; synced, Err(PcmError::Xrun(over)));
+    let again = client.writei(&mut core.turn(0), &mut NeverStops, &samples[..1]);
+    assert_eq!(rt; again, Err(PcmError::Xrun(XrunWhy::Already)));
+    assert_eq!(rt; client.prepare(), Ok(()));
+    assert_eq!(rt; client.state(), State::Prepared);
+    assert_eq!(rt; client.seen(), Some(128));
+    Ok(())
+}
+
+// A stream that is dropped and prepared again starts behind what it has laid.
+#[test]
+fn a_stream_restarts_behind_what_it_laid(rt: HostRuntime) -> Result<(), Fail> {
+    let (mut core, mut client) = opened(rt.alloc())?;
+    let samples = [7; 256];
+    let first = client.writei(&mut core.turn(0), &mut NeverStops, &samples);
+    assert_eq!(rt; first, Ok(256));
+    assert_eq!(rt; client.drop_pending(), Ok(()));
+    let laid = Segment {
+        source: 0,
+        card: 64,
+        whole: 192,
+        part: 0,
+    };
+    assert_eq!(rt; client.segment(), laid);
+    assert_eq!(rt; client.prepare(), Ok(()));
+    let second = client.writei(&mut core.turn(0), &mut NeverStops, &samples);
+    assert_eq!(rt; second, Ok(256));
+    play(&mut core, 256, 1)?;
+    let synced = client.sync(&mut core.turn(0), &mut NeverStops);
+    assert_eq!(rt; synced, Ok(()));
+    let behind = Segment {
+        source: 256,
+        card: 256,
+        whole: 256,
+        part: 0,
+    };
+    assert_eq!(rt; client.segment(), behind);
+    assert_eq!(rt; client.fed(), 512);
+    Ok(())
+}
+
+// A stream without a stop threshold runs into the past: its write is late, and its frames are offered again.
+#[test]
+fn a_late_write_accepts_nothing(rt: HostRuntime) -> Result<(), Fail> {
+    let (mut core, mut client) = opened(rt.alloc())?;
+    let never = SwParams {
+        start_threshold: 1,
+        stop_threshold: 4611686018427387904,
+        avail_min: 64,
+    };
+    assert_eq!(rt; client.sw_params(never), Ok(()));
+    let samples = [5; 64];
+    let first = client.writei(&mut core.turn(0), &mut NeverStops, &samples);
+    assert_eq!(rt; first, Ok(64));
+    play(&mut core, 192, 1)?;
+    let late = client.writei(&mut core.turn(0), &mut NeverStops, &samples);
+    match late {
+        Err(PcmError::Xrun(XrunWhy::Late { frame, channel, .. })) => {
+            assert_eq!(rt; frame, 128);
+            assert_eq!(rt; channel, 0);
+        }
+        other => assert_eq!(rt; other, Ok(0), "not late"),
+    }
+    assert_eq!(rt; client.state(), State::Xrun);
+    assert_eq!(rt; client.fed(), 64);
+    assert_eq!(rt; client.prepare(), Ok(()));
+    let again = client.writei(&mut core.turn(0), &mut NeverStops, &samples);
+    assert_eq!(rt; again, Ok(64));
+    let avail = client.avail_update(&mut core.turn(0), &mut NeverStops);
+    assert_eq!(rt; avail, Ok(192));
+    let delay = client.delay(&mut core.turn(0), &mut NeverStops);
+    assert_eq!(rt; delay, Ok(128));
+    let laid = Segment {
+        source: 64,
+        card: 256,
+        whole: 64,
+        part: 0,
+    };
+    assert_eq!(rt; client.segment(), laid);
+    Ok(())
+}
+
+// A drain plays what is written, and a stream that is full can take nothing.
+#[test]
+fn a_drain_is_done_once_all_is_played(rt: HostRuntime) -> Result<(), Fail> {
+    let (mut core, mut client) = opened(rt.alloc())?;
+    let samples = [3; 256];
+    let full = client.writei(&mut core.turn(0), &mut NeverStops, &samples);
+    assert_eq!(rt; full, Ok(256));
+    play(&mut core, 64, 1)?;
+    let none = client.writei(&mut core.turn(0), &mut NeverStops, &samples[..64]);
+    assert_eq!(rt; none, Err(PcmError::Again));
+    let waits = client.drain(&mut core.turn(0), &mut NeverStops);
+    assert_eq!(rt; waits, Err(PcmError::Again));
+    assert_eq!(rt; client.state(), State::Draining);
+    play(&mut core, 256, 1)?;
+    let done = client.drain(&mut core.turn(0), &mut NeverStops);
+    assert_eq!(rt; done, Ok(()));
+    assert_eq!(rt; client.state(), State::Setup);
+    Ok(())
+}
+
+// Exchanged bindings lay the client's channel 0 in the card's channel 1.
+#[test]
+fn exchanged_channels_are_exchanged(rt: HostRuntime) -> Result<(), Fail> {
+    let stereo = Geometry {
+        frames: 256,
+        channels: 2,
+        first_lap: 0,
+    };
+    let config = Config {
+        channels: 2,
+        ..MONO
+    };
+    let mut core = Core::new(rt.alloc(), stereo, 1)?;
+    let mut client = Client::new(rt.alloc(), stereo, 0, 0);
+    let exchanged = Bindings::read(&[1, 0], 2).ok().ok_or("bindings")?;
+    client.hw_params(rt.alloc(), config, exchanged)?;
+    let wrote = client.writei(&mut core.turn(0), &mut NeverStops, &[10, 20]);
+    assert_eq!(rt; wrote, Ok(1));
+    assert_eq!(rt; core.take()?.value, 20);
+    assert_eq!(rt; core.take()?.value, 10);
+    Ok(())
+}
+
+// What a client that isn't started answers.
+#[test]
+fn an_empty_client_is_not_started(rt: HostRuntime) -> Result<(), Fail> {
+    let mut core = Core::new(rt.alloc(), RING, 1)?;
+    let mut client = Client::new(rt.alloc(), RING, 0, 64);
+    assert_eq!(rt; client.prepare(), Err(PcmError::BadState));
+    assert_eq!(rt; client.pause(true), Err(PcmError::NotSupported));
+    client.hw_params(rt.alloc(), MONO, Bindings::identity(1))?;
+    assert_eq!(rt; client.config(), Some(MONO));
+    let started = client.start(&mut core.turn(0), &mut NeverStops);
+    assert_eq!(rt; started, Err(PcmError::Xrun(XrunWhy::Empty)));
+    assert_eq!(rt; client.seen(), None);
+    let drained = client.drain(&mut core.turn(0), &mut NeverStops);
+    assert_eq!(rt; drained, Ok(()));
+    assert_eq!(rt; client.state(), State::Setup);
+    assert_eq!(rt; client.hw_free(), Ok(()));
+    assert_eq!(rt; client.state(), State::Open);
+    assert_eq!(rt; client.is_stopped(), false);
+    Ok(())
+}
