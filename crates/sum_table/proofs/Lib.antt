@@ -1,0 +1,10 @@
+pub mod Cuts
+pub mod Keeps
+pub mod Lists
+pub mod Opens
+pub mod Places
+pub mod Rings
+pub mod Rows
+pub mod Sums
+pub mod Takes
+pub mod Views

@@ -1,0 +1,10 @@
+//! The sum ring between threads: a table of 64-bit words that any number of seats share, each in a thread of its own, under
+//! a rule that holds between any two atomic steps.
+#![tactic(auto)]
+
+mod plays;
+mod rule;
+mod view;
+
+pub use rule::Exactly;
+pub use view::{Key, Track, View};
