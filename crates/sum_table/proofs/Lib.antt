@@ -5,6 +5,7 @@ pub mod Opens
 pub mod Places
 pub mod Rings
 pub mod Rows
+pub mod Seated
 pub mod Sums
 pub mod Takes
 pub mod Views

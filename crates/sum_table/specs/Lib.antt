@@ -1,5 +1,7 @@
 pub mod Cuts
 pub mod Exact
+pub mod Known
 pub mod Laid
+pub mod Seats
 pub mod Steps
 pub mod Words

@@ -2,9 +2,11 @@
 //! a rule that holds between any two atomic steps.
 #![tactic(auto)]
 
+mod mix;
 mod plays;
 mod rule;
 mod view;
 
+pub use mix::MixSeat;
 pub use rule::Exactly;
 pub use view::{Key, Track, View};
