@@ -3,6 +3,7 @@ pub mod Keeps
 pub mod Lists
 pub mod Opens
 pub mod Places
+pub mod Placing
 pub mod Rings
 pub mod Rows
 pub mod Seated

@@ -9,17 +9,19 @@ use Rattle.std.proofs.lemmas.List.Folds.{list_any-append}
 use Rattle.atomic_table.specs.Seated.{TableId}
 use Rattle.snd_base.specs.declared.geometry.Geometry.{Geometry}
 use Rattle.snd_base.specs.declared.places.Cursor.{Cursor}
-use Rattle.snd_base.specs.Places.{IsWithin, behind}
+use Rattle.snd_base.specs.Places.{IsWithin, behind, lap}
+use Rattle.lap_word.specs.Word.{count_of, lap_of}
 use Rattle.snd_base.specs.Relations.{Composes}
 use Rattle.mix_core.specs.declared.port.Entry.{Entry}
 use Rattle.mix_core.specs.declared.port.Position.{Position}
-use Rattle.mix_core.specs.History.{Row}
+use Rattle.mix_core.specs.History.{IsReply, Row, late_row}
 use Rattle.sum_table.specs.declared.mix.MixSeat.{MixSeat}
 use Rattle.sum_table.specs.declared.view.Key.{Key}
 use Rattle.sum_table.specs.declared.view.View.{View}
 use Rattle.sum_table.specs.Exact.{BeginsWith}
 use Rattle.sum_table.specs.Known.{greater}
-use Rattle.sum_table.specs.Steps.{Finds, Makes, MakesLook, in_row, with_entry, with_note, with_position}
+use Rattle.sum_table.specs.Laid.{by_member}
+use Rattle.sum_table.specs.Steps.{Finds, IsStep, Makes, MakesLook, in_row, with_entry, with_note, with_position}
 use Rattle.sum_table.specs.Words.{index_of, rank}
 
 -- what a seat knows, and did
@@ -121,6 +123,33 @@ pub record HasLocated (s t : MixSeat) (p : Position) : Type 0 where
   pub within : IsWithin s.key.geometry p.frame
   pub gone : (view_of s).seen_gone ≡ true → p.gone ≡ true
   pub event : Makes (view_of s) (view_of t) (λ _. [])
+
+-- from one state of a seat to another, the last of its steps was an add with the reply `In` of the seat's own number
+abbrev pub MakesIn : MixSeat → MixSeat → Entry → Type 0
+MakesIn s t e = Makes (view_of s) (view_of t) (λ by. in_row by e ∷ [])
+
+-- the last of them was an add with the reply `Late`: the history so far determines this reply
+abbrev pub MakesLate : MixSeat → MixSeat → Entry → Type 0
+MakesLate s t e =
+    (by : ℕ) × (members : ℕ) × (between : List Row)
+    × IsStep (view_of s) (view_of t) by members between []
+    × IsReply (geometry_of s) members (view_of t).history (late_row (by_member by e))
+
+-- a placement that goes on: the seat found the word, at the frame's own lap, after i exchanges that were lost
+pub record IsTrying (s t : MixSeat) (f c word i before ticks : ℕ) : Type 0 where
+  pub goes : Goes s t
+  pub laid : (view_of t).laid ≡ (view_of s).laid
+  pub mine : (view_of t).mine ≡ (view_of s).mine
+  pub positions : (view_of t).positions ≡ (view_of s).positions
+  pub seen_gone : (view_of t).seen_gone ≡ (view_of s).seen_gone
+  pub cursor : t.cursor ≡ s.cursor
+  pub seen : t.seen ≡ s.seen
+  pub noted : shown t f c ≡ Some word
+  pub of_lap : lap_of word ≡ lap s.key.geometry f
+  pub not_before : s.seen ≤ f
+  pub counted : i ≤ count_of word
+  pub room : count_of word + s.places ≤ s.key.places
+  pub ticked : ticks ≡ before + 1 + i
 
 pub BeginsWith-trans : (h j early : List Row) → BeginsWith h j → BeginsWith j early → BeginsWith h early
 BeginsWith-trans h j early late first = (first.0 ++ late.0, late.1 ∙ (ap (λ x. x ++ late.0) first.1 ∙ append_assoc early first.0 late.0))

@@ -3,6 +3,7 @@
 #![tactic(auto)]
 
 mod mix;
+mod place;
 mod plays;
 mod rule;
 mod view;
