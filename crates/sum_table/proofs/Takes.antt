@@ -110,7 +110,7 @@ took s slots id m at t h word lasts tracks player x here fits stands =
       keeps,
       tt,
       (at, u, late, IsRing-same g (set s.words i word) (all_laid s.views) (all_laid (set s.views id w)) u (SameSums-set s.views id v w here refl) ring, views, seated),
-      (late, t, z, tracks, refl, refl, (id, length s.views, own.begins.0, step_of g s.views u h id v w rows seated here lasts refl refl own.begins)),
+      (late, t, z, tracks, refl, value ∙ ap clamp_of ((SameSums-set s.views id v w here refl).totals next.frame next.channel ∙ sym (seated.sums.totals next.frame next.channel)), refl, (id, length s.views, own.begins.0, step_of g s.views u h id v w rows seated here lasts refl refl own.begins)),
     )
 
 -- the track of the player's view

@@ -122,6 +122,11 @@ is_tracked (Some t) = true
 abbrev pub first_track : Track
 first_track = record { taken = []; published = []; gone = false }
 
+-- the player's part of a view that has it
+abbrev pub the_track : Option Track → Track
+the_track None = first_track
+the_track (Some t) = t
+
 -- the view of the first seat
 abbrev pub first_view : Key → View
 first_view k = record {

@@ -8,7 +8,7 @@ use Rattle.mix_core.specs.declared.port.Entry.{Entry}
 use Rattle.sum_table.specs.declared.view.Key.{Key}
 use Rattle.sum_table.specs.declared.view.Track.{Track}
 use Rattle.sum_table.specs.declared.view.View.{View}
-use Rattle.sum_table.specs.Exact.{is_tracked, next_at, position_at}
+use Rattle.sum_table.specs.Exact.{is_tracked, next_at, position_at, the_track}
 use Rattle.sum_table.specs.Steps.{IsWord}
 use Rattle.sum_table.specs.Words.{words_of}
 
@@ -59,6 +59,6 @@ pub record IsPlayer (v : View) (k : Key) (next : Cursor) (position : ℕ) (gone 
   pub next_channel : next.channel < k.geometry.channels
   pub next_within : IsWithin k.geometry next.frame
   pub position_within : IsWithin k.geometry position
-  pub next_is : (t : Track) → v.track ≡ Some t → next ≡ next_at k.geometry t
-  pub position_is : (t : Track) → v.track ≡ Some t → position ≡ position_at k.geometry t
-  pub gone_is : (t : Track) → v.track ≡ Some t → gone ≡ t.gone
+  pub next_is : next ≡ next_at k.geometry (the_track v.track)
+  pub position_is : position ≡ position_at k.geometry (the_track v.track)
+  pub gone_is : gone ≡ (the_track v.track).gone

@@ -15,6 +15,7 @@ use Rattle.mix_core.specs.declared.event.Reply.TheVariants.{Late, Took, Publishe
 use Rattle.mix_core.specs.declared.event.Taken.{Taken}
 use Rattle.mix_core.specs.declared.port.Entry.{Entry}
 use Rattle.mix_core.specs.History.{AreExact, AreInOrder, IsLegal, IsReply, Row, laid_of, row_of, taken_of}
+use Rattle.mix_core.specs.Laid.{total}
 use Rattle.mix_core.specs.Sound.{IsNow}
 use Rattle.sum_table.specs.declared.view.Key.{Key}
 use Rattle.sum_table.specs.declared.view.Track.{Track}
@@ -160,6 +161,7 @@ taken s m n r =
     (h : List Row) × (t : Track) × (z : ℤ)
     × (m.0.track ≡ Some t)
     × (z ≡ clamp_of (sum_of n))
+    × (z ≡ clamp_of (total (laid_of h) (next_at m.0.key.geometry t).frame (next_at m.0.key.geometry t).channel))
     × (r ≡ (with_taken m.0 h t (taking m.0.key.geometry t z), m.1))
     × Makes m.0 (with_taken m.0 h t (taking m.0.key.geometry t z)) (λ _. (Take, Took (next_at m.0.key.geometry t).frame (next_at m.0.key.geometry t).channel z) ∷ [])
 

@@ -4,10 +4,13 @@
 
 mod mix;
 mod place;
+mod player;
 mod plays;
+mod port;
 mod rule;
 mod view;
 
 pub use mix::MixSeat;
+pub use player::PlayerSeat;
 pub use rule::Exactly;
 pub use view::{Key, Track, View};

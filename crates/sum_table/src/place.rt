@@ -8,7 +8,7 @@ ghost use Rattle.sum_table.specs.Seats.{CanAdd, Goes, MakesIn, MakesLate, SeatLa
 use crate::mix::MixSeat;
 use mix_core::{Gate, Placed, StepKind, ask};
 use snd_base::{PcmError, Steps};
-use std::sync::ledger::Ledger;
+use std::sync::ledger::{Blank, Ledger};
 
 impl MixSeat<'_> {
     /// Adds a sample at a frame (its absolute number) and channel, as `MixPort::place` does, with a counter of the atomic
@@ -66,5 +66,44 @@ impl MixSeat<'_> {
             word = found;
         }
         unreachable!()
+    }
+
+    // The same with a counter of its own, at the ledger of a blank.
+    pub(crate) fn place_at<G: Gate, L: Ledger>(
+        &mut self,
+        gate: &mut G,
+        frame: u64,
+        channel: u8,
+        sample: i16,
+        blank: Blank,
+    ) -> Result<Placed, PcmError>
+        requires name { blank.name ≡ L.name }
+        requires parts { blank.parts ≡ L.parts }
+        requires some { 0 < blank.parts }
+        requires can_add { CanAdd self.old }
+        requires channel { channel < (geometry_of self.old).channels }
+        requires from_cursor { IsFrom (cursor_of_seat self.old) frame channel }
+        requires ahead { frame < seen_of self.old + (geometry_of self.old).frames }
+        ensures goes { Goes self.old self.new }
+        ensures seen { seen_of self.new ≡ seen_of self.old }
+        ensures loaded_nothing { SeatLoaded self.old self.new [] }
+
+        // The one entry was laid, and the cursor stands right behind it: an add with the reply `In`.
+        ensures in_time { OnIn result (IsIn SeatLaid geometry_of cursor_of_seat self.old self.new (record { member = member_of self.old; frame = frame; channel = channel; sample = sample })) }
+        ensures in_event { OnIn result (MakesIn self.old self.new (record { member = member_of self.old; frame = frame; channel = channel; sample = sample })) }
+        ensures not_before_seen { OnIn result (seen_of self.old ≤ frame) }
+
+        // Nothing was laid, and the word of a later lap is shown: an add with the reply `Late`.
+        ensures late { IfLate result (λ word. IsNotIn SeatLaid cursor_of_seat self.old self.new × IsPast geometry_of shown self.new frame channel word) }
+        ensures late_event { IfLate result (λ word. MakesLate self.old self.new (record { member = member_of self.old; frame = frame; channel = channel; sample = sample })) }
+
+        ensures err { OnErr result (IsNotIn SeatLaid cursor_of_seat self.old self.new) }
+        ensures lap_end { G.stops gate.new ≡ G.stops gate.old → IsErrOf result PcmError.LapEnd ↔ (4294967295 ≤ lap (geometry_of self.old) frame) }
+        ensures only { IfErr result (λ e. (e ≡ PcmError.LapEnd) ⊎ (e ≡ PcmError.Stopped)) }
+        ensures told { Told result (G.stops gate.old) (G.stops gate.new) }
+        ensures asks { PlaceAsks result frame (seen_of self.old) (G.asks gate.old) (G.asks gate.new) }
+    {
+        let mut steps: Steps<L> = Steps::open(blank);
+        self.place_counted(gate, frame, channel, sample, &mut steps)
     }
 }
