@@ -4,6 +4,7 @@ pub mod Lists
 pub mod Opens
 pub mod Places
 pub mod Placing
+pub mod Playing
 pub mod Rings
 pub mod Rows
 pub mod Seated
