@@ -22,7 +22,7 @@ use Rattle.mix_core.specs.Sound.{IsNow}
 use Rattle.sum_table.specs.declared.view.Key.{Key}
 use Rattle.sum_table.specs.declared.view.Track.{Track}
 use Rattle.sum_table.specs.declared.view.View.{View}
-use Rattle.sum_table.specs.Cuts.{both_of, either_track, later_note, later_notes, later_of, longer, part_of, spent_view, with_places}
+use Rattle.sum_table.specs.Cuts.{both_of, either_track, later_note, later_notes, later_of, part_of, spent_view, with_places}
 use Rattle.sum_table.specs.Exact.{AreViews, BeginsWith, Exact, IsHistory, IsLaid, IsRing, IsView, next_at, position_at, start_of}
 use Rattle.sum_table.specs.Laid.{SameSums, all_laid, by_member, count, own, places_of}
 use Rattle.sum_table.specs.Steps.{Knows, learned, with_history}
@@ -37,7 +37,7 @@ abbrev is_some : Option Track → Bool
 is_some None = false
 is_some (Some t) = true
 
-no_track : (t : Track) → None ≢ Some t
+pub no_track : (t : Track) → None ≢ Some t
 no_track t same = false≢true (ap is_some same)
 
 -- places move to a new seat
@@ -61,6 +61,7 @@ splits k id v left right of_ring all few s x here =
       gone = mine.gone;
       noted = mine.noted;
       begins = mine.begins;
+      heard = mine.heard;
     } in
     let right_ok : IsView k s.words t h p = record {
       laid = λ i e there. absurd (some-ne-none e (sym there));
@@ -70,6 +71,7 @@ splits k id v left right of_ring all few s x here =
       gone = mine.gone;
       noted = mine.noted;
       begins = mine.begins;
+      heard = (h, refl);
     } in
     let sums : SameSums (all_laid s.views) (all_laid views) =
     SameSums-joined (all_laid s.views) (all_laid mid) (all_laid views) (SameSums-set s.views id v l here refl) (SameSums-more mid p refl) in
@@ -165,13 +167,6 @@ later_notes-length (n ∷ ns) (o ∷ os) same =
     let rest : length ns ≡ length os = omega arith in
     omega (arith, later_notes-length ns os rest)
 
--- the longer one of two beginnings is a beginning
-longer-begins : (all h j : List Row) → BeginsWith all h → BeginsWith all j → BeginsWith all (longer h j)
-longer-begins all h j first second = choose (nat_lt (length h) (length j)) where
-  choose : (b : Bool) → BeginsWith all (cond b j h)
-  choose true = second
-  choose false = first
-
 either_one : (o p : Option Track) (y : Track) → either_track o p ≡ Some y → (o ≡ Some y) ⊎ (p ≡ Some y)
 either_one None p y is = inr is
 either_one (Some t) p y is = inl is
@@ -210,7 +205,8 @@ both_ok k words t h v w a b = record {
     | inl first ↦ a.noted i n positive first
     | inr second ↦ b.noted i n positive second
   ];
-  begins = longer-begins h v.history w.history a.begins b.begins;
+  begins = a.begins;
+  heard = b.begins;
 }
 
 abbrev pub is_noted : Option ℕ → Bool
@@ -229,6 +225,7 @@ spent_ok k words t h = record {
   gone = λ is. absurd (false≢true is);
   noted = λ i n positive there. absurd (no_note n there);
   begins = (h, refl);
+  heard = (h, refl);
 }
 
 -- a seat takes over what another one is and has
@@ -410,6 +407,7 @@ learns slots id m lasts s x homes here fits =
       gone = own_one.gone;
       noted = own_one.noted;
       begins = BeginsWith-same h;
+      heard = own_one.heard;
     } in
     let y : Holds k s.words (set s.views id w) x.0 t h = idle k s.words s.views x.0 t h id v w all here (record { places = refl; laid = refl; mine = refl; cursor = refl; ended = refl; track = refl }) after in (
       w,
@@ -421,6 +419,7 @@ learns slots id m lasts s x homes here fits =
         refl,
         omega (arith, places_within s.views id v here, x.4.places),
         (id, length s.views, own_one.begins.0, none_made k.geometry s.views t h id v w y.history here lasts refl refl own_one.begins),
+        own_one.heard,
         (λ u tracks. knows s.words s.views x.0 t u h id v all here tracks),
       ),
     )

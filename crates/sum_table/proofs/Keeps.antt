@@ -98,6 +98,7 @@ locates slots id m lasts s e homes here fits =
       gone = λ is. is;
       noted = own.noted;
       begins = BeginsWith-same h;
+      heard = own.heard;
     } in
     let y : Holds k s.words (set s.views id w) e.0 t h = idle k s.words s.views e.0 t h id v w x here (record { places = refl; laid = refl; mine = refl; cursor = refl; ended = refl; track = refl }) after in (
       w,
@@ -161,6 +162,7 @@ notes slots id m i s at t h lasts x here =
         | inr old ↦ own.noted j o positive old
       ];
       begins = BeginsWith-same h;
+      heard = own.heard;
     } in
     let y : Holds k s.words (set s.views id w) at t h = idle k s.words s.views at t h id v w x here (record { places = refl; laid = refl; mine = refl; cursor = refl; ended = refl; track = refl }) after in (
       y,
@@ -264,6 +266,7 @@ puts words views at t h id v e old new x here may is =
       gone = moved.gone;
       noted = moved.noted;
       begins = BeginsWith-same late;
+      heard = moved.heard;
     } in
     record {
       ring = IsRing-same g (set words i new) (all_laid views ++ e ∷ []) (all_laid (set views id w)) t (SameSums-put views id v w e here refl) ring;

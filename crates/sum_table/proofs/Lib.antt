@@ -1,4 +1,5 @@
 pub mod Cuts
+pub mod Joining
 pub mod Keeps
 pub mod Lists
 pub mod Opens

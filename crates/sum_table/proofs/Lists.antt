@@ -104,7 +104,7 @@ set_read [] i = refl
 set_read (x ∷ xs) zero = refl
 set_read (x ∷ xs) (suc i) = ap (λ l. x ∷ l) (set_read xs i)
 
-abbrev value_or : ℕ → Option ℕ → ℕ
+abbrev pub value_or : ℕ → Option ℕ → ℕ
 value_or d None = d
 value_or d (Some x) = x
 

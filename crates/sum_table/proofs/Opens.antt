@@ -88,6 +88,7 @@ opens k silent stands =
       gone = λ is. is;
       noted = λ i n positive there. absurd (no_note n (sym (none_there (words_of g) i) ∙ there));
       begins = ([], refl);
+      heard = ([], refl);
     } in
     let parts : (i : ℕ) (u : View) → get_elem? (v ∷ []) i ≡ some u → (i ≡ 0) × (v ≡ u) = only v in (
       0,
@@ -111,3 +112,7 @@ opens k silent stands =
         no_cursor = λ i up. refl;
       },
     )
+
+pub opens_at : (k : Key) (silent : ℕ) (words : List ℕ) → words ≡ new_words k.geometry silent → StandsFor silent k.geometry.first_lap 0 (pos 0)
+    → Exact k (opening {S = Entry} {V = View} words [] (first_view k))
+opens_at k silent words are stands = subst (λ ws. Exact k (opening {S = Entry} {V = View} ws [] (first_view k))) (sym are) (opens k silent stands)

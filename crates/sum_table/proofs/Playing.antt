@@ -1,6 +1,10 @@
 -- What the player's steps may do and do, said of the fields of its seat.
-use Rattle.std.proofs.Common.{◌≡◌, ◌≢◌, ℕ, ◌+◌, ◌*◌, ◌/◌, ◌<◌, ◌≤◌, Bool, true, false, Option, None, Some, List, [], ◌∷◌, ◌++◌, length, ℤ, pos, arith, subst, sym, refl, ap, ◌∙◌}
-use mathlib.Core.Option.{none}
+use Rattle.std.proofs.Common.{◌≡◌, ◌≢◌, ℕ, zero, suc, ◌==◌, ◌&&◌, ◌||◌, ◌+◌, ◌*◌, ◌/◌, ◌<◌, ◌≤◌, Bool, true, false, Option, None, Some, List, [], ◌∷◌, ◌++◌, length, inl, inr, ℤ, pos, arith, subst, sym, refl, ap, ◌∙◌}
+use mathlib.Core.Option.{none, some, some-injective, some-ne-none}
+use lib.ListN.{get_elem?}
+use Rattle.std.specs.List.{list_any}
+use Rattle.std.proofs.lemmas.List.Folds.{list_any-append}
+use Rattle.std.proofs.lemmas.Bool.{false≢true}
 use Rattle.std.proofs.Math.Nat.{div-lt_iff_lt-mul}
 use Rattle.std.proofs.lemmas.Bool.Decides.{nat_tests}
 use Rattle.atomic_table.specs.Table.{Allows, Me, step}
@@ -21,11 +25,11 @@ use Rattle.sum_table.specs.declared.view.Key.{Key}
 use Rattle.sum_table.specs.declared.view.Track.{Track}
 use Rattle.sum_table.specs.declared.view.View.{View}
 use Rattle.sum_table.specs.Exact.{Exact, is_tracked, next_at, position_at, the_track}
-use Rattle.sum_table.specs.Known.{IsNoted, IsPlayer}
+use Rattle.sum_table.specs.Known.{IsNoted, IsPlayer, has_all}
 use Rattle.sum_table.specs.Players.{HasPublished, HasTaken, HasUnplugged, player_view, track_of}
 use Rattle.sum_table.specs.Steps.{Makes, published, taken, taking, track_gone, track_published, track_taken, unplugged, with_gone, with_published, with_taken}
 use Rattle.sum_table.specs.Words.{index_of}
-use Rattle.sum_table.proofs.Lists.{last_of-more}
+use Rattle.sum_table.proofs.Lists.{cases_eq, last_of-more}
 use Rattle.sum_table.proofs.Rings.{next_at-taken, suc-le-end_frame}
 use Rattle.sum_table.proofs.Seated.{step_begins}
 use Rattle.sum_table.proofs.Takes.{publishes, takes, unplugs}
@@ -82,6 +86,62 @@ may_unplug p slots word is =
         (λ t is. p.known.position_is ∙ (ap (position_at p.key.geometry) (track_is v t is) ∙ ap (λ (k : Key). position_at k.geometry t) own)) in
     subst (λ k. Goes k word) (p.known.same_key ∙ p.same_ring.1) (subst (Goes v.key) (sym is) at_own)
 
+and_split : (a b : Bool) → (a && b) ≡ true → (a ≡ true) × (b ≡ true)
+and_split true b is = (refl, is)
+and_split false b is = absurd (false≢true is)
+
+and_true : (a b : Bool) → a ≡ true → b ≡ true → (a && b) ≡ true
+and_true a b first second = rw (first, second) refl
+
+or_left : (a b : Bool) → a ≡ true → (a || b) ≡ true
+or_left a b is = rw is refl
+
+or_right : (a b : Bool) → b ≡ true → (a || b) ≡ true
+or_right true b is = refl
+or_right false b is = is
+
+-- more positions were seen
+pub has_all-more : (ns more ms : List ℕ) → has_all ns ms ≡ true → has_all (ns ++ more) ms ≡ true
+has_all-more ns more [] is = refl
+has_all-more ns more (m ∷ ms) is =
+    let parts = and_split (list_any (λ n. n == m) ns) (has_all ns ms) is in
+    and_true _ _ (list_any-append (λ n. n == m) ns more ∙ or_left (list_any (λ n. n == m) ns) (list_any (λ n. n == m) more) parts.0) (has_all-more ns more ms parts.1)
+
+-- one more was published, and seen
+has_last : (ns ms : List ℕ) (m : ℕ) → has_all ns ms ≡ true → list_any (λ n. n == m) ns ≡ true → has_all ns (ms ++ m ∷ []) ≡ true
+has_last ns [] m is here = and_true (list_any (λ n. n == m) ns) true here refl
+has_last ns (x ∷ xs) m is here =
+    let parts = and_split (list_any (λ n. n == x) ns) (has_all ns xs) is in
+    and_true _ _ parts.0 (has_last ns xs m parts.1 here)
+
+pub has_all-published : (ns ms : List ℕ) (m : ℕ) → has_all ns ms ≡ true → has_all (ns ++ m ∷ []) (ms ++ m ∷ []) ≡ true
+has_all-published ns ms m is =
+    let own : (m == m) ≡ true = grind (arith, nat_tests) in
+    let here : list_any (λ n. n == m) (ns ++ m ∷ []) ≡ true =
+    list_any-append (λ n. n == m) ns (m ∷ []) ∙ or_right (list_any (λ n. n == m) ns) (list_any (λ n. n == m) (m ∷ [])) (rw own refl) in
+    has_last (ns ++ m ∷ []) ms m (has_all-more ns (m ∷ []) ms is) here
+
+-- what is among the positions stands at some place
+found_there : (ns : List ℕ) (m : ℕ) → list_any (λ n. n == m) ns ≡ true → (j : ℕ) × (get_elem? ns j ≡ some m)
+found_there [] m is = absurd (false≢true is)
+found_there (n ∷ ns) m is = elim (cases_eq n m) [
+  | inl same ↦ (0, ap some same)
+  | inr apart ↦
+      let test : (n == m) ≡ false = grind (arith, nat_tests) in
+      let later : list_any (λ x. x == m) ns ≡ true = rw test at is in
+      let rest = found_there ns m later in
+      (suc rest.0, rest.1)
+]
+
+pub has_each : (ns ms : List ℕ) (i m : ℕ) → has_all ns ms ≡ true → get_elem? ms i ≡ some m → (j : ℕ) × (get_elem? ns j ≡ some m)
+has_each ns [] i m is there = absurd (some-ne-none m (sym there))
+has_each ns (x ∷ xs) zero m is there =
+    let parts = and_split (list_any (λ n. n == x) ns) (has_all ns xs) is in
+    found_there ns m (ap (λ y. list_any (λ n. n == y) ns) (sym (some-injective x m there)) ∙ parts.0)
+has_each ns (x ∷ xs) (suc i) m is there =
+    let parts = and_split (list_any (λ n. n == x) ns) (has_all ns xs) is in
+    has_each ns xs i m parts.1 there
+
 -- the fields after a word was taken
 pub known_taken : (k : Key) (next : Cursor) (position : ℕ) (gone : Bool) (slots i word n : ℕ) (m r : Me Entry View)
     → IsPlayer m.0 k next position gone → lap k.geometry next.frame < 4294967295
@@ -109,6 +169,7 @@ known_taken k next position gone slots i word n m r is fits told =
       next_is = ap (λ (y : Cursor). behind k.geometry y.frame y.channel) next_t ∙ sym (next_at-taken k.geometry t x);
       position_is = is.position_is ∙ ap (position_at k.geometry) same;
       gone_is = is.gone_is ∙ ap (λ (y : Track). y.gone) same;
+      saw_all = ap (λ (y : Track). has_all m.0.positions y.published) (sym same) ∙ is.saw_all;
     } in
     subst (λ (y : Me Entry View). IsPlayer y.0 k (behind k.geometry next.frame next.channel) position gone) (sym told.6) known
 
@@ -138,6 +199,7 @@ known_published k next position gone slots word n m r is told =
       next_is = next_t;
       position_is = frame ∙ sym (last_of-more (first_frame k.geometry) t.published p);
       gone_is = is.gone_is ∙ ap (λ (y : Track). y.gone) same;
+      saw_all = has_all-published m.0.positions t.published p (ap (λ (y : Track). has_all m.0.positions y.published) (sym same) ∙ is.saw_all);
     } in
     subst (λ (y : Me Entry View). IsPlayer y.0 k next next.frame gone) (sym told.3) known
 
@@ -164,6 +226,7 @@ known_unplugged k next position gone slots word n m r is told =
       next_is = is.next_is ∙ ap (next_at k.geometry) same;
       position_is = is.position_is ∙ ap (position_at k.geometry) same;
       gone_is = refl;
+      saw_all = ap (λ (y : Track). has_all m.0.positions y.published) (sym same) ∙ is.saw_all;
     } in
     subst (λ (y : Me Entry View). IsPlayer y.0 k next position true) (sym told.3) known
 

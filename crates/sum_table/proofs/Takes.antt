@@ -100,6 +100,7 @@ took s slots id m at t h word lasts tracks player x here fits stands =
       gone = moved.gone;
       noted = moved.noted;
       begins = BeginsWith-same late;
+      heard = moved.heard;
     } in
     let ring = IsRing-take g s.words (all_laid s.views) t z word x.ring fits (none_far k s.words s.views at t h x.views_ok) stands value in
     let views = views_set k s.words (set s.words i word) s.views at t u h late id v w x.views_ok later here refl after
@@ -183,6 +184,7 @@ publishes slots id m next gone lasts is next_is gone_is s x homes here small =
       gone = moved.gone;
       noted = moved.noted;
       begins = BeginsWith-same late;
+      heard = moved.heard;
     } in
     let ring = IsRing-publish g s.words (all_laid s.views) t x.3 in
     let views = views_set k s.words words s.views x.0 t u h late id v w x.4 later here refl after
@@ -231,6 +233,7 @@ unplugs slots id m position lasts is position_is s x homes here small =
       gone = λ seen. refl;
       noted = moved.noted;
       begins = BeginsWith-same h;
+      heard = moved.heard;
     } in
     let ring = IsRing-gone g s.words (all_laid s.views) t x.3 in
     let views = views_set k s.words words s.views x.0 t u h h id v w x.4 later here refl after

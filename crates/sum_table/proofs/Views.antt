@@ -54,6 +54,7 @@ view_later k before after t u early late v l x = record {
   gone = λ seen. l.gone (x.gone seen);
   noted = λ i n positive there. l.words i n positive (x.noted i n positive there);
   begins = l.history v.history x.begins;
+  heard = l.history v.heard x.heard;
 }
 
 -- one view changes, and its seat is the player's where the track does

@@ -31,6 +31,7 @@ part_of v n = record {
   seen_gone = v.seen_gone;
   noted = v.noted;
   history = v.history;
+  heard = [];
   track = None;
   ended = false;
 }
@@ -55,10 +56,6 @@ later_notes [] os = os
 later_notes (n ∷ ns) [] = n ∷ ns
 later_notes (n ∷ ns) (o ∷ os) = later_note n o ∷ later_notes ns os
 
--- the longer one of two beginnings of one history
-abbrev pub longer : List Row → List Row → List Row
-longer h j = if nat_lt (length h) (length j) then j else h
-
 -- the player's part of two views, of which at most one has it
 abbrev pub either_track : Option Track → Option Track → Option Track
 either_track None o = o
@@ -76,7 +73,8 @@ both_of v w = record {
   seen = max v.seen w.seen;
   seen_gone = v.seen_gone || w.seen_gone;
   noted = later_notes v.noted w.noted;
-  history = longer v.history w.history;
+  history = v.history;
+  heard = w.history;
   track = either_track v.track w.track;
   ended = v.ended;
 }
@@ -129,6 +127,7 @@ spent_view = record {
   seen_gone = false;
   noted = [];
   history = [];
+  heard = [];
   track = None;
   ended = true;
 }

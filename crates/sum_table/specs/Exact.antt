@@ -4,7 +4,8 @@ use Rattle.std.specs.Prelude.{◌≡◌, ℕ, ◌+◌, ◌-◌, ◌*◌, ◌<◌
 use Rattle.std.specs.List.{slice_index_or}
 use mathlib.Core.Option.{some}
 use lib.ListN.{get_elem?}
-use Rattle.atomic_table.specs.Table.{State}
+use Rattle.atomic_table.specs.Seated.{TableId}
+use Rattle.atomic_table.specs.Table.{Me, State}
 use Rattle.snd_base.specs.declared.geometry.Geometry.{Geometry}
 use Rattle.snd_base.specs.declared.places.Cursor.{Cursor}
 use Rattle.snd_base.specs.Places.{end_frame, first_frame, first_free, lap, next_word}
@@ -76,7 +77,8 @@ pub record IsLaid (g : Geometry) (next cursor : Cursor) (e : Entry) : Type 0 whe
 
 -- what a seat knows is so: its entries are in the ring, before its cursor, and at each frame and channel at most as many as
 -- it has places; it saw positions that were published, and the card gone only where it is; each word that it noted is not
--- past the word that stands there now; and the ring's history begins with what it has seen of it
+-- past the word that stands there now; and the ring's history begins with what it has seen of it, and with what a seat that
+-- was joined into it had seen
 pub record IsView (k : Key) (words : List ℕ) (t : Track) (h : List Row) (v : View) : Type 0 where
   pub laid : (i : ℕ) (e : Entry) → get_elem? v.laid i ≡ some e → IsLaid k.geometry (next_at k.geometry t) v.cursor e
   pub few : (f c : ℕ) → count v.laid f c ≤ v.places
@@ -85,6 +87,7 @@ pub record IsView (k : Key) (words : List ℕ) (t : Track) (h : List Row) (v : V
   pub gone : v.seen_gone ≡ true → t.gone ≡ true
   pub noted : (i n : ℕ) → 0 < i → slice_index_or v.noted i None ≡ Some n → NotPast n (slice_index words i)
   pub begins : BeginsWith h v.history
+  pub heard : BeginsWith h v.heard
 
 -- all views are so, their places are the ring's, and one of them alone is the player's
 pub record AreViews (k : Key) (words : List ℕ) (views : List View) (at : ℕ) (t : Track) (h : List Row) : Type 0 where
@@ -140,6 +143,11 @@ first_view k = record {
   seen_gone = false;
   noted = replicate (words_of k.geometry) None;
   history = [];
+  heard = [];
   track = Some first_track;
   ended = false;
 }
+
+-- the ring's first seat, which made no step yet
+abbrev pub IsFirst : TableId → TableId → Me Entry View → Key → Type 0
+IsFirst own ring me k = (own ≡ ring) × (me ≡ (first_view k, []))

@@ -1,6 +1,6 @@
 -- What the fields of a seat say of its view.
-use Rattle.std.specs.Prelude.{◌≡◌, ℕ, ◌<◌, ◌≤◌, Bool, true, false, Option, None, Some, List, [], ◌∷◌, ◌++◌, length, fold, max}
-use Rattle.std.specs.List.{slice_index_or}
+use Rattle.std.specs.Prelude.{◌≡◌, ℕ, ◌<◌, ◌≤◌, Bool, true, false, Option, None, Some, List, [], ◌∷◌, ◌++◌, ◌==◌, ◌&&◌, length, fold, max}
+use Rattle.std.specs.List.{list_any, slice_index_or}
 use Rattle.atomic_table.specs.Seated.{TableId}
 use Rattle.snd_base.specs.declared.places.Cursor.{Cursor}
 use Rattle.snd_base.specs.Places.{IsWithin}
@@ -46,6 +46,11 @@ pub record IsKnown (v : View) (k : Key) (places : ℕ) (cursor : Cursor) (seen :
   pub seen_within : IsWithin k.geometry seen
   pub places_most : places ≤ k.places
 
+-- whether each number of a list stands in another
+abbrev pub has_all : List ℕ → List ℕ → Bool
+has_all ns [] = true
+has_all ns (m ∷ ms) = list_any (λ n. n == m) ns && has_all ns ms
+
 -- a player's fields are those of its view
 pub record IsPlayer (v : View) (k : Key) (next : Cursor) (position : ℕ) (gone : Bool) : Type 0 where
   pub same_key : v.key ≡ k
@@ -62,3 +67,4 @@ pub record IsPlayer (v : View) (k : Key) (next : Cursor) (position : ℕ) (gone 
   pub next_is : next ≡ next_at k.geometry (the_track v.track)
   pub position_is : position ≡ position_at k.geometry (the_track v.track)
   pub gone_is : gone ≡ (the_track v.track).gone
+  pub saw_all : has_all v.positions (the_track v.track).published ≡ true

@@ -20,7 +20,7 @@ use Rattle.mix_core.specs.Sound.{IsNow}
 use Rattle.sum_table.specs.declared.view.Key.{Key}
 use Rattle.sum_table.specs.declared.view.Track.{Track}
 use Rattle.sum_table.specs.declared.view.View.{View}
-use Rattle.sum_table.specs.Exact.{IsPublished, next_at, position_at}
+use Rattle.sum_table.specs.Exact.{BeginsWith, IsPublished, next_at, position_at}
 use Rattle.sum_table.specs.Laid.{SameSums, by_member, own}
 use Rattle.sum_table.specs.Words.{NotPast, index_of}
 
@@ -200,4 +200,5 @@ learned s m n r =
     × (r ≡ (with_history m.0 h, m.1))
     × (m.0.places ≤ m.0.key.places)
     × Makes m.0 (with_history m.0 h) (λ _. [])
+    × BeginsWith h m.0.heard
     × ((t : Track) → m.0.track ≡ Some t → Knows (with_history m.0 h) t)

@@ -2,15 +2,22 @@
 //! a rule that holds between any two atomic steps.
 #![tactic(auto)]
 
+mod join;
 mod mix;
+mod note;
+mod parts;
 mod place;
 mod player;
 mod plays;
 mod port;
+mod ring;
 mod rule;
 mod view;
 
+pub use join::Closed;
 pub use mix::MixSeat;
+pub use note::SeatNote;
 pub use player::PlayerSeat;
+pub use ring::SumRing;
 pub use rule::Exactly;
 pub use view::{Key, Track, View};

@@ -26,7 +26,8 @@ pub struct Track {
 /// `laid` has all entries that the seat laid or took over from seats that were joined into it, and `mine` those that it
 /// laid itself. `positions` are the positions that it saw, `seen` the greatest one, `seen_gone` whether it saw the card
 /// gone. `noted` has at each word's index at most one word that was seen there. `history` is the ring's history up to the
-/// seat's last step. The player's part is `track`. A seat that was joined into another has `ended`.
+/// seat's last step, and `heard` that of the seat that was joined into it last. The player's part is `track`. A seat that
+/// was joined into another has `ended`.
 pub struct View {
     pub key: Key,
     pub places: u32,
@@ -38,6 +39,7 @@ pub struct View {
     pub seen_gone: bool,
     pub noted: LinkedList<Option<u64>>,
     pub history: LinkedList<(Event, Reply)>,
+    pub heard: LinkedList<(Event, Reply)>,
     pub track: Option<Track>,
     pub ended: bool,
 }
