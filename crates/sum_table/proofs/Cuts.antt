@@ -78,7 +78,7 @@ splits k id v left right of_ring all few s x here =
     let number : length mid ≡ length s.views = length-set s.views id l in
     let more : length views ≡ length s.views + 1 = omega (arith, number, length-append mid (p ∷ [])) in
     let parts : (i : ℕ) (u : View) → get_elem? views i ≡ some u
-        → ((i ≡ id) × (l ≡ u)) ⊎ (((i ≢ id) × (get_elem? s.views i ≡ some u)) ⊎ ((i ≡ length s.views) × (p ≡ u))) =
+    → ((i ≡ id) × (l ≡ u)) ⊎ (((i ≢ id) × (get_elem? s.views i ≡ some u)) ⊎ ((i ≡ length s.views) × (p ≡ u))) =
     λ i u there. elim (at_more mid p u i there) [
       | inl old ↦ elim (at_set s.views id i l u old) [ inl this ↦ inl this | inr other ↦ inr (inl other) ]
       | inr new ↦ inr (inr (new.0 ∙ number, new.1))
@@ -245,7 +245,7 @@ joins k id v other w s x here apart there =
     } in
     let number : length views ≡ length s.views = length-set mid other spent_view ∙ length-set s.views id b in
     let parts : (i : ℕ) (u : View) → get_elem? views i ≡ some u
-        → ((i ≡ other) × (spent_view ≡ u)) ⊎ (((i ≡ id) × (b ≡ u)) ⊎ ((i ≢ id) × (i ≢ other) × (get_elem? s.views i ≡ some u))) =
+    → ((i ≡ other) × (spent_view ≡ u)) ⊎ (((i ≡ id) × (b ≡ u)) ⊎ ((i ≢ id) × (i ≢ other) × (get_elem? s.views i ≡ some u))) =
     λ i u is. elim (at_set mid other i spent_view u is) [
       | inl ended ↦ inl ended
       | inr rest ↦ elim (at_set s.views id i b u rest.1) [ inl this ↦ inr (inl this) | inr else_one ↦ inr (inr (else_one.0, rest.0, else_one.1)) ]
@@ -285,35 +285,51 @@ joins k id v other w s x here apart there =
       no_cursor = λ i up. x.5.no_cursor i (omega (arith, number));
     } in
     elim (track_cases w.track) [
-      | inl untracked ↦ (x.0, t, h, ring, record {
-        places = places;
-        each = each;
-        player = λ i u y is tracks. elim (parts i u is) [
-          | inl ended ↦ absurd (no_track y (ap (λ (z : View). z.track) ended.1 ∙ tracks))
-          | inr rest ↦ elim rest [
-            | inl this ↦
-                let was = x.4.player id v y here (either_none v.track w.track y untracked (ap (λ (z : View). z.track) this.1 ∙ tracks)) in
-                (this.0 ∙ was.0, was.1)
-            | inr else_one ↦ x.4.player i u y else_one.2 tracks
-          ]
-        ];
-      }, history)
+      | inl untracked ↦ (
+        x.0,
+        t,
+        h,
+        ring,
+        record {
+          places = places;
+          each = each;
+          player = λ i u y is tracks. elim (parts i u is) [
+            | inl ended ↦ absurd (no_track y (ap (λ (z : View). z.track) ended.1 ∙ tracks))
+            | inr rest ↦ elim rest [
+              | inl this ↦
+                  let was = x.4.player id v y here (either_none v.track w.track y untracked (ap (λ (z : View). z.track) this.1 ∙ tracks)) in
+                  (this.0 ∙ was.0, was.1)
+              | inr else_one ↦ x.4.player i u y else_one.2 tracks
+            ]
+          ];
+        },
+        history,
+      )
       | inr one ↦
-          let was_player : (other ≡ x.0) × (one.0 ≡ t) = x.4.player other w one.0 was_there one.1 in
-          (id, t, h, ring, record {
-            places = places;
-            each = each;
-            player = λ i u y is tracks. elim (parts i u is) [
-              | inl ended ↦ absurd (no_track y (ap (λ (z : View). z.track) ended.1 ∙ tracks))
-              | inr rest ↦ elim rest [
-                | inl this ↦ (this.0, elim (either_one v.track w.track y (ap (λ (z : View). z.track) this.1 ∙ tracks)) [
-                  | inl first ↦ (x.4.player id v y here first).1
-                  | inr second ↦ (x.4.player other w y was_there second).1
-                ])
-                | inr else_one ↦ absurd (else_one.1 ((x.4.player i u y else_one.2 tracks).0 ∙ sym was_player.0))
-              ]
-            ];
-          }, history)
+          let was_player : (other ≡ x.0) × (one.0 ≡ t) = x.4.player other w one.0 was_there one.1 in (
+            id,
+            t,
+            h,
+            ring,
+            record {
+              places = places;
+              each = each;
+              player = λ i u y is tracks. elim (parts i u is) [
+                | inl ended ↦ absurd (no_track y (ap (λ (z : View). z.track) ended.1 ∙ tracks))
+                | inr rest ↦ elim rest [
+                  | inl this ↦ (
+                    this.0,
+                    elim (either_one v.track w.track y (ap (λ (z : View). z.track) this.1 ∙ tracks)) [
+                      | inl first ↦ (x.4.player id v y here first).1
+                      | inr second ↦ (x.4.player other w y was_there second).1
+                    ],
+                  )
+                  | inr else_one ↦ absurd (else_one.1 ((x.4.player i u y else_one.2 tracks).0 ∙ sym was_player.0))
+                ]
+              ];
+            },
+            history,
+          )
     ]
 
 -- no sample, no sum

@@ -216,7 +216,7 @@ has_heard p q n slots found x ring key next position gone both told =
     let view : player_view q ≡ with_history (both_of v w) h = ap (λ (y : Me Entry View). y.0) told.1 ∙ ap (λ y. with_history y h) both in
     let history : h ≡ (player_view q).history = sym (ap (λ (y : View). y.history) view) in
     let made : Makes (both_of v w) (player_view q) (λ _. []) = subst (λ y. Makes y (player_view q) (λ _. [])) both
-        (subst (λ y. Makes x.0 y (λ _. [])) (sym (ap (λ (y : Me Entry View). y.0) told.1)) told.3) in
+    (subst (λ y. Makes x.0 y (λ _. [])) (sym (ap (λ (y : Me Entry View). y.0) told.1)) told.3) in
     let own : v.key ≡ p.key = p.known.same_key in
     record {
       goes = record { ring = ring; key = key; history = step_begins (both_of v w) (player_view q) made.0 made.1 made.2 [] made.3 };

@@ -278,7 +278,7 @@ puts words views at t h id v e old new x here may is =
 -- a compare-exchange that lays an entry where the word is the expected one, and else notes the word found
 pub exchanges : (slots id : ℕ) (m : Me Entry View) (e : Entry) (old new : ℕ) → MayPut m.0 e old new
     → Allows (Exact m.0.key) slots id m (index_of m.0.key.geometry e.frame e.channel) (λ n. either (n == old) new n)
-        (exchanged (step slots (index_of m.0.key.geometry e.frame e.channel) old new (some e)) m)
+    (exchanged (step slots (index_of m.0.key.geometry e.frame e.channel) old new (some e)) m)
 exchanges slots id m e old new may s x homes here fits =
     let v : View = m.0 in
     let k : Key = v.key in
@@ -295,25 +295,25 @@ exchanges slots id m e old new may s x homes here fits =
     × exchanged (step slots i old new (some e)) m n (w, Rattle.atomic_table.specs.Table.carried_after m.1 a) in
     by_exchange n old new Goes
     (λ won.
-        let late : List Row = h ++ in_row id e ∷ [] in
-        let w : View = with_entry v late e in
-        let y : Holds k (set s.words i new) (set s.views id w) x.0 t late = puts s.words s.views x.0 t h id v e old new all here may won in (
-          w,
-          keeps,
-          tt,
-          (x.0, t, late, y.ring, y.views_ok, y.history),
-          (
-            found,
-            (λ same. (e, refl, (late, refl, (id, length s.views, own.begins.0, step_of g s.views t h id v w (in_row id e ∷ []) y.history here may.lasts refl refl own.begins)))),
-            (λ other. absurd (other won)),
-          ),
-        ))
+    let late : List Row = h ++ in_row id e ∷ [] in
+    let w : View = with_entry v late e in
+    let y : Holds k (set s.words i new) (set s.views id w) x.0 t late = puts s.words s.views x.0 t h id v e old new all here may won in (
+      w,
+      keeps,
+      tt,
+      (x.0, t, late, y.ring, y.views_ok, y.history),
+      (
+        found,
+        (λ same. (e, refl, (late, refl, (id, length s.views, own.begins.0, step_of g s.views t h id v w (in_row id e ∷ []) y.history here may.lasts refl refl own.begins)))),
+        (λ other. absurd (other won)),
+      ),
+    ))
     (λ lost.
-        let w : View = with_note v h i n in
-        let noted = notes slots id m i s x.0 t h may.lasts all here in (
-          w,
-          keeps,
-          tt,
-          loaded k s.words (set s.views id w) x.0 t h i s.homes noted.0,
-          (found, (λ same. absurd (lost same)), (λ other. (h, refl, noted.1))),
-        ))
+    let w : View = with_note v h i n in
+    let noted = notes slots id m i s x.0 t h may.lasts all here in (
+      w,
+      keeps,
+      tt,
+      loaded k s.words (set s.views id w) x.0 t h i s.homes noted.0,
+      (found, (λ same. absurd (lost same)), (λ other. (h, refl, noted.1))),
+    ))

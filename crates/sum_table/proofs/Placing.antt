@@ -16,6 +16,7 @@ use Rattle.sum_table.specs.Laid.{by_member}
 use Rattle.sum_table.specs.Seats.{Goes, Goes-joined, HasLaid, HasLost, HasNoted, IsTrying, MakesIn, MakesLate, SeatLaid, cursor_of_seat, geometry_of, view_of}
 use Rattle.sum_table.specs.Steps.{IsLateAt, IsStep, Makes, MakesLook, Tells, in_row}
 use Rattle.sum_table.specs.Words.{index_of, rank}
+use Rattle.sum_table.proofs.Rows.{BeginsWith-same}
 use Rattle.sum_table.proofs.Views.{rank-of}
 use Rattle.mix_core.specs.Gate.{Counts}
 use Rattle.mix_core.specs.declared.gate.StepKind.TheVariants.{Again}
@@ -137,20 +138,35 @@ nothing_laid s t u f c word n i before ticks is noted = record {
     goes = Goes-joined s t u is.goes noted.goes;
     laid = ap (λ (x : View). x.laid) noted.view ∙ (is.laid ∙ sym (append-nil (view_of s).laid));
     mine = ap (λ (x : View). x.mine) noted.view ∙ (is.mine ∙ sym (append-nil (view_of s).mine));
+    adds = (Goes-joined s t u is.goes noted.goes).history;
   };
   cursor_stays = noted.cursor ∙ is.cursor;
 }
 
 -- or it laid the one entry
 pub one_laid : (s t u : MixSeat) (f c word i before ticks : ℕ) (e : Entry) → IsTrying s t f c word i before ticks → HasLaid t u e → IsIn SeatLaid geometry_of cursor_of_seat s u e
-one_laid s t u f c word i before ticks e is laid = record {
-  laid_it = record {
-    goes = Goes-joined s t u is.goes laid.goes;
-    laid = ap (λ (x : View). x.laid) laid.view ∙ ap (λ es. es ++ e ∷ []) is.laid;
-    mine = ap (λ (x : View). x.mine) laid.view ∙ ap (λ es. es ++ e ∷ []) is.mine;
-  };
-  cursor_behind = laid.cursor ∙ ap (λ (k : Key). behind k.geometry e.frame e.channel) is.goes.key;
-}
+one_laid s t u f c word i before ticks e is laid =
+    let mine : (view_of u).mine ≡ (view_of s).mine ++ e ∷ [] = ap (λ (x : View). x.mine) laid.view ∙ ap (λ es. es ++ e ∷ []) is.mine in
+    let made : MakesIn s u e = in_made s t u e is.goes laid in
+    let step : IsStep (view_of s) (view_of u) made.0 made.1 made.2 (in_row made.0 e ∷ []) = made.3 in
+    record {
+      laid_it = record {
+        goes = Goes-joined s t u is.goes laid.goes;
+        laid = ap (λ (x : View). x.laid) laid.view ∙ ap (λ es. es ++ e ∷ []) is.laid;
+        mine = mine;
+        adds = (
+          made.0,
+          made.1,
+          made.2,
+          (view_of u).history,
+          step.history,
+          subst (λ (k : Key). IsLegal k.geometry made.1 (view_of u).history) s.known.same_key step.legal,
+          step.own_adds ∙ ap (Rattle.std.proofs.Common.map (by_member made.0)) mine,
+          BeginsWith-same (view_of u).history,
+        );
+      };
+      cursor_behind = laid.cursor ∙ ap (λ (k : Key). behind k.geometry e.frame e.channel) is.goes.key;
+    }
 
 -- a further exchange counts no ask
 pub asked_again : (a b c : Option ℕ) → Rises a b 2 2 → Counts Again b c → Rises a c 2 2
@@ -186,8 +202,8 @@ pub is_past_on : (s t u : MixSeat) (f c word i before ticks n : ℕ) → IsTryin
 is_past_on s t u f c word i before ticks n is noted channel from ahead other =
     let own : s.key ≡ t.key = sym is.goes.key in
     let past : lap t.key.geometry f < lap_of n = is_past t u f c n noted
-        (subst (λ (k : Key). c < k.geometry.channels) own channel)
-        (subst (λ (x : Cursor). IsFrom x f c) (sym is.cursor) from)
-        (subst (λ (k : Key). f < t.seen + k.geometry.frames) own (subst (λ p. f < p + s.key.geometry.frames) (sym is.seen) ahead))
-        (λ same. other (same ∙ ap (λ (k : Key). lap k.geometry f) is.goes.key)) in
+    (subst (λ (k : Key). c < k.geometry.channels) own channel)
+    (subst (λ (x : Cursor). IsFrom x f c) (sym is.cursor) from)
+    (subst (λ (k : Key). f < t.seen + k.geometry.frames) own (subst (λ p. f < p + s.key.geometry.frames) (sym is.seen) ahead))
+    (λ same. other (same ∙ ap (λ (k : Key). lap k.geometry f) is.goes.key)) in
     subst (λ (k : Key). lap k.geometry f < lap_of n) is.goes.key past

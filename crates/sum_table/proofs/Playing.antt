@@ -59,9 +59,9 @@ may_take p slots i word other stands index =
     let Goes : Key → ℕ → Type 0 = λ k j. Allows (Exact k) slots p.seat.id p.seat.me j (λ n. word) (taken (step slots j word 0 none) p.seat.me) in
     let own : p.key ≡ v.key = sym p.known.same_key in
     let at_own : Goes v.key (index_of v.key.geometry p.next.frame p.next.channel) = takes slots p.seat.id p.seat.me p.next word p.known.lasts p.known.tracked
-        (λ t is. p.known.next_is ∙ (ap (next_at p.key.geometry) (track_is v t is) ∙ ap (λ (k : Key). next_at k.geometry t) own))
-        (subst (λ (k : Key). lap k.geometry p.next.frame < 4294967295) own (fits_next p other))
-        (subst (λ (k : Key). StandsFor word (lap k.geometry p.next.frame + 1) 0 (pos 0)) own stands) in
+    (λ t is. p.known.next_is ∙ (ap (next_at p.key.geometry) (track_is v t is) ∙ ap (λ (k : Key). next_at k.geometry t) own))
+    (subst (λ (k : Key). lap k.geometry p.next.frame < 4294967295) own (fits_next p other))
+    (subst (λ (k : Key). StandsFor word (lap k.geometry p.next.frame + 1) 0 (pos 0)) own stands) in
     let at_key : Goes p.key (index_of p.key.geometry p.next.frame p.next.channel) = subst (λ (k : Key). Goes k (index_of k.geometry p.next.frame p.next.channel)) p.known.same_key at_own in
     subst (λ k. Goes k i) p.same_ring.1 (subst (Goes p.key) (sym index) at_key)
 
@@ -72,8 +72,8 @@ may_publish p slots word is =
     let own : p.key ≡ v.key = sym p.known.same_key in
     let Goes : Key → ℕ → Type 0 = λ k w. Allows (Exact k) slots p.seat.id p.seat.me 0 (λ n. w) (λ n. published (step slots 0 w 0 none) p.seat.me w) in
     let at_own : Goes v.key (word_of p.next.frame p.gone) = publishes slots p.seat.id p.seat.me p.next p.gone p.known.lasts p.known.tracked
-        (λ t is. p.known.next_is ∙ (ap (next_at p.key.geometry) (track_is v t is) ∙ ap (λ (k : Key). next_at k.geometry t) own))
-        (λ t is. p.known.gone_is ∙ ap (λ (x : Track). x.gone) (track_is v t is)) in
+    (λ t is. p.known.next_is ∙ (ap (next_at p.key.geometry) (track_is v t is) ∙ ap (λ (k : Key). next_at k.geometry t) own))
+    (λ t is. p.known.gone_is ∙ ap (λ (x : Track). x.gone) (track_is v t is)) in
     subst (λ k. Goes k word) (p.known.same_key ∙ p.same_ring.1) (subst (Goes v.key) (sym is) at_own)
 
 pub may_unplug : (p : PlayerSeat) (slots word : ℕ) → word ≡ word_of p.position true
@@ -83,7 +83,7 @@ may_unplug p slots word is =
     let own : p.key ≡ v.key = sym p.known.same_key in
     let Goes : Key → ℕ → Type 0 = λ k w. Allows (Exact k) slots p.seat.id p.seat.me 0 (λ n. w) (λ n. unplugged (step slots 0 w 0 none) p.seat.me w) in
     let at_own : Goes v.key (word_of p.position true) = unplugs slots p.seat.id p.seat.me p.position p.known.lasts p.known.tracked
-        (λ t is. p.known.position_is ∙ (ap (position_at p.key.geometry) (track_is v t is) ∙ ap (λ (k : Key). position_at k.geometry t) own)) in
+    (λ t is. p.known.position_is ∙ (ap (position_at p.key.geometry) (track_is v t is) ∙ ap (λ (k : Key). position_at k.geometry t) own)) in
     subst (λ k. Goes k word) (p.known.same_key ∙ p.same_ring.1) (subst (Goes v.key) (sym is) at_own)
 
 and_split : (a b : Bool) → (a && b) ≡ true → (a ≡ true) × (b ≡ true)

@@ -104,7 +104,7 @@ took s slots id m at t h word lasts tracks player x here fits stands =
     } in
     let ring = IsRing-take g s.words (all_laid s.views) t z word x.ring fits (none_far k s.words s.views at t h x.views_ok) stands value in
     let views = views_set k s.words (set s.words i word) s.views at t u h late id v w x.views_ok later here refl after
-        (λ y is. (player, sym (ap (λ (o : Option Track). track_or u o) is))) (inr player) in
+    (λ y is. (player, sym (ap (λ (o : Option Track). track_or u o) is))) (inr player) in
     let seated : IsHistory g (set s.views id w) u late =
     history_same g s.views u late id v w (history_take g s.views t h z x.history (λ same. omega (arith, fits, same)) value) here refl refl refl refl in (
       w,
@@ -188,7 +188,7 @@ publishes slots id m next gone lasts is next_is gone_is s x homes here small =
     } in
     let ring = IsRing-publish g s.words (all_laid s.views) t x.3 in
     let views = views_set k s.words words s.views x.0 t u h late id v w x.4 later here refl after
-        (λ y one. (mine.0, sym (ap (λ (o : Option Track). track_or u o) one))) (inr mine.0) in
+    (λ y one. (mine.0, sym (ap (λ (o : Option Track). track_or u o) one))) (inr mine.0) in
     let seated : IsHistory g (set s.views id w) u late = history_same g s.views u late id v w (history_publish g s.views t h x.5) here refl refl refl refl in (
       w,
       keeps,
@@ -237,7 +237,7 @@ unplugs slots id m position lasts is position_is s x homes here small =
     } in
     let ring = IsRing-gone g s.words (all_laid s.views) t x.3 in
     let views = views_set k s.words words s.views x.0 t u h h id v w x.4 later here refl after
-        (λ y one. (mine.0, sym (ap (λ (o : Option Track). track_or u o) one))) (inr mine.0) in
+    (λ y one. (mine.0, sym (ap (λ (o : Option Track). track_or u o) one))) (inr mine.0) in
     let seated : IsHistory g (set s.views id w) u h = history_same g s.views u h id v w (history_gone g s.views t h x.5) here refl refl refl refl in (
       w,
       keeps,

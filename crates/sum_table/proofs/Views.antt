@@ -129,17 +129,17 @@ pub none_far : (k : Key) (words : List ℕ) (views : List View) (at : ℕ) (t : 
     → (f c : ℕ) → first_free (next_at k.geometry t) c + k.geometry.frames ≤ f → count (all_laid views) f c ≡ 0
 none_far k words views at t h a f c far =
     count_all_none views f c (λ i v there. count_none v.laid f c (λ j e is same.
-        let near : e.frame < first_free (next_at k.geometry t) e.channel + k.geometry.frames = ((a.each i v there).laid j e is).in_ring in
-        let near_c : e.frame < first_free (next_at k.geometry t) c + k.geometry.frames = subst (λ x. e.frame < first_free (next_at k.geometry t) x + k.geometry.frames) same.1 near in
-        omega (arith, near_c, far, same.0)))
+    let near : e.frame < first_free (next_at k.geometry t) e.channel + k.geometry.frames = ((a.each i v there).laid j e is).in_ring in
+    let near_c : e.frame < first_free (next_at k.geometry t) c + k.geometry.frames = subst (λ x. e.frame < first_free (next_at k.geometry t) x + k.geometry.frames) same.1 near in
+    omega (arith, near_c, far, same.0)))
 
 -- a seat laid nothing from its cursor on
 pub none_from : (k : Key) (words : List ℕ) (t : Track) (h : List Row) (v : View) → IsView k words t h v → (f c : ℕ) → IsFrom v.cursor f c → count v.laid f c ≡ 0
 none_from k words t h v x f c from =
     count_none v.laid f c (λ j e is same.
-        let before : e.frame < first_free v.cursor e.channel = (x.laid j e is).before in
-        let before_c : e.frame < first_free v.cursor c = subst (λ y. e.frame < first_free v.cursor y) same.1 before in
-        omega (arith, before_c, from, same.0))
+    let before : e.frame < first_free v.cursor e.channel = (x.laid j e is).before in
+    let before_c : e.frame < first_free v.cursor c = subst (λ y. e.frame < first_free v.cursor y) same.1 before in
+    omega (arith, before_c, from, same.0))
 
 -- what the lap of the word of a frame and channel says, for a frame less than the ring's length past the position
 pub record ByLap (g : Geometry) (next : Cursor) (word f c : ℕ) : Type 0 where

@@ -14,13 +14,13 @@ use Rattle.lap_word.specs.Word.{count_of, lap_of}
 use Rattle.snd_base.specs.Relations.{Composes}
 use Rattle.mix_core.specs.declared.port.Entry.{Entry}
 use Rattle.mix_core.specs.declared.port.Position.{Position}
-use Rattle.mix_core.specs.History.{IsReply, Row, late_row}
+use Rattle.mix_core.specs.History.{IsLegal, IsReply, Row, laid_of, late_row}
 use Rattle.sum_table.specs.declared.mix.MixSeat.{MixSeat}
 use Rattle.sum_table.specs.declared.view.Key.{Key}
 use Rattle.sum_table.specs.declared.view.View.{View}
 use Rattle.sum_table.specs.Exact.{BeginsWith}
 use Rattle.sum_table.specs.Known.{greater}
-use Rattle.sum_table.specs.Laid.{by_member}
+use Rattle.sum_table.specs.Laid.{by_member, own}
 use Rattle.sum_table.specs.Steps.{Finds, IsStep, Makes, MakesLook, in_row, with_entry, with_note, with_position}
 use Rattle.sum_table.specs.Words.{index_of, rank}
 
@@ -72,11 +72,24 @@ pub record Goes (s t : MixSeat) : Type 0 where
   pub places : t.places ≡ s.places
   pub history : BeginsWith (view_of t).history (view_of s).history
 
--- a seat laid some entries: its laid list, and the list of what it laid itself, have them at their end
+-- a history goes on to a later one in which a seat's own adds, which were these, have some entries more, in order: each is an
+-- add with the reply `In` of the seat's number, whose adds are exactly those that the seat made
+abbrev pub Adds : Geometry → List Row → List Entry → List Entry → List Row → Type 0
+Adds g h mine [] later = BeginsWith later h
+Adds g h mine (e ∷ es) later =
+    (by : ℕ) × (members : ℕ) × (between : List Row) × (j : List Row)
+    × (j ≡ (h ++ between) ++ in_row by e ∷ [])
+    × IsLegal g members j
+    × (own by (laid_of j) ≡ map (by_member by) (mine ++ e ∷ []))
+    × Adds g j (mine ++ e ∷ []) es later
+
+-- a seat laid some entries: its laid list, and the list of what it laid itself, have them at their end, and so has the
+-- ring's history as far as the seat has seen it
 pub record SeatLaid (s t : MixSeat) (es : List Entry) : Type 0 where
   pub goes : Goes s t
   pub laid : (view_of t).laid ≡ (view_of s).laid ++ es
   pub mine : (view_of t).mine ≡ (view_of s).mine ++ es
+  pub adds : Adds s.key.geometry (view_of s).history (view_of s).mine es (view_of t).history
 
 -- a seat loaded some positions: the list of those that it saw has them at its end; where one of them is gone, the seat has
 -- seen the card gone, and once it has, each later one is gone
@@ -166,13 +179,49 @@ Goes-joined p q r first then = record {
   history = BeginsWith-trans (view_of r).history (view_of q).history (view_of p).history then.history first.history;
 }
 
+-- adds of a longer history
+Adds-after : (g : Geometry) (early h : List Row) (mine es : List Entry) (later : List Row) → BeginsWith h early → Adds g h mine es later → Adds g early mine es later
+Adds-after g early h mine [] later begins adds = BeginsWith-trans later h early adds begins
+Adds-after g early h mine (e ∷ es) later begins adds = (
+  adds.0,
+  adds.1,
+  begins.0 ++ adds.2,
+  adds.3,
+  adds.4 ∙ ap (λ x. x ++ in_row adds.0 e ∷ []) (ap (λ x. x ++ adds.2) begins.1 ∙ append_assoc early begins.0 adds.2),
+  adds.5,
+  adds.6,
+  adds.7,
+)
+
+-- adds, and then more of them
+pub Adds-joined : (g : Geometry) (h : List Row) (mine xs ys : List Entry) (j later : List Row) → Adds g h mine xs j → Adds g j (mine ++ xs) ys later → Adds g h mine (xs ++ ys) later
+Adds-joined g h mine [] ys j later first then = Adds-after g h j mine ys later first (subst (λ es. Adds g j es ys later) (append-nil mine) then)
+Adds-joined g h mine (x ∷ xs) ys j later first then = (
+  first.0,
+  first.1,
+  first.2,
+  first.3,
+  first.4,
+  first.5,
+  first.6,
+  Adds-joined g first.3 (mine ++ x ∷ []) xs ys j later first.7 (subst (λ es. Adds g j es ys later) (sym (append_assoc mine (x ∷ []) xs)) then),
+)
+
 pub SeatLaid-composes : Composes SeatLaid
 SeatLaid-composes = record {
-  none = λ s. record { goes = Goes-same s; laid = sym (append-nil (view_of s).laid); mine = sym (append-nil (view_of s).mine) };
+  none = λ s. record {
+    goes = Goes-same s;
+    laid = sym (append-nil (view_of s).laid);
+    mine = sym (append-nil (view_of s).mine);
+    adds = ([], sym (append-nil (view_of s).history));
+  };
   joined = λ p q r xs ys first then. record {
     goes = Goes-joined p q r first.goes then.goes;
     laid = then.laid ∙ (ap (λ es. es ++ ys) first.laid ∙ append_assoc (view_of p).laid xs ys);
     mine = then.mine ∙ (ap (λ es. es ++ ys) first.mine ∙ append_assoc (view_of p).mine xs ys);
+    adds = Adds-joined p.key.geometry (view_of p).history (view_of p).mine xs ys (view_of q).history (view_of r).history first.adds
+        (subst (λ (k : Key). Adds k.geometry (view_of q).history ((view_of p).mine ++ xs) ys (view_of r).history) first.goes.key
+        (subst (λ es. Adds q.key.geometry (view_of q).history es ys (view_of r).history) first.mine then.adds));
   };
 }
 

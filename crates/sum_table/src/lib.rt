@@ -21,3 +21,6 @@ pub use player::PlayerSeat;
 pub use ring::SumRing;
 pub use rule::Exactly;
 pub use view::{Key, Track, View};
+
+#[cfg(test)]
+mod tests;

@@ -62,12 +62,7 @@ impl MixSeat<'_> {
     }
 
     /// Loads the word of the frame's slot and a channel, in one step, which `steps` counts, and notes it.
-    pub fn load_word<L: Ledger>(
-        &mut self,
-        frame: u64,
-        channel: u8,
-        steps: &mut Steps<L>,
-    ) -> u64
+    pub fn load_word<L: Ledger>(&mut self, frame: u64, channel: u8, steps: &mut Steps<L>) -> u64
         requires channel { channel < (geometry_of self.old).channels }
         ensures noted { HasNoted self.old self.new frame channel result }
         ensures ticks { steps.new ≡ steps.old + 1 }

@@ -4,8 +4,8 @@ ghost use Rattle.std.specs.Option.{ForSome};
 ghost use Rattle.sum_table.specs.Exact.{IsFirst};
 ghost use Rattle.sum_table.specs.Words.{words_of};
 
-use crate::parts::Deal;
 use crate::mix::MixSeat;
+use crate::parts::Deal;
 use crate::player::PlayerSeat;
 use crate::rule::{Exactly, Seat};
 use crate::view::{Key, View};

@@ -38,8 +38,7 @@ compare_exchange_with-found-requires g c =
     let z : ℤ = to_z w16 (of_z w16 c.args.sample) in
     let may : MayExchange s c.args.frame c.args.channel c.args.old z =
     may_of s c.args.frame c.args.channel c.args.old c.args.sample c.ranges.sample c.requires.can_add c.requires.channel c.requires.noted c.requires.of_lap c.requires.from_cursor c.requires.ahead c.requires.lap_fits in
-    let index : c.word_index-at.result + 1 ≡ index_of s.key.geometry c.args.frame c.args.channel = ap (λ i. i + 1) c.word_index-at.ensures.value in
-    (
+    let index : c.word_index-at.result + 1 ≡ index_of s.key.geometry c.args.frame c.args.channel = ap (λ i. i + 1) c.word_index-at.ensures.value in (
       s.same_ring.0,
       omega (arith, s.same_ring.3, c.word_index-at.ensures.within),
       may_exchange s s.ring.now.table_id.slots (c.word_index-at.result + 1) c.args.frame c.args.channel c.args.old c.add-new.result z may c.add-new.ensures.stands index,
