@@ -1,0 +1,319 @@
+-- Loads and the exchange keep the rule, and tell what they tell.
+use Rattle.std.proofs.Common.{◌≡◌, ◌≢◌, ◌⊎◌, ℕ, ◌+◌, ◌*◌, ◌/◌, ◌<◌, ◌≤◌, Bool, true, false, Option, None, Some, List, [], ◌∷◌, ◌++◌, map, length, get_or, set, ℤ, pos, negsuc, ◌+ℤ◌, ◌≤ℤ◌, inl, inr, arith, subst, sym, refl, ap, ◌∙◌, nat_lt, ◌==◌}
+use mathlib.Core.Option.{some, none}
+use lib.ListN.{get_elem?}
+use prog.Atomic.{either}
+use Rattle.std.proofs.lemmas.Bool.Decides.{nat_tests}
+use Rattle.std.proofs.lemmas.Int.{ints}
+use Rattle.std.proofs.lemmas.List.{append-nil}
+use Rattle.atomic_table.specs.Table.{Act, Allows, Me, State, keeps, step}
+use Rattle.atomic_table.proofs.Lists.{at_snoc, exchanged as by_exchange}
+use Rattle.snd_base.specs.declared.geometry.Geometry.{Geometry}
+use Rattle.snd_base.specs.declared.places.Cursor.{Cursor}
+use Rattle.snd_base.specs.PlaceLaws.{first_free-behind_grows, first_free-behind_low}
+use Rattle.snd_base.specs.Places.{IsFrom, behind, end_frame, first_frame, first_free, lap}
+use Rattle.lap_word.specs.Position.{word_of}
+use Rattle.lap_word.specs.Word.{StandsFor, StandsFor-fields, count_of, lap_of, sum_of}
+use Rattle.mix_core.specs.declared.port.Entry.{Entry}
+use Rattle.mix_core.specs.declared.event.Event.TheVariants.{Add}
+use Rattle.mix_core.specs.declared.event.Reply.TheVariants.{Late}
+use Rattle.mix_core.specs.declared.event.Taken.{Taken}
+use Rattle.mix_core.specs.History.{IsInside, IsReply, Row, is_taken, laid_of, next_of, taken_of}
+use Rattle.mix_core.specs.Laid.{cursor_of, total}
+use Rattle.mix_core.specs.LegalLaws.{cursor_of-least, lap-taken}
+use Rattle.mix_core.specs.Sound.{IsNow}
+use Rattle.sum_table.specs.declared.view.Key.{Key}
+use Rattle.sum_table.specs.declared.view.Track.{Track}
+use Rattle.sum_table.specs.declared.view.View.{View}
+use Rattle.sum_table.specs.Exact.{AreViews, BeginsWith, Exact, IsHistory, IsLaid, IsRing, IsView, next_at, position_at}
+use Rattle.sum_table.specs.Laid.{all_laid, count}
+use Rattle.sum_table.specs.Steps.{Finds, IsLateAt, IsStep, Lays, Makes, MakesLook, Notes, exchanged, in_row, located, looked, with_entry, with_note, with_position}
+use Rattle.sum_table.specs.Words.{NotPast, index_of, rank, words_of}
+use Rattle.sum_table.proofs.Lists.{IsPublished-last, at-more_elsewhere, at-more_here, at_place, cases_eq, noted_set, place_cases, set_read}
+use Rattle.sum_table.proofs.Places.{index_of-lt}
+use Rattle.sum_table.proofs.Rings.{IsRing-put, IsRing-same, not_taken}
+use Rattle.sum_table.proofs.Rows.{BeginsWith-more, BeginsWith-same, history_put, history_same, inside, step_of, within}
+use Rattle.sum_table.proofs.Sums.{SameSums-put, SameSums-set, count-append}
+use Rattle.sum_table.proofs.Views.{ByLap, Later, Later-same, NotPast-set, by_lap, finds, none_from, rank-of, view_later, views_set}
+
+-- what the rule says of some words and views, with the player's track and the history
+pub record Holds (k : Key) (words : List ℕ) (views : List View) (at : ℕ) (t : Track) (h : List Row) : Type 0 where
+  pub ring : IsRing k.geometry words (all_laid views) t
+  pub views_ok : AreViews k words views at t h
+  pub history : IsHistory k.geometry views t h
+
+-- a view of which a load changes nothing but what was seen
+pub record Same (v w : View) : Type 0 where
+  pub places : w.places ≡ v.places
+  pub laid : w.laid ≡ v.laid
+  pub mine : w.mine ≡ v.mine
+  pub cursor : w.cursor ≡ v.cursor
+  pub ended : w.ended ≡ v.ended
+  pub track : w.track ≡ v.track
+
+-- a step that writes nothing
+pub idle : (k : Key) (words : List ℕ) (views : List View) (at : ℕ) (t : Track) (h : List Row) (id : ℕ) (v w : View)
+    → Holds k words views at t h → get_elem? views id ≡ some v → Same v w → IsView k words t h w
+    → Holds k words (set views id w) at t h
+idle k words views at t h id v w x here same own = record {
+  ring = IsRing-same k.geometry words (all_laid views) (all_laid (set views id w)) t (SameSums-set views id v w here same.laid) x.ring;
+  views_ok = views_set k words words views at t t h h id v w x.views_ok (Later-same k.geometry words t h h (λ early b. b)) here same.places own
+      (λ u tracks. x.views_ok.player id v u here (sym same.track ∙ tracks)) (inl refl);
+  history = history_same k.geometry views t h id v w x.history here same.laid same.mine same.cursor same.ended;
+}
+
+-- the rule after a load, of which the word stays
+pub loaded : (k : Key) (words : List ℕ) (views : List View) (at : ℕ) (t : Track) (h : List Row) (i : ℕ) (homes : List (mathlib.Core.Option.Option Entry))
+    → Holds k words views at t h → Exact k (record { words = set words i (get_or words i 0); homes = homes; views = views })
+loaded k words views at t h i homes x =
+    subst (λ ws. Exact k (record { words = ws; homes = homes; views = views })) (sym (set_read words i)) (at, t, h, x.ring, x.views_ok, x.history)
+
+-- a step of no event
+pub none_made : (g : Geometry) (views : List View) (t : Track) (h : List Row) (id : ℕ) (v w : View)
+    → IsHistory g (set views id w) t h → get_elem? views id ≡ some v → w.ended ≡ false → w.history ≡ h → v.key.geometry ≡ g
+    → (begins : BeginsWith h v.history) → IsStep v w id (length views) begins.0 []
+none_made g views t h id v w y here lasts history of_ring begins =
+    step_of g views t h id v w [] (subst (IsHistory g (set views id w) t) (sym (append-nil h)) y) here lasts (history ∙ sym (append-nil h)) of_ring begins
+
+-- a load of the position
+pub locates : (slots id : ℕ) (m : Me Entry View) → m.0.ended ≡ false
+    → Allows (Exact m.0.key) slots id m 0 (λ n. n) (located (step slots 0 0 0 none) m)
+locates slots id m lasts s e homes here fits =
+    let v : View = m.0 in
+    let k : Key = v.key in
+    let t : Track = e.1 in
+    let h : List Row = e.2 in
+    let x : Holds k s.words s.views e.0 t h = record { ring = e.3; views_ok = e.4; history = e.5 } in
+    let own : IsView k s.words t h v = e.4.each id v here in
+    let p : ℕ = position_at k.geometry t in
+    let w : View = with_position v h p t.gone in
+    let after : IsView k s.words t h w = record {
+      laid = own.laid;
+      few = own.few;
+      seen_high = omega arith;
+      positions = λ i q there. elim (at_snoc v.positions p q i there) [
+        | inl old ↦ own.positions i q old
+        | inr new ↦ subst (Rattle.sum_table.specs.Exact.IsPublished k.geometry t) new (IsPublished-last k.geometry t)
+      ];
+      gone = λ is. is;
+      noted = own.noted;
+      begins = BeginsWith-same h;
+      heard = own.heard;
+    } in
+    let y : Holds k s.words (set s.views id w) e.0 t h = idle k s.words s.views e.0 t h id v w x here (record { places = refl; laid = refl; mine = refl; cursor = refl; ended = refl; track = refl }) after in (
+      w,
+      keeps,
+      tt,
+      loaded k s.words (set s.views id w) e.0 t h 0 s.homes y,
+      (
+        h,
+        p,
+        t.gone,
+        refl,
+        e.3.position,
+        own.seen_high,
+        omega (arith, e.3.not_ahead, e.3.within),
+        own.gone,
+        (id, length s.views, own.begins.0, none_made k.geometry s.views t h id v w y.history here lasts refl refl own.begins),
+      ),
+    )
+
+-- a word of a later lap is an add that was late
+pub late_reply : (words : List ℕ) (views : List View) (at : ℕ) (t : Track) (h : List Row) (id : ℕ) (v : View) (i f c : ℕ) (sample : ℤ)
+    → Holds v.key words views at t h → get_elem? views id ≡ some v → v.ended ≡ false → IsLateAt v i (get_or words i 0) f c
+    → IsReply v.key.geometry (length views) h (Add id f c sample, Late)
+late_reply words views at t h id v i f c sample x here lasts late =
+    let g : Geometry = v.key.geometry in
+    let own : IsView v.key words t h v = x.views_ok.each id v here in
+    let ahead : f < position_at g t + g.frames = omega (arith, late.ahead, own.seen_high) in
+    let laps : ByLap g (next_at g t) (get_or words (index_of g f c) 0) f c = by_lap g words (all_laid views) t f c x.ring late.channel ahead in
+    let past : lap g f < lap_of (get_or words (index_of g f c) 0) = subst (λ j. lap g f < lap_of (get_or words j 0)) (sym late.index) late.past in
+    let before : f < first_free (next_at g t) c = laps.taken past in
+    let next_is : next_of g h ≡ next_at g t = ap (λ (ts : List Taken). next_at g (record t { taken = ts })) x.history.taken in
+    let legal = x.history.legal (length views) (omega arith) in
+    let fits : lap g f < 4294967295 = lap-taken g (length views) h f c legal (subst (λ (y : Cursor). f < first_free y c) (sym next_is) before) in
+    let first : first_frame g ≤ (cursor_of g id (laid_of h)).frame = cursor_of-least g (length views) h id legal in
+    let moved : first_free (cursor_of g id (laid_of h)) c ≤ first_free v.cursor c = x.history.cursors id v here lasts c late.channel in
+    let start : (cursor_of g id (laid_of h)).frame ≤ first_free (cursor_of g id (laid_of h)) c = grind (arith, nat_tests) in
+    let least : first_frame g ≤ f = omega (arith, first, moved, start, late.from_cursor) in
+    let test : nat_lt f (first_free (next_at g t) c) ≡ true = grind (arith, nat_tests, before) in (
+      inside g views t h id (length views) v f c x.history here lasts (omega arith) late.channel late.from_cursor fits ahead,
+      ap (λ ts. is_taken ts f c) x.history.taken ∙ (x.ring.took f c late.channel least ∙ test),
+    )
+
+-- a word was found and noted
+pub notes : (slots id : ℕ) (m : Me Entry View) (i : ℕ) (s : State Entry View) (at : ℕ) (t : Track) (h : List Row)
+    → m.0.ended ≡ false → Holds m.0.key s.words s.views at t h → get_elem? s.views id ≡ some m.0
+    → Holds m.0.key s.words (set s.views id (with_note m.0 h i (get_or s.words i 0))) at t h × MakesLook m.0 (with_note m.0 h i (get_or s.words i 0)) i (get_or s.words i 0)
+notes slots id m i s at t h lasts x here =
+    let v : View = m.0 in
+    let k : Key = v.key in
+    let n : ℕ = get_or s.words i 0 in
+    let own : IsView k s.words t h v = x.views_ok.each id v here in
+    let w : View = with_note v h i n in
+    let after : IsView k s.words t h w = record {
+      laid = own.laid;
+      few = own.few;
+      seen_high = own.seen_high;
+      positions = own.positions;
+      gone = own.gone;
+      noted = λ j o positive there. elim (noted_set v.noted i j n o there) [
+        | inl new ↦ inl (new.1 ∙ ap (λ l. get_or s.words l 0) (sym new.0))
+        | inr old ↦ own.noted j o positive old
+      ];
+      begins = BeginsWith-same h;
+      heard = own.heard;
+    } in
+    let y : Holds k s.words (set s.views id w) at t h = idle k s.words s.views at t h id v w x here (record { places = refl; laid = refl; mine = refl; cursor = refl; ended = refl; track = refl }) after in (
+      y,
+      (
+        id,
+        length s.views,
+        own.begins.0,
+        none_made k.geometry s.views t h id v w y.history here lasts refl refl own.begins,
+        (λ f c sample late. late_reply s.words s.views at t h id v i f c sample x here lasts late),
+      ),
+    )
+
+-- a load of the word of a frame and channel
+pub looks : (slots id : ℕ) (m : Me Entry View) (f c : ℕ) → m.0.ended ≡ false → c < m.0.key.geometry.channels
+    → Allows (Exact m.0.key) slots id m (index_of m.0.key.geometry f c) (λ n. n) (looked (step slots (index_of m.0.key.geometry f c) 0 0 none) m)
+looks slots id m f c lasts in_range s e homes here fits =
+    let v : View = m.0 in
+    let k : Key = v.key in
+    let i : ℕ = index_of k.geometry f c in
+    let t : Track = e.1 in
+    let h : List Row = e.2 in
+    let x : Holds k s.words s.views e.0 t h = record { ring = e.3; views_ok = e.4; history = e.5 } in
+    let w : View = with_note v h i (get_or s.words i 0) in
+    let noted = notes slots id m i s e.0 t h lasts x here in (
+      w,
+      keeps,
+      tt,
+      loaded k s.words (set s.views id w) e.0 t h i s.homes noted.0,
+      (finds s.words s.views e.0 t h id v f c e.3 e.4 here in_range fits, (h, refl, noted.1)),
+    )
+
+-- what a seat knows before an exchange that lays an entry
+pub record MayPut (v : View) (e : Entry) (old new : ℕ) : Type 0 where
+  pub lasts : v.ended ≡ false
+  pub channel : e.channel < v.key.geometry.channels
+  pub from_cursor : IsFrom v.cursor e.frame e.channel
+  pub ahead : e.frame < v.seen + v.key.geometry.frames
+  pub places : 0 < v.places
+  pub low : negsuc 32767 ≤ℤ e.sample
+  pub high : e.sample ≤ℤ pos 32767
+  pub of_lap : lap_of old ≡ lap v.key.geometry e.frame
+  pub fits : lap v.key.geometry e.frame < 4294967295
+  pub stands : StandsFor new (lap_of old) (count_of old + 1) (sum_of old +ℤ e.sample)
+
+-- the entry is laid where the word is still the old one
+pub puts : (words : List ℕ) (views : List View) (at : ℕ) (t : Track) (h : List Row) (id : ℕ) (v : View) (e : Entry) (old new : ℕ)
+    → Holds v.key words views at t h → get_elem? views id ≡ some v → MayPut v e old new
+    → get_or words (index_of v.key.geometry e.frame e.channel) 0 ≡ old
+    → Holds v.key (set words (index_of v.key.geometry e.frame e.channel) new) (set views id (with_entry v (h ++ in_row id e ∷ []) e)) at t (h ++ in_row id e ∷ [])
+puts words views at t h id v e old new x here may is =
+    let k : Key = v.key in
+    let g : Geometry = k.geometry in
+    let f : ℕ = e.frame in
+    let c : ℕ = e.channel in
+    let i : ℕ = index_of g f c in
+    let late : List Row = h ++ in_row id e ∷ [] in
+    let w : View = with_entry v late e in
+    let own : IsView k words t h v = x.views_ok.each id v here in
+    let ahead : f < position_at g t + g.frames = omega (arith, may.ahead, own.seen_high) in
+    let laps : ByLap g (next_at g t) old f c = subst (λ n. ByLap g (next_at g t) n f c) is (by_lap g words (all_laid views) t f c x.ring may.channel ahead) in
+    let now : IsNow g (next_at g t) f c = laps.now may.of_lap in
+    let stood : StandsFor old (lap g f) (count (all_laid views) f c) (total (all_laid views) f c) =
+    subst (λ n. StandsFor n (lap g f) (count (all_laid views) f c) (total (all_laid views) f c)) is (x.ring.sums f c now) in
+    let fields : (lap_of old ≡ lap g f) × (count_of old ≡ count (all_laid views) f c) × (sum_of old ≡ total (all_laid views) f c) = StandsFor-fields _ _ _ _ stood in
+    let stands : StandsFor new (lap g f) (count (all_laid views) f c + 1) (total (all_laid views) f c +ℤ e.sample) = rw (← fields.0, ← fields.1, ← fields.2) may.stands in
+    let ring : IsRing g (set words i new) (all_laid views ++ e ∷ []) t = IsRing-put g words (all_laid views) t e new x.ring now may.low may.high stands in
+    let up : rank old < rank new = omega (arith, rank-of old _ _ _ stood, rank-of new _ _ _ stands) in
+    let in_words : i < length words = omega (arith, index_of-lt g f c may.channel, x.ring.room) in
+    let later : Later g words (set words i new) t t h late = record {
+      next = λ d. omega arith;
+      position = omega arith;
+      published = λ p q. q;
+      gone = λ q. q;
+      words = λ j n positive past. NotPast-set words i new j n in_words (subst (λ q. rank q < rank new) (sym is) up) past;
+      history = λ early b. BeginsWith-more h early (in_row id e ∷ []) b;
+    } in
+    let none : count v.laid f c ≡ 0 = none_from k words t h v own f c may.from_cursor in
+    let moved : IsView k (set words i new) t late v = view_later k words (set words i new) t t h late v later own in
+    let first_low : first_frame g ≤ (next_at g t).frame = omega arith in
+    let least : first_frame g ≤ f = grind (arith, nat_tests, now.low, first_low) in
+    let grows : (d : ℕ) → d < g.channels → first_free v.cursor d ≤ first_free w.cursor d = λ d d_in. first_free-behind_grows g v.cursor f c d may.from_cursor d_in in
+    let after : IsView k (set words i new) t late w = record {
+      laid = λ j a there. elim (at_snoc v.laid e a j there) [
+        | inl was ↦
+            let l : IsLaid g (next_at g t) v.cursor a = own.laid j a was in
+            record { channel = l.channel; low = l.low; before = omega (arith, l.before, grows a.channel l.channel); in_ring = l.in_ring }
+        | inr new_one ↦ subst (IsLaid g (next_at g t) w.cursor) new_one (record {
+          channel = may.channel;
+          low = least;
+          before = omega (arith, first_free-behind_low g f c c may.channel (omega arith));
+          in_ring = now.high;
+        })
+      ];
+      few = λ j d. elim (place_cases f c j d) [
+        | inl same ↦ at_place (λ a b. count (v.laid ++ e ∷ []) a b ≤ v.places) f c j d same
+            (omega (arith, none, may.places, ap length (at-more_here v.laid e), Rattle.std.proofs.lemmas.List.length-append (Rattle.mix_core.specs.Laid.at v.laid f c) (e.sample ∷ [])))
+        | inr elsewhere ↦ omega (arith, own.few j d, ap length (at-more_elsewhere v.laid e j d elsewhere))
+      ];
+      seen_high = moved.seen_high;
+      positions = moved.positions;
+      gone = moved.gone;
+      noted = moved.noted;
+      begins = BeginsWith-same late;
+      heard = moved.heard;
+    } in
+    record {
+      ring = IsRing-same g (set words i new) (all_laid views ++ e ∷ []) (all_laid (set views id w)) t (SameSums-put views id v w e here refl) ring;
+      views_ok = views_set k words (set words i new) views at t t h late id v w x.views_ok later here refl after
+          (λ u tracks. x.views_ok.player id v u here tracks) (inl refl);
+      history = history_put g views t h id v w e x.history here may.lasts refl refl refl may.channel may.from_cursor may.fits ahead (not_taken g words (all_laid views) t f c x.ring now);
+    }
+
+-- a compare-exchange that lays an entry where the word is the expected one, and else notes the word found
+pub exchanges : (slots id : ℕ) (m : Me Entry View) (e : Entry) (old new : ℕ) → MayPut m.0 e old new
+    → Allows (Exact m.0.key) slots id m (index_of m.0.key.geometry e.frame e.channel) (λ n. either (n == old) new n)
+    (exchanged (step slots (index_of m.0.key.geometry e.frame e.channel) old new (some e)) m)
+exchanges slots id m e old new may s x homes here fits =
+    let v : View = m.0 in
+    let k : Key = v.key in
+    let g : Geometry = k.geometry in
+    let i : ℕ = index_of g e.frame e.channel in
+    let n : ℕ = get_or s.words i 0 in
+    let t : Track = x.1 in
+    let h : List Row = x.2 in
+    let all : Holds k s.words s.views x.0 t h = record { ring = x.3; views_ok = x.4; history = x.5 } in
+    let own : IsView k s.words t h v = x.4.each id v here in
+    let found : Finds v i n = finds s.words s.views x.0 t h id v e.frame e.channel x.3 x.4 here may.channel fits in
+    let Goes : ℕ → Type 0 = λ word. (w : View) × (a : Act Entry) × Rattle.atomic_table.specs.Table.Valid s.homes m.1 a
+    × Exact k (Rattle.atomic_table.specs.Table.stepped s i word id m.1 w a)
+    × exchanged (step slots i old new (some e)) m n (w, Rattle.atomic_table.specs.Table.carried_after m.1 a) in
+    by_exchange n old new Goes
+    (λ won.
+    let late : List Row = h ++ in_row id e ∷ [] in
+    let w : View = with_entry v late e in
+    let y : Holds k (set s.words i new) (set s.views id w) x.0 t late = puts s.words s.views x.0 t h id v e old new all here may won in (
+      w,
+      keeps,
+      tt,
+      (x.0, t, late, y.ring, y.views_ok, y.history),
+      (
+        found,
+        (λ same. (e, refl, (late, refl, (id, length s.views, own.begins.0, step_of g s.views t h id v w (in_row id e ∷ []) y.history here may.lasts refl refl own.begins)))),
+        (λ other. absurd (other won)),
+      ),
+    ))
+    (λ lost.
+    let w : View = with_note v h i n in
+    let noted = notes slots id m i s x.0 t h may.lasts all here in (
+      w,
+      keeps,
+      tt,
+      loaded k s.words (set s.views id w) x.0 t h i s.homes noted.0,
+      (found, (λ same. absurd (lost same)), (λ other. (h, refl, noted.1))),
+    ))

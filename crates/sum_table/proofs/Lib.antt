@@ -1,0 +1,14 @@
+pub mod Cuts
+pub mod Joining
+pub mod Keeps
+pub mod Lists
+pub mod Opens
+pub mod Places
+pub mod Placing
+pub mod Playing
+pub mod Rings
+pub mod Rows
+pub mod Seated
+pub mod Sums
+pub mod Takes
+pub mod Views

@@ -1,0 +1,118 @@
+-- A new ring meets the rule.
+use Rattle.std.proofs.Common.{◌≡◌, ℕ, zero, suc, ◌+◌, ◌-◌, ◌*◌, ◌/◌, ◌<◌, ◌≤◌, false, Option, None, Some, List, [], ◌∷◌, map, length, get_or, set, pos, arith, subst, sym, refl, ap, ◌∙◌}
+use mathlib.Core.Option.{some, some-injective, some-ne-none}
+use lib.ListN.{get_elem?}
+use Rattle.std.proofs.Math.ListN.{replicate}
+use Rattle.std.proofs.lemmas.Bool.{false≢true}
+use Rattle.std.proofs.lemmas.Bool.Decides.{nat_tests}
+use Rattle.std.proofs.lemmas.Int.{ints}
+use Rattle.std.proofs.lemmas.List.{get_or-replicate, get_or-set_same, length-replicate, length-set}
+use Rattle.std.proofs.lemmas.Nat.{div-mul-add}
+use Rattle.atomic_table.specs.Table.{opening}
+use Rattle.snd_base.specs.declared.geometry.Geometry.{Geometry}
+use Rattle.snd_base.specs.declared.places.Cursor.{Cursor}
+use Rattle.snd_base.specs.Places.{first_frame, first_free, lap, next_word}
+use Rattle.lap_word.specs.Position.{word_of}
+use Rattle.lap_word.specs.Word.{StandsFor}
+use Rattle.mix_core.specs.LegalLaws.{first_frame-le}
+use Rattle.mix_core.specs.Sound.{IsNow}
+use Rattle.mix_core.specs.declared.port.Entry.{Entry}
+use Rattle.sum_table.specs.declared.view.Key.{Key}
+use Rattle.sum_table.specs.declared.view.View.{View}
+use Rattle.sum_table.specs.Exact.{Exact, IsRing, IsView, first_track, first_view, next_at, start_of}
+use Rattle.sum_table.specs.Laid.{by_member}
+use Rattle.sum_table.specs.Words.{index_of, words_of}
+use Rattle.sum_table.proofs.Cuts.{no_note}
+use Rattle.sum_table.proofs.Takes.{track_or}
+use Rattle.sum_table.proofs.Places.{index_of-lt}
+use Rattle.sum_table.proofs.Rings.{position-others}
+
+-- the words of a new ring
+abbrev pub new_words : Geometry → ℕ → List ℕ
+new_words g silent = set (replicate (words_of g) silent) 0 (word_of (first_frame g) false)
+
+next_first : (g : Geometry) → next_at g first_track ≡ start_of g
+next_first g = grind arith
+
+-- the frames that a new ring has are those of the first lap
+lap-first : (g : Geometry) (f c : ℕ) → IsNow g (start_of g) f c → lap g f ≡ g.first_lap
+lap-first g f c now =
+    let start_is : first_free (start_of g) c ≡ first_frame g = grind (arith, nat_tests) in
+    let low : first_frame g ≤ f = omega (arith, start_is, now.low) in
+    let high : f < first_frame g + g.frames = omega (arith, start_is, now.high) in
+    let rest : f - g.first_lap * g.frames < g.frames = omega arith in
+    let split : f ≡ g.first_lap * g.frames + (f - g.first_lap * g.frames) = omega arith in
+    ap (λ x. x / g.frames) split ∙ div-mul-add g.first_lap g.frames (f - g.first_lap * g.frames) rest
+
+-- nothing is noted at first
+none_there : (n i : ℕ) → get_or (replicate {A = Option ℕ} n None) i None ≡ None
+none_there zero i = refl
+none_there (suc n) zero = refl
+none_there (suc n) (suc i) = none_there n i
+
+ring_first : (g : Geometry) (silent : ℕ) → StandsFor silent g.first_lap 0 (pos 0) → IsRing g (new_words g silent) [] first_track
+ring_first g silent stands =
+    let words : List ℕ = replicate (words_of g) silent in
+    let number : length words ≡ words_of g = length-replicate (words_of g) silent in
+    record {
+      room = length-set words 0 _ ∙ number;
+      position = get_or-set_same words 0 (word_of (first_frame g) false) 0 (omega (arith, number));
+      rising = tt;
+      not_ahead = subst (λ (x : Cursor). first_frame g ≤ x.frame) (sym (next_first g)) (omega arith);
+      within = subst (λ (x : Cursor). x.frame ≤ Rattle.snd_base.specs.Places.end_frame g) (sym (next_first g)) (first_frame-le g);
+      sums = λ f c now.
+          let at_start : IsNow g (start_of g) f c = subst (λ (x : Cursor). IsNow g x f c) (next_first g) now in
+          rw (position-others g words f c (word_of (first_frame g) false), get_or-replicate (words_of g) (index_of g f c) silent 0 (index_of-lt g f c now.channel), lap-first g f c at_start) stands;
+      low = λ f c. omega (arith, ints);
+      high = λ f c. omega (arith, ints);
+      in_order = λ i d inside. absurd (omega arith);
+      exact = λ i d inside. absurd (omega arith);
+      took = λ f c in_range least. subst (λ (x : Cursor). false ≡ Rattle.std.proofs.Common.nat_lt f (first_free x c)) (sym (next_first g)) (grind (arith, nat_tests, least));
+    }
+
+only : (v : View) (i : ℕ) (u : View) → get_elem? (v ∷ []) i ≡ some u → (i ≡ 0) × (v ≡ u)
+only v zero u there = (refl, some-injective v u there)
+only v (suc i) u there = absurd (some-ne-none u (sym there))
+
+-- the rule at the opening of a ring
+pub opens : (k : Key) (silent : ℕ) → StandsFor silent k.geometry.first_lap 0 (pos 0)
+    → Exact k (opening {S = Entry} {V = View} (new_words k.geometry silent) [] (first_view k))
+opens k silent stands =
+    let g : Geometry = k.geometry in
+    let v : View = first_view k in
+    let own : IsView k (new_words g silent) first_track [] v = record {
+      laid = λ i e there. absurd (some-ne-none e (sym there));
+      few = λ f c. omega arith;
+      seen_high = omega arith;
+      positions = λ i p there. absurd (some-ne-none p (sym there));
+      gone = λ is. is;
+      noted = λ i n positive there. absurd (no_note n (sym (none_there (words_of g) i) ∙ there));
+      begins = ([], refl);
+      heard = ([], refl);
+    } in
+    let parts : (i : ℕ) (u : View) → get_elem? (v ∷ []) i ≡ some u → (i ≡ 0) × (v ≡ u) = only v in (
+      0,
+      first_track,
+      [],
+      ring_first g silent stands,
+      record {
+        places = omega arith;
+        each = λ i u there. subst (IsView k (new_words g silent) first_track []) (parts i u there).1 own;
+        player = λ i u t there tracks.
+            ((parts i u there).0, sym (ap (track_or first_track) (ap (λ (x : View). x.track) (parts i u there).1 ∙ tracks)));
+      },
+      record {
+        legal = λ members up. tt;
+        taken = refl;
+        position = refl;
+        sums = record { counts = λ f c. refl; totals = λ f c. refl };
+        owns = λ i u there lasts. ap (λ (x : View). map (by_member i) x.mine) (parts i u there).1;
+        cursors = λ i u there lasts c in_range. subst (λ (x : View). first_free (start_of g) c ≤ first_free x.cursor c) (parts i u there).1 (omega arith);
+        no_more = λ i up. refl;
+        no_cursor = λ i up. refl;
+      },
+    )
+
+pub opens_at : (k : Key) (silent : ℕ) (words : List ℕ) → words ≡ new_words k.geometry silent → StandsFor silent k.geometry.first_lap 0 (pos 0)
+    → Exact k (opening {S = Entry} {V = View} words [] (first_view k))
+opens_at k silent words are stands = subst (λ ws. Exact k (opening {S = Entry} {V = View} ws [] (first_view k))) (sym are) (opens k silent stands)

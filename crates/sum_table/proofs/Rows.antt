@@ -1,0 +1,221 @@
+-- The ring's history: how it goes on at each kind of step, and whose step that is.
+use Rattle.std.proofs.Common.{◌≡◌, ◌≢◌, ℕ, zero, suc, ◌+◌, ◌<◌, ◌≤◌, true, false, ◌==◌, List, [], ◌∷◌, ◌++◌, map, length, set, ℤ, refl, sym, subst, ap, ◌∙◌, inl, inr, arith, append_assoc, nat_lt}
+use mathlib.Core.Option.{some, some-injective, some-ne-none}
+use lib.ListN.{get_elem?}
+use Rattle.std.specs.List.{filter}
+use Rattle.std.proofs.lemmas.Bool.Decides.{nat_tests}
+use Rattle.std.proofs.lemmas.List.{append-nil, length-append, length-set, map-append}
+use Rattle.std.proofs.lemmas.List.Elements.{filter-append}
+use Rattle.std.proofs.lemmas.List.Sums.{fold_push}
+use Rattle.atomic_table.proofs.Lists.{at_set, set_here}
+use Rattle.snd_base.specs.declared.geometry.Geometry.{Geometry}
+use Rattle.snd_base.specs.declared.places.Cursor.{Cursor}
+use Rattle.snd_base.specs.Places.{IsFrom, behind, first_frame, first_free, lap}
+use Rattle.snd_base.specs.PlaceLaws.{first_free-behind_grows}
+use Rattle.lap_word.specs.Clamp.{clamp_of}
+use Rattle.mix_core.specs.declared.port.Entry.{Entry}
+use Rattle.mix_core.specs.declared.event.Taken.{Taken}
+use Rattle.mix_core.specs.declared.event.Event.TheVariants.{Add, Take, Publish}
+use Rattle.mix_core.specs.declared.event.Reply.TheVariants.{Late, Took, Published}
+use Rattle.mix_core.specs.History.{IsInside, IsLegal, IsReply, Row, is_taken, laid_of, next_of, position_after, position_of, taken_of}
+use Rattle.mix_core.specs.HistoryLaws.{laid_of-append_rows, laid_of-append_published, laid_of-append_took, taken_of-append_published, taken_of-append_rows, taken_of-append_took}
+use Rattle.mix_core.specs.Laid.{cursor_of, total}
+use Rattle.mix_core.specs.LegalLaws.{IsLegal-more, cursor_of-least, lap-taken}
+use Rattle.sum_table.specs.declared.view.Track.{Track}
+use Rattle.sum_table.specs.declared.view.View.{View}
+use Rattle.sum_table.specs.Exact.{BeginsWith, IsHistory, IsRing, next_at, position_at, start_of}
+use Rattle.sum_table.specs.Laid.{SameSums, all_laid, by_member, own}
+use Rattle.sum_table.specs.Steps.{IsStep, in_row, taking, track_gone, track_published, track_taken}
+use Rattle.sum_table.proofs.Lists.{cases_eq, cursor_of-more_other, cursor_of-more_own, last_of-more}
+use Rattle.sum_table.proofs.Sums.{SameSums-append, SameSums-append_right, SameSums-by_member, SameSums-joined, SameSums-more, SameSums-put, SameSums-set}
+
+pub within : {A : Type 0} (l : List A) (i : ℕ) (a : A) → get_elem? l i ≡ some a → i < length l
+within [] i a here = absurd (some-ne-none a (sym here))
+within (x ∷ xs) zero a here = omega arith
+within (x ∷ xs) (suc i) a here = omega (arith, within xs i a here)
+
+pub BeginsWith-same : (h : List Row) → BeginsWith h h
+BeginsWith-same h = ([], sym (append-nil h))
+
+pub BeginsWith-more : (h early rows : List Row) → BeginsWith h early → BeginsWith (h ++ rows) early
+BeginsWith-more h early rows begins = (begins.0 ++ rows, ap (λ x. x ++ rows) begins.1 ∙ append_assoc early begins.0 rows)
+
+-- the adds of a member, when one more was made
+pub own-more : (m : ℕ) (es : List Entry) (e : Entry) → own m (es ++ by_member m e ∷ []) ≡ own m es ++ by_member m e ∷ []
+own-more m es e =
+    let test : (m == m) ≡ true = grind (arith, nat_tests) in
+    rw (filter-append (λ (x : Entry). x.member == m) es (by_member m e ∷ []), test) refl
+
+pub own-more_other : (m n : ℕ) (es : List Entry) (e : Entry) → n ≢ m → own n (es ++ by_member m e ∷ []) ≡ own n es
+own-more_other m n es e other =
+    let test : (m == n) ≡ false = grind (arith, nat_tests) in
+    rw (filter-append (λ (x : Entry). x.member == n) es (by_member m e ∷ []), test) (append-nil (own n es))
+
+-- a step of no event
+pub history_same : (g : Geometry) (views : List View) (t : Track) (h : List Row) (id : ℕ) (v w : View)
+    → IsHistory g views t h → get_elem? views id ≡ some v
+    → w.laid ≡ v.laid → w.mine ≡ v.mine → w.cursor ≡ v.cursor → w.ended ≡ v.ended
+    → IsHistory g (set views id w) t h
+history_same g views t h id v w y here laid mine cursor ended = record {
+  legal = λ members up. y.legal members (omega (arith, length-set views id w));
+  taken = y.taken;
+  position = y.position;
+  sums = SameSums-joined (laid_of h) (all_laid views) (all_laid (set views id w)) y.sums (SameSums-set views id v w here laid);
+  owns = λ i u there lasts. elim (at_set views id i w u there) [
+    | inl own_one ↦
+        let was : v.ended ≡ false = sym ended ∙ (ap (λ (x : View). x.ended) own_one.1 ∙ lasts) in
+        subst (λ n. own n (laid_of h) ≡ map (by_member n) u.mine) (sym own_one.0)
+        (y.owns id v here was ∙ ap (map (by_member id)) (sym mine ∙ ap (λ (x : View). x.mine) own_one.1))
+    | inr other ↦ y.owns i u other.1 lasts
+  ];
+  cursors = λ i u there lasts c in_range. elim (at_set views id i w u there) [
+    | inl own_one ↦
+        let was : v.ended ≡ false = sym ended ∙ (ap (λ (x : View). x.ended) own_one.1 ∙ lasts) in
+        let same : v.cursor ≡ u.cursor = sym cursor ∙ ap (λ (x : View). x.cursor) own_one.1 in
+        subst (λ n. first_free (cursor_of g n (laid_of h)) c ≤ first_free u.cursor c) (sym own_one.0)
+        (subst (λ at. first_free (cursor_of g id (laid_of h)) c ≤ first_free at c) same (y.cursors id v here was c in_range))
+    | inr other ↦ y.cursors i u other.1 lasts c in_range
+  ];
+  no_more = λ i up. y.no_more i (omega (arith, length-set views id w));
+  no_cursor = λ i up. y.no_cursor i (omega (arith, length-set views id w));
+}
+
+-- the same ring's history, for a player that unplugged the card
+pub history_gone : (g : Geometry) (views : List View) (t : Track) (h : List Row) → IsHistory g views t h → IsHistory g views (track_gone t) h
+history_gone g views t h y = record {
+  legal = y.legal;
+  taken = y.taken;
+  position = y.position;
+  sums = y.sums;
+  owns = y.owns;
+  cursors = y.cursors;
+  no_more = y.no_more;
+  no_cursor = y.no_cursor;
+}
+
+-- the next word was taken
+pub history_take : (g : Geometry) (views : List View) (t : Track) (h : List Row) (z : ℤ)
+    → IsHistory g views t h → lap g (next_at g t).frame ≢ 4294967295
+    → z ≡ clamp_of (total (all_laid views) (next_at g t).frame (next_at g t).channel)
+    → IsHistory g views (track_taken t (taking g t z)) (h ++ (Take, Took (next_at g t).frame (next_at g t).channel z) ∷ [])
+history_take g views t h z y fits value =
+    let f : ℕ = (next_at g t).frame in
+    let c : ℕ = (next_at g t).channel in
+    let r : Row = (Take, Took f c z) in
+    let next_is : next_of g h ≡ next_at g t = ap (λ (ts : List Taken). next_at g (record t { taken = ts })) y.taken in
+    let laid : laid_of (h ++ r ∷ []) ≡ laid_of h = laid_of-append_took h f c z in
+    record {
+      legal = λ members up. IsLegal-more g members h r (y.legal members up) (
+        subst (λ (x : Cursor). lap g x.frame ≢ 4294967295) (sym next_is) fits,
+        ap (λ (x : Cursor). x.frame) (sym next_is),
+        ap (λ (x : Cursor). x.channel) (sym next_is),
+        value ∙ ap clamp_of (sym (y.sums.totals f c)),
+      );
+      taken = taken_of-append_took h f c z ∙ ap (λ ts. ts ++ taking g t z ∷ []) y.taken;
+      position = fold_push position_after (first_frame g) h r ∙ y.position;
+      sums = subst (λ es. SameSums es (all_laid views)) (sym laid) y.sums;
+      owns = λ i u there lasts. ap (own i) laid ∙ y.owns i u there lasts;
+      cursors = λ i u there lasts d in_range. subst (λ es. first_free (cursor_of g i es) d ≤ first_free u.cursor d) (sym laid) (y.cursors i u there lasts d in_range);
+      no_more = λ i up. ap (own i) laid ∙ y.no_more i up;
+      no_cursor = λ i up. ap (cursor_of g i) laid ∙ y.no_cursor i up;
+    }
+
+-- a position was published
+pub history_publish : (g : Geometry) (views : List View) (t : Track) (h : List Row)
+    → IsHistory g views t h
+    → IsHistory g views (track_published t (next_at g t).frame) (h ++ (Publish, Published (next_at g t).frame) ∷ [])
+history_publish g views t h y =
+    let f : ℕ = (next_at g t).frame in
+    let r : Row = (Publish, Published f) in
+    let next_is : next_of g h ≡ next_at g t = ap (λ (ts : List Taken). next_at g (record t { taken = ts })) y.taken in
+    let laid : laid_of (h ++ r ∷ []) ≡ laid_of h = laid_of-append_published h f in
+    record {
+      legal = λ members up. IsLegal-more g members h r (y.legal members up) (ap (λ (x : Cursor). x.frame) (sym next_is));
+      taken = taken_of-append_published h f ∙ y.taken;
+      position = fold_push position_after (first_frame g) h r ∙ sym (last_of-more (first_frame g) t.published f);
+      sums = subst (λ es. SameSums es (all_laid views)) (sym laid) y.sums;
+      owns = λ i u there lasts. ap (own i) laid ∙ y.owns i u there lasts;
+      cursors = λ i u there lasts d in_range. subst (λ es. first_free (cursor_of g i es) d ≤ first_free u.cursor d) (sym laid) (y.cursors i u there lasts d in_range);
+      no_more = λ i up. ap (own i) laid ∙ y.no_more i up;
+      no_cursor = λ i up. ap (cursor_of g i) laid ∙ y.no_cursor i up;
+    }
+
+-- a member may add at a frame and channel
+pub inside : (g : Geometry) (views : List View) (t : Track) (h : List Row) (id members : ℕ) (v : View) (f c : ℕ)
+    → IsHistory g views t h → get_elem? views id ≡ some v → v.ended ≡ false → length views ≤ members
+    → c < g.channels → IsFrom v.cursor f c → lap g f < 4294967295 → f < position_at g t + g.frames
+    → IsInside g members h id f c
+inside g views t h id members v f c y here lasts up channel from fits ahead = record {
+  member_in_range = omega (arith, within views id v here);
+  channel_in_range = channel;
+  from_cursor = omega (arith, y.cursors id v here lasts c channel, from);
+  lap_fits = fits;
+  ahead = subst (λ p. f < p + g.frames) (sym y.position) ahead;
+}
+
+-- an entry was laid
+pub history_put : (g : Geometry) (views : List View) (t : Track) (h : List Row) (id : ℕ) (v w : View) (e : Entry)
+    → IsHistory g views t h → get_elem? views id ≡ some v → v.ended ≡ false
+    → w.laid ≡ v.laid ++ e ∷ [] → w.mine ≡ v.mine ++ e ∷ [] → w.cursor ≡ behind g e.frame e.channel
+    → e.channel < g.channels → IsFrom v.cursor e.frame e.channel → lap g e.frame < 4294967295 → e.frame < position_at g t + g.frames
+    → is_taken t.taken e.frame e.channel ≡ false
+    → IsHistory g (set views id w) t (h ++ in_row id e ∷ [])
+history_put g views t h id v w e y here lasts laid mine cursor channel from fits ahead untaken =
+    let m : Entry = by_member id e in
+    let r : Row = in_row id e in
+    let more : laid_of (h ++ r ∷ []) ≡ laid_of h ++ m ∷ [] = laid_of-append_rows h (m ∷ []) in
+    let same_count : length (set views id w) ≡ length views = length-set views id w in
+    let sums_more : SameSums (laid_of h ++ m ∷ []) (all_laid (set views id w)) =
+    SameSums-joined (laid_of h ++ m ∷ []) (all_laid views ++ e ∷ []) (all_laid (set views id w))
+    (SameSums-joined (laid_of h ++ m ∷ []) (all_laid views ++ m ∷ []) (all_laid views ++ e ∷ [])
+    (SameSums-append (laid_of h) (all_laid views) (m ∷ []) y.sums)
+    (SameSums-append_right (all_laid views) (m ∷ []) (e ∷ []) (SameSums-by_member id e)))
+    (SameSums-put views id v w e here laid) in
+    record {
+      legal = λ members up. IsLegal-more g members h r (y.legal members (omega (arith, same_count))) (
+        inside g views t h id members v e.frame e.channel y here lasts (omega (arith, same_count)) channel from fits ahead,
+        ap (λ ts. is_taken ts e.frame e.channel) y.taken ∙ untaken,
+      );
+      taken = taken_of-append_rows h (m ∷ []) ∙ y.taken;
+      position = fold_push position_after (first_frame g) h r ∙ y.position;
+      sums = subst (λ es. SameSums es (all_laid (set views id w))) (sym more) sums_more;
+      owns = λ i u there stays. ap (own i) more ∙ elim (at_set views id i w u there) [
+        | inl own_one ↦
+            subst (λ n. own n (laid_of h ++ m ∷ []) ≡ map (by_member n) u.mine) (sym own_one.0)
+            (own-more id (laid_of h) e
+            ∙ (ap (λ es. es ++ m ∷ []) (y.owns id v here lasts)
+            ∙ (sym (map-append (by_member id) v.mine (e ∷ []))
+            ∙ ap (map (by_member id)) (sym mine ∙ ap (λ (x : View). x.mine) own_one.1))))
+        | inr other ↦ own-more_other id i (laid_of h) e other.0 ∙ y.owns i u other.1 stays
+      ];
+      cursors = λ i u there stays c in_range. elim (at_set views id i w u there) [
+        | inl own_one ↦
+            let same : behind g e.frame e.channel ≡ u.cursor = sym cursor ∙ ap (λ (x : View). x.cursor) own_one.1 in
+            let moved : cursor_of g id (laid_of (h ++ r ∷ [])) ≡ behind g e.frame e.channel = ap (cursor_of g id) more ∙ cursor_of-more_own g (laid_of h) m in
+            subst (λ n. first_free (cursor_of g n (laid_of (h ++ r ∷ []))) c ≤ first_free u.cursor c) (sym own_one.0)
+            (subst (λ at. first_free at c ≤ first_free u.cursor c) (sym moved) (subst (λ at. first_free (behind g e.frame e.channel) c ≤ first_free at c) same (omega arith)))
+        | inr other ↦
+            let stayed : cursor_of g i (laid_of (h ++ r ∷ [])) ≡ cursor_of g i (laid_of h) = ap (cursor_of g i) more ∙ cursor_of-more_other g (laid_of h) m i (λ same. other.0 (sym same)) in
+            subst (λ at. first_free at c ≤ first_free u.cursor c) (sym stayed) (y.cursors i u other.1 stays c in_range)
+      ];
+      no_more = λ i up.
+          let apart : i ≢ id = λ same. omega (arith, within views id v here, same_count) in
+          ap (own i) more ∙ (own-more_other id i (laid_of h) e apart ∙ y.no_more i (omega (arith, same_count)));
+      no_cursor = λ i up.
+          let apart : id ≢ i = λ same. omega (arith, within views id v here, same_count) in
+          ap (cursor_of g i) more ∙ (cursor_of-more_other g (laid_of h) m i apart ∙ y.no_cursor i (omega (arith, same_count)));
+    }
+
+-- what a seat is told of its step
+pub step_of : (g : Geometry) (views : List View) (t : Track) (early : List Row) (id : ℕ) (v w : View) (rows : List Row)
+    → IsHistory g (set views id w) t (early ++ rows) → get_elem? views id ≡ some v → w.ended ≡ false → w.history ≡ early ++ rows → v.key.geometry ≡ g
+    → (begins : BeginsWith early v.history) → IsStep v w id (length views) begins.0 rows
+step_of g views t early id v w rows y here lasts history of_ring begins =
+    let all : w.history ≡ (v.history ++ begins.0) ++ rows = history ∙ ap (λ x. x ++ rows) begins.1 in
+    record {
+      history = all;
+      legal = subst (λ x. IsLegal x (length views) w.history) (sym of_ring)
+          (subst (λ x. IsLegal g (length views) x) (sym history) (y.legal (length views) (omega (arith, length-set views id w))));
+      in_range = within views id v here;
+      own_adds = ap (λ x. own id (laid_of x)) history ∙ y.owns id w (set_here views id w (within views id v here)) lasts;
+    }

@@ -1,0 +1,135 @@
+-- Counts, sums and places of all views together, when one view changes or one more comes.
+use Rattle.std.proofs.Common.{◌≡◌, ◌⊎◌, inl, inr, Bool, true, false, ℕ, zero, suc, ◌+◌, ◌≤◌, List, [], ◌∷◌, ◌++◌, length, set, ◌+ℤ◌, refl, sym, subst, ap, ◌∙◌, arith, append_assoc}
+use mathlib.Core.Option.{some, some-injective, some-ne-none}
+use lib.ListN.{get_elem?}
+use Rattle.std.proofs.lemmas.Int.{ints}
+use Rattle.std.proofs.lemmas.List.{append-nil, length-append}
+use Rattle.mix_core.specs.declared.port.Entry.{Entry}
+use Rattle.mix_core.specs.HistoryLaws.{at-append, total-append}
+use Rattle.mix_core.specs.Laid.{at, is_at, total}
+use Rattle.sum_table.specs.declared.view.View.{View}
+use Rattle.sum_table.specs.Laid.{SameSums, all_laid, by_member, count, places_of}
+
+pub count-append : (xs ys : List Entry) (f c : ℕ) → count (xs ++ ys) f c ≡ count xs f c + count ys f c
+count-append xs ys f c = ap length (at-append xs ys f c) ∙ length-append (at xs f c) (at ys f c)
+
+-- one view changes
+pub count_set : (views : List View) (id : ℕ) (v w : View) (f c : ℕ) → get_elem? views id ≡ some v
+    → count (all_laid (set views id w)) f c + count v.laid f c ≡ count (all_laid views) f c + count w.laid f c
+count_set [] id v w f c here = absurd (some-ne-none v (sym here))
+count_set (x ∷ xs) zero v w f c here =
+    let same : count x.laid f c ≡ count v.laid f c = ap (λ (y : View). count y.laid f c) (some-injective x v here) in
+    omega (arith, same, count-append w.laid (all_laid xs) f c, count-append x.laid (all_laid xs) f c)
+count_set (x ∷ xs) (suc id) v w f c here =
+    omega (arith, count_set xs id v w f c here, count-append x.laid (all_laid (set xs id w)) f c, count-append x.laid (all_laid xs) f c)
+
+pub total_set : (views : List View) (id : ℕ) (v w : View) (f c : ℕ) → get_elem? views id ≡ some v
+    → total (all_laid (set views id w)) f c +ℤ total v.laid f c ≡ total (all_laid views) f c +ℤ total w.laid f c
+total_set [] id v w f c here = absurd (some-ne-none v (sym here))
+total_set (x ∷ xs) zero v w f c here =
+    let same : total x.laid f c ≡ total v.laid f c = ap (λ (y : View). total y.laid f c) (some-injective x v here) in
+    omega (arith, ints, same, total-append w.laid (all_laid xs) f c, total-append x.laid (all_laid xs) f c)
+total_set (x ∷ xs) (suc id) v w f c here =
+    omega (arith, ints, total_set xs id v w f c here, total-append x.laid (all_laid (set xs id w)) f c, total-append x.laid (all_laid xs) f c)
+
+pub places_set : (views : List View) (id : ℕ) (v w : View) → get_elem? views id ≡ some v → places_of (set views id w) + v.places ≡ places_of views + w.places
+places_set [] id v w here = absurd (some-ne-none v (sym here))
+places_set (x ∷ xs) zero v w here =
+    let same : x.places ≡ v.places = ap (λ (y : View). y.places) (some-injective x v here) in
+    omega (arith, same)
+places_set (x ∷ xs) (suc id) v w here = omega (arith, places_set xs id v w here)
+
+-- one more view comes
+pub all_laid-more : (views : List View) (w : View) → all_laid (views ++ w ∷ []) ≡ all_laid views ++ w.laid
+all_laid-more [] w = append-nil w.laid
+all_laid-more (x ∷ xs) w = ap (λ es. x.laid ++ es) (all_laid-more xs w) ∙ sym (append_assoc x.laid (all_laid xs) w.laid)
+
+pub places_of-more : (views : List View) (w : View) → places_of (views ++ w ∷ []) ≡ places_of views + w.places
+places_of-more [] w = omega arith
+places_of-more (x ∷ xs) w = omega (arith, places_of-more xs w)
+
+-- the parts of a view are among the whole
+pub count_within : (views : List View) (id : ℕ) (v : View) (f c : ℕ) → get_elem? views id ≡ some v → count v.laid f c ≤ count (all_laid views) f c
+count_within [] id v f c here = absurd (some-ne-none v (sym here))
+count_within (x ∷ xs) zero v f c here =
+    let same : count x.laid f c ≡ count v.laid f c = ap (λ (y : View). count y.laid f c) (some-injective x v here) in
+    omega (arith, same, count-append x.laid (all_laid xs) f c)
+count_within (x ∷ xs) (suc id) v f c here = omega (arith, count_within xs id v f c here, count-append x.laid (all_laid xs) f c)
+
+pub places_within : (views : List View) (id : ℕ) (v : View) → get_elem? views id ≡ some v → v.places ≤ places_of views
+places_within [] id v here = absurd (some-ne-none v (sym here))
+places_within (x ∷ xs) zero v here = let same : x.places ≡ v.places = ap (λ (y : View). y.places) (some-injective x v here) in omega (arith, same)
+places_within (x ∷ xs) (suc id) v here = omega (arith, places_within xs id v here)
+
+-- where no view has more samples at a frame and channel than places, all together have no more than all places
+pub count_few : (views : List View) (f c : ℕ) → ((i : ℕ) (u : View) → get_elem? views i ≡ some u → count u.laid f c ≤ u.places) → count (all_laid views) f c ≤ places_of views
+count_few [] f c few = omega arith
+count_few (x ∷ xs) f c few = omega (arith, few 0 x refl, count_few xs f c (λ i u there. few (suc i) u there), count-append x.laid (all_laid xs) f c)
+
+-- and where one view has none there, the others leave room for its places
+pub count_room : (views : List View) (id : ℕ) (v : View) (f c : ℕ) → get_elem? views id ≡ some v
+    → ((i : ℕ) (u : View) → get_elem? views i ≡ some u → count u.laid f c ≤ u.places)
+    → count v.laid f c ≡ 0 → count (all_laid views) f c + v.places ≤ places_of views
+count_room [] id v f c here few none = absurd (some-ne-none v (sym here))
+count_room (x ∷ xs) zero v f c here few none =
+    let same : count x.laid f c ≡ count v.laid f c = ap (λ (y : View). count y.laid f c) (some-injective x v here) in
+    let same_places : x.places ≡ v.places = ap (λ (y : View). y.places) (some-injective x v here) in
+    omega (arith, same, same_places, none, count_few xs f c (λ i u there. few (suc i) u there), count-append x.laid (all_laid xs) f c)
+count_room (x ∷ xs) (suc id) v f c here few none =
+    omega (arith, few 0 x refl, count_room xs id v f c here (λ i u there. few (suc i) u there) none, count-append x.laid (all_laid xs) f c)
+
+-- views of equal laid lists and places
+pub SameSums-set : (views : List View) (id : ℕ) (v w : View) → get_elem? views id ≡ some v → w.laid ≡ v.laid → SameSums (all_laid views) (all_laid (set views id w))
+SameSums-set views id v w here same = record {
+  counts = λ f c. let own : count w.laid f c ≡ count v.laid f c = ap (λ es. count es f c) same in omega (arith, own, count_set views id v w f c here);
+  totals = λ f c. let own : total w.laid f c ≡ total v.laid f c = ap (λ es. total es f c) same in omega (arith, ints, own, total_set views id v w f c here);
+}
+
+pub SameSums-joined : (xs ys zs : List Entry) → SameSums xs ys → SameSums ys zs → SameSums xs zs
+SameSums-joined xs ys zs first then = record {
+  counts = λ f c. first.counts f c ∙ then.counts f c;
+  totals = λ f c. first.totals f c ∙ then.totals f c;
+}
+
+pub SameSums-turned : (xs ys : List Entry) → SameSums xs ys → SameSums ys xs
+SameSums-turned xs ys same = record { counts = λ f c. sym (same.counts f c); totals = λ f c. sym (same.totals f c) }
+
+pub SameSums-append : (xs ys zs : List Entry) → SameSums xs ys → SameSums (xs ++ zs) (ys ++ zs)
+SameSums-append xs ys zs same = record {
+  counts = λ f c. omega (arith, same.counts f c, count-append xs zs f c, count-append ys zs f c);
+  totals = λ f c. omega (arith, ints, same.totals f c, total-append xs zs f c, total-append ys zs f c);
+}
+
+-- one view lays one more entry
+pub SameSums-put : (views : List View) (id : ℕ) (v w : View) (e : Entry) → get_elem? views id ≡ some v → w.laid ≡ v.laid ++ e ∷ [] → SameSums (all_laid views ++ e ∷ []) (all_laid (set views id w))
+SameSums-put views id v w e here more = record {
+  counts = λ f c.
+      let one : count w.laid f c ≡ count v.laid f c + count (e ∷ []) f c = ap (λ es. count es f c) more ∙ count-append v.laid (e ∷ []) f c in
+      omega (arith, one, count_set views id v w f c here, count-append (all_laid views) (e ∷ []) f c);
+  totals = λ f c.
+      let one : total w.laid f c ≡ total v.laid f c +ℤ total (e ∷ []) f c = ap (λ es. total es f c) more ∙ total-append v.laid (e ∷ []) f c in
+      omega (arith, ints, one, total_set views id v w f c here, total-append (all_laid views) (e ∷ []) f c);
+}
+
+-- one more view, that laid nothing
+pub SameSums-more : (views : List View) (w : View) → w.laid ≡ [] → SameSums (all_laid views) (all_laid (views ++ w ∷ []))
+SameSums-more views w none =
+    let same : all_laid (views ++ w ∷ []) ≡ all_laid views = all_laid-more views w ∙ (ap (λ es. all_laid views ++ es) none ∙ append-nil (all_laid views)) in
+    subst (λ es. SameSums (all_laid views) es) (sym same) (record { counts = λ f c. refl; totals = λ f c. refl })
+
+pub SameSums-append_right : (es xs ys : List Entry) → SameSums xs ys → SameSums (es ++ xs) (es ++ ys)
+SameSums-append_right es xs ys same = record {
+  counts = λ f c. omega (arith, same.counts f c, count-append es xs f c, count-append es ys f c);
+  totals = λ f c. omega (arith, ints, same.totals f c, total-append es xs f c, total-append es ys f c);
+}
+
+cases_bool : (b : Bool) → (b ≡ true) ⊎ (b ≡ false)
+cases_bool true = inl refl
+cases_bool false = inr refl
+
+-- sums don't tell who laid an entry
+pub SameSums-by_member : (m : ℕ) (e : Entry) → SameSums (by_member m e ∷ []) (e ∷ [])
+SameSums-by_member m e = record {
+  counts = λ f c. elim (cases_bool (is_at f c e)) [ inl here ↦ rw here refl | inr elsewhere ↦ rw elsewhere refl ];
+  totals = λ f c. elim (cases_bool (is_at f c e)) [ inl here ↦ rw here refl | inr elsewhere ↦ rw elsewhere refl ];
+}

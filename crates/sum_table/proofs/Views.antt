@@ -1,0 +1,231 @@
+-- What the seats know stays so at each kind of step, and what a word that is found tells a seat.
+use Rattle.std.proofs.Common.{◌≡◌, ◌≢◌, ◌⊎◌, ℕ, zero, suc, ◌+◌, ◌*◌, ◌/◌, ◌%◌, ◌<◌, ◌≤◌, Bool, true, false, Option, None, Some, List, [], ◌∷◌, ◌++◌, length, get_or, set, ℤ, pos, ◌+ℤ◌, ◌≤ℤ◌, ◌^◌, inl, inr, arith, subst, sym, refl, ap, ◌∙◌}
+use mathlib.Core.Option.{some, some-injective, some-ne-none}
+use lib.ListN.{get_elem?}
+use Rattle.std.proofs.lemmas.Bool.{cases_lt}
+use Rattle.std.proofs.lemmas.Bool.Decides.{nat_tests}
+use Rattle.std.proofs.lemmas.Int.{ints}
+use Rattle.std.proofs.lemmas.List.{get_or-set_same, get_or-set_other}
+use Rattle.atomic_table.proofs.Lists.{at_set, at_snoc, at_longer}
+use Rattle.snd_base.specs.declared.geometry.Geometry.{Geometry}
+use Rattle.snd_base.specs.declared.places.Cursor.{Cursor}
+use Rattle.snd_base.specs.PlaceLaws.{div-lt_same, mod-same}
+use Rattle.snd_base.specs.Places.{IsFrom, first_frame, first_free, lap}
+use Rattle.lap_word.specs.Word.{StandsFor, StandsFor-fields, count_of, lap_of, sum_of}
+use Rattle.mix_core.specs.declared.port.Entry.{Entry}
+use Rattle.mix_core.specs.History.{Row}
+use Rattle.mix_core.specs.Laid.{is_at, total}
+use Rattle.mix_core.specs.Sound.{IsNow}
+use Rattle.sum_table.specs.declared.view.Key.{Key}
+use Rattle.sum_table.specs.declared.view.Track.{Track}
+use Rattle.sum_table.specs.declared.view.View.{View}
+use Rattle.sum_table.specs.Exact.{AreViews, BeginsWith, IsLaid, IsPublished, IsRing, IsView, next_at, position_at}
+use Rattle.sum_table.specs.Laid.{all_laid, count, places_of}
+use Rattle.sum_table.specs.Steps.{Finds, IsWord, Tells}
+use Rattle.sum_table.specs.Words.{NotPast, index_of, rank, words_of}
+use Rattle.sum_table.proofs.Lists.{cases_eq}
+use Rattle.sum_table.proofs.Places.{index_of-lt, now_of}
+use Rattle.sum_table.proofs.Sums.{count-append, count_few, count_room, places_set}
+
+-- what may change under a view: the player goes on, words are not followed by earlier ones, the history goes on
+pub record Later (g : Geometry) (before after : List ℕ) (t u : Track) (early late : List Row) : Type 0 where
+  pub next : (c : ℕ) → first_free (next_at g t) c ≤ first_free (next_at g u) c
+  pub position : position_at g t ≤ position_at g u
+  pub published : (p : ℕ) → IsPublished g t p → IsPublished g u p
+  pub gone : t.gone ≡ true → u.gone ≡ true
+  pub words : (i n : ℕ) → 0 < i → NotPast n (get_or before i 0) → NotPast n (get_or after i 0)
+  pub history : (h : List Row) → BeginsWith early h → BeginsWith late h
+
+pub IsLaid-later : (g : Geometry) (next after cursor : Cursor) (e : Entry) → first_free next e.channel ≤ first_free after e.channel → IsLaid g next cursor e → IsLaid g after cursor e
+IsLaid-later g next after cursor e up l = record {
+  channel = l.channel;
+  low = l.low;
+  before = l.before;
+  in_ring = omega (arith, l.in_ring, up);
+}
+
+pub view_later : (k : Key) (before after : List ℕ) (t u : Track) (early late : List Row) (v : View)
+    → Later k.geometry before after t u early late → IsView k before t early v → IsView k after u late v
+view_later k before after t u early late v l x = record {
+  laid = λ i e there. IsLaid-later k.geometry (next_at k.geometry t) (next_at k.geometry u) v.cursor e (l.next e.channel) (x.laid i e there);
+  few = x.few;
+  seen_high = omega (arith, x.seen_high, l.position);
+  positions = λ i p there. l.published p (x.positions i p there);
+  gone = λ seen. l.gone (x.gone seen);
+  noted = λ i n positive there. l.words i n positive (x.noted i n positive there);
+  begins = l.history v.history x.begins;
+  heard = l.history v.heard x.heard;
+}
+
+-- one view changes, and its seat is the player's where the track does
+pub views_set : (k : Key) (before after : List ℕ) (views : List View) (at : ℕ) (t u : Track) (early late : List Row) (id : ℕ) (v w : View)
+    → AreViews k before views at t early → Later k.geometry before after t u early late → get_elem? views id ≡ some v
+    → w.places ≡ v.places → IsView k after u late w
+    → ((x : Track) → w.track ≡ Some x → (id ≡ at) × (x ≡ u))
+    → ((t ≡ u) ⊎ (id ≡ at))
+    → AreViews k after (set views id w) at u late
+views_set k before after views at t u early late id v w a l here places own player same = record {
+  places = omega (arith, places_set views id v w here, places, a.places);
+  each = λ i x there. elim (at_set views id i w x there) [
+    | inl this ↦ subst (IsView k after u late) this.1 own
+    | inr other ↦ view_later k before after t u early late x l (a.each i x other.1)
+  ];
+  player = λ i x y there tracks. elim (at_set views id i w x there) [
+    | inl this ↦
+        let mine : (id ≡ at) × (y ≡ u) = player y (ap (λ (z : View). z.track) this.1 ∙ tracks) in
+        (this.0 ∙ mine.0, mine.1)
+    | inr other ↦
+        let was : (i ≡ at) × (y ≡ t) = a.player i x y other.1 tracks in
+        elim same [
+          | inl stays ↦ (was.0, was.1 ∙ stays)
+          | inr is_player ↦ absurd (other.0 (was.0 ∙ sym is_player))
+        ]
+  ];
+}
+
+-- nothing but the history changes
+pub Later-same : (g : Geometry) (words : List ℕ) (t : Track) (early late : List Row) → ((h : List Row) → BeginsWith early h → BeginsWith late h) → Later g words words t t early late
+Later-same g words t early late more = record {
+  next = λ c. omega arith;
+  position = omega arith;
+  published = λ p x. x;
+  gone = λ x. x;
+  words = λ i n positive x. x;
+  history = more;
+}
+
+pub NotPast-later : (n old new : ℕ) → NotPast n old → rank old < rank new → NotPast n new
+NotPast-later n old new past up = elim past [
+  | inl same ↦ inr (subst (λ x. rank x < rank new) (sym same) up)
+  | inr below ↦ inr (omega (arith, below, up))
+]
+
+-- one word becomes a later one
+pub NotPast-set : (words : List ℕ) (j word i n : ℕ) → j < length words → rank (get_or words j 0) < rank word → NotPast n (get_or words i 0) → NotPast n (get_or (set words j word) i 0)
+NotPast-set words j word i n inside up past = elim (cases_eq i j) [
+  | inl same ↦
+      subst (λ x. NotPast n (get_or (set words j word) x 0)) (sym same)
+      (subst (NotPast n) (sym (get_or-set_same words j word 0 inside)) (NotPast-later n (get_or words j 0) word (subst (λ x. NotPast n (get_or words x 0)) same past) up))
+  | inr other ↦ subst (NotPast n) (sym (get_or-set_other words j i word 0 other)) past
+]
+
+pub rank-of : (w l c : ℕ) (s : ℤ) → StandsFor w l c s → rank w ≡ l * 256 + c
+rank-of w l c s h = grind (arith, ints)
+
+-- no entry of a list is at a frame and channel
+pub count_none : (es : List Entry) (f c : ℕ) → ((i : ℕ) (e : Entry) → get_elem? es i ≡ some e → ¬ ((e.frame ≡ f) × (e.channel ≡ c))) → count es f c ≡ 0
+count_none [] f c none = refl
+count_none (x ∷ xs) f c none =
+    let apart : ¬ ((x.frame ≡ f) × (x.channel ≡ c)) = none 0 x refl in
+    let test : is_at f c x ≡ false = grind (arith, nat_tests) in
+    rw test (count_none xs f c (λ i e there. none (suc i) e there))
+
+pub count_all_none : (views : List View) (f c : ℕ) → ((i : ℕ) (v : View) → get_elem? views i ≡ some v → count v.laid f c ≡ 0) → count (all_laid views) f c ≡ 0
+count_all_none [] f c none = refl
+count_all_none (x ∷ xs) f c none = omega (arith, count-append x.laid (all_laid xs) f c, none 0 x refl, count_all_none xs f c (λ i v there. none (suc i) v there))
+
+-- nothing is laid past the ring's window
+pub none_far : (k : Key) (words : List ℕ) (views : List View) (at : ℕ) (t : Track) (h : List Row) → AreViews k words views at t h
+    → (f c : ℕ) → first_free (next_at k.geometry t) c + k.geometry.frames ≤ f → count (all_laid views) f c ≡ 0
+none_far k words views at t h a f c far =
+    count_all_none views f c (λ i v there. count_none v.laid f c (λ j e is same.
+    let near : e.frame < first_free (next_at k.geometry t) e.channel + k.geometry.frames = ((a.each i v there).laid j e is).in_ring in
+    let near_c : e.frame < first_free (next_at k.geometry t) c + k.geometry.frames = subst (λ x. e.frame < first_free (next_at k.geometry t) x + k.geometry.frames) same.1 near in
+    omega (arith, near_c, far, same.0)))
+
+-- a seat laid nothing from its cursor on
+pub none_from : (k : Key) (words : List ℕ) (t : Track) (h : List Row) (v : View) → IsView k words t h v → (f c : ℕ) → IsFrom v.cursor f c → count v.laid f c ≡ 0
+none_from k words t h v x f c from =
+    count_none v.laid f c (λ j e is same.
+    let before : e.frame < first_free v.cursor e.channel = (x.laid j e is).before in
+    let before_c : e.frame < first_free v.cursor c = subst (λ y. e.frame < first_free v.cursor y) same.1 before in
+    omega (arith, before_c, from, same.0))
+
+-- what the lap of the word of a frame and channel says, for a frame less than the ring's length past the position
+pub record ByLap (g : Geometry) (next : Cursor) (word f c : ℕ) : Type 0 where
+  pub not_before : lap g f ≤ lap_of word
+  pub past : f < first_free next c → lap g f < lap_of word
+  pub now : lap_of word ≡ lap g f → IsNow g next f c
+  pub taken : lap g f < lap_of word → f < first_free next c
+
+pub by_lap : (g : Geometry) (words : List ℕ) (es : List Entry) (t : Track) (f c : ℕ) → IsRing g words es t → c < g.channels → f < position_at g t + g.frames
+    → ByLap g (next_at g t) (get_or words (index_of g f c) 0) f c
+by_lap g words es t f c r in_range ahead =
+    let next : Cursor = next_at g t in
+    let found : (k : ℕ) × IsNow g next k c × (k % g.frames ≡ f % g.frames) × (index_of g k c ≡ index_of g f c) = now_of g next f c in_range in
+    let k : ℕ = found.0 in
+    let now : IsNow g next k c = found.1 in
+    let word : ℕ = get_or words (index_of g f c) 0 in
+    let of_lap : lap_of word ≡ lap g k = subst (λ i. lap_of (get_or words i 0) ≡ lap g k) found.3 (StandsFor-fields _ _ _ _ (r.sums k c now)).0 in
+    let start : next.frame ≤ first_free next c = grind (arith, nat_tests) in
+    let near : f < first_free next c + g.frames = omega (arith, r.not_ahead, ahead, start) in
+    let same : first_free next c ≤ f → f ≡ k = λ low. mod-same g.frames (first_free next c) f k low near now.low now.high (sym found.2) in
+    let earlier : f < first_free next c → lap g f < lap g k = λ before. div-lt_same g.frames f k (sym found.2) (omega (arith, now.low)) in
+    elim (cases_lt f (first_free next c)) [
+      | inl before ↦ record {
+        not_before = omega (arith, of_lap, earlier before);
+        past = λ again. omega (arith, of_lap, earlier before);
+        now = λ is. absurd (omega (arith, of_lap, earlier before));
+        taken = λ is. before;
+      }
+      | inr from ↦
+          let one : f ≡ k = same from in
+          let lap_is : lap_of word ≡ lap g f = of_lap ∙ ap (lap g) (sym one) in
+          record {
+            not_before = omega (arith, lap_is);
+            past = λ before. absurd (omega arith);
+            now = λ is. record { channel = in_range; low = from; high = near };
+            taken = λ is. absurd (omega (arith, lap_is));
+          }
+    ]
+
+-- a word that is found stands for no more than all places lay
+pub word_ok : (k : Key) (words : List ℕ) (views : List View) (at : ℕ) (t : Track) (h : List Row) (f c : ℕ)
+    → IsRing k.geometry words (all_laid views) t → AreViews k words views at t h → c < k.geometry.channels
+    → get_or words (index_of k.geometry f c) 0 < 18446744073709551616
+    → IsWord (get_or words (index_of k.geometry f c) 0) k.places
+word_ok k words views at t h f c r a in_range fits =
+    let g : Geometry = k.geometry in
+    let found : (j : ℕ) × IsNow g (next_at g t) j c × (j % g.frames ≡ f % g.frames) × (index_of g j c ≡ index_of g f c) = now_of g (next_at g t) f c in_range in
+    let j : ℕ = found.0 in
+    let word : ℕ = get_or words (index_of g f c) 0 in
+    let stands : StandsFor word (lap g j) (count (all_laid views) j c) (total (all_laid views) j c) =
+    subst (λ i. StandsFor (get_or words i 0) (lap g j) (count (all_laid views) j c) (total (all_laid views) j c)) found.3 (r.sums j c found.1) in
+    let fields : (lap_of word ≡ lap g j) × (count_of word ≡ count (all_laid views) j c) × (sum_of word ≡ total (all_laid views) j c) = StandsFor-fields _ _ _ _ stands in
+    let few : count (all_laid views) j c ≤ places_of views = count_few views j c (λ i u there. (a.each i u there).few j c) in
+    record {
+      fits = fits;
+      few = omega (arith, fields.1, few, a.places);
+      low = rw (fields.1, fields.2) (r.low j c);
+      high = rw (fields.1, fields.2) (r.high j c);
+    }
+
+-- what a seat is told by the word of a frame and channel
+pub finds : (words : List ℕ) (views : List View) (at : ℕ) (t : Track) (h : List Row) (id : ℕ) (v : View) (f c : ℕ)
+    → IsRing v.key.geometry words (all_laid views) t → AreViews v.key words views at t h → get_elem? views id ≡ some v
+    → c < v.key.geometry.channels
+    → get_or words (index_of v.key.geometry f c) 0 < 18446744073709551616
+    → Finds v (index_of v.key.geometry f c) (get_or words (index_of v.key.geometry f c) 0)
+finds words views at t h id v f c r a here in_range fits =
+    let k : Key = v.key in
+    let g : Geometry = k.geometry in
+    let x : IsView k words t h v = a.each id v here in
+    record {
+      word = word_ok k words views at t h f c r a in_range fits;
+      noted = λ o is. x.noted (index_of g f c) o (omega arith) is;
+      tells = λ e d same d_in least ahead.
+          let laps : ByLap g (next_at g t) (get_or words (index_of g e d) 0) e d = by_lap g words (all_laid views) t e d r d_in (omega (arith, ahead, x.seen_high)) in
+          let told : Tells v (get_or words (index_of g e d) 0) e d =
+          let start : (next_at g t).frame ≤ first_free (next_at g t) d = grind (arith, nat_tests) in
+          record {
+            not_before = laps.not_before;
+            late = λ seen. laps.past (omega (arith, x.seen_high, r.not_ahead, start));
+            room = λ is from.
+                let now : IsNow g (next_at g t) e d = laps.now is in
+                let counted : count_of (get_or words (index_of g e d) 0) ≡ count (all_laid views) e d = (StandsFor-fields _ _ _ _ (r.sums e d now)).1 in
+                let some : count (all_laid views) e d + v.places ≤ places_of views =
+                count_room views id v e d here (λ i u there. (a.each i u there).few e d) (none_from k words t h v x e d from) in
+                omega (arith, counted, some, a.places);
+          } in
+          subst (λ i. Tells v (get_or words i 0) e d) same told;
+    }

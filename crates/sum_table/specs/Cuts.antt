@@ -1,0 +1,133 @@
+-- How a view is cut in two, and how two views are made one.
+use Rattle.std.specs.Prelude.{◌≡◌, ℕ, ◌+◌, ◌-◌, ◌<◌, ◌≤◌, ◌==◌, ◌&&◌, ◌||◌, Bool, true, false, Option, None, Some, List, [], ◌∷◌, ◌++◌, length, max, nat_lt, if◌then◌else◌}
+use Rattle.std.proofs.Common.{arith}
+use Rattle.snd_base.specs.declared.geometry.Geometry.{Geometry}
+use Rattle.snd_base.specs.declared.places.Cursor.{Cursor}
+use Rattle.mix_core.specs.History.{Row}
+use Rattle.sum_table.specs.declared.view.Key.{Key}
+use Rattle.sum_table.specs.declared.view.Track.{Track}
+use Rattle.sum_table.specs.declared.view.View.{View}
+use Rattle.sum_table.specs.Exact.{start_of}
+use Rattle.sum_table.specs.Words.{rank}
+
+-- a view with other places
+abbrev pub with_places : View → ℕ → View
+with_places v n = record v { places = n }
+
+-- a view without some of its places
+abbrev pub without : View → ℕ → View
+without v n = with_places v (v.places - n)
+
+-- the view of a new seat that gets some places of a view: it has seen as much, and laid nothing
+abbrev pub part_of : View → ℕ → View
+part_of v n = record {
+  key = v.key;
+  places = n;
+  laid = [];
+  mine = [];
+  cursor = start_of v.key.geometry;
+  positions = v.positions;
+  seen = v.seen;
+  seen_gone = v.seen_gone;
+  noted = v.noted;
+  history = v.history;
+  heard = [];
+  track = None;
+  ended = false;
+}
+
+-- a cursor is before another, by frame and then by channel
+abbrev pub is_before : Cursor → Cursor → Bool
+is_before a b = nat_lt a.frame b.frame || ((a.frame == b.frame) && nat_lt a.channel b.channel)
+
+-- the later one of two cursors
+abbrev pub later_of : Cursor → Cursor → Cursor
+later_of a b = if is_before a b then b else a
+
+-- the later one of two notes
+abbrev pub later_note : Option ℕ → Option ℕ → Option ℕ
+later_note None o = o
+later_note (Some n) None = Some n
+later_note (Some n) (Some o) = if nat_lt (rank n) (rank o) then Some o else Some n
+
+-- the later notes of two views
+abbrev pub later_notes : List (Option ℕ) → List (Option ℕ) → List (Option ℕ)
+later_notes [] os = os
+later_notes (n ∷ ns) [] = n ∷ ns
+later_notes (n ∷ ns) (o ∷ os) = later_note n o ∷ later_notes ns os
+
+-- the player's part of two views, of which at most one has it
+abbrev pub either_track : Option Track → Option Track → Option Track
+either_track None o = o
+either_track (Some t) o = Some t
+
+-- a view that took another one over
+abbrev pub both_of : View → View → View
+both_of v w = record {
+  key = v.key;
+  places = v.places + w.places;
+  laid = v.laid ++ w.laid;
+  mine = v.mine;
+  cursor = later_of v.cursor w.cursor;
+  positions = v.positions ++ w.positions;
+  seen = max v.seen w.seen;
+  seen_gone = v.seen_gone || w.seen_gone;
+  noted = later_notes v.noted w.noted;
+  history = v.history;
+  heard = w.history;
+  track = either_track v.track w.track;
+  ended = v.ended;
+}
+
+-- a key, of no ring, for the view of a seat that has ended
+pub no_ring-places : 0 ≤ 64
+no_ring-places = omega arith
+
+pub no_ring-frames_least : 64 ≤ 64
+no_ring-frames_least = omega arith
+
+pub no_ring-frames_most : 64 ≤ 16384
+no_ring-frames_most = omega arith
+
+pub no_ring-channels_least : 1 ≤ 1
+no_ring-channels_least = omega arith
+
+pub no_ring-channels_most : 1 ≤ 8
+no_ring-channels_most = omega arith
+
+pub no_ring-first_lap_most : 0 ≤ 4294967294
+no_ring-first_lap_most = omega arith
+
+abbrev pub no_ring : Key
+no_ring = record {
+  geometry = record {
+    frames = 64;
+    channels = 1;
+    first_lap = 0;
+    frames_least = no_ring-frames_least;
+    frames_most = no_ring-frames_most;
+    channels_least = no_ring-channels_least;
+    channels_most = no_ring-channels_most;
+    first_lap_most = no_ring-first_lap_most;
+  };
+  places = 0;
+  most = no_ring-places;
+}
+
+-- the view of a seat that has ended: no places, nothing laid, seen or noted
+abbrev pub spent_view : View
+spent_view = record {
+  key = no_ring;
+  places = 0;
+  laid = [];
+  mine = [];
+  cursor = record { frame = 0; channel = 0 };
+  positions = [];
+  seen = 0;
+  seen_gone = false;
+  noted = [];
+  history = [];
+  heard = [];
+  track = None;
+  ended = true;
+}

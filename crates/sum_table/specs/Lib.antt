@@ -1,0 +1,10 @@
+pub mod Cuts
+pub mod Exact
+pub mod Joins
+pub mod Known
+pub mod Laid
+pub mod Players
+pub mod Rings
+pub mod Seats
+pub mod Steps
+pub mod Words

@@ -1,0 +1,93 @@
+//! A sum ring, which owns its words.
+ghost use Rattle.std.specs.Prelude.{◌≡◌};
+ghost use Rattle.std.specs.Option.{ForSome};
+ghost use Rattle.sum_table.specs.Exact.{IsFirst};
+ghost use Rattle.sum_table.specs.Words.{words_of};
+
+use crate::mix::MixSeat;
+use crate::parts::Deal;
+use crate::player::PlayerSeat;
+use crate::rule::{Exactly, Seat};
+use crate::view::{Key, View};
+use atomic_table::Table;
+use mix_core::Entry;
+use snd_base::{Cursor, Geometry, PcmError};
+use std::alloc::Global;
+
+/// The ring in which the samples of all clients are summed, between threads, as ALSA's dmix plugin sums them (alsa-lib,
+/// `snd_pcm_dmix`): one word of 64 bits for each slot and channel, with the lap of the ring, the number of samples laid
+/// there and their sum, and one word for the card's position. Here sum and lap are one word, so that one exchange adds.
+///
+/// A ring gives its seats once. All seats borrow it.
+#[derive(Drop)]
+pub struct SumRing {
+    table: Table<Entry, View, Key, Exactly, Global>,
+    first: Option<Seat>,
+    key: Key,
+    ghost same_key: { key ≡ table.shared.key },
+    ghost room: { table.shared.table_id.words ≡ words_of key.geometry },
+    ghost unused: { ForSome first (λ s. IsFirst s.table_id table.shared.table_id s.me key) },
+}
+
+impl SumRing {
+    ghost use Rattle.std.specs.Prelude.{◌≤◌, IfOk, IfErr};
+    ghost use Rattle.sum_table.specs.Rings.{GaveNone, HasSeats, IsNewRing, key_of_ring};
+
+    /// A ring of this geometry with 1 to 64 places, with nothing laid. It refuses, with `Memory`, only where no memory is
+    /// left.
+    pub fn new(alloc: Global, geometry: Geometry, places: u32) -> Result<SumRing, PcmError>
+        requires least { 1 ≤ places }
+        requires most { places ≤ 64 }
+        ensures ok { IfOk result (λ ring. IsNewRing ring geometry places) }
+        ensures only_memory { IfErr result (λ e. e ≡ PcmError.Memory) }
+    {
+        let silent = lap_word::pack(geometry.first_lap, 0, 0);
+        let room = geometry.frames as usize * geometry.channels as usize + 1;
+        let mut words = vec![in alloc; silent; room]?;
+        words[0] = lap_word::position_word(geometry.first_frame(), false);
+        let key = Key { geometry, places };
+        let (table, first) = Table::of_words(alloc, words.as_slice(), &key)?;
+        Ok(SumRing {
+            table,
+            first: Some(first),
+            key,
+        })
+    }
+
+    /// The player's seat and one mix seat with all places, whose member is 0. A ring gives them once: the caller shows
+    /// that this ring has given none before.
+    pub fn seats(&mut self) -> (PlayerSeat<'_>, MixSeat<'_>)
+        requires { GaveNone self.old }
+        ensures { HasSeats (key_of_ring self.old) result.0 result.1 }
+    {
+        let Some(mut seat) = self.first.take() else {
+            unreachable!()
+        };
+        let key = self.key;
+        let first = Cursor {
+            frame: key.geometry.first_frame(),
+            channel: 0,
+        };
+        let ring = &self.table.shared;
+        let mix = ring.split_seat::<Deal>(&mut seat);
+        let player = PlayerSeat {
+            ring,
+            seat,
+            key,
+            next: first,
+            position: first.frame,
+            gone: false,
+        };
+        let mix = MixSeat {
+            ring,
+            seat: mix,
+            key,
+            member: 0,
+            places: key.places,
+            cursor: first,
+            seen: first.frame,
+            last: None,
+        };
+        (player, mix)
+    }
+}
