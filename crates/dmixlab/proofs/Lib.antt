@@ -4,3 +4,4 @@ mod Sessions
 mod Outputs
 mod Commands
 mod Ends
+mod Requests

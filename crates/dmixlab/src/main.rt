@@ -3,6 +3,7 @@
 
 mod load;
 mod output;
+mod refine;
 mod stop;
 #[cfg(test)]
 mod tests;

@@ -1,0 +1,4 @@
+-- The command `refine`.
+pub mod Params
+pub mod Grammar
+pub mod Reading

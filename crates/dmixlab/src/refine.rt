@@ -1,0 +1,8 @@
+//! The command `refine`: a parameter space that is narrowed line by line, and what each line is
+//! answered.
+
+mod grammar;
+mod params;
+mod place;
+mod reader;
+mod request;
