@@ -1,0 +1,16 @@
+-- The interval between the two fractions is the one of the definition, and members of it come of members.
+use Rattle.std.specs.Prelude.{◌*◌}
+use Rattle.std.proofs.Common.{rules, sym, subst}
+use Rattle.pcm_interval.specs.declared.interval.Interval.{Interval}
+use Rattle.pcm_interval.specs.Arithmetic.{quotient_of}
+use Rattle.pcm_interval.specs.ArithmeticLaws.{quotient_of-IsMember}
+use Rattle.pcm_interval.specs.Intervals.{IsMember}
+use Rattle.pcm_interval.proofs.arithmetic.div.Goals as goal
+
+pub returns-clause-quotient : goal.returns-clause-quotient
+unfolding quotient_of
+returns-clause-quotient c = search rules
+
+pub returns-clause-members : goal.returns-clause-members
+returns-clause-members c n d m e in_a in_b low =
+    subst (λ (i : Interval). IsMember i (n * e) (d * m)) (sym (returns-clause-quotient c)) (quotient_of-IsMember c.args.a.now c.args.b.now n d m e c.requires.a_min c.requires.b_min in_a in_b low)

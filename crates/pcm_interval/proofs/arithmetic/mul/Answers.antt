@@ -1,0 +1,16 @@
+-- The interval between the two fractions is the one of the definition, and members of it come of members.
+use Rattle.std.specs.Prelude.{◌*◌}
+use Rattle.std.proofs.Common.{rules, sym, subst}
+use Rattle.pcm_interval.specs.declared.interval.Interval.{Interval}
+use Rattle.pcm_interval.specs.Arithmetic.{product_of}
+use Rattle.pcm_interval.specs.ArithmeticLaws.{product_of-IsMember}
+use Rattle.pcm_interval.specs.Intervals.{IsMember}
+use Rattle.pcm_interval.proofs.arithmetic.mul.Goals as goal
+
+pub returns-clause-product : goal.returns-clause-product
+unfolding product_of
+returns-clause-product c = search rules
+
+pub returns-clause-members : goal.returns-clause-members
+returns-clause-members c n d m e in_a in_b low =
+    subst (λ (i : Interval). IsMember i (n * m) (d * e)) (sym (returns-clause-product c)) (product_of-IsMember c.args.a.now c.args.b.now n d m e c.requires.a_min c.requires.b_min in_a in_b low)

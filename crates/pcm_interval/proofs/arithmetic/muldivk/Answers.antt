@@ -1,0 +1,16 @@
+-- The interval between the two fractions is the one of the definition, and members of it come of members.
+use Rattle.std.specs.Prelude.{◌*◌}
+use Rattle.std.proofs.Common.{rules, sym, subst}
+use Rattle.pcm_interval.specs.declared.interval.Interval.{Interval}
+use Rattle.pcm_interval.specs.Arithmetic.{scaled_product_of}
+use Rattle.pcm_interval.specs.ArithmeticLaws.{scaled_product_of-IsMember}
+use Rattle.pcm_interval.specs.Intervals.{IsMember}
+use Rattle.pcm_interval.proofs.arithmetic.muldivk.Goals as goal
+
+pub returns-clause-scaled : goal.returns-clause-scaled
+unfolding scaled_product_of
+returns-clause-scaled c = search rules
+
+pub returns-clause-members : goal.returns-clause-members
+returns-clause-members c n d m e in_a in_b low =
+    subst (λ (i : Interval). IsMember i (n * m) (d * e * c.args.k)) (sym (returns-clause-scaled c)) (scaled_product_of-IsMember c.args.a.now c.args.b.now c.args.k n d m e c.requires.a_min c.requires.b_min c.requires.k_min in_a in_b low)

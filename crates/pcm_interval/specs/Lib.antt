@@ -1,0 +1,6 @@
+pub mod Arithmetic
+pub mod ArithmeticLaws
+pub mod Intervals
+pub mod IntervalLaws
+pub mod Masks
+pub mod MaskLaws
