@@ -4,4 +4,5 @@ mod Sessions
 mod Outputs
 mod Commands
 mod Ends
+mod Members
 mod Requests

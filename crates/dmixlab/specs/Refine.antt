@@ -2,3 +2,4 @@
 pub mod Params
 pub mod Grammar
 pub mod Reading
+pub mod Values

@@ -6,3 +6,4 @@ mod params;
 mod place;
 mod reader;
 mod request;
+mod values;

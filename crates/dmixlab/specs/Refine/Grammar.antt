@@ -1,13 +1,13 @@
 -- What a line of a request says, by its words, or the cause that its first word has that can't stand where it stands.
-use Rattle.std.specs.Prelude.{ℕ, ◌*◌, ◌%◌, Bool, ◌&&◌, ◌||◌, ◌==◌, nat_le, not, List, [], ◌∷◌, codes, Option, Some, None, is_some, Result, Ok, Err, if◌then◌else◌}
+use Rattle.std.specs.Prelude.{◌≡◌, ℕ, ◌*◌, ◌%◌, ◌≤◌, Bool, ◌&&◌, ◌||◌, ◌==◌, nat_le, not, List, [], ◌∷◌, codes, Option, Some, None, is_some, Result, Ok, Err, if◌then◌else◌}
 use Rattle.std.specs.Str.{bytes_eq}
 use Rattle.lab_script.specs.declared.error.ScriptWhy.{ScriptWhy}
 use Rattle.lab_script.specs.declared.error.ScriptWhy.TheVariants as why
 use Rattle.lab_script.specs.Word.{number_of}
 use Rattle.hw_space.specs.declared.param.Param.{Param}
-use Rattle.hw_space.specs.declared.param.Slave.{Slave}
 use Rattle.dmixlab.specs.declared.refine.grammar.Verb.{Verb}
 use Rattle.dmixlab.specs.declared.refine.grammar.Verb.TheVariants as verbs
+use Rattle.dmixlab.specs.declared.refine.request.SlaveLine.{SlaveLine}
 use Rattle.dmixlab.specs.declared.refine.request.Ask.{Ask}
 use Rattle.dmixlab.specs.declared.refine.request.Ask.TheVariants as asks
 use Rattle.dmixlab.specs.Refine.Params.{param_of, is_mask, most_of}
@@ -88,8 +88,20 @@ misplaced word = if bytes_eq word (codes "slave") || is_some (verb_of word) then
 abbrev pub fits : ℕ → ℕ → Bool
 fits period ring = nat_le (2 * period) ring && ring % period == 0
 
+-- the numbers of a slave are in their ranges and fit together
+pub record IsSlaveLine (slave : SlaveLine) : Type 0 where
+  pub channels_low : 1 ≤ slave.channels
+  pub channels_high : slave.channels ≤ 8
+  pub rate_low : 4000 ≤ slave.rate
+  pub rate_high : slave.rate ≤ 192000
+  pub ring_low : 64 ≤ slave.ring
+  pub ring_high : slave.ring ≤ 16384
+  pub period_low : 16 ≤ slave.period
+  pub period_high : 2 * slave.period ≤ slave.ring
+  pub period_divides : slave.ring % slave.period ≡ 0
+
 -- the slave of numbers that fit together
-abbrev pub slave_with : ℕ → ℕ → ℕ → ℕ → Result Slave ScriptWhy
+abbrev pub slave_with : ℕ → ℕ → ℕ → ℕ → Result SlaveLine ScriptWhy
 slave_with channels rate period ring = tested why.Fit (fits period ring) (record { channels = channels; rate = rate; period = period; ring = ring })
 
 -- the words behind the word `slave`
@@ -99,7 +111,7 @@ slave_keys_in words = do
   tested (misplaced word.0) (bytes_eq word.0 (codes "slave")) word.1
 
 -- `slave channels C rate R period P ring N`; behind its last value a key would stand
-unfoldable pub slave_of : List (List ℕ) → Result Slave ScriptWhy
+unfoldable pub slave_of : List (List ℕ) → Result SlaveLine ScriptWhy
 slave_of words = do
   keys ← slave_keys_in words
   channels ← keyed_in (codes "channels") 1 8 keys

@@ -1,12 +1,12 @@
 //! What each line of a text says.
-ghost use Rattle.std.specs.Prelude.{◌≡◌, ◌≤◌};
+ghost use Rattle.std.specs.Prelude.{◌≡◌, ◌≤◌, IfOk};
 ghost use Rattle.lab_script.specs.Lexing.{words_between};
-ghost use Rattle.dmixlab.specs.Refine.Grammar.{ask_of, asked_by, bounded_in, fits, misplaced, result_view, slave_keys_in, slave_of, slave_with, valued_in, verb_of, whole_interval_in, whole_param_in};
+ghost use Rattle.dmixlab.specs.Refine.Grammar.{IsSlaveLine, ask_of, asked_by, bounded_in, fits, misplaced, result_view, slave_keys_in, slave_of, slave_with, valued_in, verb_of, whole_interval_in, whole_param_in};
 
 use crate::refine::params::most_of;
 use crate::refine::place::{end, interval, keyed, number, param, word};
-use crate::refine::request::Ask;
-use hw_space::{Param, Slave};
+use crate::refine::request::{Ask, SlaveLine};
+use hw_space::Param;
 use lab_script::ScriptWhy;
 
 /// The word with which a line asks something.
@@ -78,17 +78,21 @@ fn fits(period: u64, ring: u64) -> bool
 }
 
 /// The slave of these numbers, where they fit together.
-fn slave_with(channels: u64, rate: u64, period: u64, ring: u64) -> Result<Slave, ScriptWhy>
-    requires channels { channels ≤ 8 }
-    requires rate { rate ≤ 192000 }
+fn slave_with(channels: u64, rate: u64, period: u64, ring: u64) -> Result<SlaveLine, ScriptWhy>
+    requires some { 1 ≤ channels }
+    requires few { channels ≤ 8 }
+    requires slow { 4000 ≤ rate }
+    requires fast { rate ≤ 192000 }
     requires period { 16 ≤ period }
-    requires ring { ring ≤ 16384 }
+    requires short { 64 ≤ ring }
+    requires long { ring ≤ 16384 }
     ensures slave { result ≡ slave_with channels rate period ring }
+    ensures ranges { IfOk result IsSlaveLine }
 {
     if !fits(period, ring) {
         return Err(ScriptWhy::Fit);
     }
-    Ok(Slave {
+    Ok(SlaveLine {
         channels: channels as u8,
         rate: rate as u32,
         period: period as u32,
@@ -98,8 +102,9 @@ fn slave_with(channels: u64, rate: u64, period: u64, ring: u64) -> Result<Slave,
 
 /// The slave of a line `slave channels C rate R period P ring N`.
 #[tactic(auto, unfolding(crate::specs::Refine::Grammar::slave_of))]
-pub(crate) fn read_slave(line: &[u8]) -> Result<Slave, ScriptWhy>
-    ensures { result ≡ slave_of (words_between line.now) }
+pub(crate) fn read_slave(line: &[u8]) -> Result<SlaveLine, ScriptWhy>
+    ensures slave { result ≡ slave_of (words_between line.now) }
+    ensures ranges { IfOk result IsSlaveLine }
 {
     let keys = slave_keys(line)?;
     let (channels, keys) = keyed(keys, b"channels", 1, 8)?;

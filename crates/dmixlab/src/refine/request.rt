@@ -1,8 +1,19 @@
 //! What a text asks of a parameter space.
 ghost use Rattle.std.specs.Prelude.{◌≡◌};
 
-use hw_space::{Param, Slave};
+use hw_space::Param;
 use std::marker::Model;
+
+/// The slave of a text: the card whose parameters can be chosen, by its channels, its rate in Hz, and its
+/// period and its ring in frames. The reader makes each with 1 to 8 channels, a rate from 4000 to 192000,
+/// a ring from 64 to 16384, and a period that is at least 16, at most half the ring, and divides it.
+#[derive(Clone, Copy, Debug)]
+pub(crate) struct SlaveLine {
+    pub channels: u8,
+    pub rate: u32,
+    pub period: u32,
+    pub ring: u32,
+}
 
 /// What one line asks of the space. A value counts as its quantity does: bits, channels, Hz, frames,
 /// bytes, periods or microseconds; for an access or a format it is the number of a member.
@@ -58,6 +69,6 @@ impl Asks {
 /// What a text asks: the slave whose parameters can be chosen, and what each line asks of the space.
 #[derive(Debug, Drop)]
 pub(crate) struct Request {
-    pub slave: Slave,
+    pub slave: SlaveLine,
     pub asks: Asks,
 }
