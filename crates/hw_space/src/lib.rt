@@ -2,5 +2,17 @@
 #![tactic(auto)]
 
 mod config;
+mod formats;
+mod narrowing;
+mod param;
+mod param_box;
+mod quantity;
+mod rule;
+mod settle;
+mod slave;
+mod space;
 
 pub use config::Config;
+pub use param::Param;
+pub use slave::Slave;
+pub use space::Space;

@@ -1,0 +1,209 @@
+-- Laws of steps: they compose, and each refinement that no settled box and no configuration can miss is one.
+use Rattle.std.specs.Prelude.{◌≡◌, ◌≢◌, ℕ, ◌<◌, ◌≤◌, Bool, true, false, ◌||◌, IsTrue, IsFalse, refl, slice_index_or}
+use Rattle.std.proofs.Common.{arith, sym, subst, ap, ◌∙◌}
+use Rattle.pcm_interval.specs.declared.interval.Interval.{Interval}
+use Rattle.pcm_interval.specs.declared.mask.Mask.{Mask}
+use Rattle.pcm_interval.specs.Intervals.{IsEmpty, IsNonEmpty, IsWithin, IsMember, refined, size_of}
+use Rattle.pcm_interval.specs.IntervalLaws.{IsWithin-refl, IsWithin-trans, IsWithin-from_same, IsWithin-min, IsWithin-max, IsNonEmpty-IsWithin, refined-IsWithin_left, refined-greatest, refined-IsMember, IsNonEmpty-IsMember, size_of-refined}
+use Rattle.pcm_interval.specs.Masks.{IsMaskWithin, HasNumber, common_mask}
+use Rattle.pcm_interval.specs.MaskLaws.{IsMaskWithin-refl, IsMaskWithin-trans, IsMaskWithin-from_same, IsMaskWithin-bits, HasNumber-bits, common_mask-IsMaskWithin_left, common_mask-greatest, common_mask-HasNumber, bits-common_mask}
+use Rattle.hw_space.specs.declared.param_box.ParamBox.{ParamBox}
+use Rattle.hw_space.specs.declared.quantity.Quantity.{Quantity}
+use Rattle.hw_space.specs.declared.quantity.Quantity.TheVariants.{SampleBits, FrameBits, Channels, Rate, PeriodTime, PeriodSize, PeriodBytes, Periods, BufferTime, BufferSize, BufferBytes}
+use Rattle.hw_space.specs.declared.rule.Rule.{Rule}
+use Rattle.hw_space.specs.Boxes.{part, with_part, IsBoxWithin, size_of_box}
+use Rattle.hw_space.specs.BoxLaws.{with_part-each, access-with_part, format-with_part, with_part-same, size_of_box-with_part, IsBoxWithin-refl, IsBoxWithin-trans, IsBoxWithin-with_part, with_part-IsBoxWithin, IsBoxWithin-part}
+use Rattle.hw_space.specs.Rules.{rules, no_rule, IsListed, HasScale}
+use Rattle.hw_space.specs.Settled.{IsSettled, Configuration, IsExact, IsHeld, IsResult, Keeps, computed}
+use Rattle.hw_space.specs.SettledLaws.{IsSettled-IsNormal, computed-IsWithin}
+use Rattle.hw_space.specs.ConfigurationLaws.{computed-IsMember}
+use Rattle.hw_space.specs.Proper.{IsProper}
+use Rattle.hw_space.specs.Steps.{IsStep, IsVoid}
+
+-- ---- steps compose
+
+pub IsStep-refl : (b : ParamBox) → IsProper b → IsStep b b false
+IsStep-refl b proper = record {
+  within = IsBoxWithin-refl b;
+  settled = λ s h in_b. in_b;
+  configurations = λ x exact held. held;
+  proper = proper;
+  moved = λ e. absurd (cc);
+  still = λ e. refl;
+}
+
+pub either_false : (a b : Bool) → (a || b) ≡ false → (a ≡ false) × (b ≡ false)
+either_false true b e = absurd (cc)
+either_false false b e = (refl, e)
+
+size-moved : (a b d : ParamBox) (c e : Bool) → IsStep a b c → IsStep b d e → (c || e) ≡ true → size_of_box d < size_of_box a
+size-moved a b d true true h g some = omega (arith, h.moved refl, g.moved refl)
+size-moved a b d true false h g some = omega (arith, h.moved refl, ap size_of_box (g.still refl))
+size-moved a b d false true h g some = omega (arith, ap size_of_box (h.still refl), g.moved refl)
+size-moved a b d false false h g some = absurd (cc)
+
+pub IsStep-trans : (a b d : ParamBox) (c e : Bool) → IsStep a b c → IsStep b d e → IsStep a d (c || e)
+IsStep-trans a b d c e h g = record {
+  within = IsBoxWithin-trans d b a g.within h.within;
+  settled = λ s settled in_a. g.settled s settled (h.settled s settled in_a);
+  configurations = λ x exact held. g.configurations x exact (h.configurations x exact held);
+  proper = g.proper;
+  moved = size-moved a b d c e h g;
+  still = λ none. let both = either_false c e none in g.still both.1 ∙ h.still both.0;
+}
+
+-- where nothing is left after a step, nothing was left before
+pub IsVoid-before : (a b : ParamBox) (c : Bool) → IsStep a b c → IsVoid b → IsVoid a
+IsVoid-before a b c h void = record {
+  settled = λ s settled in_a. void.settled s settled (h.settled s settled in_a);
+  configurations = λ x exact held. void.configurations x exact (h.configurations x exact held);
+}
+
+-- ---- a smaller box is proper too
+
+pub IsProper-within : (a b : ParamBox) → IsProper b → IsBoxWithin a b → a.access.bits ≢ 0 → a.format.bits ≢ 0
+    → ((q : Quantity) → IsNonEmpty (part a q)) → IsProper a
+IsProper-within a b proper within access format filled = record {
+  access = access;
+  format = format;
+  filled = filled;
+  positive = λ q. omega (arith, proper.positive q, IsWithin-min (part a q) (part b q) (within.parts q));
+  capped = λ q. omega (arith, proper.capped q, IsWithin-max (part a q) (part b q) (within.parts q));
+  channels = omega (arith, proper.channels, IsWithin-max a.channels b.channels (within.parts Channels));
+  slowest = omega (arith, proper.slowest, IsWithin-min a.rate b.rate (within.parts Rate));
+  fastest = omega (arith, proper.fastest, IsWithin-max a.rate b.rate (within.parts Rate));
+  period_size = omega (arith, proper.period_size, IsWithin-max a.period_size b.period_size (within.parts PeriodSize));
+  periods = omega (arith, proper.periods, IsWithin-max a.periods b.periods (within.parts Periods));
+  buffer_size = omega (arith, proper.buffer_size, IsWithin-max a.buffer_size b.buffer_size (within.parts BufferSize));
+  whole_channels = (within.parts Channels).integer proper.whole_channels;
+  whole_rate = (within.parts Rate).integer proper.whole_rate;
+  whole_period_size = (within.parts PeriodSize).integer proper.whole_period_size;
+  whole_periods = (within.parts Periods).integer proper.whole_periods;
+  whole_buffer_size = (within.parts BufferSize).integer proper.whole_buffer_size;
+}
+
+-- ---- a part is refined
+
+-- each settled box within a box lies within an interval at a quantity, and each configuration has a member there
+pub record IsMissedByNone (b : ParamBox) (q : Quantity) (x : Interval) : Type 0 where
+  pub settled : (s : ParamBox) → IsSettled s → IsBoxWithin s b → IsWithin (part s q) x
+  pub configurations : (y : Configuration) → IsExact y → IsHeld b y → IsMember x (y.value q).over (y.value q).under
+
+pub with_part-IsProper : (b : ParamBox) (q : Quantity) (x : Interval) → IsProper b → IsNonEmpty (refined (part b q) x)
+    → IsProper (with_part b q (refined (part b q) x))
+with_part-IsProper b q x proper filled =
+    IsProper-within (with_part b q (refined (part b q) x)) b proper
+    (with_part-IsBoxWithin b q (refined (part b q) x) (refined-IsWithin_left (part b q) x))
+    (rw (access-with_part b q (refined (part b q) x)) proper.access)
+    (rw (format-with_part b q (refined (part b q) x)) proper.format)
+    (with_part-each (λ p i. IsNonEmpty i) b q (refined (part b q) x) proper.filled filled)
+
+pub with_part-IsStep : (b : ParamBox) (q : Quantity) (x : Interval) (changed : Bool) → IsProper b → IsMissedByNone b q x
+    → IsNonEmpty (refined (part b q) x)
+    → (changed ≡ false → refined (part b q) x ≡ part b q) → (refined (part b q) x ≡ part b q → changed ≡ false)
+    → IsStep b (with_part b q (refined (part b q) x)) changed
+with_part-IsStep b q x changed proper missed filled same differs = record {
+  within = with_part-IsBoxWithin b q (refined (part b q) x) (refined-IsWithin_left (part b q) x);
+  settled = λ s h in_b.
+      IsBoxWithin-with_part s b q (refined (part b q) x) in_b
+      (refined-greatest (part s q) (part b q) x (h.parts q) (IsSettled-IsNormal s h q) (in_b.parts q) (missed.settled s h in_b));
+  configurations = λ y exact held. record {
+    access = rw (access-with_part b q (refined (part b q) x)) held.access;
+    format = rw (format-with_part b q (refined (part b q) x)) held.format;
+    parts =
+        with_part-each (λ p i. IsMember i (y.value p).over (y.value p).under) b q (refined (part b q) x) held.parts
+        (refined-IsMember (part b q) x (y.value q).over (y.value q).under (held.parts q) (missed.configurations y exact held));
+  };
+  proper = with_part-IsProper b q x proper filled;
+  moved = λ e.
+      size_of_box-with_part b q (refined (part b q) x)
+      (size_of-refined (part b q) x filled (λ s. let f : changed ≡ false = differs s in absurd (cc)));
+  still = λ e. let P : Interval → Type 0 = λ i. with_part b q i ≡ b in subst P (sym (same e)) (with_part-same b q);
+}
+
+pub IsVoid-part : (b : ParamBox) (q : Quantity) (x : Interval) → IsMissedByNone b q x → IsEmpty (refined (part b q) x) → IsVoid b
+IsVoid-part b q x missed empty = record {
+  settled = λ s h in_b.
+      let smaller = refined-greatest (part s q) (part b q) x (h.parts q) (IsSettled-IsNormal s h q) (in_b.parts q) (missed.settled s h in_b) in
+      let filled : IsNonEmpty (refined (part b q) x) = IsNonEmpty-IsWithin (part s q) (refined (part b q) x) smaller (h.parts q) in
+      absurd (cc);
+  configurations = λ y exact held.
+      let member = refined-IsMember (part b q) x (y.value q).over (y.value q).under (held.parts q) (missed.configurations y exact held) in
+      let filled : IsNonEmpty (refined (part b q) x) = IsNonEmpty-IsMember (refined (part b q) x) (y.value q).over (y.value q).under member in
+      absurd (cc);
+}
+
+-- ---- a mask is refined
+
+-- each settled box within a box has a mask within another, and each configuration has its number there
+pub record IsFormatMissedByNone (b : ParamBox) (m : Mask) : Type 0 where
+  pub settled : (s : ParamBox) → IsSettled s → IsBoxWithin s b → IsMaskWithin s.format m
+  pub configurations : (x : Configuration) → IsExact x → IsHeld b x → HasNumber m x.format
+
+abbrev pub with_format : ParamBox → Mask → ParamBox
+with_format b m = record b { format = m }
+
+-- the intervals stay
+parts-format : (b : ParamBox) (m : Mask) (q : Quantity) (P : Quantity → Interval → Type 0) → P q (part b q) → P q (part (with_format b m) q)
+parts-format b m SampleBits P h = h
+parts-format b m FrameBits P h = h
+parts-format b m Channels P h = h
+parts-format b m Rate P h = h
+parts-format b m PeriodTime P h = h
+parts-format b m PeriodSize P h = h
+parts-format b m PeriodBytes P h = h
+parts-format b m Periods P h = h
+parts-format b m BufferTime P h = h
+parts-format b m BufferSize P h = h
+parts-format b m BufferBytes P h = h
+
+with_format-IsBoxWithin : (b : ParamBox) (m : Mask) → IsMaskWithin m b.format → IsBoxWithin (with_format b m) b
+with_format-IsBoxWithin b m within = record {
+  access = IsMaskWithin-refl b.access;
+  format = within;
+  parts = λ q. parts-format b m q (λ p i. IsWithin i (part b p)) (IsWithin-refl (part b q));
+}
+
+pub with_format-IsStep : (b : ParamBox) (m : Mask) (changed : Bool) → IsProper b → IsFormatMissedByNone b m
+    → (common_mask b.format m).bits ≢ 0
+    → (changed ≡ false → common_mask b.format m ≡ b.format) → (common_mask b.format m ≡ b.format → changed ≡ false)
+    → IsStep b (with_format b (common_mask b.format m)) changed
+with_format-IsStep b m changed proper missed filled same differs = record {
+  within = with_format-IsBoxWithin b (common_mask b.format m) (common_mask-IsMaskWithin_left b.format m);
+  settled = λ s h in_b. record {
+    access = in_b.access;
+    format = common_mask-greatest s.format b.format m in_b.format (missed.settled s h in_b);
+    parts = λ q. parts-format b (common_mask b.format m) q (λ p i. IsWithin (part s p) i) (in_b.parts q);
+  };
+  configurations = λ x exact held. record {
+    access = held.access;
+    format = common_mask-HasNumber b.format m x.format held.format (missed.configurations x exact held);
+    parts = λ q. parts-format b (common_mask b.format m) q (λ p i. IsMember i (x.value p).over (x.value p).under) (held.parts q);
+  };
+  proper =
+      IsProper-within (with_format b (common_mask b.format m)) b proper
+      (with_format-IsBoxWithin b (common_mask b.format m) (common_mask-IsMaskWithin_left b.format m)) proper.access filled
+      (λ q. parts-format b (common_mask b.format m) q (λ p i. IsNonEmpty i) (proper.filled q));
+  moved = λ e. omega (arith, bits-common_mask b.format m (λ s. let f : changed ≡ false = differs s in absurd (cc)));
+  still = λ e. ap (with_format b) (same e);
+}
+
+pub IsVoid-format : (b : ParamBox) (m : Mask) → IsFormatMissedByNone b m → (common_mask b.format m).bits ≡ 0 → IsVoid b
+IsVoid-format b m missed empty = record {
+  settled = λ s h in_b.
+      IsMaskWithin-bits s.format (common_mask b.format m)
+      (common_mask-greatest s.format b.format m in_b.format (missed.settled s h in_b)) h.format empty;
+  configurations = λ x exact held.
+      HasNumber-bits (common_mask b.format m) x.format
+      (common_mask-HasNumber b.format m x.format held.format (missed.configurations x exact held)) empty;
+}
+
+-- ---- a step that changes something
+
+or_true : (c : Bool) → (c || true) ≡ true
+or_true true = refl
+or_true false = refl
+
+pub IsStep-moved : (a b d : ParamBox) (c e : Bool) → IsStep a b c → IsStep b d e → e ≡ true → IsStep a d true
+IsStep-moved a b d c true h g some = subst (IsStep a d) (or_true c) (IsStep-trans a b d c true h g)
+IsStep-moved a b d c false h g some = absurd (cc)

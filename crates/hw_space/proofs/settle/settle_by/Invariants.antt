@@ -1,0 +1,11 @@
+-- So far the box made a step. Each round that changes something makes it smaller.
+use Rattle.std.proofs.Common.{true, false}
+use Rattle.hw_space.specs.Boxes.{size_of_box}
+use Rattle.hw_space.specs.Steps.{IsStep}
+use Rattle.hw_space.proofs.settle.settle_by.Given as goal
+
+abbrev pub invariant-loop-changed : goal.invariant-loop-changed
+invariant-loop-changed l = IsStep l.fn.ranges l.ranges l.changed
+
+abbrev pub decreases-loop-changed : goal.decreases-loop-changed
+decreases-loop-changed l = size_of_box l.ranges

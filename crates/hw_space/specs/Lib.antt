@@ -1,0 +1,13 @@
+pub mod Boxes
+pub mod BoxLaws
+pub mod ConfigurationLaws
+pub mod Formats
+pub mod FormatLaws
+pub mod Narrowings
+pub mod Params
+pub mod Proper
+pub mod Rules
+pub mod Settled
+pub mod SettledLaws
+pub mod Steps
+pub mod Widest
