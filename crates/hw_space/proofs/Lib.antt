@@ -1,3 +1,4 @@
+pub mod NarrowingLaws
 pub mod Results
 pub mod RuleLaws
 pub mod StepLaws

@@ -21,13 +21,13 @@ use Rattle.hw_space.specs.Boxes.{part, IsBoxWithin}
 use Rattle.hw_space.specs.Formats.{bits_of_formats, formats_of_bits}
 use Rattle.hw_space.specs.FormatLaws.{bits_of_formats-IsWithin, bits_of_formats-IsMember, formats_of_bits-IsMaskWithin, formats_of_bits-HasNumber}
 use Rattle.hw_space.specs.Rules.{rules, no_rule, IsListed, HasScale}
-use Rattle.hw_space.specs.Settled.{IsSettled, Configuration, IsExact, IsHeld, IsResult, Keeps, computed}
+use Rattle.hw_space.specs.Settled.{IsSettled, Configuration, IsExact, IsHeld, IsResult, Keeps, computed, IsVoid}
 use Rattle.hw_space.specs.SettledLaws.{computed-IsWithin}
 use Rattle.hw_space.specs.ConfigurationLaws.{computed-IsMember}
 use Rattle.hw_space.specs.Proper.{IsProper}
 use Rattle.hw_space.specs.Narrowings.{narrowed}
-use Rattle.hw_space.specs.Steps.{IsStep, IsVoid}
-use Rattle.hw_space.proofs.StepLaws.{IsStep-trans, either_false, IsMissedByNone, with_part-IsStep, IsVoid-part, IsFormatMissedByNone, with_format, with_format-IsStep, IsVoid-format}
+use Rattle.hw_space.specs.Steps.{IsStep}
+use Rattle.hw_space.proofs.StepLaws.{IsStep-trans, either_false, IsMissedByNone, with_part-IsStep, IsVoid-part, IsFormatMissedByNone, with_formats, with_formats-IsStep, IsVoid-format}
 
 -- ---- the table
 
@@ -153,12 +153,12 @@ formats_of_bits-IsFormatMissedByNone b = record {
 pub format-IsStep : (b new : ParamBox) (m : Mask) (changed : Bool) → IsProper b → m ≡ formats_of_bits b.sample_bits
     → (common_mask b.format m).bits ≢ 0
     → (changed ≡ false ↔ (common_mask b.format m ≡ b.format))
-    → new ≡ with_format b (common_mask b.format m) → IsStep b new changed
+    → new ≡ with_formats b (common_mask b.format m) → IsStep b new changed
 format-IsStep b new m changed proper equal filled unchanged becomes =
     let P : ParamBox → Type 0 = λ d. IsStep b d changed in
     let Q : Mask → Type 0 = IsFormatMissedByNone b in
     subst P (sym becomes)
-    (with_format-IsStep b m changed proper (subst Q (sym equal) (formats_of_bits-IsFormatMissedByNone b)) filled unchanged.0 unchanged.1)
+    (with_formats-IsStep b m changed proper (subst Q (sym equal) (formats_of_bits-IsFormatMissedByNone b)) filled unchanged.0 unchanged.1)
 
 pub format-IsVoid : (b : ParamBox) (m : Mask) → m ≡ formats_of_bits b.sample_bits → (common_mask b.format m).bits ≡ 0 → IsVoid b
 format-IsVoid b m equal empty =

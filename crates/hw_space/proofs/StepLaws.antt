@@ -14,11 +14,11 @@ use Rattle.hw_space.specs.declared.rule.Rule.{Rule}
 use Rattle.hw_space.specs.Boxes.{part, with_part, IsBoxWithin, size_of_box}
 use Rattle.hw_space.specs.BoxLaws.{with_part-each, access-with_part, format-with_part, with_part-same, size_of_box-with_part, IsBoxWithin-refl, IsBoxWithin-trans, IsBoxWithin-with_part, with_part-IsBoxWithin, IsBoxWithin-part}
 use Rattle.hw_space.specs.Rules.{rules, no_rule, IsListed, HasScale}
-use Rattle.hw_space.specs.Settled.{IsSettled, Configuration, IsExact, IsHeld, IsResult, Keeps, computed}
+use Rattle.hw_space.specs.Settled.{IsSettled, Configuration, IsExact, IsHeld, IsResult, Keeps, computed, IsVoid}
 use Rattle.hw_space.specs.SettledLaws.{IsSettled-IsNormal, computed-IsWithin}
 use Rattle.hw_space.specs.ConfigurationLaws.{computed-IsMember}
 use Rattle.hw_space.specs.Proper.{IsProper}
-use Rattle.hw_space.specs.Steps.{IsStep, IsVoid}
+use Rattle.hw_space.specs.Steps.{IsStep}
 
 -- ---- steps compose
 
@@ -140,11 +140,11 @@ pub record IsFormatMissedByNone (b : ParamBox) (m : Mask) : Type 0 where
   pub settled : (s : ParamBox) → IsSettled s → IsBoxWithin s b → IsMaskWithin s.format m
   pub configurations : (x : Configuration) → IsExact x → IsHeld b x → HasNumber m x.format
 
-abbrev pub with_format : ParamBox → Mask → ParamBox
-with_format b m = record b { format = m }
+abbrev pub with_formats : ParamBox → Mask → ParamBox
+with_formats b m = record b { format = m }
 
 -- the intervals stay
-parts-format : (b : ParamBox) (m : Mask) (q : Quantity) (P : Quantity → Interval → Type 0) → P q (part b q) → P q (part (with_format b m) q)
+parts-format : (b : ParamBox) (m : Mask) (q : Quantity) (P : Quantity → Interval → Type 0) → P q (part b q) → P q (part (with_formats b m) q)
 parts-format b m SampleBits P h = h
 parts-format b m FrameBits P h = h
 parts-format b m Channels P h = h
@@ -157,19 +157,24 @@ parts-format b m BufferTime P h = h
 parts-format b m BufferSize P h = h
 parts-format b m BufferBytes P h = h
 
-with_format-IsBoxWithin : (b : ParamBox) (m : Mask) → IsMaskWithin m b.format → IsBoxWithin (with_format b m) b
-with_format-IsBoxWithin b m within = record {
+with_formats-IsBoxWithin : (b : ParamBox) (m : Mask) → IsMaskWithin m b.format → IsBoxWithin (with_formats b m) b
+with_formats-IsBoxWithin b m within = record {
   access = IsMaskWithin-refl b.access;
   format = within;
   parts = λ q. parts-format b m q (λ p i. IsWithin i (part b p)) (IsWithin-refl (part b q));
 }
 
-pub with_format-IsStep : (b : ParamBox) (m : Mask) (changed : Bool) → IsProper b → IsFormatMissedByNone b m
+pub with_formats-IsProper : (b : ParamBox) (m : Mask) → IsProper b → IsMaskWithin m b.format → m.bits ≢ 0 → IsProper (with_formats b m)
+with_formats-IsProper b m proper within filled =
+    IsProper-within (with_formats b m) b proper (with_formats-IsBoxWithin b m within) proper.access filled
+    (λ q. parts-format b m q (λ p i. IsNonEmpty i) (proper.filled q))
+
+pub with_formats-IsStep : (b : ParamBox) (m : Mask) (changed : Bool) → IsProper b → IsFormatMissedByNone b m
     → (common_mask b.format m).bits ≢ 0
     → (changed ≡ false → common_mask b.format m ≡ b.format) → (common_mask b.format m ≡ b.format → changed ≡ false)
-    → IsStep b (with_format b (common_mask b.format m)) changed
-with_format-IsStep b m changed proper missed filled same differs = record {
-  within = with_format-IsBoxWithin b (common_mask b.format m) (common_mask-IsMaskWithin_left b.format m);
+    → IsStep b (with_formats b (common_mask b.format m)) changed
+with_formats-IsStep b m changed proper missed filled same differs = record {
+  within = with_formats-IsBoxWithin b (common_mask b.format m) (common_mask-IsMaskWithin_left b.format m);
   settled = λ s h in_b. record {
     access = in_b.access;
     format = common_mask-greatest s.format b.format m in_b.format (missed.settled s h in_b);
@@ -180,12 +185,9 @@ with_format-IsStep b m changed proper missed filled same differs = record {
     format = common_mask-HasNumber b.format m x.format held.format (missed.configurations x exact held);
     parts = λ q. parts-format b (common_mask b.format m) q (λ p i. IsMember i (x.value p).over (x.value p).under) (held.parts q);
   };
-  proper =
-      IsProper-within (with_format b (common_mask b.format m)) b proper
-      (with_format-IsBoxWithin b (common_mask b.format m) (common_mask-IsMaskWithin_left b.format m)) proper.access filled
-      (λ q. parts-format b (common_mask b.format m) q (λ p i. IsNonEmpty i) (proper.filled q));
+  proper = with_formats-IsProper b (common_mask b.format m) proper (common_mask-IsMaskWithin_left b.format m) filled;
   moved = λ e. omega (arith, bits-common_mask b.format m (λ s. let f : changed ≡ false = differs s in absurd (cc)));
-  still = λ e. ap (with_format b) (same e);
+  still = λ e. ap (with_formats b) (same e);
 }
 
 pub IsVoid-format : (b : ParamBox) (m : Mask) → IsFormatMissedByNone b m → (common_mask b.format m).bits ≡ 0 → IsVoid b

@@ -1,5 +1,6 @@
 -- Settled boxes, the greatest of them, and the configurations that a box holds.
-use Rattle.std.specs.Prelude.{◌≡◌, ◌≢◌, ℕ, ◌*◌, ◌<◌, List, All}
+use Rattle.std.specs.Prelude.{◌≡◌, ◌≢◌, ℕ, ◌*◌, ◌<◌, List, All, Option, Some, None, Result, Ok, Err}
+use Rattle.pcm_interval.specs.declared.empty.Empty.{Empty}
 use Rattle.pcm_interval.specs.declared.interval.Interval.{Interval}
 use Rattle.pcm_interval.specs.Intervals.{IsNonEmpty, IsMember, refined}
 use Rattle.pcm_interval.specs.Masks.{HasNumber, common_mask}
@@ -81,3 +82,25 @@ KeepsConfigurations b g = (x : Configuration) → IsExact x → IsHeld b x → I
 -- a box holds no configuration
 abbrev pub HoldsNoConfiguration : ParamBox → Type 0
 HoldsNoConfiguration b = (x : Configuration) → IsExact x → ¬ IsHeld b x
+
+-- ---- what refinement leaves
+
+-- the greatest settled box within a box, which holds every configuration that the box held
+pub record IsLeft (b g : ParamBox) : Type 0 where
+  pub greatest : IsGreatest b g
+  pub configurations : KeepsConfigurations b g
+
+-- no settled box lies within a box, and it holds no configuration
+pub record IsVoid (b : ParamBox) : Type 0 where
+  pub settled : HasNoSettled b
+  pub configurations : HoldsNoConfiguration b
+
+-- what refinement leaves of a box, if it leaves anything
+abbrev pub Leaves : ParamBox → Option ParamBox → Type 0
+Leaves b (Some g) = IsLeft b g
+Leaves b None = IsVoid b
+
+-- the space after a call, unless it answered that it is empty
+abbrev pub left_of : {T : Type 0} → Result T Empty → ParamBox → Option ParamBox
+left_of (Ok x) b = Some b
+left_of (Err e) b = None

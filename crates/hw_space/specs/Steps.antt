@@ -2,7 +2,7 @@
 use Rattle.std.specs.Prelude.{◌≡◌, ◌<◌, Bool, true, false}
 use Rattle.hw_space.specs.declared.param_box.ParamBox.{ParamBox}
 use Rattle.hw_space.specs.Boxes.{IsBoxWithin, size_of_box}
-use Rattle.hw_space.specs.Settled.{IsSettled, HasNoSettled, KeepsConfigurations, HoldsNoConfiguration}
+use Rattle.hw_space.specs.Settled.{IsSettled, KeepsConfigurations}
 use Rattle.hw_space.specs.Proper.{IsProper}
 
 -- the box became smaller, or stayed as it was, and no settled box and no configuration was lost
@@ -13,8 +13,3 @@ pub record IsStep (old new : ParamBox) (changed : Bool) : Type 0 where
   pub proper : IsProper new
   pub moved : changed ≡ true → size_of_box new < size_of_box old
   pub still : changed ≡ false → new ≡ old
-
--- nothing is left of a box
-pub record IsVoid (b : ParamBox) : Type 0 where
-  pub settled : HasNoSettled b
-  pub configurations : HoldsNoConfiguration b

@@ -1,9 +1,11 @@
 //! The hardware parameters of a PCM stream.
 #![tactic(auto)]
 
+mod choice;
 mod config;
 mod formats;
 mod narrowing;
+mod near;
 mod param;
 mod param_box;
 mod quantity;

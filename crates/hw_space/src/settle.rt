@@ -6,9 +6,9 @@ ghost use Rattle.hw_space.specs.Boxes.{part};
 ghost use Rattle.hw_space.specs.Formats.{bits_of_formats, formats_of_bits};
 ghost use Rattle.hw_space.specs.Narrowings.{narrowed};
 ghost use Rattle.hw_space.specs.Rules.{IsListed};
-ghost use Rattle.hw_space.specs.Settled.{Keeps, IsSettled};
+ghost use Rattle.hw_space.specs.Settled.{Keeps, IsSettled, IsVoid};
 ghost use Rattle.hw_space.specs.Proper.{IsProper};
-ghost use Rattle.hw_space.specs.Steps.{IsStep, IsVoid};
+ghost use Rattle.hw_space.specs.Steps.{IsStep};
 
 use crate::formats::{bits_of_formats, formats_of_bits};
 use crate::param_box::ParamBox;

@@ -1,13 +1,20 @@
 //! A space: the configurations that a stream may still have.
-ghost use Rattle.std.specs.Prelude.{◌≡◌, ◌≢◌, ◌↔◌, IsTrue, OnOk, OnErr, IfOk};
-ghost use Rattle.hw_space.specs.Narrowings.{narrowed};
-ghost use Rattle.hw_space.specs.Settled.{IsGreatest, HasNoSettled, KeepsConfigurations, HoldsNoConfiguration};
+ghost use Rattle.std.specs.Prelude.{◌≡◌, ◌≢◌, ◌↔◌, IsTrue, OnErr, IfOk};
+ghost use Rattle.hw_space.specs.Boxes.{part};
+ghost use Rattle.hw_space.specs.Narrowings.{narrowed, with_value, with_min, with_max, with_integer, with_first, with_last, interval_of, mask_of, FitsParam, LeavesNear};
+ghost use Rattle.hw_space.specs.Choices.{IsChoice};
+ghost use Rattle.hw_space.specs.Params.{HasInterval};
+ghost use Rattle.hw_space.specs.Settled.{Leaves, left_of};
 ghost use Rattle.hw_space.specs.Widest.{widest};
 
+use crate::choice::choose;
+use crate::config::Config;
+use crate::narrowing::{at_least, at_most, from_to, greatest_end, least_end, narrow, take_value, whole_from_to, whole_numbers};
+use crate::near::take_near;
+use crate::param::{Param, ParamKind};
 use crate::param_box::ParamBox;
 use crate::quantity::Quantity;
-use crate::settle::{narrow_part, settle};
-use crate::narrowing::{from_to, whole_from_to};
+use crate::settle::settle;
 use crate::slave::Slave;
 use pcm_interval::{Empty, Interval, Mask};
 use std::marker::Model;
@@ -68,11 +75,8 @@ impl Space {
     /// `Ok(true)` says that it changed. `Empty` comes exactly where no such space is left, and then the space is as
     /// before. Every configuration that the space held is held still.
     pub fn refine(&mut self) -> Result<bool, Empty>
-        ensures greatest { OnOk result (IsGreatest self.old self.new) }
+        ensures left { Leaves self.old (left_of result self.new) }
         ensures changed { IfOk result (λ changed. IsTrue changed ↔ (self.new ≢ self.old)) }
-        ensures configurations { OnOk result (KeepsConfigurations self.old self.new) }
-        ensures empty { OnErr result (HasNoSettled self.old) }
-        ensures none_held { OnErr result (HoldsNoConfiguration self.old) }
         ensures err { OnErr result (self.new ≡ self.old) }
     {
         let mut ranges = self.ranges;
@@ -81,17 +85,141 @@ impl Space {
         Ok(changed)
     }
 
-    /// Narrows one quantity to what it has in common with an interval, and refines.
-    fn narrow(&mut self, quantity: Quantity, other: &Interval) -> Result<(), Empty>
-        ensures greatest { OnOk result (IsGreatest (narrowed self.old quantity other.now) self.new) }
-        ensures configurations { OnOk result (KeepsConfigurations (narrowed self.old quantity other.now) self.new) }
-        ensures empty { OnErr result (HasNoSettled (narrowed self.old quantity other.now)) }
-        ensures none_held { OnErr result (HoldsNoConfiguration (narrowed self.old quantity other.now)) }
+    /// Gives a parameter one value, and refines (`snd_pcm_hw_params_set_access` and the like). For the access and the
+    /// format the value is the number of a member, below 64.
+    ///
+    /// `Empty` comes exactly where no space is left, and then the space is as before.
+    pub fn set(&mut self, param: Param, value: u32) -> Result<(), Empty>
+        requires { FitsParam param value }
+        ensures left { Leaves (with_value self.old param value) (left_of result self.new) }
         ensures err { OnErr result (self.new ≡ self.old) }
     {
         let mut ranges = self.ranges;
-        narrow_part(&mut ranges, quantity, other)?;
-        settle(&mut ranges)?;
+        take_value(&mut ranges, param.kind(), value)?;
+        self.ranges = ranges;
+        Ok(())
+    }
+
+    /// Narrows a parameter to values of at least a number, and refines (`snd_pcm_hw_params_set_rate_min` and the like).
+    ///
+    /// `Empty` comes exactly where no space is left, and then the space is as before.
+    pub fn set_min(&mut self, param: Param, value: u32) -> Result<(), Empty>
+        requires { HasInterval param }
+        ensures left { Leaves (with_min self.old param value) (left_of result self.new) }
+        ensures err { OnErr result (self.new ≡ self.old) }
+    {
+        self.narrow(param.quantity(), &at_least(value))
+    }
+
+    /// Narrows a parameter to values of at most a number, and refines (`snd_pcm_hw_params_set_rate_max` and the like).
+    ///
+    /// `Empty` comes exactly where no space is left, and then the space is as before.
+    pub fn set_max(&mut self, param: Param, value: u32) -> Result<(), Empty>
+        requires { HasInterval param }
+        ensures left { Leaves (with_max self.old param value) (left_of result self.new) }
+        ensures err { OnErr result (self.new ≡ self.old) }
+    {
+        self.narrow(param.quantity(), &at_most(value))
+    }
+
+    /// Narrows a parameter to whole numbers, and refines (`snd_pcm_hw_params_set_periods_integer` and the like).
+    ///
+    /// `Empty` comes exactly where no space is left, and then the space is as before.
+    pub fn set_integer(&mut self, param: Param) -> Result<(), Empty>
+        requires { HasInterval param }
+        ensures left { Leaves (with_integer self.old param) (left_of result self.new) }
+        ensures err { OnErr result (self.new ≡ self.old) }
+    {
+        self.narrow(param.quantity(), &whole_numbers())
+    }
+
+    /// Narrows a parameter to its least end, and refines (`snd_pcm_hw_params_set_rate_first` and the like): to the
+    /// point if it is closed, else to what is above it, up to the next number.
+    ///
+    /// `Empty` comes exactly where no space is left, and then the space is as before.
+    pub fn set_first(&mut self, param: Param) -> Result<(), Empty>
+        requires { HasInterval param }
+        ensures left { Leaves (with_first self.old param) (left_of result self.new) }
+        ensures err { OnErr result (self.new ≡ self.old) }
+    {
+        let quantity = param.quantity();
+        let end = least_end(self.ranges.part(quantity));
+        self.narrow(quantity, &end)
+    }
+
+    /// Narrows a parameter to its greatest end, and refines (`snd_pcm_hw_params_set_rate_last` and the like): to the
+    /// point if it is closed, else to what is below it, down to the number before.
+    ///
+    /// `Empty` comes exactly where no space is left, and then the space is as before.
+    pub fn set_last(&mut self, param: Param) -> Result<(), Empty>
+        requires { HasInterval param }
+        ensures left { Leaves (with_last self.old param) (left_of result self.new) }
+        ensures err { OnErr result (self.new ≡ self.old) }
+    {
+        let quantity = param.quantity();
+        let end = greatest_end(self.ranges.part(quantity));
+        self.narrow(quantity, &end)
+    }
+
+    /// Narrows a parameter to the end that is nearest to a number, and refines (`snd_pcm_hw_params_set_rate_near` and the
+    /// like).
+    ///
+    /// It tries `set_max` with the number and takes the greatest end, and tries `set_min` and takes the least end. It
+    /// narrows to the nearer of the two as `set_last` or `set_first` does; at equal distance, which is measured to the
+    /// ends' numbers, open or closed, to the lower (this library's own choice). Where one try leaves nothing, it takes
+    /// the other's end.
+    ///
+    /// `Empty` comes exactly where both tries leave nothing, or the last narrowing does. Then the space is as before.
+    pub fn set_near(&mut self, param: Param, value: u32) -> Result<(), Empty>
+        requires { HasInterval param }
+        ensures near { LeavesNear self.old param value (left_of result self.new) }
+        ensures err { OnErr result (self.new ≡ self.old) }
+    {
+        let mut ranges = self.ranges;
+        take_near(&mut ranges, param.quantity(), value)?;
+        self.ranges = ranges;
+        Ok(())
+    }
+
+    /// Chooses one configuration of the space, which stays as it is. It refines, and then takes in this order, which is
+    /// this library's own: the first access, the first format, the least channels, the least rate, the period size
+    /// nearest to the slave's, the greatest buffer size, the least number of periods. After each it refines.
+    ///
+    /// `Empty` comes exactly where one of these steps leaves nothing.
+    pub fn choose(&self, slave: &Slave) -> Result<Config, Empty>
+        ensures { IsChoice self.now slave.now.period result }
+    {
+        choose(&self.ranges, slave.period)
+    }
+
+    /// The interval of a parameter; None for the access and the format.
+    pub fn interval(&self, param: Param) -> Option<Interval>
+        ensures { result ≡ interval_of self.now param }
+    {
+        match param.kind() {
+            ParamKind::Number(quantity) => Some(self.ranges.part(quantity)),
+            ParamKind::Access | ParamKind::Format => None,
+        }
+    }
+
+    /// The mask of the access or the format; None for any other parameter.
+    pub fn mask(&self, param: Param) -> Option<Mask>
+        ensures { result ≡ mask_of self.now param }
+    {
+        match param.kind() {
+            ParamKind::Access => Some(self.ranges.access),
+            ParamKind::Format => Some(self.ranges.format),
+            ParamKind::Number(_) => None,
+        }
+    }
+
+    /// Narrows one quantity to what it has in common with an interval, and refines.
+    fn narrow(&mut self, quantity: Quantity, other: &Interval) -> Result<(), Empty>
+        ensures left { Leaves (narrowed self.old quantity other.now) (left_of result self.new) }
+        ensures err { OnErr result (self.new ≡ self.old) }
+    {
+        let mut ranges = self.ranges;
+        narrow(&mut ranges, quantity, other)?;
         self.ranges = ranges;
         Ok(())
     }

@@ -1,0 +1,62 @@
+-- Laws of narrowed boxes: nothing lies within one whose part is empty.
+use Rattle.std.specs.Prelude.{◌≡◌, ◌≢◌, ℕ}
+use Rattle.std.proofs.Common.{subst, sym, ap, ◌∙◌}
+use Rattle.pcm_interval.specs.declared.interval.Interval.{Interval}
+use Rattle.pcm_interval.specs.Intervals.{IsEmpty, IsNonEmpty, IsMember, refined}
+use Rattle.pcm_interval.specs.IntervalLaws.{IsNonEmpty-IsWithin, IsNonEmpty-IsMember}
+use Rattle.pcm_interval.specs.declared.mask.Mask.{Mask}
+use Rattle.pcm_interval.specs.Masks.{common_mask}
+use Rattle.pcm_interval.specs.MaskLaws.{IsMaskWithin-bits, HasNumber-bits, common_mask-IsMaskWithin_left}
+use Rattle.hw_space.specs.declared.param_box.ParamBox.{ParamBox}
+use Rattle.hw_space.specs.declared.quantity.Quantity.{Quantity}
+use Rattle.hw_space.specs.Boxes.{part, with_part}
+use Rattle.hw_space.specs.BoxLaws.{part-with_part, IsBoxWithin-part}
+use Rattle.hw_space.specs.Narrowings.{narrowed, with_access, with_format}
+use Rattle.hw_space.specs.Settled.{KeepsConfigurations, IsVoid}
+use Rattle.hw_space.specs.Widest.{only}
+use Rattle.hw_space.specs.Proper.{IsProper}
+use Rattle.hw_space.specs.Steps.{IsStep}
+use Rattle.hw_space.proofs.StepLaws.{with_part-IsProper, with_formats-IsProper}
+
+-- nothing lies within a box with an empty part
+with_part-IsVoid : (b : ParamBox) (q : Quantity) (i : Interval) → IsEmpty i → IsVoid (with_part b q i)
+with_part-IsVoid b q i empty = record {
+  settled = λ s settled within.
+      let filled : IsNonEmpty i = IsNonEmpty-IsWithin (part s q) i (IsBoxWithin-part s b q i within) (settled.parts q) in absurd (cc);
+  configurations = λ x exact held.
+      let P : Interval → Type 0 = λ j. IsMember j (x.value q).over (x.value q).under in
+      let member : IsMember i (x.value q).over (x.value q).under = subst P (part-with_part b q i) (held.parts q) in
+      let filled : IsNonEmpty i = IsNonEmpty-IsMember i (x.value q).over (x.value q).under member in absurd (cc);
+}
+
+pub narrowed-IsVoid : (b : ParamBox) (q : Quantity) (x : Interval) → IsEmpty (refined (part b q) x) → IsVoid (narrowed b q x)
+narrowed-IsVoid b q x empty = with_part-IsVoid b q (refined (part b q) x) empty
+
+pub narrowed-IsProper : (b new : ParamBox) (q : Quantity) (x : Interval) → IsProper b → new ≡ narrowed b q x
+    → IsNonEmpty (refined (part b q) x) → IsProper new
+narrowed-IsProper b new q x proper becomes filled = rw becomes (with_part-IsProper b q x proper filled)
+
+-- ---- masks
+
+-- nothing lies within a box with an empty mask
+access-IsVoid : (b : ParamBox) → b.access.bits ≡ 0 → IsVoid b
+access-IsVoid b empty = record {
+  settled = λ s settled within. IsMaskWithin-bits s.access b.access within.access settled.access empty;
+  configurations = λ x exact held. HasNumber-bits b.access x.access held.access empty;
+}
+
+format-IsVoid : (b : ParamBox) → b.format.bits ≡ 0 → IsVoid b
+format-IsVoid b empty = record {
+  settled = λ s settled within. IsMaskWithin-bits s.format b.format within.format settled.format empty;
+  configurations = λ x exact held. HasNumber-bits b.format x.format held.format empty;
+}
+
+pub with_access-IsVoid : (b : ParamBox) (n : ℕ) (m : Mask) → m ≡ only n → (common_mask b.access m).bits ≡ 0 → IsVoid (with_access b n)
+with_access-IsVoid b n m equal empty = access-IsVoid (with_access b n) (ap (λ x. (common_mask b.access x).bits) (sym equal) ∙ empty)
+
+pub with_format-IsVoid : (b : ParamBox) (n : ℕ) (m : Mask) → m ≡ only n → (common_mask b.format m).bits ≡ 0 → IsVoid (with_format b n)
+with_format-IsVoid b n m equal empty = format-IsVoid (with_format b n) (ap (λ x. (common_mask b.format x).bits) (sym equal) ∙ empty)
+
+pub with_format-IsProper : (b new : ParamBox) (m : Mask) → IsProper b → new ≡ record b { format = common_mask b.format m }
+    → (common_mask b.format m).bits ≢ 0 → IsProper new
+with_format-IsProper b new m proper becomes filled = rw becomes (with_formats-IsProper b (common_mask b.format m) proper (common_mask-IsMaskWithin_left b.format m) filled)
