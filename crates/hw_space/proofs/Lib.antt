@@ -1,4 +1,5 @@
 pub mod NarrowingLaws
+pub mod PointLaws
 pub mod Results
 pub mod RuleLaws
 pub mod StepLaws

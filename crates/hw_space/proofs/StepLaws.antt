@@ -157,7 +157,7 @@ parts-format b m BufferTime P h = h
 parts-format b m BufferSize P h = h
 parts-format b m BufferBytes P h = h
 
-with_formats-IsBoxWithin : (b : ParamBox) (m : Mask) → IsMaskWithin m b.format → IsBoxWithin (with_formats b m) b
+pub with_formats-IsBoxWithin : (b : ParamBox) (m : Mask) → IsMaskWithin m b.format → IsBoxWithin (with_formats b m) b
 with_formats-IsBoxWithin b m within = record {
   access = IsMaskWithin-refl b.access;
   format = within;

@@ -1,5 +1,6 @@
 pub mod Boxes
 pub mod BoxLaws
+pub mod ChoiceLaws
 pub mod Choices
 pub mod ConfigurationLaws
 pub mod Formats

@@ -67,11 +67,11 @@ fn take(ranges: &mut ParamBox, choice: &Choice) -> Result<(), Empty>
     match *choice {
         Choice::Settle => take_settled(ranges),
         Choice::FirstAccess => {
-            let number = first_number(&ranges.access);
+            let number = first_number(ranges.access);
             take_access(ranges, number)
         }
         Choice::FirstFormat => {
-            let number = first_number(&ranges.format);
+            let number = first_number(ranges.format);
             take_format(ranges, number)
         }
         Choice::First(quantity) => {
@@ -97,9 +97,9 @@ fn take_settled(ranges: &mut ParamBox) -> Result<(), Empty>
 }
 
 /// The least number of a mask that has one.
-fn first_number(mask: &Mask) -> u32
-    requires { mask.now.bits ≢ 0 }
-    ensures first { IsFirstNumber mask.now result }
+fn first_number(mask: Mask) -> u32
+    requires { mask.bits ≢ 0 }
+    ensures first { IsFirstNumber mask result }
     ensures below { result < 64 }
 {
     mask.bits.trailing_zeros()

@@ -1,0 +1,67 @@
+-- Laws of choices: what refinement leaves, what a step leaves and what is chosen is settled by the box.
+use Rattle.std.specs.Prelude.{◌≡◌, ℕ, ◌<◌, List, [], ◌∷◌, Option, Some, None, Result, Ok, Err, refl}
+use Rattle.std.proofs.Common.{arith, subst, ap, ◌∙◌, sym, inl, inr}
+use Rattle.std.proofs.lemmas.Bool.{cases_lt}
+use Rattle.pcm_interval.specs.declared.interval.Interval.{Interval}
+use Rattle.pcm_interval.specs.declared.empty.Empty.{Empty}
+use Rattle.pcm_interval.specs.declared.mask.Mask.{Mask}
+use Rattle.hw_space.specs.declared.choice.Choice.{Choice}
+use Rattle.hw_space.specs.declared.choice.Choice.TheVariants.{Settle, FirstAccess, FirstFormat, First, Last, Near}
+use Rattle.hw_space.specs.declared.config.Config.{Config}
+use Rattle.hw_space.specs.declared.param_box.ParamBox.{ParamBox}
+use Rattle.hw_space.specs.declared.quantity.Quantity.{Quantity}
+use Rattle.hw_space.specs.Boxes.{part}
+use Rattle.hw_space.specs.Choices.{IsFirstNumber, Makes, Chooses, done, fails, goes, choices, HasPoints, IsChoice}
+use Rattle.hw_space.specs.Narrowings.{narrowed, at_most, at_least, least_end, greatest_end, with_access, with_format, nearest, LeavesOf, IsNear}
+use Rattle.hw_space.specs.Settled.{IsLeft, IsVoid, Leaves}
+use Rattle.hw_space.specs.SettledLaws.{IsGreatest-unique}
+use Rattle.hw_space.specs.Widest.{whole_from_to}
+
+-- a box leaves one box, or nothing
+pub Leaves-unique : (b : ParamBox) (o p : Option ParamBox) → Leaves b o → Leaves b p → o ≡ p
+Leaves-unique b (Some g) (Some h) one other = ap (λ x. Some x) (IsGreatest-unique b g h one.greatest other.greatest)
+Leaves-unique b (Some g) None one other = absurd (other.settled g one.greatest.settled one.greatest.within)
+Leaves-unique b None (Some h) one other = absurd (one.settled h other.greatest.settled other.greatest.within)
+Leaves-unique b None None one other = refl
+
+LeavesOf-unique : (m : Option ParamBox) (o p : Option ParamBox) → LeavesOf m o → LeavesOf m p → o ≡ p
+LeavesOf-unique (Some b) o p one other = Leaves-unique b o p one other
+LeavesOf-unique None o p one other = one ∙ sym other
+
+-- the nearest end leaves one box, or nothing
+pub IsNear-unique : (b : ParamBox) (q : Quantity) (n : ℕ) (o p : Option ParamBox) → IsNear b q n o → IsNear b q n p → o ≡ p
+IsNear-unique b q n o p one other =
+    let low = Leaves-unique (narrowed b q (at_most n)) one.low other.low one.below other.below in
+    let high = Leaves-unique (narrowed b q (at_least n)) one.high other.high one.above other.above in
+    let same : nearest q n other.low other.high ≡ nearest q n one.low one.high =
+        sym (ap (λ x. nearest q n x one.high) low ∙ ap (λ x. nearest q n other.low x) high) in
+    LeavesOf-unique (nearest q n one.low one.high) o p one.left (subst (λ (m : Option ParamBox). LeavesOf m p) same other.left)
+
+-- a mask has one first number at most
+IsFirstNumber-unique : (m : Mask) (n k : ℕ) → IsFirstNumber m n → IsFirstNumber m k → n ≡ k
+IsFirstNumber-unique m n k one other =
+    elim (cases_lt n k) [
+      | inl below ↦ absurd (other.least n below one.has)
+      | inr above ↦ elim (cases_lt k n) [
+          | inl below ↦ absurd (one.least k below other.has)
+          | inr same ↦ omega arith
+        ]
+    ]
+
+-- a step leaves one box, or nothing
+pub Makes-unique : (c : Choice) (b : ParamBox) (o p : Option ParamBox) → Makes c b o → Makes c b p → o ≡ p
+Makes-unique Settle b o p one other = Leaves-unique b o p one other
+Makes-unique FirstAccess b o p one other =
+    let same = IsFirstNumber-unique b.access other.0 one.0 other.1 one.1 in
+    Leaves-unique (with_access b one.0) o p one.2 (subst (λ (n : ℕ). Leaves (with_access b n) p) same other.2)
+Makes-unique FirstFormat b o p one other =
+    let same = IsFirstNumber-unique b.format other.0 one.0 other.1 one.1 in
+    Leaves-unique (with_format b one.0) o p one.2 (subst (λ (n : ℕ). Leaves (with_format b n) p) same other.2)
+Makes-unique (First q) b o p one other = Leaves-unique (narrowed b q (least_end (part b q))) o p one other
+Makes-unique (Last q) b o p one other = Leaves-unique (narrowed b q (greatest_end (part b q))) o p one other
+Makes-unique (Near q n) b o p one other = IsNear-unique b q n o p one other
+
+-- and so do all steps
+pub Chooses-unique : (cs : List Choice) (b : ParamBox) (o p : Option ParamBox) → Chooses cs b o → Chooses cs b p → o ≡ p
+Chooses-unique [] b (Some x) (Some y) done done = refl
+Chooses-unique (c ∷ cs) b o p one other = ?
