@@ -1,6 +1,6 @@
 -- What lines ask, read one after the other.
-use Rattle.std.proofs.Common.{◌≡◌, ℕ, List, [], ◌∷◌, ◌++◌, ap, refl, sym, ◌∙◌, append_assoc}
-use Rattle.std.specs.Prelude.{Option, Some, None, Result, Ok, Err}
+use Rattle.std.proofs.Common.{◌≡◌, ℕ, List, [], ◌∷◌, ◌++◌, ap, refl, sym, ◌∙◌, append_assoc, subst, All}
+use Rattle.std.specs.Prelude.{Option, Some, None, Result, Ok, Err, IfOk}
 use Rattle.std.proofs.lemmas.List.{append-nil}
 use Rattle.std.specs.Result.{IsErrAnd}
 use Rattle.lab_script.specs.declared.error.ScriptWhy.{ScriptWhy}
@@ -8,7 +8,8 @@ use Rattle.lab_script.specs.declared.error.ScriptWhy.TheVariants as why
 use Rattle.lab_script.specs.Lexing.{first_and_rest}
 use Rattle.lab_script.specs.declared.error.ScriptError.{ScriptError}
 use Rattle.dmixlab.specs.declared.refine.request.Ask.{Ask}
-use Rattle.dmixlab.specs.Refine.Grammar.{ask_of}
+use Rattle.dmixlab.specs.Refine.Grammar.{ask_of, IsAsk}
+use Rattle.std.proofs.lemmas.List.Elements.{All-append, All-cons, All-nil}
 use Rattle.dmixlab.specs.Refine.Reading.{asks_of, on_line, Reads, Refuses, ◌>>=◌}
 
 -- asks that were read before others
@@ -69,3 +70,12 @@ pub Reads-refused : {X Y : Type 0} (view : X → Y) (r : Result X ScriptError) (
     → IsErrAnd r (λ x. x ≡ e) → given ≡ Err e → Reads view r given
 Reads-refused view (Ok x) e given is same = absurd is
 Reads-refused view (Err x) e given is same = Refuses-of x.why x given (same ∙ ap Err (sym is))
+
+-- a line that says something can say it
+pub All-read : (ask : Ask) (number : ℕ) (r : Result Ask ScriptWhy) → Ok ask ≡ on_line number r → IfOk r IsAsk → IsAsk ask
+All-read ask number (Ok a) is can = subst IsAsk (let e : a ≡ ask = cc in e) can
+All-read ask number (Err cause) is can = absurd (let e = is in cc)
+
+-- one more that can be asked
+pub All-asks : (asks longer : List Ask) (ask : Ask) → All IsAsk asks → IsAsk ask → longer ≡ asks ++ ask ∷ [] → All IsAsk longer
+All-asks asks longer ask can one is = subst (All IsAsk) (sym is) (All-append IsAsk asks (ask ∷ []) can (All-cons IsAsk ask [] one (All-nil IsAsk)))

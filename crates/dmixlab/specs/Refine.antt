@@ -3,3 +3,5 @@ pub mod Params
 pub mod Grammar
 pub mod Reading
 pub mod Values
+pub mod Answers
+pub mod Command

@@ -10,6 +10,7 @@ ghost use Rattle.dmixlab.specs.Top.{cause, cause_in, ComesExactly, EndsWell, Hea
 
 use crate::load::load;
 use crate::output::{Output, prepare, put, write};
+use crate::refine::refine_command;
 use crate::stop::{Stop, status, tell};
 use crate::words::{Command, help, read_command, version};
 use crate::work::work;
@@ -23,6 +24,9 @@ use std::thread::Threads;
 ///
 /// - `run SCRIPT OUT` reads the script in the file SCRIPT and the WAV file of each of its clients,
 ///   runs it, stores what the card played as the WAV file `OUT.wav`, and puts the report on `out`.
+/// - `refine TEXT` reads what the text in the file TEXT asks of the parameter space that a slave leaves to
+///   its clients, and puts an answer for each line on `out`, as `snd_pcm_hw_params_any` and then
+///   `snd_pcm_hw_params_set_..` and `snd_pcm_hw_params_get_..` of ALSA would give it. No file changes.
 /// - `--help` and `--version`, each alone, put their text on `out`.
 ///
 /// A word for a file is 1 to 4,096 bytes of UTF-8 without a zero byte. The status is 0 where all
@@ -32,7 +36,8 @@ use std::thread::Threads;
 /// - 1: the words are none of these;
 /// - 2: the script has more than 1,048,576 bytes, or isn't a script as `lab_script::read_script`
 ///   reads it, in the short form: a card of 1 to 8 channels, clients that are all opened before the
-///   first phase, and phases of one line, a `write` or a `card play`;
+///   first phase, and phases of one line, a `write` or a `card play`; or the text of a request has as
+///   many bytes, or a line that can't stand in it;
 /// - 3: a client's file isn't a WAV file of 16-bit PCM, isn't at the card's rate, has more channels
 ///   than the card, has more than 67,108,864 bytes, or is the one with which the files of all clients
 ///   so far, each counted as often as a client names it, have more than 268,435,456 bytes;
@@ -46,7 +51,7 @@ use std::thread::Threads;
 ///
 /// With status 0 `OUT.wav` holds the canonical WAV file of what the card played, at the card's rate
 /// and with its channels (a client's channel is the card's of the same number), and `out` took the
-/// whole report. With 1 to 4 no file changed and `out` took nothing. With 5 and 6 that is so, or
+/// whole report; `refine` and the others change no file, and `out` took their whole text. With 1 to 4 no file changed and `out` took nothing. With 5 and 6 that is so, or
 /// `OUT.wav` holds the first bytes of what it was to hold, or all, or is as it was, no other file
 /// changed, and `out` took the first bytes of the text.
 ///
@@ -126,6 +131,7 @@ fn command<S: Shelf, K: Sink>(
 {
     match read_command(words) {
         Some(Command::Run { script, out: name }) => run_command(alloc, shelf, out, script, name),
+        Some(Command::Refine { text }) => refine_command(alloc, shelf, out, text),
         Some(Command::Help) => put(out, help()),
         Some(Command::Version) => put(out, version()),
         None => Err(Stop::Words),

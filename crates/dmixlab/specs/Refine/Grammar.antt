@@ -1,5 +1,5 @@
 -- What a line of a request says, by its words, or the cause that its first word has that can't stand where it stands.
-use Rattle.std.specs.Prelude.{◌≡◌, ℕ, ◌*◌, ◌%◌, ◌≤◌, Bool, ◌&&◌, ◌||◌, ◌==◌, nat_le, not, List, [], ◌∷◌, codes, Option, Some, None, is_some, Result, Ok, Err, if◌then◌else◌}
+use Rattle.std.specs.Prelude.{◌≡◌, ℕ, ◌*◌, ◌%◌, ◌≤◌, Bool, false, ◌&&◌, ◌||◌, ◌==◌, nat_le, not, List, [], ◌∷◌, codes, Option, Some, None, is_some, Result, Ok, Err, if◌then◌else◌}
 use Rattle.std.specs.Str.{bytes_eq}
 use Rattle.lab_script.specs.declared.error.ScriptWhy.{ScriptWhy}
 use Rattle.lab_script.specs.declared.error.ScriptWhy.TheVariants as why
@@ -181,3 +181,13 @@ ask_of words = do
   word ← word_in words
   verb ← known (misplaced word.0) (verb_of word.0)
   asked_by verb word.1
+
+-- what a line can ask: a mask is only set, to a number below 64, or shown
+abbrev pub IsAsk : Ask → Type 0
+IsAsk (asks.Set param value) = value ≤ most_of param
+IsAsk (asks.Min param value) = is_mask param ≡ false
+IsAsk (asks.Max param value) = is_mask param ≡ false
+IsAsk (asks.Near param value) = is_mask param ≡ false
+IsAsk (asks.Integer param) = is_mask param ≡ false
+IsAsk (asks.Show param) = Unit {0}
+IsAsk asks.Choose = Unit {0}

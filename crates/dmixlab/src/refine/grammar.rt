@@ -1,7 +1,8 @@
 //! What each line of a text says.
-ghost use Rattle.std.specs.Prelude.{◌≡◌, ◌≤◌, IfOk};
+ghost use Rattle.std.specs.Prelude.{◌≡◌, ◌≤◌, IfOk, false};
+ghost use Rattle.dmixlab.specs.Refine.Params.{is_mask, most_of};
 ghost use Rattle.lab_script.specs.Lexing.{words_between};
-ghost use Rattle.dmixlab.specs.Refine.Grammar.{IsSlaveLine, ask_of, asked_by, bounded_in, fits, misplaced, result_view, slave_keys_in, slave_of, slave_with, valued_in, verb_of, whole_interval_in, whole_param_in};
+ghost use Rattle.dmixlab.specs.Refine.Grammar.{IsAsk, IsSlaveLine, ask_of, asked_by, bounded_in, fits, misplaced, result_view, slave_keys_in, slave_of, slave_with, valued_in, verb_of, whole_interval_in, whole_param_in};
 
 use crate::refine::params::most_of;
 use crate::refine::place::{end, interval, keyed, number, param, word};
@@ -118,7 +119,8 @@ pub(crate) fn read_slave(line: &[u8]) -> Result<SlaveLine, ScriptWhy>
 /// A quantity and a value for it, to a line's end.
 #[tactic(auto, unfolding(crate::specs::Refine::Grammar::valued_in))]
 fn valued(line: &[u8]) -> Result<(Param, u32), ScriptWhy>
-    ensures { result ≡ valued_in (words_between line.now) }
+    ensures value { result ≡ valued_in (words_between line.now) }
+    ensures within { IfOk result (λ v. v.1 ≤ most_of v.0) }
 {
     let (param, rest) = param(line)?;
     let (value, rest) = number(rest, 0, most_of(param))?;
@@ -129,7 +131,8 @@ fn valued(line: &[u8]) -> Result<(Param, u32), ScriptWhy>
 /// A quantity that is an interval and a value for it, to a line's end.
 #[tactic(auto, unfolding(crate::specs::Refine::Grammar::bounded_in))]
 fn bounded(line: &[u8]) -> Result<(Param, u32), ScriptWhy>
-    ensures { result ≡ bounded_in (words_between line.now) }
+    ensures value { result ≡ bounded_in (words_between line.now) }
+    ensures interval { IfOk result (λ v. is_mask v.0 ≡ false) }
 {
     let (param, rest) = interval(line)?;
     let (value, rest) = number(rest, 0, 4_294_967_295)?;
@@ -150,7 +153,8 @@ fn whole_param(line: &[u8]) -> Result<Param, ScriptWhy>
 /// A quantity that is an interval, to a line's end.
 #[tactic(auto, unfolding(crate::specs::Refine::Grammar::whole_interval_in))]
 fn whole_interval(line: &[u8]) -> Result<Param, ScriptWhy>
-    ensures { result ≡ whole_interval_in (words_between line.now) }
+    ensures value { result ≡ whole_interval_in (words_between line.now) }
+    ensures interval { IfOk result (λ p. is_mask p ≡ false) }
 {
     let (param, rest) = interval(line)?;
     end(rest, ScriptWhy::Extra)?;
@@ -160,7 +164,8 @@ fn whole_interval(line: &[u8]) -> Result<Param, ScriptWhy>
 /// What the words behind a line's first word ask.
 #[tactic(auto, unfolding(crate::specs::Refine::Grammar::asked_by))]
 fn asked_by(verb: Verb, line: &[u8]) -> Result<Ask, ScriptWhy>
-    ensures { result ≡ asked_by verb (words_between line.now) }
+    ensures value { result ≡ asked_by verb (words_between line.now) }
+    ensures can { IfOk result IsAsk }
 {
     match verb {
         Verb::Set => {
@@ -191,7 +196,8 @@ fn asked_by(verb: Verb, line: &[u8]) -> Result<Ask, ScriptWhy>
 /// What a line asks.
 #[tactic(auto, unfolding(crate::specs::Refine::Grammar::ask_of))]
 pub(crate) fn read_ask(line: &[u8]) -> Result<Ask, ScriptWhy>
-    ensures { result ≡ ask_of (words_between line.now) }
+    ensures value { result ≡ ask_of (words_between line.now) }
+    ensures can { IfOk result IsAsk }
 {
     let (first, rest) = word(line)?;
     match verb_of(first) {

@@ -1,6 +1,7 @@
 //! What stands at one place of a line: a word, a key, a number, a quantity, or the line's end.
-ghost use Rattle.std.specs.Prelude.{◌≡◌, ◌≤◌, IfOk};
+ghost use Rattle.std.specs.Prelude.{◌≡◌, ◌≤◌, IfOk, false};
 ghost use Rattle.lab_script.specs.Lexing.{words_between};
+ghost use Rattle.dmixlab.specs.Refine.Params.{is_mask};
 ghost use Rattle.dmixlab.specs.Refine.Grammar.{ended, interval_in, keyed_in, number_in, param_in, result_view, word_in};
 
 use crate::refine::params::{is_mask, param_of};
@@ -80,7 +81,8 @@ pub(crate) fn param(line: &[u8]) -> Result<(Param, &[u8]), ScriptWhy>
 /// A quantity that is an interval, and what stands behind it.
 #[tactic(auto, unfolding(crate::specs::Refine::Grammar::interval_in))]
 pub(crate) fn interval(line: &[u8]) -> Result<(Param, &[u8]), ScriptWhy>
-    ensures { result_view (λ p. (p.0, words_between p.1.now)) result ≡ interval_in (words_between line.now) }
+    ensures interval { IfOk result (λ p. is_mask p.0 ≡ false) }
+    ensures value { result_view (λ p. (p.0, words_between p.1.now)) result ≡ interval_in (words_between line.now) }
 {
     let (param, rest) = param(line)?;
     if is_mask(param) {

@@ -1,6 +1,6 @@
 //! The reader of a request's text.
-ghost use Rattle.std.specs.Prelude.{◌≡◌, ◌+◌, ◌<◌, ◌^◌, length, IfOk};
-ghost use Rattle.dmixlab.specs.Refine.Grammar.{IsSlaveLine};
+ghost use Rattle.std.specs.Prelude.{◌≡◌, ◌+◌, ◌<◌, ◌^◌, length, All, IfOk};
+ghost use Rattle.dmixlab.specs.Refine.Grammar.{IsAsk, IsSlaveLine};
 ghost use Rattle.lab_script.specs.Lexing.{lines_from, words_between};
 ghost use Rattle.dmixlab.specs.Refine.Reading.{Reads, asked_in, asks_of, on_line, request_of};
 
@@ -25,7 +25,8 @@ fn on_line<T: Drop>(number: u32, said: Result<T, ScriptWhy>) -> Result<T, Script
 /// What each line of a text asks, whose first line has this number.
 fn read_asks(alloc: Global, number: u32, text: &[u8]) -> Result<Vec<Ask>, ScriptError>
     requires { number + length text.now < 2 ^ 32 }
-    ensures { Reads (λ asks. asks.items) result (asks_of (lines_from number text.now)) }
+    ensures exact { Reads (λ asks. asks.items) result (asks_of (lines_from number text.now)) }
+    ensures can { IfOk result (λ asks. All IsAsk asks.items) }
 {
     let mut asks = Vec::new(alloc);
     let mut number = number;
@@ -45,6 +46,7 @@ fn read_lines(alloc: Global, text: &[u8]) -> Result<Request, ScriptError>
     requires { length text.now < 2 ^ 31 }
     ensures exact { Reads (λ r. r) result (asked_in (lines_from 1 text.now)) }
     ensures slave { IfOk result (λ r. IsSlaveLine r.slave) }
+    ensures asks { IfOk result (λ r. All IsAsk r.asks) }
 {
     let Some(line) = next_line(1, text) else {
         return Err(ScriptError {
@@ -88,8 +90,9 @@ pub(crate) fn read_request(alloc: Global, text: &[u8]) -> Result<Request, Script
     // The answer is what the text asks, or its refusal, unless memory ran out.
     ensures exact { Reads (λ r. r) result (request_of text.now) }
 
-    // The slave's numbers are in their ranges.
+    // The slave's numbers are in their ranges, and each line asks what it can.
     ensures slave { IfOk result (λ r. IsSlaveLine r.slave) }
+    ensures asks { IfOk result (λ r. All IsAsk r.asks) }
 {
     if text.len() > LONGEST {
         return Err(ScriptError {
