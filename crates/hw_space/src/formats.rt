@@ -31,8 +31,16 @@ pub fn bits_of_formats(formats: &Mask) -> Interval
 pub fn formats_of_bits(bits: &Interval) -> Mask
     ensures { result ≡ formats_of_bits bits.now }
 {
-    let of_8 = if includes(bits, 8) { FORMATS_OF_8_BITS } else { 0 };
-    let of_16 = if includes(bits, 16) { FORMATS_OF_16_BITS } else { 0 };
+    let of_8 = if includes(bits, 8) {
+        FORMATS_OF_8_BITS
+    } else {
+        0
+    };
+    let of_16 = if includes(bits, 16) {
+        FORMATS_OF_16_BITS
+    } else {
+        0
+    };
     Mask { bits: of_8 + of_16 }
 }
 

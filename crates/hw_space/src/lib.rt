@@ -18,3 +18,6 @@ pub use config::Config;
 pub use param::Param;
 pub use slave::Slave;
 pub use space::Space;
+
+#[cfg(test)]
+mod tests;

@@ -30,7 +30,12 @@ pub fn take_near(ranges: &mut ParamBox, quantity: Quantity, value: u32) -> Resul
 }
 
 /// What is left of the nearer of two ends, after refinement.
-fn nearest(low: Option<ParamBox>, high: Option<ParamBox>, quantity: Quantity, value: u32) -> Option<ParamBox>
+fn nearest(
+    low: Option<ParamBox>,
+    high: Option<ParamBox>,
+    quantity: Quantity,
+    value: u32,
+) -> Option<ParamBox>
     requires low_proper { IfSome low IsProper }
     requires high_proper { IfSome high IsProper }
     ensures left { LeavesOf (nearest quantity value low high) result }

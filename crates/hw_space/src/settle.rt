@@ -17,7 +17,11 @@ use crate::rule::{RULES, Rule};
 use pcm_interval::{Empty, Interval, Mask};
 
 /// Refines the interval of one quantity. `Ok(true)` says that it changed.
-pub fn narrow_part(ranges: &mut ParamBox, quantity: Quantity, other: &Interval) -> Result<bool, Empty>
+pub fn narrow_part(
+    ranges: &mut ParamBox,
+    quantity: Quantity,
+    other: &Interval,
+) -> Result<bool, Empty>
     ensures ok { OnOk result (ranges.new ≡ narrowed ranges.old quantity other.now) }
     ensures filled { OnOk result (IsNonEmpty (refined (part ranges.old quantity) other.now)) }
     ensures unchanged { IfOk result (λ changed.

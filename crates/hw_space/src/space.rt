@@ -9,7 +9,10 @@ ghost use Rattle.hw_space.specs.Widest.{widest};
 
 use crate::choice::choose;
 use crate::config::Config;
-use crate::narrowing::{at_least, at_most, from_to, greatest_end, least_end, narrow, take_value, whole_from_to, whole_numbers};
+use crate::narrowing::{
+    at_least, at_most, from_to, greatest_end, least_end, narrow, take_value, whole_from_to,
+    whole_numbers,
+};
 use crate::near::take_near;
 use crate::param::{Param, ParamKind};
 use crate::param_box::ParamBox;

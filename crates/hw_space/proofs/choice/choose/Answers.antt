@@ -33,5 +33,5 @@ overflow_cast-result c =
 pub returns : goal.returns
 returns c =
     let chosen = c.loop-choice.invariant.so_far (Some c.loop-choice.chosen)
-        (Chooses-end (choices c.args.period) c.loop-choice.choice-index c.loop-choice.chosen c.loop-choice-test.false) in
+    (Chooses-end (choices c.args.period) c.loop-choice.choice-index c.loop-choice.chosen c.loop-choice-test.false) in
     (c.loop-choice.chosen, chosen, HasPoints-Chooses c.args.ranges.now c.loop-choice.chosen c.args.period c.requires chosen)
