@@ -1,7 +1,8 @@
 -- The widest space of a slave holds a configuration.
 use Rattle.std.proofs.Common.{◌≡◌, ℕ, ◌*◌, ◌%◌, ◌/◌, ◌≤◌, ◌<◌, List, [], ◌∷◌, All, refl, arith, sym, ◌∙◌}
 use Rattle.std.proofs.lemmas.List.Elements.{All-cons, All-nil}
-use Rattle.std.specs.Prelude.{IsTrue, false}
+use Rattle.std.specs.List.{AllByRecursion}
+use Rattle.std.proofs.lemmas.Bool.{false≢true}
 use Rattle.pcm_interval.specs.Intervals.{IsMember}
 use Rattle.hw_space.specs.declared.quantity.Quantity.{Quantity}
 use Rattle.hw_space.specs.declared.quantity.Quantity.TheVariants.{SampleBits, FrameBits, Channels, Rate, PeriodTime, PeriodSize, PeriodBytes, Periods, BufferTime, BufferSize, BufferBytes}
@@ -32,31 +33,19 @@ smallest rate = record { access = 3; format = 2; value = value_at rate }
 abbrev Meets : ℕ → Rule → Type 0
 Meets rate r = IsResult r.operation (value_at rate r.first) (value_at rate r.second) (value_at rate r.target)
 
+-- what each meets, all meet
+All-met : (P : Rule → Type 0) (rs : List Rule) → AllByRecursion P rs → All P rs
+All-met P [] h = All-nil P
+All-met P (r ∷ rs) h = All-cons P r rs h.0 (All-met P rs h.1)
+
 -- it meets each rule
 pub smallest-IsExact : (rate : ℕ) → IsExact (smallest rate)
 smallest-IsExact rate = record {
   format = omega arith;
   sample_bits = refl;
   by_rules =
-      All-cons (Meets rate) _ _ refl
-      (All-cons (Meets rate) _ _ refl
-      (All-cons (Meets rate) _ _ refl
-      (All-cons (Meets rate) _ _ refl
-      (All-cons (Meets rate) _ _ refl
-      (All-cons (Meets rate) _ _ refl
-      (All-cons (Meets rate) _ _ refl
-      (All-cons (Meets rate) _ _ refl
-      (All-cons (Meets rate) _ _ refl
-      (All-cons (Meets rate) _ _ refl
-      (All-cons (Meets rate) _ _ refl
-      (All-cons (Meets rate) _ _ refl
-      (All-cons (Meets rate) _ _ (omega arith)
-      (All-cons (Meets rate) _ _ (omega arith)
-      (All-cons (Meets rate) _ _ (omega arith)
-      (All-cons (Meets rate) _ _ (omega arith)
-      (All-cons (Meets rate) _ _ (omega arith)
-      (All-cons (Meets rate) _ _ (omega arith)
-      (All-nil _))))))))))))))))));
+      All-met (Meets rate) rules
+      (refl, (refl, (refl, (refl, (refl, (refl, (refl, (refl, (refl, (refl, (refl, (refl, (omega arith, (omega arith, (omega arith, (omega arith, (omega arith, (omega arith, tt))))))))))))))))));
 }
 
 -- a whole number between two others
@@ -64,9 +53,9 @@ whole-IsMember : (least most n : ℕ) → least ≤ n → n ≤ most → IsMembe
 whole-IsMember least most n low high = record {
   positive = omega arith;
   lower = omega arith;
-  above = λ e. absurd e;
+  above = λ e. absurd (false≢true e);
   upper = omega arith;
-  below = λ e. absurd e;
+  below = λ e. absurd (false≢true e);
   whole = λ e. omega arith;
 }
 
@@ -75,10 +64,10 @@ fraction-IsMember : (least most n d : ℕ) → 0 < d → least * d ≤ n → n �
 fraction-IsMember least most n d some low high = record {
   positive = some;
   lower = low;
-  above = λ e. absurd e;
+  above = λ e. absurd (false≢true e);
   upper = high;
-  below = λ e. absurd e;
-  whole = λ e. absurd e;
+  below = λ e. absurd (false≢true e);
+  whole = λ e. absurd (false≢true e);
 }
 
 module _ (channels rate ring : ℕ) (some : 1 ≤ channels) (slow : 4000 ≤ rate) (fast : rate ≤ 192000) (short : 64 ≤ ring) where

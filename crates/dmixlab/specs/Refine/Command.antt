@@ -19,11 +19,12 @@ request_in files name = do
   text ← fetched files name 1048577
   as_request (request_of text)
 
--- a text has the answers to what the text in a file asks
+-- a text has the answers to what the text in a file asks, and no other text has them
 pub record IsAnswerTo (files : Option Files) (name text : List ℕ) : Type 0 where
   pub request : Request
   pub read : ForSome files (λ m. request_in m name ≡ Ok request)
   pub answers : AreAnswers request text
+  pub only : (other : List ℕ) → AreAnswers request other → other ≡ text
 
 -- the answers were put, and no file changed
 pub record Answered (name : List ℕ) (before after : Option Files) (taken told : Option (List ℕ)) : Type 0 where

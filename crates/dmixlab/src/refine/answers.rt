@@ -97,12 +97,7 @@ fn push_choice(text: &mut String, choice: &Result<Config, Empty>) -> Result<(), 
 }
 
 /// Appends the answer to what a line asks of the space.
-fn answer(
-    text: &mut String,
-    space: &mut Space,
-    slave: &Slave,
-    ask: Ask,
-) -> Result<(), AllocError>
+fn answer(text: &mut String, space: &mut Space, slave: &Slave, ask: Ask) -> Result<(), AllocError>
     requires { IsAsk ask }
     ensures { OnOk result
         (IsAppended slave.now.period space.old space.new ask (string_bytes text.old) (string_bytes text.new)) }
@@ -133,11 +128,19 @@ fn answer(
     }
 }
 
-/// The answers to a request, each on a line.
+/// The answers to a request, each on a line:
+///
+/// - a line that narrows or shows a quantity is answered `ok PARAM VALUE`, with the quantity as it is
+///   afterwards, or `empty` where the narrowing leaves nothing, and then the space is as before;
+/// - `choose` is answered `choice channels C rate R period P buffer B periods Q`, or `choice empty`.
+///
+/// VALUE of an interval is `[` or, where the end is open, `(`, the least end, `,`, the greatest end, `]` or
+/// `)`, and ` integer` where the interval has whole numbers alone. VALUE of an access or a format is its
+/// members' numbers, rising, a comma between each two.
 pub(crate) fn answer_all(alloc: Global, request: &Request) -> Result<String, AllocError>
     requires slave { IsSlaveLine request.now.slave }
     requires asks { All IsAsk request.now.asks }
-    ensures answers { IfOk result (λ text. AreAnswers request.now (string_bytes text)) }
+    ensures { IfOk result (λ text. AreAnswers request.now (string_bytes text)) }
 {
     let slave = slave_of(&request.slave);
     let mut space = first_space(&slave);

@@ -9,12 +9,12 @@ loop-number-init c = Listing-none c.args.mask.now _
 pub loop-number-preserved : goal.loop-number-preserved
 loop-number-preserved c =
     elim c.if-has_member.branch [
-      then-has_member+in_ok-push_number w ↦
-        rw (w.text-is, w.first-is)
-        (Listing-member c.args.mask.now _ _ _ _ _ c.loop-number.invariant (sym w.if-has_member.true ∙ c.has_member.ensures) w.in_ok-push_number.ensures)
-    | else-has_member w ↦
-        rw (w.text-is, w.first-is)
-        (Listing-other c.args.mask.now _ _ _ _ c.loop-number.invariant (sym w.if-has_member.false ∙ c.has_member.ensures))
+      | then-has_member+in_ok-push_number w ↦
+          rw (w.text-is, w.first-is)
+          (Listing-member c.args.mask.now _ _ _ _ _ c.loop-number.invariant (sym w.if-has_member.true ∙ c.has_member.ensures) w.in_ok-push_number.ensures)
+      | else-has_member w ↦
+          rw (w.text-is, w.first-is)
+          (Listing-other c.args.mask.now _ _ _ _ c.loop-number.invariant (sym w.if-has_member.false ∙ c.has_member.ensures))
     ]
 
 pub returns : goal.returns
