@@ -4,3 +4,7 @@ mod Sessions
 mod Outputs
 mod Commands
 mod Ends
+mod Answering
+mod Configurations
+mod Members
+mod Requests

@@ -4,3 +4,4 @@ pub mod Stops
 pub mod Loaded
 pub mod Run
 pub mod Top
+pub mod Refine

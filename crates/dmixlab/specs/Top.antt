@@ -6,9 +6,10 @@ use Rattle.wav_io.specs.declared.error.WavError.{WavError}
 use Rattle.lab_shelf.specs.Files.{Files, TookPart}
 use Rattle.dmixlab.specs.declared.stop.Stop.{Stop}
 use Rattle.dmixlab.specs.declared.stop.Stop.TheVariants as stops
-use Rattle.dmixlab.specs.Words.{Form, run, help, version, form_of, help_text, version_text}
+use Rattle.dmixlab.specs.Words.{Form, run, refine, help, version, form_of, help_text, version_text}
 use Rattle.dmixlab.specs.Input.{Cause, missing, script_refused, wav_refused, input_in}
 use Rattle.dmixlab.specs.Run.{Finished, Unfinished, Untouched}
+use Rattle.dmixlab.specs.Refine.Command.{request_in, Answered, AnsweredPart}
 
 -- why a result is none
 abbrev pub cause : {X : Type 0} → Result X Cause → Option Cause
@@ -19,6 +20,7 @@ cause (Err e) = Some e
 abbrev pub cause_in : Option Form → Files → Option Cause
 cause_in None files = None
 cause_in (Some (run script out)) files = cause (input_in files script)
+cause_in (Some (refine text)) files = cause (request_in files text)
 cause_in (Some help) files = None
 cause_in (Some version) files = None
 
@@ -68,6 +70,7 @@ pub record ToldPart (text : List ℕ) (before after : Option Files) (taken told 
 abbrev pub DoneIn : Option Form → Option Files → Option Files → Option (List ℕ) → Option (List ℕ) → Type 0
 DoneIn None before after taken told = ⊥
 DoneIn (Some (run script out)) before after taken told = Finished script out before after taken told
+DoneIn (Some (refine text)) before after taken told = Answered text before after taken told
 DoneIn (Some help) before after taken told = Told help_text before after taken told
 DoneIn (Some version) before after taken told = Told version_text before after taken told
 
@@ -75,6 +78,7 @@ DoneIn (Some version) before after taken told = Told version_text before after t
 abbrev pub PartIn : Option Form → Option Files → Option Files → Option (List ℕ) → Option (List ℕ) → Type 0
 PartIn None before after taken told = ⊥
 PartIn (Some (run script out)) before after taken told = Unfinished script out before after taken told
+PartIn (Some (refine text)) before after taken told = AnsweredPart text before after taken told
 PartIn (Some help) before after taken told = ToldPart help_text before after taken told
 PartIn (Some version) before after taken told = ToldPart version_text before after taken told
 

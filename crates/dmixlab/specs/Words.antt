@@ -6,9 +6,11 @@ use Rattle.std.specs.Global.{Vec}
 use Rattle.dmixlab.specs.declared.words.Command.{Command}
 use Rattle.dmixlab.specs.declared.words.Command.TheVariants as commands
 
--- what the words ask for: a run of a script with the output's name, the help text, or the version
+-- what the words ask for: a run of a script with the output's name, answers to a text on a parameter space, the help text,
+-- or the version
 pub data Form : Type 0 where
   run : List ℕ → List ℕ → Form
+  refine : List ℕ → Form
   help : Form
   version : Form
 
@@ -24,6 +26,10 @@ names_file word = nat_lt 0 (length word) && nat_le (length word) 4096 && is_utf8
 abbrev pub run_of : List ℕ → List ℕ → Option Form
 run_of script out = if names_file script && names_file out then Some (run script out) else None
 
+-- the form of `refine TEXT`, whose second word names a file
+abbrev pub refine_of : List ℕ → Option Form
+refine_of text = if names_file text then Some (refine text) else None
+
 -- the form of a single word
 abbrev pub single_of : List ℕ → Option Form
 single_of word = if bytes_eq word (codes "--help") then Some help else (if bytes_eq word (codes "--version") then Some version else None)
@@ -32,7 +38,7 @@ single_of word = if bytes_eq word (codes "--help") then Some help else (if bytes
 abbrev pub form_of : List (List ℕ) → Option Form
 form_of [] = None
 form_of (word ∷ []) = single_of word
-form_of (word ∷ script ∷ []) = None
+form_of (word ∷ text ∷ []) = if bytes_eq word (codes "refine") then refine_of text else None
 form_of (word ∷ script ∷ out ∷ []) = if bytes_eq word (codes "run") then run_of script out else None
 form_of (word ∷ script ∷ out ∷ more ∷ rest) = None
 
@@ -40,6 +46,7 @@ form_of (word ∷ script ∷ out ∷ more ∷ rest) = None
 abbrev pub form_seen : Option Command → Option Form
 form_seen None = None
 form_seen (Some (commands.Run script out)) = Some (run script.now out.now)
+form_seen (Some (commands.Refine text)) = Some (refine text.now)
 form_seen (Some commands.Help) = Some help
 form_seen (Some commands.Version) = Some version
 
@@ -55,11 +62,15 @@ version_text = lines_of (codes "dmixlab 0.1.0" ∷ [])
 -- what `--help` puts
 abbrev pub help_text : List ℕ
 help_text = lines_of (codes "usage: dmixlab run SCRIPT OUT"
+    ∷ codes "       dmixlab refine TEXT"
     ∷ codes "       dmixlab --help"
     ∷ codes "       dmixlab --version"
     ∷ []
     ∷ codes "run reads SCRIPT and the WAV file of each of its clients, mixes what they write"
     ∷ codes "as ALSA's dmix does, stores what the card plays as OUT.wav, and prints a report."
+    ∷ []
+    ∷ codes "refine narrows the hardware parameters that a card leaves to its clients line by"
+    ∷ codes "line, as TEXT says, and prints what is left of them."
     ∷ [])
 
 -- the file that a run stores

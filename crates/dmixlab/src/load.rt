@@ -14,8 +14,8 @@ use lab_shelf::{Shelf, ShelfFault};
 use std::alloc::Global;
 use wav_io::{Wav, WavError, read_wav};
 
-/// One byte more than a script may have.
-const SCRIPT_MOST: u64 = 1_048_577;
+/// One byte more than a script, or a request on a parameter space, may have.
+pub(crate) const SCRIPT_MOST: u64 = 1_048_577;
 
 /// One byte more than a client's file may have.
 const WAV_MOST: u64 = 67_108_865;
@@ -154,7 +154,7 @@ fn read_suiting(alloc: Global, card: &CardLine, bytes: &[u8]) -> Result<Wav, Wav
 }
 
 /// The first bytes of a file, at most so many.
-fn fetch_most<S: Shelf>(
+pub(crate) fn fetch_most<S: Shelf>(
     shelf: &mut S,
     alloc: Global,
     name: &[u8],

@@ -3,6 +3,9 @@
 
 mod load;
 mod output;
+mod refine;
+#[cfg(test)]
+mod refine_tests;
 mod stop;
 #[cfg(test)]
 mod tests;

@@ -398,7 +398,7 @@ fn calls_that_are_not_done_say_why(rt: HostRuntime) -> Result<(), Fail> {
 fn help_and_version_are_put(rt: HostRuntime) -> Result<(), Fail> {
     let alloc = rt.alloc();
     let help =
-        "usage: dmixlab run SCRIPT OUT\n       dmixlab --help\n       dmixlab --version\n\nrun reads SCRIPT and the WAV file of each of its clients, mixes what they write\nas ALSA's dmix does, stores what the card plays as OUT.wav, and prints a report.\n";
+        "usage: dmixlab run SCRIPT OUT\n       dmixlab refine TEXT\n       dmixlab --help\n       dmixlab --version\n\nrun reads SCRIPT and the WAV file of each of its clients, mixes what they write\nas ALSA's dmix does, stores what the card plays as OUT.wav, and prints a report.\n\nrefine narrows the hardware parameters that a card leaves to its clients line by\nline, as TEXT says, and prints what is left of them.\n";
     for (word, text) in [("--help", help), ("--version", "dmixlab 0.1.0\n")] {
         let left = call(&rt, alloc, &[word], Vec::new(alloc), (&[], &[]))?;
         assert_eq!(rt; left.status, 0);

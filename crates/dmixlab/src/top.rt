@@ -10,6 +10,7 @@ ghost use Rattle.dmixlab.specs.Top.{cause, cause_in, ComesExactly, EndsWell, Hea
 
 use crate::load::load;
 use crate::output::{Output, prepare, put, write};
+use crate::refine::refine_command;
 use crate::stop::{Stop, status, tell};
 use crate::words::{Command, help, read_command, version};
 use crate::work::work;
@@ -23,6 +24,9 @@ use std::thread::Threads;
 ///
 /// - `run SCRIPT OUT` reads the script in the file SCRIPT and the WAV file of each of its clients,
 ///   runs it, stores what the card played as the WAV file `OUT.wav`, and puts the report on `out`.
+/// - `refine TEXT` reads in the file TEXT what is asked of the hardware parameters that a slave leaves
+///   to its clients, and puts an answer for each line on `out`. It begins as `snd_pcm_hw_params_any`
+///   does; a line narrows as `snd_pcm_hw_params_set_..` or shows as `snd_pcm_hw_params_get_..`.
 /// - `--help` and `--version`, each alone, put their text on `out`.
 ///
 /// A word for a file is 1 to 4,096 bytes of UTF-8 without a zero byte. The status is 0 where all
@@ -32,7 +36,8 @@ use std::thread::Threads;
 /// - 1: the words are none of these;
 /// - 2: the script has more than 1,048,576 bytes, or isn't a script as `lab_script::read_script`
 ///   reads it, in the short form: a card of 1 to 8 channels, clients that are all opened before the
-///   first phase, and phases of one line, a `write` or a `card play`;
+///   first phase, and phases of one line, a `write` or a `card play`; or TEXT has more bytes than
+///   that, or a line that can't stand in it;
 /// - 3: a client's file isn't a WAV file of 16-bit PCM, isn't at the card's rate, has more channels
 ///   than the card, has more than 67,108,864 bytes, or is the one with which the files of all clients
 ///   so far, each counted as often as a client names it, have more than 268,435,456 bytes;
@@ -40,15 +45,16 @@ use std::thread::Threads;
 /// - 5: `OUT.wav` can't be stored, or the text can't be put;
 /// - 6: memory ran out.
 ///
-/// The first cause in the order of the work decides: the words, the script, each client's file in
-/// the order of the clients' lines, `OUT.wav`, the text. Over a reliable shelf and a reliable `out`
+/// The first cause in the order of the work decides: the words, the script or TEXT, each client's file
+/// in the order of the clients' lines, `OUT.wav`, the text. Over a reliable shelf and a reliable `out`
 /// 4 comes only where a file isn't there, and 5 never.
 ///
 /// With status 0 `OUT.wav` holds the canonical WAV file of what the card played, at the card's rate
 /// and with its channels (a client's channel is the card's of the same number), and `out` took the
 /// whole report. With 1 to 4 no file changed and `out` took nothing. With 5 and 6 that is so, or
 /// `OUT.wav` holds the first bytes of what it was to hold, or all, or is as it was, no other file
-/// changed, and `out` took the first bytes of the text.
+/// changed, and `out` took the first bytes of the text. `refine` changes no file: with status 0 `out`
+/// took all its answers, put with one call, with 5 and 6 the first bytes of them or nothing.
 ///
 /// `gates` are the clients' gates, at least 128; a run of one thread asks none of them.
 pub fn dmixlab<R: Threads + Sync, S: Shelf, K: Sink, E: Sink, G: Gate + Send>(
@@ -126,6 +132,7 @@ fn command<S: Shelf, K: Sink>(
 {
     match read_command(words) {
         Some(Command::Run { script, out: name }) => run_command(alloc, shelf, out, script, name),
+        Some(Command::Refine { text }) => refine_command(alloc, shelf, out, text),
         Some(Command::Help) => put(out, help()),
         Some(Command::Version) => put(out, version()),
         None => Err(Stop::Words),

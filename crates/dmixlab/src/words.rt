@@ -2,7 +2,7 @@
 ghost use Rattle.std.specs.Prelude.{◌≡◌, ◌==◌};
 ghost use Rattle.std.specs.List.{list_any};
 ghost use Rattle.std.specs.Str.{is_utf8};
-ghost use Rattle.dmixlab.specs.Words.{form_of, form_seen, help_text, names_file, run_of, single_of, texts, version_text};
+ghost use Rattle.dmixlab.specs.Words.{form_of, form_seen, help_text, names_file, refine_of, run_of, single_of, texts, version_text};
 
 use std::str;
 
@@ -14,6 +14,8 @@ const LONGEST_NAME: usize = 4096;
 pub(crate) enum Command<'a> {
     /// A run of the script in a file, with the name of the output without its ending.
     Run { script: &'a [u8], out: &'a [u8] },
+    /// The answers to the text in a file on a parameter space.
+    Refine { text: &'a [u8] },
     /// The help text.
     Help,
     /// The program's version.
@@ -26,6 +28,7 @@ pub(crate) fn read_command(words: &[Vec<u8>]) -> Option<Command<'_>>
 {
     match words {
         [word] => read_single(word.as_slice()),
+        [word, text] if word.as_slice() == b"refine".as_slice() => read_refine(text.as_slice()),
         [word, script, out] if word.as_slice() == b"run".as_slice() => {
             read_run(script.as_slice(), out.as_slice())
         }
@@ -57,6 +60,17 @@ fn read_run<'a>(script: &'a [u8], out: &'a [u8]) -> Option<Command<'a>>
     }
 }
 
+/// The answers to the text in a file.
+fn read_refine(text: &[u8]) -> Option<Command<'_>>
+    ensures { form_seen result ≡ refine_of text.now }
+{
+    if is_file_name(text) {
+        Some(Command::Refine { text })
+    } else {
+        None
+    }
+}
+
 /// Whether a word can name a file: 1 to 4,096 bytes of UTF-8, none of them zero.
 fn is_file_name(word: &[u8]) -> bool
     ensures { result ≡ names_file word.now }
@@ -83,11 +97,15 @@ pub(crate) fn help() -> &'static [u8]
     ensures { result.now ≡ help_text }
 {
     b"usage: dmixlab run SCRIPT OUT
+       dmixlab refine TEXT
        dmixlab --help
        dmixlab --version
 
 run reads SCRIPT and the WAV file of each of its clients, mixes what they write
 as ALSA's dmix does, stores what the card plays as OUT.wav, and prints a report.
+
+refine narrows the hardware parameters that a card leaves to its clients line by
+line, as TEXT says, and prints what is left of them.
 "
 }
 

@@ -1,4 +1,5 @@
 pub mod Words
+pub mod LineWords
 pub mod Acts
 pub mod Steps
 pub mod Lines

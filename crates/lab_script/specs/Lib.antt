@@ -5,3 +5,4 @@ pub mod Reading
 pub mod Spelling
 pub mod First
 pub mod Written
+pub mod Lexing

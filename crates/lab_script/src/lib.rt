@@ -3,6 +3,7 @@
 
 mod error;
 mod grammar;
+mod lexing;
 mod line;
 mod name;
 mod phases;
@@ -11,10 +12,12 @@ mod script;
 mod word;
 
 pub use error::{ScriptError, ScriptWhy};
+pub use lexing::{TextLine, next_line, next_word};
 pub use line::{Actor, Op};
 pub use name::{FileName, Name};
 pub use reader::read_script;
 pub use script::{CardLine, ClientLine, Clients, Phase, Phases, Script};
+pub use word::read_number;
 
 #[cfg(test)]
 mod tests;
