@@ -1,34 +1,33 @@
 -- Splits, joins, notes and the close of a ring, said of the fields of the seats.
-use Rattle.std.proofs.Common.{◌≡◌, ◌≢◌, ◌⊎◌, ℕ, zero, suc, ◌+◌, ◌-◌, ◌<◌, ◌≤◌, ◌||◌, Bool, true, false, Option, None, Some, List, [], ◌∷◌, ◌++◌, length, get_or, max, cond, nat_lt, inl, inr, arith, subst, sym, refl, ap, ◌∙◌}
+use Rattle.std.proofs.Common.{◌≡◌, ℕ, zero, suc, ◌+◌, ◌-◌, ◌≤◌, ◌||◌, Bool, true, false, Option, None, Some, List, [], ◌∷◌, ◌++◌, get_or, max, cond, nat_lt, inl, inr, arith, subst, sym, refl, ap, ◌∙◌}
 use mathlib.Core.Option.{none, some}
 use lib.ListN.{get_elem?}
 use Rattle.std.proofs.lemmas.Bool.{false≢true}
 use Rattle.std.proofs.lemmas.Bool.Decides.{nat_tests}
 use Rattle.std.proofs.lemmas.List.{append-nil}
-use Rattle.atomic_table.specs.Table.{Allows, Joins, Me, Splits, step}
+use Rattle.atomic_table.specs.Table.{Allows, Me, Splits, step}
 use Rattle.snd_base.specs.declared.geometry.Geometry.{Geometry}
 use Rattle.snd_base.specs.declared.places.Cursor.{Cursor}
 use Rattle.snd_base.specs.Places.{IsWithin, first_frame, lap}
 use Rattle.lap_word.specs.Word.{lap_of}
 use Rattle.mix_core.specs.declared.port.Entry.{Entry}
 use Rattle.mix_core.specs.LegalLaws.{first_frame-le}
-use Rattle.mix_core.specs.History.{AreExact, AreInOrder, IsLegal, Row, laid_of, taken_of}
+use Rattle.mix_core.specs.History.{AreExact, AreInOrder, IsLegal, Row, laid_of}
 use Rattle.mix_core.specs.Sound.{IsNow}
-use Rattle.sum_table.specs.declared.join.Closed.{Closed}
 use Rattle.sum_table.specs.declared.mix.MixSeat.{MixSeat}
 use Rattle.sum_table.specs.declared.note.SeatNote.{SeatNote}
 use Rattle.sum_table.specs.declared.player.PlayerSeat.{PlayerSeat}
 use Rattle.sum_table.specs.declared.view.Key.{Key}
 use Rattle.sum_table.specs.declared.view.Track.{Track}
 use Rattle.sum_table.specs.declared.view.View.{View}
-use Rattle.sum_table.specs.Cuts.{both_of, either_track, later_note, later_notes, later_of, part_of, with_places, without}
+use Rattle.sum_table.specs.Cuts.{both_of, either_track, later_note, later_notes, later_of, part_of, without}
 use Rattle.sum_table.specs.Exact.{BeginsWith, Exact, IsPublished, is_tracked, next_at, position_at, start_of, the_track}
-use Rattle.sum_table.specs.Joins.{HasClosed, HasHeard, HasPlayerNote, OneRing, note_key, note_ring, note_view}
+use Rattle.sum_table.specs.Joins.{HasClosed, HasHeard, HasPlayerNote, note_view}
 use Rattle.sum_table.specs.Known.{IsKnown, IsNoted, IsPlayer, greater, has_all, last_frame}
 use Rattle.sum_table.specs.Laid.{SameSums, count}
-use Rattle.sum_table.specs.Players.{player_key, player_ring, player_view, track_of}
-use Rattle.sum_table.specs.Seats.{BeginsWith-trans, key_of, ring_of, view_of}
-use Rattle.sum_table.specs.Steps.{IsStep, IsWord, Knows, Makes, learned, with_history}
+use Rattle.sum_table.specs.Players.{player_view, track_of}
+use Rattle.sum_table.specs.Seats.{view_of}
+use Rattle.sum_table.specs.Steps.{IsStep, Knows, Makes, learned, with_history}
 use Rattle.sum_table.specs.Words.{index_of, rank}
 use Rattle.sum_table.proofs.Cuts.{joins, later_notes-length, later_notes-one, learns, splits}
 use Rattle.sum_table.proofs.Playing.{has_all-more, has_each}

@@ -1,12 +1,12 @@
 -- What splits, joins, notes, meetings and the close of a ring do.
-use Rattle.std.specs.Prelude.{◌≡◌, ℕ, ◌+◌, ◌-◌, ◌<◌, ◌≤◌, ◌||◌, Bool, true, false, Option, None, Some, List, [], ◌∷◌, ◌++◌, max}
+use Rattle.std.specs.Prelude.{◌≡◌, ℕ, ◌+◌, ◌≤◌, ◌||◌, true, None, Some, List, [], max}
 use Rattle.std.specs.List.{slice_index_or}
 use mathlib.Core.Option.{some}
 use lib.ListN.{get_elem?}
 use Rattle.atomic_table.specs.Seated.{TableId}
 use Rattle.snd_base.specs.Places.{lap}
 use Rattle.lap_word.specs.Word.{lap_of}
-use Rattle.mix_core.specs.History.{AreExact, AreInOrder, IsLegal, Row, laid_of, position_of, taken_of}
+use Rattle.mix_core.specs.History.{AreExact, AreInOrder, IsLegal, Row, laid_of, taken_of}
 use Rattle.mix_core.specs.Sound.{IsNow}
 use Rattle.sum_table.specs.declared.join.Closed.{Closed}
 use Rattle.sum_table.specs.declared.mix.MixSeat.{MixSeat}
