@@ -1,29 +1,26 @@
 -- Splits and joins keep the rule, and what the rule tells a seat of its view.
-use Rattle.std.proofs.Common.{◌≡◌, ◌≢◌, ◌⊎◌, ℕ, zero, suc, ◌+◌, ◌-◌, ◌*◌, ◌/◌, ◌<◌, ◌≤◌, ◌||◌, Bool, true, false, Option, None, Some, List, [], ◌∷◌, ◌++◌, map, length, get_or, set, max, ℤ, pos, ◌+ℤ◌, inl, inr, arith, subst, sym, refl, ap, ◌∙◌, nat_lt, cond}
+use Rattle.std.proofs.Common.{◌≡◌, ◌≢◌, ◌⊎◌, ℕ, zero, suc, ◌+◌, ◌≤◌, ◌||◌, Bool, true, false, Option, None, Some, List, [], ◌∷◌, ◌++◌, map, length, get_or, set, ℤ, pos, inl, inr, arith, subst, sym, refl, ap, ◌∙◌, nat_lt, cond}
 use mathlib.Core.Option.{some, none, some-ne-none}
 use lib.ListN.{get_elem?}
 use Rattle.std.proofs.lemmas.Bool.{false≢true}
 use Rattle.std.proofs.lemmas.Bool.Decides.{nat_tests}
 use Rattle.std.proofs.lemmas.Int.{ints}
 use Rattle.std.proofs.lemmas.List.{length-append, length-set}
-use Rattle.atomic_table.specs.Table.{Allows, Joins, Me, State, Splits, keeps, step}
-use Rattle.atomic_table.proofs.Lists.{at_set, set_here}
+use Rattle.atomic_table.specs.Table.{Allows, Joins, Me, Splits, keeps, step}
+use Rattle.atomic_table.proofs.Lists.{at_set}
 use Rattle.snd_base.specs.declared.geometry.Geometry.{Geometry}
 use Rattle.snd_base.specs.declared.places.Cursor.{Cursor}
-use Rattle.snd_base.specs.Places.{first_frame, first_free, lap}
-use Rattle.lap_word.specs.Clamp.{clamp_of}
+use Rattle.snd_base.specs.Places.{first_free, lap}
 use Rattle.lap_word.specs.Word.{StandsFor-fields, lap_of}
-use Rattle.mix_core.specs.declared.event.Taken.{Taken}
 use Rattle.mix_core.specs.declared.port.Entry.{Entry}
 use Rattle.mix_core.specs.History.{Row, laid_of}
 use Rattle.mix_core.specs.HistoryLaws.{total-append}
 use Rattle.mix_core.specs.Laid.{at, cursor_of, sum_of_samples, total}
-use Rattle.mix_core.specs.Sound.{IsNow}
 use Rattle.sum_table.specs.declared.view.Key.{Key}
 use Rattle.sum_table.specs.declared.view.Track.{Track}
 use Rattle.sum_table.specs.declared.view.View.{View}
 use Rattle.sum_table.specs.Cuts.{both_of, either_track, later_note, later_notes, later_of, part_of, spent_view, with_places}
-use Rattle.sum_table.specs.Exact.{AreViews, BeginsWith, Exact, IsHistory, IsLaid, IsRing, IsView, next_at, position_at, start_of}
+use Rattle.sum_table.specs.Exact.{Exact, IsHistory, IsView, start_of}
 use Rattle.sum_table.specs.Laid.{SameSums, all_laid, by_member, count, own, places_of}
 use Rattle.sum_table.specs.Steps.{Knows, learned, with_history}
 use Rattle.sum_table.specs.Words.{NotPast, index_of, rank}

@@ -1,34 +1,33 @@
 -- Splits, joins, notes and the close of a ring, said of the fields of the seats.
-use Rattle.std.proofs.Common.{◌≡◌, ◌≢◌, ◌⊎◌, ℕ, zero, suc, ◌+◌, ◌-◌, ◌<◌, ◌≤◌, ◌||◌, Bool, true, false, Option, None, Some, List, [], ◌∷◌, ◌++◌, length, get_or, max, cond, nat_lt, inl, inr, arith, subst, sym, refl, ap, ◌∙◌}
+use Rattle.std.proofs.Common.{◌≡◌, ℕ, zero, suc, ◌+◌, ◌-◌, ◌≤◌, ◌||◌, Bool, true, false, Option, None, Some, List, [], ◌∷◌, ◌++◌, get_or, max, cond, nat_lt, inl, inr, arith, subst, sym, refl, ap, ◌∙◌}
 use mathlib.Core.Option.{none, some}
 use lib.ListN.{get_elem?}
 use Rattle.std.proofs.lemmas.Bool.{false≢true}
 use Rattle.std.proofs.lemmas.Bool.Decides.{nat_tests}
 use Rattle.std.proofs.lemmas.List.{append-nil}
-use Rattle.atomic_table.specs.Table.{Allows, Joins, Me, Splits, step}
+use Rattle.atomic_table.specs.Table.{Allows, Me, Splits, step}
 use Rattle.snd_base.specs.declared.geometry.Geometry.{Geometry}
 use Rattle.snd_base.specs.declared.places.Cursor.{Cursor}
 use Rattle.snd_base.specs.Places.{IsWithin, first_frame, lap}
 use Rattle.lap_word.specs.Word.{lap_of}
 use Rattle.mix_core.specs.declared.port.Entry.{Entry}
 use Rattle.mix_core.specs.LegalLaws.{first_frame-le}
-use Rattle.mix_core.specs.History.{AreExact, AreInOrder, IsLegal, Row, laid_of, taken_of}
+use Rattle.mix_core.specs.History.{AreExact, AreInOrder, IsLegal, Row, laid_of}
 use Rattle.mix_core.specs.Sound.{IsNow}
-use Rattle.sum_table.specs.declared.join.Closed.{Closed}
 use Rattle.sum_table.specs.declared.mix.MixSeat.{MixSeat}
 use Rattle.sum_table.specs.declared.note.SeatNote.{SeatNote}
 use Rattle.sum_table.specs.declared.player.PlayerSeat.{PlayerSeat}
 use Rattle.sum_table.specs.declared.view.Key.{Key}
 use Rattle.sum_table.specs.declared.view.Track.{Track}
 use Rattle.sum_table.specs.declared.view.View.{View}
-use Rattle.sum_table.specs.Cuts.{both_of, either_track, later_note, later_notes, later_of, part_of, with_places, without}
+use Rattle.sum_table.specs.Cuts.{is_before, both_of, either_track, later_note, later_notes, later_of, part_of, without}
 use Rattle.sum_table.specs.Exact.{BeginsWith, Exact, IsPublished, is_tracked, next_at, position_at, start_of, the_track}
-use Rattle.sum_table.specs.Joins.{HasClosed, HasHeard, HasPlayerNote, OneRing, note_key, note_ring, note_view}
+use Rattle.sum_table.specs.Joins.{HasClosed, HasHeard, HasJoined, HasMet, HasPlayerNote, note_view}
 use Rattle.sum_table.specs.Known.{IsKnown, IsNoted, IsPlayer, greater, has_all, last_frame}
 use Rattle.sum_table.specs.Laid.{SameSums, count}
-use Rattle.sum_table.specs.Players.{player_key, player_ring, player_view, track_of}
-use Rattle.sum_table.specs.Seats.{BeginsWith-trans, key_of, ring_of, view_of}
-use Rattle.sum_table.specs.Steps.{IsStep, IsWord, Knows, Makes, learned, with_history}
+use Rattle.sum_table.specs.Players.{player_view, track_of}
+use Rattle.sum_table.specs.Seats.{view_of}
+use Rattle.sum_table.specs.Steps.{IsStep, Knows, Makes, learned, with_history}
 use Rattle.sum_table.specs.Words.{index_of, rank}
 use Rattle.sum_table.proofs.Cuts.{joins, later_notes-length, later_notes-one, learns, splits}
 use Rattle.sum_table.proofs.Playing.{has_all-more, has_each}
@@ -305,3 +304,34 @@ has_player_note p q n ring key same next position gone note_at note_of view seen
   published = λ i x there. subst (λ (v : View). (j : ℕ) × (get_elem? v.positions j ≡ some x)) (sym view) (has_each (player_view p).positions (track_of p).published i x p.known.saw_all there);
   gone = ap (λ (v : View). v.seen_gone) view ∙ (p.known.same_gone ∙ p.known.gone_is);
 }
+
+-- no cursor is before the start
+stays_later : (g : Geometry) (a : Cursor) → first_frame g ≤ a.frame → later_of a (start_of g) ≡ a
+stays_later g a least =
+    let test : is_before a (start_of g) ≡ false = grind (arith, nat_tests, least) in
+    rw test refl
+
+greater_none : (o : Option ℕ) → greater o None ≡ o
+greater_none None = refl
+greater_none (Some n) = refl
+
+-- a mix seat that was joined with a note's
+pub has_met : (s t : MixSeat) (n : SeatNote) → n.seat.key ≡ s.key → HasJoined s t n.seat → HasMet s t n
+has_met s t n one joined =
+    let start : n.seat.cursor ≡ start_of s.key.geometry = n.starts ∙ ap (λ (k : Key). start_of k.geometry) one in
+    let no_last : n.seat.last ≡ None = sym n.seat.known.same_last ∙ ap last_frame n.laid_nothing in
+    record {
+      ring = joined.ring;
+      key = joined.key;
+      member = joined.member;
+      view = joined.view;
+      places = omega (arith, joined.places, n.no_places);
+      laid = ap (λ (v : View). v.laid) joined.view ∙ (ap (λ es. (view_of s).laid ++ es) n.laid_nothing ∙ append-nil (view_of s).laid);
+      cursor = joined.cursor ∙ (ap (later_of s.cursor) start ∙ stays_later s.key.geometry s.cursor s.known.cursor_within.least);
+      last = joined.last ∙ (ap (greater s.last) no_last ∙ greater_none s.last);
+      seen = joined.seen;
+      gone = ap (λ (v : View). v.seen_gone) joined.view;
+      history = joined.history;
+      note_history = joined.other_history;
+      event = joined.event;
+    }

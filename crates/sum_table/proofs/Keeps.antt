@@ -1,24 +1,22 @@
 -- Loads and the exchange keep the rule, and tell what they tell.
-use Rattle.std.proofs.Common.{◌≡◌, ◌≢◌, ◌⊎◌, ℕ, ◌+◌, ◌*◌, ◌/◌, ◌<◌, ◌≤◌, Bool, true, false, Option, None, Some, List, [], ◌∷◌, ◌++◌, map, length, get_or, set, ℤ, pos, negsuc, ◌+ℤ◌, ◌≤ℤ◌, inl, inr, arith, subst, sym, refl, ap, ◌∙◌, nat_lt, ◌==◌}
+use Rattle.std.proofs.Common.{◌≡◌, ℕ, ◌+◌, ◌<◌, ◌≤◌, true, false, List, [], ◌∷◌, ◌++◌, length, get_or, set, ℤ, pos, negsuc, ◌+ℤ◌, ◌≤ℤ◌, inl, inr, arith, subst, sym, refl, ap, ◌∙◌, nat_lt, ◌==◌}
 use mathlib.Core.Option.{some, none}
 use lib.ListN.{get_elem?}
 use prog.Atomic.{either}
 use Rattle.std.proofs.lemmas.Bool.Decides.{nat_tests}
-use Rattle.std.proofs.lemmas.Int.{ints}
 use Rattle.std.proofs.lemmas.List.{append-nil}
 use Rattle.atomic_table.specs.Table.{Act, Allows, Me, State, keeps, step}
 use Rattle.atomic_table.proofs.Lists.{at_snoc, exchanged as by_exchange}
 use Rattle.snd_base.specs.declared.geometry.Geometry.{Geometry}
 use Rattle.snd_base.specs.declared.places.Cursor.{Cursor}
 use Rattle.snd_base.specs.PlaceLaws.{first_free-behind_grows, first_free-behind_low}
-use Rattle.snd_base.specs.Places.{IsFrom, behind, end_frame, first_frame, first_free, lap}
-use Rattle.lap_word.specs.Position.{word_of}
+use Rattle.snd_base.specs.Places.{IsFrom, first_frame, first_free, lap}
 use Rattle.lap_word.specs.Word.{StandsFor, StandsFor-fields, count_of, lap_of, sum_of}
 use Rattle.mix_core.specs.declared.port.Entry.{Entry}
 use Rattle.mix_core.specs.declared.event.Event.TheVariants.{Add}
 use Rattle.mix_core.specs.declared.event.Reply.TheVariants.{Late}
 use Rattle.mix_core.specs.declared.event.Taken.{Taken}
-use Rattle.mix_core.specs.History.{IsInside, IsReply, Row, is_taken, laid_of, next_of, taken_of}
+use Rattle.mix_core.specs.History.{IsReply, Row, is_taken, laid_of, next_of}
 use Rattle.mix_core.specs.Laid.{cursor_of, total}
 use Rattle.mix_core.specs.LegalLaws.{cursor_of-least, lap-taken}
 use Rattle.mix_core.specs.Sound.{IsNow}
@@ -27,13 +25,13 @@ use Rattle.sum_table.specs.declared.view.Track.{Track}
 use Rattle.sum_table.specs.declared.view.View.{View}
 use Rattle.sum_table.specs.Exact.{AreViews, BeginsWith, Exact, IsHistory, IsLaid, IsRing, IsView, next_at, position_at}
 use Rattle.sum_table.specs.Laid.{all_laid, count}
-use Rattle.sum_table.specs.Steps.{Finds, IsLateAt, IsStep, Lays, Makes, MakesLook, Notes, exchanged, in_row, located, looked, with_entry, with_note, with_position}
-use Rattle.sum_table.specs.Words.{NotPast, index_of, rank, words_of}
-use Rattle.sum_table.proofs.Lists.{IsPublished-last, at-more_elsewhere, at-more_here, at_place, cases_eq, noted_set, place_cases, set_read}
+use Rattle.sum_table.specs.Steps.{Finds, IsLateAt, IsStep, MakesLook, exchanged, in_row, located, looked, with_entry, with_note, with_position}
+use Rattle.sum_table.specs.Words.{index_of, rank}
+use Rattle.sum_table.proofs.Lists.{IsPublished-last, at-more_elsewhere, at-more_here, at_place, noted_set, place_cases, set_read}
 use Rattle.sum_table.proofs.Places.{index_of-lt}
 use Rattle.sum_table.proofs.Rings.{IsRing-put, IsRing-same, not_taken}
-use Rattle.sum_table.proofs.Rows.{BeginsWith-more, BeginsWith-same, history_put, history_same, inside, step_of, within}
-use Rattle.sum_table.proofs.Sums.{SameSums-put, SameSums-set, count-append}
+use Rattle.sum_table.proofs.Rows.{BeginsWith-more, BeginsWith-same, history_put, history_same, inside, step_of}
+use Rattle.sum_table.proofs.Sums.{SameSums-put, SameSums-set}
 use Rattle.sum_table.proofs.Views.{ByLap, Later, Later-same, NotPast-set, by_lap, finds, none_from, rank-of, view_later, views_set}
 
 -- what the rule says of some words and views, with the player's track and the history

@@ -1,6 +1,7 @@
 pub mod Cuts
 pub mod Joining
 pub mod Keeps
+pub mod Lates
 pub mod Lists
 pub mod Opens
 pub mod Places

@@ -2,9 +2,9 @@
 use Rattle.std.proofs.Common.{map, ◌≡◌, ◌≢◌, ℕ, zero, suc, length, get_or, set, ◌≤◌, true, false, ◌==◌, ◌&&◌, ◌||◌, List, [], ◌∷◌, ◌++◌, ◌+ℤ◌, refl, sym, subst, ap, ◌⊎◌, inl, inr, arith, Option, None, Some}
 use mathlib.Core.Option.{some, some-injective, some-ne-none}
 use lib.ListN.{get_elem?}
-use Rattle.std.specs.List.{filter, filter_map}
+use Rattle.std.specs.List.{filter}
 use Rattle.std.proofs.lemmas.List.{append-nil, map-append}
-use Rattle.std.proofs.lemmas.List.Elements.{filter-append, filter_map-append}
+use Rattle.std.proofs.lemmas.List.Elements.{filter-append}
 use Rattle.std.proofs.lemmas.List.Folds.{list_any-append}
 use Rattle.std.proofs.lemmas.List.Sums.{fold_push}
 use Rattle.std.proofs.lemmas.Bool.{cases_lt}
@@ -24,13 +24,6 @@ cases_eq a b = elim (cases_lt a b) [
   | inl below ↦ inr (λ e. omega arith)
   | inr not_below ↦ elim (cases_lt b a) [ inl above ↦ inr (λ e. omega arith) | inr not_above ↦ inl (omega arith) ]
 ]
-
--- one more item that gives something, and one that gives nothing
-pub filter_map-some : {X Y : Type 0} (h : X → Option Y) (xs : List X) (x : X) (y : Y) → h x ≡ Some y → filter_map h (xs ++ x ∷ []) ≡ filter_map h xs ++ y ∷ []
-filter_map-some h xs x y e = rw (filter_map-append h xs (x ∷ []), e) refl
-
-pub filter_map-none : {X Y : Type 0} (h : X → Option Y) (xs : List X) (x : X) → h x ≡ None → filter_map h (xs ++ x ∷ []) ≡ filter_map h xs
-filter_map-none h xs x e = rw (filter_map-append h xs (x ∷ []), e) (append-nil _)
 
 -- one more entry at its own frame and channel, and at another one
 pub at-more_here : (es : List Entry) (e : Entry) → at (es ++ e ∷ []) e.frame e.channel ≡ at es e.frame e.channel ++ e.sample ∷ []

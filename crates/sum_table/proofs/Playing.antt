@@ -1,5 +1,5 @@
 -- What the player's steps may do and do, said of the fields of its seat.
-use Rattle.std.proofs.Common.{◌≡◌, ◌≢◌, ℕ, zero, suc, ◌==◌, ◌&&◌, ◌||◌, ◌+◌, ◌*◌, ◌/◌, ◌<◌, ◌≤◌, Bool, true, false, Option, None, Some, List, [], ◌∷◌, ◌++◌, length, inl, inr, ℤ, pos, arith, subst, sym, refl, ap, ◌∙◌}
+use Rattle.std.proofs.Common.{◌≡◌, ◌≢◌, ℕ, zero, suc, ◌==◌, ◌&&◌, ◌||◌, ◌+◌, ◌*◌, ◌<◌, ◌≤◌, Bool, true, false, Some, List, [], ◌∷◌, ◌++◌, inl, inr, ℤ, pos, arith, subst, sym, refl, ap, ◌∙◌}
 use mathlib.Core.Option.{none, some, some-injective, some-ne-none}
 use lib.ListN.{get_elem?}
 use Rattle.std.specs.List.{list_any}
@@ -10,12 +10,12 @@ use Rattle.std.proofs.lemmas.Bool.Decides.{nat_tests}
 use Rattle.atomic_table.specs.Table.{Allows, Me, step}
 use Rattle.snd_base.specs.declared.geometry.Geometry.{Geometry}
 use Rattle.snd_base.specs.declared.places.Cursor.{Cursor}
-use Rattle.snd_base.specs.Places.{IsWithin, behind, end_frame, first_frame, lap}
+use Rattle.snd_base.specs.Places.{behind, end_frame, first_frame, lap}
 use Rattle.lap_word.specs.Clamp.{clamp_of}
 use Rattle.lap_word.specs.Position.{word_of}
 use Rattle.lap_word.specs.Word.{StandsFor, sum_of}
-use Rattle.mix_core.specs.declared.event.Event.TheVariants.{Take, Publish}
-use Rattle.mix_core.specs.declared.event.Reply.TheVariants.{Took, Published}
+use Rattle.mix_core.specs.declared.event.Event.TheVariants.{Take}
+use Rattle.mix_core.specs.declared.event.Reply.TheVariants.{Took}
 use Rattle.mix_core.specs.declared.event.Taken.{Taken}
 use Rattle.mix_core.specs.declared.port.Entry.{Entry}
 use Rattle.mix_core.specs.History.{Row}
@@ -24,10 +24,10 @@ use Rattle.sum_table.specs.declared.player.PlayerSeat.{PlayerSeat}
 use Rattle.sum_table.specs.declared.view.Key.{Key}
 use Rattle.sum_table.specs.declared.view.Track.{Track}
 use Rattle.sum_table.specs.declared.view.View.{View}
-use Rattle.sum_table.specs.Exact.{Exact, is_tracked, next_at, position_at, the_track}
-use Rattle.sum_table.specs.Known.{IsNoted, IsPlayer, has_all}
-use Rattle.sum_table.specs.Players.{HasPublished, HasTaken, HasUnplugged, player_view, track_of}
-use Rattle.sum_table.specs.Steps.{Makes, published, taken, taking, track_gone, track_published, track_taken, unplugged, with_gone, with_published, with_taken}
+use Rattle.sum_table.specs.Exact.{Exact, next_at, position_at, the_track}
+use Rattle.sum_table.specs.Known.{IsPlayer, has_all}
+use Rattle.sum_table.specs.Players.{HasTaken, player_view, track_of}
+use Rattle.sum_table.specs.Steps.{Makes, published, taken, taking, track_taken, unplugged, with_gone, with_published, with_taken}
 use Rattle.sum_table.specs.Words.{index_of}
 use Rattle.sum_table.proofs.Lists.{cases_eq, last_of-more}
 use Rattle.sum_table.proofs.Rings.{next_at-taken, suc-le-end_frame}

@@ -1,5 +1,5 @@
 -- The words, the entries and the player's track agree after each kind of step.
-use Rattle.std.proofs.Common.{◌≡◌, ◌≢◌, ℕ, ◌+◌, ◌-◌, ◌*◌, ◌/◌, ◌<◌, ◌≤◌, Bool, true, false, ◌==◌, ◌&&◌, ◌||◌, List, [], ◌∷◌, ◌++◌, length, get_or, set, ℤ, pos, negsuc, ◌+ℤ◌, ◌≤ℤ◌, inl, inr, arith, subst, sym, refl, ap, ◌∙◌, nat_lt}
+use Rattle.std.proofs.Common.{◌≡◌, ℕ, ◌+◌, ◌*◌, ◌<◌, ◌≤◌, true, false, ◌==◌, ◌&&◌, ◌||◌, List, [], ◌∷◌, ◌++◌, length, get_or, set, ℤ, pos, negsuc, ◌+ℤ◌, ◌≤ℤ◌, inl, inr, arith, subst, sym, refl, ap, ◌∙◌, nat_lt}
 use Rattle.std.proofs.Math.Bool.{or_comm}
 use Rattle.std.proofs.Math.Nat.{add-div_right, div-lt_iff_lt-mul}
 use Rattle.std.proofs.Math.Seq.{get_or-append_seam}
@@ -24,9 +24,9 @@ use Rattle.sum_table.specs.declared.view.Track.{Track}
 use Rattle.sum_table.specs.Exact.{IsRing, next_at, position_at}
 use Rattle.sum_table.specs.Laid.{SameSums, count}
 use Rattle.sum_table.specs.Steps.{taking, track_gone, track_published, track_taken}
-use Rattle.sum_table.specs.Words.{index_of, words_of}
+use Rattle.sum_table.specs.Words.{index_of}
 use Rattle.sum_table.proofs.Lists.{Rising-more, at-more_elsewhere, at-more_here, at_place, cases_eq, is_taken-more, last_of-more, place_cases, total-more_elsewhere, total-more_here}
-use Rattle.sum_table.proofs.Places.{IsNow-next, next_word-channel, words-taken, words-written}
+use Rattle.sum_table.proofs.Places.{next_word-channel, words-taken, words-written}
 
 -- the words, the track, and other entries of the same sums
 pub IsRing-same : (g : Geometry) (words : List ℕ) (xs ys : List Entry) (t : Track) → SameSums xs ys → IsRing g words xs t → IsRing g words ys t

@@ -1,33 +1,31 @@
 -- The ring's history: how it goes on at each kind of step, and whose step that is.
-use Rattle.std.proofs.Common.{◌≡◌, ◌≢◌, ℕ, zero, suc, ◌+◌, ◌<◌, ◌≤◌, true, false, ◌==◌, List, [], ◌∷◌, ◌++◌, map, length, set, ℤ, refl, sym, subst, ap, ◌∙◌, inl, inr, arith, append_assoc, nat_lt}
-use mathlib.Core.Option.{some, some-injective, some-ne-none}
+use Rattle.std.proofs.Common.{◌≡◌, ◌≢◌, ℕ, zero, suc, ◌+◌, ◌<◌, ◌≤◌, true, false, ◌==◌, List, [], ◌∷◌, ◌++◌, map, length, set, ℤ, refl, sym, subst, ap, ◌∙◌, inl, inr, arith, append_assoc}
+use mathlib.Core.Option.{some, some-ne-none}
 use lib.ListN.{get_elem?}
-use Rattle.std.specs.List.{filter}
 use Rattle.std.proofs.lemmas.Bool.Decides.{nat_tests}
-use Rattle.std.proofs.lemmas.List.{append-nil, length-append, length-set, map-append}
+use Rattle.std.proofs.lemmas.List.{append-nil, length-set, map-append}
 use Rattle.std.proofs.lemmas.List.Elements.{filter-append}
 use Rattle.std.proofs.lemmas.List.Sums.{fold_push}
 use Rattle.atomic_table.proofs.Lists.{at_set, set_here}
 use Rattle.snd_base.specs.declared.geometry.Geometry.{Geometry}
 use Rattle.snd_base.specs.declared.places.Cursor.{Cursor}
 use Rattle.snd_base.specs.Places.{IsFrom, behind, first_frame, first_free, lap}
-use Rattle.snd_base.specs.PlaceLaws.{first_free-behind_grows}
 use Rattle.lap_word.specs.Clamp.{clamp_of}
 use Rattle.mix_core.specs.declared.port.Entry.{Entry}
 use Rattle.mix_core.specs.declared.event.Taken.{Taken}
-use Rattle.mix_core.specs.declared.event.Event.TheVariants.{Add, Take, Publish}
-use Rattle.mix_core.specs.declared.event.Reply.TheVariants.{Late, Took, Published}
-use Rattle.mix_core.specs.History.{IsInside, IsLegal, IsReply, Row, is_taken, laid_of, next_of, position_after, position_of, taken_of}
+use Rattle.mix_core.specs.declared.event.Event.TheVariants.{Take, Publish}
+use Rattle.mix_core.specs.declared.event.Reply.TheVariants.{Took, Published}
+use Rattle.mix_core.specs.History.{IsInside, IsLegal, Row, is_taken, laid_of, next_of, position_after}
 use Rattle.mix_core.specs.HistoryLaws.{laid_of-append_rows, laid_of-append_published, laid_of-append_took, taken_of-append_published, taken_of-append_rows, taken_of-append_took}
 use Rattle.mix_core.specs.Laid.{cursor_of, total}
-use Rattle.mix_core.specs.LegalLaws.{IsLegal-more, cursor_of-least, lap-taken}
+use Rattle.mix_core.specs.LegalLaws.{IsLegal-more}
 use Rattle.sum_table.specs.declared.view.Track.{Track}
 use Rattle.sum_table.specs.declared.view.View.{View}
-use Rattle.sum_table.specs.Exact.{BeginsWith, IsHistory, IsRing, next_at, position_at, start_of}
+use Rattle.sum_table.specs.Exact.{BeginsWith, IsHistory, next_at, position_at}
 use Rattle.sum_table.specs.Laid.{SameSums, all_laid, by_member, own}
 use Rattle.sum_table.specs.Steps.{IsStep, in_row, taking, track_gone, track_published, track_taken}
-use Rattle.sum_table.proofs.Lists.{cases_eq, cursor_of-more_other, cursor_of-more_own, last_of-more}
-use Rattle.sum_table.proofs.Sums.{SameSums-append, SameSums-append_right, SameSums-by_member, SameSums-joined, SameSums-more, SameSums-put, SameSums-set}
+use Rattle.sum_table.proofs.Lists.{cursor_of-more_other, cursor_of-more_own, last_of-more}
+use Rattle.sum_table.proofs.Sums.{SameSums-append, SameSums-append_right, SameSums-by_member, SameSums-joined, SameSums-put, SameSums-set}
 
 pub within : {A : Type 0} (l : List A) (i : ℕ) (a : A) → get_elem? l i ≡ some a → i < length l
 within [] i a here = absurd (some-ne-none a (sym here))

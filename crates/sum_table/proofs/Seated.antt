@@ -1,30 +1,28 @@
 -- What a seat's steps may do and do, said of the seat's fields.
-use Rattle.std.proofs.Common.{◌≡◌, ◌≢◌, ◌⊎◌, ℕ, zero, suc, ◌+◌, ◌*◌, ◌/◌, ◌<◌, ◌≤◌, ◌==◌, Bool, true, false, Option, None, Some, List, [], ◌∷◌, ◌++◌, length, get_or, set, ℤ, pos, negsuc, ◌+ℤ◌, ◌≤ℤ◌, inl, inr, arith, subst, sym, refl, ap, ◌∙◌, to_z, of_z}
+use Rattle.std.proofs.Common.{◌≡◌, ◌≢◌, ℕ, ◌+◌, ◌<◌, ◌≤◌, ◌==◌, Bool, false, Option, None, Some, List, [], ◌∷◌, ◌++◌, length, get_or, set, ℤ, pos, negsuc, ◌+ℤ◌, ◌≤ℤ◌, inl, inr, arith, subst, sym, refl, ap, ◌∙◌, to_z, of_z}
 use mathlib.Core.Option.{some, none}
 use prog.Atomic.{either}
 use Rattle.std.proofs.lemmas.Int.{ints, to_z-of_z}
 use mir.Syntax.{w16}
 use mir.Val.{SFits}
-use Rattle.std.proofs.lemmas.List.{append-nil, get_or-set_same, length-set}
+use Rattle.std.proofs.lemmas.List.{get_or-set_same, length-set}
 use Rattle.std.proofs.Common.{append_assoc}
 use Rattle.atomic_table.specs.Table.{Allows, Me, step}
-use Rattle.atomic_table.specs.Seated.{TableId}
 use Rattle.snd_base.specs.declared.geometry.Geometry.{Geometry}
 use Rattle.snd_base.specs.declared.places.Cursor.{Cursor}
-use Rattle.snd_base.specs.Places.{IsFrom, IsWithin, behind, end_frame, first_frame, first_free, lap}
-use Rattle.lap_word.specs.Position.{gone_in, position_in, word_of, word_of-fields}
+use Rattle.snd_base.specs.Places.{IsFrom, behind, end_frame, first_frame, first_free, lap}
+use Rattle.lap_word.specs.Position.{position_in, word_of-fields}
 use Rattle.lap_word.specs.Word.{StandsFor, count_of, lap_of, sum_of}
 use Rattle.mix_core.specs.declared.port.Entry.{Entry}
-use Rattle.mix_core.specs.declared.port.Position.{Position}
 use Rattle.mix_core.specs.History.{Row}
 use Rattle.sum_table.specs.declared.mix.MixSeat.{MixSeat}
 use Rattle.sum_table.specs.declared.view.Key.{Key}
 use Rattle.sum_table.specs.declared.view.View.{View}
 use Rattle.sum_table.specs.Exact.{BeginsWith, Exact}
 use Rattle.sum_table.specs.Known.{IsKnown, IsNoted, greater, last_frame}
-use Rattle.sum_table.specs.Seats.{Goes, HasLaid, HasLocated, HasLost, HasNoted, view_of}
+use Rattle.sum_table.specs.Seats.{HasLaid, HasLost, HasNoted, view_of}
 use Rattle.sum_table.specs.Steps.{Finds, IsStep, IsWord, Lays, Makes, MakesLook, Notes, exchanged, in_row, located, looked, with_entry, with_note, with_position}
-use Rattle.sum_table.specs.Words.{NotPast, index_of, rank, words_of}
+use Rattle.sum_table.specs.Words.{index_of}
 use Rattle.sum_table.proofs.Keeps.{MayPut, exchanges, locates, looks}
 use Rattle.sum_table.proofs.Lists.{noted_set}
 use Rattle.std.proofs.lemmas.Bool.Decides.{nat_tests}

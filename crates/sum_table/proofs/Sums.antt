@@ -91,9 +91,6 @@ SameSums-joined xs ys zs first then = record {
   totals = λ f c. first.totals f c ∙ then.totals f c;
 }
 
-pub SameSums-turned : (xs ys : List Entry) → SameSums xs ys → SameSums ys xs
-SameSums-turned xs ys same = record { counts = λ f c. sym (same.counts f c); totals = λ f c. sym (same.totals f c) }
-
 pub SameSums-append : (xs ys zs : List Entry) → SameSums xs ys → SameSums (xs ++ zs) (ys ++ zs)
 SameSums-append xs ys zs same = record {
   counts = λ f c. omega (arith, same.counts f c, count-append xs zs f c, count-append ys zs f c);

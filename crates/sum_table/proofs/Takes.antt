@@ -1,12 +1,11 @@
 -- The player's steps keep the rule: it takes a word, publishes its position, and unplugs the card.
-use Rattle.std.proofs.Common.{◌≡◌, ◌≢◌, ◌⊎◌, ℕ, zero, suc, ◌+◌, ◌<◌, ◌≤◌, Bool, true, false, Option, None, Some, List, [], ◌∷◌, ◌++◌, length, get_or, set, ℤ, pos, inl, inr, arith, subst, sym, refl, ap, ◌∙◌}
+use Rattle.std.proofs.Common.{◌≡◌, ℕ, ◌+◌, ◌<◌, ◌≤◌, Bool, true, false, Option, None, Some, List, [], ◌∷◌, ◌++◌, length, get_or, set, ℤ, pos, inl, inr, arith, subst, sym, refl, ap, ◌∙◌}
 use mathlib.Core.Option.{some, none}
 use lib.ListN.{get_elem?}
 use Rattle.std.proofs.lemmas.Bool.Decides.{nat_tests}
-use Rattle.std.proofs.lemmas.Int.{ints}
-use Rattle.std.proofs.lemmas.List.{append-nil, get_or-set_other}
+use Rattle.std.proofs.lemmas.List.{get_or-set_other}
 use Rattle.atomic_table.specs.Table.{Act, Allows, Me, State, Valid, carried_after, keeps, step, stepped}
-use Rattle.atomic_table.proofs.Lists.{at_snoc, at_longer, at_last}
+use Rattle.atomic_table.proofs.Lists.{at_snoc, at_longer}
 use Rattle.snd_base.specs.declared.geometry.Geometry.{Geometry}
 use Rattle.snd_base.specs.declared.places.Cursor.{Cursor}
 use Rattle.snd_base.specs.Places.{behind, first_frame, first_free, lap}
@@ -15,7 +14,6 @@ use Rattle.lap_word.specs.Position.{word_of}
 use Rattle.lap_word.specs.Word.{StandsFor, StandsFor-fields, count_of, lap_of, sum_of}
 use Rattle.mix_core.specs.declared.event.Event.TheVariants.{Take, Publish}
 use Rattle.mix_core.specs.declared.event.Reply.TheVariants.{Took, Published}
-use Rattle.mix_core.specs.declared.event.Taken.{Taken}
 use Rattle.mix_core.specs.declared.port.Entry.{Entry}
 use Rattle.mix_core.specs.History.{Row}
 use Rattle.mix_core.specs.Laid.{total}
@@ -23,7 +21,7 @@ use Rattle.mix_core.specs.Sound.{IsNow}
 use Rattle.sum_table.specs.declared.view.Key.{Key}
 use Rattle.sum_table.specs.declared.view.Track.{Track}
 use Rattle.sum_table.specs.declared.view.View.{View}
-use Rattle.sum_table.specs.Exact.{BeginsWith, Exact, is_tracked, IsHistory, IsPublished, IsRing, IsView, next_at, position_at}
+use Rattle.sum_table.specs.Exact.{Exact, is_tracked, IsHistory, IsPublished, IsView, next_at, position_at}
 use Rattle.sum_table.specs.Laid.{all_laid, count}
 use Rattle.sum_table.specs.Steps.{published, taken, taking, track_gone, track_published, track_taken, unplugged, with_gone, with_published, with_taken}
 use Rattle.sum_table.specs.Words.{NotPast, index_of, rank}

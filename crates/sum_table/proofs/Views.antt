@@ -1,16 +1,16 @@
 -- What the seats know stays so at each kind of step, and what a word that is found tells a seat.
-use Rattle.std.proofs.Common.{◌≡◌, ◌≢◌, ◌⊎◌, ℕ, zero, suc, ◌+◌, ◌*◌, ◌/◌, ◌%◌, ◌<◌, ◌≤◌, Bool, true, false, Option, None, Some, List, [], ◌∷◌, ◌++◌, length, get_or, set, ℤ, pos, ◌+ℤ◌, ◌≤ℤ◌, ◌^◌, inl, inr, arith, subst, sym, refl, ap, ◌∙◌}
-use mathlib.Core.Option.{some, some-injective, some-ne-none}
+use Rattle.std.proofs.Common.{◌≡◌, ◌⊎◌, ℕ, suc, ◌+◌, ◌*◌, ◌%◌, ◌<◌, ◌≤◌, true, false, Some, List, [], ◌∷◌, length, get_or, set, ℤ, inl, inr, arith, subst, sym, refl, ap, ◌∙◌}
+use mathlib.Core.Option.{some}
 use lib.ListN.{get_elem?}
 use Rattle.std.proofs.lemmas.Bool.{cases_lt}
 use Rattle.std.proofs.lemmas.Bool.Decides.{nat_tests}
 use Rattle.std.proofs.lemmas.Int.{ints}
 use Rattle.std.proofs.lemmas.List.{get_or-set_same, get_or-set_other}
-use Rattle.atomic_table.proofs.Lists.{at_set, at_snoc, at_longer}
+use Rattle.atomic_table.proofs.Lists.{at_set}
 use Rattle.snd_base.specs.declared.geometry.Geometry.{Geometry}
 use Rattle.snd_base.specs.declared.places.Cursor.{Cursor}
 use Rattle.snd_base.specs.PlaceLaws.{div-lt_same, mod-same}
-use Rattle.snd_base.specs.Places.{IsFrom, first_frame, first_free, lap}
+use Rattle.snd_base.specs.Places.{IsFrom, first_free, lap}
 use Rattle.lap_word.specs.Word.{StandsFor, StandsFor-fields, count_of, lap_of, sum_of}
 use Rattle.mix_core.specs.declared.port.Entry.{Entry}
 use Rattle.mix_core.specs.History.{Row}
@@ -22,9 +22,9 @@ use Rattle.sum_table.specs.declared.view.View.{View}
 use Rattle.sum_table.specs.Exact.{AreViews, BeginsWith, IsLaid, IsPublished, IsRing, IsView, next_at, position_at}
 use Rattle.sum_table.specs.Laid.{all_laid, count, places_of}
 use Rattle.sum_table.specs.Steps.{Finds, IsWord, Tells}
-use Rattle.sum_table.specs.Words.{NotPast, index_of, rank, words_of}
+use Rattle.sum_table.specs.Words.{NotPast, index_of, rank}
 use Rattle.sum_table.proofs.Lists.{cases_eq}
-use Rattle.sum_table.proofs.Places.{index_of-lt, now_of}
+use Rattle.sum_table.proofs.Places.{now_of}
 use Rattle.sum_table.proofs.Sums.{count-append, count_few, count_room, places_set}
 
 -- what may change under a view: the player goes on, words are not followed by earlier ones, the history goes on

@@ -1,12 +1,12 @@
 -- What splits, joins, notes, meetings and the close of a ring do.
-use Rattle.std.specs.Prelude.{◌≡◌, ℕ, ◌+◌, ◌-◌, ◌<◌, ◌≤◌, ◌||◌, Bool, true, false, Option, None, Some, List, [], ◌∷◌, ◌++◌, max}
+use Rattle.std.specs.Prelude.{◌≡◌, ℕ, ◌+◌, ◌≤◌, ◌||◌, true, None, Some, List, [], max}
 use Rattle.std.specs.List.{slice_index_or}
 use mathlib.Core.Option.{some}
 use lib.ListN.{get_elem?}
 use Rattle.atomic_table.specs.Seated.{TableId}
 use Rattle.snd_base.specs.Places.{lap}
 use Rattle.lap_word.specs.Word.{lap_of}
-use Rattle.mix_core.specs.History.{AreExact, AreInOrder, IsLegal, Row, laid_of, position_of, taken_of}
+use Rattle.mix_core.specs.History.{AreExact, AreInOrder, IsLegal, Row, laid_of, taken_of}
 use Rattle.mix_core.specs.Sound.{IsNow}
 use Rattle.sum_table.specs.declared.join.Closed.{Closed}
 use Rattle.sum_table.specs.declared.mix.MixSeat.{MixSeat}
@@ -89,7 +89,7 @@ pub record HasNote (s t : MixSeat) (n : SeatNote) : Type 0 where
   pub seen : note_seen n ≡ s.seen
   pub gone : (note_view n).seen_gone ≡ (view_of s).seen_gone
 
--- a mix seat met a note: it has seen what the note has seen, and has the same places and laid list as before
+-- a mix seat met a note: it has seen what the note has seen, and has the same places, laid list and cursor as before
 pub record HasMet (s t : MixSeat) (n : SeatNote) : Type 0 where
   pub ring : ring_of t ≡ ring_of s
   pub key : t.key ≡ s.key
@@ -97,7 +97,8 @@ pub record HasMet (s t : MixSeat) (n : SeatNote) : Type 0 where
   pub view : view_of t ≡ with_history (both_of (view_of s) (note_view n)) (view_of t).history
   pub places : t.places ≡ s.places
   pub laid : (view_of t).laid ≡ (view_of s).laid
-  pub cursor : t.cursor ≡ later_of s.cursor n.seat.cursor
+  pub cursor : t.cursor ≡ s.cursor
+  pub last : t.last ≡ s.last
   pub seen : t.seen ≡ max s.seen (note_seen n)
   pub gone : (view_of t).seen_gone ≡ ((view_of s).seen_gone || (note_view n).seen_gone)
   pub history : BeginsWith (view_of t).history (view_of s).history

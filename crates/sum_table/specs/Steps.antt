@@ -1,11 +1,10 @@
 -- What each kind of step does to the view of the seat that makes it, and what it tells.
-use Rattle.std.specs.Prelude.{◌≡◌, ◌≢◌, ℕ, ◌+◌, ◌*◌, ◌<◌, ◌≤◌, Bool, true, false, Option, None, Some, List, [], ◌∷◌, ◌++◌, map, length, slice_index, slice_set, ℤ, pos, ◌+ℤ◌, ◌≤ℤ◌, ◌^◌}
+use Rattle.std.specs.Prelude.{◌≡◌, ◌≢◌, ℕ, ◌+◌, ◌*◌, ◌<◌, ◌≤◌, Bool, true, None, Some, List, [], ◌∷◌, ◌++◌, map, slice_set, ℤ, pos, ◌+ℤ◌, ◌≤ℤ◌, ◌^◌}
 use Rattle.std.specs.List.{slice_index_or}
 use mathlib.Core.Option.{some}
 use lib.ListN.{get_elem?}
 use Rattle.atomic_table.specs.Table.{Me, Step}
 use Rattle.snd_base.specs.declared.geometry.Geometry.{Geometry}
-use Rattle.snd_base.specs.declared.places.Cursor.{Cursor}
 use Rattle.snd_base.specs.Places.{IsFrom, behind, end_frame, first_frame, lap}
 use Rattle.lap_word.specs.Clamp.{clamp_of}
 use Rattle.lap_word.specs.Position.{word_of}
@@ -17,7 +16,6 @@ use Rattle.mix_core.specs.declared.port.Entry.{Entry}
 use Rattle.mix_core.specs.History.{AreExact, AreInOrder, IsLegal, IsReply, Row, laid_of, row_of, taken_of}
 use Rattle.mix_core.specs.Laid.{total}
 use Rattle.mix_core.specs.Sound.{IsNow}
-use Rattle.sum_table.specs.declared.view.Key.{Key}
 use Rattle.sum_table.specs.declared.view.Track.{Track}
 use Rattle.sum_table.specs.declared.view.View.{View}
 use Rattle.sum_table.specs.Exact.{BeginsWith, IsPublished, next_at, position_at}

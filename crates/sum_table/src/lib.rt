@@ -3,6 +3,7 @@
 #![tactic(auto)]
 
 mod join;
+mod laws;
 mod mix;
 mod note;
 mod parts;
@@ -15,6 +16,7 @@ mod rule;
 mod view;
 
 pub use join::Closed;
+pub use laws::late_adds_change_nothing;
 pub use mix::MixSeat;
 pub use note::SeatNote;
 pub use player::PlayerSeat;

@@ -32,18 +32,21 @@ impl MixSeat<'_> {
     ghost use Rattle.std.specs.Prelude.{◌≡◌, ◌≢◌, ℕ, ◌+◌, ◌<◌, Option, Some, OnOk, IfErr};
     ghost use Rattle.snd_base.specs.Places.{IsFrom, lap};
     ghost use Rattle.lap_word.specs.Word.{lap_of};
-    ghost use Rattle.sum_table.specs.Seats.{CanAdd, HasLaid, HasLocated, HasLost, HasNoted, cursor_of_seat, geometry_of, last_of_seat, member_of, places_of_seat, seen_of, shown};
+    ghost use Rattle.sum_table.specs.Known.{last_frame};
+    ghost use Rattle.sum_table.specs.Seats.{CanAdd, HasLaid, HasLocated, HasLost, HasNoted, cursor_of_seat, geometry_of, last_of_seat, member_of, places_of_seat, seen_of, shown, view_of};
 
     /// How many places the seat has.
     pub fn places(&self) -> u32
-        ensures { result ≡ places_of_seat self.now }
+        ensures value { result ≡ places_of_seat self.now }
+        ensures of_view { result ≡ (view_of self.now).places }
     {
         self.places
     }
 
     /// The greatest frame that the seat laid in, or took over from a seat that was joined into it.
     pub fn last(&self) -> Option<u64>
-        ensures { result ≡ last_of_seat self.now }
+        ensures value { result ≡ last_of_seat self.now }
+        ensures of_view { result ≡ last_frame (view_of self.now).laid }
     {
         self.last
     }

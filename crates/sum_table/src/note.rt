@@ -1,5 +1,6 @@
 //! What one seat has seen, on its way to another.
 ghost use Rattle.std.specs.Prelude.{◌≡◌, []};
+ghost use Rattle.sum_table.specs.Exact.{start_of};
 
 use crate::mix::MixSeat;
 
@@ -10,4 +11,5 @@ pub struct SeatNote<'a> {
     pub(crate) seat: MixSeat<'a>,
     ghost no_places: { seat.places ≡ 0 },
     ghost laid_nothing: { seat.seat.me.0.laid ≡ [] },
+    ghost starts: { seat.cursor ≡ start_of seat.key.geometry },
 }

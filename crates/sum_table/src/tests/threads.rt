@@ -48,6 +48,12 @@ impl Client<'_> {
         }
     }
 
+    fn add_to(&self, totals: &mut [i32]) {
+        for (total, laid) in totals.iter_mut().zip(self.laid.iter()) {
+            *total = total.saturating_add(*laid);
+        }
+    }
+
     // Lays until the position `end` is seen.
     fn lay_all(&mut self, end: u64) {
         for _ in 0..LOOKS {
@@ -92,27 +98,24 @@ fn pause() {
     }
 }
 
-fn new_client<'a>(seat: MixSeat<'a>, alloc: Global, sample: i16) -> Result<Client<'a>, Fail>
+fn new_client<'a>(seat: MixSeat<'a>, sample: i16, laid: Vec<i32>) -> Client<'a>
     requires { CanAdd seat }
 {
-    let laid = vec![in alloc; 0; PLAYED]?;
-    Ok(Client { seat, sample, laid })
+    Client { seat, sample, laid }
+}
+
+fn counts(alloc: Global) -> Result<Vec<i32>, Fail> {
+    Ok(vec![in alloc; 0; PLAYED]?)
 }
 
 fn lay_both<R: Threads + Sync>(rt: &R, a: &mut Client<'_>, b: &mut Client<'_>, end: u64) {
     join_mut(rt, &mut || a.lay_all(end), &mut || b.lay_all(end));
 }
 
-// What is played is what these clients laid in time, cut once.
-fn compare(all: &[&Client<'_>], played: &[i16]) -> Result<(), Fail> {
-    for (word, value) in played.iter().enumerate() {
-        let mut total: i32 = 0;
-        for client in all {
-            if let Some(sample) = client.laid.get(word) {
-                total = total.saturating_add(*sample);
-            }
-        }
-        if lap_word::clamp(total) != *value {
+// What is played is what was laid in time, cut once.
+fn compare(totals: &[i32], played: &[i16]) -> Result<(), Fail> {
+    for (total, value) in totals.iter().zip(played.iter()) {
+        if lap_word::clamp(*total) != *value {
             return Err("another value was played".into());
         }
     }
@@ -145,10 +148,14 @@ fn two_threads_lay_while_another_takes(rt: HostRuntime) -> Result<(), Fail> {
         seat: player,
         played,
     };
-    let mut b = new_client(seat.split(1, 1), rt.alloc(), 15000)?;
-    let mut a = new_client(seat, rt.alloc(), 20000)?;
+    let (laid_a, laid_b) = (counts(rt.alloc())?, counts(rt.alloc())?);
+    let mut b = new_client(seat.split(1, 1), 15000, laid_b);
+    let mut a = new_client(seat, 20000, laid_a);
     run_two(&rt, &mut player, &mut a, &mut b, 12800);
-    compare(&[&a, &b], player.played.as_slice())
+    let mut totals = counts(rt.alloc())?;
+    a.add_to(totals.as_mut_slice());
+    b.add_to(totals.as_mut_slice());
+    compare(totals.as_slice(), player.played.as_slice())
 }
 
 // Two clients, of one thread each.
@@ -159,6 +166,11 @@ struct Pair<'a> {
 }
 
 impl Pair<'_> {
+    fn add_to(&self, totals: &mut [i32]) {
+        self.left.add_to(totals);
+        self.right.add_to(totals);
+    }
+
     fn lay_all<R: Threads + Sync>(&mut self, rt: &R, end: u64) {
         lay_both(rt, &mut self.left, &mut self.right, end);
     }
@@ -201,15 +213,17 @@ fn four_threads_lay_while_another_takes(rt: HostRuntime) -> Result<(), Fail> {
         seat: player,
         played,
     };
-    let mut first = Pair {
-        left: new_client(seat.split(1, 1), rt.alloc(), 15000)?,
-        right: new_client(seat.split(1, 2), rt.alloc(), -32768)?,
-    };
-    let mut second = Pair {
-        left: new_client(seat.split(1, 3), rt.alloc(), 9)?,
-        right: new_client(seat, rt.alloc(), 20000)?,
-    };
+    let (laid_a, laid_b) = (counts(rt.alloc())?, counts(rt.alloc())?);
+    let (laid_c, laid_d) = (counts(rt.alloc())?, counts(rt.alloc())?);
+    let b = new_client(seat.split(1, 1), 15000, laid_b);
+    let c = new_client(seat.split(1, 2), -32768, laid_c);
+    let d = new_client(seat.split(1, 3), 9, laid_d);
+    let a = new_client(seat, 20000, laid_a);
+    let mut first = Pair { left: a, right: b };
+    let mut second = Pair { left: c, right: d };
     run_four(&rt, &mut player, &mut first, &mut second, 25600);
-    let all = [&first.left, &first.right, &second.left, &second.right];
-    compare(&all, player.played.as_slice())
+    let mut totals = counts(rt.alloc())?;
+    first.add_to(totals.as_mut_slice());
+    second.add_to(totals.as_mut_slice());
+    compare(totals.as_slice(), player.played.as_slice())
 }

@@ -1,14 +1,8 @@
-use Rattle.std.proofs.Common.{◌≡◌, ◌+◌, ◌-◌, ◌<◌, ◌≤◌, Option, None, max, arith, sym, subst, ap, ◌∙◌, refl}
+use Rattle.std.proofs.Common.{◌-◌, None, arith, ap, ◌∙◌}
 use Rattle.atomic_table.specs.Table.{Me}
 use Rattle.mix_core.specs.declared.port.Entry.{Entry}
-use Rattle.snd_base.specs.declared.places.Cursor.{Cursor}
 use Rattle.sum_table.specs.declared.mix.MixSeat.{MixSeat}
-use Rattle.sum_table.specs.declared.note.SeatNote.{SeatNote}
-use Rattle.sum_table.specs.declared.player.PlayerSeat.{PlayerSeat}
-use Rattle.sum_table.specs.declared.view.Key.{Key}
 use Rattle.sum_table.specs.declared.view.View.{View}
-use Rattle.sum_table.specs.Cuts.{both_of, later_of}
-use Rattle.sum_table.specs.Known.{IsKnown, greater}
 use Rattle.sum_table.proofs.Joining.{known_as, known_part_at, known_without, may_cut}
 use Rattle.sum_table.proofs.mix.MixSeat.cut.Goals as goal
 

@@ -1,14 +1,11 @@
-use Rattle.std.proofs.Common.{◌≡◌, ◌≢◌, ◌+◌, ℤ, arith, sym, subst, ap, ◌∙◌, refl, pos, negsuc, ◌≤ℤ◌, to_z, of_z}
-use Rattle.std.proofs.lemmas.Int.{ints, to_z-of_z}
-use Rattle.atomic_table.specs.Table.{Me, step}
-use mathlib.Core.Option.{some}
+use Rattle.std.proofs.Common.{◌≡◌, ◌≢◌, ◌+◌, ℤ, arith, sym, subst, ap, ◌∙◌, refl, to_z, of_z}
+use Rattle.std.proofs.lemmas.Int.{to_z-of_z}
+use Rattle.atomic_table.specs.Table.{Me}
 use mir.Syntax.{w16}
 use mir.Val.{SFits}
-use Rattle.lap_word.specs.Word.{StandsFor, count_of, lap_of, sum_of}
 use Rattle.mix_core.specs.declared.port.Entry.{Entry}
 use Rattle.sum_table.specs.declared.mix.MixSeat.{MixSeat}
 use Rattle.sum_table.specs.Known.{IsKnown}
-use Rattle.sum_table.specs.Steps.{exchanged}
 use Rattle.sum_table.specs.Words.{index_of}
 use Rattle.sum_table.specs.declared.view.View.{View}
 use Rattle.snd_base.specs.declared.places.Cursor.{Cursor}

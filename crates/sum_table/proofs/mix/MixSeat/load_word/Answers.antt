@@ -1,8 +1,7 @@
-use Rattle.std.proofs.Common.{◌≡◌, ◌+◌, arith, sym, subst, ap, ◌∙◌, refl}
+use Rattle.std.proofs.Common.{◌≡◌, ◌+◌, arith, subst, ap, ◌∙◌, refl}
 use Rattle.atomic_table.specs.Table.{step}
 use mathlib.Core.Option.{none}
 use Rattle.sum_table.specs.declared.mix.MixSeat.{MixSeat}
-use Rattle.sum_table.specs.Known.{IsKnown}
 use Rattle.sum_table.specs.Steps.{looked}
 use Rattle.sum_table.specs.Words.{index_of}
 use Rattle.sum_table.proofs.Seated.{has_noted, known_looked, may_look}

@@ -1,4 +1,4 @@
-use Rattle.std.proofs.Common.{◌<◌, arith, sym, subst, ◌∙◌}
+use Rattle.std.proofs.Common.{arith, sym, subst, ◌∙◌}
 use Rattle.sum_table.specs.declared.mix.MixSeat.{MixSeat}
 use Rattle.sum_table.specs.Known.{IsKnown}
 use Rattle.sum_table.proofs.Seated.{known_located, locates_at}

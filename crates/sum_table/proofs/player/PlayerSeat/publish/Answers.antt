@@ -1,12 +1,8 @@
-use Rattle.std.proofs.Common.{◌≡◌, ◌≢◌, ◌+◌, ◌<◌, arith, sym, subst, ap, ◌∙◌, refl}
+use Rattle.std.proofs.Common.{arith, ap, ◌∙◌}
 use Rattle.atomic_table.specs.Table.{Me}
 use Rattle.mix_core.specs.declared.port.Entry.{Entry}
-use Rattle.snd_base.specs.declared.places.Cursor.{Cursor}
-use Rattle.snd_base.specs.Places.{lap}
 use Rattle.sum_table.specs.declared.player.PlayerSeat.{PlayerSeat}
 use Rattle.sum_table.specs.declared.view.View.{View}
-use Rattle.sum_table.specs.Known.{IsPlayer}
-use Rattle.sum_table.specs.Words.{index_of}
 use Rattle.sum_table.proofs.Playing.{known_published, may_publish}
 use Rattle.sum_table.proofs.player.PlayerSeat.publish.Goals as goal
 

@@ -1,4 +1,4 @@
-use Rattle.std.proofs.Common.{◌≡◌, ◌≢◌, ◌+◌, ◌<◌, arith, sym, subst, ap, ◌∙◌, refl}
+use Rattle.std.proofs.Common.{◌≡◌, ◌≢◌, ◌+◌, arith, sym, subst, ap, ◌∙◌, refl}
 use Rattle.atomic_table.specs.Table.{Me}
 use Rattle.mix_core.specs.declared.port.Entry.{Entry}
 use Rattle.snd_base.specs.declared.places.Cursor.{Cursor}
@@ -7,7 +7,7 @@ use Rattle.sum_table.specs.declared.player.PlayerSeat.{PlayerSeat}
 use Rattle.sum_table.specs.declared.view.View.{View}
 use Rattle.sum_table.specs.Known.{IsPlayer}
 use Rattle.sum_table.specs.Words.{index_of}
-use Rattle.std.proofs.Common.{ℤ, pos, to_z, of_z, rules}
+use Rattle.std.proofs.Common.{pos, to_z, of_z, rules}
 use Rattle.std.proofs.lemmas.Int.{to_z-of_z}
 use mir.Syntax.{w16, w32}
 use mir.Val.{SFits}

@@ -1,4 +1,4 @@
-use Rattle.std.proofs.Common.{◌≡◌, ◌+◌, ℕ, [], ◌∷◌, List, set, arith, sym, subst, ap, ◌∙◌, refl}
+use Rattle.std.proofs.Common.{◌≡◌, set, ap, ◌∙◌}
 use Rattle.std.proofs.Math.ListN.{replicate}
 use Rattle.sum_table.specs.Words.{words_of}
 use Rattle.sum_table.proofs.Opens.{new_words, opens_at}

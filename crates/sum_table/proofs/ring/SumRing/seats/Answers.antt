@@ -1,5 +1,4 @@
-use Rattle.std.proofs.Common.{◌≡◌, ◌+◌, ◌≤◌, ℕ, [], arith, sym, subst, ap, ◌∙◌, refl, Some}
-use Rattle.std.specs.Option.{ForSome}
+use Rattle.std.proofs.Common.{◌≡◌, ◌≤◌, ℕ, [], arith, sym, subst, ap, ◌∙◌}
 use Rattle.sum_table.specs.declared.view.View.{View}
 use Rattle.sum_table.specs.Exact.{IsFirst}
 use Rattle.sum_table.specs.Laid.{count}
