@@ -1,11 +1,11 @@
 -- Laws of rounded arithmetic: smaller intervals give a smaller one, and fractions of members are members.
-use Rattle.std.specs.Prelude.{◌≡◌, ℕ, ◌+◌, ◌*◌, ◌/◌, ◌%◌, ◌<◌, ◌≤◌, min, Bool, true, false, not, ◌&&◌, ◌||◌, nat_le, IsTrue, refl}
+use Rattle.std.specs.Prelude.{◌≡◌, ℕ, ◌+◌, ◌*◌, ◌/◌, ◌%◌, ◌<◌, ◌≤◌, min, Bool, false, not, ◌&&◌, ◌||◌, nat_le, IsTrue, refl}
 use Rattle.std.proofs.Common.{arith, ap, sym, subst, inl, inr, ◌∙◌, ⊎_elim}
-use Rattle.std.proofs.Math.Nat.{div-add-mod', div-one, div-mul-le_self, eq_of_mul-eq-mul_right, le-div_iff_mul-le, le_of_mul-le-mul_right, lt_of_mul-lt-mul_right, mod-lt, mul-le-mul, mul-le-mul_left, mul-le-mul_right, mul-lt-mul_of_pos_right, mul-lt-mul_of_pos_left, mul-mod_left, mul-one}
+use Rattle.std.proofs.Math.Nat.{div-add-mod', div-one, div-mul-le_self, eq_of_mul-eq-mul_right, le-div_iff_mul-le, le_of_mul-le-mul_right, lt_of_mul-lt-mul_right, mod-lt, mul-le-mul_left, mul-le-mul_right, mul-lt-mul_of_pos_right, mul-lt-mul_of_pos_left, mul-mod_left, mul-one}
 use Rattle.std.proofs.lemmas.Bool.{and_from, and_parts, both_ways, cases_Bool, cases_eq, cases_lt, or_cases, or_left, or_right, cond-true, cond-false, false≢true, leb-true, ltb-true, ltb-false}
 use Rattle.std.proofs.lemmas.Bool.Decides.{nat_tests}
 use Rattle.pcm_interval.specs.declared.interval.Interval.{Interval}
-use Rattle.pcm_interval.specs.Intervals.{IsNonEmpty, IsWithin, IsLowerWithin, IsUpperWithin, IsMember, bit_of}
+use Rattle.pcm_interval.specs.Intervals.{IsNonEmpty, IsWithin, IsMember, bit_of}
 use Rattle.pcm_interval.specs.IntervalLaws.{IsNonEmpty-le, IsWithin-from_places, IsWithin-max, IsWithin-min}
 use Rattle.pcm_interval.specs.Arithmetic.{between, product_of, quotient_of, scaled_product_of, scaled_quotient_of, end_max, is_broken, rounded_up, lower_end_of, lower_is_open, upper_end_of, upper_is_open}
 

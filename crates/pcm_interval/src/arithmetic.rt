@@ -1,10 +1,9 @@
-//! Arithmetic between intervals, as alsa-lib's `src/pcm/interval.c` has it: the lower end is made of the ends that make
-//! it least and is rounded down, the upper end is made of those that make it greatest and is rounded up. An end is open
-//! where it was rounded, or where an end that it was made of is open. An end above 4294967295 becomes that number,
-//! closed.
+//! Arithmetic between intervals: the lower end is made of the ends that make it least and is rounded down, the upper end is
+//! made of those that make it greatest and is rounded up. An end is open where it was rounded, or where an end that it was
+//! made of is open. An end above 4294967295, once rounded, becomes that number, closed.
 //!
 //! Every input has a lower end of at least 1 and is not empty.
-ghost use Rattle.std.specs.Prelude.{◌≡◌, ℕ, ◌*◌, ◌≤◌};
+ghost use Rattle.std.specs.Prelude.{◌≡◌, ℕ, ◌*◌, ◌≤◌, ◌&&◌, min, nat_le};
 ghost use Rattle.pcm_interval.specs.Arithmetic.{between, lower_end_of, lower_is_open, upper_end_of, upper_is_open, end_max, product_of, quotient_of, scaled_product_of, scaled_quotient_of};
 ghost use Rattle.pcm_interval.specs.Intervals.{IsMember, IsNonEmpty};
 
@@ -156,12 +155,8 @@ fn lower_end(low: Fraction) -> (u32, bool)
     ensures end { result.0 ≡ lower_end_of low.numerator low.denominator }
     ensures is_open { result.1 ≡ lower_is_open low.numerator low.denominator low.made_open }
 {
-    let whole = low.numerator / low.denominator;
     let broken = low.numerator % low.denominator > 0;
-    if whole > END_MAX {
-        return (u32::MAX, false);
-    }
-    (whole as u32, low.made_open | broken)
+    cut(low.numerator / low.denominator, low.made_open | broken)
 }
 
 /// A fraction as an upper end: rounded up, with whether it is open.
@@ -172,8 +167,17 @@ fn upper_end(high: Fraction) -> (u32, bool)
 {
     let broken = high.numerator % high.denominator > 0;
     let whole = high.numerator / high.denominator + u64::from(broken);
-    if whole > END_MAX {
-        return (u32::MAX, false);
+    cut(whole, high.made_open | broken)
+}
+
+/// An end with whether it is open. Above the greatest number it becomes that number, closed.
+fn cut(end: u64, is_open: bool) -> (u32, bool)
+    ensures end { result.0 ≡ min end end_max }
+    ensures is_open { result.1 ≡ (nat_le end end_max && is_open) }
+{
+    if end > END_MAX {
+        (u32::MAX, false)
+    } else {
+        (end as u32, is_open)
     }
-    (whole as u32, high.made_open | broken)
 }

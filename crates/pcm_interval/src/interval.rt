@@ -30,8 +30,8 @@ impl Interval {
     /// lower end and the smaller upper end; at one number the side is open where either is; integer where either is.
     /// The open ends of an integer interval move inward by 1 and are closed, and a closed point becomes integer.
     ///
-    /// `Ok(true)` says that some field changed. `Empty` comes exactly where nothing is left, and then the interval is
-    /// as before.
+    /// `Ok(true)` says that some field changed, and `Ok(false)` that none did. `Empty` comes exactly where nothing is left,
+    /// and then the interval is as before.
     pub fn refine(&mut self, other: &Interval) -> Result<bool, Empty>
         ensures ok { OnOk result (self.new ≡ refined self.old other.now) }
         ensures unchanged { IfOk result (λ changed. IsFalse changed ↔ (self.new ≡ self.old)) }

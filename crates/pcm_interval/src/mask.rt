@@ -13,8 +13,8 @@ pub struct Mask {
 impl Mask {
     /// Narrows this mask to the numbers that `other` has too (alsa-lib's `snd_mask_refine`).
     ///
-    /// `Ok(true)` says that the mask changed. `Empty` comes exactly where no number is left, and then the mask is as
-    /// before.
+    /// `Ok(true)` says that the mask changed, and `Ok(false)` that it did not. `Empty` comes exactly where no number is left,
+    /// and then the mask is as before.
     #[tactic(auto, unfolding(crate::specs::Masks::common_mask))]
     pub fn refine(&mut self, other: &Mask) -> Result<bool, Empty>
         ensures ok { OnOk result (self.new ≡ common_mask self.old other.now) }

@@ -1,5 +1,5 @@
 -- The interval between the two fractions is the one of the definition, and members of it come of members.
-use Rattle.std.specs.Prelude.{ℕ, ◌*◌}
+use Rattle.std.specs.Prelude.{◌*◌}
 use Rattle.std.proofs.Common.{rules, sym, subst}
 use Rattle.pcm_interval.specs.declared.interval.Interval.{Interval}
 use Rattle.pcm_interval.specs.Arithmetic.{quotient_of}
