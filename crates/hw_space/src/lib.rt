@@ -1,4 +1,7 @@
 //! The hardware parameters of a PCM stream.
+//!
+//! A `Space` has the values that each parameter may still have. It begins as the widest one of a `Slave`, is narrowed by
+//! its calls, and is refined by rules between the parameters, until one `Config` is chosen.
 #![tactic(auto)]
 
 mod choice;

@@ -12,9 +12,6 @@ use crate::quantity::Quantity;
 use crate::settle::{narrow_format, narrow_part, settle};
 use pcm_interval::{Empty, Interval, Mask};
 
-/// The greatest number that an end can have.
-const END_MAX: u32 = 4294967295;
-
 /// Refines the interval of one quantity, and then the box. After `Empty` the box may be narrowed in part.
 pub fn narrow(ranges: &mut ParamBox, quantity: Quantity, other: &Interval) -> Result<(), Empty>
     requires { IsProper ranges.old }
@@ -114,7 +111,7 @@ pub fn point(number: u32) -> Interval
 pub fn at_least(number: u32) -> Interval
     ensures { result ≡ at_least number }
 {
-    from_to(number, END_MAX)
+    from_to(number, u32::MAX)
 }
 
 /// The numbers up to one.
@@ -128,7 +125,7 @@ pub fn at_most(number: u32) -> Interval
 pub fn whole_numbers() -> Interval
     ensures { result ≡ whole_numbers }
 {
-    whole_from_to(0, END_MAX)
+    whole_from_to(0, u32::MAX)
 }
 
 /// The least end of an interval that is not empty: the point if it is closed, else what is above it, up to the next

@@ -61,7 +61,7 @@ macro_rules! table {
 
 /// The rules. Times are in microseconds, and a byte has 8 bits.
 ///
-/// Each three rules are one equation, solved for each of its quantities.
+/// Three rules each are one equation, solved for each of its quantities.
 pub const RULES: [Rule; 18] = table! {
     FrameBits = Operation::Mul, SampleBits, Channels;
     SampleBits = Operation::Div, FrameBits, Channels;

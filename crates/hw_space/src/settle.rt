@@ -62,7 +62,7 @@ fn round(ranges: &mut ParamBox, rules: &[Rule]) -> Result<bool, Empty>
     let mut changed = false;
     for rule in rules {
         let moved = apply(ranges, rule)?;
-        changed = changed | moved;
+        changed |= moved;
     }
     Ok(changed)
 }
@@ -108,7 +108,7 @@ fn refine_format(ranges: &mut ParamBox) -> Result<bool, Empty>
     Ok(changed)
 }
 
-/// Applies every rule at least once. `Ok(true)` says that something changed.
+/// Applies every rule once. `Ok(true)` says that something changed.
 fn pass(ranges: &mut ParamBox) -> Result<bool, Empty>
     requires { IsProper ranges.old }
     ensures step { IfOk result (IsStep ranges.old ranges.new) }
@@ -123,9 +123,15 @@ fn pass(ranges: &mut ParamBox) -> Result<bool, Empty>
     Ok(period | buffer | by_rules | sample_bits | format)
 }
 
-/// Applies the rules until none changes anything. `Ok(true)` says that something changed.
+/// Applies the rules until none changes anything. `Ok(true)` says that something changed. In which order they are applied
+/// is open: what is left is the greatest settled box, and there is one at most.
 ///
-/// `Empty` comes exactly where no settled box lies within this one.
+/// `Empty` comes exactly where no settled box lies within this one; then the box may be narrowed in part.
+///
+/// The order matters for speed alone, since passes can creep: one rule moves an end by one frame, another takes up the new
+/// end and moves it on in the next pass. A size and its time, where the time is whole, would creep past up to 16384 sizes;
+/// `refine_whole_time` passes by them at once. The period size and the number of periods creep towards each other where
+/// few sizes divide the buffer size, until they meet near its root: some 250 passes at most.
 pub fn settle(ranges: &mut ParamBox) -> Result<bool, Empty>
     requires { IsProper ranges.old }
     ensures step { IfOk result (IsStep ranges.old ranges.new) }

@@ -1,6 +1,5 @@
 //! A space: the configurations that a stream may still have.
 ghost use Rattle.std.specs.Prelude.{◌≡◌, ◌≢◌, ◌↔◌, IsTrue, OnErr, IfOk};
-ghost use Rattle.hw_space.specs.Boxes.{part};
 ghost use Rattle.hw_space.specs.Narrowings.{narrowed, with_value, with_min, with_max, with_integer, with_first, with_last, interval_of, mask_of, FitsParam, LeavesNear};
 ghost use Rattle.hw_space.specs.Choices.{IsChoice};
 ghost use Rattle.hw_space.specs.Params.{HasInterval};
@@ -41,9 +40,6 @@ impl Model for Space {
 
     ghost inverse = { λ b. record { ranges = b } };
 }
-
-/// The greatest number that an end can have.
-const END_MAX: u32 = 4294967295;
 
 impl Space {
     /// The widest space of the clients of a slave, not yet refined: access RW_INTERLEAVED, format S16_LE, 1 channel up
@@ -220,8 +216,8 @@ impl Space {
 fn widest_ranges(slave: &Slave) -> ParamBox
     ensures { result ≡ widest slave.now.channels slave.now.rate slave.now.ring }
 {
-    let any = whole_from_to(1, END_MAX);
-    let any_time = from_to(1, END_MAX);
+    let any = whole_from_to(1, u32::MAX);
+    let any_time = from_to(1, u32::MAX);
     ParamBox {
         access: Mask { bits: 8 },
         format: Mask { bits: 4 },
