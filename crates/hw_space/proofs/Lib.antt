@@ -3,3 +3,4 @@ pub mod PointLaws
 pub mod Results
 pub mod RuleLaws
 pub mod StepLaws
+pub mod WholeTimeLaws

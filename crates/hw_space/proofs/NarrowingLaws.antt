@@ -12,10 +12,9 @@ use Rattle.hw_space.specs.declared.quantity.Quantity.{Quantity}
 use Rattle.hw_space.specs.Boxes.{part, with_part}
 use Rattle.hw_space.specs.BoxLaws.{part-with_part, IsBoxWithin-part}
 use Rattle.hw_space.specs.Narrowings.{narrowed, with_access, with_format}
-use Rattle.hw_space.specs.Settled.{KeepsConfigurations, IsVoid}
+use Rattle.hw_space.specs.Settled.{IsVoid}
 use Rattle.hw_space.specs.Widest.{only}
 use Rattle.hw_space.specs.Proper.{IsProper}
-use Rattle.hw_space.specs.Steps.{IsStep}
 use Rattle.hw_space.proofs.StepLaws.{with_part-IsProper, with_formats-IsProper}
 
 -- nothing lies within a box with an empty part

@@ -1,5 +1,5 @@
 -- Laws of choices: after all steps the chosen parameters are points.
-use Rattle.std.specs.Prelude.{◌≡◌, ◌≢◌, ◌⊎◌, if◌then◌else◌, nat_le, ℕ, ◌+◌, ◌/◌, ◌%◌, ◌^◌, ◌<◌, ◌≤◌, List, [], ◌∷◌, length, drop, Bool, true, false, IsTrue, Option, Some, None, Result, Ok, Err, refl}
+use Rattle.std.specs.Prelude.{◌≡◌, ◌≢◌, ◌⊎◌, if◌then◌else◌, nat_le, ℕ, ◌+◌, ◌^◌, ◌<◌, ◌≤◌, List, [], ◌∷◌, length, drop, Bool, true, false, IsTrue, Option, Some, None, Result, Ok, Err, refl}
 use Rattle.std.specs.Int.Count.{count_trailing_zeros}
 use Rattle.std.specs.Int.{w64}
 use Rattle.std.proofs.Common.{arith, suc, inl, inr, subst, sym, ap, ◌∙◌, add-one, get_or}

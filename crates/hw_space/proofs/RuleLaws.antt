@@ -1,14 +1,12 @@
 -- Laws of rules: no settled box and no configuration is missed by what a rule computes.
-use Rattle.std.specs.Prelude.{◌≡◌, ◌≢◌, ℕ, ◌+◌, ◌<◌, ◌≤◌, ◌↔◌, List, [], ◌∷◌, length, All, Bool, ◌||◌, true, false, refl, nat_le, slice_index_or}
-use Rattle.std.specs.List.{list_all}
+use Rattle.std.specs.Prelude.{◌≡◌, ◌≢◌, ℕ, ◌+◌, ◌<◌, ◌↔◌, List, length, All, Bool, ◌||◌, true, false, refl, nat_le, slice_index_or}
 use Rattle.std.proofs.Common.{arith, subst, sym, ◌∙◌, below_more}
 use Rattle.std.proofs.lemmas.List.{get_or_default}
-use Rattle.std.proofs.lemmas.List.Elements.{All-cons, All-nil}
 use Rattle.std.proofs.lemmas.Bool.Decides.{nat_tests}
 use Rattle.std.proofs.lemmas.List.Sums.{AllPass-from_list_all}
 use Rattle.pcm_interval.specs.declared.interval.Interval.{Interval}
 use Rattle.pcm_interval.specs.declared.mask.Mask.{Mask}
-use Rattle.pcm_interval.specs.Intervals.{IsEmpty, IsNonEmpty, IsWithin, IsMember, refined}
+use Rattle.pcm_interval.specs.Intervals.{IsEmpty, IsNonEmpty, refined}
 use Rattle.pcm_interval.specs.IntervalLaws.{IsWithin-trans, IsWithin-from_same}
 use Rattle.pcm_interval.specs.Masks.{IsMaskWithin, HasNumber, common_mask}
 use Rattle.pcm_interval.specs.MaskLaws.{IsMaskWithin-trans, IsMaskWithin-from_same}
@@ -174,20 +172,6 @@ all-IsListed k d below = record {
   below = below;
   found = get_or_default rules k no_rule d below;
 }
-
-listed : (k : ℕ) → k < 18 → IsListed (slice_index_or rules k no_rule)
-listed k below = record {
-  place = k;
-  below = below;
-  found = refl;
-}
-
--- and so are two that are picked
-pub pair-IsListed : (i j : ℕ) → i < 18 → j < 18
-    → All IsListed (slice_index_or rules i no_rule ∷ slice_index_or rules j no_rule ∷ [])
-pair-IsListed i j first second =
-    All-cons IsListed (slice_index_or rules i no_rule) (slice_index_or rules j no_rule ∷ []) (listed i first)
-    (All-cons IsListed (slice_index_or rules j no_rule) [] (listed j second) (All-nil IsListed))
 
 -- ---- a pass over all rules
 

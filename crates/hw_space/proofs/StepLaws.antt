@@ -1,22 +1,19 @@
 -- Laws of steps: they compose, and each refinement that no settled box and no configuration can miss is one.
-use Rattle.std.specs.Prelude.{◌≡◌, ◌≢◌, ℕ, ◌<◌, ◌≤◌, Bool, true, false, ◌||◌, IsTrue, IsFalse, refl, slice_index_or}
+use Rattle.std.specs.Prelude.{◌≡◌, ◌≢◌, ◌<◌, Bool, true, false, ◌||◌, refl}
 use Rattle.std.proofs.Common.{arith, sym, subst, ap, ◌∙◌}
 use Rattle.pcm_interval.specs.declared.interval.Interval.{Interval}
 use Rattle.pcm_interval.specs.declared.mask.Mask.{Mask}
-use Rattle.pcm_interval.specs.Intervals.{IsEmpty, IsNonEmpty, IsWithin, IsMember, refined, size_of}
-use Rattle.pcm_interval.specs.IntervalLaws.{IsWithin-refl, IsWithin-trans, IsWithin-from_same, IsWithin-min, IsWithin-max, IsNonEmpty-IsWithin, refined-IsWithin_left, refined-greatest, refined-IsMember, IsNonEmpty-IsMember, size_of-refined}
+use Rattle.pcm_interval.specs.Intervals.{IsEmpty, IsNonEmpty, IsWithin, IsMember, refined}
+use Rattle.pcm_interval.specs.IntervalLaws.{IsWithin-refl, IsWithin-min, IsWithin-max, IsNonEmpty-IsWithin, refined-IsWithin_left, refined-greatest, refined-IsMember, IsNonEmpty-IsMember, size_of-refined}
 use Rattle.pcm_interval.specs.Masks.{IsMaskWithin, HasNumber, common_mask}
-use Rattle.pcm_interval.specs.MaskLaws.{IsMaskWithin-refl, IsMaskWithin-trans, IsMaskWithin-from_same, IsMaskWithin-bits, HasNumber-bits, common_mask-IsMaskWithin_left, common_mask-greatest, common_mask-HasNumber, bits-common_mask}
+use Rattle.pcm_interval.specs.MaskLaws.{IsMaskWithin-refl, IsMaskWithin-bits, HasNumber-bits, common_mask-IsMaskWithin_left, common_mask-greatest, common_mask-HasNumber, bits-common_mask}
 use Rattle.hw_space.specs.declared.param_box.ParamBox.{ParamBox}
 use Rattle.hw_space.specs.declared.quantity.Quantity.{Quantity}
 use Rattle.hw_space.specs.declared.quantity.Quantity.TheVariants.{SampleBits, FrameBits, Channels, Rate, PeriodTime, PeriodSize, PeriodBytes, Periods, BufferTime, BufferSize, BufferBytes}
-use Rattle.hw_space.specs.declared.rule.Rule.{Rule}
 use Rattle.hw_space.specs.Boxes.{part, with_part, IsBoxWithin, size_of_box}
-use Rattle.hw_space.specs.BoxLaws.{with_part-each, access-with_part, format-with_part, with_part-same, size_of_box-with_part, IsBoxWithin-refl, IsBoxWithin-trans, IsBoxWithin-with_part, with_part-IsBoxWithin, IsBoxWithin-part}
-use Rattle.hw_space.specs.Rules.{rules, no_rule, IsListed, HasScale}
-use Rattle.hw_space.specs.Settled.{IsSettled, Configuration, IsExact, IsHeld, IsResult, Keeps, computed, IsVoid}
-use Rattle.hw_space.specs.SettledLaws.{IsSettled-IsNormal, computed-IsWithin}
-use Rattle.hw_space.specs.ConfigurationLaws.{computed-IsMember}
+use Rattle.hw_space.specs.BoxLaws.{with_part-each, access-with_part, format-with_part, with_part-same, size_of_box-with_part, IsBoxWithin-refl, IsBoxWithin-trans, IsBoxWithin-with_part, with_part-IsBoxWithin}
+use Rattle.hw_space.specs.Settled.{IsSettled, Configuration, IsExact, IsHeld, IsVoid}
+use Rattle.hw_space.specs.SettledLaws.{IsSettled-IsNormal}
 use Rattle.hw_space.specs.Proper.{IsProper}
 use Rattle.hw_space.specs.Steps.{IsStep}
 

@@ -1,5 +1,5 @@
 -- Laws of boxes: within is an order, and one part can be changed at a time.
-use Rattle.std.specs.Prelude.{◌≡◌, ℕ, ◌+◌, ◌<◌, refl}
+use Rattle.std.specs.Prelude.{◌≡◌, ◌<◌, refl}
 use Rattle.std.proofs.Common.{arith, subst}
 use Rattle.pcm_interval.specs.declared.interval.Interval.{Interval}
 use Rattle.pcm_interval.specs.Intervals.{IsWithin, size_of}

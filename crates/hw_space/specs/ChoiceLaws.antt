@@ -1,8 +1,7 @@
 -- Laws of choices: what refinement leaves, what a step leaves and what is chosen is settled by the box.
-use Rattle.std.specs.Prelude.{◌≡◌, ◌⊎◌, ℕ, ◌<◌, List, [], ◌∷◌, Option, Some, None, Result, Ok, Err, refl}
+use Rattle.std.specs.Prelude.{◌≡◌, ◌⊎◌, ℕ, List, [], ◌∷◌, Option, Some, None, Result, Ok, Err, refl}
 use Rattle.std.proofs.Common.{arith, subst, ap, ◌∙◌, sym, inl, inr}
 use Rattle.std.proofs.lemmas.Bool.{cases_lt}
-use Rattle.pcm_interval.specs.declared.interval.Interval.{Interval}
 use Rattle.pcm_interval.specs.declared.empty.Empty.{Empty}
 use Rattle.pcm_interval.specs.declared.mask.Mask.{Mask}
 use Rattle.hw_space.specs.declared.choice.Choice.{Choice}
@@ -13,9 +12,8 @@ use Rattle.hw_space.specs.declared.quantity.Quantity.{Quantity}
 use Rattle.hw_space.specs.Boxes.{part}
 use Rattle.hw_space.specs.Choices.{IsFirstNumber, Makes, Chooses, done, fails, goes, choices, HasPoints, IsChoice}
 use Rattle.hw_space.specs.Narrowings.{narrowed, at_most, at_least, least_end, greatest_end, with_access, with_format, nearest, LeavesOf, IsNear}
-use Rattle.hw_space.specs.Settled.{IsLeft, IsVoid, Leaves}
+use Rattle.hw_space.specs.Settled.{Leaves}
 use Rattle.hw_space.specs.SettledLaws.{IsGreatest-unique}
-use Rattle.hw_space.specs.Widest.{whole_from_to}
 
 -- a box leaves one box, or nothing
 pub Leaves-unique : (b : ParamBox) (o p : Option ParamBox) → Leaves b o → Leaves b p → o ≡ p

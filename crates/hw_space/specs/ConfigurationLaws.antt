@@ -1,5 +1,5 @@
 -- Laws of configurations: what a rule computes holds the exact number.
-use Rattle.std.specs.Prelude.{◌≡◌, ℕ, ◌*◌, ◌/◌, ◌%◌, ◌<◌, ◌≤◌, IsTrue}
+use Rattle.std.specs.Prelude.{◌≡◌, ℕ, ◌*◌, ◌/◌, ◌<◌, ◌≤◌}
 use Rattle.std.proofs.Common.{arith, ap}
 use Rattle.std.proofs.Math.Nat.{le_of_mul-le-mul_right, lt_of_mul-lt-mul_right, eq_of_mul-eq-mul_right, mul-mod_left, mul-le-mul_right, mul-lt-mul_of_pos_right}
 use Rattle.pcm_interval.specs.declared.interval.Interval.{Interval}

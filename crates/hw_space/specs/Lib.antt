@@ -12,4 +12,6 @@ pub mod Rules
 pub mod Settled
 pub mod SettledLaws
 pub mod Steps
+pub mod WholeTimes
 pub mod Widest
+pub mod WidestLaws

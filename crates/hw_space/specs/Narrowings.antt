@@ -4,7 +4,7 @@ use Rattle.pcm_interval.specs.declared.interval.Interval.{Interval}
 use Rattle.pcm_interval.specs.declared.mask.Mask.{Mask}
 use Rattle.pcm_interval.specs.Arithmetic.{end_max}
 use Rattle.pcm_interval.specs.Intervals.{refined}
-use Rattle.pcm_interval.specs.Masks.{HasNumber, common_mask}
+use Rattle.pcm_interval.specs.Masks.{common_mask}
 use Rattle.hw_space.specs.declared.param.Param.{Param}
 use Rattle.hw_space.specs.declared.param.ParamKind.{ParamKind}
 use Rattle.hw_space.specs.declared.param.ParamKind.TheVariants.{Access, Format, Number}

@@ -1,5 +1,4 @@
 -- Where a space keeps a parameter.
-use Rattle.hw_space.specs.declared.quantity.Quantity as quantity
 use Rattle.hw_space.specs.declared.quantity.Quantity.TheVariants as quantities
 use Rattle.hw_space.specs.declared.param.Param.{Param}
 use Rattle.hw_space.specs.declared.param.Param.TheVariants.{Access, Format, SampleBits, FrameBits, Channels, Rate, PeriodTime, PeriodSize, PeriodBytes, Periods, BufferTime, BufferSize, BufferBytes}

@@ -1,5 +1,5 @@
 -- What is known of every space: it lies within the widest space of some slave.
-use Rattle.std.specs.Prelude.{◌≡◌, ◌≢◌, ℕ, ◌≤◌, IsTrue}
+use Rattle.std.specs.Prelude.{◌≢◌, ◌≤◌, IsTrue}
 use Rattle.pcm_interval.specs.Intervals.{IsNonEmpty}
 use Rattle.pcm_interval.specs.Arithmetic.{end_max}
 use Rattle.hw_space.specs.declared.param_box.ParamBox.{ParamBox}

@@ -1,13 +1,13 @@
 -- Laws of settled boxes: there is one greatest at most, its parts have the normal form, and their ends are far below the
 -- greatest number.
-use Rattle.std.specs.Prelude.{◌≡◌, ℕ, ◌+◌, ◌*◌, ◌/◌, ◌<◌, ◌≤◌, refl, slice_index_or}
+use Rattle.std.specs.Prelude.{◌≡◌, ℕ, ◌+◌, ◌*◌, ◌/◌, ◌<◌, ◌≤◌, slice_index_or}
 use Rattle.std.proofs.Common.{arith, lit<}
 use Rattle.std.proofs.lemmas.Bool.Decides.{nat_tests}
 use Rattle.std.proofs.lemmas.Nat.{mul-le}
 use Rattle.std.proofs.Math.Nat.{div-le_of_le-mul, div-one}
 use Rattle.pcm_interval.specs.declared.interval.Interval.{Interval}
 use Rattle.pcm_interval.specs.Intervals.{IsNonEmpty, IsWithin, IsNormal, refined}
-use Rattle.pcm_interval.specs.IntervalLaws.{IsWithin-trans, IsWithin-from_same, IsNormal-from_same, IsWithin-min, IsWithin-max, IsNonEmpty-le}
+use Rattle.pcm_interval.specs.IntervalLaws.{IsWithin-from_same, IsNormal-from_same, IsWithin-min, IsWithin-max, IsNonEmpty-le}
 use Rattle.pcm_interval.specs.Arithmetic.{end_max, upper_end_of, between, product_of, quotient_of, scaled_product_of, scaled_quotient_of}
 use Rattle.pcm_interval.specs.ArithmeticLaws.{product_of-IsWithin, quotient_of-IsWithin, scaled_product_of-IsWithin, scaled_quotient_of-IsWithin}
 use Rattle.hw_space.specs.declared.param_box.ParamBox.{ParamBox}

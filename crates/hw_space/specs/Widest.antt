@@ -1,5 +1,5 @@
 -- The widest box of a slave, and intervals to narrow with.
-use Rattle.std.specs.Prelude.{ℕ, ◌+◌, ◌/◌, ◌^◌, false, true, if◌then◌else◌}
+use Rattle.std.specs.Prelude.{ℕ, ◌/◌, ◌^◌, false, true}
 use Rattle.pcm_interval.specs.declared.interval.Interval.{Interval}
 use Rattle.pcm_interval.specs.declared.mask.Mask.{Mask}
 use Rattle.pcm_interval.specs.Arithmetic.{end_max}

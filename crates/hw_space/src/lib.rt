@@ -13,6 +13,7 @@ mod rule;
 mod settle;
 mod slave;
 mod space;
+mod whole_time;
 
 pub use config::Config;
 pub use param::Param;

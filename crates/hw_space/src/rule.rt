@@ -47,116 +47,38 @@ pub struct Rule {
     pub second: Quantity,
 }
 
+/// Rows of a table of rules: the target, the operation and its two sources.
+macro_rules! table {
+    ($($target:ident = $operation:expr, $first:ident, $second:ident;)*) => {
+        [$(Rule {
+            target: Quantity::$target,
+            operation: $operation,
+            first: Quantity::$first,
+            second: Quantity::$second,
+        }),*]
+    };
+}
+
 /// The rules. Times are in microseconds, and a byte has 8 bits.
 ///
 /// Each three rules are one equation, solved for each of its quantities.
-pub const RULES: [Rule; 18] = [
-    Rule {
-        target: Quantity::FrameBits,
-        operation: Operation::Mul,
-        first: Quantity::SampleBits,
-        second: Quantity::Channels,
-    },
-    Rule {
-        target: Quantity::SampleBits,
-        operation: Operation::Div,
-        first: Quantity::FrameBits,
-        second: Quantity::Channels,
-    },
-    Rule {
-        target: Quantity::Channels,
-        operation: Operation::Div,
-        first: Quantity::FrameBits,
-        second: Quantity::SampleBits,
-    },
-    Rule {
-        target: Quantity::BufferSize,
-        operation: Operation::Mul,
-        first: Quantity::PeriodSize,
-        second: Quantity::Periods,
-    },
-    Rule {
-        target: Quantity::PeriodSize,
-        operation: Operation::Div,
-        first: Quantity::BufferSize,
-        second: Quantity::Periods,
-    },
-    Rule {
-        target: Quantity::Periods,
-        operation: Operation::Div,
-        first: Quantity::BufferSize,
-        second: Quantity::PeriodSize,
-    },
-    Rule {
-        target: Quantity::PeriodBytes,
-        operation: Operation::MulDivK(8),
-        first: Quantity::PeriodSize,
-        second: Quantity::FrameBits,
-    },
-    Rule {
-        target: Quantity::PeriodSize,
-        operation: Operation::MulKDiv(8),
-        first: Quantity::PeriodBytes,
-        second: Quantity::FrameBits,
-    },
-    Rule {
-        target: Quantity::FrameBits,
-        operation: Operation::MulKDiv(8),
-        first: Quantity::PeriodBytes,
-        second: Quantity::PeriodSize,
-    },
-    Rule {
-        target: Quantity::BufferBytes,
-        operation: Operation::MulDivK(8),
-        first: Quantity::BufferSize,
-        second: Quantity::FrameBits,
-    },
-    Rule {
-        target: Quantity::BufferSize,
-        operation: Operation::MulKDiv(8),
-        first: Quantity::BufferBytes,
-        second: Quantity::FrameBits,
-    },
-    Rule {
-        target: Quantity::FrameBits,
-        operation: Operation::MulKDiv(8),
-        first: Quantity::BufferBytes,
-        second: Quantity::BufferSize,
-    },
-    Rule {
-        target: Quantity::PeriodTime,
-        operation: Operation::MulKDiv(1000000),
-        first: Quantity::PeriodSize,
-        second: Quantity::Rate,
-    },
-    Rule {
-        target: Quantity::PeriodSize,
-        operation: Operation::MulDivK(1000000),
-        first: Quantity::PeriodTime,
-        second: Quantity::Rate,
-    },
-    Rule {
-        target: Quantity::Rate,
-        operation: Operation::MulKDiv(1000000),
-        first: Quantity::PeriodSize,
-        second: Quantity::PeriodTime,
-    },
-    Rule {
-        target: Quantity::BufferTime,
-        operation: Operation::MulKDiv(1000000),
-        first: Quantity::BufferSize,
-        second: Quantity::Rate,
-    },
-    Rule {
-        target: Quantity::BufferSize,
-        operation: Operation::MulDivK(1000000),
-        first: Quantity::BufferTime,
-        second: Quantity::Rate,
-    },
-    Rule {
-        target: Quantity::Rate,
-        operation: Operation::MulKDiv(1000000),
-        first: Quantity::BufferSize,
-        second: Quantity::BufferTime,
-    },
-];
+pub const RULES: [Rule; 18] = table! {
+    FrameBits = Operation::Mul, SampleBits, Channels;
+    SampleBits = Operation::Div, FrameBits, Channels;
+    Channels = Operation::Div, FrameBits, SampleBits;
+    BufferSize = Operation::Mul, PeriodSize, Periods;
+    PeriodSize = Operation::Div, BufferSize, Periods;
+    Periods = Operation::Div, BufferSize, PeriodSize;
+    PeriodBytes = Operation::MulDivK(8), PeriodSize, FrameBits;
+    PeriodSize = Operation::MulKDiv(8), PeriodBytes, FrameBits;
+    FrameBits = Operation::MulKDiv(8), PeriodBytes, PeriodSize;
+    BufferBytes = Operation::MulDivK(8), BufferSize, FrameBits;
+    BufferSize = Operation::MulKDiv(8), BufferBytes, FrameBits;
+    FrameBits = Operation::MulKDiv(8), BufferBytes, BufferSize;
+    PeriodTime = Operation::MulKDiv(1000000), PeriodSize, Rate;
+    PeriodSize = Operation::MulDivK(1000000), PeriodTime, Rate;
+    Rate = Operation::MulKDiv(1000000), PeriodSize, PeriodTime;
+    BufferTime = Operation::MulKDiv(1000000), BufferSize, Rate;
+    BufferSize = Operation::MulDivK(1000000), BufferTime, Rate;
+    Rate = Operation::MulKDiv(1000000), BufferSize, BufferTime;
+};

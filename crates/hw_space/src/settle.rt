@@ -14,6 +14,7 @@ use crate::formats::{bits_of_formats, formats_of_bits};
 use crate::param_box::ParamBox;
 use crate::quantity::Quantity;
 use crate::rule::{RULES, Rule};
+use crate::whole_time::{Span, refine_whole_time};
 use pcm_interval::{Empty, Interval, Mask};
 
 /// Refines the interval of one quantity. `Ok(true)` says that it changed.
@@ -107,20 +108,6 @@ fn refine_format(ranges: &mut ParamBox) -> Result<bool, Empty>
     Ok(changed)
 }
 
-/// Applies some rules until none of them changes anything. `Ok(true)` says that something changed.
-fn settle_by(ranges: &mut ParamBox, rules: &[Rule]) -> Result<bool, Empty>
-    requires proper { IsProper ranges.old }
-    requires listed { All IsListed rules.now }
-    ensures step { IfOk result (IsStep ranges.old ranges.new) }
-    ensures empty { OnErr result (IsVoid ranges.old) }
-{
-    let mut changed = false;
-    while round(ranges, rules)? {
-        changed = true;
-    }
-    Ok(changed)
-}
-
 /// Applies every rule at least once. `Ok(true)` says that something changed.
 fn pass(ranges: &mut ParamBox) -> Result<bool, Empty>
     requires { IsProper ranges.old }
@@ -128,12 +115,12 @@ fn pass(ranges: &mut ParamBox) -> Result<bool, Empty>
     ensures settled { IfOk result (λ changed. changed ≡ false → IsSettled ranges.old) }
     ensures empty { OnErr result (IsVoid ranges.old) }
 {
-    let period_time = settle_by(ranges, &RULES[12..14])?;
-    let buffer_time = settle_by(ranges, &RULES[15..17])?;
+    let period = refine_whole_time(ranges, Span::Period)?;
+    let buffer = refine_whole_time(ranges, Span::Buffer)?;
     let by_rules = round(ranges, &RULES)?;
     let sample_bits = refine_sample_bits(ranges)?;
     let format = refine_format(ranges)?;
-    Ok(period_time | buffer_time | by_rules | sample_bits | format)
+    Ok(period | buffer | by_rules | sample_bits | format)
 }
 
 /// Applies the rules until none changes anything. `Ok(true)` says that something changed.

@@ -4,7 +4,7 @@ ghost use Rattle.hw_space.specs.Boxes.{part};
 ghost use Rattle.hw_space.specs.Narrowings.{narrowed, with_value, with_min, with_max, with_integer, with_first, with_last, interval_of, mask_of, FitsParam, LeavesNear};
 ghost use Rattle.hw_space.specs.Choices.{IsChoice};
 ghost use Rattle.hw_space.specs.Params.{HasInterval};
-ghost use Rattle.hw_space.specs.Settled.{Leaves, left_of};
+ghost use Rattle.hw_space.specs.Settled.{Configuration, IsExact, IsHeld, Leaves, left_of};
 ghost use Rattle.hw_space.specs.Widest.{widest};
 
 use crate::choice::choose;
@@ -50,26 +50,14 @@ impl Space {
     /// to the slave's, its rate, a period of 16 frames up to half the ring, a buffer of 32 frames up to the ring, and 2
     /// to 1024 periods. All are whole numbers but the two times.
     pub fn widest(slave: &Slave) -> Space
-        ensures { result ≡ widest slave.now.channels slave.now.rate slave.now.ring }
+        ensures widest { result ≡ widest slave.now.channels slave.now.rate slave.now.ring }
+
+        // So refinement leaves something of it.
+        ensures some { (x : Configuration) × IsExact x × IsHeld result x }
     {
-        let any = whole_from_to(1, END_MAX);
-        let any_time = from_to(1, END_MAX);
-        let ranges = ParamBox {
-            access: Mask { bits: 8 },
-            format: Mask { bits: 4 },
-            sample_bits: any,
-            frame_bits: any,
-            channels: whole_from_to(1, slave.channels as u32),
-            rate: whole_from_to(slave.rate, slave.rate),
-            period_time: any_time,
-            period_size: whole_from_to(16, slave.ring / 2),
-            period_bytes: any,
-            periods: whole_from_to(2, 1024),
-            buffer_time: any_time,
-            buffer_size: whole_from_to(32, slave.ring),
-            buffer_bytes: any,
-        };
-        Space { ranges }
+        Space {
+            ranges: widest_ranges(slave),
+        }
     }
 
     /// Narrows the space to the greatest one within it that no rule between the parameters changes
@@ -225,5 +213,28 @@ impl Space {
         narrow(&mut ranges, quantity, other)?;
         self.ranges = ranges;
         Ok(())
+    }
+}
+
+/// The widest values of the parameters.
+fn widest_ranges(slave: &Slave) -> ParamBox
+    ensures { result ≡ widest slave.now.channels slave.now.rate slave.now.ring }
+{
+    let any = whole_from_to(1, END_MAX);
+    let any_time = from_to(1, END_MAX);
+    ParamBox {
+        access: Mask { bits: 8 },
+        format: Mask { bits: 4 },
+        sample_bits: any,
+        frame_bits: any,
+        channels: whole_from_to(1, slave.channels as u32),
+        rate: whole_from_to(slave.rate, slave.rate),
+        period_time: any_time,
+        period_size: whole_from_to(16, slave.ring / 2),
+        period_bytes: any,
+        periods: whole_from_to(2, 1024),
+        buffer_time: any_time,
+        buffer_size: whole_from_to(32, slave.ring),
+        buffer_bytes: any,
     }
 }

@@ -1,6 +1,4 @@
 -- A rule that is applied is a step, and where it leaves nothing, nothing was there.
-use Rattle.std.specs.Prelude.{◌≡◌}
-use Rattle.hw_space.specs.Settled.{computed}
 use Rattle.hw_space.proofs.Results.{OnErr-always}
 use Rattle.hw_space.proofs.RuleLaws.{apply-IsStep, apply-IsVoid}
 use Rattle.hw_space.proofs.settle.apply.Goals as goal

@@ -1,5 +1,4 @@
 -- So far the box made a step. Each round that changes something makes it smaller.
-use Rattle.std.proofs.Common.{true, false}
 use Rattle.hw_space.specs.Boxes.{size_of_box}
 use Rattle.hw_space.specs.Steps.{IsStep}
 use Rattle.hw_space.proofs.settle.settle.Given as goal
