@@ -1,8 +1,7 @@
 -- The answers to a request, line by line.
 use Rattle.std.proofs.Common.{◌≡◌, ℕ, List, [], ◌∷◌, ◌++◌, ap, refl, sym, ◌∙◌, append_assoc, arith, ◌≤◌, ◌<◌, ◌+◌, false, subst, take, get_or, length}
 use Rattle.std.proofs.lemmas.List.{append-nil, take_more}
-use Rattle.std.specs.Prelude.{Option, Some, None, Result, Ok, Err, OnOk, OnErr, unwrap_or}
-use Rattle.hw_space.specs.declared.config.Config.{Config}
+use Rattle.std.specs.Prelude.{Option, Result, Ok, Err, OnOk, OnErr, unwrap_or}
 use Rattle.hw_space.specs.declared.param.Param.{Param}
 use Rattle.hw_space.specs.declared.param.Param.TheVariants.{Access, Format, SampleBits, FrameBits, Channels, Rate, PeriodTime, PeriodSize, PeriodBytes, Periods, BufferTime, BufferSize, BufferBytes}
 use Rattle.hw_space.specs.declared.param_box.ParamBox.{ParamBox}
@@ -19,7 +18,7 @@ use Rattle.dmixlab.specs.declared.refine.request.Ask.{Ask}
 use Rattle.dmixlab.specs.declared.refine.request.Ask.TheVariants as ask_kinds
 use Rattle.dmixlab.specs.declared.refine.request.Request.{Request}
 use Rattle.dmixlab.specs.Refine.Params.{is_mask, most_of}
-use Rattle.dmixlab.specs.Refine.Answers.{AreAnswers, Answers, AnswersFirst, IsAnswer, IsAppended, IsNarrowing, IsChoosing, IsShowing, left_line, chosen_line, value_line}
+use Rattle.dmixlab.specs.Refine.Answers.{AreAnswers, Answers, IsAnswer, IsAppended, IsNarrowing, left_line, chosen_line}
 
 -- a quantity that isn't a mask has an interval
 pub HasInterval-other : (param : Param) → is_mask param ≡ false → HasInterval param

@@ -5,6 +5,5 @@ mod Outputs
 mod Commands
 mod Ends
 mod Answering
-mod Configurations
 mod Members
 mod Requests

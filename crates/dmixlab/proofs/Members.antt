@@ -1,6 +1,6 @@
 -- The members of a mask, one after the other.
-use Rattle.std.proofs.Common.{◌≡◌, ℕ, zero, suc, ◌+◌, Bool, true, false, List, [], ◌∷◌, ◌++◌, map, filter, ap, refl, sym, ◌∙◌, append_assoc, arith, codes, add-one, cond}
-use Rattle.std.specs.List.{range_with_len, join_with_byte}
+use Rattle.std.proofs.Common.{◌≡◌, ℕ, zero, suc, ◌+◌, Bool, true, false, List, [], ◌∷◌, ◌++◌, filter, ap, refl, sym, ◌∙◌, append_assoc, arith, add-one, cond}
+use Rattle.std.specs.List.{range_with_len}
 use Rattle.std.specs.Fmt.{decimal}
 use Rattle.std.proofs.lemmas.List.{append-nil}
 use Rattle.std.proofs.lemmas.List.Elements.{filter-append}

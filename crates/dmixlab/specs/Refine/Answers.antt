@@ -16,7 +16,6 @@ use Rattle.hw_space.specs.Widest.{widest}
 use Rattle.dmixlab.specs.declared.refine.request.Ask.{Ask}
 use Rattle.dmixlab.specs.declared.refine.request.Ask.TheVariants as asks
 use Rattle.dmixlab.specs.declared.refine.request.Request.{Request}
-use Rattle.dmixlab.specs.declared.refine.request.SlaveLine.{SlaveLine}
 use Rattle.dmixlab.specs.Refine.Params.{name_of}
 use Rattle.dmixlab.specs.Refine.Values.{interval_text, mask_text}
 

@@ -35,7 +35,7 @@ asked_in (line ∷ lines) = do
   Ok (record { slave = slave; asks = asks })
 
 -- what a text asks, or why it is refused: for its length, or for its first line that can't stand
-abbrev pub request_of : List ℕ → Result Request ScriptError
+unfoldable pub request_of : List ℕ → Result Request ScriptError
 request_of text = if nat_lt 1048576 (length text) then Err (record { line = 0; why = why.TooLong }) else asked_in (lines_of text)
 
 -- an error of a call is the one that is given, unless memory ran out

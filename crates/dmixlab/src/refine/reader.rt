@@ -86,6 +86,7 @@ fn read_lines(alloc: Global, text: &[u8]) -> Result<Request, ScriptError>
 ///
 /// `Fit` is for a slave's line whose words are right, where the period is above half the ring or doesn't
 /// divide it. `Memory` is for want of memory.
+#[tactic(auto, unfolding(crate::specs::Refine::Reading::request_of))]
 pub(crate) fn read_request(alloc: Global, text: &[u8]) -> Result<Request, ScriptError>
     // The answer is what the text asks, or its refusal, unless memory ran out.
     ensures exact { Reads (λ r. r) result (request_of text.now) }

@@ -1,4 +1,3 @@
-use Rattle.std.proofs.Common.{sym, ◌∙◌}
 use Rattle.dmixlab.proofs.Answering.{Answers-next}
 use Rattle.dmixlab.proofs.refine.answers.answer_all.Goals as goal
 

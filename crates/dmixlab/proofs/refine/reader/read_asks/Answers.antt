@@ -1,4 +1,4 @@
-use Rattle.std.proofs.Common.{◌≡◌, ◌∙◌, ap, sym, arith}
+use Rattle.std.proofs.Common.{◌∙◌, ap, sym, arith}
 use Rattle.dmixlab.specs.Refine.Reading.{on_line}
 use Rattle.dmixlab.proofs.Requests.{Reads-refused, asks_of-more, asks_of-none, asks_of-refused, All-asks, All-read}
 use Rattle.dmixlab.proofs.refine.reader.read_asks.Goals as goal

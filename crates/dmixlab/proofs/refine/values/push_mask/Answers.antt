@@ -1,5 +1,5 @@
-use Rattle.std.proofs.Common.{sym, ◌∙◌, arith, subst, string_bytes}
-use Rattle.dmixlab.proofs.Members.{Listing, Listing-none, Listing-member, Listing-other, Listing-all}
+use Rattle.std.proofs.Common.{sym, ◌∙◌, arith}
+use Rattle.dmixlab.proofs.Members.{Listing-none, Listing-member, Listing-other, Listing-all}
 use Rattle.dmixlab.proofs.refine.values.push_mask.Goals as goal
 use Rattle.dmixlab.proofs.refine.values.push_mask.Goals.{then-has_member+in_ok-push_number, else-has_member}
 
