@@ -43,13 +43,13 @@ def ends(answer):
     return int(least), int(greatest)
 
 
-def line(draw, probe, lines, folder):
-    """A random line, its number drawn near what the lines so far leave."""
+def line(draw, command, lines, folder):
+    """A random line, its number drawn near what the lines so far leave, as a command tells."""
     name = draw.choice(PARAMETERS)
     word = draw.choice(["set", "set", "min", "max", "min", "max", "integer", "show"])
     if word in ("integer", "show"):
         return f"{word} {name}"
-    left = ends(answers([probe], "\n".join(lines + [f"show {name}"]) + "\n", folder)[-1])
+    left = ends(answers(command, "\n".join(lines + [f"show {name}"]) + "\n", folder)[-1])
     least, greatest = left if left else (0, 4294967295)
     number = draw.choice([draw.randint(least, greatest), draw.randint(least, greatest), least, greatest,
                           max(least - 1, 0), min(greatest + 1, 4294967295), draw.randint(0, 4294967295)])
@@ -68,7 +68,7 @@ def main():
         for _ in range(texts):
             lines = [slave(draw)]
             for _ in range(draw.randint(1, 12)):
-                lines.append(line(draw, probe, lines, folder))
+                lines.append(line(draw, [probe], lines, folder))
             lines += [f"show {name}" for name in PARAMETERS]
             text = "\n".join(lines) + "\n"
             alsa, ours = answers([probe], text, folder), answers([PROGRAM, "refine", "text"], text, folder)
