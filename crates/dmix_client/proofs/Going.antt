@@ -76,7 +76,7 @@ settled-told d state (Err e) before after going goes told = record { goes = tt; 
 
 synced-told_by : (c : Plain) (call : Call) (position : Position) (commit : Commit) (stop : Bool) (before after : ℕ) → is_stop commit.ended ≡ stop → c.stopped ≡ false → IsStep c.state call → ToldBy commit.ended before after
     → IsToldOf (if stop then stopped_in (committed_by (seen_at c position) commit)
-      else settled (committed_by (seen_at c position) commit) (next_of c.state call (facts_of (committed_by (seen_at c position) commit) position (over_of (seen_at c position) position) (late_of (seen_at c position) commit)))) before after
+    else settled (committed_by (seen_at c position) commit) (next_of c.state call (facts_of (committed_by (seen_at c position) commit) position (over_of (seen_at c position) position) (late_of (seen_at c position) commit)))) before after
 synced-told_by c call position commit true before after is going step told = record { goes = tt; told = told-stop commit.ended before after is told }
 synced-told_by c call position commit false before after is going step told =
     let fair = next-fair c.state call (queued_of (committed_by (seen_at c position) commit)) position.gone (over_of (seen_at c position) position) (late_of (seen_at c position) commit) before after step (told-going commit.ended before after is told) in
@@ -100,15 +100,15 @@ begun-late c d state false None before after kept same = record { goes = (refl, 
 
 begun-by_stop : (c : Plain) (state : State) (cursor : Cursor) (position : Position) (commit : Commit) (stop : Bool) (before after : ℕ) → is_stop commit.ended ≡ stop → ToldBy commit.ended before after
     → IsBegunOf c state (if stop then stopped_in (committed_by (started_in c state position cursor) commit)
-      else going_on (committed_by (started_in c state position cursor) commit) state (next_of Prepared call.Start (found_at position (late_of (started_in c state position cursor) commit)))) before after
+    else going_on (committed_by (started_in c state position cursor) commit) state (next_of Prepared call.Start (found_at position (late_of (started_in c state position cursor) commit)))) before after
 begun-by_stop c state cursor position commit true before after is told = record { goes = tt; told = told-stop commit.ended before after is told }
 begun-by_stop c state cursor position commit false before after is told =
     begun-late c (committed_by (started_in c state position cursor) commit) state position.gone (late_of (started_in c state position cursor) commit) before after refl (told-going commit.ended before after is told)
 
 begun-by_gone : (c : Plain) (state : State) (cursor : Cursor) (position : Position) (commit : Commit) (gone : Bool) (before after : ℕ) → ToldBy commit.ended before after → (gone ≡ true → after ≡ before)
     → IsBegunOf c state (if gone then going_on (seen_at c position) state (next_of Prepared call.Start (found_at position None))
-      else (if is_stop commit.ended then stopped_in (committed_by (started_in c state position cursor) commit)
-      else going_on (committed_by (started_in c state position cursor) commit) state (next_of Prepared call.Start (found_at position (late_of (started_in c state position cursor) commit))))) before after
+    else (if is_stop commit.ended then stopped_in (committed_by (started_in c state position cursor) commit)
+    else going_on (committed_by (started_in c state position cursor) commit) state (next_of Prepared call.Start (found_at position (late_of (started_in c state position cursor) commit))))) before after
 begun-by_gone c state cursor position commit true before after told whole = begun-late c (seen_at c position) state position.gone None before after refl (whole refl)
 begun-by_gone c state cursor position commit false before after told whole = begun-by_stop c state cursor position commit (is_stop commit.ended) before after refl told
 

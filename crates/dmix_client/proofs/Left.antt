@@ -61,8 +61,7 @@ IsConfigured-as c d ring same_bindings same_geometry same_config k = record {
 }
 
 module _ (c : Plain) (ring : List ℤ) (state : State) (moves_then : is_moving state ≡ true) (cursor : Cursor) (commit : Commit) (upto fed : ℕ) (sums : upto + c.source ≡ fed)
-  (geometry : Geometry) (member : ℕ) (at : Cursor) (seen : ℕ) (can : Type 0) where
-
+    (geometry : Geometry) (member : ℕ) (at : Cursor) (seen : ℕ) (can : Type 0) where
   left-None : IsStarting c ring cursor None commit upto → IsAfter c cursor None commit geometry member at seen can → IsLeft (record c { stopped = true }) ring geometry member at seen can
   left-None starting after =
       let sound = starting.sound in
@@ -125,7 +124,7 @@ module _ (c : Plain) (ring : List ℤ) (state : State) (moves_then : is_moving s
   left-whole position starting after here unstopped in_time =
       let whole = whole-of commit.ended commit.frames commit.part (start_count c cursor position upto) (length c.bindings) (end_of_commit (started_in c state position cursor) commit) (end_channel (started_in c state position cursor) commit) starting.found.commit_is unstopped in_time in
       let all : commit.frames ≡ commit_count (started_in c Running position cursor) position.frame upto =
-          whole.0 ∙ ap (λ (b : Bool). if b then 0 else commit_count (started_in c Running position cursor) position.frame upto) here in
+      whole.0 ∙ ap (λ (b : Bool). if b then 0 else commit_count (started_in c Running position cursor) position.frame upto) here in
       record {
         sound = IsSound-begun c ring state position cursor commit c.stopped upto upto fed starting not_prepared sums (λ moves going. IsMoving-begun c ring state position cursor commit c.stopped upto fed starting all whole.1);
         use_it = record {
@@ -150,14 +149,14 @@ module _ (c : Plain) (ring : List ℤ) (state : State) (moves_then : is_moving s
   left-by_stop : (position : Position) (stop : Bool) → is_stop commit.ended ≡ stop → IsStarting c ring cursor (Some position) commit upto → IsAfter c cursor (Some position) commit geometry member at seen can
       → position.gone ≡ false
       → IsLeft (grown upto fed (if stop then stopped_in (committed_by (started_in c state position cursor) commit)
-        else going_on (committed_by (started_in c state position cursor) commit) state (next_of Prepared call.Start (found_at position (late_of (started_in c state position cursor) commit))))) ring geometry member at seen can
+      else going_on (committed_by (started_in c state position cursor) commit) state (next_of Prepared call.Start (found_at position (late_of (started_in c state position cursor) commit))))) ring geometry member at seen can
   left-by_stop position true is starting after here = left-stopped position starting after
   left-by_stop position false is starting after here = left-by_late position (late_of (started_in c state position cursor) commit) refl starting after position.gone refl here is
 
   left-by_gone : (position : Position) (gone : Bool) → position.gone ≡ gone → IsStarting c ring cursor (Some position) commit upto → IsAfter c cursor (Some position) commit geometry member at seen can
       → IsLeft (grown upto fed (if gone then going_on (seen_at c position) state (next_of Prepared call.Start (record { capture = false; queued = 1; starts = true; gone = gone; over = None; late = None }))
-        else (if is_stop commit.ended then stopped_in (committed_by (started_in c state position cursor) commit)
-        else going_on (committed_by (started_in c state position cursor) commit) state (next_of Prepared call.Start (found_at position (late_of (started_in c state position cursor) commit)))))) ring geometry member at seen can
+      else (if is_stop commit.ended then stopped_in (committed_by (started_in c state position cursor) commit)
+      else going_on (committed_by (started_in c state position cursor) commit) state (next_of Prepared call.Start (found_at position (late_of (started_in c state position cursor) commit)))))) ring geometry member at seen can
   left-by_gone position true is starting after = left-gone position starting after
   left-by_gone position false is starting after = left-by_stop position (is_stop commit.ended) refl starting after is
 

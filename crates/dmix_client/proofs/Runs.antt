@@ -25,12 +25,12 @@ pub frame_entries-same : (member : ℕ) (bindings : List ℕ) (s t : ℕ → ℤ
 frame_entries-same member bindings s t channels card are same =
     let entry : (ℕ → ℤ) → ℕ → Entry = λ u q. record { member = member; frame = card; channel = slice_index bindings q; sample = u q } in
     map-same (entry s) (entry t) (take channels (rising bindings)) (λ k within.
-      let low : k < channels = omega (arith, length-take channels (rising bindings)) in
-      let in_range : k < length bindings = omega (arith, length-take channels (rising bindings), length-rising bindings are) in
-      let is : get_or (take channels (rising bindings)) k 0 ≡ get_or (rising bindings) k 0 = get_or-take channels (rising bindings) k 0 low in
-      let here : s (get_or (rising bindings) k 0) ≡ t (get_or (rising bindings) k 0) = same (get_or (rising bindings) k 0) (rising-within bindings k are in_range) in
-      let one : entry s (get_or (rising bindings) k 0) ≡ entry t (get_or (rising bindings) k 0) = ap (λ (x : ℤ). let e : Entry = record { member = member; frame = card; channel = slice_index bindings (get_or (rising bindings) k 0); sample = x } in e) here in
-      subst (λ q. entry s q ≡ entry t q) (sym is) one)
+    let low : k < channels = omega (arith, length-take channels (rising bindings)) in
+    let in_range : k < length bindings = omega (arith, length-take channels (rising bindings), length-rising bindings are) in
+    let is : get_or (take channels (rising bindings)) k 0 ≡ get_or (rising bindings) k 0 = get_or-take channels (rising bindings) k 0 low in
+    let here : s (get_or (rising bindings) k 0) ≡ t (get_or (rising bindings) k 0) = same (get_or (rising bindings) k 0) (rising-within bindings k are in_range) in
+    let one : entry s (get_or (rising bindings) k 0) ≡ entry t (get_or (rising bindings) k 0) = ap (λ (x : ℤ). let e : Entry = record { member = member; frame = card; channel = slice_index bindings (get_or (rising bindings) k 0); sample = x } in e) here in
+    subst (λ q. entry s q ≡ entry t q) (sym is) one)
 
 -- what was laid whole, with some channels of the next frame
 run_entries-part : (member : ℕ) (bindings : List ℕ) (s : ℕ → ℕ → ℤ) (card first n part : ℕ)
@@ -48,9 +48,9 @@ pub run_entries-whole : (member : ℕ) (bindings : List ℕ) (s : ℕ → ℕ �
 run_entries-whole member bindings s card first n =
     let laid : ℕ → List Entry = λ j. frame_entries member bindings (s j) (length bindings) (card + j) in
     let more : flat_map laid (range_with_len first (n + 1)) ≡ flat_map laid (range_with_len first n) ++ laid (first + n) =
-        ap (flat_map laid) (ap (range_with_len first) (add-one n) ∙ range_with_len-suc first n)
-        ∙ flat_map-append laid (range_with_len first n) ((first + n) ∷ [])
-        ∙ ap (λ (es : List Entry). flat_map laid (range_with_len first n) ++ es) (append-nil (laid (first + n))) in
+    ap (flat_map laid) (ap (range_with_len first) (add-one n) ∙ range_with_len-suc first n)
+    ∙ flat_map-append laid (range_with_len first n) ((first + n) ∷ [])
+    ∙ ap (λ (es : List Entry). flat_map laid (range_with_len first n) ++ es) (append-nil (laid (first + n))) in
     sym (append-nil (flat_map laid (range_with_len first (n + 1))) ∙ more)
 
 -- frames were laid, and then channels of the next
@@ -59,8 +59,8 @@ pub laid-part : {S : Type 0} (laid : S → S → List Entry → Type 0) (compose
     → laid p q (run_entries member bindings s card first n 0) → laid q r (frame_entries m bindings t part frame) → laid p r (run_entries member bindings s card first n part)
 laid-part laid composes p q r member bindings s card first n m frame part t are is_member is_frame same before then =
     let there : frame_entries m bindings t part frame ≡ frame_entries member bindings (s (first + n)) part (card + (first + n)) =
-        ap (λ (k : ℕ). frame_entries k bindings t part frame) is_member ∙ ap (frame_entries member bindings t part) is_frame
-        ∙ frame_entries-same member bindings t (s (first + n)) part (card + (first + n)) are same in
+    ap (λ (k : ℕ). frame_entries k bindings t part frame) is_member ∙ ap (frame_entries member bindings t part) is_frame
+    ∙ frame_entries-same member bindings t (s (first + n)) part (card + (first + n)) are same in
     subst (laid p r) (ap (λ (es : List Entry). run_entries member bindings s card first n 0 ++ es) there ∙ run_entries-part member bindings s card first n part)
     (composes.joined p q r (run_entries member bindings s card first n 0) (frame_entries m bindings t part frame) before then)
 

@@ -185,8 +185,11 @@ loaded-of c ring call position commit syncing = record { newer = syncing.loaded.
 
 few-of : (c : Plain) (ring : List ℤ) (call : Call) (position : Position) (commit : Commit) → IsSyncing c ring call (Some position) commit → commit.frames ≤ commit_count c position.frame c.written
 few-of c ring call position commit syncing =
-    omega (arith, frames-le commit.ended commit.frames commit.part (sync_count c position) (length c.bindings) syncing.found.commit_is,
-    if-le (position.gone || is_some (over_of (seen_at c position) position)) (commit_count c position.frame c.written))
+    omega (
+      arith,
+      frames-le commit.ended commit.frames commit.part (sync_count c position) (length c.bindings) syncing.found.commit_is,
+      if-le (position.gone || is_some (over_of (seen_at c position) position)) (commit_count c position.frame c.written),
+    )
 
 over-None : (state : State) (b : Bool) (o : ℕ × ℕ) → is_moving state ≡ true → (is_running state ≡ true → (if is_running state && b then Some o else None) ≡ None) → (if is_running state && b then Some o else None) ≡ None
 over-None Running b o is none = none refl
@@ -205,7 +208,7 @@ going-of c ring call position commit syncing unstopped is =
 
 synced-by : (c : Plain) (ring : List ℤ) (call : Call) (position : Position) (commit : Commit) (stop : Bool) → is_stop commit.ended ≡ stop → IsSyncing c ring call (Some position) commit
     → IsSound (if stop then stopped_in {T = Unit {0}} (committed_by (seen_at c position) commit)
-      else settled (committed_by (seen_at c position) commit) (next_of c.state call (facts_of (committed_by (seen_at c position) commit) position (over_of (seen_at c position) position) (late_of (seen_at c position) commit)))).0 ring
+    else settled (committed_by (seen_at c position) commit) (next_of c.state call (facts_of (committed_by (seen_at c position) commit) position (over_of (seen_at c position) position) (late_of (seen_at c position) commit)))).0 ring
 synced-by c ring call position commit true is syncing =
     IsSound-done c ring position commit c.state true syncing.sound (syncing.sound.set_up (set_up-moving c.state syncing.moves)) (loaded-of c ring call position commit syncing) (few-of c ring call position commit syncing)
     (not_prepared-moving c.state syncing.moves) (λ moves going. absurd (cc))
@@ -229,7 +232,7 @@ use_by : (c : Plain) (ring : List ℤ) (call : Call) (position : Position) (comm
     → is_stop commit.ended ≡ stop → IsSyncing c ring call (Some position) commit
     → geometry ≡ c.geometry → member ≡ c.member → can → OnWhole commit.ended (IsFrom cursor (end_of_commit c commit) (least_channel c.bindings)) → seen ≡ position.frame
     → CanUse (if stop then stopped_in {T = Unit {0}} (committed_by (seen_at c position) commit)
-      else settled (committed_by (seen_at c position) commit) (next_of c.state call (facts_of (committed_by (seen_at c position) commit) position (over_of (seen_at c position) position) (late_of (seen_at c position) commit)))).0 geometry member cursor seen can
+    else settled (committed_by (seen_at c position) commit) (next_of c.state call (facts_of (committed_by (seen_at c position) commit) position (over_of (seen_at c position) position) (late_of (seen_at c position) commit)))).0 geometry member cursor seen can
 use_by c ring call position commit true geometry member cursor seen can is syncing same_geometry same_member able whole saw = record {
   same_geometry = same_geometry;
   same_member = same_member;

@@ -26,7 +26,7 @@ KeepsAccepted-going_on c (Err e) state refused = record { written = refl; fed = 
 
 KeepsAccepted-committed : (c : Plain) (state : State) (cursor : Cursor) (position : Position) (commit : Commit) (stop : Bool)
     → KeepsAccepted c (if stop then stopped_in {T = Unit {0}} (committed_by (started_in c state position cursor) commit)
-      else going_on (committed_by (started_in c state position cursor) commit) state (next_of Prepared call.Start (found_at position (late_of (started_in c state position cursor) commit)))).0
+    else going_on (committed_by (started_in c state position cursor) commit) state (next_of Prepared call.Start (found_at position (late_of (started_in c state position cursor) commit)))).0
 KeepsAccepted-committed c state cursor position commit true = record { written = refl; fed = refl; bindings = refl }
 KeepsAccepted-committed c state cursor position commit false =
     let k = KeepsAccepted-going_on (committed_by (started_in c state position cursor) commit) (next_of Prepared call.Start (found_at position (late_of (started_in c state position cursor) commit))).answer state (next_of Prepared call.Start (found_at position (late_of (started_in c state position cursor) commit))).state in
@@ -34,8 +34,8 @@ KeepsAccepted-committed c state cursor position commit false =
 
 KeepsAccepted-gone : (c : Plain) (state : State) (cursor : Cursor) (position : Position) (commit : Commit) (gone : Bool)
     → KeepsAccepted c (if gone then going_on (seen_at c position) state (next_of Prepared call.Start (found_at position None))
-      else (if is_stop commit.ended then stopped_in {T = Unit {0}} (committed_by (started_in c state position cursor) commit)
-      else going_on (committed_by (started_in c state position cursor) commit) state (next_of Prepared call.Start (found_at position (late_of (started_in c state position cursor) commit))))).0
+    else (if is_stop commit.ended then stopped_in {T = Unit {0}} (committed_by (started_in c state position cursor) commit)
+    else going_on (committed_by (started_in c state position cursor) commit) state (next_of Prepared call.Start (found_at position (late_of (started_in c state position cursor) commit))))).0
 KeepsAccepted-gone c state cursor position commit true =
     let k = KeepsAccepted-going_on (seen_at c position) (next_of Prepared call.Start (found_at position None)).answer state (next_of Prepared call.Start (found_at position None)).state in
     record { written = k.written; fed = k.fed; bindings = k.bindings }
@@ -47,7 +47,7 @@ KeepsAccepted-started c state cursor (Some position) commit = KeepsAccepted-gone
 
 KeepsAccepted-synced_by : (c : Plain) (call : Call) (position : Position) (commit : Commit) (stop : Bool)
     → KeepsAccepted c (if stop then stopped_in {T = Unit {0}} (committed_by (seen_at c position) commit)
-      else settled (committed_by (seen_at c position) commit) (next_of c.state call (facts_of (committed_by (seen_at c position) commit) position (over_of (seen_at c position) position) (late_of (seen_at c position) commit)))).0
+    else settled (committed_by (seen_at c position) commit) (next_of c.state call (facts_of (committed_by (seen_at c position) commit) position (over_of (seen_at c position) position) (late_of (seen_at c position) commit)))).0
 KeepsAccepted-synced_by c call position commit true = record { written = refl; fed = refl; bindings = refl }
 KeepsAccepted-synced_by c call position commit false = record { written = refl; fed = refl; bindings = refl }
 

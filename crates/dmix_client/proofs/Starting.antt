@@ -54,8 +54,11 @@ card_most c ring position cursor sound low near = start_most position.frame c.le
 start_few : (c : Plain) (ring : List ℤ) (cursor : Cursor) (position : Position) (commit : Commit) (upto : ℕ) → IsStarting c ring cursor (Some position) commit upto
     → commit.frames ≤ commit_count (started_in c Running position cursor) position.frame upto
 start_few c ring cursor position commit upto starting =
-    omega (arith, frames-le commit.ended commit.frames commit.part (start_count c cursor position upto) (length c.bindings) starting.found.commit_is,
-    if-le position.gone (commit_count (started_in c Running position cursor) position.frame upto))
+    omega (
+      arith,
+      frames-le commit.ended commit.frames commit.part (start_count c cursor position upto) (length c.bindings) starting.found.commit_is,
+      if-le position.gone (commit_count (started_in c Running position cursor) position.frame upto),
+    )
 
 -- it keeps its counts in order
 pub IsSound-begun : (c : Plain) (ring : List ℤ) (s : State) (position : Position) (cursor : Cursor) (commit : Commit) (stopped : Bool) (upto written fed : ℕ)

@@ -33,7 +33,6 @@ pub record IsWriting (c : Plain) (ring : List ℤ) (n : ℕ) (last : Commit) (ge
   pub moves : is_moving c.state ≡ true
   pub going : c.stopped ≡ false
   pub commit_is : IsCommit last.ended last.frames last.part (count_with c (taken_of c n)) (length c.bindings)
-
   pub same_geometry : geometry ≡ c.geometry
   pub same_member : member ≡ c.member
   pub able : can
@@ -127,7 +126,6 @@ none-of (ended.Late word) frames part channels before after is told = absurd (om
 none-of ended.Stopped frames part channels before after is told = absurd (omega (arith, is.0))
 
 module _ (c : Plain) (ring : List ℤ) (n : ℕ) (last : Commit) (geometry : Geometry) (member : ℕ) (at : Cursor) (seen : ℕ) (can : Type 0) (before after : ℕ) where
-
   still_used : (d : Plain) → d.geometry ≡ c.geometry → d.member ≡ c.member → IsWriting c ring n last geometry member at seen can before after → (is_moving d.state ≡ true → d.stopped ≡ false → ⊥) → CanUse d geometry member at seen can
   still_used d same_geometry same_member writing still = record {
     same_geometry = writing.same_geometry ∙ sym same_geometry;

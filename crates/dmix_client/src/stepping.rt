@@ -71,7 +71,11 @@ impl Client {
     /// Makes a `sync` and answers the frames that a write can take (`snd_pcm_avail`, which syncs as this does, and not
     /// `snd_pcm_avail_update`): the buffer size, less what is written and not played. It may exceed the buffer size. Where
     /// the sync ended in SETUP it is the buffer size. It is refused as `sync` is.
-    pub fn avail_update<P: MixPort, G: Gate>(&mut self, port: &mut P, gate: &mut G) -> Result<u64, PcmError>
+    pub fn avail_update<P: MixPort, G: Gate>(
+        &mut self,
+        port: &mut P,
+        gate: &mut G,
+    ) -> Result<u64, PcmError>
         requires { CanUse self.old.plain (P.geometry port.old) (P.member port.old) (P.cursor port.old) (P.seen port.old) (P.can_add port.old) }
         ensures refused { (e : PcmError) → refusal_of self.old.plain call.Sync ≡ Some e → (result ≡ Err e) × (self.new ≡ self.old) × (port.new ≡ port.old) × (gate.new ≡ gate.old) }
         ensures waits { refusal_of self.old.plain call.Sync ≡ None → is_moving self.old.plain.state ≡ false → (result ≡ Ok (avail_answer self.old.plain)) × (self.new ≡ self.old) × (port.new ≡ port.old) × (gate.new ≡ gate.old) }
@@ -92,7 +96,11 @@ impl Client {
     /// Makes a `sync` and answers how many frames are left from the position seen to the end of what is written
     /// (`snd_pcm_delay`). In PREPARED these are all that is written; where the sync ended in SETUP there are none. It is
     /// refused as `sync` is.
-    pub fn delay<P: MixPort, G: Gate>(&mut self, port: &mut P, gate: &mut G) -> Result<u64, PcmError>
+    pub fn delay<P: MixPort, G: Gate>(
+        &mut self,
+        port: &mut P,
+        gate: &mut G,
+    ) -> Result<u64, PcmError>
         requires { CanUse self.old.plain (P.geometry port.old) (P.member port.old) (P.cursor port.old) (P.seen port.old) (P.can_add port.old) }
         ensures refused { (e : PcmError) → refusal_of self.old.plain call.Sync ≡ Some e → (result ≡ Err e) × (self.new ≡ self.old) × (port.new ≡ port.old) × (gate.new ≡ gate.old) }
         ensures waits { refusal_of self.old.plain call.Sync ≡ None → is_moving self.old.plain.state ≡ false → (result ≡ Ok (delay_answer self.old.plain)) × (self.new ≡ self.old) × (port.new ≡ port.old) × (gate.new ≡ gate.old) }

@@ -92,7 +92,9 @@ impl Plain {
         match commit.ended {
             Ended::Late { seen } => Some(XrunWhy::Late {
                 frame: self.card + (self.committed + commit.frames),
-                channel: self.bindings.card_channel(self.bindings.rising(commit.part)),
+                channel: self
+                    .bindings
+                    .card_channel(self.bindings.rising(commit.part)),
                 seen,
             }),
             _ => None,
@@ -105,7 +107,8 @@ impl Plain {
         ensures { result ≡ commit_count self.now position upto }
     {
         let window_end = (position + self.geometry.frames as u64).min(self.geometry.end_frame());
-        upto.min(window_end.saturating_sub(self.card)).saturating_sub(self.committed)
+        upto.min(window_end.saturating_sub(self.card))
+            .saturating_sub(self.committed)
     }
 
     /// How many frames the sync at a position is to commit.
@@ -185,7 +188,12 @@ pub(crate) fn settled(plain: Plain, outcome: Outcome) -> Answered<()>
 }
 
 /// The sync of a client that moves frames, by what its load and its commit found.
-pub(crate) fn synced(plain: Plain, call: Call, load: Option<Position>, commit: Commit) -> Answered<()>
+pub(crate) fn synced(
+    plain: Plain,
+    call: Call,
+    load: Option<Position>,
+    commit: Commit,
+) -> Answered<()>
     requires ready { IsReadyAt plain load }
     requires fits { plain.card + (plain.committed + commit.frames) < 2 ^ 64 }
     requires part { OnLate commit.ended (λ _. commit.part < length plain.bindings) }
@@ -274,7 +282,8 @@ impl Plain {
         if position.gone {
             0
         } else {
-            self.started_in(State::Running, position, cursor).commit_count(position.frame, upto)
+            self.started_in(State::Running, position, cursor)
+                .commit_count(position.frame, upto)
         }
     }
 

@@ -57,11 +57,11 @@ returns-clause-drains g c =
     let after = c.sync_call-synced.new.port in
     let cursor = port.cursor before in
     let well : started plain Draining cursor found.load found.commit ≡ (middle, Ok tt) =
-        now.outcome ∙ ap (λ (r : Result (Unit {0}) PcmError). let a : Answered (Unit {0}) = (middle, r) in a) (ok-of c.begin-begun.result.answer c.in_default.not-Err) in
+    now.outcome ∙ ap (λ (r : Result (Unit {0}) PcmError). let a : Answered (Unit {0}) = (middle, r) in a) (ok-of c.begin-begun.result.answer c.in_default.not-Err) in
     let begun : (started plain Draining cursor found.load found.commit).0 ≡ middle = ap (λ (a : Answered (Unit {0})). a.0) well in
     let same_bindings : middle.bindings ≡ plain.bindings = ap (λ (d : Plain). d.bindings) (sym begun) ∙ (KeepsAccepted-started plain Draining cursor found.load found.commit).bindings in
     let found_last : IsFound last.load last.commit (λ position. middle) (sync_count middle) (length plain.bindings) =
-        subst (λ (bs : List ℕ). IsFound last.load last.commit (λ position. middle) (sync_count middle) (length bs)) same_bindings then_now.found in
+    subst (λ (bs : List ℕ). IsFound last.load last.commit (λ position. middle) (sync_count middle) (length bs)) same_bindings then_now.found in
     let shown_last : IfSome last.load (λ (position : Position). OnLate last.commit.ended (λ word. IsPast port.geometry port.shows after (end_of_commit middle last.commit) (end_channel middle last.commit) word)) = then_now.shown in
     record {
       load = found.load;

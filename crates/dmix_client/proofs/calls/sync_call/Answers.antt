@@ -45,7 +45,7 @@ returns-clause-port g c =
     let saw = last-of found.load (λ (p : Position). unwrap_or plain.seen 0 ≤ p.frame) (λ (p : Position). p.frame ≤ end_frame plain.geometry) (λ (p : Position). port.seen after ≡ p.frame) now.seen in
     subst (λ (a : Answered (Unit {0})). CanUse a.0 (port.geometry after) (port.member after) (port.cursor after) (port.seen after) (port.can_add after)) (sym c.synced-after.ensures)
     (CanUse-synced plain c.args.ring.now c.args.call found.load found.commit (port.geometry after) (port.member after) (port.cursor after) (port.seen after) (port.can_add after)
-      syncing (now.geometry ∙ c.requires.port.same_geometry) (now.member ∙ c.requires.port.same_member) now.can_add now.cursor saw)
+    syncing (now.geometry ∙ c.requires.port.same_geometry) (now.member ∙ c.requires.port.same_member) now.can_add now.cursor saw)
 
 pub returns-clause-goes : goal.returns-clause-goes
 returns-clause-goes g c =

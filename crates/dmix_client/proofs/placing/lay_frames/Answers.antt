@@ -18,9 +18,9 @@ loop-frame-preserved g c =
     let plain = c.args.plain.now in
     let number : ℕ = plain.committed + c.loop-frame.frame in
     let is_slot : c.slot_of-slot.result ≡ number % plain.config.buffer_size * length plain.bindings =
-        c.slot_of-slot.ensures.value ∙ ap (λ (n : ℕ). number % plain.config.buffer_size * n) c.len-channels.ensures.value in
+    c.slot_of-slot.ensures.value ∙ ap (λ (n : ℕ). number % plain.config.buffer_size * n) c.len-channels.ensures.value in
     let same : (k : ℕ) → k < length plain.bindings → slice_index_or c.frame_of-samples.result.now k (pos 0) ≡ held plain c.args.ring.now number k =
-        λ k within. c.frame_of-samples.ensures.samples k (omega (arith, c.len-channels.ensures.value)) ∙ ap (λ (n : ℕ). slice_index_or c.args.ring.now (n + k) (pos 0)) is_slot in
+    λ k within. c.frame_of-samples.ensures.samples k (omega (arith, c.len-channels.ensures.value)) ∙ ap (λ (n : ℕ). slice_index_or c.args.ring.now (n + k) (pos 0)) is_slot in
     let whole : c.place_frame-placed.result.placed ≡ length plain.bindings = subst (λ (e : Ended). IsUpTo e c.place_frame-placed.result.placed (length plain.bindings)) c.in-Whole.is now.placed in
     let next : plain.card + number + 1 ≡ plain.card + (plain.committed + (c.loop-frame.frame + 1)) = omega arith in
     record {
@@ -48,9 +48,9 @@ returns-in_default g c =
     let ended = c.place_frame-placed.result.ended in
     let number : ℕ = plain.committed + c.loop-frame.frame in
     let is_slot : c.slot_of-slot.result ≡ number % plain.config.buffer_size * length plain.bindings =
-        c.slot_of-slot.ensures.value ∙ ap (λ (n : ℕ). number % plain.config.buffer_size * n) c.len-channels.ensures.value in
+    c.slot_of-slot.ensures.value ∙ ap (λ (n : ℕ). number % plain.config.buffer_size * n) c.len-channels.ensures.value in
     let same : (k : ℕ) → k < length plain.bindings → slice_index_or c.frame_of-samples.result.now k (pos 0) ≡ held plain c.args.ring.now number k =
-        λ k within. c.frame_of-samples.ensures.samples k (omega (arith, c.len-channels.ensures.value)) ∙ ap (λ (n : ℕ). slice_index_or c.args.ring.now (n + k) (pos 0)) is_slot in
+    λ k within. c.frame_of-samples.ensures.samples k (omega (arith, c.len-channels.ensures.value)) ∙ ap (λ (n : ℕ). slice_index_or c.args.ring.now (n + k) (pos 0)) is_slot in
     let not_whole : ended ≡ Whole → ⊥ = c.in_default.not-Whole in
     record {
       geometry = now.geometry ∙ before.geometry;

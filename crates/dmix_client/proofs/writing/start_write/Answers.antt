@@ -71,14 +71,13 @@ returns-clause-port g c =
     let same = grown-accepted plain c.args.taken (started plain Running cursor found.load found.commit) (KeepsAccepted-started plain Running cursor found.load found.commit) in
     subst (λ (d : Plain). CanUse d (port.geometry after) (port.member after) (port.cursor after) (port.seen after) (port.can_add after)) (sym same ∙ (ap (λ (a : Answered (Unit {0})). (accepted_if c.args.taken a).0) now.outcome ∙ ap (λ (a : Answered ℕ). a.0) (sym c.accepted_if-after.ensures))) left.use_it
 
-
 pub accepted_if-after-requires-clause-written : goal.accepted_if-after-requires-clause-written
 accepted_if-after-requires-clause-written g c =
     let plain = c.args.plain.now in
     let found = c.start_call-begun.result.found in
     let cursor = g.P.MixPort.cursor c.args.port.now in
     let same : c.start_call-begun.result.plain.written ≡ plain.written =
-        ap (λ (a : Answered (Unit {0})). a.0.written) (sym c.start_call-begun.ensures.outcome) ∙ (KeepsAccepted-started plain Running cursor found.load found.commit).written in
+    ap (λ (a : Answered (Unit {0})). a.0.written) (sym c.start_call-begun.ensures.outcome) ∙ (KeepsAccepted-started plain Running cursor found.load found.commit).written in
     omega (arith, same, c.requires.fits, (c.requires.sound.configured (c.requires.sound.set_up (ap is_set_up c.requires.prepared))).buffer_most)
 
 pub accepted_if-after-requires-clause-fed : goal.accepted_if-after-requires-clause-fed
@@ -87,5 +86,5 @@ accepted_if-after-requires-clause-fed g c =
     let found = c.start_call-begun.result.found in
     let cursor = g.P.MixPort.cursor c.args.port.now in
     let same : c.start_call-begun.result.plain.fed ≡ plain.fed =
-        ap (λ (a : Answered (Unit {0})). a.0.fed) (sym c.start_call-begun.ensures.outcome) ∙ (KeepsAccepted-started plain Running cursor found.load found.commit).fed in
+    ap (λ (a : Answered (Unit {0})). a.0.fed) (sym c.start_call-begun.ensures.outcome) ∙ (KeepsAccepted-started plain Running cursor found.load found.commit).fed in
     omega (arith, same, c.requires.fits, c.requires.fed, (c.requires.sound.configured (c.requires.sound.set_up (ap is_set_up c.requires.prepared))).buffer_most)

@@ -28,7 +28,7 @@ returns-in-Err-clause-writes g c =
     let ring : List ℤ = c.args.ring.now in
     let nothing : Commit = record { frames = 0; part = 0; ended = Whole } in
     let refused : synced plain call.Transfer found.load found.commit ≡ (c.sync_call-synced.new.plain, Err c.in-Err.error) =
-        now.outcome ∙ ap (λ (r : Result (Unit {0}) PcmError). let a : Answered (Unit {0}) = (c.sync_call-synced.new.plain, r) in a) c.in-Err.is in
+    now.outcome ∙ ap (λ (r : Result (Unit {0}) PcmError). let a : Answered (Unit {0}) = (c.sync_call-synced.new.plain, r) in a) c.in-Err.is in
     let entries : List Entry = entries_at found.load (λ position. plain) ring found.commit in
     let none : (a : Answered (Unit {0})) → commit_entries a.0 ring nothing ≡ [] = λ a. refl in
     record {
@@ -62,11 +62,11 @@ returns-clause-writes g c =
     let new_ring : List ℤ = c.write_taken.new.ring in
     let frames = c.args.frames in
     let well : synced plain call.Transfer found.load found.commit ≡ (middle, Ok tt) =
-        now.outcome ∙ ap (λ (r : Result (Unit {0}) PcmError). let a : Answered (Unit {0}) = (middle, r) in a) (ok-of c.sync_call-synced.result.answer c.in_default.not-Err) in
+    now.outcome ∙ ap (λ (r : Result (Unit {0}) PcmError). let a : Answered (Unit {0}) = (middle, r) in a) (ok-of c.sync_call-synced.result.answer c.in_default.not-Err) in
     let begun : (synced plain call.Transfer found.load found.commit).0 ≡ middle = ap (λ (a : Answered (Unit {0})). a.0) well in
     let same_bindings : middle.bindings ≡ plain.bindings = ap (λ (d : Plain). d.bindings) (sym begun) ∙ (KeepsAccepted-synced plain call.Transfer found.load found.commit).bindings in
     let last_is : IsCommit last.ended last.frames last.part (count_with middle (taken_of middle frames)) (length plain.bindings) =
-        subst (λ (bs : List ℕ). IsCommit last.ended last.frames last.part (count_with middle (taken_of middle frames)) (length bs)) same_bindings later.commit in
+    subst (λ (bs : List ℕ). IsCommit last.ended last.frames last.part (count_with middle (taken_of middle frames)) (length bs)) same_bindings later.commit in
     let late : OnLate last.ended (λ word. IsPast port.geometry port.shows after (end_of_commit middle last) (end_channel middle last) word) = later.late in
     record {
       load = found.load;
@@ -89,7 +89,7 @@ write_taken-requires-clause-held g c =
     let found = c.sync_call-synced.result.found in
     let plain = c.args.plain.now in
     let same : c.sync_call-synced.new.plain.bindings ≡ plain.bindings =
-        ap (λ (a : Answered (Unit {0})). a.0.bindings) (sym c.sync_call-synced.ensures.outcome) ∙ (KeepsAccepted-synced plain call.Transfer found.load found.commit).bindings in
+    ap (λ (a : Answered (Unit {0})). a.0.bindings) (sym c.sync_call-synced.ensures.outcome) ∙ (KeepsAccepted-synced plain call.Transfer found.load found.commit).bindings in
     subst (λ (bs : List ℕ). c.args.frames * length bs ≤ length c.args.samples.now) (sym same) c.requires.held
 
 pub write_taken-requires-clause-fed : goal.write_taken-requires-clause-fed
@@ -97,5 +97,5 @@ write_taken-requires-clause-fed g c =
     let found = c.sync_call-synced.result.found in
     let plain = c.args.plain.now in
     let same : c.sync_call-synced.new.plain.fed ≡ plain.fed =
-        ap (λ (a : Answered (Unit {0})). a.0.fed) (sym c.sync_call-synced.ensures.outcome) ∙ (KeepsAccepted-synced plain call.Transfer found.load found.commit).fed in
+    ap (λ (a : Answered (Unit {0})). a.0.fed) (sym c.sync_call-synced.ensures.outcome) ∙ (KeepsAccepted-synced plain call.Transfer found.load found.commit).fed in
     subst (λ (n : ℕ). n < 2 ^ 63) (sym same) c.requires.fed

@@ -19,7 +19,7 @@ returns-clause-steps g c admitted moves =
     let stops = g.G.Gate.stops c.args.gate.now in
     let stops_after = g.G.Gate.stops c.sync_call-stepped.new.gate in
     let laid : port.laid before after (entries_at found.load (λ position. plain) ring found.commit) =
-        subst (λ (samples : List ℤ). port.laid before after (entries_at found.load (λ position. plain) samples found.commit)) c.as_slice-ring.ensures.value now.laid in
+    subst (λ (samples : List ℤ). port.laid before after (entries_at found.load (λ position. plain) samples found.commit)) c.as_slice-ring.ensures.value now.laid in
     subst
     (λ (v : ClientView). TakesStep {T = ℕ} port.laid port.loaded port.geometry port.shows before after stops stops_after v.ring (λ position. v.plain) (sync_count v.plain) (length v.plain.bindings) (λ load commit. with_number delay_answer (synced v.plain call.Sync load commit)) (c.sync_call-stepped.new.plain, c.with_delay.result))
     c.self.view_is

@@ -21,9 +21,9 @@ returns-then-is_moving-clause-steps g c admitted moves =
     let stops = g.G.Gate.stops c.args.gate.now in
     let stops_after = g.G.Gate.stops c.sync_call.new.gate in
     let laid : port.laid before after (entries_at found.load (λ position. plain) ring found.commit) =
-        subst (λ (samples : List ℤ). port.laid before after (entries_at found.load (λ position. plain) samples found.commit)) c.as_slice-ring.ensures.value now.laid in
+    subst (λ (samples : List ℤ). port.laid before after (entries_at found.load (λ position. plain) samples found.commit)) c.as_slice-ring.ensures.value now.laid in
     let taken : TakesStep {T = Unit {0}} port.laid port.loaded port.geometry port.shows before after stops stops_after ring (λ position. plain) (sync_count plain) (length plain.bindings) (synced plain call.Drain) (c.sync_call.new.plain, c.sync_call.result.answer) =
-        record { load = found.load; commit = found.commit; found = now.found; outcome = now.outcome; loaded_them = now.loaded; laid_them = laid; shown = now.shown; told = now.told } in
+    record { load = found.load; commit = found.commit; found = now.found; outcome = now.outcome; loaded_them = now.loaded; laid_them = laid; shown = now.shown; told = now.told } in
     subst
     (λ (v : ClientView). TakesStep {T = Unit {0}} port.laid port.loaded port.geometry port.shows before after stops stops_after v.ring (λ position. draining v.plain) (sync_count (draining v.plain)) (length v.plain.bindings) (synced (draining v.plain) call.Drain) (c.sync_call.new.plain, c.sync_call.result.answer))
     c.self.view_is

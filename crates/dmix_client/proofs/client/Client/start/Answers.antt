@@ -20,7 +20,7 @@ returns-clause-steps g c admitted some =
     let stops = g.G.Gate.stops c.args.gate.now in
     let stops_after = g.G.Gate.stops c.begin.new.gate in
     let laid : port.laid before after (entries_at found.load (λ position. started_in plain Running position cursor) ring found.commit) =
-        subst (λ (samples : List ℤ). port.laid before after (entries_at found.load (λ position. started_in plain Running position cursor) samples found.commit)) c.as_slice-ring.ensures.value now.laid in
+    subst (λ (samples : List ℤ). port.laid before after (entries_at found.load (λ position. started_in plain Running position cursor) samples found.commit)) c.as_slice-ring.ensures.value now.laid in
     subst
     (λ (v : ClientView). TakesStep {T = Unit {0}} port.laid port.loaded port.geometry port.shows before after stops stops_after v.ring (λ position. started_in v.plain Running position cursor) (λ position. start_count v.plain cursor position v.plain.written) (length v.plain.bindings) (started v.plain Running cursor) (c.begin.new.plain, c.begin.result.answer))
     c.self.view_is

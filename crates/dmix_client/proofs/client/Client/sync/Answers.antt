@@ -19,7 +19,7 @@ returns-clause-steps g c admitted moves =
     let stops = g.G.Gate.stops c.args.gate.now in
     let stops_after = g.G.Gate.stops c.sync_call.new.gate in
     let laid : port.laid before after (entries_at found.load (λ position. plain) ring found.commit) =
-        subst (λ (samples : List ℤ). port.laid before after (entries_at found.load (λ position. plain) samples found.commit)) c.as_slice-ring.ensures.value now.laid in
+    subst (λ (samples : List ℤ). port.laid before after (entries_at found.load (λ position. plain) samples found.commit)) c.as_slice-ring.ensures.value now.laid in
     subst
     (λ (v : ClientView). TakesStep {T = Unit {0}} port.laid port.loaded port.geometry port.shows before after stops stops_after v.ring (λ position. v.plain) (sync_count v.plain) (length v.plain.bindings) (synced v.plain call.Sync) (c.sync_call.new.plain, c.sync_call.result.answer))
     c.self.view_is
