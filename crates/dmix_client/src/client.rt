@@ -3,7 +3,7 @@ ghost use Rattle.std.specs.Prelude.{◌≡◌, ℕ, ◌+◌, ◌*◌, ◌^◌, �
 ghost use Rattle.pcm_states.specs.declared.calls.Call.TheVariants as call;
 ghost use Rattle.dmix_client.specs.Calls.{config_of, configured_with, dropped, freed, opened, prepared, refusal_of, segment_of, with_params};
 ghost use Rattle.dmix_client.specs.Checked.{Checks};
-ghost use Rattle.dmix_client.specs.View.{ClientView};
+ghost use Rattle.dmix_client.specs.View.{ClientView, IsSound};
 ghost use Rattle.sw_limits.specs.Boundary.{IsBoundary};
 
 use crate::plain::Plain;
@@ -27,7 +27,7 @@ pub struct Client {
 }
 
 impl Model for Client {
-    ghost use Rattle.dmix_client.specs.View.{ClientView};
+    ghost use Rattle.dmix_client.specs.View.{ClientView, IsSound};
 
     ghost Value = { ClientView };
 
@@ -49,6 +49,13 @@ impl Client {
             plain: Plain::opened(geometry, member, lead),
             ring: Vec::new(alloc),
         }
+    }
+
+    /// What every client keeps: how its counts and its local ring fit each other. A fact for contracts; it does nothing.
+    pub fn counts_are_sound(&self)
+        ensures { IsSound self.now.plain self.now.ring }
+    {
+        let _ = &self.plain;
     }
 
     /// The state of the stream (`snd_pcm_state`).

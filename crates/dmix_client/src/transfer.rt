@@ -1,5 +1,6 @@
 //! The call of a client that moves frames.
 ghost use Rattle.std.specs.Prelude.{◌≡◌, ℕ, ◌+◌, ◌*◌, ◌/◌, ◌<◌, ◌≤◌, true, false, IfOk, List, length};
+ghost use Rattle.mix_core.specs.Gate.{Told};
 ghost use Rattle.pcm_states.specs.declared.calls.Call.TheVariants as call;
 ghost use Rattle.dmix_client.specs.Calls.{accepted, filled, refusal_of, start_count, started_in, taken_of};
 ghost use Rattle.dmix_client.specs.Port.{CanUse, TakesStep};
@@ -61,6 +62,7 @@ impl Client {
             TakesStep P.laid P.loaded P.geometry P.shows port.old port.new (G.stops gate.old) (G.stops gate.new) self.new.ring (λ position. started_in self.old.plain State.Running position (P.cursor port.old)) (λ position. start_count self.old.plain (P.cursor port.old) position (self.old.plain.written + taken_of self.old.plain (frames_in self.old.plain samples.now))) (length self.old.plain.bindings) (filled self.old.plain (frames_in self.old.plain samples.now) (P.cursor port.old)) (self.new.plain, result) }
         ensures steps { refusal_of self.old.plain call.Transfer ≡ None → self.old.plain.state ≡ State.Running →
             TakesWrite P.laid P.loaded P.geometry P.shows port.old port.new self.old.plain self.old.ring self.new.ring samples.now (frames_in self.old.plain samples.now) (self.new.plain, result) }
+        ensures told { refusal_of self.old.plain call.Transfer ≡ None → self.old.plain.state ≡ State.Running → Told result (G.stops gate.old) (G.stops gate.new) }
         ensures port { CanUse self.new.plain (P.geometry port.new) (P.member port.new) (P.cursor port.new) (P.seen port.new) (P.can_add port.new) }
     {
         self.plain.admit(Call::Transfer)?;
