@@ -3,8 +3,9 @@
 
 usage: bench/sum_ring.py        from the top of the repository; wants cc, and proves and builds crates/sum_bench if needed
 
-Both programs lay and take a ring of 16,384 frames lap by lap, and give for each measurement the time on the clock of the fastest of
-400 laps. They are run in turn, ROUNDS times each, and the least time counts.
+The C program is built twice: with the ring's length as a field, as it is in the crate, and with the length as a constant. The three
+programs lay and take a ring of 16,384 frames lap by lap, and give for each measurement the time on the clock of the fastest of 400
+laps. They are run in turn, ROUNDS times each, and the least time counts.
 """
 import subprocess
 import sys
@@ -26,11 +27,14 @@ ROWS = (
 
 
 def build(folder):
-    """The C program, which is compiled anew; the crate is proved and built only where it has changed."""
-    program = folder / "sum_ring"
-    subprocess.run(["cc", "-O2", "-pthread", "-o", program, TOP / "bench/sum_ring.c"], check=True)
+    """The two C programs, which are compiled anew; the crate is proved and built only where it has changed."""
+    programs = [folder / "by_field", folder / "fixed"]
+    for program, flags in zip(programs, ([], ["-DFIXED"])):
+        subprocess.run(["cc", "-O2", "-pthread", *flags, "-o", program, TOP / "bench/sum_ring.c"], check=True)
     subprocess.run(["rt", "run"], cwd=CRATE, stdout=subprocess.DEVNULL, stderr=subprocess.DEVNULL)
-    return program
+    if not PROGRAM.exists():
+        sys.exit("crates/sum_bench isn't built: see `rt run` there")
+    return [PROGRAM, *programs]
 
 
 def measure(program, best):
@@ -41,30 +45,27 @@ def measure(program, best):
         best[what] = min(best.get(what, float("inf")), int(nanoseconds))
 
 
-def row(key, what, ring, by_hand):
-    """A row of the table: nanoseconds for each word, and how they compare."""
+def cells(step, key, ring, by_field, fixed):
+    """Nanoseconds for each word, of the crate and of both C programs, each of these with how the crate compares."""
     words = FRAMES * (2 if key == "alone 2" else 1)
-    cells = [what]
-    for step in ("place", "take"):
-        ours, theirs = ring[f"{key} {step}"] / words, by_hand[f"{key} {step}"] / words
-        cells += [f"{ours:.2f}", f"{theirs:.2f}", f"{ours / theirs:.2f}"]
-    return "| " + " | ".join(cells) + " |"
+    ours, field, constant = (times[f"{key} {step}"] / words for times in (ring, by_field, fixed))
+    return f"{ours:.2f} | {field:.2f} | {ours / field:.2f} | {constant:.2f} | {ours / constant:.2f}"
 
 
 def main():
-    """Builds and runs both programs, and prints the table."""
-    ring, by_hand = {}, {}
+    """Builds and runs the programs, and prints the table."""
+    times = [{}, {}, {}]
     with tempfile.TemporaryDirectory() as name:
-        program = build(Path(name))
-        if not PROGRAM.exists():
-            sys.exit("crates/sum_bench isn't built: see `rt run` there")
+        programs = build(Path(name))
         for _ in range(ROUNDS):
-            measure(PROGRAM, ring)
-            measure(program, by_hand)
-    print("| what | ns per `place` | in C | ratio | ns per take | in C | ratio |")
-    print("|---|---|---|---|---|---|---|")
-    for key, what in ROWS:
-        print(row(key, what, ring, by_hand))
+            for program, best in zip(programs, times):
+                measure(program, best)
+    for step, what in (("place", "ns per `place`"), ("take", "ns per `take_word`")):
+        print(f"| {what} | the ring | C | ratio | C, fixed length | ratio |")
+        print("|---|---|---|---|---|---|")
+        for key, row in ROWS:
+            print(f"| {row} | {cells(step, key, *times)} |")
+        print()
 
 
 if __name__ == "__main__":
