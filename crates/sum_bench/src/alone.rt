@@ -9,7 +9,12 @@ use std::time::{Clock, Instant};
 use sum_table::{MixSeat, PlayerSeat};
 
 /// Lays and takes one lap, and times both.
-fn time_lap<R: Clock>(rt: &R, player: &mut PlayerSeat<'_>, seat: &mut MixSeat<'_>, words: u64) -> io::Result<Best> {
+fn time_lap<R: Clock>(
+    rt: &R,
+    player: &mut PlayerSeat<'_>,
+    seat: &mut MixSeat<'_>,
+    words: u64,
+) -> io::Result<Best> {
     let _ = seat.position(&mut NeverStops);
     let start = Instant::now(rt)?;
     let laid = lay(seat, 0, FRAMES);

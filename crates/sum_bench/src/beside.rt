@@ -36,22 +36,38 @@ pub(crate) enum Crew {
     Four,
 }
 
+/// A mix seat for one thread, with room behind it, so that no two threads write to one cache line but in the ring.
+#[derive(Drop)]
+struct Berth<'a> {
+    seat: MixSeat<'a>,
+    room: [u64; 16],
+}
+
+impl<'a> Berth<'a> {
+    fn new(seat: MixSeat<'a>) -> Berth<'a> {
+        Berth {
+            seat,
+            room: [0; 16],
+        }
+    }
+}
+
 /// The four mix seats of a ring.
 #[derive(Drop)]
 struct Seats<'a> {
-    first: MixSeat<'a>,
-    second: MixSeat<'a>,
-    third: MixSeat<'a>,
-    fourth: MixSeat<'a>,
+    first: Berth<'a>,
+    second: Berth<'a>,
+    third: Berth<'a>,
+    fourth: Berth<'a>,
 }
 
 impl Seats<'_> {
     /// Each seat loads the position.
     fn look(&mut self) {
-        let _ = self.first.position(&mut NeverStops);
-        let _ = self.second.position(&mut NeverStops);
-        let _ = self.third.position(&mut NeverStops);
-        let _ = self.fourth.position(&mut NeverStops);
+        let _ = self.first.seat.position(&mut NeverStops);
+        let _ = self.second.seat.position(&mut NeverStops);
+        let _ = self.third.seat.position(&mut NeverStops);
+        let _ = self.fourth.seat.position(&mut NeverStops);
     }
 }
 
@@ -59,16 +75,16 @@ impl Seats<'_> {
 /// laid.
 fn lay_two<R: Threads + Sync>(
     rt: &R,
-    left: &mut MixSeat<'_>,
-    right: &mut MixSeat<'_>,
+    left: &mut Berth<'_>,
+    right: &mut Berth<'_>,
     offsets: (u32, u32),
     count: u32,
 ) -> u64 {
     let (at_left, at_right) = offsets;
     let (a, b) = join_mut(
         rt,
-        &mut || lay(left, at_left, count),
-        &mut || lay(right, at_right, count),
+        &mut || lay(&mut left.seat, at_left, count),
+        &mut || lay(&mut right.seat, at_right, count),
     );
     a.saturating_add(b)
 }
@@ -94,11 +110,22 @@ fn lay_four<R: Threads + Sync>(rt: &R, seats: &mut Seats<'_>, step: u32, count: 
 }
 
 /// Lays one lap by two or four threads.
-fn lay_shared<R: Threads + Sync>(rt: &R, seats: &mut Seats<'_>, threads: Crew, share: Share) -> u64 {
+fn lay_shared<R: Threads + Sync>(
+    rt: &R,
+    seats: &mut Seats<'_>,
+    threads: Crew,
+    share: Share,
+) -> u64 {
     match threads {
         Crew::Two => {
             let count = FRAMES / 2;
-            lay_two(rt, &mut seats.first, &mut seats.second, (0, share.step(count)), count)
+            lay_two(
+                rt,
+                &mut seats.first,
+                &mut seats.second,
+                (0, share.step(count)),
+                count,
+            )
         }
         Crew::Four => {
             let count = FRAMES / 4;
@@ -138,10 +165,10 @@ pub(crate) fn time_beside<R: Clock + Threads + Sync + Alloc<A = Global>>(
     let third = first.split(1, 2);
     let fourth = first.split(1, 3);
     let mut seats = Seats {
-        first,
-        second,
-        third,
-        fourth,
+        first: Berth::new(first),
+        second: Berth::new(second),
+        third: Berth::new(third),
+        fourth: Berth::new(fourth),
     };
     let mut best = Best::NONE;
     for _ in 0..LAPS {

@@ -95,6 +95,7 @@ fn lay_frame(seat: &mut MixSeat<'_>, frame: u64) -> u64
 /// Lays the sample in each channel of `count` frames, of which the first one is `offset` frames past the position that the
 /// seat has seen, and answers how many samples were laid.
 #[tactic(auto, using(crate::proofs::Going::stays, crate::proofs::Going::goes_on))]
+#[inline(always)]
 pub(crate) fn lay(seat: &mut MixSeat<'_>, offset: u32, count: u32) -> u64
     ensures { Goes seat.old seat.new }
 {
