@@ -1,5 +1,5 @@
 -- A seat of one ring, later, and later still.
-use Rattle.std.proofs.Common.{◌≡◌, refl, sym, subst, ◌∙◌, append_assoc, ap, []}
+use Rattle.std.proofs.Common.{◌≡◌, refl, sym, subst, ◌∙◌, []}
 use Rattle.std.proofs.lemmas.List.{append-nil}
 use Rattle.sum_table.specs.declared.mix.MixSeat.{MixSeat}
 use Rattle.sum_table.specs.declared.player.PlayerSeat.{PlayerSeat}
