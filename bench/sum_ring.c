@@ -52,16 +52,36 @@ static void fail(const char *why)
     exit(1);
 }
 
+/* The lap of a frame. */
+static uint64_t lap_of(struct ring *ring, uint64_t frame)
+{
+#ifdef NARROW
+    if (frame >> 32 == 0)
+        return (uint32_t)frame / LENGTH(ring);
+#endif
+    return frame / LENGTH(ring);
+}
+
+/* The slot of a frame. */
+static uint64_t slot_of(struct ring *ring, uint64_t frame)
+{
+#ifdef NARROW
+    if (frame >> 32 == 0)
+        return (uint32_t)frame % LENGTH(ring);
+#endif
+    return frame % LENGTH(ring);
+}
+
 static uint64_t *word_at(struct ring *ring, uint64_t frame, uint32_t channel)
 {
-    return &ring->words[1 + (frame % LENGTH(ring)) * ring->channels + channel];
+    return &ring->words[1 + slot_of(ring, frame) * ring->channels + channel];
 }
 
 /* Adds the sample by a load and compare-exchanges, while the word has the frame's lap. */
 static int place(struct ring *ring, uint64_t frame, uint32_t channel, int16_t sample)
 {
     uint64_t *word = word_at(ring, frame, channel);
-    uint64_t lap = frame / LENGTH(ring);
+    uint64_t lap = lap_of(ring, frame);
     uint64_t old = __atomic_load_n(word, __ATOMIC_SEQ_CST);
     while (old >> 32 == lap) {
         uint64_t sum = old + (1u << 24) + (int64_t)sample;
@@ -74,7 +94,7 @@ static int place(struct ring *ring, uint64_t frame, uint32_t channel, int16_t sa
 /* Takes the word by a swap with the empty word of the next lap, and answers its sum, cut to 16 bits. */
 static int16_t take(struct ring *ring, uint64_t frame, uint32_t channel)
 {
-    uint64_t empty = ((frame / LENGTH(ring) + 1) << 32) + EMPTY;
+    uint64_t empty = ((lap_of(ring, frame) + 1) << 32) + EMPTY;
     uint64_t found = __atomic_exchange_n(word_at(ring, frame, channel), empty, __ATOMIC_SEQ_CST);
     int32_t sum = (int32_t)(found & 0xffffff) - (int32_t)EMPTY;
     return sum > 32767 ? 32767 : sum < -32768 ? -32768 : sum;
