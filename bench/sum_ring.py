@@ -1,0 +1,76 @@
+#!/usr/bin/env python3
+"""Times placements and takes of the sum ring between threads, beside the same loops written in C.
+
+usage: bench/sum_ring.py        from the top of the repository; wants cc, and proves and builds crates/sum_bench if needed
+
+The C program is built three times: with the ring's length as a field, as it is in the crate; so, and with divisions in 32 bits
+where the numbers fit; and with the length as a constant. The programs lay and take a ring of 16,384 frames lap by lap, and give for each measurement the time on the clock of the fastest of 400
+laps. They are run in turn, ROUNDS times each, and the least time counts.
+"""
+import subprocess
+import sys
+import tempfile
+from pathlib import Path
+
+TOP = Path(__file__).resolve().parent.parent
+CRATE = TOP / "crates/sum_bench"
+PROGRAM = CRATE / "out/sum_bench"
+FRAMES, ROUNDS = 16384, 5
+ROWS = (
+    ("alone 1", "1 thread, 1 channel"),
+    ("alone 2", "1 thread, 2 channels"),
+    ("same 2", "2 threads at the same words"),
+    ("staggered 2", "2 threads at staggered words"),
+    ("same 4", "4 threads at the same words"),
+    ("staggered 4", "4 threads at staggered words"),
+)
+
+
+def build(folder):
+    """The three C programs, which are compiled anew; the crate is proved and built only where it has changed."""
+    programs = [folder / "by_field", folder / "narrow", folder / "fixed"]
+    for program, flags in zip(programs, ([], ["-DNARROW"], ["-DFIXED"])):
+        subprocess.run(["cc", "-O2", "-pthread", *flags, "-o", program, TOP / "bench/sum_ring.c"], check=True)
+    subprocess.run(["rt", "run"], cwd=CRATE, stdout=subprocess.DEVNULL, stderr=subprocess.DEVNULL)
+    if not PROGRAM.exists():
+        sys.exit("crates/sum_bench isn't built: see `rt run` there")
+    return [PROGRAM, *programs]
+
+
+def measure(program, best):
+    """Runs a program, and keeps the lesser time of each of its lines."""
+    process = subprocess.run([program], stdout=subprocess.PIPE, text=True, check=True)
+    for line in process.stdout.splitlines():
+        what, nanoseconds = line.rsplit(" ", 1)
+        best[what] = min(best.get(what, float("inf")), int(nanoseconds))
+
+
+def cells(step, key, ring, *by_hand):
+    """Nanoseconds for each word, of the crate and of each C program, each of these with how the crate compares."""
+    words = FRAMES * (2 if key == "alone 2" else 1)
+    ours = ring[f"{key} {step}"] / words
+    texts = [f"{ours:.2f}"]
+    for times in by_hand:
+        theirs = times[f"{key} {step}"] / words
+        texts += [f"{theirs:.2f}", f"{ours / theirs:.2f}"]
+    return " | ".join(texts)
+
+
+def main():
+    """Builds and runs the programs, and prints the table."""
+    times = [{}, {}, {}, {}]
+    with tempfile.TemporaryDirectory() as name:
+        programs = build(Path(name))
+        for _ in range(ROUNDS):
+            for program, best in zip(programs, times):
+                measure(program, best)
+    for step, what in (("place", "ns per `place`"), ("take", "ns per `take_word`")):
+        print(f"| {what} | the ring | C | ratio | C, 32-bit division | ratio | C, fixed length | ratio |")
+        print("|---|---|---|---|---|---|---|---|")
+        for key, row in ROWS:
+            print(f"| {row} | {cells(step, key, *times)} |")
+        print()
+
+
+if __name__ == "__main__":
+    main()

@@ -1,0 +1,27 @@
+-- A seat of one ring, later, and later still.
+use Rattle.std.proofs.Common.{◌≡◌, refl, sym, subst, ◌∙◌, []}
+use Rattle.std.proofs.lemmas.List.{append-nil}
+use Rattle.sum_table.specs.declared.mix.MixSeat.{MixSeat}
+use Rattle.sum_table.specs.declared.player.PlayerSeat.{PlayerSeat}
+use Rattle.sum_table.specs.Players.{PlayerGoes, player_view}
+use Rattle.sum_table.specs.Seats.{BeginsWith-trans, Goes, Goes-joined, Goes-same}
+
+pub stays : (s : MixSeat) → Goes s s
+stays s = Goes-same s
+
+pub goes_on : (p q r : MixSeat) → Goes p q → Goes q r → Goes p r
+goes_on p q r first then = Goes-joined p q r first then
+
+pub player_stays : (p : PlayerSeat) → PlayerGoes p p
+player_stays p = record { ring = refl; key = refl; history = ([], sym (append-nil (player_view p).history)) }
+
+pub player_goes_on : (p q r : PlayerSeat) → PlayerGoes p q → PlayerGoes q r → PlayerGoes p r
+player_goes_on p q r first then = record {
+  ring = then.ring ∙ first.ring;
+  key = then.key ∙ first.key;
+  history = BeginsWith-trans (player_view r).history (player_view q).history (player_view p).history then.history first.history;
+}
+
+-- where a call may leave the player as it was
+pub player_same : (p q r : PlayerSeat) → PlayerGoes p q → r ≡ q → PlayerGoes p r
+player_same p q r first same = subst (λ s. PlayerGoes p s) (sym same) first

@@ -1,0 +1,141 @@
+//! One lap of a ring: each word of it laid by a mix seat, and each word taken by the player.
+ghost use Rattle.std.specs.Prelude.{◌≡◌, ◌≤◌, IfOk};
+ghost use Rattle.sum_table.specs.Players.{PlayerGoes};
+ghost use Rattle.sum_table.specs.Rings.{GaveNone, key_of_ring};
+ghost use Rattle.sum_table.specs.Seats.{Goes};
+
+use mix_core::{MixPort, NeverStops, Placed};
+use snd_base::Geometry;
+use std::alloc::Global;
+use std::io;
+use sum_table::{MixSeat, PlayerSeat, SumRing};
+
+/// The frames of the ring, which are those of one lap.
+pub(crate) const FRAMES: u32 = 16384;
+
+/// How many laps are timed. The fastest one counts.
+pub(crate) const LAPS: u32 = 400;
+
+/// The sample that is laid everywhere: what is taken from the ring is then how many samples were laid.
+const SAMPLE: i16 = 1;
+
+/// The nanoseconds of the fastest lap that placed, and of the fastest lap that took.
+#[derive(Clone, Copy)]
+pub(crate) struct Best {
+    pub place: u128,
+    pub take: u128,
+}
+
+impl Best {
+    /// Before the first lap.
+    pub(crate) const NONE: Best = Best {
+        place: u128::MAX,
+        take: u128::MAX,
+    };
+
+    /// The better of this and one lap more.
+    pub(crate) fn with(self, lap: Best) -> Best {
+        Best {
+            place: self.place.min(lap.place),
+            take: self.take.min(lap.take),
+        }
+    }
+}
+
+/// A ring of one lap's frames. An error comes only where no memory is left.
+pub(crate) fn new_ring(alloc: Global, channels: u8, places: u32) -> io::Result<SumRing>
+    requires one { 1 ≤ channels }
+    requires most { channels ≤ 8 }
+    requires least { 1 ≤ places }
+    requires few { places ≤ 64 }
+    ensures gave_none { IfOk result (λ ring. GaveNone ring) }
+    ensures channels { IfOk result (λ ring. (key_of_ring ring).geometry.channels ≡ channels) }
+    ensures places { IfOk result (λ ring. (key_of_ring ring).places ≡ places) }
+{
+    let geometry = Geometry {
+        frames: FRAMES,
+        channels,
+        first_lap: 0,
+    };
+    match SumRing::new(alloc, geometry, places) {
+        Ok(ring) => Ok(ring),
+        Err(_) => Err(io::ErrorKind::OutOfMemory.into()),
+    }
+}
+
+/// Lays the sample at a frame and channel where the seat may, as seen at run time, and answers whether it was laid.
+fn try_place(seat: &mut MixSeat<'_>, frame: u64, channel: u8) -> bool
+    ensures { Goes seat.old seat.new }
+{
+    let geometry = seat.geometry();
+    if seat.places() == 0 || channel >= geometry.channels {
+        return false;
+    }
+    let ahead = seat.seen() + geometry.frames as u64;
+    if frame < seat.cursor().first_free(channel) || frame >= ahead {
+        return false;
+    }
+    seat.place(&mut NeverStops, frame, channel, SAMPLE) == Ok(Placed::In)
+}
+
+/// Lays the sample in each channel of a frame, and answers how many were laid.
+#[tactic(auto, using(crate::proofs::Going::stays, crate::proofs::Going::goes_on))]
+fn lay_frame(seat: &mut MixSeat<'_>, frame: u64) -> u64
+    ensures { Goes seat.old seat.new }
+{
+    let mut laid: u64 = 0;
+    for channel in 0..seat.geometry().channels {
+        if try_place(seat, frame, channel) {
+            laid = laid.saturating_add(1);
+        }
+    }
+    laid
+}
+
+/// Lays the sample in each channel of `count` frames, of which the first one is `offset` frames past the position that the
+/// seat has seen, and answers how many samples were laid.
+#[tactic(auto, using(crate::proofs::Going::stays, crate::proofs::Going::goes_on))]
+#[inline(always)]
+pub(crate) fn lay(seat: &mut MixSeat<'_>, offset: u32, count: u32) -> u64
+    ensures { Goes seat.old seat.new }
+{
+    let first = seat.seen() + offset as u64;
+    let mut laid: u64 = 0;
+    for frame in first..first + count as u64 {
+        laid = laid.saturating_add(lay_frame(seat, frame));
+    }
+    laid
+}
+
+/// Takes the next word, and answers its value without the sign: 0 where the ring has no more.
+#[tactic(auto, using(crate::proofs::Going::player_stays, crate::proofs::Going::player_same))]
+fn take_value(player: &mut PlayerSeat<'_>) -> u16
+    ensures { PlayerGoes player.old player.new }
+{
+    match player.take_word() {
+        Ok(taken) => taken.value.unsigned_abs(),
+        Err(_) => 0,
+    }
+}
+
+/// Takes `words` words, publishes the position, and answers the sum of all that was taken.
+#[tactic(auto, using(crate::proofs::Going::player_stays, crate::proofs::Going::player_goes_on))]
+pub(crate) fn play(player: &mut PlayerSeat<'_>, words: u64) -> u64
+    ensures { PlayerGoes player.old player.new }
+{
+    let mut sum: u64 = 0;
+    for _ in 0..words {
+        sum = sum.saturating_add(take_value(player) as u64);
+    }
+    player.publish();
+    sum
+}
+
+/// The error where what was laid or taken isn't what was asked for.
+pub(crate) fn check(laid: u64, taken: u64, wanted: u64) -> io::Result<()> {
+    if laid == wanted && taken == wanted {
+        Ok(())
+    } else {
+        Err(io::ErrorKind::InvalidData.into())
+    }
+}

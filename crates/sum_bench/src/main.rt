@@ -1,0 +1,28 @@
+//! sum_bench: times the sum ring, by one thread that places and takes, and by two and four threads that place together.
+#![tactic(auto)]
+
+mod alone;
+mod beside;
+mod lap;
+
+use alone::time_alone;
+use beside::{Crew, Share, time_beside};
+use std::io;
+
+/// Prints a line for each measurement: what was done, and the nanoseconds of the fastest lap of the ring. It ends with an
+/// error where a sample wasn't laid or another value was taken, where memory runs out, and where the clock can't be read.
+fn main(rt: HostRuntime) -> io::Result<()> {
+    for channels in [1, 2] {
+        let best = time_alone(&rt, channels)?;
+        println!(rt; "alone {channels} place {}", best.place)?;
+        println!(rt; "alone {channels} take {}", best.take)?;
+    }
+    for (number, threads) in [(2, Crew::Two), (4, Crew::Four)] {
+        for (name, share) in [("same", Share::Same), ("staggered", Share::Staggered)] {
+            let best = time_beside(&rt, threads, share)?;
+            println!(rt; "{name} {number} place {}", best.place)?;
+            println!(rt; "{name} {number} take {}", best.take)?;
+        }
+    }
+    Ok(())
+}
