@@ -39,7 +39,7 @@ def build(folder):
 
 def measure(program, best):
     """Runs a program, and keeps the lesser time of each of its lines."""
-    process = subprocess.run([program], stdout=subprocess.PIPE, text=True, check=True)
+    process = subprocess.run([program, "time"], stdout=subprocess.PIPE, text=True, check=True)
     for line in process.stdout.splitlines():
         what, nanoseconds = line.rsplit(" ", 1)
         best[what] = min(best.get(what, float("inf")), int(nanoseconds))

@@ -7,11 +7,15 @@ mod lap;
 
 use alone::time_alone;
 use beside::{Crew, Share, time_beside};
-use std::io;
+use std::{env, io};
 
-/// Prints a line for each measurement: what was done, and the nanoseconds of the fastest lap of the ring. It ends with an
-/// error where a sample wasn't laid or another value was taken, where memory runs out, and where the clock can't be read.
+/// `sum_bench time` prints a line for each measurement: what was done, and the nanoseconds of the fastest lap of the ring.
+/// Without a word it does nothing. It ends with an error where a sample wasn't laid or another value was taken, where memory
+/// runs out, and where the clock can't be read.
 fn main(rt: HostRuntime) -> io::Result<()> {
+    if env::args(&rt)?.skip(1).next().is_none() {
+        return Ok(());
+    }
     for channels in [1, 2] {
         let best = time_alone(&rt, channels)?;
         println!(rt; "alone {channels} place {}", best.place)?;
