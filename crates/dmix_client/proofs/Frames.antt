@@ -1,11 +1,11 @@
 -- How a frame is placed, channel by channel.
-use Rattle.std.proofs.Common.{◌≡◌, ℕ, ◌+◌, ◌*◌, ◌/◌, ◌%◌, ◌<◌, ◌≤◌, suc, zero, List, [], ◌∷◌, ◌++◌, ◌∙◌, ap, sym, refl, subst, arith, length, get_or, take}
+use Rattle.std.proofs.Common.{◌≡◌, ℕ, ◌+◌, ◌*◌, ◌/◌, ◌<◌, ◌≤◌, suc, zero, List, [], ◌∷◌, ◌++◌, ◌∙◌, ap, sym, subst, arith, length, take}
 use Rattle.std.proofs.Math.Seq.{take-suc}
 use Rattle.std.proofs.Math.Numerals.{add-one}
 use Rattle.std.proofs.Math.Nat.{div-add-mod, mul-le-mul_left}
 use Rattle.std.proofs.lemmas.Bool.Decides.{nat_tests}
 use Rattle.std.proofs.lemmas.List.{map-append}
-use Rattle.std.specs.Prelude.{ℤ, ◌⊎◌, ◌↔◌, IsErrOf, Result, Ok, Err, map, slice_index}
+use Rattle.std.specs.Prelude.{ℤ, ◌⊎◌, ◌↔◌, IsErrOf, Err, map, slice_index}
 use Rattle.std.proofs.Common.{inl, inr}
 use Rattle.snd_base.specs.declared.errors.PcmError.{PcmError}
 use Rattle.snd_base.specs.declared.errors.PcmError.TheVariants.{LapEnd, Stopped}
@@ -17,7 +17,7 @@ use Rattle.mix_core.specs.declared.port.Entry.{Entry}
 use Rattle.mix_core.specs.declared.port.Placed.{Placed}
 use Rattle.mix_core.specs.Gate.{Told}
 use Rattle.bindings.specs.Bound.{AreBindings, rising}
-use Rattle.bindings.specs.RisingLaws.{length-rising, rising-rises, rising-within}
+use Rattle.bindings.specs.RisingLaws.{length-rising, rising-rises}
 use Rattle.dmix_client.specs.Expansion.{frame_entries}
 
 below_end : (frame n : ℕ) → frame < 4294967295 * n → 4294967295 ≤ frame / n → frame < frame

@@ -1,24 +1,22 @@
 -- What a start leaves: a client with its counts in order, and a port that it can use.
-use Rattle.std.proofs.Common.{◌≡◌, ◌≢◌, ℕ, ◌+◌, ◌-◌, ◌*◌, ◌<◌, ◌≤◌, List, [], ◌∷◌, ◌∙◌, ap, sym, refl, subst, arith, length}
-use Rattle.std.specs.Prelude.{Bool, true, false, if◌then◌else◌, ℤ, Option, Some, None, All, IfSome, unwrap_or, Result, Ok, Err}
-use Rattle.snd_base.specs.declared.errors.PcmError.{PcmError}
+use Rattle.std.proofs.Common.{◌≡◌, ℕ, ◌+◌, ◌*◌, ◌<◌, ◌≤◌, List, ◌∙◌, ap, sym, refl, subst, arith, length}
+use Rattle.std.specs.Prelude.{Bool, true, false, if◌then◌else◌, ℤ, Option, Some, None, All, IfSome, Ok, Err}
 use Rattle.snd_base.specs.declared.errors.XrunWhy.{XrunWhy}
 use Rattle.snd_base.specs.declared.geometry.Geometry.{Geometry}
 use Rattle.snd_base.specs.declared.places.Cursor.{Cursor}
-use Rattle.snd_base.specs.Places.{IsFrom, end_frame}
+use Rattle.snd_base.specs.Places.{IsFrom}
 use Rattle.mix_core.specs.declared.port.Position.{Position}
 use Rattle.bindings.specs.Bound.{AreBindings}
 use Rattle.hw_space.specs.declared.config.Config.{Config}
 use Rattle.pcm_states.specs.declared.states.State.{State}
-use Rattle.pcm_states.specs.declared.states.State.TheVariants.{Prepared, Running, Xrun, Draining, Disconnected}
+use Rattle.pcm_states.specs.declared.states.State.TheVariants.{Prepared, Running, Xrun, Disconnected}
 use Rattle.pcm_states.specs.declared.calls.Call.TheVariants as call
 use Rattle.pcm_states.specs.Table.{next_of}
 use Rattle.dmix_client.specs.declared.commit.Commit.{Commit}
-use Rattle.dmix_client.specs.declared.commit.Ended.{Ended}
 use Rattle.dmix_client.specs.declared.plain.Plain.{Plain}
-use Rattle.dmix_client.specs.Calls.{Answered, accepted, accepted_if, commit_count, committed_by, end_channel, end_of_commit, found_at, going_on, going_on_by, is_stop, late_at, late_of, seen_at, start_count, start_frame, started, started_in, stopped_in}
-use Rattle.dmix_client.specs.Port.{CanUse, IsCommit, IsFound, OnWhole, least_channel}
-use Rattle.dmix_client.specs.View.{IsConfigured, IsMoving, IsPrepared, IsSound, is_moving, is_set_up}
+use Rattle.dmix_client.specs.Calls.{Answered, accepted_if, commit_count, committed_by, end_channel, end_of_commit, found_at, going_on, is_stop, late_of, seen_at, start_count, started, started_in, stopped_in}
+use Rattle.dmix_client.specs.Port.{CanUse, OnWhole, least_channel}
+use Rattle.dmix_client.specs.View.{IsConfigured, IsSound, is_moving}
 use Rattle.dmix_client.proofs.Sound.{OnWhole-of, whole-of}
 use Rattle.dmix_client.proofs.Started.{KeepsAccepted}
 use Rattle.dmix_client.proofs.Starting.{IsMoving-begun, IsSound-begun, IsStarting, begun}

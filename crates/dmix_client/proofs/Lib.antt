@@ -2,6 +2,7 @@ mod Frames
 mod Going
 mod Left
 mod Rings
+mod Same
 mod Runs
 mod Sound
 mod Starting

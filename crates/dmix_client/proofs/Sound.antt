@@ -1,26 +1,24 @@
 -- A client keeps its counts in order over a sync.
-use Rattle.std.proofs.Common.{◌≡◌, ◌≢◌, ℕ, ◌+◌, ◌-◌, ◌*◌, ◌<◌, ◌≤◌, suc, zero, List, [], ◌∷◌, ◌∙◌, ap, sym, refl, subst, arith, length, min, max}
+use Rattle.std.proofs.Common.{◌≡◌, ℕ, ◌+◌, ◌-◌, ◌≤◌, List, [], ◌∷◌, ◌∙◌, ap, sym, refl, subst, arith, length, min}
 use Rattle.std.proofs.lemmas.Bool.Decides.{nat_tests}
-use Rattle.std.specs.Prelude.{Bool, true, false, ◌||◌, ◌==◌, nat_eq, nat_le, ◌&&◌, if◌then◌else◌, ℤ, Option, Some, None, IfSome, is_some, unwrap_or, Result, Ok, Err, ⊤}
-use Rattle.snd_base.specs.declared.errors.PcmError.{PcmError}
+use Rattle.std.specs.Prelude.{Bool, true, false, ◌||◌, nat_eq, nat_le, ◌&&◌, if◌then◌else◌, ℤ, Option, Some, None, IfSome, is_some, unwrap_or, Ok}
 use Rattle.snd_base.specs.declared.errors.XrunWhy.{XrunWhy}
-use Rattle.snd_base.specs.Places.{IsFrom, end_frame, first_free}
+use Rattle.snd_base.specs.Places.{IsFrom, end_frame}
 use Rattle.mix_core.specs.declared.port.Position.{Position}
 use Rattle.pcm_states.specs.declared.states.State.{State}
-use Rattle.pcm_states.specs.declared.states.State.TheVariants.{Open, Setup, Prepared, Running, Xrun, Draining, Paused, Suspended, Disconnected}
+use Rattle.pcm_states.specs.declared.states.State.TheVariants.{Setup, Prepared, Running, Draining}
 use Rattle.pcm_states.specs.declared.calls.Call.{Call}
 use Rattle.pcm_states.specs.declared.calls.Call.TheVariants as call
-use Rattle.pcm_states.specs.declared.calls.Outcome.{Outcome}
-use Rattle.pcm_states.specs.Table.{draining, first_of, if_gone, if_late, if_over, if_played, moving, next_of, outcome_of, still_draining}
+use Rattle.pcm_states.specs.Table.{draining, first_of, moving, next_of, outcome_of, still_draining}
 use Rattle.dmix_client.specs.declared.commit.Commit.{Commit}
 use Rattle.dmix_client.specs.declared.commit.Ended.{Ended}
 use Rattle.dmix_client.specs.declared.commit.Ended.TheVariants as ended
 use Rattle.dmix_client.specs.declared.plain.Plain.{Plain}
-use Rattle.dmix_client.specs.Calls.{Answered, commit_count, committed_by, end_channel, end_of_commit, facts_of, is_running, is_stop, late_at, late_of, over_of, seen_at, settled, stopped_in, sync_count, synced, window_end}
+use Rattle.dmix_client.specs.Calls.{commit_count, committed_by, end_channel, end_of_commit, facts_of, is_running, is_stop, late_at, late_of, over_of, seen_at, settled, stopped_in, sync_count, synced, window_end}
 use Rattle.dmix_client.specs.Port.{CanUse, IsCommit, IsFound, IsStep, OnWhole, least_channel}
 use Rattle.snd_base.specs.declared.geometry.Geometry.{Geometry}
 use Rattle.snd_base.specs.declared.places.Cursor.{Cursor}
-use Rattle.dmix_client.specs.View.{IsConfigured, IsMoving, IsPrepared, IsSound, avail_of, hw_of, is_moving, is_set_up, queued_of}
+use Rattle.dmix_client.specs.View.{IsMoving, IsSound, avail_of, hw_of, is_moving, is_set_up, queued_of}
 
 -- a stream that still moves frames found nothing against it
 pub record GoesOn (state s : State) (gone : Bool) (over : Option (ℕ × ℕ)) (late : Option XrunWhy) : Type 0 where

@@ -1,25 +1,18 @@
 -- A client keeps its counts in order over a start.
-use Rattle.std.proofs.Common.{◌≡◌, ◌≢◌, ℕ, ◌+◌, ◌-◌, ◌*◌, ◌<◌, ◌≤◌, suc, zero, List, [], ◌∷◌, ◌∙◌, ap, sym, refl, subst, arith, length, min, max}
+use Rattle.std.proofs.Common.{◌≡◌, ℕ, ◌+◌, ◌-◌, ◌<◌, ◌≤◌, List, ap, sym, refl, subst, arith, length, min, max}
 use Rattle.std.proofs.lemmas.Bool.Decides.{nat_tests}
-use Rattle.std.specs.Prelude.{Bool, true, false, if◌then◌else◌, ℤ, Option, Some, None, IfSome, unwrap_or, Result, Ok, Err, ⊤}
-use Rattle.snd_base.specs.declared.errors.PcmError.{PcmError}
-use Rattle.snd_base.specs.declared.errors.XrunWhy.{XrunWhy}
-use Rattle.snd_base.specs.declared.geometry.Geometry.{Geometry}
+use Rattle.std.specs.Prelude.{Bool, true, false, ℤ, Option, Some, IfSome}
 use Rattle.snd_base.specs.declared.places.Cursor.{Cursor}
-use Rattle.snd_base.specs.Places.{IsFrom, end_frame, first_free}
+use Rattle.snd_base.specs.Places.{end_frame, first_free}
 use Rattle.mix_core.specs.declared.port.Position.{Position}
 use Rattle.pcm_states.specs.declared.states.State.{State}
-use Rattle.pcm_states.specs.declared.states.State.TheVariants.{Prepared, Running, Xrun, Draining, Disconnected}
-use Rattle.pcm_states.specs.declared.calls.Call.TheVariants as call
-use Rattle.pcm_states.specs.Table.{next_of}
+use Rattle.pcm_states.specs.declared.states.State.TheVariants.{Prepared, Running}
 use Rattle.dmix_client.specs.declared.commit.Commit.{Commit}
-use Rattle.dmix_client.specs.declared.commit.Ended.{Ended}
-use Rattle.dmix_client.specs.declared.commit.Ended.TheVariants as ended
 use Rattle.dmix_client.specs.declared.plain.Plain.{Plain}
-use Rattle.dmix_client.specs.Calls.{Answered, accepted, accepted_if, commit_count, committed_by, end_channel, end_of_commit, found_at, going_on, going_on_by, is_stop, late_at, late_of, seen_at, start_count, start_frame, started, started_in, stopped_in, window_end}
-use Rattle.dmix_client.specs.Port.{CanUse, IsCommit, IsFound, OnWhole, least_channel}
-use Rattle.dmix_client.specs.View.{IsConfigured, IsMoving, IsPrepared, IsSound, hw_of, is_moving, is_set_up}
-use Rattle.dmix_client.proofs.Sound.{OnWhole-of, frames-le, if-le, whole-of}
+use Rattle.dmix_client.specs.Calls.{commit_count, start_count, start_frame, started_in, window_end}
+use Rattle.dmix_client.specs.Port.{IsFound}
+use Rattle.dmix_client.specs.View.{IsMoving, IsSound, hw_of, is_moving, is_set_up}
+use Rattle.dmix_client.proofs.Sound.{frames-le, if-le}
 
 -- a start of a client that is prepared, and what its load and its commit came to; `upto` frames were to be committed
 pub record IsStarting (c : Plain) (ring : List ℤ) (cursor : Cursor) (load : Option Position) (commit : Commit) (upto : ℕ) : Type 0 where

@@ -1,8 +1,7 @@
 -- A client keeps its counts in order over a write, after its sync.
-use Rattle.std.proofs.Common.{◌≡◌, ◌≢◌, ℕ, ◌+◌, ◌-◌, ◌*◌, ◌<◌, ◌≤◌, List, [], ◌∷◌, ◌∙◌, ap, sym, refl, subst, arith, length, min, max, zero, suc}
+use Rattle.std.proofs.Common.{◌≡◌, ℕ, ◌+◌, ◌-◌, ◌<◌, ◌≤◌, List, ◌∙◌, ap, sym, refl, subst, arith, length, min, zero, suc}
 use Rattle.std.proofs.lemmas.Bool.Decides.{nat_tests}
-use Rattle.std.specs.Prelude.{Bool, true, false, ◌&&◌, nat_eq, nat_lt, if◌then◌else◌, ℤ, Option, Some, None, IfOk, IfSome, unwrap_or, Result, Ok, Err}
-use Rattle.snd_base.specs.declared.errors.PcmError.{PcmError}
+use Rattle.std.specs.Prelude.{Bool, true, false, ◌&&◌, nat_eq, nat_lt, if◌then◌else◌, ℤ, Option, Some, None, IfOk, unwrap_or, Ok, Err}
 use Rattle.snd_base.specs.declared.errors.PcmError.TheVariants.{Again}
 use Rattle.snd_base.specs.declared.errors.PcmError.TheVariants as error
 use Rattle.dmix_client.specs.declared.commit.Ended.TheVariants as ended
@@ -11,7 +10,6 @@ use Rattle.snd_base.specs.declared.geometry.Geometry.{Geometry}
 use Rattle.snd_base.specs.declared.places.Cursor.{Cursor}
 use Rattle.snd_base.specs.Places.{IsFrom, end_frame}
 use Rattle.mix_core.specs.Gate.{Told}
-use Rattle.mix_core.specs.declared.port.Position.{Position}
 use Rattle.pcm_states.specs.declared.states.State.{State}
 use Rattle.pcm_states.specs.declared.states.State.TheVariants.{Prepared, Running, Xrun}
 use Rattle.pcm_states.specs.declared.calls.Call.TheVariants as call
@@ -19,9 +17,9 @@ use Rattle.pcm_states.specs.Table.{next_of}
 use Rattle.dmix_client.specs.declared.commit.Commit.{Commit}
 use Rattle.dmix_client.specs.declared.commit.Ended.{Ended}
 use Rattle.dmix_client.specs.declared.plain.Plain.{Plain}
-use Rattle.dmix_client.specs.Calls.{Answered, accepted, accepted_if, commit_count, committed_by, end_channel, end_of_commit, found_at, is_stop, late_at, late_of, settled, stopped_in, taken_of, window_end, written_after}
+use Rattle.dmix_client.specs.Calls.{Answered, accepted_if, commit_count, committed_by, end_channel, end_of_commit, found_at, is_stop, late_of, settled, stopped_in, taken_of, window_end, written_after}
 use Rattle.dmix_client.specs.Port.{CanUse, IsCommit, OnWhole, ToldBy, least_channel}
-use Rattle.dmix_client.specs.View.{IsConfigured, IsMoving, IsPrepared, IsSound, avail_of, hw_of, is_moving, is_set_up}
+use Rattle.dmix_client.specs.View.{IsMoving, IsSound, avail_of, hw_of, is_moving}
 use Rattle.dmix_client.specs.Writes.{count_with}
 use Rattle.dmix_client.proofs.Going.{told-going, told-stop}
 use Rattle.dmix_client.proofs.Left.{IsConfigured-as}

@@ -1,6 +1,6 @@
 -- What each call of a client makes of it, by the parts that the call does one after the other: with the positions that
 -- its loads gave, and with what its commits came to.
-use Rattle.std.specs.Prelude.{◌≡◌, ℕ, ◌+◌, ◌-◌, ◌*◌, ◌<◌, ◌≤◌, Bool, true, false, not, ◌&&◌, ◌||◌, ◌==◌, nat_le, nat_lt, nat_eq, if◌then◌else◌, min, max, ℤ, List, [], ◌∷◌, length, slice_index, Option, Some, None, is_some, unwrap_or, Result, Ok, Err}
+use Rattle.std.specs.Prelude.{ℕ, ◌+◌, ◌-◌, Bool, true, false, ◌&&◌, ◌||◌, nat_le, nat_lt, nat_eq, if◌then◌else◌, min, max, ℤ, List, slice_index, Option, Some, None, is_some, unwrap_or, Result, Ok, Err}
 use Rattle.snd_base.specs.declared.errors.PcmError.{PcmError}
 use Rattle.snd_base.specs.declared.errors.PcmError.TheVariants.{Again, BadState, NotSupported, Stopped}
 use Rattle.snd_base.specs.declared.errors.PcmError.TheVariants as error
@@ -16,7 +16,7 @@ use Rattle.bindings.specs.Bound.{identity, rising}
 use Rattle.hw_space.specs.declared.config.Config.{Config}
 use Rattle.sw_limits.specs.declared.params.SwParams.{SwParams}
 use Rattle.pcm_states.specs.declared.states.State.{State}
-use Rattle.pcm_states.specs.declared.states.State.TheVariants.{Open, Setup, Prepared, Running, Xrun, Draining, Disconnected}
+use Rattle.pcm_states.specs.declared.states.State.TheVariants.{Open, Setup, Prepared, Running, Draining}
 use Rattle.pcm_states.specs.declared.calls.Call.{Call}
 use Rattle.pcm_states.specs.declared.calls.Call.TheVariants as call
 use Rattle.pcm_states.specs.declared.calls.Facts.{Facts}
@@ -27,7 +27,7 @@ use Rattle.dmix_client.specs.declared.commit.Ended.{Ended}
 use Rattle.dmix_client.specs.declared.commit.Ended.TheVariants as ended
 use Rattle.dmix_client.specs.declared.plain.Plain.{Plain}
 use Rattle.dmix_client.specs.Expansion.{run_entries}
-use Rattle.dmix_client.specs.View.{avail_of, channels_of, held, hw_of, is_moving, queued_of}
+use Rattle.dmix_client.specs.View.{avail_of, held, is_moving, queued_of}
 
 -- a client and the answer of a call
 abbrev pub Answered : Type 0 → Type 0

@@ -1,13 +1,10 @@
 -- What contracts see of a client: how it is at a moment, and the samples in its local ring.
 use Rattle.std.specs.Prelude.{◌≡◌, ℕ, ◌+◌, ◌-◌, ◌*◌, ◌%◌, ◌^◌, ◌<◌, ◌≤◌, Bool, true, false, if◌then◌else◌, min, ℤ, pos, List, All, length, slice_index_or, Option, None, Some, ⊤, unwrap_or}
-use Rattle.snd_base.specs.declared.geometry.Geometry.{Geometry}
 use Rattle.snd_base.specs.Places.{end_frame}
 use Rattle.mix_core.specs.declared.port.Position.{Position}
 use Rattle.bindings.specs.Bound.{AreBindings}
 use Rattle.pcm_states.specs.declared.states.State.{State}
 use Rattle.pcm_states.specs.declared.states.State.TheVariants.{Open, Setup, Prepared, Running, Xrun, Draining, Paused, Suspended, Disconnected}
-use Rattle.sw_limits.specs.Boundary.{IsBoundary}
-use Rattle.sw_limits.specs.Params.{IsValid}
 use Rattle.dmix_client.specs.declared.plain.Plain.{Plain}
 
 -- a client: its counts and settings, and its local ring, in which frame j stands in slot j mod the buffer size

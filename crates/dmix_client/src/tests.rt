@@ -1,10 +1,16 @@
+ghost use Rattle.std.specs.Prelude.{◌≡◌, ◌+◌, ◌<◌, ◌≤◌, IsTrue, length, unwrap_or};
+ghost use Rattle.snd_base.specs.Places.{IsFrom};
+ghost use Rattle.dmix_client.specs.Port.{CanUse, least_channel};
+ghost use Rattle.dmix_client.specs.Writes.{IsOffer};
+
 use super::*;
 use bindings::Bindings;
 use hw_space::Config;
-use mix_core::{Core, NeverStops};
+use mix_core::{Core, MixPort, NeverStops};
 use pcm_states::State;
 use snd_base::{Geometry, PcmError, Segment, XrunWhy};
 use std::alloc::Global;
+use std::process::Abort;
 use std::test::Fail;
 use sw_limits::SwParams;
 
@@ -41,12 +47,110 @@ fn opened(alloc: Global) -> Result<(Core, Client), PcmError> {
     Ok((core, client))
 }
 
+/// Whether the port's cursor and its position are where a client that moves frames left them.
+fn is_behind<P: MixPort>(client: &Client, port: &P) -> bool
+    ensures { IsTrue result → IsFrom (P.cursor port.now) (client.now.plain.card + client.now.plain.committed) (least_channel client.now.plain.bindings) × unwrap_or client.now.plain.seen 0 ≤ P.seen port.now }
+{
+    let plain = &client.plain;
+    let _channels = plain.bindings.len();
+    let least = plain.bindings.card_channel(plain.bindings.rising(0));
+    let free = port.cursor().first_free(least);
+    free <= plain.card + plain.committed && plain.seen.unwrap_or(0) <= port.seen()
+}
+
+/// Whether a port has the geometry and the member of a client.
+fn is_own<P: MixPort>(client: &Client, port: &P) -> bool
+    ensures { IsTrue result → (P.geometry port.now ≡ client.now.plain.geometry) × (P.member port.now ≡ client.now.plain.member) }
+{
+    let here = port.geometry();
+    let own = client.plain.geometry;
+    if here.frames != own.frames
+        || here.channels != own.channels
+        || here.first_lap != own.first_lap
+    {
+        return false;
+    }
+    port.member() == client.plain.member
+}
+
+/// Whether a client can use a port that can add.
+fn can_use<P: MixPort>(client: &Client, port: &P) -> bool
+    ensures { IsTrue result → P.can_add port.now → CanUse client.now.plain (P.geometry port.now) (P.member port.now) (P.cursor port.now) (P.seen port.now) (P.can_add port.now) }
+{
+    if !is_own(client, port) {
+        return false;
+    }
+    if client.plain.is_moving() && !client.plain.stopped {
+        return is_behind(client, port);
+    }
+    true
+}
+
+/// Whether samples are whole frames that the client can count.
+fn is_offer(client: &Client, samples: &[i16]) -> bool
+    ensures { IsTrue result → IsOffer client.now.plain samples.now }
+{
+    let channels = client.plain.bindings.len() as usize;
+    samples.len() % channels == 0
+        && samples.len() / channels <= 4194304
+        && client.plain.fed < 9223372036854775808
+}
+
+/// A write at the core's member 0.
+fn write(
+    rt: &impl Abort,
+    core: &mut Core,
+    client: &mut Client,
+    samples: &[i16],
+) -> Result<u32, PcmError> {
+    assert!(rt; core.members() > 0);
+    let mut turn = core.turn(0);
+    assert!(rt; can_use(client, &turn));
+    assert!(rt; is_offer(client, samples));
+    client.writei(&mut turn, &mut NeverStops, samples)
+}
+
+fn sync(rt: &impl Abort, core: &mut Core, client: &mut Client) -> Result<(), PcmError> {
+    assert!(rt; core.members() > 0);
+    let mut turn = core.turn(0);
+    assert!(rt; can_use(client, &turn));
+    client.sync(&mut turn, &mut NeverStops)
+}
+
+fn start(rt: &impl Abort, core: &mut Core, client: &mut Client) -> Result<(), PcmError> {
+    assert!(rt; core.members() > 0);
+    let mut turn = core.turn(0);
+    assert!(rt; can_use(client, &turn));
+    client.start(&mut turn, &mut NeverStops)
+}
+
+fn drain(rt: &impl Abort, core: &mut Core, client: &mut Client) -> Result<(), PcmError> {
+    assert!(rt; core.members() > 0);
+    let mut turn = core.turn(0);
+    assert!(rt; can_use(client, &turn));
+    client.drain(&mut turn, &mut NeverStops)
+}
+
+fn avail_update(rt: &impl Abort, core: &mut Core, client: &mut Client) -> Result<u64, PcmError> {
+    assert!(rt; core.members() > 0);
+    let mut turn = core.turn(0);
+    assert!(rt; can_use(client, &turn));
+    client.avail_update(&mut turn, &mut NeverStops)
+}
+
+fn delay(rt: &impl Abort, core: &mut Core, client: &mut Client) -> Result<u64, PcmError> {
+    assert!(rt; core.members() > 0);
+    let mut turn = core.turn(0);
+    assert!(rt; can_use(client, &turn));
+    client.delay(&mut turn, &mut NeverStops)
+}
+
 // A stream of 64 frames runs out: it is XRUN, refuses a write, and is prepared again.
 #[test]
 fn a_stream_that_runs_out_is_an_xrun(rt: HostRuntime) -> Result<(), Fail> {
     let (mut core, mut client) = opened(rt.alloc())?;
     let samples = [100; 64];
-    let wrote = client.writei(&mut core.turn(0), &mut NeverStops, &samples);
+    let wrote = write(&rt, &mut core, &mut client, &samples);
     assert_eq!(rt; wrote, Ok(64));
     assert_eq!(rt; client.state(), State::Running);
     play(&mut core, 128, 1)?;
@@ -54,9 +158,9 @@ fn a_stream_that_runs_out_is_an_xrun(rt: HostRuntime) -> Result<(), Fail> {
         avail: 256,
         seen: 128,
     };
-    let synced = client.sync(&mut core.turn(0), &mut NeverStops);
+    let synced = sync(&rt, &mut core, &mut client);
     assert_eq!(rt; synced, Err(PcmError::Xrun(over)));
-    let again = client.writei(&mut core.turn(0), &mut NeverStops, &samples[..1]);
+    let again = write(&rt, &mut core, &mut client, &samples[..1]);
     assert_eq!(rt; again, Err(PcmError::Xrun(XrunWhy::Already)));
     assert_eq!(rt; client.prepare(), Ok(()));
     assert_eq!(rt; client.state(), State::Prepared);
@@ -69,7 +173,7 @@ fn a_stream_that_runs_out_is_an_xrun(rt: HostRuntime) -> Result<(), Fail> {
 fn a_stream_restarts_behind_what_it_laid(rt: HostRuntime) -> Result<(), Fail> {
     let (mut core, mut client) = opened(rt.alloc())?;
     let samples = [7; 256];
-    let first = client.writei(&mut core.turn(0), &mut NeverStops, &samples);
+    let first = write(&rt, &mut core, &mut client, &samples);
     assert_eq!(rt; first, Ok(256));
     assert_eq!(rt; client.drop_pending(), Ok(()));
     let laid = Segment {
@@ -80,10 +184,10 @@ fn a_stream_restarts_behind_what_it_laid(rt: HostRuntime) -> Result<(), Fail> {
     };
     assert_eq!(rt; client.segment(), laid);
     assert_eq!(rt; client.prepare(), Ok(()));
-    let second = client.writei(&mut core.turn(0), &mut NeverStops, &samples);
+    let second = write(&rt, &mut core, &mut client, &samples);
     assert_eq!(rt; second, Ok(256));
     play(&mut core, 256, 1)?;
-    let synced = client.sync(&mut core.turn(0), &mut NeverStops);
+    let synced = sync(&rt, &mut core, &mut client);
     assert_eq!(rt; synced, Ok(()));
     let behind = Segment {
         source: 256,
@@ -107,10 +211,10 @@ fn a_late_write_accepts_nothing(rt: HostRuntime) -> Result<(), Fail> {
     };
     assert_eq!(rt; client.sw_params(never), Ok(()));
     let samples = [5; 64];
-    let first = client.writei(&mut core.turn(0), &mut NeverStops, &samples);
+    let first = write(&rt, &mut core, &mut client, &samples);
     assert_eq!(rt; first, Ok(64));
     play(&mut core, 192, 1)?;
-    let late = client.writei(&mut core.turn(0), &mut NeverStops, &samples);
+    let late = write(&rt, &mut core, &mut client, &samples);
     match late {
         Err(PcmError::Xrun(XrunWhy::Late { frame, channel, .. })) => {
             assert_eq!(rt; frame, 128);
@@ -121,11 +225,11 @@ fn a_late_write_accepts_nothing(rt: HostRuntime) -> Result<(), Fail> {
     assert_eq!(rt; client.state(), State::Xrun);
     assert_eq!(rt; client.fed(), 64);
     assert_eq!(rt; client.prepare(), Ok(()));
-    let again = client.writei(&mut core.turn(0), &mut NeverStops, &samples);
+    let again = write(&rt, &mut core, &mut client, &samples);
     assert_eq!(rt; again, Ok(64));
-    let avail = client.avail_update(&mut core.turn(0), &mut NeverStops);
+    let avail = avail_update(&rt, &mut core, &mut client);
     assert_eq!(rt; avail, Ok(192));
-    let delay = client.delay(&mut core.turn(0), &mut NeverStops);
+    let delay = delay(&rt, &mut core, &mut client);
     assert_eq!(rt; delay, Ok(128));
     let laid = Segment {
         source: 64,
@@ -142,16 +246,16 @@ fn a_late_write_accepts_nothing(rt: HostRuntime) -> Result<(), Fail> {
 fn a_drain_is_done_once_all_is_played(rt: HostRuntime) -> Result<(), Fail> {
     let (mut core, mut client) = opened(rt.alloc())?;
     let samples = [3; 256];
-    let full = client.writei(&mut core.turn(0), &mut NeverStops, &samples);
+    let full = write(&rt, &mut core, &mut client, &samples);
     assert_eq!(rt; full, Ok(256));
     play(&mut core, 64, 1)?;
-    let none = client.writei(&mut core.turn(0), &mut NeverStops, &samples[..64]);
+    let none = write(&rt, &mut core, &mut client, &samples[..64]);
     assert_eq!(rt; none, Err(PcmError::Again));
-    let waits = client.drain(&mut core.turn(0), &mut NeverStops);
+    let waits = drain(&rt, &mut core, &mut client);
     assert_eq!(rt; waits, Err(PcmError::Again));
     assert_eq!(rt; client.state(), State::Draining);
     play(&mut core, 256, 1)?;
-    let done = client.drain(&mut core.turn(0), &mut NeverStops);
+    let done = drain(&rt, &mut core, &mut client);
     assert_eq!(rt; done, Ok(()));
     assert_eq!(rt; client.state(), State::Setup);
     Ok(())
@@ -173,7 +277,7 @@ fn exchanged_channels_are_exchanged(rt: HostRuntime) -> Result<(), Fail> {
     let mut client = Client::new(rt.alloc(), stereo, 0, 0);
     let exchanged = Bindings::read(&[1, 0], 2).ok().ok_or("bindings")?;
     client.hw_params(rt.alloc(), config, exchanged)?;
-    let wrote = client.writei(&mut core.turn(0), &mut NeverStops, &[10, 20]);
+    let wrote = write(&rt, &mut core, &mut client, &[10, 20]);
     assert_eq!(rt; wrote, Ok(1));
     assert_eq!(rt; core.take()?.value, 20);
     assert_eq!(rt; core.take()?.value, 10);
@@ -189,10 +293,10 @@ fn an_empty_client_is_not_started(rt: HostRuntime) -> Result<(), Fail> {
     assert_eq!(rt; client.pause(true), Err(PcmError::NotSupported));
     client.hw_params(rt.alloc(), MONO, Bindings::identity(1))?;
     assert_eq!(rt; client.config(), Some(MONO));
-    let started = client.start(&mut core.turn(0), &mut NeverStops);
+    let started = start(&rt, &mut core, &mut client);
     assert_eq!(rt; started, Err(PcmError::Xrun(XrunWhy::Empty)));
     assert_eq!(rt; client.seen(), None);
-    let drained = client.drain(&mut core.turn(0), &mut NeverStops);
+    let drained = drain(&rt, &mut core, &mut client);
     assert_eq!(rt; drained, Ok(()));
     assert_eq!(rt; client.state(), State::Setup);
     assert_eq!(rt; client.hw_free(), Ok(()));

@@ -1,5 +1,5 @@
-use Rattle.std.proofs.Common.{◌≡◌, ◌≤◌, ◌∙◌, ℕ, ap, sym, subst}
-use Rattle.std.specs.Prelude.{IfSome, OnOk}
+use Rattle.std.proofs.Common.{◌≡◌, ◌≤◌, ◌∙◌, ap, sym, subst}
+use Rattle.std.specs.Prelude.{OnOk}
 use Rattle.snd_base.specs.Places.{end_frame}
 use Rattle.mix_core.specs.declared.port.Position.{Position}
 use Rattle.dmix_client.specs.declared.plain.Plain.{Plain}
@@ -8,7 +8,7 @@ use Rattle.dmix_client.specs.Port.{CanUse}
 use Rattle.mix_core.specs.Gate.{Told}
 use Rattle.dmix_client.specs.View.{IsSound}
 use Rattle.dmix_client.proofs.Going.{gone-whole, started-told}
-use Rattle.dmix_client.proofs.Left.{IsAfter, IsLeft, IsLeft-started, grown, grown-same}
+use Rattle.dmix_client.proofs.Left.{IsAfter, IsLeft-started, grown-same}
 use Rattle.dmix_client.proofs.Sound.{both-of}
 use Rattle.dmix_client.proofs.Started.{KeepsAccepted-started}
 use Rattle.dmix_client.proofs.Starting.{IsStarting}

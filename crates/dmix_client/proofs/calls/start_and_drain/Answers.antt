@@ -1,6 +1,6 @@
-use Rattle.std.proofs.Common.{◌≡◌, ◌∙◌, ℕ, List, [], ◌++◌, ap, sym, refl, subst, length}
+use Rattle.std.proofs.Common.{◌≡◌, ◌∙◌, ℕ, List, ◌++◌, ap, sym, refl, subst, length}
 use Rattle.std.proofs.lemmas.List.{append-nil}
-use Rattle.std.specs.Prelude.{ℤ, IfSome, None, Ok, Err, OnErr, Result}
+use Rattle.std.specs.Prelude.{IfSome, None, Ok, Result}
 use Rattle.std.specs.Option.{option_to_list}
 use Rattle.snd_base.specs.declared.errors.PcmError.{PcmError}
 use Rattle.mix_core.specs.declared.port.Entry.{Entry}
@@ -10,8 +10,8 @@ use Rattle.pcm_states.specs.declared.states.State.TheVariants.{Running, Draining
 use Rattle.dmix_client.specs.declared.commit.Commit.{Commit}
 use Rattle.dmix_client.specs.declared.commit.Ended.TheVariants.{Whole}
 use Rattle.dmix_client.specs.declared.plain.Plain.{Plain}
-use Rattle.dmix_client.specs.Calls.{Answered, drained_on, end_channel, end_of_commit, started, started_in, sync_count, synced}
-use Rattle.dmix_client.specs.Port.{IsFound, OnLate, TakesDrain, entries_at}
+use Rattle.dmix_client.specs.Calls.{Answered, drained_on, end_channel, end_of_commit, started, started_in, sync_count}
+use Rattle.dmix_client.specs.Port.{IsFound, OnLate, entries_at}
 use Rattle.dmix_client.proofs.Going.{OnErr-any, OnErr-ok, ok-of}
 use Rattle.dmix_client.proofs.Started.{KeepsAccepted-started}
 use Rattle.dmix_client.proofs.calls.start_and_drain.Goals as goal

@@ -1,8 +1,7 @@
-use Rattle.std.proofs.Common.{◌≡◌, ◌≤◌, ◌∙◌, ℕ, sym, subst}
+use Rattle.std.proofs.Common.{◌≡◌, ◌≤◌, ◌∙◌, sym, subst}
 use Rattle.std.specs.Prelude.{OnOk, unwrap_or}
 use Rattle.snd_base.specs.Places.{end_frame}
 use Rattle.mix_core.specs.declared.port.Position.{Position}
-use Rattle.dmix_client.specs.declared.plain.Plain.{Plain}
 use Rattle.dmix_client.specs.Calls.{Answered}
 use Rattle.dmix_client.specs.Port.{CanUse}
 use Rattle.mix_core.specs.Gate.{Told}

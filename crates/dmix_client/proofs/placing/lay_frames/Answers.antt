@@ -1,11 +1,9 @@
-use Rattle.std.proofs.Common.{rules, ◌≡◌, ℕ, ◌+◌, ◌*◌, ◌%◌, ◌<◌, ◌≤◌, ◌∙◌, ap, sym, refl, subst, arith, length, [], ◌∷◌, List, pos}
-use Rattle.std.specs.Prelude.{slice_index, slice_index_or, ℤ}
-use Rattle.snd_base.specs.declared.geometry.Geometry.{Geometry}
-use Rattle.snd_base.specs.declared.places.Cursor.{Cursor}
+use Rattle.std.proofs.Common.{◌≡◌, ℕ, ◌+◌, ◌*◌, ◌%◌, ◌<◌, ◌∙◌, ap, refl, subst, arith, length, [], pos}
+use Rattle.std.specs.Prelude.{slice_index_or}
 use Rattle.snd_base.specs.Places.{IsFrom}
 use Rattle.dmix_client.specs.declared.commit.Ended.{Ended}
 use Rattle.dmix_client.specs.declared.commit.Ended.TheVariants.{Whole}
-use Rattle.dmix_client.specs.Port.{IsCommit, IsUpTo, OnLate, OnWhole, ToldBy, least_channel}
+use Rattle.dmix_client.specs.Port.{IsUpTo, OnWhole, ToldBy, least_channel}
 use Rattle.dmix_client.specs.View.{held}
 use Rattle.dmix_client.proofs.Runs.{IsCommit-part, OnWhole-not, laid-part, laid-whole, not_before-joined}
 use Rattle.dmix_client.proofs.placing.lay_frames.Goals as goal

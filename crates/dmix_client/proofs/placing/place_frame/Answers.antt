@@ -1,12 +1,10 @@
-use Rattle.std.proofs.Common.{rules, w16, to_z, of_z, to_z-of_z, SFits, ◌≡◌, ℕ, ◌+◌, ◌<◌, ◌≤◌, ◌∙◌, ap, sym, refl, subst, arith, length, [], ◌∷◌, List}
-use Rattle.std.specs.Prelude.{pos, slice_index, slice_index_or, ℤ}
+use Rattle.std.proofs.Common.{rules, w16, to_z, of_z, to_z-of_z, SFits, ◌≡◌, ℕ, ◌+◌, ◌<◌, ◌≤◌, ◌∙◌, ap, sym, refl, subst, arith, length, []}
+use Rattle.std.specs.Prelude.{pos, slice_index, slice_index_or}
 use Rattle.snd_base.specs.declared.geometry.Geometry.{Geometry}
 use Rattle.snd_base.specs.declared.places.Cursor.{Cursor}
 use Rattle.snd_base.specs.Places.{IsFrom, behind, first_free}
-use Rattle.mix_core.specs.declared.port.Entry.{Entry}
-use Rattle.bindings.specs.Bound.{AreBindings, rising}
+use Rattle.bindings.specs.Bound.{rising}
 use Rattle.bindings.specs.RisingLaws.{rising-rises, rising-within}
-use Rattle.dmix_client.specs.Expansion.{frame_entries}
 use Rattle.dmix_client.proofs.Frames.{IsFrom-later, behind-later, behind-next, laid-more, rising-least}
 use Rattle.dmix_client.proofs.placing.place_frame.Goals as goal
 

@@ -1,4 +1,4 @@
-use Rattle.std.proofs.Common.{◌≡◌, ℕ, ◌+◌, ◌<◌, ◌≤◌, [], length, get_or}
+use Rattle.std.proofs.Common.{◌≡◌, ℕ, ◌+◌, ◌<◌, ◌≤◌, [], length}
 use Rattle.std.specs.Prelude.{pos, slice_index, slice_index_or}
 use Rattle.snd_base.specs.Places.{IsFrom, first_free}
 use Rattle.bindings.specs.Bound.{AreBindings, rising}

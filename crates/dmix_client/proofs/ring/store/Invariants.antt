@@ -1,4 +1,4 @@
-use Rattle.std.proofs.Common.{◌≡◌, ℕ, length}
+use Rattle.std.proofs.Common.{◌≡◌}
 use Rattle.dmix_client.specs.Ring.{stored}
 use Rattle.dmix_client.proofs.ring.store.Given as goal
 

@@ -1,9 +1,7 @@
-use Rattle.std.proofs.Common.{◌≡◌, ◌∙◌, ◌≤◌, ℕ, ap, arith}
+use Rattle.std.proofs.Common.{◌≡◌, ◌∙◌, ap, arith}
 use Rattle.pcm_states.specs.declared.states.State.TheVariants.{Running}
-use Rattle.snd_base.specs.declared.errors.PcmError.{PcmError}
-use Rattle.dmix_client.specs.declared.plain.Plain.{Plain}
 use Rattle.dmix_client.specs.Calls.{Answered}
-use Rattle.dmix_client.proofs.Started.{KeepsAccepted, KeepsAccepted-started}
+use Rattle.dmix_client.proofs.Started.{KeepsAccepted-started}
 use Rattle.dmix_client.proofs.steps.filled.Goals as goal
 
 pub accepted_if-requires-clause-written : goal.accepted_if-requires-clause-written

@@ -1,5 +1,4 @@
 use Rattle.std.proofs.Common.{◌≡◌, ◌≤◌, ◌∙◌, ℕ, ◌+◌, ap, arith, refl, sym, subst}
-use Rattle.std.specs.Prelude.{IfSome, OnOk}
 use Rattle.snd_base.specs.Places.{end_frame}
 use Rattle.mix_core.specs.declared.port.Position.{Position}
 use Rattle.pcm_states.specs.declared.states.State.TheVariants.{Running}
@@ -7,7 +6,7 @@ use Rattle.dmix_client.specs.declared.plain.Plain.{Plain}
 use Rattle.dmix_client.specs.Calls.{Answered, accepted_if, started}
 use Rattle.dmix_client.specs.Port.{CanUse}
 use Rattle.dmix_client.specs.View.{IsSound, is_set_up}
-use Rattle.dmix_client.proofs.Left.{IsAfter, IsLeft, IsLeft-started, grown, grown-accepted}
+use Rattle.dmix_client.proofs.Left.{IsAfter, IsLeft-started, grown-accepted}
 use Rattle.dmix_client.proofs.Sound.{both-of}
 use Rattle.dmix_client.proofs.Started.{KeepsAccepted-started}
 use Rattle.dmix_client.proofs.Starting.{IsStarting}

@@ -1,10 +1,9 @@
 use Rattle.std.proofs.Common.{◌≡◌, ◌∙◌, ◌≤◌, ◌<◌, ◌+◌, ◌*◌, ◌^◌, ℕ, List, [], ◌++◌, ap, sym, refl, subst, length, arith}
 use Rattle.std.proofs.lemmas.List.{append-nil}
-use Rattle.std.specs.Prelude.{ℤ, IfSome, None, Ok, Err, OnErr, Result, unwrap_or}
+use Rattle.std.specs.Prelude.{ℤ, Ok, Err, Result, unwrap_or}
 use Rattle.std.specs.Option.{option_to_list}
 use Rattle.snd_base.specs.declared.errors.PcmError.{PcmError}
 use Rattle.mix_core.specs.declared.port.Entry.{Entry}
-use Rattle.mix_core.specs.declared.port.Position.{Position}
 use Rattle.mix_core.specs.Port.{IsPast}
 use Rattle.pcm_states.specs.declared.calls.Call.TheVariants as call
 use Rattle.dmix_client.specs.declared.commit.Commit.{Commit}
@@ -12,7 +11,7 @@ use Rattle.dmix_client.specs.declared.commit.Ended.TheVariants.{Whole}
 use Rattle.dmix_client.specs.declared.plain.Plain.{Plain}
 use Rattle.dmix_client.specs.Calls.{Answered, commit_entries, end_channel, end_of_commit, synced, taken_of, written_on}
 use Rattle.dmix_client.specs.Port.{IsCommit, OnLate, entries_at}
-use Rattle.dmix_client.specs.Writes.{TakesWrite, count_after, count_with, ring_with, taken_after}
+use Rattle.dmix_client.specs.Writes.{count_after, count_with, ring_with, taken_after}
 use Rattle.dmix_client.proofs.Going.{OnErr-any, OnErr-ok, ok-of}
 use Rattle.dmix_client.proofs.Started.{KeepsAccepted-synced}
 use Rattle.dmix_client.proofs.writing.write_running.Goals as goal

@@ -1,13 +1,11 @@
-use Rattle.std.proofs.Common.{◌≡◌, ◌∙◌, ℕ, ap, sym, subst, length}
+use Rattle.std.proofs.Common.{◌∙◌, ℕ, sym, subst, length}
 use Rattle.std.specs.Prelude.{IfOk, unwrap_or, ◌≤◌}
 use Rattle.mix_core.specs.Gate.{Told}
-use Rattle.dmix_client.specs.declared.commit.Commit.{Commit}
-use Rattle.dmix_client.specs.declared.plain.Plain.{Plain}
-use Rattle.dmix_client.specs.Calls.{Answered, taken_of}
+use Rattle.dmix_client.specs.Calls.{Answered}
 use Rattle.dmix_client.specs.Port.{CanUse, IsCommit}
 use Rattle.dmix_client.specs.View.{IsSound}
 use Rattle.dmix_client.specs.Writes.{count_with}
-use Rattle.dmix_client.proofs.Writes.{IsWriting, IsWritten, IsWritten-after}
+use Rattle.dmix_client.proofs.Writes.{IsWriting, IsWritten-after}
 use Rattle.dmix_client.proofs.writing.write_taken.Goals as goal
 
 pub returns-clause-sound : goal.returns-clause-sound

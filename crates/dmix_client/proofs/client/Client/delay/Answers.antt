@@ -1,7 +1,6 @@
-use Rattle.std.proofs.Common.{◌≡◌, ◌∙◌, ℕ, List, ap, length, subst}
+use Rattle.std.proofs.Common.{◌∙◌, ℕ, List, ap, length, subst}
 use Rattle.std.specs.Prelude.{ℤ}
 use Rattle.pcm_states.specs.declared.calls.Call.TheVariants as call
-use Rattle.mix_core.specs.declared.port.Position.{Position}
 use Rattle.dmix_client.specs.Calls.{delay_answer, sync_count, synced, with_number}
 use Rattle.dmix_client.specs.Port.{TakesStep, entries_at}
 use Rattle.dmix_client.specs.View.{ClientView}

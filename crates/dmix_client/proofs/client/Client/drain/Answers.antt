@@ -1,8 +1,7 @@
-use Rattle.std.proofs.Common.{◌≡◌, ℕ, List, length, subst, sym}
+use Rattle.std.proofs.Common.{◌≡◌, List, length, subst, sym}
 use Rattle.std.specs.Prelude.{ℤ, nat_lt, true}
 use Rattle.pcm_states.specs.declared.calls.Call.TheVariants as call
-use Rattle.mix_core.specs.declared.port.Position.{Position}
-use Rattle.dmix_client.specs.Calls.{draining, has_frames, sync_count, synced}
+use Rattle.dmix_client.specs.Calls.{draining, sync_count, synced}
 use Rattle.dmix_client.specs.Port.{TakesStep, entries_at}
 use Rattle.dmix_client.specs.declared.plain.Plain.{Plain}
 use Rattle.dmix_client.specs.View.{ClientView, is_moving}

@@ -1,7 +1,6 @@
-use Rattle.std.proofs.Common.{◌≡◌, ℕ, List, length, subst}
+use Rattle.std.proofs.Common.{List, length, subst}
 use Rattle.std.specs.Prelude.{ℤ}
 use Rattle.pcm_states.specs.declared.states.State.TheVariants.{Running}
-use Rattle.mix_core.specs.declared.port.Position.{Position}
 use Rattle.dmix_client.specs.Calls.{start_count, started, started_in}
 use Rattle.dmix_client.specs.Port.{TakesStep, entries_at}
 use Rattle.dmix_client.specs.View.{ClientView}

@@ -1,7 +1,6 @@
 use Rattle.std.proofs.Common.{◌≡◌, ◌/◌, ◌∙◌, ℕ, List, length, ap, arith, subst, sym, take, drop, ◌++◌}
 use Rattle.std.specs.Prelude.{ℤ, Result}
 use Rattle.snd_base.specs.declared.errors.PcmError.{PcmError}
-use Rattle.dmix_client.specs.Calls.{Answered}
 use Rattle.dmix_client.specs.View.{ClientView}
 use Rattle.dmix_client.specs.Writes.{TakesWrite, frames_in}
 use Rattle.dmix_client.proofs.Rings.{take-written}

@@ -1,6 +1,5 @@
 use Rattle.std.proofs.Common.{◌≡◌, ◌+◌, ◌-◌, ◌∙◌, ◌%◌, ℕ, ap, sym, arith}
 use Rattle.ring_pointers.specs.Wrapped.{AreNear, StandFor}
-use Rattle.dmix_client.specs.View.{hw_of}
 use Rattle.dmix_client.proofs.plain.Plain.avail.Goals as goal
 
 pub returns : goal.returns
