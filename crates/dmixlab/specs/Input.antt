@@ -1,13 +1,12 @@
 -- What a run reads, or the first cause for which it can't: a function of the files.
-use Rattle.std.specs.Prelude.{◌≡◌, ℕ, ◌+◌, ◌==◌, ◌&&◌, nat_le, if◌then◌else◌, List, [], ◌∷◌, length, Option, Some, None, Result, Ok, Err}
+use Rattle.std.specs.Prelude.{◌≡◌, ℕ, ◌+◌, nat_le, if◌then◌else◌, List, [], ◌∷◌, length, Option, Some, None, Result, Ok, Err}
 use Rattle.lab_script.specs.declared.error.ScriptError.{ScriptError}
-use Rattle.lab_script.specs.declared.script.CardLine.{CardLine}
 use Rattle.lab_script.specs.declared.script.ClientLine.{ClientLine}
 use Rattle.lab_script.specs.declared.script.Script.{Script}
 use Rattle.lab_script.specs.Reading.{script_of}
 use Rattle.lab_script.specs.Spelling.{Spells}
 use Rattle.wav_io.specs.declared.error.WavError.{WavError}
-use Rattle.wav_io.specs.declared.error.WavError.TheVariants.{NotYet, TooLong}
+use Rattle.wav_io.specs.declared.error.WavError.TheVariants.{TooLong}
 use Rattle.wav_io.specs.Sound.{Sound}
 use Rattle.wav_io.specs.Reading.{wav_file}
 use Rattle.lab_shelf.specs.Files.{Files, piece}
@@ -47,11 +46,6 @@ abbrev pub as_sound : List ℕ → Result Sound WavError → Result Sound Cause
 as_sound name (Ok sound) = Ok sound
 as_sound name (Err e) = Err (wav_refused name e)
 
--- a sound that a card can play: of the card's rate, with no more channels than the card has
-abbrev pub suiting : CardLine → Result Sound WavError → Result Sound WavError
-suiting card (Ok sound) = if sound.rate == card.rate && nat_le sound.channels card.channels then Ok sound else Err NotYet
-suiting card (Err e) = Err e
-
 -- the most bytes that the clients' files of a run have together
 abbrev pub most_of_run : ℕ
 most_of_run = 268_435_456
@@ -69,10 +63,10 @@ script_in files name = do
 
 -- the sound in a client's file, of which one byte more is fetched than a file may have, and the bytes that were fetched of
 -- all files so far, where those before it had this many
-unfoldable pub sound_in : Files → CardLine → ℕ → List ℕ → Result (Sound × ℕ) Cause
-sound_in files card total name = do
+unfoldable pub sound_in : Files → ℕ → List ℕ → Result (Sound × ℕ) Cause
+sound_in files total name = do
   bytes ← fetched files name 67108865
-  sound ← as_sound name (within_run (total + length bytes) (suiting card (wav_file bytes)))
+  sound ← as_sound name (within_run (total + length bytes) (wav_file bytes))
   Ok (sound, total + length bytes)
 
 -- the text of a file, of which one byte more is fetched than a script may have, spells a script
@@ -82,16 +76,16 @@ pub record SpelledIn (files : Files) (name : List ℕ) (script : Script) : Type 
   pub spells : Spells text script
 
 -- the sounds of some clients, in order, behind files of this many bytes
-unfoldable pub sounds_in : Files → CardLine → ℕ → List ClientLine → Result (List Sound) Cause
-sounds_in files card total [] = Ok []
-sounds_in files card total (client ∷ clients) = do
-  read ← sound_in files card total client.file
-  sounds ← sounds_in files card read.1 clients
+unfoldable pub sounds_in : Files → ℕ → List ClientLine → Result (List Sound) Cause
+sounds_in files total [] = Ok []
+sounds_in files total (client ∷ clients) = do
+  read ← sound_in files total client.file
+  sounds ← sounds_in files read.1 clients
   Ok (read.0 ∷ sounds)
 
 -- what a run of the script in this file reads
 unfoldable pub input_in : Files → List ℕ → Result Input Cause
 input_in files name = do
   script ← script_in files name
-  sounds ← sounds_in files script.card 0 script.clients
+  sounds ← sounds_in files 0 script.clients
   Ok (record { script = script; sounds = sounds })

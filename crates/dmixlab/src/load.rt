@@ -4,12 +4,12 @@ ghost use Rattle.std.specs.Option.{ForSome};
 ghost use Rattle.lab_script.specs.Script.{IsScript};
 ghost use Rattle.lab_phase.specs.Meaning.{AreFiles};
 ghost use Rattle.wav_io.specs.Reading.{wav_file, Reads};
-ghost use Rattle.dmixlab.specs.Input.{SpelledIn, fetched, input_in, most_of_run, script_in, sound_in, sounds_in, suiting, within_run};
+ghost use Rattle.dmixlab.specs.Input.{SpelledIn, fetched, input_in, most_of_run, script_in, sound_in, sounds_in, within_run};
 ghost use Rattle.dmixlab.specs.Stops.{FetchFaults, Follows, Misses};
 ghost use Rattle.dmixlab.specs.Loaded.{input_of};
 
 use crate::stop::{Stop, wav_stop};
-use lab_script::{CardLine, ClientLine, Script, read_script};
+use lab_script::{ClientLine, Script, read_script};
 use lab_shelf::{Shelf, ShelfFault};
 use std::alloc::Global;
 use wav_io::{Wav, WavError, read_wav};
@@ -45,7 +45,7 @@ pub(crate) fn load<S: Shelf>(shelf: &mut S, alloc: Global, name: &[u8]) -> Resul
         (λ files. Misses result (input_in files name.now)) }
 {
     let script = load_script(shelf, alloc, name)?;
-    let wavs = load_wavs(shelf, alloc, &script.card, script.clients.as_slice())?;
+    let wavs = load_wavs(shelf, alloc, script.clients.as_slice())?;
     Ok(Loaded { script, wavs })
 }
 
@@ -71,25 +71,23 @@ fn load_script<S: Shelf>(shelf: &mut S, alloc: Global, name: &[u8]) -> Result<Sc
 fn load_wavs<S: Shelf>(
     shelf: &mut S,
     alloc: Global,
-    card: &CardLine,
     clients: &[ClientLine],
 ) -> Result<Vec<Wav>, Stop>
     ensures sounds { ForSome (S.files shelf.old)
-        (λ files. Follows (λ v. v.items) result (sounds_in files card.now 0 clients.now)) }
-    ensures channels { IfOk result (λ wavs. All (λ w. w.channels ≤ card.now.channels) wavs.items) }
+        (λ files. Follows (λ v. v.items) result (sounds_in files 0 clients.now)) }
     ensures number { IfOk result (λ wavs. length wavs.items ≡ length clients.now) }
     ensures files { S.files shelf.new ≡ S.files shelf.old }
     ensures faults { FetchFaults result (S.fetch_faults shelf.old) (S.fetch_faults shelf.new) }
     ensures write_faults { S.write_faults shelf.new ≡ S.write_faults shelf.old }
     ensures reliable { S.is_reliable shelf.old → S.is_reliable shelf.new }
     ensures missing { S.is_reliable shelf.old → ForSome (S.files shelf.old)
-        (λ files. Misses result (sounds_in files card.now 0 clients.now)) }
+        (λ files. Misses result (sounds_in files 0 clients.now)) }
 {
     let mut wavs = Vec::new(alloc);
     let mut total = 0;
     for client in clients {
         let name = client.file.as_str().as_bytes();
-        let (wav, fetched) = load_wav(shelf, alloc, card, total, name)?;
+        let (wav, fetched) = load_wav(shelf, alloc, total, name)?;
         wavs.push(wav)?;
         total = fetched;
     }
@@ -102,54 +100,37 @@ fn load_wavs<S: Shelf>(
 fn load_wav<S: Shelf>(
     shelf: &mut S,
     alloc: Global,
-    card: &CardLine,
     total: u64,
     name: &[u8],
 ) -> Result<(Wav, u64), Stop>
     requires few { total ≤ most_of_run }
-    ensures sound { ForSome (S.files shelf.old) (λ files. Follows (λ r. r) result (sound_in files card.now total name.now)) }
-    ensures channels { IfOk result (λ r. r.0.channels ≤ card.now.channels) }
+    ensures sound { ForSome (S.files shelf.old) (λ files. Follows (λ r. r) result (sound_in files total name.now)) }
     ensures few { IfOk result (λ r. r.1 ≤ most_of_run) }
     ensures files { S.files shelf.new ≡ S.files shelf.old }
     ensures faults { FetchFaults result (S.fetch_faults shelf.old) (S.fetch_faults shelf.new) }
     ensures write_faults { S.write_faults shelf.new ≡ S.write_faults shelf.old }
     ensures reliable { S.is_reliable shelf.old → S.is_reliable shelf.new }
     ensures missing { S.is_reliable shelf.old → ForSome (S.files shelf.old)
-        (λ files. Misses result (sound_in files card.now total name.now)) }
+        (λ files. Misses result (sound_in files total name.now)) }
 {
     let bytes = fetch_most(shelf, alloc, name, WAV_MOST)?;
     let total = total + bytes.len() as u64;
-    match read_within(alloc, card, total, &bytes) {
+    match read_within(alloc, total, &bytes) {
         Ok(wav) => Ok((wav, total)),
         Err(why) => Err(wav_stop(alloc, name, why)),
     }
 }
 
-/// The samples of a client's file for this card, where all files so far have at most the bytes that
-/// a run may have.
-fn read_within(alloc: Global, card: &CardLine, total: u64, bytes: &[u8]) -> Result<Wav, WavError>
-    ensures sound { Reads result (within_run total (suiting card.now (wav_file bytes.now))) }
-    ensures channels { IfOk result (λ w. w.channels ≤ card.now.channels) }
+/// The samples of a client's file, where all files so far have at most the bytes that a run may have.
+fn read_within(alloc: Global, total: u64, bytes: &[u8]) -> Result<Wav, WavError>
+    ensures sound { Reads result (within_run total (wav_file bytes.now)) }
     ensures few { IfOk result (λ _. total ≤ most_of_run) }
 {
-    let wav = read_suiting(alloc, card, bytes)?;
+    let wav = read_wav(alloc, bytes)?;
     if total <= RUN_MOST {
         Ok(wav)
     } else {
         Err(WavError::TooLong)
-    }
-}
-
-/// The samples of a client's file for this card.
-fn read_suiting(alloc: Global, card: &CardLine, bytes: &[u8]) -> Result<Wav, WavError>
-    ensures sound { Reads result (suiting card.now (wav_file bytes.now)) }
-    ensures channels { IfOk result (λ w. w.channels ≤ card.now.channels) }
-{
-    let wav = read_wav(alloc, bytes)?;
-    if wav.rate == card.rate && wav.channels <= u16::from(card.channels) {
-        Ok(wav)
-    } else {
-        Err(WavError::NotYet)
     }
 }
 

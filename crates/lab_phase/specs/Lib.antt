@@ -1,5 +1,7 @@
-pub mod Expansion
-pub mod Lay
+pub mod Lines
 pub mod Meaning
 pub mod Mixes
-pub mod Stage
+pub mod Opening
+pub mod Rest
+pub mod Seats
+pub mod Stages

@@ -2,11 +2,14 @@
 #![tactic(auto)]
 
 mod body;
-mod lay;
+mod calls;
+mod finish;
+mod line;
+mod opening;
 mod outcome;
-mod phase;
 mod play;
 mod run;
+mod seat;
 mod start;
 
 pub use outcome::Outcome;

@@ -1,11 +1,8 @@
 //! What the card does.
-ghost use Rattle.std.specs.Prelude.{◌≡◌, ◌+◌, ◌≤◌, ◌<◌, ℕ, List, IfErr, OnOk, Option};
+ghost use Rattle.std.specs.Prelude.{◌≡◌, ◌+◌, ◌≤◌, ◌<◌, ℕ, ℤ, IfErr, OnOk};
 ghost use Rattle.snd_base.specs.Places.{end_frame};
-ghost use Rattle.snd_base.specs.declared.places.Segment.{Segment};
-ghost use Rattle.lab_script.specs.declared.script.CardLine.{CardLine};
-ghost use Rattle.wav_io.specs.Sound.{Sound};
-ghost use Rattle.lab_phase.specs.Mixes.{Mixes};
-ghost use Rattle.lab_phase.specs.Stage.{IsCoreAt, TakesFrame};
+ghost use Rattle.snd_base.specs.declared.geometry.Geometry.{Geometry};
+ghost use Rattle.lab_phase.specs.Mixes.{Mixes, RestsAt, TakesFrame};
 
 use mix_core::Core;
 use snd_base::PcmError;
@@ -15,7 +12,7 @@ fn play_frame(core: &mut Core, played: &mut Vec<i16>) -> Result<(), PcmError>
     requires whole { core.old.next.channel ≡ 0 }
     requires fits { core.old.next.frame < end_frame core.old.geometry }
     ensures took { OnOk result (TakesFrame core.old core.new) }
-    ensures mixes { OnOk result ((wavs : List Sound) (segments : List (Option Segment)) → Mixes core.old wavs segments played.old.items → Mixes core.new wavs segments played.new.items) }
+    ensures mixes { OnOk result ((sums : ℕ → ℕ → ℤ) → Mixes core.old sums played.old.items → Mixes core.new sums played.new.items) }
     ensures only { IfErr result (λ e. e ≡ PcmError.Memory) }
 {
     for _channel in 0..core.geometry().channels {
@@ -30,8 +27,9 @@ fn play_frame(core: &mut Core, played: &mut Vec<i16>) -> Result<(), PcmError>
 pub(crate) fn play(core: &mut Core, played: &mut Vec<i16>, frames: u32) -> Result<(), PcmError>
     requires whole { core.old.next.channel ≡ 0 }
     requires fits { core.old.next.frame + frames ≤ end_frame core.old.geometry }
-    ensures core { OnOk result ((card : CardLine) (clients position : ℕ) → IsCoreAt card clients position core.old → IsCoreAt card clients (position + frames) core.new) }
-    ensures mixes { OnOk result ((wavs : List Sound) (segments : List (Option Segment)) → Mixes core.old wavs segments played.old.items → Mixes core.new wavs segments played.new.items) }
+    ensures rests { OnOk result ((ring : Geometry) (members position : ℕ) → RestsAt ring members position core.old → RestsAt ring members (position + frames) core.new) }
+    ensures cursors { OnOk result (core.new.cursors ≡ core.old.cursors) }
+    ensures mixes { OnOk result ((sums : ℕ → ℕ → ℤ) → Mixes core.old sums played.old.items → Mixes core.new sums played.new.items) }
     ensures only { IfErr result (λ e. e ≡ PcmError.Memory) }
 {
     for _frame in 0..frames {

@@ -1,58 +1,103 @@
-//! A client starts.
-ghost use Rattle.std.specs.Prelude.{◌≡◌, ◌≤◌, ◌<◌, ℕ, ℤ, List, All, Option, length, map, slice_index, slice_index_or, slice_set};
-ghost use Rattle.snd_base.specs.declared.places.Cursor.{Cursor};
-ghost use Rattle.wav_io.specs.Sound.{Sound};
-ghost use Rattle.lab_script.specs.Script.{IsCardLine};
-ghost use Rattle.lab_phase.specs.Meaning.{frames_of, segment_of};
-ghost use Rattle.lab_phase.specs.Mixes.{Mixes};
-ghost use Rattle.lab_phase.specs.Stage.{IsCoreAt};
+//! A run before its first phase: each client is opened.
+ghost use Rattle.std.specs.Prelude.{◌≡◌, ◌≤◌, ◌<◌, ◌+◌, ◌++◌, ◌∷◌, [], IfOk, IfErr, OnOk, length, Some, slice_get};
+ghost use Rattle.snd_base.specs.declared.geometry.Geometry.{Geometry};
+ghost use Rattle.lab_script.specs.Script.{IsBound, IsCardLine, IsScript};
+ghost use Rattle.lab_phase.specs.Meaning.{AreFiles};
+ghost use Rattle.lab_phase.specs.Opening.{IsRingOf};
+ghost use Rattle.lab_phase.specs.Stages.{AddsSeat, HasOpened, IsOpeningRow};
 
-use crate::lay::commit;
-use lab_script::CardLine;
+use crate::body::Body;
+use crate::opening::open_client;
+use crate::seat::Seat;
+use dmix_client::Client;
+use lab_report::{Answer, Row};
+use lab_script::{Actor, CardLine, ClientLine, Op, Script};
 use mix_core::Core;
-use snd_base::Segment;
+use pcm_states::State;
+use snd_base::{Geometry, PcmError, Why};
+use std::alloc::Global;
 use wav_io::Wav;
 
-/// Starts a client that has accepted so many frames of its file, where it has any: commits those that fit into the ring,
-/// from one period past the position on, and notes the segment.
-pub(crate) fn start(
-    core: &mut Core,
-    segments: &mut Vec<Option<Segment>>,
-    card: &CardLine,
-    wavs: &[Wav],
-    client: u32,
-    accepted: u32,
-)
-    requires card { IsCardLine card.now }
-    requires core { IsCoreAt card.now (length wavs.now) core.old.position core.old }
-    requires fits { core.old.position ≤ 4194304 }
-    requires channels { All (λ (wav : Sound). wav.channels ≤ card.now.channels) wavs.now }
-    requires client { client < length wavs.now }
-    requires held { accepted ≤ slice_index (map frames_of wavs.now) client }
-    requires slots { length segments.old.items ≡ length wavs.now }
-    requires fresh { slice_index_or segments.old.items client None ≡ None }
-    requires cursors { (d : Cursor) → slice_index_or core.old.cursors client d ≡ record { frame = 0; channel = 0 } }
-    ensures core { IsCoreAt card.now (length wavs.now) core.old.position core.new }
-    ensures segments { segments.new.items ≡ slice_set segments.old.items client (segment_of card.now core.old.position accepted) }
-    ensures mixes { (played : List ℤ) → Mixes core.old wavs.now segments.old.items played → Mixes core.new wavs.now segments.new.items played }
+/// The row of an opening.
+fn opening_row(number: u32, client: &Option<Client>) -> Row
+    ensures { IsOpeningRow number client.now result }
 {
-    if accepted == 0 {
-        return;
+    match client {
+        Some(stream) => Row {
+            phase: 0,
+            actor: Actor::Client(number),
+            op: Op::Opens,
+            answer: Answer::Done,
+            state: stream.state(),
+            seen: stream.seen(),
+        },
+        None => Row {
+            phase: 0,
+            actor: Actor::Client(number),
+            op: Op::Opens,
+            answer: Answer::Failed(PcmError::Invalid(Why::Config)),
+            state: State::Open,
+            seen: None,
+        },
     }
-    let wav = &wavs[client as usize];
-    let whole = accepted.min(card.ring - card.period);
-    let position = commit(
-        core,
+}
+
+/// Opens a client, and gives it its seat and the row of its opening.
+fn open_seat(
+    alloc: Global,
+    body: &mut Body,
+    card: &CardLine,
+    number: u32,
+    line: &ClientLine,
+    wav: &Wav,
+) -> Result<(), PcmError>
+    requires card { IsCardLine card.now }
+    requires bound { IsBound card.now.channels line.now.bindings }
+    requires ring { IsRingOf card.now body.old.core.geometry }
+    ensures ok { OnOk result (AddsSeat card.now number line.now wav.now body.old body.new) }
+    ensures only { IfErr result (λ e. e ≡ PcmError.Memory) }
+{
+    let client = open_client(alloc, body.core.geometry(), number, card, line, wav)?;
+    body.rows.push(opening_row(number, &client))?;
+    body.seats.push(Seat {
         client,
-        card.period,
-        wav.samples.as_slice(),
-        wav.channels as usize,
-        whole,
-    );
-    segments[client as usize] = Some(Segment {
-        source: 0,
-        card: position + card.period as u64,
-        whole: whole as u64,
-        part: 0,
-    });
+        ended: Vec::new(alloc),
+    })?;
+    Ok(())
+}
+
+/// The run before the first phase: each client is opened, or its opening is refused.
+pub(crate) fn opened(alloc: Global, script: &Script, wavs: &[Wav]) -> Result<Body, PcmError>
+    requires script { IsScript script.now }
+    requires files { AreFiles script.now wavs.now }
+    ensures ok { IfOk result (λ body. HasOpened script.now wavs.now body) }
+    ensures only { IfErr result (λ e. e ≡ PcmError.Memory) }
+{
+    let card = &script.card;
+    let geometry = Geometry {
+        frames: card.ring,
+        channels: card.channels,
+        first_lap: 0,
+    };
+    let clients = script.clients.as_slice();
+    let members = (clients.len() as u32).max(1);
+    let core = Core::new(alloc, geometry, members)?;
+    let mut body = Body {
+        core,
+        seats: Vec::new(alloc),
+        rows: Vec::new(alloc),
+        played: Vec::new(alloc),
+        position: 0,
+    };
+    for number in 0..clients.len() {
+        open_seat(
+            alloc,
+            &mut body,
+            card,
+            number as u32,
+            &clients[number],
+            &wavs[number],
+        )?;
+    }
+    Ok(body)
 }

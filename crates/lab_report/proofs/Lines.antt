@@ -5,12 +5,13 @@ use Rattle.snd_base.specs.declared.errors.PcmError.{PcmError}
 use Rattle.snd_base.specs.declared.errors.PcmError.TheVariants.{BadState, Xrun, Again, NoDevice, Invalid, Busy, NotSupported, LapEnd, Stopped, Memory}
 use Rattle.pcm_states.specs.States.{state_name}
 use Rattle.lab_script.specs.declared.line.Op.{Op}
-use Rattle.lab_script.specs.declared.line.Op.TheVariants.{Play, Write, Opens}
+use Rattle.lab_script.specs.declared.line.Op.TheVariants as op
 use Rattle.lab_script.specs.declared.script.ClientLine.{ClientLine}
 use Rattle.lab_report.specs.declared.row.Answer.{Answer}
 use Rattle.lab_report.specs.declared.row.Answer.TheVariants.{Done, Count, Failed}
 use Rattle.lab_report.specs.declared.row.Row.{Row}
-use Rattle.lab_report.specs.Text.{joined, op_words, error_words, answer_words, HasErrorWords, HasWords, actor_name, number_or_dash, row_line}
+use Rattle.lab_report.specs.Text.{joined, op_words, error_words, answer_words, HasErrorWords, HasWords, number_or_dash, row_line}
+use Rattle.lab_script.specs.Spelling.{actor_name}
 
 -- two lists of words are joined with a space between them
 pub joined-append : (xs ys : List (List ℕ)) → xs ≢ [] → ys ≢ [] → joined (xs ++ ys) ≡ joined xs ++ 32 ∷ joined ys
@@ -21,10 +22,18 @@ joined-append (x ∷ w ∷ ws) ys some more =
     rw (joined-append (w ∷ ws) ys (λ e. cc) more) (rw append_assoc refl)
 
 -- what is asked for has words
-op_words-some : (op : Op) → op_words op ≢ []
-op_words-some (Play n) e = cc
-op_words-some (Write n) e = cc
-op_words-some Opens e = cc
+op_words-some : (o : Op) → op_words o ≢ []
+op_words-some (op.Play n) e = cc
+op_words-some (op.Write n) e = cc
+op_words-some op.Start e = cc
+op_words-some op.Sync e = cc
+op_words-some op.Avail e = cc
+op_words-some op.Delay e = cc
+op_words-some op.Drain e = cc
+op_words-some op.Drop e = cc
+op_words-some op.Prepare e = cc
+op_words-some op.Pause e = cc
+op_words-some op.Opens e = cc
 
 -- a refusal that has words
 error_words-some : (error : PcmError) → HasErrorWords error → error_words error ≢ []

@@ -1,8 +1,7 @@
 -- The text of a report: its lines, and what each of them says.
-use Rattle.std.specs.Prelude.{ℕ, ◌<◌, List, [], ◌∷◌, ◌++◌, length, Option, Some, None, All, codes, slice_get}
+use Rattle.std.specs.Prelude.{ℕ, ◌<◌, List, [], ◌∷◌, ◌++◌, length, Option, Some, None, All, codes}
 use Rattle.std.specs.Fmt.{decimal}
 use Rattle.std.specs.List.{flat_map}
-use Rattle.std.specs.Option.{option_map_or}
 use Rattle.snd_base.specs.declared.errors.PcmError.{PcmError}
 use Rattle.snd_base.specs.declared.errors.PcmError.TheVariants.{BadState, Xrun, Again, NoDevice, Invalid, Busy, NotSupported, LapEnd, Stopped, Memory}
 use Rattle.snd_base.specs.declared.errors.XrunWhy.{XrunWhy}
@@ -12,9 +11,10 @@ use Rattle.pcm_states.specs.States.{state_name}
 use Rattle.lab_script.specs.declared.line.Actor.{Actor}
 use Rattle.lab_script.specs.declared.line.Actor.TheVariants.{Card, Client}
 use Rattle.lab_script.specs.declared.line.Op.{Op}
-use Rattle.lab_script.specs.declared.line.Op.TheVariants.{Play, Write, Opens}
+use Rattle.lab_script.specs.declared.line.Op.TheVariants as op
 use Rattle.lab_script.specs.declared.script.ClientLine.{ClientLine}
 use Rattle.lab_script.specs.declared.script.Script.{Script}
+use Rattle.lab_script.specs.Spelling.{client_name, actor_name}
 use Rattle.lab_report.specs.declared.row.Answer.{Answer}
 use Rattle.lab_report.specs.declared.row.Answer.TheVariants.{Done, Count, Failed}
 use Rattle.lab_report.specs.declared.row.Row.{Row}
@@ -30,21 +30,19 @@ joined (word ∷ next ∷ more) = word ++ 32 ∷ joined (next ∷ more)
 abbrev pub line : List (List ℕ) → List ℕ
 line words = joined words ++ 10 ∷ []
 
--- the name of a client, by its number
-abbrev pub client_name : List ClientLine → ℕ → List ℕ
-client_name clients number =
-    option_map_or (λ (client : ClientLine). client.name) (slice_get clients number) []
-
--- the name of who does something
-abbrev pub actor_name : List ClientLine → Actor → List ℕ
-actor_name clients Card = codes "card"
-actor_name clients (Client number) = client_name clients number
-
 -- what is asked for, as in a script
 abbrev pub op_words : Op → List (List ℕ)
-op_words (Play frames) = codes "play" ∷ decimal frames ∷ []
-op_words (Write frames) = codes "write" ∷ decimal frames ∷ []
-op_words Opens = codes "open" ∷ []
+op_words (op.Play frames) = codes "play" ∷ decimal frames ∷ []
+op_words (op.Write frames) = codes "write" ∷ decimal frames ∷ []
+op_words op.Start = codes "start" ∷ []
+op_words op.Sync = codes "sync" ∷ []
+op_words op.Avail = codes "avail" ∷ []
+op_words op.Delay = codes "delay" ∷ []
+op_words op.Drain = codes "drain" ∷ []
+op_words op.Drop = codes "drop" ∷ []
+op_words op.Prepare = codes "prepare" ∷ []
+op_words op.Pause = codes "pause" ∷ []
+op_words op.Opens = codes "open" ∷ []
 
 -- a number, or `-` where there is none
 abbrev pub number_or_dash : Option ℕ → List ℕ

@@ -1,7 +1,9 @@
 ghost use Rattle.std.specs.Prelude.{◌≡◌, length, IfOk, Some};
 
 use super::*;
-use lab_script::{Actor, CardLine, ClientLine, Clients, FileName, Name, Op, Phase, Phases, Script};
+use lab_script::{
+    Actor, CardLine, ClientLine, Clients, FileName, Line, Name, Op, Phase, Phases, Script,
+};
 use pcm_states::State;
 use snd_base::{PcmError, Segment, Why, XrunWhy};
 use std::alloc::{AllocError, Global};
@@ -13,13 +15,25 @@ fn one_write(alloc: Global) -> Result<Script, AllocError>
 {
     let name = Name::from_text(String::from_str(alloc, "a")?);
     let file = FileName::from_text(String::from_str(alloc, "a.wav")?);
-    let clients = Clients::from_vec(vec![in alloc; ClientLine { name, file }]?);
+    let client = ClientLine {
+        name,
+        file,
+        bindings: None,
+    };
+    let clients = Clients::from_vec(vec![in alloc; client]?);
+    let write = Line {
+        number: 5,
+        actor: Actor::Client(0),
+        op: Op::Write(64),
+    };
+    let play = Line {
+        number: 8,
+        actor: Actor::Card,
+        op: Op::Play(256),
+    };
     let phases = vec![in alloc;
-        Phase::Write {
-            client: 0,
-            frames: 64
-        },
-        Phase::Play(256),
+        Phase::from_vec(vec![in alloc; write]?),
+        Phase::from_vec(vec![in alloc; play]?),
     ]?;
     Ok(Script {
         card: CardLine {
@@ -84,6 +98,73 @@ fn report_has_a_line_for_each_row_and_segment(rt: HostRuntime) -> Result<(), Fai
     let Report { rows, segments, .. } = report;
     assert_eq!(rt; rows.into_vec().len(), 3);
     assert_eq!(rt; segments.into_vec().as_slice(), [(0, segment)].as_slice());
+    Ok(())
+}
+
+// Each call of a client has its word, and a client may have several segments.
+#[test]
+fn calls_have_their_words(rt: HostRuntime) -> Result<(), Fail> {
+    let alloc = rt.alloc();
+    let script = one_write(alloc)?;
+    let done = Answer::Done;
+    let rows = vec![in alloc;
+        client_row(1, Op::Write(64), Answer::Count(64), State::Prepared, None),
+        client_row(1, Op::Start, done, State::Running, Some(0)),
+        client_row(1, Op::Sync, done, State::Running, Some(0)),
+        client_row(1, Op::Avail, Answer::Count(192), State::Running, Some(0)),
+        client_row(1, Op::Delay, Answer::Count(64), State::Running, Some(0)),
+        client_row(
+            2,
+            Op::Drain,
+            Answer::Failed(PcmError::Again),
+            State::Draining,
+            Some(64)
+        ),
+        client_row(2, Op::Drop, done, State::Setup, Some(64)),
+        client_row(2, Op::Prepare, done, State::Prepared, None),
+        client_row(
+            2,
+            Op::Pause,
+            Answer::Failed(PcmError::NotSupported),
+            State::Running,
+            Some(64)
+        ),
+    ]?;
+    let first = Segment {
+        source: 0,
+        card: 64,
+        whole: 64,
+        part: 0,
+    };
+    let second = Segment {
+        source: 64,
+        card: 256,
+        whole: 10,
+        part: 1,
+    };
+    let report = Report {
+        rows: Rows::from_vec(rows),
+        segments: Segments::from_vec(vec![in alloc; (0, first), (0, second)]?),
+        first: 0,
+        frames: 64,
+    };
+    let want = "dmixlab 1
+1 a write 64 = 64 PREPARED -
+1 a start = ok RUNNING 0
+1 a sync = ok RUNNING 0
+1 a avail = 192 RUNNING 0
+1 a delay = 64 RUNNING 0
+2 a drain = EAGAIN DRAINING 64
+2 a drop = ok SETUP 64
+2 a prepare = ok PREPARED -
+2 a pause = EIO RUNNING 64
+segment a 0 64 64 0
+segment a 64 256 10 1
+played 0 64
+end
+";
+    let bytes = print_report(alloc, &report, &script)?;
+    assert_eq!(rt; bytes.as_slice(), want.as_bytes());
     Ok(())
 }
 

@@ -1,7 +1,8 @@
 //! The text of a report.
 ghost use Rattle.std.specs.Prelude.{◌≡◌, ◌∷◌, ◌++◌, ◌<◌, [], codes, length, string_bytes, OnOk};
 ghost use Rattle.std.specs.Fmt.{decimal};
-ghost use Rattle.lab_report.specs.Text.{joined, line, client_name, actor_name, op_words, xrun_words, error_words, answer_words, number_or_dash, row_line, segment_line, HasErrorWords, HasWords, IsActorOf, IsRowOf, IsSegmentOf};
+ghost use Rattle.lab_script.specs.Spelling.{client_name, actor_name};
+ghost use Rattle.lab_report.specs.Text.{joined, line, op_words, xrun_words, error_words, answer_words, number_or_dash, row_line, segment_line, HasErrorWords, HasWords, IsActorOf, IsRowOf, IsSegmentOf};
 
 use crate::row::{Answer, Row};
 use lab_script::{Actor, ClientLine, Op};
@@ -34,6 +35,14 @@ fn push_op(text: &mut String, op: Op) -> Result<(), AllocError>
     match op {
         Op::Play(frames) => write!(text, "play {frames}"),
         Op::Write(frames) => write!(text, "write {frames}"),
+        Op::Start => write!(text, "start"),
+        Op::Sync => write!(text, "sync"),
+        Op::Avail => write!(text, "avail"),
+        Op::Delay => write!(text, "delay"),
+        Op::Drain => write!(text, "drain"),
+        Op::Drop => write!(text, "drop"),
+        Op::Prepare => write!(text, "prepare"),
+        Op::Pause => write!(text, "pause"),
         Op::Opens => write!(text, "open"),
     }
 }

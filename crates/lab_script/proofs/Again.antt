@@ -1,18 +1,25 @@
 -- What is spelled is read again, line by line.
-use Rattle.std.proofs.Common.{◌≡◌, ◌≢◌, ℕ, ◌+◌, ◌/◌, ◌%◌, ◌<◌, ◌≤◌, Bool, true, false, not, ◌&&◌, List, [], ◌∷◌, length, get_or, codes, refl, sym, ap, ◌∙◌, arith, cond, ltb, Option, Some, None, AllPairs, bytes_eq, nat_le}
+use Rattle.std.proofs.Common.{◌≡◌, ◌≢◌, ℕ, ◌+◌, ◌/◌, ◌%◌, ◌<◌, ◌≤◌, Bool, true, false, not, ◌&&◌, List, [], ◌∷◌, length, get_or, codes, refl, sym, ap, ◌∙◌, arith, cond, ltb, Option, Some, None, option_map, All, AllPairs, bytes_eq, nat_le}
+use Rattle.std.specs.Option.{option_map_or}
 use Rattle.std.specs.List.{position, position_or_len, list_any, slice_get}
 use Rattle.std.proofs.lemmas.Bool.{eq-eqb, le-leb, lt-ltb, false≢true}
 use Rattle.std.proofs.lemmas.Slice.Eq.{bytes_eq-Decides}
-use Rattle.std.proofs.lemmas.Option.{slice_get_within, get_or_from_slice_get}
+use Rattle.std.proofs.lemmas.Option.{slice_get_within, get_or_from_slice_get, slice_get-get_or}
 use Rattle.std.proofs.lemmas.List.Sums.{position_or_len_is}
+use Rattle.lab_script.specs.declared.line.Actor.{Actor}
+use Rattle.lab_script.specs.declared.line.Actor.TheVariants.{Card, Client}
+use Rattle.lab_script.specs.declared.line.Line.{Line}
+use Rattle.lab_script.specs.declared.line.Op.{Op}
+use Rattle.lab_script.specs.declared.line.Op.TheVariants as op
 use Rattle.lab_script.specs.declared.script.CardLine.{CardLine}
 use Rattle.lab_script.specs.declared.script.ClientLine.{ClientLine}
-use Rattle.lab_script.specs.declared.script.Phase.{Phase}
-use Rattle.lab_script.specs.declared.script.Phase.TheVariants.{Play, Write}
-use Rattle.lab_script.specs.Script.{IsCardLine, frames_played}
-use Rattle.lab_script.specs.Word.{number_of, is_name, is_file}
-use Rattle.lab_script.specs.Grammar.{◌>>=◌, passed, behind, keyed, last_keyed, is_card, card_of, is_named, is_client, client_of, client_at, open_of, alone, is_write_of, play_of, write_line, action_of}
-use Rattle.lab_script.specs.Spelling.{SpellsCard, client_words, SpellsAction}
+use Rattle.lab_script.specs.Script.{IsCardLine, IsActor, IsOpOf, IsLine, IsBound, played_by}
+use Rattle.lab_script.specs.Word.{number_of, is_name, is_file, is_reserved}
+use Rattle.lab_script.specs.Grammar.{◌>>=◌, passed, behind, keyed, last_keyed, is_card, card_of, is_named, is_client, parts_of_client, client_of, client_at, open_of, alone, where_some, actor_of, call_of, play_of, write_of, one_call_of, or_else, op_of, is_same, can_act, line_of, more_of}
+use Rattle.lab_script.specs.Spelling.{SpellsCard, SpellsBindings, SpellsClient, actor_name, SpellsCount, SpellsOp, SpellsLine}
+use Rattle.lab_script.proofs.Words.{both, one_none, first_some}
+use Rattle.lab_script.proofs.Found.{not_is, neither}
+use Rattle.lab_script.proofs.Channels.{bindings_again}
 
 some_then : {A B : Type 0} (o : Option A) (f : A → Option B) (x : A) → o ≡ Some x → (o >>= f) ≡ f x
 some_then o f x e = ap (λ o. o >>= f) e
@@ -70,9 +77,21 @@ card_again ws card ok s =
     ∙ (some_then _ _ _ (last_again (codes "ring") s.ring card.ring s.is_ring.value)
     ∙ passes (is_card card.channels card.rate card.period card.ring) card (card_passes card ok))))))
 
-pub client_again : (before : List ClientLine) (client : ClientLine) → is_name client.name ≡ true → is_file client.file ≡ true → list_any (is_named client.name) before ≡ false → client_of before (client_words client) ≡ Some client
+parts_again : (channels : ℕ) (name file : List ℕ) (end : List (List ℕ)) (bindings : Option (List ℕ)) → SpellsBindings end bindings → IsBound channels bindings → parts_of_client channels (codes "client" ∷ name ∷ file ∷ end) ≡ Some (name, file, bindings)
+unfolding parts_of_client
+parts_again channels name file end None s bound =
+    ap (λ e. parts_of_client channels (codes "client" ∷ name ∷ file ∷ e)) s ∙ some_then _ _ _ (behind_again (codes "client") name (file ∷ []))
+parts_again channels name file end (Some list) s bound =
+    ap (λ e. parts_of_client channels (codes "client" ∷ name ∷ file ∷ e)) s.are
+    ∙ (some_then _ _ _ (behind_again (codes "client") name (file ∷ codes "bindings" ∷ s.word ∷ []))
+    ∙ ap (λ o. option_map Some o >>= λ b. Some (name, file, b)) (bindings_again channels s.word list s.are_numbers bound))
+
+pub client_again : (channels : ℕ) (before : List ClientLine) (words : List (List ℕ)) (client : ClientLine) → SpellsClient words client → IsBound channels client.bindings → is_name client.name ≡ true → is_file client.file ≡ true → list_any (is_named client.name) before ≡ false → client_of channels before words ≡ Some client
 unfolding client_of
-client_again before client name file fresh = passes (is_client before client.name client.file) client (and_true _ _ (and_true _ _ name file) (ap not fresh))
+client_again channels before words client s bound name file fresh =
+    ap (client_of channels before) s.are
+    ∙ (some_then _ _ _ (parts_again channels client.name client.file s.end client.bindings s.is_end bound)
+    ∙ passes (is_client before client.name client.file) client (and_true _ _ (and_true _ _ name file) (ap not fresh)))
 
 pub open_again : (name : List ℕ) → open_of name (codes "open" ∷ name ∷ []) ≡ Some tt
 unfolding open_of
@@ -98,21 +117,97 @@ client_place clients i client distinct e =
     (λ k h. not_same (get_or clients k client).name client.name (λ same. distinct k i client h below (same ∙ ap (λ (c : ClientLine). c.name) (sym here))))
     (λ h. ap (λ (c : ClientLine). bytes_eq c.name client.name) here ∙ itself client.name)) below
 
--- a phase fits behind others
-abbrev pub Follows : List Phase → Phase → Type 0
-Follows before (Play frames) = frames_played before + frames ≤ 4194304
-Follows before (Write client frames) = (frames ≤ 4194304) × (list_any (is_write_of client) before ≡ false)
+-- no client is named `card`
+not_card : (name : List ℕ) → is_name name ≡ true → bytes_eq name (codes "card") ≡ false
+not_card name e =
+    let free : is_reserved name ≡ false = not_is (is_reserved name) (both _ _ e).1 in
+    (neither _ _ (neither _ _ (neither _ _ (neither _ _ (neither _ _ (neither _ _ free).0).0).0).0).0).0
 
-write_again : (clients : List ClientLine) (before : List Phase) (name : List ℕ) (client frames : ℕ) → client_at clients name ≡ Some client → frames ≤ 4194304 → list_any (is_write_of client) before ≡ false → write_line clients before name (codes "write") frames ≡ Some (Write client frames)
-unfolding write_line
-write_again clients before name client frames place few fresh =
-    some_then _ _ _ place ∙ passes (nat_le frames 4194304 && not (list_any (is_write_of client) before)) (Write client frames) (and_true _ _ (le-leb frames 4194304 few) (ap not fresh))
+pub actor_again : (clients : List ClientLine) (actor : Actor) → All (λ (client : ClientLine). is_name client.name ≡ true) clients → AllPairs (λ (a : ClientLine) (b : ClientLine). a.name ≢ b.name) clients → IsActor (length clients) actor → actor_of clients (actor_name clients actor) ≡ Some actor
+actor_again clients Card names distinct is = refl
+actor_again clients (Client i) names distinct is =
+    let d : ClientLine = record { name = []; file = []; bindings = None } in
+    let here = get_or clients i d in
+    let there : slice_get clients i ≡ Some here = slice_get-get_or clients i d is in
+    let name : actor_name clients (Client i) ≡ here.name = ap (λ (o : Option ClientLine). option_map_or (λ (client : ClientLine). client.name) o []) there in
+    ap (actor_of clients) name
+    ∙ (ap (λ b. cond b (Some Card) (option_map Client (client_at clients here.name))) (not_card here.name (names i d is))
+    ∙ ap (option_map Client) (client_place clients i here distinct there))
 
-pub action_again : (clients : List ClientLine) (before : List Phase) (ws : List (List ℕ)) (p : Phase) → AllPairs (λ (a : ClientLine) (b : ClientLine). a.name ≢ b.name) clients → Follows before p → SpellsAction clients ws p → action_of clients before ws ≡ Some p
-unfolding action_of
-action_again clients before ws (Play frames) distinct fits s =
-    ap (action_of clients before) s.are ∙ (some_then _ _ _ s.is_number.value ∙ passes (nat_le (frames_played before + frames) 4194304) (Play frames) (le-leb (frames_played before + frames) 4194304 fits))
-action_again clients before ws (Write client frames) distinct fits s =
-    ap (action_of clients before) s.are ∙ (some_then _ _ _ s.is_number.value
-    ∙ (ap (λ b. cond b (play_of before frames) (write_line clients before s.line.name (codes "write") frames)) (and_false (bytes_eq s.line.name (codes "card")))
-    ∙ write_again clients before s.line.name client frames (client_place clients client s.line distinct s.is_line) fits.0 fits.1))
+play_again : (played frames : ℕ) (words : List (List ℕ)) → played + frames ≤ 4194304 → SpellsCount words (codes "play") frames → play_of played words ≡ Some (op.Play frames)
+unfolding play_of
+play_again played frames words h s =
+    ap (play_of played) s.are ∙ (some_then _ _ _ (last_again (codes "play") s.number frames s.is_number.value) ∙ passes (nat_le (played + frames) 4194304) (op.Play frames) (le-leb (played + frames) 4194304 h))
+
+write_again : (frames : ℕ) (words : List (List ℕ)) → frames ≤ 4194304 → SpellsCount words (codes "write") frames → write_of words ≡ Some (op.Write frames)
+unfolding write_of
+write_again frames words h s =
+    ap write_of s.are ∙ (some_then _ _ _ (last_again (codes "write") s.number frames s.is_number.value) ∙ passes (nat_le frames 4194304) (op.Write frames) (le-leb frames 4194304 h))
+
+call_again : (word : List ℕ) (words : List (List ℕ)) (o : Op) → words ≡ word ∷ [] → call_of word ≡ Some o → or_else (write_of words) (one_call_of words) ≡ Some o
+unfolding write_of last_keyed one_call_of
+call_again word words o are e = ap (λ ws. or_else (write_of ws) (one_call_of ws)) are ∙ e
+
+pub op_again : (played : ℕ) (actor : Actor) (words : List (List ℕ)) (o : Op) → IsOpOf actor o → played + played_by o ≤ 4194304 → SpellsOp words o → op_of played actor words ≡ Some o
+op_again played Card words (op.Play frames) is h s = play_again played frames words h s
+op_again played Card words other is h s = absurd is
+op_again played (Client i) words (op.Play frames) is h s = absurd is
+op_again played (Client i) words op.Opens is h s = absurd is
+op_again played (Client i) words (op.Write frames) is h s = ap (λ w. or_else w (one_call_of words)) (write_again frames words is s)
+op_again played (Client i) words op.Start is h s = call_again (codes "start") words op.Start s refl
+op_again played (Client i) words op.Sync is h s = call_again (codes "sync") words op.Sync s refl
+op_again played (Client i) words op.Avail is h s = call_again (codes "avail") words op.Avail s refl
+op_again played (Client i) words op.Delay is h s = call_again (codes "delay") words op.Delay s refl
+op_again played (Client i) words op.Drain is h s = call_again (codes "drain") words op.Drain s refl
+op_again played (Client i) words op.Drop is h s = call_again (codes "drop") words op.Drop s refl
+op_again played (Client i) words op.Prepare is h s = call_again (codes "prepare") words op.Prepare s refl
+op_again played (Client i) words op.Pause is h s = call_again (codes "pause") words op.Pause s refl
+
+-- something is asked for by one word or two
+pub op_some : (words : List (List ℕ)) (o : Op) → SpellsOp words o → 0 < length words
+op_some words (op.Play frames) s = omega (arith, ap length s.are)
+op_some words (op.Write frames) s = omega (arith, ap length s.are)
+op_some words op.Start s = omega (arith, ap length s)
+op_some words op.Sync s = omega (arith, ap length s)
+op_some words op.Avail s = omega (arith, ap length s)
+op_some words op.Delay s = omega (arith, ap length s)
+op_some words op.Drain s = omega (arith, ap length s)
+op_some words op.Drop s = omega (arith, ap length s)
+op_some words op.Prepare s = omega (arith, ap length s)
+op_some words op.Pause s = omega (arith, ap length s)
+op_some words op.Opens s = absurd s
+
+itself_actor : (a : Actor) → is_same a a ≡ true
+itself_actor Card = refl
+itself_actor (Client i) = eq-eqb i i refl
+
+-- who can act behind lines of one actor
+pub acts_again : (before : List Line) (actor : Actor) → ((k : ℕ) (d : Line) → k < length before → (get_or before k d).actor ≡ actor) → can_act before actor ≡ true
+acts_again [] actor h = refl
+acts_again (first ∷ lines) actor h = ap (λ a. is_same a actor) (h 0 first (omega arith)) ∙ itself_actor actor
+
+pub line_again : (clients : List ClientLine) (played : ℕ) (before : List Line) (number : ℕ) (words : List (List ℕ)) (l : Line) → All (λ (client : ClientLine). is_name client.name ≡ true) clients → AllPairs (λ (a : ClientLine) (b : ClientLine). a.name ≢ b.name) clients → IsLine (length clients) l → can_act before l.actor ≡ true → played + played_by l.op ≤ 4194304 → SpellsLine clients number words l → line_of clients played before number words ≡ Some l
+unfolding line_of
+line_again clients played before number words l names distinct is acts few s =
+    ap (line_of clients played before number) s.are
+    ∙ (some_then _ _ _ (first_some (actor_name clients l.actor) s.op (op_some s.op l.op s.is_op))
+    ∙ (some_then _ _ _ (actor_again clients l.actor names distinct is.actor)
+    ∙ (some_then _ _ _ (passes (can_act before l.actor) l.actor acts)
+    ∙ (some_then _ _ _ (op_again played l.actor s.op l.op is.op few s.is_op)
+    ∙ ap (λ n. Some (record { number = n; actor = l.actor; op = l.op })) (sym s.number_is)))))
+
+-- a line of two words or more ends no phase
+not_end_line : (name : List ℕ) (op : List (List ℕ)) → 0 < length op → alone (codes "end") (name ∷ op) ≡ None
+unfolding alone
+not_end_line name op h = ap (λ o. o >>= λ one. passed (bytes_eq one (codes "end")) tt) (one_none name op h)
+
+pub next_again : (clients : List ClientLine) (played : ℕ) (before : List Line) (number : ℕ) (words : List (List ℕ)) (l : Line) → All (λ (client : ClientLine). is_name client.name ≡ true) clients → AllPairs (λ (a : ClientLine) (b : ClientLine). a.name ≢ b.name) clients → IsLine (length clients) l → can_act before l.actor ≡ true → played + played_by l.op ≤ 4194304 → SpellsLine clients number words l → more_of clients played before number words ≡ Some (Some l)
+unfolding more_of
+next_again clients played before number words l names distinct is acts few s =
+    let goes : alone (codes "end") words ≡ None = ap (alone (codes "end")) s.are ∙ not_end_line (actor_name clients l.actor) s.op (op_some s.op l.op s.is_op) in
+    ap (λ o. where_some o (λ u. Some None) (option_map Some (line_of clients played before number words))) goes
+    ∙ ap (option_map Some) (line_again clients played before number words l names distinct is acts few s)
+
+pub last_line_again : (clients : List ClientLine) (played : ℕ) (before : List Line) (number : ℕ) → more_of clients played before number (codes "end" ∷ []) ≡ Some None
+unfolding more_of
+last_line_again clients played before number = ap (λ o. where_some o (λ u. Some None) (option_map Some (line_of clients played before number (codes "end" ∷ [])))) end_again

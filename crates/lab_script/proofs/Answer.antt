@@ -4,14 +4,15 @@ use Rattle.std.proofs.lemmas.Bool.Decides.{nat_tests}
 use Rattle.lab_script.specs.declared.error.ScriptError.{ScriptError}
 use Rattle.lab_script.specs.declared.error.ScriptWhy.{ScriptWhy}
 use Rattle.lab_script.specs.declared.error.ScriptWhy.TheVariants as why
+use Rattle.lab_script.specs.declared.line.Line.{Line}
 use Rattle.lab_script.specs.declared.script.ClientLine.{ClientLine}
-use Rattle.lab_script.specs.declared.script.Phase.{Phase}
 use Rattle.lab_script.specs.declared.script.Script.{Script}
-use Rattle.lab_script.specs.Script.{IsScript}
+use Rattle.lab_script.specs.Script.{IsScript, played_by, frames_played}
 use Rattle.lab_script.specs.Word.{cut_line, words_of}
-use Rattle.lab_script.specs.Grammar.{card_of, clients_of, open_of, alone, action_of}
+use Rattle.lab_script.specs.Grammar.{card_of, clients_of, open_of, alone, more_of}
 use Rattle.lab_script.specs.Spelling.{Spells}
-use Rattle.lab_script.specs.Reading.{Rest, at, cut_at, known, line_by, opens_of, phase_of, phases_of, is_end, whole, script_of, too_long, ◌>>=◌, Refuses, Reads}
+use Rattle.lab_script.specs.Reading.{Rest, at, cut_at, known, line_by, opens_of, lines_from, lines_of, phase_of, phases_of, is_end, whole, script_of, too_long, ◌>>=◌, Refuses, Reads}
+use Rattle.lab_script.proofs.Steps.{lines_next}
 use Rattle.lab_script.proofs.Whole.{whole_found}
 use Rattle.lab_script.proofs.Back.{whole_again}
 
@@ -45,18 +46,29 @@ unfolding opens_of
 opens_not_yet [] rest = tt
 opens_not_yet (client ∷ clients) rest = bind_not_yet (line_by (open_of client.name) rest) _ (line_not_yet (open_of client.name) rest) (λ o. opens_not_yet clients o.1)
 
-phase_not_yet : (clients : List ClientLine) (before : List Phase) (rest : Rest) → IsNotYet (phase_of clients before rest)
-unfolding phase_of
-phase_not_yet clients before rest = bind_not_yet (line_by (alone (codes "phase")) rest) _ (line_not_yet (alone (codes "phase")) rest) (λ o. bind_not_yet (line_by (action_of clients before) o.1) _ (line_not_yet (action_of clients before) o.1) (λ a. bind_not_yet (line_by (alone (codes "end")) a.1) _ (line_not_yet (alone (codes "end")) a.1) (λ e. tt)))
+next_not_yet : (more : ℕ) (clients : List ClientLine) (played : ℕ) (before : List Line) (said : Option Line × Rest) → ((p : ℕ) (ls : List Line) (rest : Rest) → IsNotYet (lines_from more clients p ls rest)) → IsNotYet (lines_next more clients played before said)
+next_not_yet more clients played before (None, behind) later = tt
+next_not_yet more clients played before (Some l, behind) later = later (played + played_by l.op) (before ++ l ∷ []) behind
 
-phases_not_yet : (more : ℕ) (clients : List ClientLine) (before : List Phase) (rest : Rest) → IsNotYet (phases_of more clients before rest)
+lines_not_yet : (more : ℕ) (clients : List ClientLine) (played : ℕ) (before : List Line) (rest : Rest) → IsNotYet (lines_from more clients played before rest)
+unfolding lines_from
+lines_not_yet zero clients played before rest = refl
+lines_not_yet (suc more) clients played before rest = bind_not_yet (line_by (more_of clients played before rest.number) rest) (lines_next more clients played before) (line_not_yet (more_of clients played before rest.number) rest) (λ said. next_not_yet more clients played before said (λ p ls r. lines_not_yet more clients p ls r))
+
+phase_not_yet : (clients : List ClientLine) (played : ℕ) (rest : Rest) → IsNotYet (phase_of clients played rest)
+unfolding phase_of lines_of
+phase_not_yet clients played rest = bind_not_yet (line_by (alone (codes "phase")) rest) _ (line_not_yet (alone (codes "phase")) rest) (λ o. lines_not_yet (length o.1.text) clients played [] o.1)
+
+phases_not_yet : (more : ℕ) (clients : List ClientLine) (before : List (List Line)) (rest : Rest) → IsNotYet (phases_of more clients before rest)
 unfolding phases_of
 phases_not_yet zero clients before rest = cond_not_yet (is_end rest.text) _ _ tt refl
-phases_not_yet (suc more) clients before rest = cond_not_yet (is_end rest.text) _ _ tt (bind_not_yet (phase_of clients before rest) _ (phase_not_yet clients before rest) (λ p. phases_not_yet more clients (before ++ p.0 ∷ []) p.1))
+phases_not_yet (suc more) clients before rest = cond_not_yet (is_end rest.text) _ _ tt (bind_not_yet (phase_of clients (frames_played before) rest) _ (phase_not_yet clients (frames_played before) rest) (λ p. phases_not_yet more clients (before ++ p.0 ∷ []) p.1))
 
 whole_not_yet : (text : List ℕ) → IsNotYet (whole text)
 unfolding whole
-whole_not_yet text = bind_not_yet (line_by card_of (at 1 text)) _ (line_not_yet card_of (at 1 text)) (λ card. bind_not_yet (opens_of (clients_of 64 [] card.1.text).0 (at (card.1.number + length (clients_of 64 [] card.1.text).0) (clients_of 64 [] card.1.text).1)) _ (opens_not_yet (clients_of 64 [] card.1.text).0 _) (λ o. bind_not_yet (phases_of 4096 (clients_of 64 [] card.1.text).0 [] o) _ (phases_not_yet 4096 (clients_of 64 [] card.1.text).0 [] o) (λ p. tt)))
+whole_not_yet text = bind_not_yet (line_by card_of (at 1 text)) _ (line_not_yet card_of (at 1 text)) (λ card.
+    let clients = clients_of 64 card.0.channels [] card.1.text in
+    bind_not_yet (opens_of clients.0 (at (card.1.number + length clients.0) clients.1)) _ (opens_not_yet clients.0 _) (λ o. bind_not_yet (phases_of 4096 clients.0 [] o) _ (phases_not_yet 4096 clients.0 [] o) (λ p. tt)))
 
 -- a text that isn't too long is never refused as too long
 pub never_long : (r : Result Script ScriptError) (text : List ℕ) → Reads r (whole text) → r ≡ Err too_long → ⊥

@@ -7,15 +7,15 @@ use Rattle.std.proofs.lemmas.Grind.{flat_map-append}
 use Rattle.lab_script.specs.declared.error.ScriptError.{ScriptError}
 use Rattle.lab_script.specs.declared.error.ScriptWhy.{ScriptWhy}
 use Rattle.lab_script.specs.declared.error.ScriptWhy.TheVariants as why
+use Rattle.lab_script.specs.declared.line.Line.{Line}
 use Rattle.lab_script.specs.declared.script.CardLine.{CardLine}
 use Rattle.lab_script.specs.declared.script.ClientLine.{ClientLine}
-use Rattle.lab_script.specs.declared.script.Phase.{Phase}
 use Rattle.lab_script.specs.declared.script.Script.{Script}
 use Rattle.lab_script.specs.Script.{IsCardLine}
 use Rattle.lab_script.specs.Word.{cut_line, words_of, is_name, is_file}
 use Rattle.lab_script.specs.Grammar.{card_of, client_of, client_line, clients_of}
 use Rattle.lab_script.specs.Grammar as G
-use Rattle.lab_script.specs.Spelling.{line, client_words, open_words, SpellsCard, SpellsActions, phase_lines, Spells}
+use Rattle.lab_script.specs.Spelling.{line, open_words, SpellsCard, SpellsClients, SpellsPhases, phase_lines, Spells}
 use Rattle.lab_script.specs.First.{ended, ended_lines, CanStand, IsFirstWrong}
 use Rattle.lab_script.specs.Reading.{Rest, at, refused, line_by, opens_of, phases_of, whole, script_of, too_long, ◌>>=◌, Refuses, Reads}
 use Rattle.lab_script.proofs.Words.{both}
@@ -27,7 +27,7 @@ use Rattle.lab_script.proofs.Back.{client_plain, card_plain, clients_again, open
 use Rattle.lab_script.proofs.Ends.{ArePlain, cut_other, cut_unfed, ended_lines-cons, ended_lines-front, ended_lines-none, flat_map-ended}
 use Rattle.lab_script.proofs.Wrong.{Wrong, err_in, bind_err, wrong_here, wrong_next, wrong_after, wrong_can, wrong_bind, CanOpens, open_plain, opens_wrong, CanPhases, phases_wrong}
 
-abbrev made_of : CardLine → List ClientLine → List Phase → Result Script ScriptError
+abbrev made_of : CardLine → List ClientLine → List (List Line) → Result Script ScriptError
 made_of card clients phases = Ok (record { card = card; clients = clients; phases = phases })
 
 -- what is read behind the clients
@@ -36,17 +36,17 @@ tail_of card clients rest = opens_of clients rest >>= λ o. phases_of 4096 clien
 
 -- what is read behind the card
 abbrev after_card : CardLine → Rest → Result Script ScriptError
-after_card card rest = tail_of card (clients_of 64 [] rest.text).0 (at (rest.number + length (clients_of 64 [] rest.text).0) (clients_of 64 [] rest.text).1)
+after_card card rest = tail_of card (clients_of 64 card.channels [] rest.text).0 (at (rest.number + length (clients_of 64 card.channels [] rest.text).0) (clients_of 64 card.channels [] rest.text).1)
 
 -- the front of what stands behind the clients
-record CanTail (clients : List ClientLine) (t : List ℕ) : Type 0 where
+record CanTail (clients : List ClientLine) (n : ℕ) (t : List ℕ) : Type 0 where
   more : List ℕ
-  actions : List (List (List ℕ))
-  phases : List Phase
+  lines : List (List (List (List ℕ)))
+  phases : List (List Line)
   body : IsBody clients phases
   count : length phases ≤ 4096
-  says : SpellsActions clients actions phases
-  are : t ++ more ≡ flat_map line (map open_words clients) ++ flat_map line (flat_map phase_lines actions)
+  says : SpellsPhases clients (n + length clients) lines phases
+  are : t ++ more ≡ flat_map line (map open_words clients) ++ flat_map line (flat_map phase_lines lines)
 
 -- the front of a script
 record CanBegin (t : List ℕ) : Type 0 where
@@ -54,10 +54,10 @@ record CanBegin (t : List ℕ) : Type 0 where
   more : List ℕ
   spells : Spells (t ++ more) script
 
-opens_tail : (clients : List ClientLine) (t : List ℕ) → CanOpens clients t → CanTail clients t
-opens_tail clients t c = record {
+opens_tail : (clients : List ClientLine) (n : ℕ) (t : List ℕ) → CanOpens clients t → CanTail clients n t
+opens_tail clients n t c = record {
   more = c.0;
-  actions = [];
+  lines = [];
   phases = [];
   body = no_phases clients;
   count = omega arith;
@@ -65,16 +65,16 @@ opens_tail clients t c = record {
   are = c.1 ∙ sym (append-nil (flat_map line (map open_words clients)));
 }
 
-phases_tail : (clients : List ClientLine) (t : List ℕ) → CanPhases 4096 clients [] t → CanTail clients (flat_map line (map open_words clients) ++ t)
-phases_tail clients t c =
+phases_tail : (clients : List ClientLine) (n m : ℕ) → m ≡ n + length clients → (t : List ℕ) → CanPhases 4096 clients m [] t → CanTail clients n (flat_map line (map open_words clients) ++ t)
+phases_tail clients n m number_is t c =
     let same : c.all ≡ c.found.new = c.found.are in
     record {
       more = c.behind;
-      actions = c.found.actions;
+      lines = c.found.phases;
       phases = c.found.new;
-      body = subst (λ (ps : List Phase). IsBody clients ps) same c.found.body;
+      body = subst (λ (ps : List (List Line)). IsBody clients ps) same c.found.body;
       count = c.found.count;
-      says = c.found.spelled;
+      says = subst (λ (k : ℕ). SpellsPhases clients k c.found.phases c.found.new) number_is c.found.spelled;
       are = append_assoc (flat_map line (map open_words clients)) t c.behind ∙ ap (λ u. flat_map line (map open_words clients) ++ u) c.found.text_is;
     }
 
@@ -82,12 +82,12 @@ opens_plain : (clients : List ClientLine) → All (λ (client : ClientLine). is_
 opens_plain [] names = refl
 opens_plain (client ∷ clients) names = ap (λ b. b && list_all (list_all (list_all is_plain)) (map open_words clients)) (open_plain client (names 0 client (omega arith))) ∙ opens_plain clients (λ k d below. names (suc k) d (omega arith))
 
-tail_wrong : (card : CardLine) (clients : List ClientLine) (m : ℕ) (text : List ℕ) (e : ScriptError) → IsClients clients → tail_of card clients (at m text) ≡ Err e → Wrong (tail_of card clients) m text e (CanTail clients)
+tail_wrong : (card : CardLine) (clients : List ClientLine) (m : ℕ) (text : List ℕ) (e : ScriptError) → IsClients card.channels clients → tail_of card clients (at m text) ≡ Err e → Wrong (tail_of card clients) m text e (CanTail clients m)
 tail_wrong card clients m text e ok h =
     let made = made_of card clients in
     elim (bind_err (opens_of clients (at m text)) (λ o. phases_of 4096 clients [] o >>= made) e h) [
-      | inl bad ↦ wrong_bind (opens_of clients) (λ o. phases_of 4096 clients [] o >>= made) m text e (CanTail clients)
-          (wrong_can (opens_of clients) m text e (CanOpens clients) (CanTail clients) (opens_tail clients) (opens_wrong clients m text e ok.names bad))
+      | inl bad ↦ wrong_bind (opens_of clients) (λ o. phases_of 4096 clients [] o >>= made) m text e (CanTail clients m)
+          (wrong_can (opens_of clients) m text e (CanOpens clients) (CanTail clients m) (opens_tail clients m) (opens_wrong clients m text e ok.names bad))
       | inr good ↦
           let opened = good.0 in
           let text_is = opens_found clients m text opened good.1 in
@@ -96,8 +96,8 @@ tail_wrong card clients m text e ok h =
           let number_is : opened.number ≡ m + length clients = ap (λ (r : Rest). r.number) (sym same) in
           elim (bind_err (phases_of 4096 clients [] opened) made e good.2) [
             | inl bad ↦
-                let w = wrong_can (phases_of 4096 clients []) opened.number opened.text e (CanPhases 4096 clients []) (λ t. CanTail clients (flat_map line (map open_words clients) ++ t)) (phases_tail clients) (phases_wrong 4096 clients [] opened.number opened.text e ok.names ok.distinct (no_phases clients) bad) in
-                wrong_after (tail_of card clients) (phases_of 4096 clients []) m text e e (CanTail clients) (map open_words clients) opened (opens_plain clients ok.names) text_is (omega (arith, number_is, length-map clients open_words)) refl w
+                let w = wrong_can (phases_of 4096 clients []) opened.number opened.text e (CanPhases 4096 clients opened.number []) (λ t. CanTail clients m (flat_map line (map open_words clients) ++ t)) (phases_tail clients m opened.number number_is) (phases_wrong 4096 clients [] opened.number opened.text e ok.names ok.distinct (no_phases clients) bad) in
+                wrong_after (tail_of card clients) (phases_of 4096 clients []) m text e e (CanTail clients m) (map open_words clients) opened (opens_plain clients ok.names) text_is (omega (arith, number_is, length-map clients open_words)) refl w
                 (λ l r other c k.
                 let tail = flat_map line w.front ++ (l ++ 10 ∷ other) in
                 ap (λ q. q >>= λ o. phases_of 4096 clients [] o >>= made) (reads tail)
@@ -111,72 +111,87 @@ tail_wrong card clients m text e ok h =
 abbrev chain : {A B : Type 0} → Option A → (A → Option B) → Option B
 chain o f = G.◌>>=◌ o f
 
-abbrev said : List ClientLine → Option (List ℕ × List ℕ) → Option (ClientLine × List ℕ)
-said clients o = chain o (λ cut. chain (client_of clients (words_of cut.0)) (λ client. Some (client, cut.1)))
+abbrev said : ℕ → List ClientLine → Option (List ℕ × List ℕ) → Option (ClientLine × List ℕ)
+said channels clients o = chain o (λ cut. chain (client_of channels clients (words_of cut.0)) (λ client. Some (client, cut.1)))
 
 bind_none : {A B : Type 0} (o : Option A) (f : A → B) → chain o (λ x. Some (f x)) ≡ None → o ≡ None
 bind_none None f e = refl
 bind_none (Some x) f e = absurd (cc)
 
 -- whether the first line is a client's, its text tells alone
-client_first : (clients : List ClientLine) (t u l r s : List ℕ) → cut_line t ≡ Some (l, r) → cut_line u ≡ Some (l, s) → client_line clients t ≡ None → client_line clients u ≡ None
+client_first : (channels : ℕ) (clients : List ClientLine) (t u l r s : List ℕ) → cut_line t ≡ Some (l, r) → cut_line u ≡ Some (l, s) → client_line channels clients t ≡ None → client_line channels clients u ≡ None
 unfolding client_line
-client_first clients t u l r s e f h =
-    let none : client_of clients (words_of l) ≡ None = bind_none (client_of clients (words_of l)) (λ c. (c, r)) (sym (ap (λ o. said clients o) e) ∙ h) in
-    ap (λ o. said clients o) f ∙ ap (λ o. chain o (λ client. Some (client, s))) none
+client_first channels clients t u l r s e f h =
+    let none : client_of channels clients (words_of l) ≡ None = bind_none (client_of channels clients (words_of l)) (λ c. (c, r)) (sym (ap (λ o. said channels clients o) e) ∙ h) in
+    ap (λ o. said channels clients o) f ∙ ap (λ o. chain o (λ client. Some (client, s))) none
 
-client_same : (clients : List ClientLine) (front : List (List (List ℕ))) (back l r other : List ℕ) → ArePlain front → cut_line back ≡ Some (l, r) → client_line clients (flat_map line front ++ back) ≡ None → client_line clients (flat_map line front ++ (l ++ 10 ∷ other)) ≡ None
-client_same clients [] back l r other plain c h = client_first clients back (l ++ 10 ∷ other) l r other c (cut_other back l r other c) h
-client_same clients (ws ∷ front) back l r other plain c h =
+client_same : (channels : ℕ) (clients : List ClientLine) (front : List (List (List ℕ))) (back l r other : List ℕ) → ArePlain front → cut_line back ≡ Some (l, r) → client_line channels clients (flat_map line front ++ back) ≡ None → client_line channels clients (flat_map line front ++ (l ++ 10 ∷ other)) ≡ None
+client_same channels clients [] back l r other plain c h = client_first channels clients back (l ++ 10 ∷ other) l r other c (cut_other back l r other c) h
+client_same channels clients (ws ∷ front) back l r other plain c h =
     let p = (both (list_all (list_all is_plain) ws) (list_all (list_all (list_all is_plain)) front) plain).0 in
     let t = flat_map line front ++ back in
     let u = flat_map line front ++ (l ++ 10 ∷ other) in
-    client_first clients (flat_map line (ws ∷ front) ++ back) (flat_map line (ws ∷ front) ++ (l ++ 10 ∷ other)) (join_with_byte 32 ws) t u
+    client_first channels clients (flat_map line (ws ∷ front) ++ back) (flat_map line (ws ∷ front) ++ (l ++ 10 ∷ other)) (join_with_byte 32 ws) t u
     (ap cut_line (append_assoc (line ws) (flat_map line front) back) ∙ line_again ws t p)
     (ap cut_line (append_assoc (line ws) (flat_map line front) (l ++ 10 ∷ other)) ∙ line_again ws u p) h
 
-clients_plain : (clients : List ClientLine) → All (λ (client : ClientLine). is_name client.name ≡ true) clients → All (λ (client : ClientLine). is_file client.file ≡ true) clients → ArePlain (map client_words clients)
-clients_plain [] names files = refl
-clients_plain (client ∷ clients) names files =
-    ap (λ b. b && list_all (list_all (list_all is_plain)) (map client_words clients)) (client_plain client (names 0 client (omega arith)) (files 0 client (omega arith)))
-    ∙ clients_plain clients (λ k d below. names (suc k) d (omega arith)) (λ k d below. files (suc k) d (omega arith))
+clients_plain : (channels : ℕ) (clients : List ClientLine) (lines : List (List (List ℕ))) → IsClients channels clients → SpellsClients lines clients → ArePlain lines
+clients_plain channels clients lines ok s = each_plain clients lines ok.names ok.files s
+  where
+    each_plain : (clients : List ClientLine) (lines : List (List (List ℕ))) → All (λ (client : ClientLine). is_name client.name ≡ true) clients → All (λ (client : ClientLine). is_file client.file ≡ true) clients → SpellsClients lines clients → ArePlain lines
+    each_plain [] [] names files s = refl
+    each_plain [] (ws ∷ lines) names files s = absurd s
+    each_plain (client ∷ clients) [] names files s = absurd s
+    each_plain (client ∷ clients) (ws ∷ lines) names files s =
+        ap (λ b. b && list_all (list_all (list_all is_plain)) lines) (client_plain ws client (names 0 client (omega arith)) (files 0 client (omega arith)) s.0).1
+        ∙ each_plain clients lines (λ k d below. names (suc k) d (omega arith)) (λ k d below. files (suc k) d (omega arith)) s.1
+
+clients_count : (lines : List (List (List ℕ))) (clients : List ClientLine) → SpellsClients lines clients → length lines ≡ length clients
+clients_count [] [] s = refl
+clients_count [] (client ∷ clients) s = absurd s
+clients_count (ws ∷ lines) [] s = absurd s
+clients_count (ws ∷ lines) (client ∷ clients) s = omega (arith, clients_count lines clients s.1)
 
 -- a front of a tail, behind a card and clients
-tail_begins : (ws : List (List ℕ)) (card : CardLine) (clients : List ClientLine) → SpellsCard ws card → IsCardLine card → IsClients clients → length clients ≤ 64 → (t : List ℕ) → CanTail clients t → CanBegin (line ws ++ (flat_map line (map client_words clients) ++ t))
-tail_begins ws card clients s is_card ok few t c =
-    let head = flat_map line (map client_words clients) in
+tail_begins : (ws : List (List ℕ)) (card : CardLine) (lines : List (List (List ℕ))) (clients : List ClientLine) (n : ℕ) → n ≡ 2 + length clients → SpellsCard ws card → IsCardLine card → SpellsClients lines clients → IsClients card.channels clients → length clients ≤ 64 → (t : List ℕ) → CanTail clients n t → CanBegin (line ws ++ (flat_map line lines ++ t))
+tail_begins ws card lines clients n number_is s is_card cs ok few t c =
+    let head = flat_map line lines in
     let script : Script = record { card = card; clients = clients; phases = c.phases } in
     let first : (line ws ++ (head ++ t)) ++ c.more ≡ line ws ++ (head ++ (t ++ c.more)) = append_assoc (line ws) (head ++ t) c.more ∙ ap (λ u. line ws ++ u) (append_assoc head t c.more) in
     record {
       script = script;
       more = c.more;
       spells = record {
-        valid = record { card = is_card; clients = few; distinct = ok.distinct; phases = c.count; each = c.body.each; once = c.body.once; frames = c.body.frames };
+        valid = record { card = is_card; clients = few; distinct = ok.distinct; bindings = ok.bound; phases = c.count; each = c.body.each; frames = c.body.frames };
         names = ok.names;
         files = ok.files;
         card = ws;
-        actions = c.actions;
+        clients = lines;
+        phases = c.lines;
         is_card = s;
-        are_actions = c.says;
-        is_text = spelled ((line ws ++ (head ++ t)) ++ c.more) ws (head ++ (t ++ c.more)) clients (t ++ c.more) (flat_map line (flat_map phase_lines c.actions)) c.actions first refl c.are refl;
+        are_clients = cs;
+        are_phases = subst (λ (k : ℕ). SpellsPhases clients (k + length clients) c.lines c.phases) number_is c.says;
+        is_text = spelled ((line ws ++ (head ++ t)) ++ c.more) ws (head ++ (t ++ c.more)) lines clients (t ++ c.more) (flat_map line (flat_map phase_lines c.lines)) c.lines first refl c.are refl;
       };
     }
 
-after_card_wrong : (ws : List (List ℕ)) (card : CardLine) (m : ℕ) (text : List ℕ) (e : ScriptError) → SpellsCard ws card → IsCardLine card → after_card card (at m text) ≡ Err e → Wrong (after_card card) m text e (λ t. CanBegin (line ws ++ t))
-after_card_wrong ws card m text e s is_card h =
-    let f = clients_found 64 [] text no_clients in
-    let clients = (clients_of 64 [] text).0 in
-    let rest = (clients_of 64 [] text).1 in
+after_card_wrong : (ws : List (List ℕ)) (card : CardLine) (m : ℕ) (text : List ℕ) (e : ScriptError) → m ≡ 2 → SpellsCard ws card → IsCardLine card → after_card card (at m text) ≡ Err e → Wrong (after_card card) m text e (λ t. CanBegin (line ws ++ t))
+after_card_wrong ws card m text e second s is_card h =
+    let channels = card.channels in
+    let f = clients_found 64 channels [] text (no_clients channels) in
+    let clients = (clients_of 64 channels [] text).0 in
+    let rest = (clients_of 64 channels [] text).1 in
     let new : clients ≡ f.new = f.are in
     let few : length clients ≤ 64 = omega (arith, ap length new, f.count) in
-    let text_is : text ≡ flat_map line (map client_words clients) ++ rest = f.text_is ∙ ap (λ (cs : List ClientLine). flat_map line (map client_words cs) ++ rest) (sym new) in
+    let cs : SpellsClients f.lines clients = subst (λ (cs : List ClientLine). SpellsClients f.lines cs) (sym new) f.spelled in
+    let number_is : m + length clients ≡ 2 + length clients = omega (arith, second) in
     let w = tail_wrong card clients (m + length clients) rest e f.ok h in
-    let v = wrong_can (tail_of card clients) (m + length clients) rest e (CanTail clients) (λ t. CanBegin (line ws ++ (flat_map line (map client_words clients) ++ t))) (tail_begins ws card clients s is_card f.ok few) w in
-    wrong_after (after_card card) (tail_of card clients) m text e e (λ t. CanBegin (line ws ++ t)) (map client_words clients) (at (m + length clients) rest) (clients_plain clients f.ok.names f.ok.files) text_is (omega (arith, length-map clients client_words)) refl v
+    let v = wrong_can (tail_of card clients) (m + length clients) rest e (CanTail clients (m + length clients)) (λ t. CanBegin (line ws ++ (flat_map line f.lines ++ t))) (tail_begins ws card f.lines clients (m + length clients) number_is s is_card cs f.ok few) w in
+    wrong_after (after_card card) (tail_of card clients) m text e e (λ t. CanBegin (line ws ++ t)) f.lines (at (m + length clients) rest) (clients_plain channels clients f.lines f.ok cs) f.text_is (omega (arith, clients_count f.lines clients cs)) refl v
     (λ l r other c k.
     let tail = flat_map line v.front ++ (l ++ 10 ∷ other) in
-    let stop : length clients < 64 → client_line clients tail ≡ None = λ less. client_same clients v.front v.back l r other v.plain c (ap (client_line clients) (sym v.text_is) ∙ f.stops (omega (arith, ap length new, less))) in
-    ap (λ (found : List ClientLine × List ℕ). tail_of card found.0 (at (m + length found.0) found.1)) (clients_again 64 [] clients tail few f.ok stop) ∙ k)
+    let stop : length clients < 64 → client_line channels clients tail ≡ None = λ less. client_same channels clients v.front v.back l r other v.plain c (ap (client_line channels clients) (sym v.text_is) ∙ f.stops (omega (arith, ap length new, less))) in
+    ap (λ (found : List ClientLine × List ℕ). tail_of card found.0 (at (m + length found.0) found.1)) (clients_again 64 channels [] clients f.lines tail few cs f.ok stop) ∙ k)
 
 -- there is a script
 least_card : List (List ℕ)
@@ -205,7 +220,7 @@ least_is = record { channels_low = omega arith; channels_high = omega arith; rat
 
 begins : CanBegin []
 begins =
-    let c = tail_begins least_card least [] least_spelled least_is no_clients (omega arith) [] (opens_tail [] [] ([], refl)) in
+    let c = tail_begins least_card least [] [] 2 refl least_spelled least_is tt (no_clients least.channels) (omega arith) [] (opens_tail [] 2 [] ([], refl)) in
     record { script = c.script; more = line least_card ++ c.more; spells = subst (λ (t : List ℕ). Spells t c.script) (ap (λ t. t ++ c.more) (append-nil (line least_card))) c.spells }
 
 abbrev whole_by : Rest → Result Script ScriptError
@@ -220,7 +235,7 @@ whole_wrong text e h =
           let f = card_found l.words good.0.0 l.says in
           let plain = card_plain l.words good.0.0 f.0 in
           wrong_next card_of (λ c. after_card c.0 c.1) 1 text e CanBegin l.words good.0.0 good.0.1 plain.0 plain.1 l.says l.text_is l.number_is
-          (after_card_wrong l.words good.0.0 good.0.1.number good.0.1.text e f.0 f.1 good.2)
+          (after_card_wrong l.words good.0.0 good.0.1.number good.0.1.text e l.number_is f.0 f.1 good.2)
     ]
 
 whole_is : (text : List ℕ) → whole text ≡ whole_by (at 1 text)

@@ -1,26 +1,28 @@
 -- What is read is spelled so, and is a script.
-use Rattle.std.proofs.Common.{◌≡◌, ℕ, zero, suc, ◌+◌, ◌/◌, ◌%◌, ◌<◌, ◌≤◌, Bool, true, false, not, ◌&&◌, ◌||◌, List, [], ◌∷◌, ◌++◌, length, get_or, codes, refl, sym, ap, subst, ◌∙◌, arith, cond, Option, Some, None, All, AllPairs, bytes_eq, nat_le}
-use Rattle.std.specs.List.{list_any}
-use Rattle.std.proofs.lemmas.Bool.{eqb-true, eq-eqb, leb-true, false≢true}
+use Rattle.std.proofs.Common.{◌≡◌, ℕ, zero, suc, ◌+◌, ◌/◌, ◌%◌, ◌<◌, ◌≤◌, Bool, true, false, not, ◌&&◌, ◌||◌, List, [], ◌∷◌, ◌++◌, length, get_or, codes, refl, sym, ap, subst, ◌∙◌, arith, cond, Option, Some, None, option_map, Ok, All, AllPairs, bytes_eq, nat_le}
+use Rattle.std.specs.List.{list_any, slice_get}
+use Rattle.std.specs.Option.{option_map_or}
+use Rattle.std.proofs.lemmas.Bool.{eqb-true, leb-true, false≢true}
 use Rattle.std.proofs.lemmas.Slice.Eq.{bytes_eq-Decides}
 use Rattle.std.proofs.lemmas.Option.{cond_some, slice_get-get_or}
 use Rattle.std.proofs.lemmas.List.Elements.{All-push}
 use Rattle.std.proofs.lemmas.List.Quantifiers.{position-Some, all_pairs_push}
+use Rattle.lab_script.specs.declared.line.Actor.{Actor}
+use Rattle.lab_script.specs.declared.line.Actor.TheVariants.{Card, Client}
+use Rattle.lab_script.specs.declared.line.Line.{Line}
+use Rattle.lab_script.specs.declared.line.Op.{Op}
+use Rattle.lab_script.specs.declared.line.Op.TheVariants as op
 use Rattle.lab_script.specs.declared.script.CardLine.{CardLine}
 use Rattle.lab_script.specs.declared.script.ClientLine.{ClientLine}
-use Rattle.lab_script.specs.declared.script.Phase.{Phase}
-use Rattle.lab_script.specs.declared.script.Phase.TheVariants.{Play, Write}
-use Rattle.lab_script.specs.Script.{IsCardLine, IsPhase, AreOfTwo, frames_played}
+use Rattle.lab_script.specs.Script.{IsCardLine, IsActor, IsOpOf, IsLine, IsPhase, IsBound, AreOfOne, frames_played, played_by}
 use Rattle.lab_script.specs.Word.{number_of, is_name, is_file}
-use Rattle.lab_script.specs.Grammar.{◌>>=◌, one_of, two_of, three_of, first_of, passed, behind, keyed, last_keyed, is_card, card_of, is_named, is_client, client_of, client_at, open_of, alone, is_write_of, play_of, write_line, action_of}
-use Rattle.lab_script.specs.Spelling.{SpellsCard, client_words, SpellsAction}
+use Rattle.lab_script.specs.Grammar.{one_of, two_of, first_of, passed, behind, keyed, last_keyed, is_card, card_of, is_named, is_client, bindings_of, given_of, file_of, parts_of_client, client_of, client_at, open_of, alone, where_some, actor_of, call_of, play_of, write_of, one_call_of, or_else, op_of, is_same, can_act, line_of, more_of}
+use Rattle.lab_script.specs.Spelling.{SpellsCard, SpellsBindings, SpellsClient, actor_name, SpellsOp, SpellsLine}
 use Rattle.lab_script.proofs.Words.{both}
-use Rattle.lab_script.proofs.Acts.{played_more}
-use Rattle.lab_script.proofs.Lines.{some_in}
-
-pub some_bind : {A B : Type 0} (o : Option A) (f : A → Option B) (y : B) → (o >>= f) ≡ Some y → (x : A) × (o ≡ Some x) × (f x ≡ Some y)
-some_bind (Some x) f y e = (x, refl, e)
-some_bind None f y e = absurd (cc)
+use Rattle.lab_script.specs.Reading.{Rest, at, line_by}
+use Rattle.lab_script.proofs.Lines.{paired, some_in, line_found}
+use Rattle.lab_script.proofs.Binds.{some_bind}
+use Rattle.lab_script.proofs.Channels.{bindings_found}
 
 pub same_bytes : (a b : List ℕ) → bytes_eq a b ≡ true → a ≡ b
 same_bytes a b e = (bytes_eq-Decides a b).0 e
@@ -35,13 +37,6 @@ two_is [] a e = absurd (cc)
 two_is (x ∷ []) a e = absurd (cc)
 two_is (x ∷ y ∷ []) a e = ap (λ (p : List ℕ × List ℕ). p.0 ∷ p.1 ∷ []) (some_in _ a e)
 two_is (x ∷ y ∷ z ∷ ws) a e = absurd (cc)
-
-pub three_is : (ws : List (List ℕ)) (a : List ℕ × List ℕ × List ℕ) → three_of ws ≡ Some a → ws ≡ a.0 ∷ a.1 ∷ a.2 ∷ []
-three_is [] a e = absurd (cc)
-three_is (x ∷ []) a e = absurd (cc)
-three_is (x ∷ y ∷ []) a e = absurd (cc)
-three_is (x ∷ y ∷ z ∷ []) a e = ap (λ (p : List ℕ × List ℕ × List ℕ). p.0 ∷ p.1 ∷ p.2 ∷ []) (some_in _ a e)
-three_is (x ∷ y ∷ z ∷ u ∷ ws) a e = absurd (cc)
 
 pub first_is : (ws : List (List ℕ)) (a : List ℕ × List (List ℕ)) → first_of ws ≡ Some a → ws ≡ a.0 ∷ a.1
 first_is [] a e = absurd (cc)
@@ -142,28 +137,92 @@ pub not_is : (b : Bool) → not b ≡ true → b ≡ false
 not_is true e = absurd (false≢true e)
 not_is false e = refl
 
+-- what stands behind a client's name, found
+record IsFileFound (channels : ℕ) (words : List (List ℕ)) (file : List ℕ) (bindings : Option (List ℕ)) : Type 0 where
+  end : List (List ℕ)
+  are : words ≡ file ∷ end
+  is_end : SpellsBindings end bindings
+  bound : IsBound channels bindings
+
+map_some : (o : Option (List ℕ)) (b : Option (List ℕ)) → option_map Some o ≡ Some b → (list : List ℕ) × (o ≡ Some list) × (Some list ≡ b)
+map_some None b e = absurd (cc)
+map_some (Some list) b e = (list, refl, some_in (Some list) b e)
+
+list_found : (channels : ℕ) (file word : List ℕ) (b : Option (List ℕ)) → option_map Some (bindings_of channels word) ≡ Some b → IsFileFound channels (file ∷ codes "bindings" ∷ word ∷ []) file b
+list_found channels file word b e =
+    let some = map_some (bindings_of channels word) b e in
+    let f = bindings_found channels word some.0 some.1 in
+    let found : IsFileFound channels (file ∷ codes "bindings" ∷ word ∷ []) file (Some some.0) = record {
+      end = codes "bindings" ∷ word ∷ [];
+      are = refl;
+      is_end = record { word = word; are_numbers = f.0; are = refl };
+      bound = f.1;
+    } in
+    subst (λ (b : Option (List ℕ)). IsFileFound channels (file ∷ codes "bindings" ∷ word ∷ []) file b) some.2 found
+
+file_found : (channels : ℕ) (ws : List (List ℕ)) (x : List ℕ × Option (List ℕ)) (b : Option (List ℕ)) → file_of ws ≡ Some x → given_of channels x.1 ≡ Some b → IsFileFound channels ws x.0 b
+file_found channels [] x b e g = absurd (cc)
+file_found channels (f ∷ k ∷ []) x b e g = absurd (cc)
+file_found channels (f ∷ k ∷ l ∷ m ∷ ws) x b e g = absurd (cc)
+file_found channels (f ∷ []) x b e g =
+    let same : paired f None ≡ x = some_in (paired f None) x e in
+    let none : None ≡ b = some_in None b (ap (λ (y : List ℕ × Option (List ℕ)). given_of channels y.1) same ∙ g) in
+    let found : IsFileFound channels (f ∷ []) f None = record { end = []; are = refl; is_end = refl; bound = tt } in
+    subst (λ (file : List ℕ). IsFileFound channels (f ∷ []) file b) (ap (λ (y : List ℕ × Option (List ℕ)). y.0) same) (subst (λ (b : Option (List ℕ)). IsFileFound channels (f ∷ []) f b) none found)
+file_found channels (f ∷ k ∷ l ∷ []) x b e g =
+    let test = cond_some (bytes_eq k (codes "bindings")) (paired f (Some l)) x e in
+    let key = same_bytes k (codes "bindings") test.0 in
+    let found = list_found channels f l b (ap (λ (y : List ℕ × Option (List ℕ)). given_of channels y.1) test.1 ∙ g) in
+    subst (λ (file : List ℕ). IsFileFound channels (f ∷ k ∷ l ∷ []) file b) (ap (λ (y : List ℕ × Option (List ℕ)). y.0) test.1) (subst (λ (k : List ℕ). IsFileFound channels (f ∷ k ∷ l ∷ []) f b) (sym key) found)
+
+-- a client's name, file and bindings, found
+record ArePartsFound (channels : ℕ) (words : List (List ℕ)) (parts : List ℕ × List ℕ × Option (List ℕ)) : Type 0 where
+  end : List (List ℕ)
+  are : words ≡ codes "client" ∷ parts.0 ∷ parts.1 ∷ end
+  is_end : SpellsBindings end parts.2
+  bound : IsBound channels parts.2
+
+parts_found : (channels : ℕ) (ws : List (List ℕ)) (parts : List ℕ × List ℕ × Option (List ℕ)) → parts_of_client channels ws ≡ Some parts → ArePartsFound channels ws parts
+unfolding parts_of_client
+parts_found channels ws parts e =
+    let names = some_bind (behind (codes "client") ws) _ parts e in
+    let name = some_bind (first_of names.0) _ parts names.2 in
+    let file = some_bind (file_of name.0.1) _ parts name.2 in
+    let bindings = some_bind (given_of channels file.0.1) _ parts file.2 in
+    let f = file_found channels name.0.1 file.0 bindings.0 file.1 bindings.1 in
+    let here : ArePartsFound channels ws (name.0.0, file.0.0, bindings.0) = record {
+      end = f.end;
+      are = behind_is (codes "client") ws names.0 names.1 ∙ ap (λ r. codes "client" ∷ r) (first_is names.0 name.0 name.1 ∙ ap (λ r. name.0.0 ∷ r) f.are);
+      is_end = f.is_end;
+      bound = f.bound;
+    } in
+    subst (λ (p : List ℕ × List ℕ × Option (List ℕ)). ArePartsFound channels ws p) (some_in (name.0.0, file.0.0, bindings.0) parts bindings.2) here
+
 -- a client, found behind others
-pub record IsClientFound (before : List ClientLine) (ws : List (List ℕ)) (client : ClientLine) : Type 0 where
-  pub are : ws ≡ client_words client
+pub record IsClientFound (channels : ℕ) (before : List ClientLine) (ws : List (List ℕ)) (client : ClientLine) : Type 0 where
+  pub spelled : SpellsClient ws client
   pub name : is_name client.name ≡ true
   pub file : is_file client.file ≡ true
   pub fresh : list_any (is_named client.name) before ≡ false
+  pub bound : IsBound channels client.bindings
 
-pub client_found : (before : List ClientLine) (ws : List (List ℕ)) (client : ClientLine) → client_of before ws ≡ Some client → IsClientFound before ws client
+pub client_found : (channels : ℕ) (before : List ClientLine) (ws : List (List ℕ)) (client : ClientLine) → client_of channels before ws ≡ Some client → IsClientFound channels before ws client
 unfolding client_of
-client_found before ws client e =
-    let three = some_bind (three_of ws) _ client e in
-    let test = cond_some (bytes_eq three.0.0 (codes "client") && is_client before three.0.1 three.0.2) (record { name = three.0.1; file = three.0.2 }) client three.2 in
-    let parts = both (bytes_eq three.0.0 (codes "client")) (is_client before three.0.1 three.0.2) test.0 in
-    let fits = both (is_name three.0.1 && is_file three.0.2) (not (list_any (is_named three.0.1) before)) parts.1 in
-    let forms = both (is_name three.0.1) (is_file three.0.2) fits.0 in
-    let here : IsClientFound before ws (record { name = three.0.1; file = three.0.2 }) = record {
-      are = three_is ws three.0 three.1 ∙ ap (λ w. w ∷ three.0.1 ∷ three.0.2 ∷ []) (same_bytes three.0.0 (codes "client") parts.0);
+client_found channels before ws client e =
+    let parts = some_bind (parts_of_client channels ws) _ client e in
+    let p = parts.0 in
+    let test = cond_some (is_client before p.0 p.1) (record { name = p.0; file = p.1; bindings = p.2 }) client parts.2 in
+    let f = parts_found channels ws p parts.1 in
+    let fits = both (is_name p.0 && is_file p.1) (not (list_any (is_named p.0) before)) test.0 in
+    let forms = both (is_name p.0) (is_file p.1) fits.0 in
+    let here : IsClientFound channels before ws (record { name = p.0; file = p.1; bindings = p.2 }) = record {
+      spelled = record { end = f.end; is_end = f.is_end; are = f.are };
       name = forms.0;
       file = forms.1;
-      fresh = not_is (list_any (is_named three.0.1) before) fits.1;
+      fresh = not_is (list_any (is_named p.0) before) fits.1;
+      bound = f.bound;
     } in
-    subst (λ (c : ClientLine). IsClientFound before ws c) test.1 here
+    subst (λ (c : ClientLine). IsClientFound channels before ws c) test.1 here
 
 pub open_found : (name : List ℕ) (ws : List (List ℕ)) (u : Unit {0}) → open_of name ws ≡ Some u → ws ≡ codes "open" ∷ name ∷ []
 unfolding open_of
@@ -180,7 +239,7 @@ alone_found word ws u e =
     let test = cond_some (bytes_eq one.0 word) tt u one.2 in
     one_is ws one.0 one.1 ∙ ap (λ w. w ∷ []) (same_bytes one.0 word test.0)
 
-neither : (a b : Bool) → (a || b) ≡ false → (a ≡ false) × (b ≡ false)
+pub neither : (a b : Bool) → (a || b) ≡ false → (a ≡ false) × (b ≡ false)
 neither true b e = absurd (false≢true (sym e))
 neither false b e = (refl, e)
 
@@ -190,82 +249,190 @@ none_pass p [] e k d h = absurd (omega arith)
 none_pass p (x ∷ xs) e zero d h = (neither (p x) (list_any p xs) e).0
 none_pass p (x ∷ xs) e (suc k) d h = none_pass p xs (neither (p x) (list_any p xs) e).1 k d (omega arith)
 
+-- what is kept of the lines of a phase, where the card played so many frames up to them
+pub record IsOpen (clients : List ClientLine) (played : ℕ) (lines : List Line) : Type 0 where
+  pub each : All (IsLine (length clients)) lines
+  pub one : AllPairs AreOfOne lines
+  pub frames : played ≤ 4194304
+
 -- what is kept of phases
-pub record IsBody (clients : List ClientLine) (phases : List Phase) : Type 0 where
+pub record IsBody (clients : List ClientLine) (phases : List (List Line)) : Type 0 where
   pub each : All (IsPhase (length clients)) phases
-  pub once : AllPairs AreOfTwo phases
   pub frames : frames_played phases ≤ 4194304
 
-apart : (p : Phase) (client frames : ℕ) → is_write_of client p ≡ false → AreOfTwo p (Write client frames)
-apart (Play more) client frames e = tt
-apart (Write other more) client frames e = λ same. absurd (false≢true (sym e ∙ eq-eqb other client same))
+-- an actor, found by its name
+record IsActorFound (clients : List ClientLine) (name : List ℕ) (actor : Actor) : Type 0 where
+  named : name ≡ actor_name clients actor
+  is : IsActor (length clients) actor
 
-apart_play : (p : Phase) (frames : ℕ) → AreOfTwo p (Play frames)
-apart_play (Play more) frames = tt
-apart_play (Write other more) frames = tt
+client_place : (clients : List ClientLine) (name : List ℕ) (actor : Actor) (o : Option ℕ) → client_at clients name ≡ o → option_map Client o ≡ Some actor → IsActorFound clients name actor
+client_place clients name actor None at e = absurd (cc)
+client_place clients name actor (Some i) at e =
+    let d : ClientLine = record { name = []; file = []; bindings = None } in
+    let place = position-Some (is_named name) clients i d at in
+    let here = get_or clients i d in
+    let there : slice_get clients i ≡ Some here = slice_get-get_or clients i d place.0 in
+    let found : IsActorFound clients name (Client i) = record {
+      named = sym (ap (λ (o : Option ClientLine). option_map_or (λ (client : ClientLine). client.name) o []) there ∙ same_bytes here.name name place.1);
+      is = place.0;
+    } in
+    subst (λ (a : Actor). IsActorFound clients name a) (some_in (Client i) actor e) found
 
-pub body_play : (clients : List ClientLine) (before : List Phase) (frames : ℕ) → frames_played before + frames ≤ 4194304 → IsBody clients before → IsBody clients (before ++ Play frames ∷ [])
-body_play clients before frames h body = record {
-  each = All-push (IsPhase (length clients)) before (Play frames) body.each (omega arith);
-  once = all_pairs_push AreOfTwo before (Play frames) body.once (λ k d below. apart_play (get_or before k d) frames);
-  frames = omega (arith, played_more before (Play frames));
-}
+actor_case : (clients : List ClientLine) (name : List ℕ) (actor : Actor) (b : Bool) → bytes_eq name (codes "card") ≡ b → cond b (Some Card) (option_map Client (client_at clients name)) ≡ Some actor → IsActorFound clients name actor
+actor_case clients name actor false t e = client_place clients name actor (client_at clients name) refl e
+actor_case clients name actor true t e =
+    let found : IsActorFound clients name Card = record { named = same_bytes name (codes "card") t; is = tt } in
+    subst (λ (a : Actor). IsActorFound clients name a) (some_in Card actor e) found
 
-pub body_write : (clients : List ClientLine) (before : List Phase) (client frames : ℕ) → client < length clients → frames ≤ 4194304 → list_any (is_write_of client) before ≡ false → IsBody clients before → IsBody clients (before ++ Write client frames ∷ [])
-body_write clients before client frames there few fresh body = record {
-  each = All-push (IsPhase (length clients)) before (Write client frames) body.each (there, few);
-  once = all_pairs_push AreOfTwo before (Write client frames) body.once (λ k d below. apart (get_or before k d) client frames (none_pass (is_write_of client) before fresh k d below));
-  frames = omega (arith, played_more before (Write client frames), body.frames);
-}
+actor_found : (clients : List ClientLine) (name : List ℕ) (actor : Actor) → actor_of clients name ≡ Some actor → IsActorFound clients name actor
+actor_found clients name actor e = actor_case clients name actor (bytes_eq name (codes "card")) refl e
 
--- an action, found behind others
-pub record IsActionFound (clients : List ClientLine) (before : List Phase) (ws : List (List ℕ)) (p : Phase) : Type 0 where
-  pub spelled : SpellsAction clients ws p
-  pub body : IsBody clients before → IsBody clients (before ++ p ∷ [])
+-- what is asked for, found behind so many frames
+record IsOpFound (played : ℕ) (actor : Actor) (words : List (List ℕ)) (o : Op) : Type 0 where
+  spelled : SpellsOp words o
+  is : IsOpOf actor o
+  frames : played ≤ 4194304 → played + played_by o ≤ 4194304
 
-write_found : (clients : List ClientLine) (before : List Phase) (ws : List (List ℕ)) (actor action number : List ℕ) (frames : ℕ) (p : Phase) → ws ≡ actor ∷ action ∷ number ∷ [] → number_of number ≡ Some frames → write_line clients before actor action frames ≡ Some p → IsActionFound clients before ws p
-unfolding write_line
-write_found clients before ws actor action number frames p are value e =
-    let client = some_bind (client_at clients actor) _ p e in
-    let write = some_bind (passed (bytes_eq action (codes "write")) client.0) _ p client.2 in
-    let said = cond_some (bytes_eq action (codes "write")) client.0 write.0 write.1 in
-    let test = cond_some (nat_le frames 4194304 && not (list_any (is_write_of write.0) before)) (Write write.0 frames) p write.2 in
-    let parts = both (nat_le frames 4194304) (not (list_any (is_write_of write.0) before)) test.0 in
-    let index : client_at clients actor ≡ Some write.0 = client.1 ∙ ap Some said.1 in
-    let d : ClientLine = record { name = []; file = [] } in
-    let place = position-Some (is_named actor) clients write.0 d index in
-    let here = get_or clients write.0 d in
-    let named : here.name ≡ actor = same_bytes here.name actor place.1 in
-    let found : IsActionFound clients before ws (Write write.0 frames) = record {
+play_found : (played : ℕ) (words : List (List ℕ)) (o : Op) → play_of played words ≡ Some o → IsOpFound played Card words o
+unfolding play_of
+play_found played words o e =
+    let frames = some_bind (last_keyed (codes "play") words) _ o e in
+    let test = cond_some (nat_le (played + frames.0) 4194304) (op.Play frames.0) o frames.2 in
+    let k = last_is (codes "play") words frames.0 frames.1 in
+    let few : played + frames.0 ≤ 4194304 = leb-true (played + frames.0) 4194304 test.0 in
+    let found : IsOpFound played Card words (op.Play frames.0) = record {
+      spelled = record { number = k.word; is_number = record { value = k.value }; are = k.are };
+      is = omega arith;
+      frames = λ h. few;
+    } in
+    subst (λ (o : Op). IsOpFound played Card words o) test.1 found
+
+write_found : (played client : ℕ) (words : List (List ℕ)) (o : Op) → write_of words ≡ Some o → IsOpFound played (Client client) words o
+unfolding write_of
+write_found played client words o e =
+    let frames = some_bind (last_keyed (codes "write") words) _ o e in
+    let test = cond_some (nat_le frames.0 4194304) (op.Write frames.0) o frames.2 in
+    let k = last_is (codes "write") words frames.0 frames.1 in
+    let found : IsOpFound played (Client client) words (op.Write frames.0) = record {
+      spelled = record { number = k.word; is_number = record { value = k.value }; are = k.are };
+      is = leb-true frames.0 4194304 test.0;
+      frames = λ h. omega (arith, h);
+    } in
+    subst (λ (o : Op). IsOpFound played (Client client) words o) test.1 found
+
+-- one of several words
+one_word_of : (word name : List ℕ) (P : Op → Type 0) (this o : Op) (other : Option Op) → (word ≡ name → P this) → (other ≡ Some o → P o) → cond (bytes_eq word name) (Some this) other ≡ Some o → P o
+one_word_of word name P this o other here there e = by_test (bytes_eq word name) refl e
+  where
+    by_test : (b : Bool) → bytes_eq word name ≡ b → cond b (Some this) other ≡ Some o → P o
+    by_test true t e = subst P (some_in this o e) (here (same_bytes word name t))
+    by_test false t e = there e
+
+-- a call without a number, found by its word
+record IsCallFound (word : List ℕ) (o : Op) : Type 0 where
+  spelled : SpellsOp (word ∷ []) o
+  is : (client : ℕ) → IsOpOf (Client client) o
+  frames : played_by o ≡ 0
+
+call_found : (word : List ℕ) (o : Op) → call_of word ≡ Some o → IsCallFound word o
+call_found word o e =
+    let P : Op → Type 0 = IsCallFound word in
+    let words : (a : List ℕ) → word ≡ a → word ∷ [] ≡ a ∷ [] = λ a same. ap (λ w. w ∷ []) same in
+    one_word_of word (codes "start") P op.Start o _ (λ same. record { spelled = words _ same; is = λ client. tt; frames = refl })
+    (one_word_of word (codes "sync") P op.Sync o _ (λ same. record { spelled = words _ same; is = λ client. tt; frames = refl })
+    (one_word_of word (codes "avail") P op.Avail o _ (λ same. record { spelled = words _ same; is = λ client. tt; frames = refl })
+    (one_word_of word (codes "delay") P op.Delay o _ (λ same. record { spelled = words _ same; is = λ client. tt; frames = refl })
+    (one_word_of word (codes "drain") P op.Drain o _ (λ same. record { spelled = words _ same; is = λ client. tt; frames = refl })
+    (one_word_of word (codes "drop") P op.Drop o _ (λ same. record { spelled = words _ same; is = λ client. tt; frames = refl })
+    (one_word_of word (codes "prepare") P op.Prepare o _ (λ same. record { spelled = words _ same; is = λ client. tt; frames = refl })
+    (one_word_of word (codes "pause") P op.Pause o None (λ same. record { spelled = words _ same; is = λ client. tt; frames = refl }) (λ e. absurd (cc))))))))) e
+
+one_call_found : (played client : ℕ) (words : List (List ℕ)) (o : Op) → one_call_of words ≡ Some o → IsOpFound played (Client client) words o
+unfolding one_call_of
+one_call_found played client words o e =
+    let word = some_bind (one_of words) _ o e in
+    let f = call_found word.0 o word.2 in
+    record {
+      spelled = subst (λ (ws : List (List ℕ)). SpellsOp ws o) (sym (one_is words word.0 word.1)) f.spelled;
+      is = f.is client;
+      frames = λ h. omega (arith, h, f.frames);
+    }
+
+op_case : (played client : ℕ) (words : List (List ℕ)) (o : Op) (w : Option Op) → write_of words ≡ w → or_else w (one_call_of words) ≡ Some o → IsOpFound played (Client client) words o
+op_case played client words o (Some x) t e = write_found played client words o (t ∙ e)
+op_case played client words o None t e = one_call_found played client words o e
+
+op_found : (played : ℕ) (actor : Actor) (words : List (List ℕ)) (o : Op) → op_of played actor words ≡ Some o → IsOpFound played actor words o
+op_found played Card words o e = play_found played words o e
+op_found played (Client client) words o e = op_case played client words o (write_of words) refl e
+
+same_actor : (a b : Actor) → is_same a b ≡ true → a ≡ b
+same_actor Card Card e = refl
+same_actor (Client i) (Client k) e = ap Client (eqb-true i k e)
+same_actor Card (Client k) e = absurd (false≢true e)
+same_actor (Client i) Card e = absurd (false≢true e)
+
+-- an actor that can act behind lines of one actor is that of each of them
+of_one : (before : List Line) (actor : Actor) → can_act before actor ≡ true → AllPairs AreOfOne before → (k : ℕ) (d : Line) → k < length before → (get_or before k d).actor ≡ actor
+of_one [] actor e one k d h = absurd (omega arith)
+of_one (first ∷ lines) actor e one zero d h = same_actor first.actor actor e
+of_one (first ∷ lines) actor e one (suc k) d h = sym (one 0 (suc k) d (omega arith) h) ∙ same_actor first.actor actor e
+
+-- a line, found behind others of its phase
+pub record IsNextFound (clients : List ClientLine) (played : ℕ) (before : List Line) (number : ℕ) (words : List (List ℕ)) (l : Line) : Type 0 where
+  pub spelled : SpellsLine clients number words l
+  pub frames : played ≤ 4194304 → played + played_by l.op ≤ 4194304
+  pub kept : IsOpen clients played before → IsOpen clients (played + played_by l.op) (before ++ l ∷ [])
+
+line_known : (clients : List ClientLine) (played : ℕ) (before : List Line) (number : ℕ) (words : List (List ℕ)) (l : Line) → line_of clients played before number words ≡ Some l → IsNextFound clients played before number words l
+unfolding line_of
+line_known clients played before number words l e =
+    let first = some_bind (first_of words) _ l e in
+    let actor = some_bind (actor_of clients first.0.0) _ l first.2 in
+    let one = some_bind (passed (can_act before actor.0) actor.0) _ l actor.2 in
+    let asked = some_bind (op_of played one.0 first.0.1) _ l one.2 in
+    let test = cond_some (can_act before actor.0) actor.0 one.0 one.1 in
+    let a = actor_found clients first.0.0 actor.0 actor.1 in
+    let o = op_found played one.0 first.0.1 asked.0 asked.1 in
+    let next : Line = record { number = number; actor = one.0; op = asked.0 } in
+    let is_actor : IsActor (length clients) one.0 = subst (λ (a : Actor). IsActor (length clients) a) test.1 a.is in
+    let acts : can_act before one.0 ≡ true = subst (λ (a : Actor). can_act before a ≡ true) test.1 test.0 in
+    let found : IsNextFound clients played before number words next = record {
       spelled = record {
-        line = here;
-        number = number;
-        is_line = slice_get-get_or clients write.0 d place.0;
-        is_number = record { value = value };
-        are = are ∙ (ap (λ w. w ∷ action ∷ number ∷ []) (sym named) ∙ ap (λ w. here.name ∷ w ∷ number ∷ []) (same_bytes action (codes "write") said.0));
+        op = first.0.1;
+        is_op = o.spelled;
+        are = first_is words first.0 first.1 ∙ ap (λ w. w ∷ first.0.1) (a.named ∙ ap (actor_name clients) test.1);
+        number_is = refl;
       };
-      body = body_write clients before write.0 frames place.0 (leb-true frames 4194304 parts.0) (not_is (list_any (is_write_of write.0) before) parts.1);
+      frames = o.frames;
+      kept = λ (b : IsOpen clients played before). record {
+        each = All-push (IsLine (length clients)) before next b.each (record { actor = is_actor; op = o.is });
+        one = all_pairs_push AreOfOne before next b.one (λ k d below. of_one before one.0 acts b.one k d below);
+        frames = o.frames b.frames;
+      };
     } in
-    subst (λ (p : Phase). IsActionFound clients before ws p) test.1 found
+    subst (λ (l : Line). IsNextFound clients played before number words l) (some_in next l asked.2) found
 
-play_found : (clients : List ClientLine) (before : List Phase) (ws : List (List ℕ)) (number : List ℕ) (frames : ℕ) (p : Phase) → ws ≡ codes "card" ∷ codes "play" ∷ number ∷ [] → number_of number ≡ Some frames → play_of before frames ≡ Some p → IsActionFound clients before ws p
-play_found clients before ws number frames p are value e =
-    let test = cond_some (nat_le (frames_played before + frames) 4194304) (Play frames) p e in
-    let found : IsActionFound clients before ws (Play frames) = record {
-      spelled = record { number = number; is_number = record { value = value }; are = are };
-      body = body_play clients before frames (leb-true (frames_played before + frames) 4194304 test.0);
-    } in
-    subst (λ (p : Phase). IsActionFound clients before ws p) test.1 found
+more_case : (o : Option (Unit {0})) (q : Option Line) (l : Line) → where_some o (λ u. Some None) (option_map Some q) ≡ Some (Some l) → q ≡ Some l
+more_case (Some u) q l e = absurd (cc)
+more_case None None l e = absurd (cc)
+more_case None (Some x) l e = cc
 
-action_case : (clients : List ClientLine) (before : List Phase) (ws : List (List ℕ)) (actor action number : List ℕ) (frames : ℕ) (p : Phase) (b : Bool) → (bytes_eq actor (codes "card") && bytes_eq action (codes "play")) ≡ b → ws ≡ actor ∷ action ∷ number ∷ [] → number_of number ≡ Some frames → cond b (play_of before frames) (write_line clients before actor action frames) ≡ Some p → IsActionFound clients before ws p
-action_case clients before ws actor action number frames p false t are value e = write_found clients before ws actor action number frames p are value e
-action_case clients before ws actor action number frames p true t are value e =
-    let parts = both (bytes_eq actor (codes "card")) (bytes_eq action (codes "play")) t in
-    play_found clients before ws number frames p (are ∙ (ap (λ w. w ∷ action ∷ number ∷ []) (same_bytes actor (codes "card") parts.0) ∙ ap (λ w. codes "card" ∷ w ∷ number ∷ []) (same_bytes action (codes "play") parts.1))) value e
+pub next_found : (clients : List ClientLine) (played : ℕ) (before : List Line) (number : ℕ) (words : List (List ℕ)) (l : Line) → more_of clients played before number words ≡ Some (Some l) → IsNextFound clients played before number words l
+unfolding more_of
+next_found clients played before number words l e = line_known clients played before number words l (more_case (alone (codes "end") words) (line_of clients played before number words) l e)
 
-pub action_found : (clients : List ClientLine) (before : List Phase) (ws : List (List ℕ)) (p : Phase) → action_of clients before ws ≡ Some p → IsActionFound clients before ws p
-unfolding action_of
-action_found clients before ws p e =
-    let three = some_bind (three_of ws) _ p e in
-    let frames = some_bind (number_of three.0.2) _ p three.2 in
-    action_case clients before ws three.0.0 three.0.1 three.0.2 frames.0 p (bytes_eq three.0.0 (codes "card") && bytes_eq three.0.1 (codes "play")) refl (three_is ws three.0 three.1) frames.1 frames.2
+end_case : (words : List (List ℕ)) (o : Option (Unit {0})) (q : Option Line) → alone (codes "end") words ≡ o → where_some o (λ u. Some None) (option_map Some q) ≡ Some None → words ≡ codes "end" ∷ []
+end_case words (Some u) q t e = alone_found (codes "end") words u t
+end_case words None None t e = absurd (cc)
+end_case words None (Some x) t e = absurd (cc)
+
+pub end_found : (clients : List ClientLine) (played : ℕ) (before : List Line) (number : ℕ) (words : List (List ℕ)) → more_of clients played before number words ≡ Some None → words ≡ codes "end" ∷ []
+unfolding more_of
+end_found clients played before number words e = end_case words (alone (codes "end") words) (line_of clients played before number words) refl e
+
+-- the limit of the frames that are played
+pub next_frames : (clients : List ClientLine) (played : ℕ) (before : List Line) (number : ℕ) (text : List ℕ) (l : Line) (rest : Rest) → line_by (more_of clients played before number) (at number text) ≡ Ok (Some l, rest) → played ≤ 4194304 → played + played_by l.op ≤ 4194304
+next_frames clients played before number text l rest e h =
+    let said = line_found (more_of clients played before number) number text (Some l) rest e in
+    (next_found clients played before number said.words l said.says).frames h

@@ -1,8 +1,11 @@
 pub mod Words
 pub mod LineWords
+pub mod Binds
+pub mod Channels
 pub mod Acts
 pub mod Steps
 pub mod Lines
+pub mod Enough
 pub mod Found
 pub mod Whole
 pub mod Plain

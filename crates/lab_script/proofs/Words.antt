@@ -10,7 +10,7 @@ use Rattle.std.proofs.lemmas.Str.{digit_value_digit}
 use Rattle.std.proofs.lemmas.Str.Parse.{IsNumeralModel, numerals_by_value, tells_all_ascii_digits, digit_at, digits_value_short, digits_value-take-le}
 use Rattle.std.proofs.lemmas.Int.Digits.{digits_value_more}
 use Rattle.std.proofs.lemmas.List.{take_all, length-drop}
-use Rattle.lab_script.specs.Grammar.{one_of, two_of, three_of, first_of}
+use Rattle.lab_script.specs.Grammar.{one_of, two_of, first_of}
 use Rattle.std.proofs.lemmas.List.Splits.{length-slice_split, slice_split_first, slice_split_none}
 use Rattle.std.proofs.lemmas.Bool.Decides.{nat_tests}
 use Rattle.std.proofs.lemmas.Option.{cond_some}
@@ -35,13 +35,19 @@ position_missing p xs k e h = grind (arith, nat_tests)
 pub cut-at : (text : List ℕ) (i : ℕ) → position is_feed text ≡ Some i → Some (take i text, take (length text - (i + 1)) (drop (i + 1) text)) ≡ cut_line text
 cut-at text i e = rw (e, take-drop (i + 1) text) refl
 
+pub split_at : (p : ℕ → Bool) (xs : List ℕ) (i : ℕ) → position p xs ≡ Some i → slice_split p xs ≡ take i xs ∷ slice_split p (take (length xs - (i + 1)) (drop (i + 1) xs))
+split_at p xs i e =
+    let h = position_place p xs i e in
+    rw (take-drop (i + 1) xs) (slice_split_first p xs 0 h.0 ∙ ap (λ k. take k xs ∷ slice_split p (drop (k + 1) xs)) h.1)
+
+pub split_none : (p : ℕ → Bool) (xs : List ℕ) → position p xs ≡ None → slice_split p xs ≡ xs ∷ []
+split_none p xs e = slice_split_none p xs (λ k d h. fails_before_first p xs k d (position_missing p xs k e h))
+
 pub words_at : (line : List ℕ) (i : ℕ) → position is_space line ≡ Some i → words_of line ≡ take i line ∷ words_of (take (length line - (i + 1)) (drop (i + 1) line))
-words_at line i e =
-    let h = position_place is_space line i e in
-    rw (take-drop (i + 1) line) (slice_split_first is_space line 0 h.0 ∙ ap (λ k. take k line ∷ slice_split is_space (drop (k + 1) line)) h.1)
+words_at line i e = split_at is_space line i e
 
 pub words_none : (line : List ℕ) → position is_space line ≡ None → words_of line ≡ line ∷ []
-words_none line e = slice_split_none is_space line (λ k d h. fails_before_first is_space line k d (position_missing is_space line k e h))
+words_none line e = split_none is_space line e
 
 own : IsNumeralModel (λ ds. all_ascii_digits ds ≡ true) (digits_value 10)
 own = numerals_by_value _ tells_all_ascii_digits
@@ -81,12 +87,6 @@ pub two_from : (w : List ℕ) (ws : List (List ℕ)) → two_of (w ∷ ws) ≡ o
 two_from w [] = refl
 two_from w (x ∷ []) = refl
 two_from w (x ∷ y ∷ ws) = refl
-
-pub three_from : (w : List ℕ) (ws : List (List ℕ)) → three_of (w ∷ ws) ≡ option_map (λ x. (w, x.0, x.1)) (two_of ws)
-three_from w [] = refl
-three_from w (x ∷ []) = refl
-three_from w (x ∷ y ∷ []) = refl
-three_from w (x ∷ y ∷ z ∷ ws) = refl
 
 pub first_at : (line : List ℕ) (i : ℕ) → position is_space line ≡ Some i → first_of (words_of line) ≡ Some (take i line, words_of (take (length line - (i + 1)) (drop (i + 1) line)))
 first_at line i e =

@@ -1,24 +1,26 @@
 -- The line that a reader of lines refuses, whatever stands behind it.
-use Rattle.std.proofs.Common.{◌≡◌, ◌≢◌, ℕ, zero, suc, ◌+◌, ◌<◌, Bool, true, false, ◌&&◌, List, [], ◌∷◌, ◌++◌, length, map, codes, refl, sym, ap, subst, append_assoc, ◌∙◌, arith, Option, Some, None, All, AllPairs, Result, Ok, Err, ◌⊎◌, inl, inr}
+use Rattle.std.proofs.Common.{◌≡◌, ◌≢◌, ℕ, zero, suc, ◌+◌, ◌<◌, ◌≤◌, Bool, true, false, ◌&&◌, List, [], ◌∷◌, ◌++◌, length, map, codes, refl, sym, ap, subst, append_assoc, ◌∙◌, arith, Option, Some, None, All, AllPairs, Result, Ok, Err, ◌⊎◌, inl, inr}
 use Rattle.std.specs.List.{flat_map, list_all, join_with_byte}
 use Rattle.std.proofs.lemmas.List.{append-nil, length-append}
 use Rattle.std.proofs.lemmas.List.Folds.{list_all-append}
 use Rattle.std.proofs.lemmas.Grind.{flat_map-append}
 use Rattle.lab_script.specs.declared.error.ScriptError.{ScriptError}
+use Rattle.lab_script.specs.declared.line.Line.{Line}
 use Rattle.lab_script.specs.declared.script.ClientLine.{ClientLine}
-use Rattle.lab_script.specs.declared.script.Phase.{Phase}
-use Rattle.lab_script.specs.declared.script.Phase.TheVariants.{Play}
+use Rattle.lab_script.specs.Script.{IsLine, played_by, played_in, frames_played}
 use Rattle.lab_script.specs.Word.{cut_line, words_of, is_name}
-use Rattle.lab_script.specs.Grammar.{open_of, alone, action_of}
-use Rattle.lab_script.specs.Spelling.{line, open_words, phase_lines}
+use Rattle.lab_script.specs.Grammar.{open_of, alone, more_of}
+use Rattle.lab_script.specs.Spelling.{line, open_words, SpellsLine, SpellsLines, phase_lines}
 use Rattle.lab_script.specs.Reading.{Rest, at, refused, cut_at, known, line_by, opens_of, phase_of, phases_of, is_end, ◌>>=◌}
-use Rattle.lab_script.proofs.Lines.{paired, some_in, ok_in, is_plain, line_append, line_found, line_read}
+use Rattle.lab_script.specs.Reading as reading
+use Rattle.lab_script.proofs.Lines.{paired, some_in, is_plain, line_append, line_found, line_read}
 use Rattle.lab_script.proofs.Steps.{phases_end, phases_past, phases_step}
+use Rattle.lab_script.proofs.Enough.{line_shortens, lines_then, lines_of-step}
 use Rattle.lab_script.proofs.Plain.{name_plain}
-use Rattle.lab_script.proofs.Found.{IsBody, IsActionFound, body_play, open_found, alone_found, action_found}
+use Rattle.lab_script.proofs.Found.{IsOpen, IsBody, open_found, alone_found, next_found}
 use Rattle.lab_script.proofs.Again.{open_again, phase_again}
-use Rattle.lab_script.proofs.Whole.{IsPhasesFound, IsPhaseFound, phase_found, not_both, no_phase_more, one_phase}
-use Rattle.lab_script.proofs.Back.{plain_more, action_plain, phase_reads}
+use Rattle.lab_script.proofs.Whole.{IsLinesFound, IsPhasesFound, IsPhaseFound, phase_found, phase_of_lines, one_line, no_lines, not_both, no_phase_more, one_phase, body_push}
+use Rattle.lab_script.proofs.Back.{plain_more, line_plain, at_seam, phase_reads, phase_goes}
 use Rattle.lab_script.proofs.Ends.{ArePlain, cut_other}
 
 -- a reader refuses a line of a text behind some lines of words, and so it does whatever stands behind that line; the lines
@@ -147,91 +149,131 @@ opens_wrong (client ∷ clients) m text e names h =
           (opens_wrong clients good.0.1.number good.0.1.text e (λ k d below. names (suc k) d (omega arith)) good.2))
     ]
 
--- the front of a phase
-record CanPhase (clients : List ClientLine) (before : List Phase) (t : List ℕ) : Type 0 where
-  more : List ℕ
-  action : List (List ℕ)
-  phase : Phase
-  found : IsActionFound clients before action phase
-  are : t ++ more ≡ flat_map line (phase_lines action)
+-- a reader that gives the same on texts from this number on
+wrong_same : {X : Type 0} (P Q : Rest → Result X ScriptError) (m : ℕ) (text : List ℕ) (e : ScriptError) (Can : List ℕ → Type 0) → ((t : List ℕ) → P (at m t) ≡ Q (at m t)) → Wrong Q m text e Can → Wrong P m text e Can
+wrong_same P Q m text e Can same w = record { front = w.front; plain = w.plain; back = w.back; text_is = w.text_is; error_is = w.error_is; can = w.can; again = λ l r other c. same (flat_map line w.front ++ (l ++ 10 ∷ other)) ∙ w.again l r other c }
 
--- the card can always play no frame
-nothing : List (List ℕ)
-nothing = codes "card" ∷ codes "play" ∷ codes "0" ∷ []
+-- the front of the lines of a phase, up to its end
+record CanLines (clients : List ClientLine) (n played : ℕ) (before : List Line) (t : List ℕ) : Type 0 where
+  behind : List ℕ
+  all : List Line
+  rest : Rest
+  ends : rest.text ≡ []
+  found : IsLinesFound clients n played before (t ++ behind) all rest
 
-play_nothing : (clients : List ClientLine) (before : List Phase) → IsActionFound clients before nothing (Play 0)
-unfolding nothing
-play_nothing clients before = record {
-  spelled = record { number = codes "0"; is_number = record { value = refl }; are = refl };
-  body = λ b. body_play clients before 0 (omega (arith, b.frames)) b;
-}
-
-abbrev word_line : List ℕ → List ℕ
-word_line word = line (word ∷ [])
-
-phase_split : (action : List (List ℕ)) → flat_map line (phase_lines action) ≡ word_line (codes "phase") ++ (line action ++ word_line (codes "end"))
-phase_split action = ap (λ t. word_line (codes "phase") ++ (line action ++ t)) (append-nil (word_line (codes "end")))
-
-phase_wrong : (clients : List ClientLine) (before : List Phase) (m : ℕ) (text : List ℕ) (e : ScriptError) → All (λ (client : ClientLine). is_name client.name ≡ true) clients → phase_of clients before (at m text) ≡ Err e → Wrong (phase_of clients before) m text e (CanPhase clients before)
-unfolding phase_of
-phase_wrong clients before m text e names h =
-    let Can = CanPhase clients before in
-    let p = word_line (codes "phase") in
-    let free : Can [] = record { more = flat_map line (phase_lines nothing); action = nothing; phase = Play 0; found = play_nothing clients before; are = refl } in
-    let free_action : Can (p ++ []) = record { more = line nothing ++ word_line (codes "end"); action = nothing; phase = Play 0; found = play_nothing clients before; are = ap (λ t. t ++ (line nothing ++ word_line (codes "end"))) (append-nil p) ∙ sym (phase_split nothing) } in
-    elim (bind_err (line_by (alone (codes "phase")) (at m text)) (λ o. line_by (action_of clients before) o.1 >>= λ a. line_by (alone (codes "end")) a.1 >>= λ z. Ok (paired a.0 z.1)) e h) [
-      | inl bad ↦ wrong_here (alone (codes "phase")) (λ o. line_by (action_of clients before) o.1 >>= λ a. line_by (alone (codes "end")) a.1 >>= λ z. Ok (paired a.0 z.1)) m text e Can bad free
-      | inr opened ↦
-          let l1 = line_found (alone (codes "phase")) m text opened.0.0 opened.0.1 opened.1 in
-          let is1 = alone_found (codes "phase") l1.words opened.0.0 l1.says in
-          wrong_next (alone (codes "phase")) (λ o. line_by (action_of clients before) o.1 >>= λ a. line_by (alone (codes "end")) a.1 >>= λ z. Ok (paired a.0 z.1)) m text e Can (codes "phase" ∷ []) tt opened.0.1 (omega arith) refl phase_again (l1.text_is ∙ ap (λ ws. line ws ++ opened.0.1.text) is1) l1.number_is
-          (elim (bind_err (line_by (action_of clients before) opened.0.1) (λ a. line_by (alone (codes "end")) a.1 >>= λ z. Ok (paired a.0 z.1)) e opened.2) [
-            | inl bad ↦ wrong_here (action_of clients before) (λ a. line_by (alone (codes "end")) a.1 >>= λ z. Ok (paired a.0 z.1)) opened.0.1.number opened.0.1.text e (λ t. Can (p ++ t)) bad free_action
-            | inr acted ↦
-                let l2 = line_found (action_of clients before) opened.0.1.number opened.0.1.text acted.0.0 acted.0.1 acted.1 in
-                let found = action_found clients before l2.words acted.0.0 l2.says in
-                let plain = action_plain clients l2.words acted.0.0 names found.spelled in
-                let free_end : Can (p ++ (line l2.words ++ [])) = record { more = word_line (codes "end"); action = l2.words; phase = acted.0.0; found = found; are = ap (λ t. (p ++ t) ++ word_line (codes "end")) (append-nil (line l2.words)) ∙ (append_assoc p (line l2.words) (word_line (codes "end")) ∙ sym (phase_split l2.words)) } in
-                wrong_next (action_of clients before) (λ a. line_by (alone (codes "end")) a.1 >>= λ z. Ok (paired a.0 z.1)) opened.0.1.number opened.0.1.text e (λ t. Can (p ++ t)) l2.words acted.0.0 acted.0.1 plain.0 plain.1 l2.says l2.text_is l2.number_is
-                (elim (bind_err (line_by (alone (codes "end")) acted.0.1) (λ z. Ok (paired acted.0.0 z.1)) e acted.2) [
-                  | inl bad ↦ wrong_here (alone (codes "end")) (λ z. Ok (paired acted.0.0 z.1)) acted.0.1.number acted.0.1.text e (λ t. Can (p ++ (line l2.words ++ t))) bad free_end
-                  | inr ended ↦ absurd (not_both (sym ended.2))
-                ])
-          ])
-    ]
-
--- the front of phases
-pub record CanPhases (more : ℕ) (clients : List ClientLine) (before : List Phase) (t : List ℕ) : Type 0 where
-  pub behind : List ℕ
-  pub all : List Phase
-  pub found : IsPhasesFound more clients before (t ++ behind) all
-
-no_more_phases : (more : ℕ) (clients : List ClientLine) (before : List Phase) → IsBody clients before → CanPhases more clients before []
-no_more_phases more clients before body = record { behind = []; all = before; found = no_phase_more more clients before [] before body refl refl }
-
-last_phase : (more : ℕ) (clients : List ClientLine) (before : List Phase) → IsBody clients before → (t : List ℕ) → CanPhase clients before t → CanPhases (suc more) clients before t
-last_phase more clients before body t c = record {
-  behind = c.more;
-  all = before ++ c.phase ∷ [];
+-- a phase can end behind each of its lines
+can_end : (clients : List ClientLine) (n played : ℕ) (before : List Line) → IsOpen clients played before → CanLines clients n played before []
+can_end clients n played before kept = record {
+  behind = line (codes "end" ∷ []);
+  all = before;
+  rest = at (n + 1) [];
+  ends = refl;
   found = record {
-    new = c.phase ∷ [];
-    actions = c.action ∷ [];
-    are = refl;
-    count = omega arith;
-    spelled = (c.found.spelled, tt);
-    text_is = c.are;
-    body = c.found.body body;
+    new = [];
+    lines = [];
+    are = sym (append-nil before);
+    spelled = tt;
+    text_is = sym (append-nil (line (codes "end" ∷ [])));
+    number_is = omega arith;
+    kept = record { each = kept.each; one = kept.one; frames = omega (arith, kept.frames) };
   };
 }
 
-later_phase : (more : ℕ) (clients : List ClientLine) (before : List Phase) (action : List (List ℕ)) (p : Phase) → action_of clients before action ≡ Some p → IsActionFound clients before action p → (t : List ℕ) → CanPhases more clients (before ++ p ∷ []) t → CanPhases (suc more) clients before (flat_map line (phase_lines action) ++ t)
-later_phase more clients before action p says found t c =
-    let head = flat_map line (phase_lines action) in
-    let text_is : (head ++ t) ++ c.behind ≡ head ++ (t ++ c.behind) = append_assoc head t c.behind in
+can_go_on : (clients : List ClientLine) (n played : ℕ) (before : List Line) (words : List (List ℕ)) (x : Line) (m : ℕ) → m ≡ n + 1 → SpellsLine clients n words x → (t : List ℕ) → CanLines clients m (played + played_by x.op) (before ++ x ∷ []) t → CanLines clients n played before (line words ++ t)
+can_go_on clients n played before words x m number_is s t c = record {
+  behind = c.behind;
+  all = c.all;
+  rest = c.rest;
+  ends = c.ends;
+  found = one_line clients n played before ((line words ++ t) ++ c.behind) words x m (t ++ c.behind) c.all c.rest (append_assoc (line words) t c.behind) number_is s c.found;
+}
+
+lines_step_wrong : (clients : List ClientLine) (m played : ℕ) (before : List Line) (text : List ℕ) (e : ScriptError) (said : Option Line × Rest) → All (λ (client : ClientLine). is_name client.name ≡ true) clients → IsOpen clients played before → line_by (more_of clients played before m) (at m text) ≡ Ok said → lines_then clients played before said ≡ Err e
+    → ((n p : ℕ) (ls : List Line) (t : List ℕ) → length t < length text → IsOpen clients p ls → reading.lines_of clients p ls (at n t) ≡ Err e → Wrong (reading.lines_of clients p ls) n t e (CanLines clients n p ls))
+    → Wrong (λ r. line_by (more_of clients played before m) r >>= lines_then clients played before) m text e (CanLines clients m played before)
+lines_step_wrong clients m played before text e (None, next) names kept read h later = absurd (not_both (sym h))
+lines_step_wrong clients m played before text e (Some x, next) names kept read h later =
+    let l = line_found (more_of clients played before m) m text (Some x) next read in
+    let f = next_found clients played before m l.words x l.says in
+    let more = f.kept kept in
+    let is = at_seam (IsLine (length clients)) before [] x more.each in
+    let plain = line_plain clients m l.words x names is f.spelled in
+    let w = later next.number (played + played_by x.op) (before ++ x ∷ []) next.text (line_shortens (more_of clients played before m) m text (Some x) next read) more h in
+    wrong_next (more_of clients played before m) (lines_then clients played before) m text e (CanLines clients m played before) l.words (Some x) next plain.0 plain.1 l.says l.text_is l.number_is
+    (wrong_can (reading.lines_of clients (played + played_by x.op) (before ++ x ∷ [])) next.number next.text e (CanLines clients next.number (played + played_by x.op) (before ++ x ∷ [])) (λ t. CanLines clients m played before (line l.words ++ t)) (can_go_on clients m played before l.words x next.number l.number_is f.spelled) w)
+
+lines_wrong : (more : ℕ) (clients : List ClientLine) (m played : ℕ) (before : List Line) (text : List ℕ) (e : ScriptError) → length text < more → All (λ (client : ClientLine). is_name client.name ≡ true) clients → IsOpen clients played before → reading.lines_of clients played before (at m text) ≡ Err e → Wrong (reading.lines_of clients played before) m text e (CanLines clients m played before)
+lines_wrong zero clients m played before text e few names kept h = absurd (omega arith)
+lines_wrong (suc more) clients m played before text e few names kept h =
+    let Q : Rest → Result (List Line × Rest) ScriptError = λ r. line_by (more_of clients played before m) r >>= lines_then clients played before in
+    wrong_same (reading.lines_of clients played before) Q m text e (CanLines clients m played before) (λ t. lines_of-step clients played before m t)
+    (elim (bind_err (line_by (more_of clients played before m) (at m text)) (lines_then clients played before) e (sym (lines_of-step clients played before m text) ∙ h)) [
+      | inl bad ↦ wrong_here (more_of clients played before m) (lines_then clients played before) m text e (CanLines clients m played before) bad (can_end clients m played before kept)
+      | inr good ↦ lines_step_wrong clients m played before text e good.0 names kept good.1 good.2 (λ n p ls t less k r. lines_wrong more clients n p ls t e (omega (arith, less, few)) names k r)
+    ])
+
+-- the front of a phase
+record CanPhase (clients : List ClientLine) (n played : ℕ) (t : List ℕ) : Type 0 where
+  behind : List ℕ
+  phase : List Line
+  rest : Rest
+  ends : rest.text ≡ []
+  found : IsPhaseFound clients n played (t ++ behind) phase rest
+
+lines_begin : (clients : List ClientLine) (n played m : ℕ) → m ≡ n + 1 → (t : List ℕ) → CanLines clients m played [] t → CanPhase clients n played (line (codes "phase" ∷ []) ++ t)
+lines_begin clients n played m number_is t c = record {
+  behind = c.behind;
+  phase = c.all;
+  rest = c.rest;
+  ends = c.ends;
+  found = phase_of_lines clients n played ((line (codes "phase" ∷ []) ++ t) ++ c.behind) (t ++ c.behind) m c.all c.rest (append_assoc (line (codes "phase" ∷ [])) t c.behind) number_is c.found;
+}
+
+can_begin : (clients : List ClientLine) (n played : ℕ) → played ≤ 4194304 → CanPhase clients n played []
+can_begin clients n played h =
+    let c = lines_begin clients n played (n + 1) refl [] (can_end clients (n + 1) played [] (no_lines clients played h)) in
+    record { behind = line (codes "phase" ∷ []) ++ c.behind; phase = c.phase; rest = c.rest; ends = c.ends; found = subst (λ (t : List ℕ). IsPhaseFound clients n played t c.phase c.rest) (ap (λ t. t ++ c.behind) (append-nil (line (codes "phase" ∷ [])))) c.found }
+
+phase_wrong : (clients : List ClientLine) (m played : ℕ) (text : List ℕ) (e : ScriptError) → played ≤ 4194304 → All (λ (client : ClientLine). is_name client.name ≡ true) clients → phase_of clients played (at m text) ≡ Err e → Wrong (phase_of clients played) m text e (CanPhase clients m played)
+unfolding phase_of
+phase_wrong clients m played text e few names h =
+    let Can = CanPhase clients m played in
+    let f : Unit {0} × Rest → Result (List Line × Rest) ScriptError = λ o. reading.lines_of clients played [] o.1 in
+    elim (bind_err (line_by (alone (codes "phase")) (at m text)) f e h) [
+      | inl bad ↦ wrong_here (alone (codes "phase")) f m text e Can bad (can_begin clients m played few)
+      | inr opened ↦
+          let l = line_found (alone (codes "phase")) m text opened.0.0 opened.0.1 opened.1 in
+          let is = alone_found (codes "phase") l.words opened.0.0 l.says in
+          let n = opened.0.1.number in
+          wrong_next (alone (codes "phase")) f m text e Can (codes "phase" ∷ []) tt opened.0.1 (omega arith) refl phase_again (l.text_is ∙ ap (λ ws. line ws ++ opened.0.1.text) is) l.number_is
+          (wrong_can (reading.lines_of clients played []) n opened.0.1.text e (CanLines clients n played []) (λ t. Can (line (codes "phase" ∷ []) ++ t)) (lines_begin clients m played n l.number_is)
+          (lines_wrong (suc (length opened.0.1.text)) clients n played [] opened.0.1.text e (omega arith) names (no_lines clients played few) opened.2))
+    ]
+
+-- the front of phases
+pub record CanPhases (more : ℕ) (clients : List ClientLine) (n : ℕ) (before : List (List Line)) (t : List ℕ) : Type 0 where
+  pub behind : List ℕ
+  pub all : List (List Line)
+  pub found : IsPhasesFound more clients n before (t ++ behind) all
+
+no_more_phases : (more : ℕ) (clients : List ClientLine) (n : ℕ) (before : List (List Line)) → IsBody clients before → CanPhases more clients n before []
+no_more_phases more clients n before body = record { behind = []; all = before; found = no_phase_more more clients n before [] before body refl refl }
+
+last_phase : (more : ℕ) (clients : List ClientLine) (n : ℕ) (before : List (List Line)) → IsBody clients before → (t : List ℕ) → CanPhase clients n (frames_played before) t → CanPhases (suc more) clients n before t
+last_phase more clients n before body t c = record {
+  behind = c.behind;
+  all = before ++ c.phase ∷ [];
+  found = one_phase more clients n before (t ++ c.behind) c.phase c.rest (before ++ c.phase ∷ []) c.found
+      (no_phase_more more clients c.rest.number (before ++ c.phase ∷ []) c.rest.text (before ++ c.phase ∷ []) (body_push clients before c.phase body c.found.kept) (ap is_end c.ends) refl);
+}
+
+later_phase : (more : ℕ) (clients : List ClientLine) (n : ℕ) (before : List (List Line)) (lines : List (List (List ℕ))) (p : List Line) (m : ℕ) → m ≡ n + length p + 2 → SpellsLines clients (n + 1) lines p → IsOpen clients (frames_played before + played_in p) p → (t : List ℕ) → CanPhases more clients m (before ++ p ∷ []) t → CanPhases (suc more) clients n before (flat_map line (phase_lines lines) ++ t)
+later_phase more clients n before lines p m number_is s kept t c =
+    let head = flat_map line (phase_lines lines) in
     record {
       behind = c.behind;
       all = c.all;
-      found = one_phase more clients before ((head ++ t) ++ c.behind) (p, at 0 (t ++ c.behind)) c.all (record { action = action; says = says; found = found; text_is = text_is }) c.found;
+      found = one_phase more clients n before ((head ++ t) ++ c.behind) p (at m (t ++ c.behind)) c.all (record { lines = lines; spelled = s; text_is = append_assoc head t c.behind; number_is = number_is; kept = kept }) c.found;
     }
 
 not_end : (l other : List ℕ) → is_end (l ++ 10 ∷ other) ≡ false
@@ -245,17 +287,31 @@ goes_on (ws ∷ front) l other =
     let tail = flat_map line front ++ (l ++ 10 ∷ other) in
     ap is_end (append_assoc (line ws) (flat_map line front) (l ++ 10 ∷ other) ∙ line_append ws tail) ∙ not_end (join_with_byte 32 ws) tail
 
-phase_plain : (action : List (List ℕ)) → list_all (list_all is_plain) action ≡ true → ArePlain (phase_lines action)
-phase_plain action e = ap (λ b. b && true) e
+words_plain : (clients : List ClientLine) (lines : List (List (List ℕ))) (p : List Line) (n : ℕ) → All (λ (client : ClientLine). is_name client.name ≡ true) clients → All (IsLine (length clients)) p → SpellsLines clients n lines p → ArePlain lines
+words_plain clients [] [] n names is s = refl
+words_plain clients [] (l ∷ p) n names is s = absurd s
+words_plain clients (ws ∷ lines) [] n names is s = absurd s
+words_plain clients (ws ∷ lines) (l ∷ p) n names is s =
+    ap (λ b. b && list_all (list_all (list_all is_plain)) lines) (line_plain clients n ws l names (is 0 l (omega arith)) s.0).1
+    ∙ words_plain clients lines p (n + 1) names (λ k d below. is (suc k) d (omega arith)) s.1
 
-phases_step_wrong : (more : ℕ) (clients : List ClientLine) (before : List Phase) (m : ℕ) (text : List ℕ) (e : ScriptError) → IsBody clients before → Wrong (phase_of clients before) m text e (CanPhase clients before) → Wrong (phases_of (suc more) clients before) m text e (CanPhases (suc more) clients before)
+phase_plain : (lines : List (List (List ℕ))) → ArePlain lines → ArePlain (phase_lines lines)
+phase_plain lines plain = list_all-append (list_all (list_all is_plain)) lines ((codes "end" ∷ []) ∷ []) ∙ ap (λ b. b && true) plain
+
+lines_count : (clients : List ClientLine) (n : ℕ) (lines : List (List (List ℕ))) (p : List Line) → SpellsLines clients n lines p → length lines ≡ length p
+lines_count clients n [] [] s = refl
+lines_count clients n [] (l ∷ p) s = absurd s
+lines_count clients n (ws ∷ lines) [] s = absurd s
+lines_count clients n (ws ∷ lines) (l ∷ p) s = omega (arith, lines_count clients (n + 1) lines p s.1)
+
+phases_step_wrong : (more : ℕ) (clients : List ClientLine) (before : List (List Line)) (m : ℕ) (text : List ℕ) (e : ScriptError) → IsBody clients before → Wrong (phase_of clients (frames_played before)) m text e (CanPhase clients m (frames_played before)) → Wrong (phases_of (suc more) clients before) m text e (CanPhases (suc more) clients m before)
 phases_step_wrong more clients before m text e body w = record {
   front = w.front;
   plain = w.plain;
   back = w.back;
   text_is = w.text_is;
   error_is = w.error_is;
-  can = last_phase more clients before body (flat_map line w.front) w.can;
+  can = last_phase more clients m before body (flat_map line w.front) w.can;
   again = λ l r other c.
       let text = flat_map line w.front ++ (l ++ 10 ∷ other) in
       phases_step (suc more) more clients before m text (omega arith) (goes_on w.front l other)
@@ -263,24 +319,20 @@ phases_step_wrong more clients before m text e body w = record {
 }
 
 -- a phase is read, and a line behind it is refused
-phases_next_wrong : (more : ℕ) (clients : List ClientLine) (before : List Phase) (m : ℕ) (text : List ℕ) (e : ScriptError) (p : Phase × Rest) → All (λ (client : ClientLine). is_name client.name ≡ true) clients → AllPairs (λ (a : ClientLine) (b : ClientLine). a.name ≢ b.name) clients → phase_of clients before (at m text) ≡ Ok p → IsPhaseFound clients before text p → Wrong (phases_of more clients (before ++ p.0 ∷ [])) p.1.number p.1.text e (CanPhases more clients (before ++ p.0 ∷ [])) → Wrong (phases_of (suc more) clients before) m text e (CanPhases (suc more) clients before)
-phases_next_wrong more clients before m text e p names distinct read f w =
-    let action = f.action in
-    let plain = action_plain clients action p.0 names f.found.spelled in
-    let reads : (other : List ℕ) → phase_of clients before (at m (flat_map line (phase_lines action) ++ other)) ≡ Ok (p.0, at (m + 1 + 1 + 1) other) = λ other.
-    let split : flat_map line (phase_lines action) ++ other ≡ word_line (codes "phase") ++ (line action ++ (word_line (codes "end") ++ other)) = ap (λ t. t ++ other) (phase_split action) ∙ (append_assoc (word_line (codes "phase")) (line action ++ word_line (codes "end")) other ∙ ap (λ t. word_line (codes "phase") ++ t) (append_assoc (line action) (word_line (codes "end")) other)) in
-    ap (λ t. phase_of clients before (at m t)) split ∙ phase_reads clients before m action p.0 other plain.0 plain.1 f.says in
-    let same : (p.0, at (m + 1 + 1 + 1) p.1.text) ≡ p = ok_in (p.0, at (m + 1 + 1 + 1) p.1.text) p (sym (reads p.1.text) ∙ (ap (λ t. phase_of clients before (at m t)) (sym f.text_is) ∙ read)) in
-    let number_is : p.1.number ≡ m + 1 + 1 + 1 = ap (λ (q : Phase × Rest). q.1.number) (sym same) in
-    let v = wrong_can (phases_of more clients (before ++ p.0 ∷ [])) p.1.number p.1.text e (CanPhases more clients (before ++ p.0 ∷ [])) (λ t. CanPhases (suc more) clients before (flat_map line (phase_lines action) ++ t)) (later_phase more clients before action p.0 f.says f.found) w in
-    wrong_after (phases_of (suc more) clients before) (phases_of more clients (before ++ p.0 ∷ [])) m text e e (CanPhases (suc more) clients before) (phase_lines action) p.1 (phase_plain action plain.1) f.text_is (omega (arith, number_is)) refl v
+phases_next_wrong : (more : ℕ) (clients : List ClientLine) (before : List (List Line)) (m : ℕ) (text : List ℕ) (e : ScriptError) (p : List Line) (rest : Rest) → All (λ (client : ClientLine). is_name client.name ≡ true) clients → AllPairs (λ (a : ClientLine) (b : ClientLine). a.name ≢ b.name) clients → IsPhaseFound clients m (frames_played before) text p rest → Wrong (phases_of more clients (before ++ p ∷ [])) rest.number rest.text e (CanPhases more clients rest.number (before ++ p ∷ [])) → Wrong (phases_of (suc more) clients before) m text e (CanPhases (suc more) clients m before)
+phases_next_wrong more clients before m text e p rest names distinct f w =
+    let head = phase_lines f.lines in
+    let plain = phase_plain f.lines (words_plain clients f.lines p (m + 1) names f.kept.each f.spelled) in
+    let count : length head ≡ length p + 2 = omega (arith, length-append f.lines ((codes "end" ∷ []) ∷ []), lines_count clients (m + 1) f.lines p f.spelled) in
+    let v = wrong_can (phases_of more clients (before ++ p ∷ [])) rest.number rest.text e (CanPhases more clients rest.number (before ++ p ∷ [])) (λ t. CanPhases (suc more) clients m before (flat_map line head ++ t)) (later_phase more clients m before f.lines p rest.number f.number_is f.spelled f.kept) w in
+    wrong_after (phases_of (suc more) clients before) (phases_of more clients (before ++ p ∷ [])) m text e e (CanPhases (suc more) clients m before) head rest plain f.text_is (omega (arith, f.number_is, count)) refl v
     (λ l r other c h.
     let tail = flat_map line v.front ++ (l ++ 10 ∷ other) in
-    phases_step (suc more) more clients before m (flat_map line (phase_lines action) ++ tail) (omega arith) refl
-    ∙ (ap (λ q. q >>= λ p. phases_of more clients (before ++ p.0 ∷ []) p.1) (reads tail)
-    ∙ (ap (λ k. phases_of more clients (before ++ p.0 ∷ []) (at k tail)) (sym number_is) ∙ h)))
+    phases_step (suc more) more clients before m (flat_map line head ++ tail) (omega arith) (phase_goes f.lines tail)
+    ∙ (ap (λ q. q >>= λ p. phases_of more clients (before ++ p.0 ∷ []) p.1) (phase_reads clients m (frames_played before) f.lines p tail names distinct f.kept f.spelled)
+    ∙ (ap (λ k. phases_of more clients (before ++ p ∷ []) (at k tail)) (sym f.number_is) ∙ h)))
 
-none_wrong : (clients : List ClientLine) (before : List Phase) (m : ℕ) (text : List ℕ) (e : ScriptError) (b : Bool) → is_end text ≡ b → IsBody clients before → phases_of 0 clients before (at m text) ≡ Err e → Wrong (phases_of 0 clients before) m text e (CanPhases 0 clients before)
+none_wrong : (clients : List ClientLine) (before : List (List Line)) (m : ℕ) (text : List ℕ) (e : ScriptError) (b : Bool) → is_end text ≡ b → IsBody clients before → phases_of 0 clients before (at m text) ≡ Err e → Wrong (phases_of 0 clients before) m text e (CanPhases 0 clients m before)
 none_wrong clients before m text e true end body h = absurd (not_both (sym h ∙ phases_end 0 clients before m text end))
 none_wrong clients before m text e false end body h =
     let error : refused m ≡ e = err_in (refused m) e (sym (phases_past clients before m text end) ∙ h) in
@@ -291,20 +343,21 @@ none_wrong clients before m text e false end body h =
       back = text;
       text_is = refl;
       error_is = sym error ∙ ap refused same;
-      can = no_more_phases 0 clients before body;
+      can = no_more_phases 0 clients m before body;
       again = λ l r other c. phases_past clients before m (l ++ 10 ∷ other) (not_end l other) ∙ ap Err error;
     }
 
-phases_case_wrong : (more : ℕ) (clients : List ClientLine) (before : List Phase) (m : ℕ) (text : List ℕ) (e : ScriptError) (b : Bool) → is_end text ≡ b → All (λ (client : ClientLine). is_name client.name ≡ true) clients → AllPairs (λ (a : ClientLine) (b : ClientLine). a.name ≢ b.name) clients → IsBody clients before → phases_of (suc more) clients before (at m text) ≡ Err e → ((ps : List Phase) (n : ℕ) (t : List ℕ) → IsBody clients ps → phases_of more clients ps (at n t) ≡ Err e → Wrong (phases_of more clients ps) n t e (CanPhases more clients ps)) → Wrong (phases_of (suc more) clients before) m text e (CanPhases (suc more) clients before)
+phases_case_wrong : (more : ℕ) (clients : List ClientLine) (before : List (List Line)) (m : ℕ) (text : List ℕ) (e : ScriptError) (b : Bool) → is_end text ≡ b → All (λ (client : ClientLine). is_name client.name ≡ true) clients → AllPairs (λ (a : ClientLine) (b : ClientLine). a.name ≢ b.name) clients → IsBody clients before → phases_of (suc more) clients before (at m text) ≡ Err e → ((ps : List (List Line)) (n : ℕ) (t : List ℕ) → IsBody clients ps → phases_of more clients ps (at n t) ≡ Err e → Wrong (phases_of more clients ps) n t e (CanPhases more clients n ps)) → Wrong (phases_of (suc more) clients before) m text e (CanPhases (suc more) clients m before)
 phases_case_wrong more clients before m text e true end names distinct body h later = absurd (not_both (sym h ∙ phases_end (suc more) clients before m text end))
 phases_case_wrong more clients before m text e false end names distinct body h later =
-    elim (bind_err (phase_of clients before (at m text)) (λ p. phases_of more clients (before ++ p.0 ∷ []) p.1) e (sym (phases_step (suc more) more clients before m text (omega arith) end) ∙ h)) [
-      | inl bad ↦ phases_step_wrong more clients before m text e body (phase_wrong clients before m text e names bad)
+    let played = frames_played before in
+    elim (bind_err (phase_of clients played (at m text)) (λ p. phases_of more clients (before ++ p.0 ∷ []) p.1) e (sym (phases_step (suc more) more clients before m text (omega arith) end) ∙ h)) [
+      | inl bad ↦ phases_step_wrong more clients before m text e body (phase_wrong clients m played text e body.frames names bad)
       | inr good ↦
-          let f = phase_found clients before m text good.0 good.1 in
-          phases_next_wrong more clients before m text e good.0 names distinct good.1 f (later (before ++ good.0.0 ∷ []) good.0.1.number good.0.1.text (f.found.body body) good.2)
+          let f = phase_found clients m played text good.0.0 good.0.1 body.frames good.1 in
+          phases_next_wrong more clients before m text e good.0.0 good.0.1 names distinct f (later (before ++ good.0.0 ∷ []) good.0.1.number good.0.1.text (body_push clients before good.0.0 body f.kept) good.2)
     ]
 
-pub phases_wrong : (more : ℕ) (clients : List ClientLine) (before : List Phase) (m : ℕ) (text : List ℕ) (e : ScriptError) → All (λ (client : ClientLine). is_name client.name ≡ true) clients → AllPairs (λ (a : ClientLine) (b : ClientLine). a.name ≢ b.name) clients → IsBody clients before → phases_of more clients before (at m text) ≡ Err e → Wrong (phases_of more clients before) m text e (CanPhases more clients before)
+pub phases_wrong : (more : ℕ) (clients : List ClientLine) (before : List (List Line)) (m : ℕ) (text : List ℕ) (e : ScriptError) → All (λ (client : ClientLine). is_name client.name ≡ true) clients → AllPairs (λ (a : ClientLine) (b : ClientLine). a.name ≢ b.name) clients → IsBody clients before → phases_of more clients before (at m text) ≡ Err e → Wrong (phases_of more clients before) m text e (CanPhases more clients m before)
 phases_wrong zero clients before m text e names distinct body h = none_wrong clients before m text e (is_end text) refl body h
 phases_wrong (suc more) clients before m text e names distinct body h = phases_case_wrong more clients before m text e (is_end text) refl names distinct body h (λ ps n t b k. phases_wrong more clients ps n t e names distinct b k)

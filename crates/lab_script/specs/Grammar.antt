@@ -1,12 +1,15 @@
 -- Each kind of line of a script: what a line of words says, where it is of that kind.
-use Rattle.std.specs.Prelude.{ℕ, zero, suc, ◌++◌, ◌+◌, ◌/◌, ◌%◌, Bool, false, ◌&&◌, not, List, [], ◌∷◌, codes, bytes_eq, Option, Some, None, ◌==◌, nat_le, if◌then◌else◌}
+use Rattle.std.specs.Prelude.{ℕ, zero, suc, ◌++◌, ◌+◌, ◌/◌, ◌%◌, Bool, true, false, ◌&&◌, not, List, [], ◌∷◌, codes, bytes_eq, Option, Some, None, option_map, Result, Ok, Err, ◌==◌, nat_le, if◌then◌else◌}
 use Rattle.std.specs.List.{position, list_any}
+use Rattle.lab_script.specs.declared.line.Actor.{Actor}
+use Rattle.lab_script.specs.declared.line.Actor.TheVariants.{Card, Client}
+use Rattle.lab_script.specs.declared.line.Line.{Line}
+use Rattle.lab_script.specs.declared.line.Op.{Op}
+use Rattle.lab_script.specs.declared.line.Op.TheVariants as op
 use Rattle.lab_script.specs.declared.script.CardLine.{CardLine}
 use Rattle.lab_script.specs.declared.script.ClientLine.{ClientLine}
-use Rattle.lab_script.specs.declared.script.Phase.{Phase}
-use Rattle.lab_script.specs.declared.script.Phase.TheVariants.{Play, Write}
-use Rattle.lab_script.specs.Script.{frames_played}
-use Rattle.lab_script.specs.Word.{cut_line, words_of, number_of, is_name, is_file}
+use Rattle.bindings.specs.Answers.{answer_of}
+use Rattle.lab_script.specs.Word.{cut_line, words_of, parts_of, number_of, is_name, is_file}
 
 -- what follows from a value where there is one
 infixl 10 ◌>>=◌
@@ -23,11 +26,6 @@ one_of words = None
 abbrev pub two_of : List (List ℕ) → Option (List ℕ × List ℕ)
 two_of (first ∷ second ∷ []) = Some (first, second)
 two_of words = None
-
--- the words of a line of three words
-abbrev pub three_of : List (List ℕ) → Option (List ℕ × List ℕ × List ℕ)
-three_of (first ∷ second ∷ third ∷ []) = Some (first, second, third)
-three_of words = None
 
 -- the first word and the words behind it, of which there is one at least
 abbrev pub first_of : List (List ℕ) → Option (List ℕ × List (List ℕ))
@@ -85,17 +83,62 @@ is_named name client = bytes_eq client.name name
 abbrev pub is_client : List ClientLine → List ℕ → List ℕ → Bool
 is_client before name file = is_name name && is_file file && not (list_any (is_named name) before)
 
--- `client NAME FILE`, with a name that no earlier client has
-unfoldable pub client_of : List ClientLine → List (List ℕ) → Option ClientLine
-client_of before words = do
-  three ← three_of words
-  passed (bytes_eq three.0 (codes "client") && is_client before three.1 three.2) (record { name = three.1; file = three.2 })
+-- the number of a part of a list, at most 4294967295
+unfoldable pub channel_of : List ℕ → Option ℕ
+channel_of part = do
+  n ← number_of part
+  passed (nat_le n 4294967295) n
+
+-- the numbers of some parts of a list, of which at most so many more may come, behind those that are read
+unfoldable pub channels_from : ℕ → List ℕ → List (List ℕ) → Option (List ℕ)
+channels_from more before [] = Some before
+channels_from zero before (part ∷ parts) = None
+channels_from (suc more) before (part ∷ parts) = do
+  n ← channel_of part
+  channels_from more (before ++ n ∷ []) parts
+
+-- a result, where it is Ok
+abbrev pub accepted : {A E : Type 0} → Result A E → Option A
+accepted (Ok x) = Some x
+accepted (Err e) = None
+
+-- the bindings that a list joined by commas gives on a card of so many channels, where `Bindings::read` accepts it
+unfoldable pub bindings_of : ℕ → List ℕ → Option (List ℕ)
+bindings_of channels word = do
+  list ← channels_from 8 [] (parts_of word)
+  accepted (answer_of list channels)
+
+-- the bindings of a word, where there is one
+abbrev pub given_of : ℕ → Option (List ℕ) → Option (Option (List ℕ))
+given_of channels None = Some None
+given_of channels (Some word) = option_map Some (bindings_of channels word)
+
+-- the words `FILE` or `FILE bindings LIST`
+abbrev pub file_of : List (List ℕ) → Option (List ℕ × Option (List ℕ))
+file_of (file ∷ []) = Some (file, None)
+file_of (file ∷ key ∷ list ∷ []) = passed (bytes_eq key (codes "bindings")) (file, Some list)
+file_of words = None
+
+-- the name, the file and the bindings of a client's line, on a card of so many channels
+unfoldable pub parts_of_client : ℕ → List (List ℕ) → Option (List ℕ × List ℕ × Option (List ℕ))
+parts_of_client channels words = do
+  names ← behind (codes "client") words
+  name ← first_of names
+  file ← file_of name.1
+  bindings ← given_of channels file.1
+  Some (name.0, file.0, bindings)
+
+-- `client NAME FILE`, perhaps with bindings, with a name that no earlier client has
+unfoldable pub client_of : ℕ → List ClientLine → List (List ℕ) → Option ClientLine
+client_of channels before words = do
+  parts ← parts_of_client channels words
+  passed (is_client before parts.0 parts.1) (record { name = parts.0; file = parts.1; bindings = parts.2 })
 
 -- the client of the first line of a text, and the text behind that line
-unfoldable pub client_line : List ClientLine → List ℕ → Option (ClientLine × List ℕ)
-client_line before text = do
+unfoldable pub client_line : ℕ → List ClientLine → List ℕ → Option (ClientLine × List ℕ)
+client_line channels before text = do
   cut ← cut_line text
-  client ← client_of before (words_of cut.0)
+  client ← client_of channels before (words_of cut.0)
   Some (client, cut.1)
 
 -- what follows from a value where there is one, and otherwise another value
@@ -104,9 +147,9 @@ where_some (Some x) f other = f x
 where_some None f other = other
 
 -- the clients at the front of a text, of which at most so many more may come, and the text behind them
-unfoldable pub clients_of : ℕ → List ClientLine → List ℕ → List ClientLine × List ℕ
-clients_of zero before text = (before, text)
-clients_of (suc more) before text = where_some (client_line before text) (λ client. clients_of more (before ++ client.0 ∷ []) client.1) (before, text)
+unfoldable pub clients_of : ℕ → ℕ → List ClientLine → List ℕ → List ClientLine × List ℕ
+clients_of zero channels before text = (before, text)
+clients_of (suc more) channels before text = where_some (client_line channels before text) (λ client. clients_of more channels (before ++ client.0 ∷ []) client.1) (before, text)
 
 -- `open NAME`, for a given name
 unfoldable pub open_of : List ℕ → List (List ℕ) → Option (Unit {0})
@@ -120,33 +163,75 @@ alone word words = do
   one ← one_of words
   passed (bytes_eq one word) tt
 
--- a phase is a write of this client
-abbrev pub is_write_of : ℕ → Phase → Bool
-is_write_of client (Play frames) = false
-is_write_of client (Write other frames) = other == client
-
--- the card plays so many frames, at most 4194304 together with the phases before
-abbrev pub play_of : List Phase → ℕ → Option Phase
-play_of before frames = passed (nat_le (frames_played before + frames) 4194304) (Play frames)
-
--- a client that hasn't written before offers so many frames, at most 4194304
-abbrev pub write_of : List Phase → ℕ → ℕ → Option Phase
-write_of before client frames = passed (nat_le frames 4194304 && not (list_any (is_write_of client) before)) (Write client frames)
-
 -- the number of the client of this name, counted from 0
 abbrev pub client_at : List ClientLine → List ℕ → Option ℕ
 client_at clients name = position (is_named name) clients
 
--- `NAME write n` of a client
-unfoldable pub write_line : List ClientLine → List Phase → List ℕ → List ℕ → ℕ → Option Phase
-write_line clients before actor action frames = do
-  client ← client_at clients actor
-  write ← passed (bytes_eq action (codes "write")) client
-  write_of before write frames
+-- the actor of this name: the card, or a client
+abbrev pub actor_of : List ClientLine → List ℕ → Option Actor
+actor_of clients name = if bytes_eq name (codes "card") then Some Card else option_map Client (client_at clients name)
 
--- `card play n`, or `NAME write n` of a client
-unfoldable pub action_of : List ClientLine → List Phase → List (List ℕ) → Option Phase
-action_of clients before words = do
-  three ← three_of words
-  frames ← number_of three.2
-  if bytes_eq three.0 (codes "card") && bytes_eq three.1 (codes "play") then play_of before frames else write_line clients before three.0 three.1 frames
+-- the call of a client that is asked for by one word
+abbrev pub call_of : List ℕ → Option Op
+call_of word =
+    if bytes_eq word (codes "start") then Some op.Start else
+    if bytes_eq word (codes "sync") then Some op.Sync else
+    if bytes_eq word (codes "avail") then Some op.Avail else
+    if bytes_eq word (codes "delay") then Some op.Delay else
+    if bytes_eq word (codes "drain") then Some op.Drain else
+    if bytes_eq word (codes "drop") then Some op.Drop else
+    if bytes_eq word (codes "prepare") then Some op.Prepare else
+    if bytes_eq word (codes "pause") then Some op.Pause else None
+
+-- `play n`: the card plays n frames, at most 4194304 together with those that it played before
+unfoldable pub play_of : ℕ → List (List ℕ) → Option Op
+play_of played words = do
+  frames ← last_keyed (codes "play") words
+  passed (nat_le (played + frames) 4194304) (op.Play frames)
+
+-- `write n`: a client offers n frames, at most 4194304
+unfoldable pub write_of : List (List ℕ) → Option Op
+write_of words = do
+  frames ← last_keyed (codes "write") words
+  passed (nat_le frames 4194304) (op.Write frames)
+
+-- a call of a client that is one word
+unfoldable pub one_call_of : List (List ℕ) → Option Op
+one_call_of words = do
+  word ← one_of words
+  call_of word
+
+-- a value, or another one where there is none
+abbrev pub or_else : {A : Type 0} → Option A → Option A → Option A
+or_else (Some x) other = Some x
+or_else None other = other
+
+-- what an actor is asked for by the words behind its name, where the card played so many frames before
+abbrev pub op_of : ℕ → Actor → List (List ℕ) → Option Op
+op_of played Card words = play_of played words
+op_of played (Client number) words = or_else (write_of words) (one_call_of words)
+
+-- two actors are the same
+abbrev pub is_same : Actor → Actor → Bool
+is_same Card Card = true
+is_same (Client a) (Client b) = a == b
+is_same Card (Client b) = false
+is_same (Client a) Card = false
+
+-- an actor can have a line behind these lines of a phase: it is the actor of the first of them, if there is one
+abbrev pub can_act : List Line → Actor → Bool
+can_act [] actor = true
+can_act (first ∷ lines) actor = is_same first.actor actor
+
+-- the line of this number behind some lines of a phase, where the card played so many frames before
+unfoldable pub line_of : List ClientLine → ℕ → List Line → ℕ → List (List ℕ) → Option Line
+line_of clients played before number words = do
+  first ← first_of words
+  actor ← actor_of clients first.0
+  one ← passed (can_act before actor) actor
+  op ← op_of played one first.1
+  Some (record { number = number; actor = one; op = op })
+
+-- the end of a phase, or one more line of it
+unfoldable pub more_of : List ClientLine → ℕ → List Line → ℕ → List (List ℕ) → Option (Option Line)
+more_of clients played before number words = where_some (alone (codes "end") words) (λ u. Some None) (option_map Some (line_of clients played before number words))

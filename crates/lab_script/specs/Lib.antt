@@ -4,5 +4,4 @@ pub mod Grammar
 pub mod Reading
 pub mod Spelling
 pub mod First
-pub mod Written
 pub mod Lexing

@@ -3,11 +3,12 @@ use Rattle.std.specs.Prelude.{◌≡◌, ℕ, zero, suc, ◌+◌, List, [], ◌�
 use Rattle.lab_script.specs.declared.error.ScriptError.{ScriptError}
 use Rattle.lab_script.specs.declared.error.ScriptWhy.{ScriptWhy}
 use Rattle.lab_script.specs.declared.error.ScriptWhy.TheVariants as why
+use Rattle.lab_script.specs.declared.line.Line.{Line}
 use Rattle.lab_script.specs.declared.script.ClientLine.{ClientLine}
-use Rattle.lab_script.specs.declared.script.Phase.{Phase}
 use Rattle.lab_script.specs.declared.script.Script.{Script}
+use Rattle.lab_script.specs.Script.{played_by, frames_played}
 use Rattle.lab_script.specs.Word.{cut_line, words_of}
-use Rattle.lab_script.specs.Grammar.{card_of, clients_of, open_of, alone, action_of}
+use Rattle.lab_script.specs.Grammar.{card_of, clients_of, open_of, alone, where_some, more_of}
 
 -- what is left of a text, and the number of its first line
 pub record Rest : Type 0 where
@@ -56,13 +57,23 @@ opens_of (client ∷ clients) rest = do
   opened ← line_by (open_of client.name) rest
   opens_of clients opened.1
 
--- a phase of three lines, and what is left behind it
-unfoldable pub phase_of : List ClientLine → List Phase → Rest → Result (Phase × Rest) ScriptError
-phase_of clients before rest = do
+-- at most so many more lines of a phase up to its end, behind those that are read, and what is left behind them; the
+-- card played so many frames before
+unfoldable pub lines_from : ℕ → List ClientLine → ℕ → List Line → Rest → Result (List Line × Rest) ScriptError
+lines_from zero clients played before rest = Err (refused rest.number)
+lines_from (suc more) clients played before rest = do
+  said ← line_by (more_of clients played before rest.number) rest
+  where_some said.0 (λ line. lines_from more clients (played + played_by line.op) (before ++ line ∷ []) said.1) (Ok (before, said.1))
+
+-- the lines of a phase up to its end; a text has no more lines than bytes
+unfoldable pub lines_of : List ClientLine → ℕ → List Line → Rest → Result (List Line × Rest) ScriptError
+lines_of clients played before rest = lines_from (length rest.text) clients played before rest
+
+-- a phase, and what is left behind it; the card played so many frames before
+unfoldable pub phase_of : List ClientLine → ℕ → Rest → Result (List Line × Rest) ScriptError
+phase_of clients played rest = do
   opened ← line_by (alone (codes "phase")) rest
-  action ← line_by (action_of clients before) opened.1
-  ended ← line_by (alone (codes "end")) action.1
-  Ok (action.0, ended.1)
+  lines_of clients played [] opened.1
 
 -- nothing is left of a text
 abbrev pub is_end : List ℕ → Bool
@@ -70,17 +81,17 @@ is_end [] = true
 is_end (b ∷ text) = false
 
 -- phases up to the end of the text, at most so many more
-unfoldable pub phases_of : ℕ → List ClientLine → List Phase → Rest → Result (List Phase) ScriptError
+unfoldable pub phases_of : ℕ → List ClientLine → List (List Line) → Rest → Result (List (List Line)) ScriptError
 phases_of zero clients before rest = if is_end rest.text then Ok before else Err (refused rest.number)
 phases_of (suc more) clients before rest = if is_end rest.text then Ok before else (do
-  phase ← phase_of clients before rest
+  phase ← phase_of clients (frames_played before) rest
   phases_of more clients (before ++ phase.0 ∷ []) phase.1)
 
 -- the script of a text of any length
 unfoldable pub whole : List ℕ → Result Script ScriptError
 whole text = do
   card ← line_by card_of (at 1 text)
-  let clients = clients_of 64 [] card.1.text
+  let clients = clients_of 64 card.0.channels [] card.1.text
   opened ← opens_of clients.0 (at (card.1.number + length clients.0) clients.1)
   phases ← phases_of 4096 clients.0 [] opened
   Ok (record { card = card.0; clients = clients.0; phases = phases })

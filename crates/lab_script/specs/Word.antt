@@ -21,6 +21,14 @@ cut_line text = option_map (λ i. (take i text, drop (i + 1) text)) (position is
 abbrev pub words_of : List ℕ → List (List ℕ)
 words_of line = slice_split is_space line
 
+-- a comma
+abbrev pub is_comma : ℕ → Bool
+is_comma b = b == 44
+
+-- the parts of a word: what stands between its commas
+abbrev pub parts_of : List ℕ → List (List ℕ)
+parts_of word = slice_split is_comma word
+
 -- the number that a word means: it has 1 to 19 decimal digits
 abbrev pub number_of : List ℕ → Option ℕ
 number_of word = if nat_le 1 (length word) && nat_le (length word) 19 && all_ascii_digits word then Some (digits_value 10 word) else None

@@ -1,16 +1,18 @@
 //! Each kind of line of a script.
-ghost use Rattle.std.specs.Prelude.{◌≡◌, option_map, IfOk, string_bytes, IsAscii};
+ghost use Rattle.std.specs.Prelude.{◌≡◌, ◌<◌, ◌≤◌, length, option_map, IfOk, IfSome, string_bytes, IsAscii};
 ghost use Rattle.std.specs.List.{list_any, position};
 ghost use Rattle.lab_script.specs.Word.{words_of, cut_line};
-ghost use Rattle.lab_script.specs.Grammar.{one_of, two_of, three_of, behind, keyed, last_keyed, is_card, card_with, card_of, is_named, is_client, client_of, client_line, open_of, alone, client_at};
+ghost use Rattle.lab_script.specs.Grammar.{one_of, two_of, behind, keyed, last_keyed, is_card, card_with, card_of, is_named, is_client, file_of, given_of, parts_of_client, client_of, client_line, open_of, alone, client_at};
 
+use crate::lists::read_bindings;
 use crate::name::{FileName, Name};
 use crate::script::{CardLine, ClientLine};
 use crate::word::{cut_line, is_file, is_name, read_number, split_word};
+use bindings::Bindings;
 use std::alloc::{AllocError, Global};
 
 /// The word of a line of one word.
-fn one_word(line: &[u8]) -> Option<&[u8]>
+pub fn one_word(line: &[u8]) -> Option<&[u8]>
     ensures { option_map (λ w. w.now) result ≡ one_of (words_of line.now) }
 {
     match split_word(line) {
@@ -26,15 +28,6 @@ fn two_words(line: &[u8]) -> Option<(&[u8], &[u8])>
     let (first, rest) = split_word(line)?;
     let second = one_word(rest)?;
     Some((first, second))
-}
-
-/// The words of a line of three words.
-pub fn three_words(line: &[u8]) -> Option<(&[u8], &[u8], &[u8])>
-    ensures { option_map (λ w. (w.0.now, w.1.now, w.2.now)) result ≡ three_of (words_of line.now) }
-{
-    let (first, rest) = split_word(line)?;
-    let (second, third) = two_words(rest)?;
-    Some((first, second, third))
 }
 
 /// What stands behind a given first word.
@@ -59,7 +52,7 @@ fn keyed<'a>(key: &[u8], line: &'a [u8]) -> Option<(u64, &'a [u8])>
 
 /// The number behind its key, where a line has no further word.
 #[tactic(auto, unfolding(crate::specs::Grammar::last_keyed))]
-fn last_keyed(key: &[u8], line: &[u8]) -> Option<u64>
+pub fn last_keyed(key: &[u8], line: &[u8]) -> Option<u64>
     ensures { result ≡ last_keyed key.now (words_of line.now) }
 {
     let (first, number) = two_words(line)?;
@@ -87,7 +80,8 @@ fn is_card(channels: u64, rate: u64, period: u64, ring: u64) -> bool
 
 /// The card of these numbers.
 fn card_with(channels: u64, rate: u64, period: u64, ring: u64) -> Option<CardLine>
-    ensures { result ≡ card_with channels rate period ring }
+    ensures value { result ≡ card_with channels rate period ring }
+    ensures few { IfSome result (λ card. card.channels ≤ 8) }
 {
     if !is_card(channels, rate, period, ring) {
         return None;
@@ -103,7 +97,8 @@ fn card_with(channels: u64, rate: u64, period: u64, ring: u64) -> Option<CardLin
 /// The card's line, `card channels C rate R period P ring N`.
 #[tactic(auto, unfolding(crate::specs::Grammar::card_of))]
 pub fn read_card(line: &[u8]) -> Option<CardLine>
-    ensures { result ≡ card_of (words_of line.now) }
+    ensures value { result ≡ card_of (words_of line.now) }
+    ensures few { IfSome result (λ card. card.channels ≤ 8) }
 {
     let rest = behind(b"card", line)?;
     let (channels, rest) = keyed(b"channels", rest)?;
@@ -150,40 +145,94 @@ fn text_of(alloc: Global, bytes: &[u8]) -> Result<String, AllocError>
     String::from_str(alloc, text)
 }
 
-/// The client of a line `client NAME FILE`, with a name that no earlier client has.
+/// The words `FILE` or `FILE bindings LIST`.
+fn file_words(words: &[u8]) -> Option<(&[u8], Option<&[u8]>)>
+    ensures { option_map (λ w. (w.0.now, option_map (λ l. l.now) w.1)) result
+        ≡ file_of (words_of words.now) }
+{
+    let Some((file, rest)) = split_word(words) else {
+        return Some((words, None));
+    };
+    let (key, list) = two_words(rest)?;
+    if key == b"bindings".as_slice() {
+        Some((file, Some(list)))
+    } else {
+        None
+    }
+}
+
+/// The bindings of a list, where there is one.
+fn given(channels: u8, list: Option<&[u8]>) -> Option<Option<Bindings>>
+    requires { channels ≤ 8 }
+    ensures { result ≡ given_of channels (option_map (λ l. l.now) list.entry) }
+{
+    match list {
+        None => Some(None),
+        Some(word) => {
+            let bindings = read_bindings(channels, word)?;
+            Some(Some(bindings))
+        }
+    }
+}
+
+/// The name, the file and the bindings of a client's line.
+#[tactic(auto, unfolding(crate::specs::Grammar::parts_of_client))]
+fn client_parts(channels: u8, line: &[u8]) -> Option<(&[u8], &[u8], Option<Bindings>)>
+    requires { channels ≤ 8 }
+    ensures { option_map (λ p. (p.0.now, p.1.now, p.2)) result
+        ≡ parts_of_client channels (words_of line.now) }
+{
+    let words = behind(b"client", line)?;
+    let (name, words) = split_word(words)?;
+    let (file, list) = file_words(words)?;
+    let bindings = given(channels, list)?;
+    Some((name, file, bindings))
+}
+
+/// The client of a line `client NAME FILE` or `client NAME FILE bindings LIST`, on a card of so many
+/// channels, with a name that no earlier client has.
 #[tactic(auto, unfolding(crate::specs::Grammar::client_of))]
 fn read_client(
     alloc: Global,
+    channels: u8,
     before: &[ClientLine],
     line: &[u8],
 ) -> Result<Option<ClientLine>, AllocError>
-    ensures { IfOk result (λ o. o ≡ client_of before.now (words_of line.now)) }
+    requires { channels ≤ 8 }
+    ensures { IfOk result (λ o. o ≡ client_of channels before.now (words_of line.now)) }
 {
-    let Some((first, name, file)) = three_words(line) else {
+    let Some((name, file, bindings)) = client_parts(channels, line) else {
         return Ok(None);
     };
-    if first != b"client".as_slice() || !is_client(before, name, file) {
+    if !is_client(before, name, file) {
         return Ok(None);
     }
     let name = Name::from_text(text_of(alloc, name)?);
     let file = FileName::from_text(text_of(alloc, file)?);
-    Ok(Some(ClientLine { name, file }))
+    Ok(Some(ClientLine {
+        name,
+        file,
+        bindings,
+    }))
 }
 
 /// The client of the first line of a text, and what stands behind that line.
 #[tactic(auto, unfolding(crate::specs::Grammar::client_line))]
 pub fn client_line<'a>(
     alloc: Global,
+    channels: u8,
     before: &[ClientLine],
     text: &'a [u8],
 ) -> Result<Option<(ClientLine, &'a [u8])>, AllocError>
-    ensures { IfOk result
-        (λ o. option_map (λ c. (c.0, c.1.now)) o ≡ client_line before.now text.now) }
+    requires { channels ≤ 8 }
+    ensures value { IfOk result
+        (λ o. option_map (λ c. (c.0, c.1.now)) o ≡ client_line channels before.now text.now) }
+    ensures shorter { IfOk result (λ o. IfSome o (λ c. length c.1.now < length text.now)) }
 {
     let Some((line, rest)) = cut_line(text) else {
         return Ok(None);
     };
-    match read_client(alloc, before, line)? {
+    match read_client(alloc, channels, before, line)? {
         Some(client) => Ok(Some((client, rest))),
         None => Ok(None),
     }

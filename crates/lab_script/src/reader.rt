@@ -5,51 +5,22 @@ ghost use Rattle.lab_script.specs.declared.error.ScriptWhy.TheVariants as why;
 ghost use Rattle.lab_script.specs.Script.{IsScript};
 ghost use Rattle.lab_script.specs.Spelling.{Spells};
 ghost use Rattle.lab_script.specs.First.{IsFirstWrong};
-ghost use Rattle.lab_script.specs.Grammar.{card_of, clients_of, open_of, alone, action_of};
-ghost use Rattle.lab_script.specs.Written.{Fits, IsDone};
-ghost use Rattle.lab_script.specs.Reading.{at, is_end, refused, known, line_of, line_by, opens_of, phase_of, phases_of, whole, script_of, too_long, Gives, Reads};
+ghost use Rattle.lab_script.specs.Grammar.{card_of, clients_of, open_of};
+ghost use Rattle.lab_script.specs.Reading.{at, refused, line_by, opens_of, whole, script_of, too_long, Gives, Reads};
 
 use crate::error::{ScriptError, ScriptWhy};
-use crate::grammar::{client_line, read_alone, read_card, read_open};
-use crate::phases::Done;
-use crate::script::{CardLine, ClientLine, Clients, Phase, Phases, Script};
-use crate::word::cut_line;
+use crate::front::{known, whole_line};
+use crate::grammar::{client_line, read_card, read_open};
+use crate::phases::read_phases;
+use crate::script::{CardLine, ClientLine, Clients, Phases, Script};
 use std::alloc::{AllocError, Global};
-
-/// The refusal of the line of this number.
-fn refused(number: u32) -> ScriptError
-    ensures { result ≡ refused number }
-{
-    ScriptError {
-        line: number,
-        why: ScriptWhy::NotYet,
-    }
-}
-
-/// What the line of this number says, where it says something.
-fn known<X: Drop>(number: u32, found: Option<X>) -> Result<X, ScriptError>
-    ensures { result ≡ known number found }
-{
-    match found {
-        Some(x) => Ok(x),
-        None => Err(refused(number)),
-    }
-}
-
-/// The first line of a text, whose number is given, and what stands behind it.
-fn whole_line(number: u32, text: &[u8]) -> Result<(&[u8], &[u8]), ScriptError>
-    ensures { Gives (λ l. (l.0.now, at (number + 1) l.1.now)) result (line_of (at number text.now)) }
-{
-    match cut_line(text) {
-        Some(cut) => Ok(cut),
-        None => Err(refused(number)),
-    }
-}
 
 /// The card's line, and what stands behind it.
 #[tactic(auto, unfolding(crate::specs::Reading::line_by))]
 fn card_line(text: &[u8]) -> Result<(CardLine, &[u8]), ScriptError>
-    ensures { Gives (λ l. (l.0, at 2 l.1.now)) result (line_by card_of (at 1 text.now)) }
+    ensures value { Gives (λ l. (l.0, at 2 l.1.now)) result (line_by card_of (at 1 text.now)) }
+    ensures few { IfOk result (λ l. l.0.channels ≤ 8) }
+    ensures shorter { IfOk result (λ l. length l.1.now < length text.now) }
 {
     let (line, rest) = whole_line(1, text)?;
     let card = known(1, read_card(line))?;
@@ -59,74 +30,30 @@ fn card_line(text: &[u8]) -> Result<(CardLine, &[u8]), ScriptError>
 /// The line that opens a client, and what stands behind it.
 #[tactic(auto, unfolding(crate::specs::Reading::line_by))]
 fn open_line<'a>(number: u32, client: &ClientLine, text: &'a [u8]) -> Result<&'a [u8], ScriptError>
-    ensures { Gives (λ r. (tt, at (number + 1) r.now)) result
+    ensures value { Gives (λ r. (tt, at (number + 1) r.now)) result
         (line_by (open_of client.now.name) (at number text.now)) }
+    ensures shorter { IfOk result (λ r. length r.now < length text.now) }
 {
     let (line, rest) = whole_line(number, text)?;
     known(number, read_open(client.name.as_str().as_bytes(), line))?;
     Ok(rest)
 }
 
-/// A line of one given word, and what stands behind it.
-#[tactic(auto, unfolding(crate::specs::Reading::line_by))]
-fn alone_line<'a>(number: u32, word: &[u8], text: &'a [u8]) -> Result<&'a [u8], ScriptError>
-    ensures { Gives (λ r. (tt, at (number + 1) r.now)) result
-        (line_by (alone word.now) (at number text.now)) }
-{
-    let (line, rest) = whole_line(number, text)?;
-    known(number, read_alone(word, line))?;
-    Ok(rest)
-}
-
-/// The line of what is done in a phase, and what stands behind it.
-#[tactic(auto, unfolding(crate::specs::Reading::line_by))]
-fn action_line<'a>(
-    number: u32,
-    clients: &[ClientLine],
-    done: &Done,
-    text: &'a [u8],
-) -> Result<(Phase, &'a [u8]), ScriptError>
-    requires done { IsDone done.now }
-    requires few { length clients.now ≤ 64 }
-    ensures value { Gives (λ l. (l.0, at (number + 1) l.1.now)) result
-        (line_by (action_of clients.now done.now.phases.items) (at number text.now)) }
-    ensures fits { IfOk result (λ l. Fits done.now.phases.items l.0) }
-{
-    let (line, rest) = whole_line(number, text)?;
-    let action = known(number, done.action(clients, line))?;
-    Ok((action, rest))
-}
-
-/// A phase of three lines, of which the first has this number, and what stands behind it.
-#[tactic(auto, unfolding(crate::specs::Reading::phase_of))]
-fn phase<'a>(
-    number: u32,
-    clients: &[ClientLine],
-    done: &Done,
-    text: &'a [u8],
-) -> Result<(Phase, &'a [u8]), ScriptError>
-    requires done { IsDone done.now }
-    requires few { length clients.now ≤ 64 }
-    requires small { number < 1000000 }
-    ensures value { Gives (λ l. (l.0, at (number + 3) l.1.now)) result
-        (phase_of clients.now done.now.phases.items (at number text.now)) }
-    ensures fits { IfOk result (λ l. Fits done.now.phases.items l.0) }
-{
-    let rest = alone_line(number, b"phase", text)?;
-    let (action, rest) = action_line(number + 1, clients, done, rest)?;
-    let rest = alone_line(number + 2, b"end", rest)?;
-    Ok((action, rest))
-}
-
-/// The clients at the front of a text, and what stands behind them.
-fn read_clients(alloc: Global, text: &[u8]) -> Result<(Vec<ClientLine>, &[u8]), AllocError>
+/// The clients at the front of a text, on a card of so many channels, and what stands behind them.
+fn read_clients(
+    alloc: Global,
+    channels: u8,
+    text: &[u8],
+) -> Result<(Vec<ClientLine>, &[u8]), AllocError>
+    requires { channels ≤ 8 }
     ensures few { IfOk result (λ c. length c.0.items ≤ 64) }
-    ensures value { IfOk result (λ c. clients_of 64 [] text.now ≡ (c.0.items, c.1.now)) }
+    ensures value { IfOk result (λ c. clients_of 64 channels [] text.now ≡ (c.0.items, c.1.now)) }
+    ensures shorter { IfOk result (λ c. length c.1.now ≤ length text.now) }
 {
     let mut clients = Vec::new(alloc);
     let mut rest = text;
     for _ in 0..64u32 {
-        match client_line(alloc, clients.as_slice(), rest)? {
+        match client_line(alloc, channels, clients.as_slice(), rest)? {
             Some((client, behind)) => {
                 clients.push(client)?;
                 rest = behind;
@@ -145,8 +72,9 @@ fn read_opens<'a>(
 ) -> Result<&'a [u8], ScriptError>
     requires few { length clients.now ≤ 64 }
     requires small { number ≤ 66 }
-    ensures { Gives (λ r. at (number + length clients.now) r.now) result
+    ensures value { Gives (λ r. at (number + length clients.now) r.now) result
         (opens_of clients.now (at number text.now)) }
+    ensures shorter { IfOk result (λ r. length r.now ≤ length text.now) }
 {
     let mut rest = text;
     let mut line = number;
@@ -157,53 +85,14 @@ fn read_opens<'a>(
     Ok(rest)
 }
 
-/// Whether nothing is left of a text.
-fn at_end(text: &[u8]) -> bool
-    ensures { result ≡ is_end text.now }
-{
-    match text {
-        [] => true,
-        [_, ..] => false,
-    }
-}
-
-/// The phases up to the end of a text, whose first line has this number.
-fn read_phases(
-    alloc: Global,
-    number: u32,
-    clients: &[ClientLine],
-    text: &[u8],
-) -> Result<Vec<Phase>, ScriptError>
-    requires few { length clients.now ≤ 64 }
-    requires small { number ≤ 130 }
-    ensures { Gives (λ v. v.items) result (phases_of 4096 clients.now [] (at number text.now)) }
-{
-    let mut done = Done::new(alloc)?;
-    let mut rest = text;
-    let mut line = number;
-    for _ in 0..4096u32 {
-        if at_end(rest) {
-            return Ok(done.into_phases());
-        }
-        let (next, behind) = phase(line, clients, &done, rest)?;
-        done.push(next)?;
-        rest = behind;
-        line += 3;
-    }
-    if at_end(rest) {
-        Ok(done.into_phases())
-    } else {
-        Err(refused(line))
-    }
-}
-
-/// The script of a text of any length that is in memory.
+/// The script of a text that isn't too long.
 #[tactic(auto, unfolding(crate::specs::Reading::whole))]
 fn read_whole(alloc: Global, text: &[u8]) -> Result<Script, ScriptError>
+    requires { length text.now ≤ 1048576 }
     ensures { Reads result (whole text.now) }
 {
     let (card, rest) = card_line(text)?;
-    let (clients, rest) = read_clients(alloc, rest)?;
+    let (clients, rest) = read_clients(alloc, card.channels, rest)?;
     let opens = 2 + clients.len() as u32;
     let rest = read_opens(opens, clients.as_slice(), rest)?;
     let first = opens + clients.len() as u32;
@@ -237,13 +126,16 @@ fn read_any(alloc: Global, text: &[u8]) -> Result<Script, ScriptError>
 ///
 /// - `card channels C rate R period P ring N`: C from 1 to 8, R from 4000 to 192000 Hz, N from 64 to
 ///   16384 frames, and P from 16 frames to half of N, dividing N;
-/// - up to 64 of `client NAME FILE`, with names that differ. A name is 1 to 32 bytes, a lower-case
-///   letter and then lower-case letters, digits or `_`, and none of `card`, `client`, `reader`,
-///   `open`, `close`, `phase` and `end`. A file is 1 to 255 bytes from 33 to 126 without `#`;
+/// - up to 64 of `client NAME FILE` or `client NAME FILE bindings LIST`, with names that differ. A
+///   name is 1 to 32 bytes, a lower-case letter and then lower-case letters, digits or `_`, and none
+///   of `card`, `client`, `reader`, `open`, `close`, `phase` and `end`. A file is 1 to 255 bytes from
+///   33 to 126 without `#`. LIST is the numbers of 1 to 8 channels of the card, each below C and no
+///   two the same, joined by commas;
 /// - `open NAME` for each client, in the same order;
-/// - up to 4096 phases of three lines: `phase`, then `card play N` or `NAME write N`, then `end`.
-///   N is 0 to 4194304 frames. A client writes at most once, and the card plays at most 4194304
-///   frames in all.
+/// - up to 4096 phases: `phase`, then any number of lines of one actor, then `end`. The actor is the
+///   card, whose lines are `card play N`, or a client, whose lines are `NAME write N`, `NAME start`,
+///   `NAME sync`, `NAME avail`, `NAME delay`, `NAME drain`, `NAME drop`, `NAME prepare` and
+///   `NAME pause`. N is 0 to 4194304 frames, and the card plays at most 4194304 frames in all.
 ///
 /// # Errors
 ///

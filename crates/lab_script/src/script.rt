@@ -1,6 +1,8 @@
 ghost use Rattle.std.specs.Prelude.{◌≡◌, length};
 
+use crate::line::Line;
 use crate::name::{FileName, Name};
+use bindings::Bindings;
 use std::marker::Model;
 
 /// The card: how many channels it has, its rate in Hz, and its period and ring in frames. The ring
@@ -13,20 +15,58 @@ pub struct CardLine {
     pub ring: u32,
 }
 
-/// A client: its name, and the WAV file that it plays.
+/// A client: its name, the WAV file that it plays, and to which channels of the card the file's
+/// channels go (the `bindings` of a `pcm_dmix` definition), where that is given.
 #[derive(Debug, Drop)]
 pub struct ClientLine {
     pub name: Name,
     pub file: FileName,
+    pub bindings: Option<Bindings>,
 }
 
-/// What is done in a phase.
-#[derive(Clone, Copy, Debug)]
-pub enum Phase {
-    /// The card plays so many frames.
-    Play(u32),
-    /// The client of this number, counted from 0, offers the next so many frames of its file.
-    Write { client: u32, frames: u32 },
+/// A phase: its lines in order, all of one actor. It may have none. Contracts see the list of them.
+#[derive(Debug, Drop)]
+pub struct Phase {
+    lines: Vec<Line>,
+}
+
+impl Model for Phase {
+    ghost use Rattle.std.specs.Prelude.{List};
+    ghost use Rattle.lab_script.specs.declared.line.Line.{Line};
+
+    ghost Value = { List Line };
+
+    ghost view = { λ phase. phase.lines.items };
+}
+
+impl Phase {
+    /// The phase of these lines, which are taken as they stand.
+    pub fn from_vec(lines: Vec<Line>) -> Phase
+        ensures { result ≡ lines.items }
+    {
+        Phase { lines }
+    }
+
+    /// The lines, in order.
+    pub fn as_slice(&self) -> &[Line]
+        ensures { result.now ≡ self.now }
+    {
+        self.lines.as_slice()
+    }
+
+    /// How many lines there are.
+    pub fn len(&self) -> usize
+        ensures { result ≡ length self.now }
+    {
+        self.lines.len()
+    }
+
+    /// The lines that it was made of.
+    pub fn into_vec(self) -> Vec<Line>
+        ensures { result.items ≡ self }
+    {
+        self.lines
+    }
 }
 
 /// The clients in the order of their lines. Contracts see the list of them.
@@ -74,7 +114,7 @@ impl Clients {
     }
 }
 
-/// The phases in order. Contracts see the list of them.
+/// The phases in order. Contracts see the list of them, each of which is a list of lines.
 #[derive(Debug, Drop)]
 pub struct Phases {
     phases: Vec<Phase>,
@@ -82,9 +122,9 @@ pub struct Phases {
 
 impl Model for Phases {
     ghost use Rattle.std.specs.Prelude.{List};
-    ghost use Rattle.lab_script.specs.declared.script.Phase.{Phase};
+    ghost use Rattle.lab_script.specs.declared.line.Line.{Line};
 
-    ghost Value = { List Phase };
+    ghost Value = { List (List Line) };
 
     ghost view = { λ phases. phases.phases.items };
 }

@@ -1,5 +1,6 @@
 //! Scripts that are read, and texts that are refused, each with its line.
 use super::*;
+use bindings::Bindings;
 use std::alloc::{AllocError, Global};
 use std::test::*;
 
@@ -32,6 +33,15 @@ fn with_clients(alloc: Global, count: u32) -> Result<String, AllocError> {
     Ok(all)
 }
 
+/// The script of the card's line and a text.
+fn script_of(alloc: Global, text: &str) -> Result<Script, Fail> {
+    let all = format!(in alloc; "{CARD}{text}")?;
+    let script = read_script(alloc, all.as_bytes())
+        .ok()
+        .ok_or("the text is a script")?;
+    Ok(script)
+}
+
 #[test]
 fn reads_each_field(rt: HostRuntime) -> Result<(), Fail> {
     let text =
@@ -52,19 +62,81 @@ fn reads_each_field(rt: HostRuntime) -> Result<(), Fail> {
     {
         assert_eq!(rt; client.name.as_str(), want.0);
         assert_eq!(rt; client.file.as_str(), want.1);
+        assert_eq!(rt; client.bindings, None);
     }
-    assert!(rt;
-        matches!(
-            script.phases.as_slice(),
-            [
-                Phase::Write {
-                    client: 1,
-                    frames: 64
-                },
-                Phase::Play(4_194_304)
-            ]
-        )
-    );
+    let want = [
+        (7, Actor::Client(1), Op::Write(64)),
+        (10, Actor::Card, Op::Play(4_194_304)),
+    ];
+    assert_eq!(rt; script.phases.as_slice().len(), 2);
+    for (phase, (number, actor, op)) in script.phases.as_slice().iter().zip(want) {
+        assert_eq!(rt; phase.as_slice(), [Line { number, actor, op }].as_slice());
+    }
+    Ok(())
+}
+
+#[test]
+fn reads_each_call_of_a_client(rt: HostRuntime) -> Result<(), Fail> {
+    let text =
+        "client a f\nopen a\nphase\na prepare\na write 7\na start\na sync\na avail\na delay\na pause\na drain\na drop\na write 007\nend\n";
+    let script = script_of(rt.alloc(), text)?;
+    let calls = [
+        Op::Prepare,
+        Op::Write(7),
+        Op::Start,
+        Op::Sync,
+        Op::Avail,
+        Op::Delay,
+        Op::Pause,
+        Op::Drain,
+        Op::Drop,
+        Op::Write(7),
+    ];
+    for phase in script.phases.as_slice() {
+        assert_eq!(rt; phase.len(), 10);
+        for (line, (place, op)) in phase.as_slice().iter().zip(calls.iter().enumerate()) {
+            assert_eq!(rt; line.number, 5 + place as u32);
+            assert_eq!(rt; line.actor, Actor::Client(0));
+            assert_eq!(rt; line.op, *op);
+        }
+    }
+    Ok(())
+}
+
+#[test]
+fn reads_phases_of_any_length(rt: HostRuntime) -> Result<(), Fail> {
+    let text =
+        "client a f\nopen a\nphase\nend\nphase\ncard play 0\ncard play 3\ncard play 4\nend\nphase\na write 1\nend\nphase\na write 2\na avail\nend\n";
+    let script = script_of(rt.alloc(), text)?;
+    let mut lengths = Vec::new(rt.alloc());
+    let mut last = 0;
+    for phase in script.phases.into_vec() {
+        lengths.push(phase.len())?;
+        for line in phase.into_vec() {
+            last = line.number;
+        }
+    }
+    assert_eq!(rt; lengths.as_slice(), [0, 3, 1, 2].as_slice());
+    assert_eq!(rt; last, 16);
+    Ok(())
+}
+
+#[test]
+fn reads_bindings(rt: HostRuntime) -> Result<(), Fail> {
+    let text =
+        b"card channels 3 rate 48000 period 16 ring 64\nclient a f bindings 2,000\nclient b g bindings 1\nclient c h\nclient bindings bindings\nopen a\nopen b\nopen c\nopen bindings\n";
+    let script = read_script(rt.alloc(), text)
+        .ok()
+        .ok_or("the text is a script")?;
+    let want = [
+        Bindings::read(&[2, 0], 3).ok(),
+        Bindings::read(&[1], 3).ok(),
+        None,
+        None,
+    ];
+    for (client, bindings) in script.clients.as_slice().iter().zip(want) {
+        assert_eq!(rt; client.bindings, bindings);
+    }
     Ok(())
 }
 
@@ -95,38 +167,113 @@ fn refuses_the_card(rt: HostRuntime) {
     assert_eq!(rt; refusal(rt.alloc(), longest), None);
 }
 
+/// The line and the cause of a refusal of the card's line and a text.
+fn refusal_behind_card(alloc: Global, text: &str) -> Result<Option<(u32, ScriptWhy)>, AllocError> {
+    let all = format!(in alloc; "{CARD}{text}")?;
+    Ok(refusal(alloc, all.as_bytes()))
+}
+
 #[test]
-fn refuses_later_lines(rt: HostRuntime) -> Result<(), Fail> {
+fn refuses_clients(rt: HostRuntime) -> Result<(), Fail> {
     for (text, line) in [
         ("\n", 2),
         ("client A f\n", 2),
         ("client end f\n", 2),
         ("client a23456789012345678901234567890123 f\n", 2),
         ("client a x#y\n", 2),
+        ("client a\n", 2),
         ("client a f\nclient a g\n", 3),
         ("client a f\nphase\n", 3),
         ("client a f\nclient b g\nopen b\nopen a\n", 4),
         ("client a f\n", 3),
+    ] {
+        let refused = refusal_behind_card(rt.alloc(), text)?;
+        assert_eq!(rt; refused, Some((line, ScriptWhy::NotYet)), "at {text}");
+    }
+    Ok(())
+}
+
+#[test]
+fn refuses_bindings(rt: HostRuntime) -> Result<(), Fail> {
+    for bindings in [
+        "bindings",
+        "bindings ",
+        "bindings ,0",
+        "bindings 0,",
+        "bindings 0,,1",
+        "bindings zero",
+        "bindings 0, 1",
+        "bindings 4294967296",
+        "bindings 3",
+        "bindings 0,3",
+        "bindings 1,1",
+        "bindings 0,1,0",
+        "bindings 0,1,2,0,1,2,0,1,2",
+        "bindings 00000000000000000000",
+        "bindings 0 bindings 1",
+        "binding 0",
+        "period 16",
+    ] {
+        let text = format!(in rt.alloc();
+            "card channels 3 rate 48000 period 16 ring 64\nclient a f {bindings}\nopen a\n"
+        )?;
+        assert_eq!(rt;
+            refusal(rt.alloc(), text.as_bytes()),
+            Some((2, ScriptWhy::NotYet)),
+            "at {bindings}"
+        );
+    }
+    Ok(())
+}
+
+#[test]
+fn refuses_phases(rt: HostRuntime) -> Result<(), Fail> {
+    for (text, line) in [
         ("phase\n", 3),
-        ("phase\nend\n", 3),
         ("phase\nz write 1\nend\n", 3),
         ("phase\ncard play 1\nend", 4),
+        ("phase\ncard play 1\nphase\nend\n", 4),
+        ("phase\ncard write 1\nend\n", 3),
+        ("phase\ncard play\nend\n", 3),
+        ("phase\ncard play 1 \nend\n", 3),
+        ("phase\ncard unplug\nend\n", 3),
         (
             "phase\ncard play 4194304\nend\nphase\ncard play 1\nend\n",
             6,
         ),
-        ("client a f\nopen a\nphase\na write 4194305\nend\n", 5),
-        (
-            "client a f\nopen a\nphase\na write 1\nend\nphase\na write 1\nend\n",
-            8,
-        ),
+        ("phase\ncard play 4194304\ncard play 1\nend\n", 4),
     ] {
-        let all = format!(in rt.alloc(); "{CARD}{text}")?;
-        assert_eq!(rt;
-            refusal(rt.alloc(), all.as_bytes()),
-            Some((line, ScriptWhy::NotYet)),
-            "at {text}"
-        );
+        let refused = refusal_behind_card(rt.alloc(), text)?;
+        assert_eq!(rt; refused, Some((line, ScriptWhy::NotYet)), "at {text}");
+    }
+    Ok(())
+}
+
+#[test]
+fn refuses_lines_of_clients(rt: HostRuntime) -> Result<(), Fail> {
+    for (lines, line) in [
+        ("a write 4194305\n", 7),
+        ("a write\n", 7),
+        ("a play 1\n", 7),
+        ("a\n", 7),
+        ("a start 1\n", 7),
+        ("a resume\n", 7),
+        ("a read 1\n", 7),
+        ("a die 1\n", 7),
+        ("a drai\n", 7),
+        ("a  drop\n", 7),
+        ("\n", 7),
+        ("open a\n", 7),
+        ("a write 1\nb write 1\n", 8),
+        ("a write 1\ncard play 1\n", 8),
+        ("card play 1\na write 1\n", 8),
+        ("a write 1\na avail\nb avail\na avail\n", 9),
+    ] {
+        let text = format!(in rt.alloc();
+            "client a f\nclient b f\nopen a\nopen b\nphase\n{lines}end\n"
+        )?;
+        let refused = refusal_behind_card(rt.alloc(), text.as_str())?;
+        assert_eq!(rt; refused, Some((line, ScriptWhy::NotYet)), "at {lines}");
     }
     Ok(())
 }
@@ -138,6 +285,8 @@ fn keeps_the_limits(rt: HostRuntime) -> Result<(), Fail> {
         refusal(rt.alloc(), clients.as_bytes()),
         Some((66, ScriptWhy::NotYet))
     );
+    let lines = repeated(rt.alloc(), "phase\nend\n", 4096)?;
+    assert_eq!(rt; refusal(rt.alloc(), lines.as_bytes()), None);
     let phase = "phase\ncard play 1\nend\n";
     let most = repeated(rt.alloc(), phase, 4096)?;
     assert_eq!(rt; refusal(rt.alloc(), most.as_bytes()), None);
@@ -169,20 +318,7 @@ fn prints_a_refusal(rt: HostRuntime) -> Result<(), Fail> {
 
 #[test]
 fn gives_back_what_it_holds(rt: HostRuntime) -> Result<(), Fail> {
-    let text = format!(in rt.alloc(); "{CARD}client a x.wav\nopen a\nphase\na write 7\nend\n")?;
-    let script = read_script(rt.alloc(), text.as_bytes())
-        .ok()
-        .ok_or("the text is a script")?;
-    let phases = script.phases.into_vec();
-    assert!(rt;
-        matches!(
-            phases.as_slice(),
-            [Phase::Write {
-                client: 0,
-                frames: 7
-            }]
-        )
-    );
+    let script = script_of(rt.alloc(), "client a x.wav\nopen a\n")?;
     for client in script.clients.into_vec() {
         assert_eq!(rt; client.name.into_text().as_str(), "a");
         assert_eq!(rt; client.file.into_text().as_str(), "x.wav");

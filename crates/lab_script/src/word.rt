@@ -1,13 +1,13 @@
 //! The lines of a text, the words of a line, and the words that are numbers, names and files.
-ghost use Rattle.std.specs.Prelude.{◌≡◌, ◌≤◌, ◌∷◌, [], true, length, option_map, IfSome, IfNone, ◌==◌};
+ghost use Rattle.std.specs.Prelude.{◌≡◌, ◌≤◌, ◌<◌, ◌∷◌, [], true, length, option_map, IfSome, IfNone, ◌==◌};
 ghost use Rattle.std.specs.List.{list_all, position};
 ghost use Rattle.std.specs.Str.{all_ascii_digits};
 ghost use Rattle.std.specs.Str.Parse.{digits_value};
 ghost use Rattle.lab_script.specs.Word.{cut_line, words_of, number_of, is_name, is_name_byte, is_file, is_file_byte, begins_lower, is_reserved};
-ghost use Rattle.lab_script.specs.Grammar.{one_of, two_of, three_of, first_of};
+ghost use Rattle.lab_script.specs.Grammar.{one_of, two_of, first_of};
 
 /// Where a byte stands first.
-fn place_of(bytes: &[u8], byte: u8) -> Option<usize>
+pub fn place_of(bytes: &[u8], byte: u8) -> Option<usize>
     ensures { result ≡ position (λ b. b == byte) bytes.now }
 {
     bytes.iter().position(|b| *b == byte)
@@ -15,7 +15,8 @@ fn place_of(bytes: &[u8], byte: u8) -> Option<usize>
 
 /// The first line of a text and what stands behind its line feed, where there is a line feed.
 pub fn cut_line(text: &[u8]) -> Option<(&[u8], &[u8])>
-    ensures { option_map (λ c. (c.0.now, c.1.now)) result ≡ cut_line text.now }
+    ensures value { option_map (λ c. (c.0.now, c.1.now)) result ≡ cut_line text.now }
+    ensures shorter { IfSome result (λ c. length c.1.now < length text.now) }
 {
     let end = place_of(text, b'\n')?;
     Some((&text[..end], &text[end + 1..]))

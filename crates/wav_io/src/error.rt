@@ -44,9 +44,6 @@ pub enum WavError {
     /// The file has more than 67,108,864 bytes, and so many show no other refusal that doesn't need the file's end.
     #[error("TooLong")]
     TooLong,
-    /// The content is in order, and a caller can't use it yet. No call of this crate gives it.
-    #[error("NotYet")]
-    NotYet,
     /// There wasn't enough memory. Reading answers so only where the file isn't refused.
     #[error("Memory")]
     Memory,

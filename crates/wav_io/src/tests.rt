@@ -222,7 +222,6 @@ fn refusals_print_their_names(rt: HostRuntime) -> Result<(), Fail> {
         (WavError::RateZero, "RateZero"),
         (WavError::NoData, "NoData"),
         (WavError::TooLong, "TooLong"),
-        (WavError::NotYet, "NotYet"),
         (WavError::Memory, "Memory"),
     ];
     for (error, name) in all {

@@ -19,8 +19,9 @@ loop-channel-preserved c =
       geometry = step.geometry ∙ before.geometry;
       cursors = step.cursors ∙ before.cursors;
       position = step.position ∙ before.position;
+      gone = step.gone ∙ before.gone;
       next = step.next ∙ behind-channel core.geometry core.next c.args.core.now.next.frame c.loop-channel._channel c.args.core.now.geometry.channels channels within before.next;
-      mixes = λ wavs segments mixes.
-          subst (λ (played : List ℤ). Mixes c.take.new.self wavs segments played) (sym items)
-          (Mixes-taken core c.take.new.self c.in_ok-taken.taken wavs segments c.loop-channel.played.items step (before.mixes wavs segments mixes));
+      mixes = λ sums mixes.
+          subst (λ (played : List ℤ). Mixes c.take.new.self sums played) (sym items)
+          (Mixes-taken core c.take.new.self c.in_ok-taken.taken sums c.loop-channel.played.items step (before.mixes sums mixes));
     }

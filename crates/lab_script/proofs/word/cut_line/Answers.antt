@@ -4,10 +4,10 @@ use Rattle.lab_script.specs.Word.{is_feed}
 use Rattle.lab_script.proofs.Words.{cut-at}
 use Rattle.lab_script.proofs.word.cut_line.Goals as goal
 
-pub returns-in_err-end : goal.returns-in_err-end
-returns-in_err-end c =
+pub returns-in_err-end-clause-value : goal.returns-in_err-end-clause-value
+returns-in_err-end-clause-value c =
     let none : position is_feed c.args.text.now ≡ None = sym c.in_err-end.ensures in
     rw (c.from_residual.ensures, none) refl
 
-pub returns : goal.returns
-returns c = cut-at c.args.text.now c.in_ok-end.end (sym c.in_ok-end.ensures)
+pub returns-clause-value : goal.returns-clause-value
+returns-clause-value c = cut-at c.args.text.now c.in_ok-end.end (sym c.in_ok-end.ensures)

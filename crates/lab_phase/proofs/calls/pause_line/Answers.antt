@@ -1,0 +1,12 @@
+use Rattle.std.proofs.Common.{subst}
+use Rattle.lab_report.specs.declared.row.Answer.{Answer}
+use Rattle.lab_script.specs.declared.line.Op.TheVariants as op
+use Rattle.lab_phase.specs.Seats.{HasCalled}
+use Rattle.lab_phase.proofs.Waiting.{pause-line}
+use Rattle.lab_phase.proofs.calls.pause_line.Goals as goal
+
+pub returns : goal.returns
+returns c = λ members p wav own h t is at stands.
+    let call = c.pause-answer.ensures in
+    subst (λ (x : Answer). HasCalled members p wav own op.Pause c.pause-answer.new.self t t x) (let e = c.done.ensures in cc)
+    (pause-line members p wav own h c.args.client.now c.pause-answer.new.self t c.pause-answer.result is at stands call.answer call.unchanged c.counts_are_sound.ensures)

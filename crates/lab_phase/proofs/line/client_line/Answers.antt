@@ -1,0 +1,12 @@
+use Rattle.std.proofs.Common.{◌≡◌, refl, sym, ◌∙◌, ap, arith, length, set, List, slice_index_or}
+use Rattle.std.proofs.lemmas.Option.{slice_get_read}
+use Rattle.lab_phase.proofs.Lined.{HasRun-client}
+use Rattle.lab_phase.proofs.line.client_line.Goals as goal
+
+pub returns-clause-ok : goal.returns-clause-ok
+returns-clause-ok c = λ script line is_op is_actor settled.
+    HasRun-client script c.args.wavs.now c.args.phase c.args.number line c.args.asked _ _ c.index_mut-seat.result.now c.seat_line.new.seat c.index-wavs-number.result c.in_ok-row.row
+    is_op is_actor c.requires.can.0 settled
+    (slice_get_read c.args.body.now.seats.items (length c.args.body.now.seats.items) c.args.number c.index_mut-seat.result.now refl c.requires.can.1 c.index_mut-seat.ensures.value)
+    (slice_get_read c.args.wavs.now (length c.args.wavs.now) c.args.number c.index-wavs-number.result refl c.requires.can.2 c.index-wavs-number.is)
+    c.requires.can.1 c.in_ok-row.ensures.ok refl c.in_ok-push.ensures.items refl refl

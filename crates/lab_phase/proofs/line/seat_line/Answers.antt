@@ -1,0 +1,12 @@
+use Rattle.std.proofs.Common.{◌≡◌, refl, sym, ◌∙◌, ap}
+use Rattle.lab_phase.proofs.Seated.{TakesLine-open}
+use Rattle.lab_phase.proofs.line.seat_line.Goals as goal
+
+pub open_line-answer-requires-clause-usable : goal.open_line-answer-requires-clause-usable
+open_line-answer-requires-clause-usable c = c.requires.port.usable c.in-Some.client c.in-Some.is
+
+pub returns-in_ok-keep_ended-in-Some-clause-ok : goal.returns-in_ok-keep_ended-in-Some-clause-ok
+returns-in_ok-keep_ended-in-Some-clause-ok c =
+    TakesLine-open c.args.phase c.args.number c.args.wav.now c.args.asked c.args.core.now c.open_line-answer.new.core c.args.seat.now _ c.open_row-row.result c.in-Some.client
+    c.open_line-answer.new.client c.open_line-answer.result c.segment-before.result c.in-Some.is refl c.segment-before.ensures c.open_line-answer.ensures
+    c.in_ok-keep_ended-in-Some.ensures.ok c.open_row-row.ensures

@@ -1,0 +1,69 @@
+-- What the calls of a client come to while the card rests at a position: all frames before it were played, and none from it
+-- on. So every load gives this position, and a frame is late exactly where it stands before it.
+use Rattle.std.specs.Prelude.{◌≡◌, ℕ, ◌+◌, ◌-◌, false, ◌||◌, nat_eq, nat_le, if◌then◌else◌, min, Option, Some, None, Result, Ok, Err}
+use Rattle.snd_base.specs.declared.errors.PcmError.{PcmError}
+use Rattle.snd_base.specs.declared.errors.PcmError.TheVariants.{Xrun, Invalid}
+use Rattle.snd_base.specs.declared.errors.Why.TheVariants.{Config}
+use Rattle.snd_base.specs.declared.errors.XrunWhy.{XrunWhy}
+use Rattle.snd_base.specs.declared.errors.XrunWhy.TheVariants.{Avail, Late}
+use Rattle.snd_base.specs.declared.places.Cursor.{Cursor}
+use Rattle.mix_core.specs.declared.port.Position.{Position}
+use Rattle.pcm_states.specs.declared.states.State.TheVariants.{Draining, Running}
+use Rattle.pcm_states.specs.declared.calls.Call.{Call}
+use Rattle.pcm_states.specs.declared.calls.Call.TheVariants as call
+use Rattle.lab_script.specs.declared.line.Op.{Op}
+use Rattle.lab_script.specs.declared.line.Op.TheVariants as op
+use Rattle.lab_report.specs.declared.row.Answer.{Answer}
+use Rattle.lab_report.specs.declared.row.Answer.TheVariants.{Done, Count, Failed}
+use Rattle.dmix_client.specs.declared.commit.Commit.{Commit}
+use Rattle.dmix_client.specs.declared.commit.Ended.TheVariants as ended
+use Rattle.dmix_client.specs.declared.plain.Plain.{Plain}
+use Rattle.dmix_client.specs.Calls.{Answered, commit_count, drain_of, is_running, start_count, start_of, started, started_in, sync_count, sync_of, synced, taken_of, writei_of}
+use Rattle.dmix_client.specs.View.{is_moving}
+
+-- what a load gives
+abbrev pub resting : ℕ → Position
+resting p = record { frame = p; gone = false }
+
+-- a commit that is to lay so many frames lays them all, unless the first of them was played
+abbrev pub commit_at : ℕ → Plain → ℕ → Commit
+commit_at p c count =
+    if nat_eq count 0 || nat_le p (c.card + c.committed)
+    then record { frames = count; part = 0; ended = ended.Whole }
+    else record { frames = 0; part = 0; ended = ended.Late 0 }
+
+-- the cursor of a port through which the frames before one were laid, or can't be laid any more
+abbrev pub cursor_at : ℕ → Cursor
+cursor_at free = record { frame = free; channel = 0 }
+
+-- the commit of a sync
+abbrev pub sync_commit : ℕ → Plain → Commit
+sync_commit p c = commit_at p c (sync_count c (resting p))
+
+-- the commit of a start, of the frames before one
+abbrev pub start_commit : ℕ → Plain → ℕ → ℕ → Commit
+start_commit p c free upto =
+    commit_at p (started_in c Running (resting p) (cursor_at free)) (start_count c (cursor_at free) (resting p) upto)
+
+-- `sync`
+abbrev pub sync_at : ℕ → Plain → Answered (Unit {0})
+sync_at p c = sync_of c (Some (resting p)) (sync_commit p c)
+
+-- `start`
+abbrev pub start_at : ℕ → Plain → ℕ → Answered (Unit {0})
+start_at p c free = start_of c (cursor_at free) (Some (resting p)) (start_commit p c free c.written)
+
+-- `drain`: a stream that moves frames syncs, and one that is prepared starts and then syncs
+abbrev pub drain_at : ℕ → Plain → ℕ → Answered (Unit {0})
+drain_at p c free =
+    let load = Some (resting p) in
+    let first = if is_moving c.state then sync_commit p (record c { state = Draining }) else start_commit p c free c.written in
+    drain_of c (cursor_at free) load first load (sync_commit p (started c Draining (cursor_at free) load first).0)
+
+-- `writei` of n frames: a stream that runs syncs, and one that is prepared starts where its threshold is reached
+abbrev pub writei_at : ℕ → Plain → ℕ → ℕ → Answered ℕ
+writei_at p c free n =
+    let load = Some (resting p) in
+    let first = if is_running c.state then sync_commit p c else start_commit p c free (c.written + taken_of c n) in
+    let after = (synced c call.Transfer load first).0 in
+    writei_of c n (cursor_at free) load first (commit_at p after (commit_count after p (after.written + taken_of after n)))
