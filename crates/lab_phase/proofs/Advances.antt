@@ -32,7 +32,7 @@ not_stop (Late word) going = refl
 not_stop Stopped going = absurd (going refl)
 
 -- the first of two calls, where a test fails
-if-false : {T : Type 0} (test : Bool) (a b : T) → test ≡ false → (if test then a else b) ≡ b
+pub if-false : {T : Type 0} (test : Bool) (a b : T) → test ≡ false → (if test then a else b) ≡ b
 if-false true a b is = absurd (cc)
 if-false false a b is = refl
 
@@ -56,16 +56,30 @@ going_on_by-AdvancesUnwritten : (c from : Plain) (x : Commit) (r : Result (Unit 
     → AdvancesUnwritten c (going_on_by r (committed_by from x) s t).0 x
 going_on_by-AdvancesUnwritten c from x (Ok done) s t step = record {
   advances = record {
-    geometry = step.advances.geometry; member = step.advances.member; bindings = step.advances.bindings; config = step.advances.config; source = step.advances.source;
-    card = step.advances.card; stopped = step.advances.stopped; committed = step.advances.committed; part = step.advances.part;
+    geometry = step.advances.geometry;
+    member = step.advances.member;
+    bindings = step.advances.bindings;
+    config = step.advances.config;
+    source = step.advances.source;
+    card = step.advances.card;
+    stopped = step.advances.stopped;
+    committed = step.advances.committed;
+    part = step.advances.part;
   };
   written = step.written;
   fed = step.fed;
 }
 going_on_by-AdvancesUnwritten c from x (Err e) s t step = record {
   advances = record {
-    geometry = step.advances.geometry; member = step.advances.member; bindings = step.advances.bindings; config = step.advances.config; source = step.advances.source;
-    card = step.advances.card; stopped = step.advances.stopped; committed = step.advances.committed; part = step.advances.part;
+    geometry = step.advances.geometry;
+    member = step.advances.member;
+    bindings = step.advances.bindings;
+    config = step.advances.config;
+    source = step.advances.source;
+    card = step.advances.card;
+    stopped = step.advances.stopped;
+    committed = step.advances.committed;
+    part = step.advances.part;
   };
   written = step.written;
   fed = step.fed;

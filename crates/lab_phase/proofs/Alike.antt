@@ -220,10 +220,10 @@ pub writei_of-AreSame : (c : Plain) (n : ℕ) (cursor : Cursor) (position : Posi
 writei_of-AreSame c n cursor position x y u v first last =
     if-AreSame (is_running c.state) _ _ _ _
     (λ is. written_on-AreSame (synced c call.Transfer (Some position) x) (synced c call.Transfer (Some position) y) n u v
-      (synced-AreSame c call.Transfer position x y first) last)
+    (synced-AreSame c call.Transfer position x y first) last)
     (λ other. if-AreSame (nat_le c.params.start_threshold (c.written + taken_of c n)) _ _ _ _
-      (λ starts. accepted_if-AreSame (taken_of c n) _ _ (started-AreSame c Running cursor position x y first))
-      (λ waits. AreSame-refl _))
+    (λ starts. accepted_if-AreSame (taken_of c n) _ _ (started-AreSame c Running cursor position x y first))
+    (λ waits. AreSame-refl _))
 
 pub drain_of-AreSame : (c : Plain) (cursor : Cursor) (position later : Position) (x y u v : Commit) → IsLike x y → IsLike u v
     → AreSame (drain_of c cursor (Some position) x (Some later) u) (drain_of c cursor (Some position) y (Some later) v)
@@ -231,6 +231,6 @@ drain_of-AreSame c cursor position later x y u v first last =
     if-AreSame (is_moving c.state) _ _ _ _
     (λ is. synced-AreSame (record c { state = Draining }) call.Drain position x y first)
     (λ other. if-AreSame (is_prepared c.state && nat_lt 0 c.written) _ _ _ _
-      (λ starts. drained_on-AreSame (started c Draining cursor (Some position) x) (started c Draining cursor (Some position) y) later u v
-        (started-AreSame c Draining cursor position x y first) last)
-      (λ waits. AreSame-refl _))
+    (λ starts. drained_on-AreSame (started c Draining cursor (Some position) x) (started c Draining cursor (Some position) y) later u v
+    (started-AreSame c Draining cursor position x y first) last)
+    (λ waits. AreSame-refl _))

@@ -48,7 +48,7 @@ pub pause-line : (members p : ℕ) (wav : Sound) (own : Own) (h : List Row) (v w
 pause-line members p wav own h v w t result is at stands refused same sound =
     let w_is : w.plain ≡ own.plain = ap (λ (x : ClientView). x.plain) same ∙ is.same in
     let is_call : called p wav own op.Pause ≡ (w.plain, done_answer result) =
-        ap (λ (c : Plain). tell {T = Unit {0}} done_answer (c, Err error.NotSupported)) (sym w_is) ∙ ap (λ (x : Result (Unit {0}) PcmError). tell done_answer (w.plain, x)) (sym refused) in
+    ap (λ (c : Plain). tell {T = Unit {0}} done_answer (c, Err error.NotSupported)) (sym w_is) ∙ ap (λ (x : Result (Unit {0}) PcmError). tell done_answer (w.plain, x)) (sym refused) in
     HasCalled-still members p wav own op.Pause v w t t (done_answer result) h is at stands refl (Unmoved-same own.plain w.plain is.whole w_is)
     (ap (λ (x : ClientView). x.ring) same) sound (usable-same own.plain w.plain t w_is at.usable) is_call refl
 
@@ -70,21 +70,21 @@ drop-line members p wav own h v w t result is at stands refused drops sound = el
       let r = refused found.0 (ap (λ (c : Plain). refusal_of c call.Drop) is.same ∙ found.1) in
       let w_is : w.plain ≡ own.plain = ap (λ (x : ClientView). x.plain) r.1 ∙ is.same in
       let is_call : called p wav own op.Drop ≡ (w.plain, done_answer result) =
-          ap (λ (o : Option PcmError). tell done_answer (refused_or o own.plain (dropped own.plain, Ok tt))) found.1
-          ∙ ap (λ (c : Plain). tell {T = Unit {0}} done_answer (c, Err found.0)) (sym w_is) ∙ ap (λ (x : Result (Unit {0}) PcmError). tell done_answer (w.plain, x)) (sym r.0) in
+      ap (λ (o : Option PcmError). tell done_answer (refused_or o own.plain (dropped own.plain, Ok tt))) found.1
+      ∙ ap (λ (c : Plain). tell {T = Unit {0}} done_answer (c, Err found.0)) (sym w_is) ∙ ap (λ (x : Result (Unit {0}) PcmError). tell done_answer (w.plain, x)) (sym r.0) in
       HasCalled-still members p wav own op.Drop v w t t (done_answer result) h is at stands refl (Unmoved-same own.plain w.plain is.whole w_is)
       (ap (λ (x : ClientView). x.ring) r.1) sound (usable-same own.plain w.plain t w_is at.usable) is_call refl
   | inl admitted ↦
       let r = drops (ap (λ (c : Plain). refusal_of c call.Drop) is.same ∙ admitted) in
       let w_is : w.plain ≡ dropped own.plain = ap (λ (x : ClientView). x.plain) r.1 ∙ ap dropped is.same in
       let is_call : called p wav own op.Drop ≡ (w.plain, done_answer result) =
-          ap (λ (o : Option PcmError). tell done_answer (refused_or o own.plain (dropped own.plain, Ok tt))) admitted
-          ∙ ap (λ (c : Plain). tell {T = Unit {0}} done_answer (c, Ok tt)) (sym w_is) ∙ ap (λ (x : Result (Unit {0}) PcmError). tell done_answer (w.plain, x)) (sym r.0) in
+      ap (λ (o : Option PcmError). tell done_answer (refused_or o own.plain (dropped own.plain, Ok tt))) admitted
+      ∙ ap (λ (c : Plain). tell {T = Unit {0}} done_answer (c, Ok tt)) (sym w_is) ∙ ap (λ (x : Result (Unit {0}) PcmError). tell done_answer (w.plain, x)) (sym r.0) in
       HasCalled-still members p wav own op.Drop v w t t (done_answer result) h is at stands refl
       (subst (λ (d : Plain). AdvancesUnwritten own.plain d nothing_laid) (sym w_is) (dropped-unmoved own.plain is.whole))
       (ap (λ (x : ClientView). x.ring) r.1) sound
       (subst (λ (d : Plain). CanUse d (core_of t).geometry (member_of t) (cursor_of_turn t) (core_of t).position ⊤) (sym w_is)
-        (usable-still own.plain (dropped own.plain) t refl refl (λ moves. absurd (cc)) at.usable)) is_call refl
+      (usable-still own.plain (dropped own.plain) t refl refl (λ moves. absurd (cc)) at.usable)) is_call refl
 ]
 
 -- a prepare that isn't refused ends the stretch
@@ -128,7 +128,7 @@ prepare-line members p wav own v w t result is at refused prepares = elim (refus
       let r = refused found.0 (ap (λ (c : Plain). refusal_of c call.Prepare) is.same ∙ found.1) in
       let w_is : w.plain ≡ own.plain = ap (λ (x : ClientView). x.plain) r.1 ∙ is.same in
       let is_call : called p wav own op.Prepare ≡ (own.plain, Failed (told found.0)) =
-          ap (λ (o : Option PcmError). tell done_answer (refused_or o own.plain (prepared own.plain, Ok tt))) found.1 in
+      ap (λ (o : Option PcmError). tell done_answer (refused_or o own.plain (prepared own.plain, Ok tt))) found.1 in
       subst (λ (x : Result (Unit {0}) PcmError). HasCalled members p wav own op.Prepare w t t (done_answer x)) (sym r.0)
       (record {
         entries = [];

@@ -18,8 +18,9 @@ use Rattle.lab_report.specs.declared.row.Answer.TheVariants.{Done, Count, Failed
 use Rattle.dmix_client.specs.declared.commit.Commit.{Commit}
 use Rattle.dmix_client.specs.declared.commit.Ended.TheVariants as ended
 use Rattle.dmix_client.specs.declared.plain.Plain.{Plain}
-use Rattle.dmix_client.specs.Calls.{Answered, commit_count, drain_of, is_running, start_count, start_of, started, started_in, sync_count, sync_of, synced, taken_of, writei_of}
+use Rattle.dmix_client.specs.Calls.{Answered, drain_of, is_running, start_count, start_of, started, started_in, sync_count, sync_of, synced, taken_of, writei_of}
 use Rattle.dmix_client.specs.View.{is_moving}
+use Rattle.dmix_client.specs.Writes.{count_after}
 
 -- what a load gives
 abbrev pub resting : ℕ → Position
@@ -65,5 +66,5 @@ abbrev pub writei_at : ℕ → Plain → ℕ → ℕ → Answered ℕ
 writei_at p c free n =
     let load = Some (resting p) in
     let first = if is_running c.state then sync_commit p c else start_commit p c free (c.written + taken_of c n) in
-    let after = (synced c call.Transfer load first).0 in
-    writei_of c n (cursor_at free) load first (commit_at p after (commit_count after p (after.written + taken_of after n)))
+    let after = synced c call.Transfer load first in
+    writei_of c n (cursor_at free) load first (commit_at p after.0 (count_after after n))

@@ -12,4 +12,4 @@ returns c = λ members p wav own h is at stands.
     let call = c.avail_update-answer.ensures in
     subst (λ (x : Answer). HasCalled members p wav own op.Avail c.avail_update-answer.new.self c.args.port.now c.avail_update-answer.new.port x) (let e = c.counted.ensures in cc)
     (synced-line avail_line members p wav own h c.args.client.now c.avail_update-answer.new.self c.args.port.now c.avail_update-answer.new.port c.avail_update-answer.result (λ k. Ok (avail_answer k))
-      is at stands (λ _. refl) call.refused call.waits call.steps call.ring c.counts_are_sound.ensures call.port)
+    is at stands (λ _. refl) call.refused call.waits call.steps call.ring c.counts_are_sound.ensures call.port)

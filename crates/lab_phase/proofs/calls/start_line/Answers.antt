@@ -11,4 +11,4 @@ returns c = λ members p wav own h is at stands.
     let call = c.start-answer.ensures in
     subst (λ (x : Answer). HasCalled members p wav own op.Start c.start-answer.new.self c.args.port.now c.start-answer.new.port x) (let e = c.done.ensures in cc)
     (start-line members p wav own h c.args.client.now c.start-answer.new.self c.args.port.now c.start-answer.new.port c.start-answer.result
-      is at stands call.refused call.empty call.steps call.ring c.counts_are_sound.ensures call.port)
+    is at stands call.refused call.empty call.steps call.ring c.counts_are_sound.ensures call.port)
