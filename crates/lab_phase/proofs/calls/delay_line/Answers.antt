@@ -1,4 +1,4 @@
-use Rattle.std.proofs.Common.{◌≡◌, refl, subst}
+use Rattle.std.proofs.Common.{refl, subst}
 use Rattle.std.specs.Prelude.{Ok}
 use Rattle.lab_report.specs.declared.row.Answer.{Answer}
 use Rattle.lab_script.specs.declared.line.Op.TheVariants as op

@@ -2,7 +2,6 @@ use Rattle.std.proofs.Common.{subst}
 use Rattle.lab_report.specs.declared.row.Answer.{Answer}
 use Rattle.lab_script.specs.declared.line.Op.TheVariants as op
 use Rattle.lab_phase.specs.Seats.{HasCalled}
-use Rattle.lab_phase.proofs.Storing.{stored-old}
 use Rattle.lab_phase.proofs.Draining.{drain-line}
 use Rattle.lab_phase.proofs.calls.drain_line.Goals as goal
 
