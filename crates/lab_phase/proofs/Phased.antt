@@ -16,7 +16,7 @@ use Rattle.lab_script.specs.Script.{IsActor, IsLine, IsOpOf, IsScript, frames_pl
 use Rattle.lab_phase.specs.declared.body.Body.{Body}
 use Rattle.lab_phase.specs.declared.seat.Seat.{Seat}
 use Rattle.lab_phase.specs.Meaning.{AreFiles, numbered_lines}
-use Rattle.lab_phase.specs.Stages.{CanTake, HasRun, IsOpenPort, IsSettled, played_by_lines}
+use Rattle.lab_phase.specs.Stages.{CanTake, HasRun, IsAsked, IsOpenPort, IsSettled, played_by_lines}
 use Rattle.lab_phase.proofs.Lined.{HasRun-append}
 
 -- the lines of a phase that has a number
@@ -63,8 +63,8 @@ CanTake-settled script wavs body line is_script files settled is_line few = by_a
       fed = λ v is_open. (settled.each client seat v wav here is_open file).is_own.fed;
     }
 
-    by_client : (client : ℕ) (asked : Op) → client < length script.clients → played_by asked ≡ 0 → CanTake wavs body (Client client) asked
-    by_client client asked within none = (none, omega (arith, within, settled.seats_are), omega (arith, within, files), port client within)
+    by_client : (client : ℕ) (asked : Op) → client < length script.clients → played_by asked ≡ 0 → IsAsked asked → CanTake wavs body (Client client) asked
+    by_client client asked within none is_asked = (none, omega (arith, within, settled.seats_are), omega (arith, within, files), port client within, is_asked)
 
     by_actor : (actor : Actor) (asked : Op) → IsActor (length script.clients) actor → IsOpOf actor asked → body.position + played_by asked ≤ 4194304 → CanTake wavs body actor asked
     by_actor Card (op.Play frames) is_actor is_op few =
@@ -85,15 +85,15 @@ CanTake-settled script wavs body line is_script files settled is_line few = by_a
     by_actor Card op.Opens is_actor is_op few = absurd is_op
     by_actor (Client client) (op.Play n) is_actor is_op few = absurd is_op
     by_actor (Client client) op.Opens is_actor is_op few = absurd is_op
-    by_actor (Client client) (op.Write n) is_actor is_op few = by_client client (op.Write n) is_actor refl
-    by_actor (Client client) op.Start is_actor is_op few = by_client client op.Start is_actor refl
-    by_actor (Client client) op.Sync is_actor is_op few = by_client client op.Sync is_actor refl
-    by_actor (Client client) op.Avail is_actor is_op few = by_client client op.Avail is_actor refl
-    by_actor (Client client) op.Delay is_actor is_op few = by_client client op.Delay is_actor refl
-    by_actor (Client client) op.Drain is_actor is_op few = by_client client op.Drain is_actor refl
-    by_actor (Client client) op.Drop is_actor is_op few = by_client client op.Drop is_actor refl
-    by_actor (Client client) op.Prepare is_actor is_op few = by_client client op.Prepare is_actor refl
-    by_actor (Client client) op.Pause is_actor is_op few = by_client client op.Pause is_actor refl
+    by_actor (Client client) (op.Write n) is_actor is_op few = by_client client (op.Write n) is_actor refl is_op
+    by_actor (Client client) op.Start is_actor is_op few = by_client client op.Start is_actor refl tt
+    by_actor (Client client) op.Sync is_actor is_op few = by_client client op.Sync is_actor refl tt
+    by_actor (Client client) op.Avail is_actor is_op few = by_client client op.Avail is_actor refl tt
+    by_actor (Client client) op.Delay is_actor is_op few = by_client client op.Delay is_actor refl tt
+    by_actor (Client client) op.Drain is_actor is_op few = by_client client op.Drain is_actor refl tt
+    by_actor (Client client) op.Drop is_actor is_op few = by_client client op.Drop is_actor refl tt
+    by_actor (Client client) op.Prepare is_actor is_op few = by_client client op.Prepare is_actor refl tt
+    by_actor (Client client) op.Pause is_actor is_op few = by_client client op.Pause is_actor refl tt
 
 -- one line more
 pub HasRun-line : (script : Script) (wavs : List Sound) (number index : ℕ) (lines : List Line) (line : Line) (a b d : Body) → index < length lines → line ≡ get_or lines index line

@@ -121,6 +121,11 @@ pub record IsOpenPort (core : View) (client : ℕ) (wav : Sound) (seat : Seat) :
   pub channels : (v : ClientView) → seat.client ≡ Some v → length v.plain.bindings ≡ wav.channels
   pub fed : (v : ClientView) → seat.client ≡ Some v → v.plain.fed ≤ frames_of wav
 
+-- a write asks for at most the frames that a script can ask for
+abbrev pub IsAsked : Op → Type 0
+IsAsked (op.Write frames) = frames ≤ 4194304
+IsAsked other = ⊤
+
 -- a run can take a line
 abbrev pub CanTake : List Sound → Body → Actor → Op → Type 0
 CanTake wavs body Card (op.Play frames) = (body.position + frames ≤ 4194304) × (body.core.next.channel ≡ 0) × (body.core.next.frame + frames ≤ end_frame body.core.geometry)
@@ -128,6 +133,7 @@ CanTake wavs body Card other = ⊥
 CanTake wavs body (Client client) asked =
     (played_by asked ≡ 0) × (client < length body.seats.items) × (client < length wavs)
     × ((seat : Seat) (wav : Sound) → slice_get body.seats.items client ≡ Some seat → slice_get wavs client ≡ Some wav → IsOpenPort body.core client wav seat)
+    × IsAsked asked
 
 -- what a call of a client did to the core: it laid entries of the client, and left the rest and the other cursors alone
 pub record LaysAt (client : ℕ) (v w : View) (entries : List Entry) : Type 0 where

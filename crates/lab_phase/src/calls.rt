@@ -8,6 +8,7 @@ ghost use Rattle.dmix_client.specs.Port.{CanUse};
 ghost use Rattle.wav_io.specs.Sound.{Sound};
 ghost use Rattle.lab_phase.specs.Lines.{Own, count_answer, done_answer, frames_of, told};
 ghost use Rattle.lab_phase.specs.Seats.{HasCalled, IsAtPort, IsOwn};
+ghost use Rattle.lab_phase.specs.Stages.{IsAsked};
 
 use dmix_client::Client;
 use lab_report::Answer;
@@ -180,6 +181,7 @@ fn write_line(client: &mut Client, port: &mut Turn<'_>, wav: &Wav, frames: u32) 
 
 /// The call that a line names. A write offers the next frames of the client's file, or those that are left of it.
 pub(crate) fn call_line(client: &mut Client, port: &mut Turn<'_>, wav: &Wav, asked: Op) -> Answer
+    requires asked { IsAsked asked }
     requires usable { CanUse client.old.plain (core_of port.old).geometry (member_of port.old) (cursor_of_turn port.old) (core_of port.old).position ⊤ }
     requires channels { length client.old.plain.bindings ≡ wav.now.channels }
     requires fed { client.old.plain.fed ≤ frames_of wav.now }

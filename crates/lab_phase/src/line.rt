@@ -10,7 +10,7 @@ ghost use Rattle.lab_phase.specs.Lines.{Own, closed_answer, ended_after, frames_
 ghost use Rattle.lab_phase.specs.Meaning.{card_row, client_row};
 ghost use Rattle.lab_phase.specs.Mixes.{RestsAt};
 ghost use Rattle.lab_phase.specs.Seats.{IsOwn, ends_stretch};
-ghost use Rattle.lab_phase.specs.Stages.{CanTake, HasCalledAt, HasRun, IsAtSeat, IsOpenPort, IsSettled, TakesLine, laid_of};
+ghost use Rattle.lab_phase.specs.Stages.{CanTake, HasCalledAt, HasRun, IsAsked, IsAtSeat, IsOpenPort, IsSettled, TakesLine, laid_of};
 
 use crate::body::Body;
 use crate::calls::call_line;
@@ -69,6 +69,7 @@ fn open_line(core: &mut Core, client: &mut Client, number: u32, wav: &Wav, asked
     requires usable { CanUse client.old.plain core.old.geometry number (slice_index_or core.old.cursors number core.old.next) core.old.position ⊤ }
     requires channels { length client.old.plain.bindings ≡ wav.now.channels }
     requires fed { client.old.plain.fed ≤ frames_of wav.now }
+    requires asked { IsAsked asked }
     ensures { (members p : ℕ) (own : Own) (h : List Event) → IsOwn wav.now own client.old → IsAtSeat members p number own core.old → Stands core.old h
         → HasCalledAt members p number wav.now own asked client.new core.old core.new result }
 {
@@ -114,6 +115,7 @@ fn seat_line(
     asked: Op,
 ) -> Result<Row, PcmError>
     requires port { IsOpenPort core.old number wav.now seat.old }
+    requires asked { IsAsked asked }
     ensures ok { IfOk result (λ row. TakesLine phase number wav.now asked core.old core.new seat.old seat.new row) }
     ensures only { IfErr result (λ e. e ≡ PcmError.Memory) }
 {

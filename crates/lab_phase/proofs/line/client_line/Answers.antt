@@ -9,6 +9,7 @@ seat_line-requires c = record {
       c.requires.can.3 c.index_mut-seat.result.now c.index-wavs-number.result
       (slice_get_read c.args.body.now.seats.items (length c.args.body.now.seats.items) c.args.number c.index_mut-seat.result.now refl c.requires.can.1 c.index_mut-seat.ensures.value)
       (slice_get_read c.args.wavs.now (length c.args.wavs.now) c.args.number c.index-wavs-number.result refl c.requires.can.2 c.index-wavs-number.is);
+  asked = c.requires.can.4;
 }
 
 pub returns-clause-ok : goal.returns-clause-ok
