@@ -1,5 +1,5 @@
 -- Calls whose late commits saw different words make the same of a client, and are told alike.
-use Rattle.std.proofs.Common.{◌≡◌, ◌≢◌, ℕ, ◌<◌, ◌≤◌, ◌+◌, List, [], ◌∷◌, refl, sym, ◌∙◌, ap, subst}
+use Rattle.std.proofs.Common.{◌≡◌, ℕ, ◌+◌, List, [], ◌∷◌, refl, ap, subst}
 use Rattle.std.specs.Prelude.{Bool, true, false, if◌then◌else◌, ◌&&◌, nat_lt, nat_le, nat_eq, Option, None, Some, Result, Ok, Err}
 use Rattle.snd_base.specs.declared.errors.PcmError.{PcmError}
 use Rattle.snd_base.specs.declared.errors.PcmError.TheVariants.{Again}
@@ -17,7 +17,7 @@ use Rattle.dmix_client.specs.declared.commit.Commit.{Commit}
 use Rattle.dmix_client.specs.declared.commit.Ended.TheVariants as ended
 use Rattle.dmix_client.specs.declared.plain.Plain.{Plain}
 use Rattle.dmix_client.specs.View.{avail_of, is_moving}
-use Rattle.dmix_client.specs.Calls.{Answered, accepted, accepted_if, committed_by, drain_of, drained_on, end_channel, end_of_commit, facts_of, filled, found_at, going_on, going_on_by, is_prepared, is_running, is_stop, late_of, over_of, seen_at, settled, start_of, started, started_in, stopped_in, sync_of, synced, taken_of, with_number, writei_of, written_after, written_on}
+use Rattle.dmix_client.specs.Calls.{Answered, accepted, accepted_if, committed_by, drain_of, drained_on, end_channel, end_of_commit, facts_of, found_at, going_on, going_on_by, is_prepared, is_running, over_of, seen_at, settled, start_of, started, started_in, sync_of, synced, taken_of, with_number, writei_of, written_after, written_on}
 use Rattle.lab_phase.specs.Lines.{done_of, counted_of, told}
 
 -- an answer as a report tells it

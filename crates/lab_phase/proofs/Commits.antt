@@ -1,8 +1,7 @@
 -- What a commit comes to while the card rests: in time exactly where its first frame is not played.
-use Rattle.std.proofs.Common.{◌≡◌, ◌≢◌, ℕ, zero, suc, ◌<◌, ◌≤◌, ◌+◌, inl, inr, refl, sym, ◌∙◌, ap, subst, arith}
+use Rattle.std.proofs.Common.{◌≡◌, ℕ, ◌<◌, ◌≤◌, ◌+◌, inl, inr, refl, sym, ◌∙◌, ap, subst, arith}
 use Rattle.std.proofs.lemmas.Bool.{cases_eq}
 use Rattle.std.proofs.lemmas.Bool.Decides.{nat_tests}
-use Rattle.std.specs.Prelude.{nat_eq, nat_le, if◌then◌else◌, ◌||◌}
 use Rattle.dmix_client.specs.declared.commit.Commit.{Commit}
 use Rattle.dmix_client.specs.declared.commit.Ended.{Ended}
 use Rattle.dmix_client.specs.declared.commit.Ended.TheVariants.{Whole, Late, Stopped}

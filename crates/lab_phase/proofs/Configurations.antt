@@ -1,5 +1,5 @@
 -- What is chosen for a client's file lies within what the card gives to clients.
-use Rattle.std.proofs.Common.{◌≡◌, ℕ, ◌≤◌, inl, inr, refl, sym, ◌∙◌, ap, subst, arith, List, [], ◌∷◌}
+use Rattle.std.proofs.Common.{◌≡◌, ℕ, inr, refl, sym, ap, subst, arith, List, [], ◌∷◌}
 use Rattle.std.specs.Prelude.{Bool, true, false, if◌then◌else◌, Option, Some, None, Result, Ok, Err, IfOk}
 use Rattle.pcm_interval.specs.declared.empty.Empty.{Empty}
 use Rattle.pcm_interval.specs.declared.interval.Interval.{Interval}
@@ -15,8 +15,8 @@ use Rattle.hw_space.specs.declared.quantity.Quantity.{Quantity}
 use Rattle.hw_space.specs.declared.quantity.Quantity.TheVariants as quantity
 use Rattle.hw_space.specs.Boxes.{IsBoxWithin, part}
 use Rattle.hw_space.specs.BoxLaws.{IsBoxWithin-part, IsBoxWithin-refl, IsBoxWithin-trans, with_part-IsBoxWithin}
-use Rattle.hw_space.specs.Choices.{Chooses, IsChoice, Makes, choices, done, fails, goes}
-use Rattle.hw_space.specs.Narrowings.{IsNear, LeavesOf, at_least, at_most, greatest_end, least_end, narrowed, nearest, point, with_access, with_format, with_value}
+use Rattle.hw_space.specs.Choices.{Chooses, IsChoice, Makes, choices, done, goes}
+use Rattle.hw_space.specs.Narrowings.{LeavesOf, at_least, at_most, greatest_end, least_end, narrowed, nearest, point, with_access, with_format, with_value}
 use Rattle.hw_space.specs.Settled.{Leaves}
 use Rattle.hw_space.specs.Widest.{whole_from_to, widest}
 use Rattle.wav_io.specs.Sound.{Sound}

@@ -1,15 +1,14 @@
 -- The line of a client that drains.
-use Rattle.std.proofs.Common.{◌≡◌, ◌⊎◌, ℕ, ◌<◌, ◌≤◌, ◌+◌, List, [], ◌∷◌, ◌++◌, refl, sym, ◌∙◌, ap, subst, arith, inl, inr, length}
+use Rattle.std.proofs.Common.{◌≡◌, ℕ, ◌<◌, ◌≤◌, ◌+◌, List, [], ◌∷◌, ◌++◌, refl, sym, ◌∙◌, ap, subst, arith, inl, inr, length}
 use Rattle.std.proofs.lemmas.Bool.{cases_Bool}
 use Rattle.std.proofs.lemmas.Bool.Decides.{nat_tests}
 use Rattle.std.proofs.lemmas.List.{append-nil}
 use Rattle.std.proofs.lemmas.List.Elements.{All-cons, All-head, All-nil, All-tail}
-use Rattle.std.specs.Prelude.{ℤ, Bool, true, false, if◌then◌else◌, ◌&&◌, ◌||◌, nat_lt, is_some, min, ◌-◌, Option, None, Some, Result, Ok, Err, IfNone, IfSome, OnErr, All, ⊤}
+use Rattle.std.specs.Prelude.{ℤ, Bool, true, false, if◌then◌else◌, ◌&&◌, nat_lt, min, ◌-◌, Option, None, Some, Result, Ok, Err, IfSome, OnErr, ⊤}
 use Rattle.std.specs.Option.{option_to_list}
 use Rattle.snd_base.specs.declared.errors.PcmError.{PcmError}
 use Rattle.snd_base.specs.declared.errors.PcmError.TheVariants as error
 use Rattle.snd_base.specs.declared.geometry.Geometry.{Geometry}
-use Rattle.snd_base.specs.declared.places.Cursor.{Cursor}
 use Rattle.snd_base.specs.Places.{first_free}
 use Rattle.mix_core.specs.declared.port.Entry.{Entry}
 use Rattle.mix_core.specs.declared.port.Position.{Position}
@@ -25,25 +24,24 @@ use Rattle.dmix_client.specs.declared.commit.Commit.{Commit}
 use Rattle.dmix_client.specs.declared.commit.Ended.{Ended}
 use Rattle.dmix_client.specs.declared.commit.Ended.TheVariants.{Whole, Late, Stopped}
 use Rattle.dmix_client.specs.declared.plain.Plain.{Plain}
-use Rattle.dmix_client.specs.Calls.{Answered, commit_count, commit_entries, drained_on, draining, dropped, end_channel, end_of_commit, has_frames, is_prepared, over_of, refusal_of, seen_at, start_count, started, started_in, sync_count, synced, window_end}
+use Rattle.dmix_client.specs.Calls.{Answered, commit_count, commit_entries, drained_on, draining, dropped, end_channel, end_of_commit, has_frames, is_prepared, refusal_of, start_count, started, started_in, sync_count, synced, window_end}
 use Rattle.dmix_client.specs.Port.{CanUse, IsOnCard, IsCommit, IsFound, OnLate, TakesDrain, TakesStep, ToldBy, entries_at}
 use Rattle.mix_core.specs.Port.{IsPast}
 use Rattle.dmix_client.specs.View.{ClientView, IsSound, is_moving}
 use Rattle.wav_io.specs.Sound.{Sound}
 use Rattle.lab_script.specs.declared.line.Op.TheVariants as op
-use Rattle.lab_report.specs.declared.row.Answer.{Answer}
 use Rattle.lab_phase.specs.Lines.{Own, called, done_answer, refused_or}
 use Rattle.lab_phase.specs.Mixes.{RestsAt}
 use Rattle.lab_phase.specs.Rest.{commit_at, cursor_at, drain_at, resting, start_commit, sync_commit}
 use Rattle.lab_phase.specs.Seats.{HasCalled, IsAtPort, IsOwn}
 use Rattle.lab_phase.proofs.Advances.{AdvancesUnwritten, started-AdvancesUnwritten, synced-AdvancesUnwritten}
 use Rattle.lab_phase.proofs.Alike.{AreSame, AreSame-refl, IsLike, drained_on-AreSame, is_late, is_same, started-AreSame, synced-AreSame}
-use Rattle.lab_phase.proofs.Calling.{HasCalled-step, HasCalled-still, IsFrom, IsResting, IsResting-like, Unmoved-same, nothing_laid}
+use Rattle.lab_phase.proofs.Calling.{HasCalled-step, HasCalled-still, IsFrom, IsResting-like, Unmoved-same, nothing_laid}
 use Rattle.lab_phase.proofs.Commits.{commit_rests}
-use Rattle.lab_phase.proofs.Resting.{Rested, geometry_of_turn, loaded_position, rested, rested_like, shown_by}
+use Rattle.lab_phase.proofs.Resting.{geometry_of_turn, loaded_position, rested, rested_like, shown_by}
 use Rattle.lab_phase.proofs.Starting.{started_in-IsFrom}
 use Rattle.lab_phase.proofs.Syncing.{commit_count-ahead, commit_count-most, refusal-cases, sync_count-cases, sync_count-most, tell, told_done}
-use Rattle.lab_phase.proofs.Waiting.{dropped-unmoved, usable-still}
+use Rattle.lab_phase.proofs.Waiting.{dropped-unmoved}
 
 -- ---- what a drain comes to at rest
 

@@ -1,11 +1,9 @@
 -- How a client's segment grows by a commit, and what stands behind it.
-use Rattle.std.proofs.Common.{◌≡◌, ℕ, zero, suc, ◌<◌, ◌≤◌, ◌+◌, List, [], ◌∷◌, ◌++◌, refl, sym, ◌∙◌, ap, subst, arith, length, map, zero-add, inl, inr}
+use Rattle.std.proofs.Common.{◌≡◌, ℕ, ◌<◌, ◌≤◌, ◌+◌, List, [], ◌++◌, sym, ◌∙◌, ap, arith, length, map, inl, inr}
 use Rattle.std.proofs.lemmas.Bool.{cases_eq}
 use Rattle.std.proofs.lemmas.Bool.Decides.{nat_tests}
-use Rattle.std.proofs.lemmas.List.{append-nil}
 use Rattle.std.proofs.lemmas.List.Sums.{fold-append}
 use Rattle.std.specs.Prelude.{ℤ, fold}
-use Rattle.std.specs.List.{slice_index_or}
 use Rattle.snd_base.specs.declared.geometry.Geometry.{Geometry}
 use Rattle.snd_base.specs.declared.places.Cursor.{Cursor}
 use Rattle.snd_base.specs.Places.{first_frame, first_free}
@@ -19,8 +17,8 @@ use Rattle.mix_core.specs.Turn.{TurnLaid, core_of, cursor_of_turn, member_of}
 use Rattle.bindings.specs.Bound.{AreBindings}
 use Rattle.dmix_client.specs.declared.commit.Commit.{Commit}
 use Rattle.dmix_client.specs.declared.plain.Plain.{Plain}
-use Rattle.dmix_client.specs.Calls.{commit_entries, segment_of}
-use Rattle.dmix_client.specs.Expansion.{expand, run_entries, sample_at}
+use Rattle.dmix_client.specs.Calls.{commit_entries}
+use Rattle.dmix_client.specs.Expansion.{run_entries, sample_at}
 use Rattle.dmix_client.specs.Port.{IsOnCard}
 use Rattle.dmix_client.specs.View.{held}
 use Rattle.lab_phase.specs.Lines.{free_after}

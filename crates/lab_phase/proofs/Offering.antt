@@ -1,11 +1,10 @@
 -- What a write offers of a client's file, and what is pending after it stored frames.
-use Rattle.std.proofs.Common.{◌≡◌, ◌⊎◌, ℕ, ◌<◌, ◌≤◌, ◌+◌, ◌*◌, ◌%◌, List, refl, sym, ◌∙◌, ap, subst, arith, inl, inr, length, take, drop, get_or}
+use Rattle.std.proofs.Common.{◌≡◌, ℕ, ◌<◌, ◌≤◌, ◌+◌, ◌*◌, ◌%◌, List, refl, sym, ◌∙◌, ap, subst, arith, inl, inr, length, take, drop, get_or}
 use Rattle.std.proofs.Math.Nat.{div-mul-le_self, mul-div_cancel, mul-le-mul_right, mul-mod_left}
 use Rattle.std.proofs.lemmas.Bool.{cases_eq, cases_lt}
 use Rattle.std.proofs.lemmas.Bool.Decides.{nat_tests}
 use Rattle.std.proofs.lemmas.List.{get_or-drop, get_or-take, length-drop, length-take}
-use Rattle.std.specs.Prelude.{ℤ, pos, Bool, true, false, ◌-◌, ◌/◌, ◌&&◌, ◌^◌, if◌then◌else◌, min, nat_eq, nat_lt, Result, Ok, Err}
-use Rattle.snd_base.specs.declared.errors.PcmError.{PcmError}
+use Rattle.std.specs.Prelude.{ℤ, pos, Bool, true, false, ◌-◌, ◌/◌, ◌&&◌, ◌^◌, if◌then◌else◌, min, nat_eq, nat_lt, Ok, Err}
 use Rattle.snd_base.specs.declared.errors.PcmError.TheVariants.{Again}
 use Rattle.pcm_states.specs.declared.states.State.TheVariants.{Running}
 use Rattle.pcm_states.specs.declared.calls.Call.TheVariants as call
@@ -15,13 +14,13 @@ use Rattle.dmix_client.specs.declared.commit.Commit.{Commit}
 use Rattle.dmix_client.specs.declared.commit.Ended.TheVariants.{Stopped}
 use Rattle.dmix_client.specs.declared.plain.Plain.{Plain}
 use Rattle.dmix_client.specs.Calls.{Answered, accepted, accepted_if, committed_by, found_at, is_stop, late_of, settled, stopped_in, taken_of, written_after}
-use Rattle.dmix_client.specs.View.{avail_of, held}
+use Rattle.dmix_client.specs.View.{avail_of}
 use Rattle.dmix_client.specs.Writes.{IsOffer, frames_in, ring_with}
 use Rattle.wav_io.specs.Sound.{Sound}
 use Rattle.lab_phase.specs.Lines.{frames_of}
 use Rattle.lab_phase.specs.Seats.{IsPending}
 use Rattle.lab_phase.proofs.Advances.{AdvancesUnwritten, if-false, not_stop}
-use Rattle.lab_phase.proofs.Calling.{held-same, nothing_laid}
+use Rattle.lab_phase.proofs.Calling.{held-same}
 use Rattle.lab_phase.proofs.Growing.{Advances}
 use Rattle.lab_phase.proofs.Storing.{HasRoom, stored-new, stored-old}
 

@@ -1,10 +1,8 @@
 -- The lines of phases, and when a run can take one.
-use Rattle.std.proofs.Common.{◌≡◌, ℕ, zero, suc, ◌<◌, ◌≤◌, ◌+◌, List, [], ◌∷◌, ◌++◌, refl, sym, ◌∙◌, ap, subst, arith, length, map, take, drop, get_or, add-zero, append_assoc, All}
+use Rattle.std.proofs.Common.{◌≡◌, ℕ, suc, ◌<◌, ◌≤◌, ◌+◌, List, [], ◌∷◌, ◌++◌, refl, sym, ◌∙◌, ap, subst, arith, length, map, take, get_or, add-zero, append_assoc}
 use Rattle.std.proofs.lemmas.List.{append-nil, map-append, take_more, length-take}
 use Rattle.std.proofs.lemmas.List.Sums.{sum_by-append, sum_by-cons, sum_by-take-le, sum_by_more}
-use Rattle.std.specs.Prelude.{◌*◌, sum_by, slice_get, Some}
-use Rattle.snd_base.specs.Places.{end_frame}
-use Rattle.dmix_client.specs.View.{ClientView}
+use Rattle.std.specs.Prelude.{sum_by, slice_get, Some}
 use Rattle.wav_io.specs.Sound.{Sound}
 use Rattle.lab_script.specs.declared.line.Actor.{Actor}
 use Rattle.lab_script.specs.declared.line.Actor.TheVariants.{Card, Client}

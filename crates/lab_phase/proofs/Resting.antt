@@ -1,8 +1,8 @@
 -- What a load and the commit behind it come to over a turn whose core rests at a position.
-use Rattle.std.proofs.Common.{◌≡◌, ◌≢◌, ℕ, ◌<◌, ◌≤◌, ◌+◌, List, [], ◌∷◌, ◌++◌, refl, sym, ◌∙◌, ap, subst, arith, map, All, length, get_or}
+use Rattle.std.proofs.Common.{◌≡◌, ℕ, ◌<◌, ◌+◌, List, [], ◌∷◌, ◌++◌, refl, sym, ◌∙◌, ap, subst, arith, map, length}
 use Rattle.std.proofs.lemmas.Bool.Decides.{nat_tests}
 use Rattle.std.proofs.lemmas.List.Elements.{All-get_or, All-head}
-use Rattle.std.specs.Prelude.{ℤ, Bool, Option, None, Some, IfSome, true, false, slice_index, ⊤}
+use Rattle.std.specs.Prelude.{ℤ, Bool, Option, None, Some, IfSome, false, slice_index}
 use Rattle.std.specs.Option.{option_to_list}
 use Rattle.snd_base.specs.declared.geometry.Geometry.{Geometry}
 use Rattle.snd_base.specs.declared.places.Cursor.{Cursor}

@@ -1,14 +1,11 @@
 -- The line of a client that starts.
-use Rattle.std.proofs.Common.{◌≡◌, ◌⊎◌, ℕ, ◌<◌, ◌≤◌, ◌+◌, List, [], ◌∷◌, ◌++◌, refl, sym, ◌∙◌, ap, subst, arith, inl, inr, length}
+use Rattle.std.proofs.Common.{◌≡◌, ℕ, ◌<◌, ◌≤◌, ◌+◌, List, refl, sym, ◌∙◌, ap, subst, arith, inl, inr, length}
 use Rattle.std.proofs.lemmas.Bool.{cases_eq}
 use Rattle.std.proofs.lemmas.Bool.Decides.{nat_tests}
-use Rattle.std.specs.Prelude.{ℤ, Bool, true, false, if◌then◌else◌, nat_eq, Option, None, Some, Result, Ok, Err, ⊤}
+use Rattle.std.specs.Prelude.{Bool, true, false, if◌then◌else◌, nat_eq, Option, None, Some, Result, Err, ⊤}
 use Rattle.snd_base.specs.declared.errors.PcmError.{PcmError}
 use Rattle.snd_base.specs.declared.errors.PcmError.TheVariants as error
 use Rattle.snd_base.specs.declared.errors.XrunWhy.TheVariants as why
-use Rattle.snd_base.specs.declared.places.Cursor.{Cursor}
-use Rattle.snd_base.specs.Places.{first_free}
-use Rattle.mix_core.specs.declared.port.Position.{Position}
 use Rattle.mix_core.specs.declared.turn.Turn.{Turn}
 use Rattle.mix_core.specs.History.{Row}
 use Rattle.mix_core.specs.Stands.{Stands}
@@ -19,19 +16,18 @@ use Rattle.pcm_states.specs.declared.calls.Call.TheVariants as call
 use Rattle.dmix_client.specs.declared.commit.Commit.{Commit}
 use Rattle.dmix_client.specs.declared.plain.Plain.{Plain}
 use Rattle.pcm_states.specs.Table.{next_of}
-use Rattle.dmix_client.specs.Calls.{Answered, commit_count, nothing_found, refusal_in, refusal_of, settled, start_count, start_of, started, started_in}
+use Rattle.dmix_client.specs.Calls.{Answered, commit_count, nothing_found, refusal_in, refusal_of, settled, start_count, started, started_in}
 use Rattle.dmix_client.specs.Port.{CanUse, TakesStep}
 use Rattle.dmix_client.specs.View.{ClientView, IsSound}
 use Rattle.wav_io.specs.Sound.{Sound}
 use Rattle.lab_script.specs.declared.line.Op.TheVariants as op
-use Rattle.lab_report.specs.declared.row.Answer.{Answer}
 use Rattle.lab_phase.specs.Lines.{Own, called, done_answer, refused_or}
-use Rattle.lab_phase.specs.Rest.{commit_at, cursor_at, resting, start_at, start_commit}
+use Rattle.lab_phase.specs.Rest.{cursor_at, resting, start_at, start_commit}
 use Rattle.lab_phase.specs.Seats.{HasCalled, IsAtPort, IsOwn}
 use Rattle.lab_phase.proofs.Advances.{AdvancesUnwritten, started-AdvancesUnwritten}
 use Rattle.lab_phase.proofs.Alike.{started-AreSame}
 use Rattle.lab_phase.proofs.Calling.{HasCalled-step, HasCalled-still, IsFrom, IsResting-like, Unmoved-same}
-use Rattle.lab_phase.proofs.Resting.{Rested, geometry_of_turn, rested, shown_by}
+use Rattle.lab_phase.proofs.Resting.{geometry_of_turn, rested, shown_by}
 use Rattle.lab_phase.proofs.Syncing.{commit_count-ahead, commit_count-most, refusal-cases, tell, told_done}
 
 -- only a prepared stream can start

@@ -1,34 +1,30 @@
 -- The lines of a client whose calls sync.
-use Rattle.std.proofs.Common.{◌≡◌, ◌⊎◌, ℕ, ◌<◌, ◌≤◌, ◌+◌, List, [], ◌∷◌, ◌++◌, refl, sym, ◌∙◌, ap, subst, arith, inl, inr, length}
+use Rattle.std.proofs.Common.{◌≡◌, ◌⊎◌, ℕ, ◌<◌, ◌≤◌, ◌+◌, List, refl, sym, ◌∙◌, ap, subst, arith, inl, inr, length}
 use Rattle.std.proofs.lemmas.Bool.{cases_Bool}
 use Rattle.std.proofs.lemmas.Bool.Decides.{nat_tests}
-use Rattle.std.specs.Prelude.{ℤ, Bool, true, false, if◌then◌else◌, ◌-◌, ◌||◌, is_some, min, Option, None, Some, Result, Ok, Err, ⊤}
+use Rattle.std.specs.Prelude.{Bool, true, false, if◌then◌else◌, is_some, Option, None, Some, Result, Ok, Err, ⊤}
 use Rattle.snd_base.specs.declared.errors.PcmError.{PcmError}
-use Rattle.snd_base.specs.declared.geometry.Geometry.{Geometry}
-use Rattle.mix_core.specs.declared.port.Position.{Position}
 use Rattle.mix_core.specs.declared.turn.Turn.{Turn}
 use Rattle.mix_core.specs.History.{Row}
 use Rattle.mix_core.specs.Stands.{Stands}
 use Rattle.mix_core.specs.Turn.{TurnLaid, TurnLoaded, core_of, cursor_of_turn, member_of}
-use Rattle.mix_core.specs.TurnLaws.{TurnLaid-composes}
-use Rattle.pcm_states.specs.declared.calls.Call.{Call}
 use Rattle.pcm_states.specs.declared.calls.Call.TheVariants as call
 use Rattle.dmix_client.specs.declared.commit.Commit.{Commit}
 use Rattle.dmix_client.specs.declared.plain.Plain.{Plain}
-use Rattle.dmix_client.specs.Calls.{Answered, avail_answer, commit_count, delay_answer, over_of, refusal_of, seen_at, sync_count, sync_of, synced, window_end, with_number}
+use Rattle.dmix_client.specs.Calls.{Answered, avail_answer, commit_count, delay_answer, over_of, refusal_of, seen_at, sync_count, synced, with_number}
 use Rattle.dmix_client.specs.Port.{CanUse, TakesStep}
 use Rattle.dmix_client.specs.View.{ClientView, IsSound, is_moving}
 use Rattle.wav_io.specs.Sound.{Sound}
 use Rattle.lab_script.specs.declared.line.Op.{Op}
 use Rattle.lab_script.specs.declared.line.Op.TheVariants as op
 use Rattle.lab_report.specs.declared.row.Answer.{Answer}
-use Rattle.lab_phase.specs.Lines.{Own, called, count_answer, counted_of, done_answer, done_of, refused_or, unless_refused}
-use Rattle.lab_phase.specs.Rest.{commit_at, resting, sync_at, sync_commit}
+use Rattle.lab_phase.specs.Lines.{Own, called, count_answer, done_answer, refused_or, unless_refused}
+use Rattle.lab_phase.specs.Rest.{resting, sync_at, sync_commit}
 use Rattle.lab_phase.specs.Seats.{HasCalled, IsAtPort, IsOwn, ends_stretch}
 use Rattle.lab_phase.proofs.Advances.{AdvancesUnwritten, synced-AdvancesUnwritten, with_number-client}
 use Rattle.lab_phase.proofs.Alike.{AreSame, counted_of-AreSame, done_of-AreSame, synced-AreSame, with_number-AreSame}
 use Rattle.lab_phase.proofs.Calling.{HasCalled-step, HasCalled-still, IsFrom-refl, IsResting-like, Unmoved-same}
-use Rattle.lab_phase.proofs.Resting.{Rested, geometry_of_turn, rested, shown_by}
+use Rattle.lab_phase.proofs.Resting.{geometry_of_turn, rested, shown_by}
 
 -- a frame of those that a commit is to lay stands before the window's end
 pub commit_count-ahead : (c : Plain) (p upto n : ℕ) → n < commit_count c p upto → c.card + (c.committed + n) < p + c.geometry.frames

@@ -1,15 +1,14 @@
 -- The line of a client that writes.
-use Rattle.std.proofs.Common.{◌≡◌, ◌⊎◌, ℕ, ◌<◌, ◌≤◌, ◌+◌, List, [], ◌∷◌, ◌++◌, refl, sym, ◌∙◌, ap, subst, arith, inl, inr, length}
+use Rattle.std.proofs.Common.{◌≡◌, ◌⊎◌, ℕ, ◌<◌, ◌≤◌, ◌+◌, List, ◌++◌, refl, sym, ◌∙◌, ap, subst, arith, inl, inr, length}
 use Rattle.std.proofs.lemmas.Bool.{cases_Bool}
 use Rattle.std.proofs.lemmas.Bool.Decides.{nat_tests}
 use Rattle.std.proofs.lemmas.List.{append-nil}
-use Rattle.std.specs.Prelude.{ℤ, Bool, true, false, if◌then◌else◌, ◌&&◌, ◌||◌, ◌-◌, min, nat_eq, nat_lt, is_some, unwrap_or, Option, None, Some, Result, Ok, Err, ⊤}
+use Rattle.std.specs.Prelude.{ℤ, Bool, true, false, if◌then◌else◌, ◌&&◌, ◌||◌, ◌-◌, min, nat_eq, nat_lt, unwrap_or, Option, None, Some, Result, Ok, Err, ⊤}
 use Rattle.snd_base.specs.declared.errors.PcmError.{PcmError}
 use Rattle.snd_base.specs.declared.errors.PcmError.TheVariants as error
 use Rattle.snd_base.specs.declared.errors.PcmError.TheVariants.{Again}
 use Rattle.snd_base.specs.declared.geometry.Geometry.{Geometry}
 use Rattle.snd_base.specs.Places.{end_frame, first_free}
-use Rattle.mix_core.specs.declared.port.Entry.{Entry}
 use Rattle.mix_core.specs.declared.turn.Turn.{Turn}
 use Rattle.mix_core.specs.Gate.{Told}
 use Rattle.mix_core.specs.History.{Row}
@@ -21,27 +20,24 @@ use Rattle.pcm_states.specs.declared.states.State.TheVariants.{Open, Setup, Prep
 use Rattle.pcm_states.specs.declared.calls.Call.TheVariants as call
 use Rattle.pcm_states.specs.Table.{next_of}
 use Rattle.dmix_client.specs.declared.commit.Commit.{Commit}
-use Rattle.dmix_client.specs.declared.commit.Ended.{Ended}
-use Rattle.dmix_client.specs.declared.commit.Ended.TheVariants.{Whole, Late}
+use Rattle.dmix_client.specs.declared.commit.Ended.TheVariants.{Whole}
 use Rattle.dmix_client.specs.declared.plain.Plain.{Plain}
-use Rattle.dmix_client.specs.Calls.{Answered, accepted, accepted_if, commit_count, commit_entries, committed_by, filled, found_at, is_running, is_stop, late_of, nothing_found, over_of, refusal_in, refusal_of, seen_at, settled, start_count, started, started_in, stopped_in, sync_count, synced, taken_of, writei_of, written_after, written_on}
+use Rattle.dmix_client.specs.Calls.{Answered, accepted, accepted_if, commit_count, commit_entries, committed_by, filled, found_at, is_running, is_stop, late_of, nothing_found, refusal_in, refusal_of, settled, start_count, started, started_in, stopped_in, sync_count, synced, taken_of, written_on}
 use Rattle.dmix_client.specs.Port.{CanUse, TakesStep}
 use Rattle.dmix_client.specs.View.{ClientView, IsConfigured, IsSound, avail_of, hw_of, is_set_up}
 use Rattle.dmix_client.specs.Writes.{TakesWrite, count_after, count_with, frames_in, ring_with, starts_with, taken_after}
 use Rattle.wav_io.specs.Sound.{Sound}
 use Rattle.lab_script.specs.declared.line.Op.TheVariants as op
-use Rattle.lab_report.specs.declared.row.Answer.{Answer}
 use Rattle.lab_phase.specs.Lines.{Own, called, count_answer, frames_of, refused_or}
 use Rattle.lab_phase.specs.Rest.{commit_at, cursor_at, resting, start_commit, sync_commit, writei_at}
 use Rattle.lab_phase.specs.Seats.{HasCalled, IsAtPort, IsOwn, IsPending}
 use Rattle.lab_phase.proofs.Advances.{AdvancesUnwritten, started-AdvancesUnwritten, synced-AdvancesUnwritten}
 use Rattle.lab_phase.proofs.Alike.{AreSame, IsLike, accepted_if-AreSame, is_late, is_same, started-AreSame, synced-AreSame, written_on-AreSame}
-use Rattle.lab_phase.proofs.Calling.{HasCalled-laid, HasCalled-still, IsFrom, IsFrom-refl, IsResting, IsResting-like, Unmoved-same, nothing_laid, pending-laid}
+use Rattle.lab_phase.proofs.Calling.{HasCalled-laid, HasCalled-still, IsFrom-refl, IsResting, IsResting-like, Unmoved-same, nothing_laid, pending-laid}
 use Rattle.lab_phase.proofs.Growing.{Advances, entries-file, file_entries}
 use Rattle.lab_phase.proofs.Offering.{AdvancesTaking, IsPending-accepted, IsPending-fewer, Offers, accepted_if-AdvancesTaking}
-use Rattle.lab_phase.proofs.Resting.{Rested, geometry_of_turn, rested, shown_by}
+use Rattle.lab_phase.proofs.Resting.{geometry_of_turn, rested, shown_by}
 use Rattle.lab_phase.proofs.Starting.{started_in-IsFrom}
-use Rattle.lab_phase.proofs.Storing.{HasRoom}
 use Rattle.lab_phase.proofs.Syncing.{commit_count-ahead, commit_count-most, refusal-cases, sync_count-most, tell, told_count}
 use Rattle.lab_phase.proofs.Writing.{WriteRested, synced-seen, synced-whole, write-rested}
 use Rattle.lab_phase.proofs.Written.{Wrote, like-whole, synced-ahead, taken_of-most, wrote-on}

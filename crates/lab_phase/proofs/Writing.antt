@@ -1,9 +1,8 @@
 -- What a write into a running stream comes to while the card rests.
-use Rattle.std.proofs.Common.{◌≡◌, ◌⊎◌, ℕ, ◌<◌, ◌≤◌, ◌+◌, List, [], ◌∷◌, ◌++◌, refl, sym, ◌∙◌, ap, subst, arith, inl, inr, length}
-use Rattle.std.proofs.lemmas.Bool.{cases_Bool, cases_eq}
+use Rattle.std.proofs.Common.{◌≡◌, ℕ, ◌<◌, ◌≤◌, ◌+◌, List, ◌++◌, refl, sym, ◌∙◌, ap, subst, arith, length}
 use Rattle.std.proofs.lemmas.Bool.Decides.{nat_tests}
 use Rattle.std.proofs.lemmas.List.{append-nil}
-use Rattle.std.specs.Prelude.{ℤ, Bool, true, false, if◌then◌else◌, ◌&&◌, ◌||◌, ◌-◌, min, nat_eq, nat_le, nat_lt, is_some, Option, None, Some, Result, Ok, Err, IfSome, OnErr, unwrap_or}
+use Rattle.std.specs.Prelude.{ℤ, Bool, true, false, if◌then◌else◌, ◌&&◌, nat_eq, nat_lt, is_some, Option, None, Some, Result, Ok, Err, IfSome, OnErr, unwrap_or}
 use Rattle.std.specs.Option.{option_to_list}
 use Rattle.snd_base.specs.declared.errors.PcmError.{PcmError}
 use Rattle.snd_base.specs.declared.errors.PcmError.TheVariants as error
@@ -11,7 +10,6 @@ use Rattle.snd_base.specs.declared.errors.PcmError.TheVariants.{Again}
 use Rattle.snd_base.specs.declared.errors.XrunWhy.{XrunWhy}
 use Rattle.snd_base.specs.declared.errors.XrunWhy.TheVariants as why
 use Rattle.snd_base.specs.declared.geometry.Geometry.{Geometry}
-use Rattle.snd_base.specs.Places.{end_frame}
 use Rattle.mix_core.specs.declared.port.Entry.{Entry}
 use Rattle.mix_core.specs.declared.port.Position.{Position}
 use Rattle.mix_core.specs.declared.turn.Turn.{Turn}
@@ -23,23 +21,22 @@ use Rattle.mix_core.specs.Turn.{TurnLaid, TurnLoaded, core_of}
 use Rattle.pcm_states.specs.declared.states.State.{State}
 use Rattle.pcm_states.specs.declared.states.State.TheVariants.{Running}
 use Rattle.pcm_states.specs.declared.calls.Call.TheVariants as call
-use Rattle.pcm_states.specs.declared.calls.Outcome.{Outcome}
-use Rattle.pcm_states.specs.Table.{first_of, if_over, next_of}
+use Rattle.pcm_states.specs.Table.{next_of}
 use Rattle.dmix_client.specs.declared.commit.Commit.{Commit}
 use Rattle.dmix_client.specs.declared.commit.Ended.{Ended}
 use Rattle.dmix_client.specs.declared.commit.Ended.TheVariants.{Whole, Late, Stopped}
 use Rattle.dmix_client.specs.declared.plain.Plain.{Plain}
-use Rattle.dmix_client.specs.Calls.{Answered, accepted_if, commit_count, commit_entries, found_at, committed_by, end_channel, end_of_commit, facts_of, is_running, is_stop, late_of, over_of, seen_at, settled, stopped_in, sync_count, synced, taken_of, window_end, written_after, written_on}
+use Rattle.dmix_client.specs.Calls.{Answered, accepted_if, commit_count, commit_entries, found_at, committed_by, end_channel, end_of_commit, facts_of, is_stop, late_of, over_of, seen_at, settled, stopped_in, sync_count, synced, taken_of, written_on}
 use Rattle.dmix_client.specs.Port.{IsCommit, IsFound, IsOnCard, OnLate, ToldBy, entries_at}
 use Rattle.dmix_client.specs.View.{avail_of, queued_of}
 use Rattle.dmix_client.specs.Writes.{TakesWrite, count_after, count_with, ring_with, taken_after}
 use Rattle.lab_phase.specs.Mixes.{RestsAt}
 use Rattle.lab_phase.specs.Rest.{commit_at, resting, sync_commit}
-use Rattle.lab_phase.proofs.Advances.{AdvancesUnwritten, if-false, synced-AdvancesUnwritten}
-use Rattle.lab_phase.proofs.Alike.{IsLike, is_same}
+use Rattle.lab_phase.proofs.Advances.{AdvancesUnwritten, synced-AdvancesUnwritten}
+use Rattle.lab_phase.proofs.Alike.{IsLike}
 use Rattle.lab_phase.proofs.Calling.{nothing_laid}
 use Rattle.lab_phase.proofs.Commits.{commit_rests}
-use Rattle.lab_phase.proofs.Draining.{no_commit, nothing_at_rest}
+use Rattle.lab_phase.proofs.Draining.{no_commit}
 use Rattle.lab_phase.proofs.Resting.{end_channel-within, geometry_of_turn, late_at_rest, late_before, late_within, loaded_position, rested_like, shown_by}
 use Rattle.lab_phase.proofs.Syncing.{commit_count-ahead, sync_count-cases}
 

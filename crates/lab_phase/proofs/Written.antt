@@ -1,40 +1,33 @@
 -- The line of a client that writes.
-use Rattle.std.proofs.Common.{◌≡◌, ◌⊎◌, ℕ, ◌<◌, ◌≤◌, ◌+◌, ◌*◌, List, [], ◌∷◌, ◌++◌, refl, sym, ◌∙◌, ap, subst, arith, inl, inr, length}
-use Rattle.std.proofs.lemmas.Bool.{cases_Bool, cases_eq}
+use Rattle.std.proofs.Common.{◌≡◌, ℕ, ◌<◌, ◌≤◌, ◌+◌, ◌*◌, List, ◌++◌, refl, sym, ◌∙◌, ap, subst, arith, length}
 use Rattle.std.proofs.lemmas.Bool.Decides.{nat_tests}
-use Rattle.std.proofs.lemmas.List.{append-nil}
-use Rattle.std.specs.Prelude.{ℤ, Bool, true, false, if◌then◌else◌, ◌&&◌, ◌||◌, ◌-◌, min, nat_eq, nat_le, nat_lt, is_some, Option, None, Some, Result, Ok, Err, unwrap_or, ⊤}
+use Rattle.std.specs.Prelude.{ℤ, Bool, true, false, if◌then◌else◌, ◌||◌, ◌-◌, nat_eq, nat_le, Option, Some, Result, unwrap_or}
 use Rattle.snd_base.specs.declared.errors.PcmError.{PcmError}
 use Rattle.snd_base.specs.Places.{end_frame}
 use Rattle.mix_core.specs.declared.port.Entry.{Entry}
 use Rattle.mix_core.specs.declared.turn.Turn.{Turn}
-use Rattle.mix_core.specs.History.{Row}
-use Rattle.mix_core.specs.Stands.{Stands}
-use Rattle.mix_core.specs.Turn.{TurnLaid, core_of, cursor_of_turn, member_of}
-use Rattle.pcm_states.specs.declared.states.State.TheVariants.{Running}
-use Rattle.pcm_states.specs.declared.calls.Call.TheVariants as call
+use Rattle.mix_core.specs.Turn.{TurnLaid}
 use Rattle.bindings.specs.Bound.{AreBindings}
 use Rattle.hw_space.specs.declared.config.Config.{Config}
 use Rattle.dmix_client.specs.declared.commit.Commit.{Commit}
 use Rattle.dmix_client.specs.declared.commit.Ended.TheVariants.{Whole, Late}
 use Rattle.dmix_client.specs.declared.plain.Plain.{Plain}
-use Rattle.dmix_client.specs.Calls.{Answered, accepted, commit_count, commit_entries, over_of, seen_at, sync_count, synced, taken_of, window_end, written_after, written_on}
+use Rattle.dmix_client.specs.Calls.{Answered, accepted, commit_count, commit_entries, taken_of, written_after}
 use Rattle.dmix_client.specs.Expansion.{run_entries, sample_at}
 use Rattle.dmix_client.specs.ExpansionLaws.{run_entries-append}
-use Rattle.dmix_client.specs.View.{ClientView, IsConfigured, IsSound, avail_of, hw_of}
-use Rattle.dmix_client.specs.Writes.{count_after, count_with, ring_with, taken_after}
+use Rattle.dmix_client.specs.View.{ClientView, IsConfigured, hw_of}
+use Rattle.dmix_client.specs.Writes.{count_with, ring_with}
 use Rattle.wav_io.specs.Sound.{Sound}
-use Rattle.lab_phase.specs.Lines.{Own, frames_of}
-use Rattle.lab_phase.specs.Rest.{commit_at, resting, sync_commit}
-use Rattle.lab_phase.specs.Seats.{IsOwn, IsPending}
-use Rattle.lab_phase.proofs.Advances.{AdvancesUnwritten, synced-AdvancesUnwritten}
+use Rattle.lab_phase.specs.Lines.{frames_of}
+use Rattle.lab_phase.specs.Rest.{commit_at}
+use Rattle.lab_phase.specs.Seats.{IsPending}
+use Rattle.lab_phase.proofs.Advances.{AdvancesUnwritten}
 use Rattle.lab_phase.proofs.Alike.{IsLike, is_late, is_same}
-use Rattle.lab_phase.proofs.Calling.{IsResting, IsResting-like, pending-laid}
+use Rattle.lab_phase.proofs.Calling.{IsResting, pending-laid}
 use Rattle.lab_phase.proofs.Growing.{Advances, entries-file, file_entries}
 use Rattle.lab_phase.proofs.Offering.{AdvancesTaking, IsPending-accepted, IsPending-fewer, Offers, Offers-same, written_after-AdvancesTaking}
 use Rattle.lab_phase.proofs.Storing.{HasRoom}
-use Rattle.lab_phase.proofs.Syncing.{commit_count-most, sync_count-most}
-use Rattle.lab_phase.proofs.Writing.{WriteRested, synced-late, synced-seen, synced-whole}
+use Rattle.lab_phase.proofs.Syncing.{commit_count-most}
 
 -- what a write did to a client, whatever it answered: the frames of the file that it laid, and what is pending after it
 pub record Wrote (wav : Sound) (c : Plain) (w : ClientView) (t u : Turn) : Type 0 where

@@ -1,20 +1,10 @@
 -- What the calls of a client come to while the card rests at a position: all frames before it were played, and none from it
 -- on. So every load gives this position, and a frame is late exactly where it stands before it.
-use Rattle.std.specs.Prelude.{◌≡◌, ℕ, ◌+◌, ◌-◌, false, ◌||◌, nat_eq, nat_le, if◌then◌else◌, min, Option, Some, None, Result, Ok, Err}
-use Rattle.snd_base.specs.declared.errors.PcmError.{PcmError}
-use Rattle.snd_base.specs.declared.errors.PcmError.TheVariants.{Xrun, Invalid}
-use Rattle.snd_base.specs.declared.errors.Why.TheVariants.{Config}
-use Rattle.snd_base.specs.declared.errors.XrunWhy.{XrunWhy}
-use Rattle.snd_base.specs.declared.errors.XrunWhy.TheVariants.{Avail, Late}
+use Rattle.std.specs.Prelude.{ℕ, ◌+◌, false, ◌||◌, nat_eq, nat_le, if◌then◌else◌, Some}
 use Rattle.snd_base.specs.declared.places.Cursor.{Cursor}
 use Rattle.mix_core.specs.declared.port.Position.{Position}
 use Rattle.pcm_states.specs.declared.states.State.TheVariants.{Draining, Running}
-use Rattle.pcm_states.specs.declared.calls.Call.{Call}
 use Rattle.pcm_states.specs.declared.calls.Call.TheVariants as call
-use Rattle.lab_script.specs.declared.line.Op.{Op}
-use Rattle.lab_script.specs.declared.line.Op.TheVariants as op
-use Rattle.lab_report.specs.declared.row.Answer.{Answer}
-use Rattle.lab_report.specs.declared.row.Answer.TheVariants.{Done, Count, Failed}
 use Rattle.dmix_client.specs.declared.commit.Commit.{Commit}
 use Rattle.dmix_client.specs.declared.commit.Ended.TheVariants as ended
 use Rattle.dmix_client.specs.declared.plain.Plain.{Plain}

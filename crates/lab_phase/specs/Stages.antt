@@ -27,7 +27,7 @@ use Rattle.lab_report.specs.declared.row.Answer.{Answer}
 use Rattle.lab_report.specs.declared.row.Row.{Row}
 use Rattle.lab_phase.specs.declared.body.Body.{Body}
 use Rattle.lab_phase.specs.declared.seat.Seat.{Seat}
-use Rattle.lab_phase.specs.Lines.{Own, called, closed_answer, ended_after, frames_of, laid_in, line_done}
+use Rattle.lab_phase.specs.Lines.{Own, called, closed_answer, ended_after, frames_of, line_done}
 use Rattle.lab_phase.specs.Meaning.{AreOpened, Stage, bindings_of, client_row, entries_of, first_stage, numbered, open_row, rows_of, stage_after}
 use Rattle.lab_phase.specs.Mixes.{Mixes, RestsAt}
 use Rattle.lab_phase.specs.Opening.{IsOpening, IsRingOf, Setup, open_answer, opened_with}

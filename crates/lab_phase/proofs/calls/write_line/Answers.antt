@@ -9,7 +9,7 @@ use Rattle.lab_script.specs.declared.line.Op.TheVariants as op
 use Rattle.lab_phase.specs.Lines.{frames_of}
 use Rattle.lab_phase.specs.Seats.{HasCalled}
 use Rattle.lab_phase.proofs.Offering.{Offers, Offers-IsOffer, slice-Offers}
-use Rattle.lab_phase.proofs.WriteLine.{Writes, write-line}
+use Rattle.lab_phase.proofs.WriteLine.{write-line}
 use Rattle.lab_phase.proofs.calls.write_line.Goals as goal
 
 -- the frames that are offered, of the client's own count of frames

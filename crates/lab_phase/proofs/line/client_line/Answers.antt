@@ -1,4 +1,4 @@
-use Rattle.std.proofs.Common.{◌≡◌, refl, sym, ◌∙◌, ap, arith, length, set, List, slice_index_or}
+use Rattle.std.proofs.Common.{refl, length}
 use Rattle.std.proofs.lemmas.Option.{slice_get_read}
 use Rattle.lab_phase.proofs.Lined.{HasRun-client}
 use Rattle.lab_phase.proofs.line.client_line.Goals as goal

@@ -1,4 +1,4 @@
-use Rattle.std.proofs.Common.{◌≡◌, refl, sym, ◌∙◌, ap}
+use Rattle.std.proofs.Common.{refl}
 use Rattle.lab_phase.proofs.Seated.{TakesLine-open}
 use Rattle.lab_phase.proofs.line.seat_line.Goals as goal
 
