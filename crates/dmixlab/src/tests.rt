@@ -164,6 +164,11 @@ fn report_of(alloc: Global, session: &Session<'_>) -> Result<Vec<u8>, AllocError
     Ok(text.into_bytes())
 }
 
+// Bytes as a text, which is empty where they are none.
+fn text_in(bytes: &[u8]) -> &str {
+    str::from_utf8(bytes).unwrap_or("")
+}
+
 #[test]
 fn sessions_leave_their_report_and_file(rt: HostRuntime) -> Result<(), Fail> {
     let alloc = rt.alloc();
@@ -173,14 +178,15 @@ fn sessions_leave_their_report_and_file(rt: HostRuntime) -> Result<(), Fail> {
         let file = wav_of(alloc, session.head, session.played)?;
         let files = files_of(alloc, script, session.wavs)?;
         let left = call(&rt, alloc, &["run", "s", "o"], files, (&[], &[]))?;
-        let told = str::from_utf8(left.out.bytes()).unwrap_or("");
-        let wanted = str::from_utf8(&report).unwrap_or("");
-        assert_eq!(rt; left.status, 0, "{wanted}");
-        assert_eq!(rt; told, wanted);
+        let told = text_in(left.out.bytes());
+        let wanted = text_in(&report);
+        assert_eq!(rt; left.status, 0, "{}", session.name);
+        assert_eq!(rt; told, wanted, "{}", session.name);
         assert_eq!(rt;
             left.shelf.file(b"o.wav").unwrap_or(&[]),
             file.as_slice(),
-            "{wanted}"
+            "{}",
+            session.name
         );
         assert!(rt; left.errors.bytes().is_empty());
     }

@@ -3,10 +3,11 @@
 // 256 frames, and it is an xrun when 256 or more are free. A client's frames can be laid up to 256 frames
 // past the position.
 
-// A card; its clients, each with its name, its file and keys, and what its opening is answered; the lines of
+// Its name; the card; the clients, each with its name, its file and keys, and what its opening is answered; the lines of
 // each phase, each with its answer, the client's state and the position that it saw; the segments and what
 // is played, as the report tells them; the WAV files, and the samples of the file that is stored.
 pub(super) struct Session<'a> {
+    pub(super) name: &'a str,
     pub(super) card: &'a str,
     pub(super) clients: &'a [(&'a str, &'a str, &'a str)],
     pub(super) phases: &'a [&'a [(&'a str, &'a str)]],
@@ -46,6 +47,7 @@ const OPENED: &str = "ok PREPARED -";
 pub(super) const SESSIONS: [Session<'static>; 20] = [
     // One client, whose frames stand one period behind the position at which it began.
     Session {
+        name: "one write",
         card: ONE,
         clients: &[("a", "a.wav", OPENED)],
         phases: &[
@@ -59,6 +61,7 @@ pub(super) const SESSIONS: [Session<'static>; 20] = [
     },
     // No client, and nothing played.
     Session {
+        name: "an empty run",
         card: ONE,
         clients: &[],
         phases: &[&[("card play 0", "0 RUNNING 0")]],
@@ -69,6 +72,7 @@ pub(super) const SESSIONS: [Session<'static>; 20] = [
     },
     // The sum is cut once: 30000 + 10000 - 20000 is 20000.
     Session {
+        name: "a sum that is cut once",
         card: ONE,
         clients: &[
             ("a", "a.wav", OPENED),
@@ -97,6 +101,7 @@ pub(super) const SESSIONS: [Session<'static>; 20] = [
     },
     // 30000 + 10000 is cut to 32767.
     Session {
+        name: "a sum that is cut",
         card: ONE,
         clients: &[("a", "a.wav", OPENED), ("b", "b.wav", OPENED)],
         phases: &[
@@ -115,6 +120,7 @@ pub(super) const SESSIONS: [Session<'static>; 20] = [
     // A write takes what the buffer holds, 256 of 300 frames, and lays what fits between its start at 64 and
     // 256 frames past the position: 192.
     Session {
+        name: "a long write",
         card: ONE,
         clients: &[("a", "a.wav", OPENED)],
         phases: &[
@@ -129,6 +135,7 @@ pub(super) const SESSIONS: [Session<'static>; 20] = [
     // Without bindings a client's channel is the card's of the same number: the mono client is in channel 0
     // alone, where 1000 + 10 is played, and 32000 + 900 is cut.
     Session {
+        name: "a mono client of a stereo card",
         card: TWO,
         clients: &[("a", "a.wav", OPENED), ("b", "b.wav", OPENED)],
         phases: &[
@@ -158,6 +165,7 @@ pub(super) const SESSIONS: [Session<'static>; 20] = [
     },
     // A chunk that isn't known is skipped.
     Session {
+        name: "a chunk that isn't known",
         card: ONE,
         clients: &[("a", "a.wav", OPENED)],
         phases: &[
@@ -172,6 +180,7 @@ pub(super) const SESSIONS: [Session<'static>; 20] = [
     // Exchanged channels: the file's channel 0 (1, 3) plays in the card's channel 1, and its channel 1 (2, 4)
     // in the card's channel 0.
     Session {
+        name: "exchanged channels",
         card: TWO,
         clients: &[("a", "a.wav bindings 1,0", OPENED)],
         phases: &[
@@ -186,6 +195,7 @@ pub(super) const SESSIONS: [Session<'static>; 20] = [
     // Of three channels the stereo client has 2 and 0, and the mono client has 1 and, a second time, 2, where
     // the sums are 100 + 5 and 300 + 6.
     Session {
+        name: "two of three channels",
         card: WIDE,
         clients: &[
             ("a", "a.wav bindings 2,0", OPENED),
@@ -223,6 +233,7 @@ pub(super) const SESSIONS: [Session<'static>; 20] = [
     // answers so before its frames are looked at. A prepare loads nothing, so 128 is still the last position
     // seen, and it ends the stretch.
     Session {
+        name: "an xrun",
         card: ONE,
         clients: &[("a", "a.wav", OPENED)],
         phases: &[
@@ -244,6 +255,7 @@ pub(super) const SESSIONS: [Session<'static>; 20] = [
     // its file, is lost. At 256 there are 256 frames written and none played, so none are free and it is no
     // xrun.
     Session {
+        name: "a client that starts again behind itself",
         card: ONE,
         clients: &[("a", "a.wav", OPENED)],
         phases: &[
@@ -271,6 +283,7 @@ pub(super) const SESSIONS: [Session<'static>; 20] = [
     // where `avail` answers the buffer and a sync is refused. While it drains a client can't write, start or
     // be prepared.
     Session {
+        name: "a drain",
         card: ONE,
         clients: &[("a", "a.wav", OPENED)],
         phases: &[
@@ -308,6 +321,7 @@ pub(super) const SESSIONS: [Session<'static>; 20] = [
     // was played, which is an xrun also while it drains. So is client c's drain at 400, although all that it
     // wrote would have been played by then. A drop ends a drain.
     Session {
+        name: "drains of full buffers",
         card: ONE,
         clients: &[
             ("a", "a.wav", OPENED),
@@ -362,6 +376,7 @@ pub(super) const SESSIONS: [Session<'static>; 20] = [
     // 420 192 of them fit below 676, and of its buffer 12 are free. At 700 the next frame, 676, was played:
     // late, and no xrun by what is free (256 - (244 - 216)).
     Session {
+        name: "full buffers",
         card: ONE,
         clients: &[("a", "a.wav", OPENED)],
         phases: &[
@@ -416,6 +431,7 @@ pub(super) const SESSIONS: [Session<'static>; 20] = [
     // pending had been accepted. Client b is looked at when 400 frames were played: 256 - (256 - 336) = 336
     // are free, which is an xrun before anything is laid, so it isn't late.
     Session {
+        name: "late commits",
         card: TWO,
         clients: &[
             ("a", "a.wav bindings 1", OPENED),
@@ -466,6 +482,7 @@ pub(super) const SESSIONS: [Session<'static>; 20] = [
     // A start of an empty stream is refused, and its drain is done at once. A phase without lines counts. At
     // 200 136 frames were played of 64 written: 256 - (64 - 136) = 328 are free.
     Session {
+        name: "each call in each state",
         card: ONE,
         clients: &[("a", "a.wav", OPENED)],
         phases: &[
@@ -519,6 +536,7 @@ pub(super) const SESSIONS: [Session<'static>; 20] = [
     // bindings of fewer or of more channels than the file has. Each of their lines is refused too. They keep
     // their numbers, so the client behind them plays under its own: from 74 on, one period past 10.
     Session {
+        name: "refused openings",
         card: TWO,
         clients: &[
             ("slow", "slower", "EINVAL OPEN -"),
@@ -560,6 +578,7 @@ pub(super) const SESSIONS: [Session<'static>; 20] = [
     // past 68, and after the drop right behind what stands in the ring there, at 135. A stretch in which
     // nothing was laid has no segment. A delay that finds all played answers 0.
     Session {
+        name: "stretches",
         card: ONE,
         clients: &[("a", "a.wav", OPENED)],
         phases: &[
@@ -594,6 +613,7 @@ pub(super) const SESSIONS: [Session<'static>; 20] = [
     // Client a starts late, one period past 5, and its segment stands before b's, whose line is the second. A
     // file without frames leaves its client prepared. At 85 client a's 12 frames and 4 more were played.
     Session {
+        name: "a late start",
         card: ONE,
         clients: &[
             ("a", "a.wav", OPENED),
@@ -624,6 +644,7 @@ pub(super) const SESSIONS: [Session<'static>; 20] = [
     // An ordinary player: it fills the buffer, waits for the card, writes the rest and drains. Its ring of 8192
     // frames holds 7168 of the first write, from 1024 on.
     Session {
+        name: "an ordinary player",
         card: "card channels 2 rate 48000 period 1024 ring 8192",
         clients: &[("music", "music.wav", OPENED)],
         phases: &[
