@@ -1,5 +1,6 @@
 mod Frames
 mod Going
+mod Growth
 mod Left
 mod Rings
 mod Same

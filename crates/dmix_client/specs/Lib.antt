@@ -2,6 +2,7 @@ pub mod Calls
 pub mod Checked
 pub mod Expansion
 pub mod ExpansionLaws
+pub mod Growth
 pub mod Port
 pub mod Ring
 pub mod View
