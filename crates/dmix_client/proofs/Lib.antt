@@ -1,3 +1,4 @@
+mod Advances
 mod Frames
 mod Going
 mod Growth
@@ -9,3 +10,4 @@ mod Sound
 mod Starting
 mod Writes
 mod Started
+mod Storing
