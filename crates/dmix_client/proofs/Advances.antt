@@ -1,5 +1,5 @@
 -- What a sync, a start and a write make of a client: it advances by what was laid.
-use Rattle.std.proofs.Common.{◌≡◌, ℕ, ◌+◌, ◌-◌, ◌<◌, ◌≤◌, List, [], ◌∙◌, ap, sym, refl, subst, arith, length, min}
+use Rattle.std.proofs.Common.{◌≡◌, ℕ, ◌+◌, ◌-◌, ◌<◌, ◌≤◌, List, [], ◌∙◌, ap, sym, refl, subst, arith, length, min, add-zero}
 use Rattle.std.proofs.lemmas.Bool.Decides.{nat_tests}
 use Rattle.std.specs.Prelude.{Bool, true, false, ◌&&◌, nat_eq, nat_lt, if◌then◌else◌, ◌||◌, is_some, ℤ, Option, Some, None, IfSome, Result, Ok, Err, unwrap_or}
 use Rattle.snd_base.specs.declared.errors.PcmError.{PcmError}
@@ -19,13 +19,15 @@ use Rattle.dmix_client.specs.declared.commit.Ended.{Ended}
 use Rattle.dmix_client.specs.declared.commit.Ended.TheVariants as ended
 use Rattle.dmix_client.specs.declared.plain.Plain.{Plain}
 use Rattle.dmix_client.specs.Calls.{Answered, accepted_if, commit_count, commit_entries, committed_by, facts_of, found_at, going_on, going_on_by, is_stop, late_of, over_of, seen_at, settled, start_count, started, started_in, stopped_in, sync_count, synced, taken_of, window_end, written_after}
-use Rattle.dmix_client.specs.Expansion.{run_entries}
+use Rattle.dmix_client.specs.Expansion.{run_entries, sample_at}
 use Rattle.dmix_client.specs.ExpansionLaws.{frames_used}
+use Rattle.dmix_client.specs.Growth.{Follows}
 use Rattle.dmix_client.specs.Port.{IsCommit, IsFound, entries_at}
 use Rattle.dmix_client.specs.View.{avail_of, held, hw_of}
 use Rattle.dmix_client.specs.Writes.{count_with}
 use Rattle.dmix_client.proofs.Growth.{Advances, IsWithin, laid_by}
 use Rattle.dmix_client.proofs.Sound.{if-le}
+use Rattle.dmix_client.proofs.Started.{KeepsAccepted-synced}
 
 -- the frames of a commit are below the frame that it was to lay up to
 used-below : (e : Ended) (k frames part count channels upto : ℕ) → IsCommit e frames part count channels → count ≤ upto - k → k ≤ upto → k + frames_used frames part ≤ upto
@@ -303,3 +305,31 @@ written-card c n commit false false =
 pub laid_by-written : (c : Plain) (ring : List ℤ) (n : ℕ) (commit : Commit) → commit_entries c ring commit ≡ laid_by c (written_after c n commit).0 ring commit
 laid_by-written c ring n commit =
     ap (λ (at : ℕ). laid_by c (record c { card = at }) ring commit) (sym (written-card c n commit (nat_lt 0 n && nat_eq (avail_of c) 0) (is_stop commit.ended)))
+
+-- no frame more is accepted
+pub accepted-none : (a : Answered (Unit {0})) → (accepted_if 0 a).0 ≡ a.0
+accepted-none (d, Ok done) = ap (λ (w : ℕ). record d { written = w; fed = d.fed + 0 }) (add-zero d.written) ∙ ap (λ (f : ℕ). record d { fed = f }) (add-zero d.fed)
+accepted-none (d, Err e) = refl
+
+source-synced_by : (c : Plain) (call : Call) (position : Position) (commit : Commit) (stop : Bool)
+    → (if stop then stopped_in {T = Unit {0}} (committed_by (seen_at c position) commit)
+    else settled (committed_by (seen_at c position) commit) (next_of c.state call (facts_of (committed_by (seen_at c position) commit) position (over_of (seen_at c position) position) (late_of (seen_at c position) commit)))).0.source ≡ c.source
+source-synced_by c call position commit true = refl
+source-synced_by c call position commit false = refl
+
+source-synced : (c : Plain) (call : Call) (load : Option Position) (commit : Commit) → (synced c call load commit).0.source ≡ c.source
+source-synced c call None commit = refl
+source-synced c call (Some position) commit = source-synced_by c call position commit (is_stop commit.ended)
+
+-- what is offered behind a client's frames is so behind those of the client after its sync
+pub Follows-synced : (c : Plain) (call : Call) (load : Option Position) (commit : Commit) (samples offered : List ℤ) (n : ℕ) → Follows c samples offered n
+    → Follows (synced c call load commit).0 samples offered n
+Follows-synced c call load commit samples offered n follows k q within in_range =
+    let d = (synced c call load commit).0 in
+    let kept = KeepsAccepted-synced c call load commit in
+    let channels : length d.bindings ≡ length c.bindings = ap length kept.bindings in
+    let at : d.source + (d.written + k) ≡ c.source + (c.written + k) = omega (arith, kept.written, source-synced c call load commit) in
+    ap (λ (m : ℕ). sample_at samples m (d.source + (d.written + k)) q) channels
+    ∙ ap (λ (i : ℕ). sample_at samples (length c.bindings) i q) at
+    ∙ follows k q within (omega (arith, in_range, channels))
+    ∙ ap (λ (m : ℕ). sample_at offered m k q) (sym channels)

@@ -1,6 +1,7 @@
 mod Advances
 mod Frames
 mod Going
+mod Grown
 mod Growth
 mod Left
 mod Rings
