@@ -1,12 +1,10 @@
 -- What a sync, a start and a write make of a client: it advances by what was laid.
-use Rattle.std.proofs.Common.{◌≡◌, ℕ, ◌+◌, ◌-◌, ◌<◌, ◌≤◌, List, [], ◌∙◌, ap, sym, refl, subst, arith, length, min, add-zero}
+use Rattle.std.proofs.Common.{◌≡◌, ℕ, ◌+◌, ◌-◌, ◌≤◌, List, [], ◌∙◌, ap, sym, refl, subst, arith, length, min, add-zero}
 use Rattle.std.proofs.lemmas.Bool.Decides.{nat_tests}
 use Rattle.std.specs.Prelude.{Bool, true, false, ◌&&◌, nat_eq, nat_lt, if◌then◌else◌, ◌||◌, is_some, ℤ, Option, Some, None, IfSome, Result, Ok, Err, unwrap_or}
 use Rattle.snd_base.specs.declared.errors.PcmError.{PcmError}
 use Rattle.snd_base.specs.declared.errors.PcmError.TheVariants.{Again}
-use Rattle.snd_base.specs.declared.errors.XrunWhy.{XrunWhy}
 use Rattle.snd_base.specs.declared.places.Cursor.{Cursor}
-use Rattle.mix_core.specs.declared.port.Entry.{Entry}
 use Rattle.mix_core.specs.declared.port.Position.{Position}
 use Rattle.bindings.specs.Bound.{AreBindings}
 use Rattle.pcm_states.specs.declared.states.State.{State}
@@ -70,12 +68,24 @@ synced-by_stop : (c : Plain) (call : Call) (position : Position) (commit : Commi
     → Advances c (if stop then stopped_in {T = Unit {0}} (committed_by (seen_at c position) commit)
     else settled (committed_by (seen_at c position) commit) (next_of c.state call (facts_of (committed_by (seen_at c position) commit) position (over_of (seen_at c position) position) (late_of (seen_at c position) commit)))).0 commit c.written
 synced-by_stop c call position commit true newer = record {
-  member = refl; bindings = refl; config = refl; source = refl; card = λ some. refl; committed = refl; part = refl;
+  member = refl;
+  bindings = refl;
+  config = refl;
+  source = refl;
+  card = λ some. refl;
+  committed = refl;
+  part = refl;
   least = min-later c.committed (hw_of c) commit.frames (if c.started then position.frame - c.card else 0) (hw-later c.started (unwrap_or c.seen 0) position.frame c.card newer);
   written = omega arith;
 }
 synced-by_stop c call position commit false newer = record {
-  member = refl; bindings = refl; config = refl; source = refl; card = λ some. refl; committed = refl; part = refl;
+  member = refl;
+  bindings = refl;
+  config = refl;
+  source = refl;
+  card = λ some. refl;
+  committed = refl;
+  part = refl;
   least = min-later c.committed (hw_of c) commit.frames (if c.started then position.frame - c.card else 0) (hw-later c.started (unwrap_or c.seen 0) position.frame c.card newer);
   written = omega arith;
 }
@@ -124,17 +134,39 @@ none-of ended.Stopped frames part channels is = absurd (omega (arith, is.0))
 -- a client in another state
 Advances-going_on : (c d : Plain) (x : Commit) (to : ℕ) (answer : Result (Unit {0}) PcmError) (state refused : State) → Advances c d x to → Advances c (going_on_by answer d state refused).0 x to
 Advances-going_on c d x to (Ok done) state refused step = record {
-  member = step.member; bindings = step.bindings; config = step.config; source = step.source; card = step.card; committed = step.committed; part = step.part; least = step.least; written = step.written;
+  member = step.member;
+  bindings = step.bindings;
+  config = step.config;
+  source = step.source;
+  card = step.card;
+  committed = step.committed;
+  part = step.part;
+  least = step.least;
+  written = step.written;
 }
 Advances-going_on c d x to (Err e) state refused step = record {
-  member = step.member; bindings = step.bindings; config = step.config; source = step.source; card = step.card; committed = step.committed; part = step.part; least = step.least; written = step.written;
+  member = step.member;
+  bindings = step.bindings;
+  config = step.config;
+  source = step.source;
+  card = step.card;
+  committed = step.committed;
+  part = step.part;
+  least = step.least;
+  written = step.written;
 }
 
 -- a client with nothing laid, after a commit
 Advances-first : (c d : Plain) (x : Commit) (to : ℕ) → c.committed ≡ 0 → c.written ≤ to → d.member ≡ c.member → d.bindings ≡ c.bindings → d.config ≡ c.config → d.source ≡ c.source
     → d.committed ≡ c.committed + x.frames → d.part ≡ x.part → d.written ≡ c.written → Advances c d x to
 Advances-first c d x to none fits member bindings config source committed part written = record {
-  member = member; bindings = bindings; config = config; source = source; card = λ some. absurd (omega (arith, some, none)); committed = committed; part = part;
+  member = member;
+  bindings = bindings;
+  config = config;
+  source = source;
+  card = λ some. absurd (omega (arith, some, none));
+  committed = committed;
+  part = part;
   least = min-none c.committed (hw_of c) (min d.committed (hw_of d)) none;
   written = omega (arith, written, fits);
 }
@@ -232,7 +264,15 @@ laid_by-started c ring state cursor (Some position) commit upto found = laid-by_
 -- frames are accepted where the call went well
 pub Advances-accepted : (c : Plain) (x : Commit) (to m : ℕ) (a : Answered (Unit {0})) → a.0.written + m ≤ to → Advances c a.0 x to → Advances c (accepted_if m a).0 x to
 Advances-accepted c x to m (d, Ok done) fits step = record {
-  member = step.member; bindings = step.bindings; config = step.config; source = step.source; card = step.card; committed = step.committed; part = step.part; least = step.least; written = fits;
+  member = step.member;
+  bindings = step.bindings;
+  config = step.config;
+  source = step.source;
+  card = step.card;
+  committed = step.committed;
+  part = step.part;
+  least = step.least;
+  written = fits;
 }
 Advances-accepted c x to m (d, Err e) fits step = step
 
@@ -249,7 +289,13 @@ again-of n a is = grind (arith, nat_tests)
 Advances-committed : (c d : Plain) (x : Commit) (to : ℕ) → d.member ≡ c.member → d.bindings ≡ c.bindings → d.config ≡ c.config → d.source ≡ c.source
     → d.card ≡ c.card → d.committed ≡ c.committed + x.frames → d.part ≡ x.part → d.written ≤ to → hw_of c ≤ hw_of d → Advances c d x to
 Advances-committed c d x to member bindings config source card committed part written later = record {
-  member = member; bindings = bindings; config = config; source = source; card = λ some. card; committed = committed; part = part;
+  member = member;
+  bindings = bindings;
+  config = config;
+  source = source;
+  card = λ some. card;
+  committed = committed;
+  part = part;
   least = subst (λ (k : ℕ). min c.committed (hw_of c) ≤ min k (hw_of d)) (sym committed) (min-later c.committed (hw_of c) x.frames (hw_of d) later);
   written = written;
 }

@@ -1,7 +1,7 @@
 -- What a sync, a start and a write lay is that by which the segment grows.
-use Rattle.std.proofs.Common.{◌≡◌, ℕ, ◌+◌, ◌*◌, ◌<◌, ◌≤◌, List, ◌∙◌, ap, sym, refl, subst, arith, length, min}
+use Rattle.std.proofs.Common.{◌≡◌, ℕ, ◌+◌, ◌*◌, ◌≤◌, List, ◌∙◌, ap, sym, subst, arith, length, min}
 use Rattle.std.proofs.lemmas.Bool.Decides.{nat_tests}
-use Rattle.std.specs.Prelude.{true, false, ℤ, Option, Some, None, IfSome, unwrap_or}
+use Rattle.std.specs.Prelude.{true, false, ℤ, Option, IfSome, unwrap_or}
 use Rattle.snd_base.specs.Relations.{Composes}
 use Rattle.snd_base.specs.declared.places.Cursor.{Cursor}
 use Rattle.mix_core.specs.declared.port.Entry.{Entry}
@@ -11,10 +11,10 @@ use Rattle.pcm_states.specs.declared.states.State.TheVariants.{Prepared, Running
 use Rattle.pcm_states.specs.declared.calls.Call.{Call}
 use Rattle.dmix_client.specs.declared.commit.Commit.{Commit}
 use Rattle.dmix_client.specs.declared.plain.Plain.{Plain}
-use Rattle.dmix_client.specs.Calls.{Answered, accepted_if, commit_entries, start_count, started, started_in, sync_count, synced, taken_of, written_after}
+use Rattle.dmix_client.specs.Calls.{accepted_if, commit_entries, start_count, started, started_in, sync_count, synced, taken_of, written_after}
 use Rattle.dmix_client.specs.Growth.{Follows, Grows, StandsFor, StandsUpTo}
 use Rattle.dmix_client.specs.Port.{IsCommit, IsFound, entries_at}
-use Rattle.dmix_client.specs.View.{IsConfigured, IsMoving, IsPrepared, IsSound, hw_of, is_moving, is_set_up}
+use Rattle.dmix_client.specs.View.{IsConfigured, IsSound, hw_of, is_moving, is_set_up}
 use Rattle.dmix_client.specs.Writes.{count_with, ring_with}
 use Rattle.dmix_client.proofs.Advances.{Advances-accepted, Advances-started, Advances-synced, Advances-written, IsWithin-started, IsWithin-synced, IsWithin-written, accepted-card, laid_by-started, laid_by-synced, laid_by-written}
 use Rattle.dmix_client.proofs.Growth.{Advances, Grows-advanced, StandsFor-advanced, laid_by}

@@ -1,7 +1,6 @@
 -- How a client's segment grows by a commit, and which samples the client after it stands for.
-use Rattle.std.proofs.Common.{◌≡◌, ℕ, ◌+◌, ◌-◌, ◌<◌, ◌≤◌, List, [], ◌++◌, ◌∙◌, ap, sym, refl, subst, arith, length, min, inl, inr, zero-add, append_assoc}
+use Rattle.std.proofs.Common.{◌≡◌, ℕ, ◌+◌, ◌<◌, ◌≤◌, List, [], ◌++◌, ◌∙◌, ap, sym, subst, arith, length, min, inl, inr, zero-add}
 use Rattle.std.proofs.lemmas.Bool.{cases_eq}
-use Rattle.std.proofs.lemmas.Bool.Decides.{nat_tests}
 use Rattle.std.proofs.lemmas.List.{append-nil}
 use Rattle.std.specs.Prelude.{ℤ}
 use Rattle.snd_base.specs.Relations.{Composes}
@@ -108,14 +107,4 @@ module _ {S : Type 0} (laid : S → S → List Entry → Type 0) (composes : Com
     grown = same ∙ sym (append-nil (segment_entries c samples));
     same_member = same_member;
     same_bindings = same_bindings;
-  }
-
-  -- two steps, one after the other
-  pub Grows-then : (p q r : S) (c d e : Plain) (samples : List ℤ) → Grows laid p q c d samples → Grows laid q r d e samples → Grows laid p r c e samples
-  Grows-then p q r c d e samples first later = record {
-    entries = first.entries ++ later.entries;
-    laid_them = composes.joined p q r first.entries later.entries first.laid_them later.laid_them;
-    grown = later.grown ∙ ap (λ (es : List Entry). es ++ later.entries) first.grown ∙ append_assoc (segment_entries c samples) first.entries later.entries;
-    same_member = later.same_member ∙ first.same_member;
-    same_bindings = later.same_bindings ∙ first.same_bindings;
   }

@@ -1,5 +1,5 @@
 -- How the entries of a segment grow by what a commit lays.
-use Rattle.std.specs.Prelude.{◌≡◌, ℕ, ◌+◌, ◌*◌, ◌<◌, ◌≤◌, nat_lt, if◌then◌else◌, ℤ, List, [], ◌∷◌, ◌++◌, length, map, slice_index, take}
+use Rattle.std.specs.Prelude.{◌≡◌, ℕ, ◌+◌, ◌<◌, ◌≤◌, nat_lt, if◌then◌else◌, ℤ, List, [], ◌∷◌, ◌++◌, length, map, slice_index, take}
 use Rattle.std.specs.List.{flat_map, range_with_len}
 use Rattle.std.proofs.Common.{suc, zero, ◌∙◌, ap, sym, refl, subst, arith, get_or, zero-add, append_assoc}
 use Rattle.std.proofs.lemmas.Bool.Decides.{nat_tests}

@@ -3,6 +3,7 @@ pub mod Checked
 pub mod Expansion
 pub mod ExpansionLaws
 pub mod Growth
+pub mod GrowthLaws
 pub mod Port
 pub mod Ring
 pub mod View

@@ -1,17 +1,16 @@
-use Rattle.dmix_client.specs.Writes.{ring_with, count_with}
 use Rattle.pcm_states.specs.declared.states.State.TheVariants.{Running}
-use Rattle.std.proofs.Common.{◌≡◌, ◌≤◌, ◌∙◌, ap, sym, subst, ℕ, ◌+◌, ◌*◌, List, refl, length, add-zero, arith}
+use Rattle.std.proofs.Common.{◌≡◌, ◌≤◌, ◌∙◌, ap, sym, subst, ℕ, ◌+◌, List, length, add-zero}
 use Rattle.std.specs.Prelude.{OnOk}
 use Rattle.snd_base.specs.Places.{end_frame}
 use Rattle.mix_core.specs.declared.port.Position.{Position}
 use Rattle.dmix_client.specs.declared.plain.Plain.{Plain}
-use Rattle.dmix_client.specs.Calls.{Answered, started, started_in, start_count, accepted_if, taken_of, written_after, commit_entries, synced}
-use Rattle.dmix_client.specs.Port.{CanUse, IsFound, IsCommit}
+use Rattle.dmix_client.specs.Calls.{Answered, started, started_in, start_count}
+use Rattle.dmix_client.specs.Port.{CanUse, IsFound}
 use Rattle.mix_core.specs.Gate.{Told}
 use Rattle.dmix_client.specs.View.{IsSound}
 use Rattle.dmix_client.proofs.Grown.{Grows-started, IsBegun, StandsFor-started}
 use Rattle.dmix_client.proofs.Advances.{accepted-none}
-use Rattle.dmix_client.specs.Growth.{Grows, StandsFor, StandsUpTo, Follows}
+use Rattle.dmix_client.specs.Growth.{Grows, StandsFor, StandsUpTo}
 use Rattle.std.specs.Prelude.{ℤ}
 use Rattle.dmix_client.proofs.Going.{gone-whole, started-told}
 use Rattle.dmix_client.proofs.Left.{IsAfter, IsLeft-started, grown-same}

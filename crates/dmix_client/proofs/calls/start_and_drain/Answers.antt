@@ -1,4 +1,4 @@
-use Rattle.dmix_client.proofs.Growth.{Grows-then}
+use Rattle.dmix_client.specs.GrowthLaws.{Grows-joined}
 use Rattle.std.proofs.Common.{◌≡◌, ◌∙◌, ℕ, List, ◌++◌, ap, sym, refl, subst, length}
 use Rattle.std.proofs.lemmas.List.{append-nil}
 use Rattle.std.specs.Prelude.{IfSome, None, Ok, Result}
@@ -84,7 +84,7 @@ pub returns-clause-grows : goal.returns-clause-grows
 returns-clause-grows g c samples stands =
     let first = c.begin-begun.ensures in
     let later = c.sync_call-synced.ensures in
-    Grows-then g.P.MixPort.laid g.met.P.MixPort.laid_composes c.args.port.now c.begin-begun.new.port c.sync_call-synced.new.port c.args.plain.now c.begin-begun.new.plain c.sync_call-synced.new.plain samples
+    Grows-joined g.P.MixPort.laid g.met.P.MixPort.laid_composes c.args.port.now c.begin-begun.new.port c.sync_call-synced.new.port c.args.plain.now c.begin-begun.new.plain c.sync_call-synced.new.plain samples
     (first.grows samples stands) (later.grows samples (first.stands samples stands))
 
 pub returns-clause-stands : goal.returns-clause-stands

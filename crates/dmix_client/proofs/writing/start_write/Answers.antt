@@ -1,14 +1,13 @@
-use Rattle.dmix_client.specs.Writes.{ring_with, count_with}
-use Rattle.std.proofs.Common.{◌≡◌, ◌≤◌, ◌∙◌, ℕ, ◌+◌, ap, arith, refl, sym, subst, ◌*◌, List, length, add-zero}
+use Rattle.std.proofs.Common.{◌≡◌, ◌≤◌, ◌∙◌, ℕ, ◌+◌, ap, arith, refl, sym, subst, List}
 use Rattle.snd_base.specs.Places.{end_frame}
 use Rattle.mix_core.specs.declared.port.Position.{Position}
 use Rattle.pcm_states.specs.declared.states.State.TheVariants.{Running}
 use Rattle.dmix_client.specs.declared.plain.Plain.{Plain}
-use Rattle.dmix_client.specs.Calls.{Answered, accepted_if, started, started_in, start_count, taken_of, written_after, commit_entries, synced}
-use Rattle.dmix_client.specs.Port.{CanUse, IsFound, IsCommit}
+use Rattle.dmix_client.specs.Calls.{Answered, accepted_if, started}
+use Rattle.dmix_client.specs.Port.{CanUse}
 use Rattle.dmix_client.specs.View.{IsSound, is_set_up}
 use Rattle.dmix_client.proofs.Grown.{Grows-started, IsBegun, StandsFor-started}
-use Rattle.dmix_client.specs.Growth.{Grows, StandsFor, StandsUpTo, Follows}
+use Rattle.dmix_client.specs.Growth.{Grows, StandsFor}
 use Rattle.std.specs.Prelude.{ℤ}
 use Rattle.dmix_client.proofs.Left.{IsAfter, IsLeft-started, grown-accepted}
 use Rattle.dmix_client.proofs.Sound.{both-of}

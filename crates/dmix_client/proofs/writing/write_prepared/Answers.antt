@@ -1,13 +1,10 @@
 use Rattle.dmix_client.proofs.Grown.{StandsUpTo-filled}
-use Rattle.dmix_client.specs.Growth.{Grows, StandsFor, StandsUpTo, Follows}
-use Rattle.dmix_client.specs.Writes.{ring_with, count_with}
-use Rattle.dmix_client.specs.Port.{IsFound, IsCommit}
-use Rattle.dmix_client.specs.Calls.{Answered, started, started_in, start_count, accepted_if, taken_of, written_after, commit_entries, synced}
-use Rattle.pcm_states.specs.declared.states.State.TheVariants.{Running}
+use Rattle.dmix_client.specs.Growth.{StandsFor, StandsUpTo}
+use Rattle.dmix_client.specs.Writes.{ring_with}
+use Rattle.dmix_client.specs.Calls.{taken_of}
 use Rattle.dmix_client.specs.declared.plain.Plain.{Plain}
-use Rattle.mix_core.specs.declared.port.Position.{Position}
 use Rattle.std.specs.Prelude.{ℤ}
-use Rattle.std.proofs.Common.{◌≡◌, ◌∙◌, ℕ, ◌+◌, ◌*◌, ◌≤◌, List, ap, sym, refl, subst, length, add-zero, arith}
+use Rattle.std.proofs.Common.{◌≡◌, ◌∙◌, ℕ, ◌+◌, List, ap, sym, subst}
 use Rattle.dmix_client.proofs.writing.write_prepared.Goals as goal
 
 pub returns-then-plain-taken-clause-stands : goal.returns-then-plain-taken-clause-stands

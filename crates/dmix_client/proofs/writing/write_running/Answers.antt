@@ -1,9 +1,7 @@
-use Rattle.dmix_client.specs.Growth.{Grows, StandsFor, StandsUpTo, Follows}
-use Rattle.pcm_states.specs.declared.states.State.TheVariants.{Running}
-use Rattle.mix_core.specs.declared.port.Position.{Position}
+use Rattle.dmix_client.specs.Growth.{Follows}
 use Rattle.dmix_client.proofs.Advances.{Follows-synced}
-use Rattle.dmix_client.proofs.Growth.{Grows-then}
-use Rattle.std.proofs.Common.{◌≡◌, ◌∙◌, ◌≤◌, ◌<◌, ◌+◌, ◌*◌, ◌^◌, ℕ, List, [], ◌++◌, ap, sym, refl, subst, length, arith, add-zero}
+use Rattle.dmix_client.specs.GrowthLaws.{Grows-joined}
+use Rattle.std.proofs.Common.{◌≡◌, ◌∙◌, ◌≤◌, ◌<◌, ◌+◌, ◌*◌, ◌^◌, ℕ, List, [], ◌++◌, ap, sym, refl, subst, length, arith}
 use Rattle.std.proofs.lemmas.List.{append-nil}
 use Rattle.std.specs.Prelude.{ℤ, Ok, Err, Result, unwrap_or}
 use Rattle.std.specs.Option.{option_to_list}
@@ -14,8 +12,8 @@ use Rattle.pcm_states.specs.declared.calls.Call.TheVariants as call
 use Rattle.dmix_client.specs.declared.commit.Commit.{Commit}
 use Rattle.dmix_client.specs.declared.commit.Ended.TheVariants.{Whole}
 use Rattle.dmix_client.specs.declared.plain.Plain.{Plain}
-use Rattle.dmix_client.specs.Calls.{Answered, commit_entries, end_channel, end_of_commit, synced, taken_of, written_on, started, started_in, start_count, accepted_if, written_after}
-use Rattle.dmix_client.specs.Port.{IsCommit, OnLate, entries_at, IsFound}
+use Rattle.dmix_client.specs.Calls.{Answered, commit_entries, end_channel, end_of_commit, synced, taken_of, written_on}
+use Rattle.dmix_client.specs.Port.{IsCommit, OnLate, entries_at}
 use Rattle.dmix_client.specs.Writes.{count_after, count_with, ring_with, taken_after}
 use Rattle.dmix_client.proofs.Going.{OnErr-any, OnErr-ok, ok-of}
 use Rattle.dmix_client.proofs.Started.{KeepsAccepted-synced}
@@ -114,7 +112,7 @@ returns-clause-grows g c all stands follows =
     let offered : List ℤ = c.args.samples.now in
     let behind : Follows middle all offered c.args.frames =
     subst (λ (a : Answered (Unit {0})). Follows a.0 all offered c.args.frames) first.outcome (Follows-synced plain call.Transfer found.load found.commit all offered c.args.frames follows) in
-    Grows-then g.P.MixPort.laid g.met.P.MixPort.laid_composes c.args.port.now c.sync_call-synced.new.port c.write_taken.new.port plain middle c.write_taken.new.plain all
+    Grows-joined g.P.MixPort.laid g.met.P.MixPort.laid_composes c.args.port.now c.sync_call-synced.new.port c.write_taken.new.port plain middle c.write_taken.new.plain all
     (first.grows all stands) (later.grows all (first.stands all stands) behind)
 
 pub returns-clause-stands : goal.returns-clause-stands

@@ -1,15 +1,12 @@
-use Rattle.pcm_states.specs.declared.states.State.TheVariants.{Running}
-use Rattle.dmix_client.specs.declared.plain.Plain.{Plain}
-use Rattle.mix_core.specs.declared.port.Position.{Position}
-use Rattle.std.proofs.Common.{◌∙◌, ℕ, sym, subst, length, ◌≡◌, ◌+◌, ◌*◌, ◌≤◌, List, ap, refl, add-zero, arith}
+use Rattle.std.proofs.Common.{◌∙◌, ℕ, sym, subst, length, ◌≡◌, ◌≤◌, List, ap}
 use Rattle.std.specs.Prelude.{IfOk, unwrap_or, ◌≤◌}
 use Rattle.mix_core.specs.Gate.{Told}
-use Rattle.dmix_client.specs.Calls.{Answered, started, started_in, start_count, accepted_if, taken_of, written_after, commit_entries, synced}
-use Rattle.dmix_client.specs.Port.{CanUse, IsCommit, IsFound}
+use Rattle.dmix_client.specs.Calls.{Answered, taken_of, written_after, commit_entries}
+use Rattle.dmix_client.specs.Port.{CanUse, IsCommit}
 use Rattle.dmix_client.specs.View.{IsSound}
 use Rattle.dmix_client.specs.Writes.{count_with, ring_with}
 use Rattle.dmix_client.proofs.Grown.{Grows-taken, IsTaken, StandsFor-taken}
-use Rattle.dmix_client.specs.Growth.{Grows, StandsFor, StandsUpTo, Follows}
+use Rattle.dmix_client.specs.Growth.{Grows, StandsFor}
 use Rattle.std.specs.Prelude.{ℤ}
 use Rattle.dmix_client.proofs.Writes.{IsWriting, IsWritten-after}
 use Rattle.dmix_client.proofs.writing.write_taken.Goals as goal
