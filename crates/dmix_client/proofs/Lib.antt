@@ -1,4 +1,5 @@
 mod Advances
+mod Caused
 mod Frames
 mod Going
 mod Grown

@@ -1,4 +1,5 @@
 pub mod Calls
+pub mod Causes
 pub mod Checked
 pub mod Expansion
 pub mod ExpansionLaws

@@ -88,6 +88,7 @@ impl Client {
             TakesStep P.laid P.loaded P.geometry P.shows port.old port.new (G.stops gate.old) (G.stops gate.new) self.old.ring (λ position. self.old.plain) (sync_count self.old.plain) (length self.old.plain.bindings) (λ load commit. with_number avail_answer (synced self.old.plain call.Sync load commit)) (self.new.plain, result) }
         ensures ring { self.new.ring ≡ self.old.ring }
         ensures port { CanUse self.new.plain (P.geometry port.new) (P.member port.new) (P.cursor port.new) (P.seen port.new) (P.can_add port.new) }
+        ensures told { refusal_of self.old.plain call.Sync ≡ None → Told result (G.stops gate.old) (G.stops gate.new) }
         ensures grows { (samples : List ℤ) → StandsFor self.old.plain self.old.ring samples → Grows P.laid port.old port.new self.old.plain self.new.plain samples }
         ensures stands { (samples : List ℤ) → StandsFor self.old.plain self.old.ring samples → StandsFor self.new.plain self.new.ring samples }
     {
@@ -115,6 +116,7 @@ impl Client {
             TakesStep P.laid P.loaded P.geometry P.shows port.old port.new (G.stops gate.old) (G.stops gate.new) self.old.ring (λ position. self.old.plain) (sync_count self.old.plain) (length self.old.plain.bindings) (λ load commit. with_number delay_answer (synced self.old.plain call.Sync load commit)) (self.new.plain, result) }
         ensures ring { self.new.ring ≡ self.old.ring }
         ensures port { CanUse self.new.plain (P.geometry port.new) (P.member port.new) (P.cursor port.new) (P.seen port.new) (P.can_add port.new) }
+        ensures told { refusal_of self.old.plain call.Sync ≡ None → Told result (G.stops gate.old) (G.stops gate.new) }
         ensures grows { (samples : List ℤ) → StandsFor self.old.plain self.old.ring samples → Grows P.laid port.old port.new self.old.plain self.new.plain samples }
         ensures stands { (samples : List ℤ) → StandsFor self.old.plain self.old.ring samples → StandsFor self.new.plain self.new.ring samples }
     {
