@@ -1,5 +1,9 @@
+mod Advances
+mod Caused
 mod Frames
 mod Going
+mod Grown
+mod Growth
 mod Left
 mod Rings
 mod Same
@@ -8,3 +12,4 @@ mod Sound
 mod Starting
 mod Writes
 mod Started
+mod Storing

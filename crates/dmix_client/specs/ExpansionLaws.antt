@@ -1,5 +1,5 @@
 -- How the entries of a segment grow by what a commit lays.
-use Rattle.std.specs.Prelude.{◌≡◌, ℕ, ◌+◌, ◌*◌, ◌<◌, ◌≤◌, nat_lt, if◌then◌else◌, ℤ, List, [], ◌∷◌, ◌++◌, length, map, slice_index, take}
+use Rattle.std.specs.Prelude.{◌≡◌, ℕ, ◌+◌, ◌<◌, ◌≤◌, nat_lt, if◌then◌else◌, ℤ, List, [], ◌∷◌, ◌++◌, length, map, slice_index, take}
 use Rattle.std.specs.List.{flat_map, range_with_len}
 use Rattle.std.proofs.Common.{suc, zero, ◌∙◌, ap, sym, refl, subst, arith, get_or, zero-add, append_assoc}
 use Rattle.std.proofs.lemmas.Bool.Decides.{nat_tests}
@@ -70,21 +70,28 @@ part-same : (member : ℕ) (bindings : List ℕ) (s t : ℕ → ℤ) (part card 
 part-same member bindings s t zero card are same = refl
 part-same member bindings s t (suc part) card are same = frame_entries-same member bindings s t (suc part) card are (same (omega arith))
 
+-- a run has the same entries by two lists of samples that agree on its frames
+pub run_entries-same : (member : ℕ) (bindings : List ℕ) (s t : ℕ → ℕ → ℤ) (card first whole part : ℕ) → AreBindings bindings
+    → ((j q : ℕ) → first ≤ j → j < first + frames_used whole part → q < length bindings → s j q ≡ t j q)
+    → run_entries member bindings s card first whole part ≡ run_entries member bindings t card first whole part
+run_entries-same member bindings s t card first whole part are same =
+    let frames : flat_map (λ j. frame_entries member bindings (s j) (length bindings) (card + j)) (range_with_len first whole)
+    ≡ flat_map (λ j. frame_entries member bindings (t j) (length bindings) (card + j)) (range_with_len first whole) =
+    flat_map-same (λ j. frame_entries member bindings (s j) (length bindings) (card + j)) (λ j. frame_entries member bindings (t j) (length bindings) (card + j)) first whole
+    (λ j least most. frame_entries-same member bindings (s j) (t j) (length bindings) (card + j) are (λ q h. same j q least (grind (arith, nat_tests)) h)) in
+    let last : frame_entries member bindings (s (first + whole)) part (card + (first + whole)) ≡ frame_entries member bindings (t (first + whole)) part (card + (first + whole)) =
+    part-same member bindings (s (first + whole)) (t (first + whole)) part (card + (first + whole)) are
+    (λ some q h. same (first + whole) q (omega arith) (grind (arith, nat_tests)) h) in
+    ap (λ (es : List Entry). es ++ frame_entries member bindings (s (first + whole)) part (card + (first + whole))) frames
+    ∙ ap (λ (es : List Entry). flat_map (λ j. frame_entries member bindings (t j) (length bindings) (card + j)) (range_with_len first whole) ++ es) last
+
 -- what a commit laid of the local ring is what it laid of the accepted frames
 pub commit_entries-accepted : (c : Plain) (ring samples : List ℤ) (commit : Commit) (to : ℕ) → AreBindings c.bindings → Holds c ring samples c.committed to
     → c.committed + frames_used commit.frames commit.part ≤ to
     → commit_entries c ring commit ≡ run_entries c.member c.bindings (sample_at samples (length c.bindings)) c.card c.committed commit.frames commit.part
 commit_entries-accepted c ring samples commit to are holds within =
-    let frames : flat_map (λ j. frame_entries c.member c.bindings (held c ring j) (length c.bindings) (c.card + j)) (range_with_len c.committed commit.frames)
-    ≡ flat_map (λ j. frame_entries c.member c.bindings (sample_at samples (length c.bindings) j) (length c.bindings) (c.card + j)) (range_with_len c.committed commit.frames) =
-    flat_map-same (λ j. frame_entries c.member c.bindings (held c ring j) (length c.bindings) (c.card + j)) (λ j. frame_entries c.member c.bindings (sample_at samples (length c.bindings) j) (length c.bindings) (c.card + j)) c.committed commit.frames
-    (λ j least most. frame_entries-same c.member c.bindings (held c ring j) (sample_at samples (length c.bindings) j) (length c.bindings) (c.card + j) are (λ q h. holds j q least (grind (arith, nat_tests)) h)) in
-    let last : frame_entries c.member c.bindings (held c ring (c.committed + commit.frames)) commit.part (c.card + (c.committed + commit.frames))
-    ≡ frame_entries c.member c.bindings (sample_at samples (length c.bindings) (c.committed + commit.frames)) commit.part (c.card + (c.committed + commit.frames)) =
-    part-same c.member c.bindings (held c ring (c.committed + commit.frames)) (sample_at samples (length c.bindings) (c.committed + commit.frames)) commit.part (c.card + (c.committed + commit.frames)) are
-    (λ some q h. holds (c.committed + commit.frames) q (omega arith) (grind (arith, nat_tests)) h) in
-    ap (λ (es : List Entry). es ++ frame_entries c.member c.bindings (held c ring (c.committed + commit.frames)) commit.part (c.card + (c.committed + commit.frames))) frames
-    ∙ ap (λ (es : List Entry). flat_map (λ j. frame_entries c.member c.bindings (sample_at samples (length c.bindings) j) (length c.bindings) (c.card + j)) (range_with_len c.committed commit.frames) ++ es) last
+    run_entries-same c.member c.bindings (held c ring) (sample_at samples (length c.bindings)) c.card c.committed commit.frames commit.part are
+    (λ j q least most h. holds j q least (omega (arith, most, within)) h)
 
 -- the entries of a segment grow by exactly what a commit laid
 pub expand-grows : (c : Plain) (ring samples : List ℤ) (commit : Commit) (to : ℕ) → AreBindings c.bindings → Holds c ring samples c.committed to

@@ -1,7 +1,10 @@
 pub mod Calls
+pub mod Causes
 pub mod Checked
 pub mod Expansion
 pub mod ExpansionLaws
+pub mod Growth
+pub mod GrowthLaws
 pub mod Port
 pub mod Ring
 pub mod View

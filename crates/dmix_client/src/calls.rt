@@ -1,10 +1,11 @@
 //! The calls of a client, on its counts, its local ring and its port.
-ghost use Rattle.std.specs.Prelude.{◌≡◌, ℕ, ◌+◌, ◌*◌, ◌^◌, ◌<◌, ◌≤◌, true, false, IfNone, IfSome, OnOk, [], List, length, unwrap_or};
+ghost use Rattle.std.specs.Prelude.{◌≡◌, ℕ, ◌+◌, ◌*◌, ◌^◌, ◌<◌, ◌≤◌, true, false, IfNone, IfSome, OnOk, [], ℤ, List, length, unwrap_or};
 ghost use Rattle.std.specs.Option.{option_to_list};
 ghost use Rattle.snd_base.specs.Places.{IsFrom, end_frame};
 ghost use Rattle.mix_core.specs.Gate.{Told};
 ghost use Rattle.mix_core.specs.Port.{IsPast};
 ghost use Rattle.dmix_client.specs.Calls.{end_channel, end_of_commit, is_refusal, refusal_of, refused_by, start_count, started, started_in, sync_count, synced};
+ghost use Rattle.dmix_client.specs.Growth.{Grows, StandsFor};
 ghost use Rattle.dmix_client.specs.Port.{CanUse, IsFound, IsStep, OnLate, OnWhole, StoppedBy, TakesDrain, ToldBy, entries_at, least_channel};
 ghost use Rattle.dmix_client.specs.View.{IsGoing, IsSound, is_moving};
 
@@ -105,6 +106,8 @@ pub(crate) fn sync_call<P: MixPort, G: Gate>(
     ensures port { CanUse plain.new (P.geometry port.new) (P.member port.new) (P.cursor port.new) (P.seen port.new) (P.can_add port.new) }
     ensures goes { OnOk result.answer (IsGoing plain.new) }
     ensures gate { Told result.answer (G.stops gate.old) (G.stops gate.new) }
+    ensures grows { (samples : List ℤ) → StandsFor plain.old ring.now samples → Grows P.laid port.old port.new plain.old plain.new samples }
+    ensures stands { (samples : List ℤ) → StandsFor plain.old ring.now samples → StandsFor plain.new ring.now samples }
 {
     let found = look_and_commit(plain, ring, port, gate);
     let (after, answer) = synced(*plain, call, found.load, found.commit);
@@ -169,6 +172,8 @@ pub(crate) fn begin<P: MixPort, G: Gate>(
     ensures port { CanUse plain.new (P.geometry port.new) (P.member port.new) (P.cursor port.new) (P.seen port.new) (P.can_add port.new) }
     ensures goes { OnOk result.answer (plain.new.state ≡ state × plain.new.stopped ≡ plain.old.stopped) }
     ensures gate { Told result.answer (G.stops gate.old) (G.stops gate.new) }
+    ensures grows { (samples : List ℤ) → StandsFor plain.old ring.now samples → Grows P.laid port.old port.new plain.old plain.new samples }
+    ensures stands { (samples : List ℤ) → StandsFor plain.old ring.now samples → StandsFor plain.new ring.now samples }
 {
     let written = plain.written;
     let begun = start_call(plain, ring, port, gate, state, written);
@@ -194,6 +199,8 @@ pub(crate) fn start_and_drain<P: MixPort, G: Gate>(
     ensures sound { IsSound plain.new ring.now }
     ensures port { CanUse plain.new (P.geometry port.new) (P.member port.new) (P.cursor port.new) (P.seen port.new) (P.can_add port.new) }
     ensures gate { Told result.answer (G.stops gate.old) (G.stops gate.new) }
+    ensures grows { (samples : List ℤ) → StandsFor plain.old ring.now samples → Grows P.laid port.old port.new plain.old plain.new samples }
+    ensures stands { (samples : List ℤ) → StandsFor plain.old ring.now samples → StandsFor plain.new ring.now samples }
 {
     let begun = begin(plain, ring, port, gate, State::Draining);
     if let Err(error) = begun.answer {

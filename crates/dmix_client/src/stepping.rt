@@ -1,8 +1,9 @@
 //! The calls of a client that take steps at its port, but for those that move frames.
-ghost use Rattle.std.specs.Prelude.{◌≡◌, ◌≢◌, ℕ, ◌+◌, ◌*◌, ◌^◌, ◌<◌, ◌≤◌, true, false, [], List, length, unwrap_or};
+ghost use Rattle.std.specs.Prelude.{◌≡◌, ◌≢◌, ℕ, ◌+◌, ◌*◌, ◌^◌, ◌<◌, ◌≤◌, true, false, [], ℤ, List, length, unwrap_or};
 ghost use Rattle.pcm_states.specs.declared.calls.Call.TheVariants as call;
 ghost use Rattle.dmix_client.specs.Calls.{draining, dropped, has_frames, avail_answer, delay_answer, refusal_of, start_count, started, started_in, sync_count, synced, with_number};
 ghost use Rattle.mix_core.specs.Gate.{Told};
+ghost use Rattle.dmix_client.specs.Growth.{Grows, StandsFor};
 ghost use Rattle.dmix_client.specs.Port.{CanUse, TakesDrain, TakesStep};
 ghost use Rattle.dmix_client.specs.View.{ClientView, is_moving};
 
@@ -32,6 +33,8 @@ impl Client {
             TakesStep P.laid P.loaded P.geometry P.shows port.old port.new (G.stops gate.old) (G.stops gate.new) self.old.ring (λ position. self.old.plain) (sync_count self.old.plain) (length self.old.plain.bindings) (synced self.old.plain call.Sync) (self.new.plain, result) }
         ensures ring { self.new.ring ≡ self.old.ring }
         ensures port { CanUse self.new.plain (P.geometry port.new) (P.member port.new) (P.cursor port.new) (P.seen port.new) (P.can_add port.new) }
+        ensures grows { (samples : List ℤ) → StandsFor self.old.plain self.old.ring samples → Grows P.laid port.old port.new self.old.plain self.new.plain samples }
+        ensures stands { (samples : List ℤ) → StandsFor self.old.plain self.old.ring samples → StandsFor self.new.plain self.new.ring samples }
         ensures told { refusal_of self.old.plain call.Sync ≡ None → Told result (G.stops gate.old) (G.stops gate.new) }
     {
         self.plain.admit(Call::Sync)?;
@@ -58,6 +61,8 @@ impl Client {
             TakesStep P.laid P.loaded P.geometry P.shows port.old port.new (G.stops gate.old) (G.stops gate.new) self.old.ring (λ position. started_in self.old.plain State.Running position (P.cursor port.old)) (λ position. start_count self.old.plain (P.cursor port.old) position self.old.plain.written) (length self.old.plain.bindings) (started self.old.plain State.Running (P.cursor port.old)) (self.new.plain, result) }
         ensures ring { self.new.ring ≡ self.old.ring }
         ensures port { CanUse self.new.plain (P.geometry port.new) (P.member port.new) (P.cursor port.new) (P.seen port.new) (P.can_add port.new) }
+        ensures grows { (samples : List ℤ) → StandsFor self.old.plain self.old.ring samples → Grows P.laid port.old port.new self.old.plain self.new.plain samples }
+        ensures stands { (samples : List ℤ) → StandsFor self.old.plain self.old.ring samples → StandsFor self.new.plain self.new.ring samples }
         ensures told { refusal_of self.old.plain call.Start ≡ None → Told result (G.stops gate.old) (G.stops gate.new) }
     {
         self.plain.admit(Call::Start)?;
@@ -83,6 +88,9 @@ impl Client {
             TakesStep P.laid P.loaded P.geometry P.shows port.old port.new (G.stops gate.old) (G.stops gate.new) self.old.ring (λ position. self.old.plain) (sync_count self.old.plain) (length self.old.plain.bindings) (λ load commit. with_number avail_answer (synced self.old.plain call.Sync load commit)) (self.new.plain, result) }
         ensures ring { self.new.ring ≡ self.old.ring }
         ensures port { CanUse self.new.plain (P.geometry port.new) (P.member port.new) (P.cursor port.new) (P.seen port.new) (P.can_add port.new) }
+        ensures told { refusal_of self.old.plain call.Sync ≡ None → Told result (G.stops gate.old) (G.stops gate.new) }
+        ensures grows { (samples : List ℤ) → StandsFor self.old.plain self.old.ring samples → Grows P.laid port.old port.new self.old.plain self.new.plain samples }
+        ensures stands { (samples : List ℤ) → StandsFor self.old.plain self.old.ring samples → StandsFor self.new.plain self.new.ring samples }
     {
         self.plain.admit(Call::Sync)?;
         if !self.plain.is_moving() {
@@ -108,6 +116,9 @@ impl Client {
             TakesStep P.laid P.loaded P.geometry P.shows port.old port.new (G.stops gate.old) (G.stops gate.new) self.old.ring (λ position. self.old.plain) (sync_count self.old.plain) (length self.old.plain.bindings) (λ load commit. with_number delay_answer (synced self.old.plain call.Sync load commit)) (self.new.plain, result) }
         ensures ring { self.new.ring ≡ self.old.ring }
         ensures port { CanUse self.new.plain (P.geometry port.new) (P.member port.new) (P.cursor port.new) (P.seen port.new) (P.can_add port.new) }
+        ensures told { refusal_of self.old.plain call.Sync ≡ None → Told result (G.stops gate.old) (G.stops gate.new) }
+        ensures grows { (samples : List ℤ) → StandsFor self.old.plain self.old.ring samples → Grows P.laid port.old port.new self.old.plain self.new.plain samples }
+        ensures stands { (samples : List ℤ) → StandsFor self.old.plain self.old.ring samples → StandsFor self.new.plain self.new.ring samples }
     {
         self.plain.admit(Call::Sync)?;
         if !self.plain.is_moving() {
@@ -135,6 +146,8 @@ impl Client {
             TakesStep P.laid P.loaded P.geometry P.shows port.old port.new (G.stops gate.old) (G.stops gate.new) self.old.ring (λ position. draining self.old.plain) (sync_count (draining self.old.plain)) (length self.old.plain.bindings) (synced (draining self.old.plain) call.Drain) (self.new.plain, result) }
         ensures ring { self.new.ring ≡ self.old.ring }
         ensures port { CanUse self.new.plain (P.geometry port.new) (P.member port.new) (P.cursor port.new) (P.seen port.new) (P.can_add port.new) }
+        ensures grows { (samples : List ℤ) → StandsFor self.old.plain self.old.ring samples → Grows P.laid port.old port.new self.old.plain self.new.plain samples }
+        ensures stands { (samples : List ℤ) → StandsFor self.old.plain self.old.ring samples → StandsFor self.new.plain self.new.ring samples }
         ensures told { refusal_of self.old.plain call.Drain ≡ None → Told result (G.stops gate.old) (G.stops gate.new) }
     {
         self.plain.admit(Call::Drain)?;

@@ -1,10 +1,11 @@
 //! The parts of a write.
-ghost use Rattle.std.specs.Prelude.{◌≡◌, ℕ, ◌+◌, ◌*◌, ◌^◌, ◌<◌, ◌≤◌, true, false, IfOk, IfSome, OnOk, [], List, length, unwrap_or};
+ghost use Rattle.std.specs.Prelude.{◌≡◌, ℕ, ◌+◌, ◌*◌, ◌^◌, ◌<◌, ◌≤◌, true, false, IfOk, IfSome, OnOk, [], ℤ, List, length, unwrap_or};
 ghost use Rattle.std.specs.Option.{option_to_list};
 ghost use Rattle.snd_base.specs.Places.{IsFrom, end_frame};
 ghost use Rattle.mix_core.specs.Gate.{Told};
 ghost use Rattle.mix_core.specs.Port.{IsPast};
 ghost use Rattle.dmix_client.specs.Calls.{accepted, accepted_if, started, commit_entries, end_channel, end_of_commit, filled, start_count, started_in, taken_of, written_after};
+ghost use Rattle.dmix_client.specs.Growth.{Follows, Grows, StandsFor, StandsUpTo};
 ghost use Rattle.dmix_client.specs.Port.{CanUse, IsCommit, IsFound, StoppedBy, entries_at, OnLate, OnWhole, TakesStep, ToldBy, least_channel};
 ghost use Rattle.dmix_client.specs.View.{IsSound, is_moving};
 ghost use Rattle.dmix_client.specs.Writes.{TakesWrite, count_with, ring_with, starts_with};
@@ -84,6 +85,8 @@ fn write_taken<P: MixPort, G: Gate>(
     ensures port { CanUse plain.new (P.geometry port.new) (P.member port.new) (P.cursor port.new) (P.seen port.new) (P.can_add port.new) }
     ensures gate { Told result.answer (G.stops gate.old) (G.stops gate.new) }
     ensures count { IfOk result.answer (λ n. n ≤ 16384) }
+    ensures grows { (all : List ℤ) → StandsFor plain.old ring.old all → Follows plain.old all samples.now frames → Grows P.laid port.old port.new plain.old plain.new all }
+    ensures stands { (all : List ℤ) → StandsFor plain.old ring.old all → Follows plain.old all samples.now frames → StandsFor plain.new ring.new all }
 {
     let taken = plain.taken(frames);
     store_taken(plain, ring, samples, taken);
@@ -133,6 +136,8 @@ pub(crate) fn write_running<P: MixPort, G: Gate>(
     ensures port { CanUse plain.new (P.geometry port.new) (P.member port.new) (P.cursor port.new) (P.seen port.new) (P.can_add port.new) }
     ensures gate { Told result (G.stops gate.old) (G.stops gate.new) }
     ensures count { IfOk result (λ n. n ≤ 16384) }
+    ensures grows { (all : List ℤ) → StandsFor plain.old ring.old all → Follows plain.old all samples.now frames → Grows P.laid port.old port.new plain.old plain.new all }
+    ensures stands { (all : List ℤ) → StandsFor plain.old ring.old all → Follows plain.old all samples.now frames → StandsFor plain.new ring.new all }
 {
     let synced = sync_call(plain, ring, port, gate, Call::Transfer);
     if let Err(error) = synced.answer {
@@ -170,6 +175,8 @@ fn start_write<P: MixPort, G: Gate>(
     ensures sound { IsSound plain.new ring.now }
     ensures port { CanUse plain.new (P.geometry port.new) (P.member port.new) (P.cursor port.new) (P.seen port.new) (P.can_add port.new) }
     ensures count { IfOk result.answer (λ n. n ≡ taken) }
+    ensures grows { (all : List ℤ) → StandsUpTo plain.old ring.now all (plain.old.written + taken) → Grows P.laid port.old port.new plain.old plain.new all }
+    ensures stands { (all : List ℤ) → StandsUpTo plain.old ring.now all (plain.old.written + taken) → StandsFor plain.new ring.now all }
 {
     let upto = plain.written + taken;
     let begun = start_call(plain, ring, port, gate, State::Running, upto);
@@ -203,6 +210,8 @@ pub(crate) fn write_prepared<P: MixPort, G: Gate>(
     ensures sound { IsSound plain.new ring.new }
     ensures port { CanUse plain.new (P.geometry port.new) (P.member port.new) (P.cursor port.new) (P.seen port.new) (P.can_add port.new) }
     ensures count { IfOk result.answer (λ n. n ≤ 16384) }
+    ensures grows { (all : List ℤ) → StandsFor plain.old ring.old all → Follows plain.old all samples.now frames → Grows P.laid port.old port.new plain.old plain.new all }
+    ensures stands { (all : List ℤ) → StandsFor plain.old ring.old all → Follows plain.old all samples.now frames → StandsFor plain.new ring.new all }
 {
     let taken = plain.taken(frames);
     store_taken(plain, ring, samples, taken);

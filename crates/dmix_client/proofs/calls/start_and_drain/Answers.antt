@@ -1,3 +1,4 @@
+use Rattle.dmix_client.specs.GrowthLaws.{Grows-joined}
 use Rattle.std.proofs.Common.{◌≡◌, ◌∙◌, ℕ, List, ◌++◌, ap, sym, refl, subst, length}
 use Rattle.std.proofs.lemmas.List.{append-nil}
 use Rattle.std.specs.Prelude.{IfSome, None, Ok, Result}
@@ -78,3 +79,13 @@ returns-clause-drains g c =
       shown = subst (λ (d : Plain). IfSome last.load (λ (position : Position). OnLate last.commit.ended (λ word. IsPast port.geometry port.shows after (end_of_commit d last.commit) (end_channel d last.commit) word))) (sym begun) shown_last;
       shown_first = OnErr-ok (started plain Draining cursor found.load found.commit).1 _ (ap (λ (a : Answered (Unit {0})). a.1) well);
     }
+
+pub returns-clause-grows : goal.returns-clause-grows
+returns-clause-grows g c samples stands =
+    let first = c.begin-begun.ensures in
+    let later = c.sync_call-synced.ensures in
+    Grows-joined g.P.MixPort.laid g.met.P.MixPort.laid_composes c.args.port.now c.begin-begun.new.port c.sync_call-synced.new.port c.args.plain.now c.begin-begun.new.plain c.sync_call-synced.new.plain samples
+    (first.grows samples stands) (later.grows samples (first.stands samples stands))
+
+pub returns-clause-stands : goal.returns-clause-stands
+returns-clause-stands g c samples stands = c.sync_call-synced.ensures.stands samples (c.begin-begun.ensures.stands samples stands)

@@ -1,4 +1,4 @@
-use Rattle.std.proofs.Common.{◌≡◌, ◌≤◌, ◌∙◌, ℕ, ◌+◌, ap, arith, refl, sym, subst}
+use Rattle.std.proofs.Common.{◌≡◌, ◌≤◌, ◌∙◌, ℕ, ◌+◌, ap, arith, refl, sym, subst, List}
 use Rattle.snd_base.specs.Places.{end_frame}
 use Rattle.mix_core.specs.declared.port.Position.{Position}
 use Rattle.pcm_states.specs.declared.states.State.TheVariants.{Running}
@@ -6,6 +6,9 @@ use Rattle.dmix_client.specs.declared.plain.Plain.{Plain}
 use Rattle.dmix_client.specs.Calls.{Answered, accepted_if, started}
 use Rattle.dmix_client.specs.Port.{CanUse}
 use Rattle.dmix_client.specs.View.{IsSound, is_set_up}
+use Rattle.dmix_client.proofs.Grown.{Grows-started, IsBegun, StandsFor-started}
+use Rattle.dmix_client.specs.Growth.{Grows, StandsFor}
+use Rattle.std.specs.Prelude.{ℤ}
 use Rattle.dmix_client.proofs.Left.{IsAfter, IsLeft-started, grown-accepted}
 use Rattle.dmix_client.proofs.Sound.{both-of}
 use Rattle.dmix_client.proofs.Started.{KeepsAccepted-started}
@@ -87,3 +90,33 @@ accepted_if-after-requires-clause-fed g c =
     let same : c.start_call-begun.result.plain.fed ≡ plain.fed =
     ap (λ (a : Answered (Unit {0})). a.0.fed) (sym c.start_call-begun.ensures.outcome) ∙ (KeepsAccepted-started plain Running cursor found.load found.commit).fed in
     omega (arith, same, c.requires.fits, c.requires.fed, (c.requires.sound.configured (c.requires.sound.set_up (ap is_set_up c.requires.prepared))).buffer_most)
+
+pub returns-clause-grows : goal.returns-clause-grows
+returns-clause-grows g c samples stands =
+    let port = g.P.MixPort in
+    let now = c.start_call-begun.ensures in
+    let found = c.start_call-begun.result.found in
+    let plain = c.args.plain.now in
+    let cursor = port.cursor c.args.port.now in
+    let before = c.args.port.now in
+    let after = c.start_call-begun.new.port in
+    let ring : List ℤ = c.args.ring.now in
+    let is : IsBegun plain ring cursor found.load found.commit (plain.written + c.args.taken) = record { sound = c.requires.sound; prepared = c.requires.prepared; found = now.found } in
+    let same = ap (λ (a : Answered (Unit {0})). (accepted_if c.args.taken a).0) now.outcome ∙ ap (λ (a : Answered ℕ). a.0) (sym c.accepted_if-after.ensures) in
+    subst (λ (d : Plain). Grows port.laid before after plain d samples) same
+    (Grows-started port.laid g.met.P.MixPort.laid_composes before after plain ring samples Running cursor found.load found.commit c.args.taken is stands now.laid)
+
+pub returns-clause-stands : goal.returns-clause-stands
+returns-clause-stands g c samples stands =
+    let port = g.P.MixPort in
+    let now = c.start_call-begun.ensures in
+    let found = c.start_call-begun.result.found in
+    let plain = c.args.plain.now in
+    let cursor = port.cursor c.args.port.now in
+    let before = c.args.port.now in
+    let after = c.start_call-begun.new.port in
+    let ring : List ℤ = c.args.ring.now in
+    let is : IsBegun plain ring cursor found.load found.commit (plain.written + c.args.taken) = record { sound = c.requires.sound; prepared = c.requires.prepared; found = now.found } in
+    let same = ap (λ (a : Answered (Unit {0})). (accepted_if c.args.taken a).0) now.outcome ∙ ap (λ (a : Answered ℕ). a.0) (sym c.accepted_if-after.ensures) in
+    subst (λ (d : Plain). StandsFor d ring samples) same
+    (StandsFor-started plain ring samples Running cursor found.load found.commit c.args.taken is stands)

@@ -1,3 +1,6 @@
+use Rattle.dmix_client.specs.Growth.{Follows}
+use Rattle.dmix_client.proofs.Advances.{Follows-synced}
+use Rattle.dmix_client.specs.GrowthLaws.{Grows-joined}
 use Rattle.std.proofs.Common.{◌≡◌, ◌∙◌, ◌≤◌, ◌<◌, ◌+◌, ◌*◌, ◌^◌, ℕ, List, [], ◌++◌, ap, sym, refl, subst, length, arith}
 use Rattle.std.proofs.lemmas.List.{append-nil}
 use Rattle.std.specs.Prelude.{ℤ, Ok, Err, Result, unwrap_or}
@@ -98,3 +101,28 @@ write_taken-requires-clause-fed g c =
     let same : c.sync_call-synced.new.plain.fed ≡ plain.fed =
     ap (λ (a : Answered (Unit {0})). a.0.fed) (sym c.sync_call-synced.ensures.outcome) ∙ (KeepsAccepted-synced plain call.Transfer found.load found.commit).fed in
     subst (λ (n : ℕ). n < 2 ^ 63) (sym same) c.requires.fed
+
+pub returns-clause-grows : goal.returns-clause-grows
+returns-clause-grows g c all stands follows =
+    let first = c.sync_call-synced.ensures in
+    let found = c.sync_call-synced.result.found in
+    let later = c.write_taken.ensures in
+    let plain = c.args.plain.now in
+    let middle = c.sync_call-synced.new.plain in
+    let offered : List ℤ = c.args.samples.now in
+    let behind : Follows middle all offered c.args.frames =
+    subst (λ (a : Answered (Unit {0})). Follows a.0 all offered c.args.frames) first.outcome (Follows-synced plain call.Transfer found.load found.commit all offered c.args.frames follows) in
+    Grows-joined g.P.MixPort.laid g.met.P.MixPort.laid_composes c.args.port.now c.sync_call-synced.new.port c.write_taken.new.port plain middle c.write_taken.new.plain all
+    (first.grows all stands) (later.grows all (first.stands all stands) behind)
+
+pub returns-clause-stands : goal.returns-clause-stands
+returns-clause-stands g c all stands follows =
+    let first = c.sync_call-synced.ensures in
+    let found = c.sync_call-synced.result.found in
+    let later = c.write_taken.ensures in
+    let plain = c.args.plain.now in
+    let middle = c.sync_call-synced.new.plain in
+    let offered : List ℤ = c.args.samples.now in
+    let behind : Follows middle all offered c.args.frames =
+    subst (λ (a : Answered (Unit {0})). Follows a.0 all offered c.args.frames) first.outcome (Follows-synced plain call.Transfer found.load found.commit all offered c.args.frames follows) in
+    later.stands all (first.stands all stands) behind

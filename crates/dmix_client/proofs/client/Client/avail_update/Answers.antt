@@ -1,4 +1,6 @@
-use Rattle.std.proofs.Common.{◌∙◌, ℕ, List, ap, length, subst}
+use Rattle.dmix_client.proofs.Growth.{Grows-none}
+use Rattle.dmix_client.specs.Growth.{StandsFor}
+use Rattle.std.proofs.Common.{◌∙◌, ℕ, List, ap, length, subst, sym, refl}
 use Rattle.std.specs.Prelude.{ℤ}
 use Rattle.pcm_states.specs.declared.calls.Call.TheVariants as call
 use Rattle.dmix_client.specs.Calls.{avail_answer, sync_count, synced, with_number}
@@ -23,3 +25,18 @@ returns-clause-steps g c admitted moves =
     (λ (v : ClientView). TakesStep {T = ℕ} port.laid port.loaded port.geometry port.shows before after stops stops_after v.ring (λ position. v.plain) (sync_count v.plain) (length v.plain.bindings) (λ load commit. with_number avail_answer (synced v.plain call.Sync load commit)) (c.sync_call-stepped.new.plain, c.with_avail.result))
     c.self.view_is
     (record { load = found.load; commit = found.commit; found = now.found; outcome = ap (with_number avail_answer) now.outcome ∙ c.with_avail.ensures; loaded_them = now.loaded; laid_them = laid; shown = now.shown; told = now.told })
+
+pub returns-in_err-admit-clause-grows : goal.returns-in_err-admit-clause-grows
+returns-in_err-admit-clause-grows g c samples stands =
+    Grows-none g.P.MixPort.laid g.met.P.MixPort.laid_composes c.args.port.now c.args.port.now c.args.self.now.plain c.args.self.now.plain samples refl refl refl refl
+
+pub returns-then-not-is_moving-clause-grows : goal.returns-then-not-is_moving-clause-grows
+returns-then-not-is_moving-clause-grows g c samples stands =
+    Grows-none g.P.MixPort.laid g.met.P.MixPort.laid_composes c.args.port.now c.args.port.now c.args.self.now.plain c.args.self.now.plain samples refl refl refl refl
+
+pub returns-clause-stands : goal.returns-clause-stands
+returns-clause-stands g c samples stands =
+    let plain = c.self.inside.plain in
+    let before : StandsFor plain c.self.inside.ring.items samples = subst (λ (v : ClientView). StandsFor v.plain v.ring samples) (sym c.self.view_is) stands in
+    let here = subst (λ (ring : List ℤ). StandsFor plain ring samples) (sym c.as_slice-ring.ensures.value) before in
+    subst (λ (ring : List ℤ). StandsFor c.sync_call-stepped.new.plain ring samples) c.as_slice-ring.ensures.value (c.sync_call-stepped.ensures.stands samples here)

@@ -1,7 +1,9 @@
-use Rattle.std.proofs.Common.{◌≡◌, List, length, subst, sym}
+use Rattle.dmix_client.proofs.Growth.{Grows-none}
+use Rattle.dmix_client.specs.Growth.{Grows, StandsFor}
+use Rattle.std.proofs.Common.{◌≡◌, List, length, subst, sym, refl}
 use Rattle.std.specs.Prelude.{ℤ, nat_lt, true}
 use Rattle.pcm_states.specs.declared.calls.Call.TheVariants as call
-use Rattle.dmix_client.specs.Calls.{draining, sync_count, synced}
+use Rattle.dmix_client.specs.Calls.{draining, sync_count, synced, dropped}
 use Rattle.dmix_client.specs.Port.{TakesStep, entries_at}
 use Rattle.dmix_client.specs.declared.plain.Plain.{Plain}
 use Rattle.dmix_client.specs.View.{ClientView, is_moving}
@@ -32,3 +34,37 @@ pub returns-then-is_moving-clause-starts : goal.returns-then-is_moving-clause-st
 returns-then-is_moving-clause-starts g c has admitted =
     let moves : is_moving c.args.self.now.plain.state ≡ true = subst (λ (v : ClientView). is_moving v.plain.state ≡ true) c.self.view_is (sym c.if-is_moving.ensures) in
     absurd (has_frames-moving c.args.self.now.plain.state (nat_lt 0 c.args.self.now.plain.written) moves has)
+
+pub returns-in_err-admit-clause-grows : goal.returns-in_err-admit-clause-grows
+returns-in_err-admit-clause-grows g c samples stands =
+    Grows-none g.P.MixPort.laid g.met.P.MixPort.laid_composes c.args.port.now c.args.port.now c.args.self.now.plain c.args.self.now.plain samples refl refl refl refl
+
+pub returns-then-is_moving-clause-grows : goal.returns-then-is_moving-clause-grows
+returns-then-is_moving-clause-grows g c samples stands =
+    let laid = g.P.MixPort.laid in
+    let plain = c.self.inside.plain in
+    let after = c.sync_call.new.plain in
+    let here : StandsFor plain c.as_slice-ring.result.now samples =
+    subst (λ (ring : List ℤ). StandsFor plain ring samples) (sym c.as_slice-ring.ensures.value) (subst (λ (v : ClientView). StandsFor v.plain v.ring samples) (sym c.self.view_is) stands) in
+    let drained : StandsFor c.draining-self-inside.result c.as_slice-ring.result.now samples = subst (λ (d : Plain). StandsFor d c.as_slice-ring.result.now samples) (sym c.draining-self-inside.ensures) here in
+    let grown = subst (λ (d : Plain). Grows laid c.args.port.now c.sync_call.new.port d after samples) c.draining-self-inside.ensures (c.sync_call.ensures.grows samples drained) in
+    let same : Grows laid c.args.port.now c.sync_call.new.port plain after samples =
+    record { entries = grown.entries; laid_them = grown.laid_them; grown = grown.grown; same_member = grown.same_member; same_bindings = grown.same_bindings } in
+    subst (λ (v : ClientView). Grows laid c.args.port.now c.sync_call.new.port v.plain after samples) c.self.view_is same
+
+pub returns-then-is_moving-clause-stands : goal.returns-then-is_moving-clause-stands
+returns-then-is_moving-clause-stands g c samples stands =
+    let plain = c.self.inside.plain in
+    let here : StandsFor plain c.as_slice-ring.result.now samples =
+    subst (λ (ring : List ℤ). StandsFor plain ring samples) (sym c.as_slice-ring.ensures.value) (subst (λ (v : ClientView). StandsFor v.plain v.ring samples) (sym c.self.view_is) stands) in
+    let drained : StandsFor c.draining-self-inside.result c.as_slice-ring.result.now samples = subst (λ (d : Plain). StandsFor d c.as_slice-ring.result.now samples) (sym c.draining-self-inside.ensures) here in
+    subst (λ (ring : List ℤ). StandsFor c.sync_call.new.plain ring samples) c.as_slice-ring.ensures.value (c.sync_call.ensures.stands samples drained)
+
+pub returns-then-not-has_frames-clause-grows : goal.returns-then-not-has_frames-clause-grows
+returns-then-not-has_frames-clause-grows g c samples stands =
+    let laid = g.P.MixPort.laid in
+    let plain = c.self.inside.plain in
+    let port = c.args.port.now in
+    let stays = Grows-none laid g.met.P.MixPort.laid_composes port port plain (dropped plain) samples refl refl refl refl in
+    let here = subst (λ (d : Plain). Grows laid port port plain d samples) (sym c.dropped-self-inside.ensures) stays in
+    subst (λ (v : ClientView). Grows laid port port v.plain c.dropped-self-inside.result samples) c.self.view_is here

@@ -1,4 +1,5 @@
-use Rattle.std.proofs.Common.{List, length, subst}
+use Rattle.dmix_client.proofs.Growth.{Grows-none}
+use Rattle.std.proofs.Common.{List, length, subst, refl}
 use Rattle.std.specs.Prelude.{ℤ}
 use Rattle.pcm_states.specs.declared.states.State.TheVariants.{Running}
 use Rattle.dmix_client.specs.Calls.{start_count, started, started_in}
@@ -24,3 +25,11 @@ returns-clause-steps g c admitted some =
     (λ (v : ClientView). TakesStep {T = Unit {0}} port.laid port.loaded port.geometry port.shows before after stops stops_after v.ring (λ position. started_in v.plain Running position cursor) (λ position. start_count v.plain cursor position v.plain.written) (length v.plain.bindings) (started v.plain Running cursor) (c.begin.new.plain, c.begin.result.answer))
     c.self.view_is
     (record { load = found.load; commit = found.commit; found = now.found; outcome = now.outcome; loaded_them = now.loaded; laid_them = laid; shown = now.shown; told = now.told })
+
+pub returns-in_err-admit-clause-grows : goal.returns-in_err-admit-clause-grows
+returns-in_err-admit-clause-grows g c samples stands =
+    Grows-none g.P.MixPort.laid g.met.P.MixPort.laid_composes c.args.port.now c.args.port.now c.args.self.now.plain c.args.self.now.plain samples refl refl refl refl
+
+pub returns-then-self-eq0-clause-grows : goal.returns-then-self-eq0-clause-grows
+returns-then-self-eq0-clause-grows g c samples stands =
+    Grows-none g.P.MixPort.laid g.met.P.MixPort.laid_composes c.args.port.now c.args.port.now c.args.self.now.plain c.args.self.now.plain samples refl refl refl refl

@@ -1,4 +1,6 @@
-use Rattle.std.proofs.Common.{◌≡◌, ◌/◌, ◌∙◌, ℕ, List, length, ap, arith, subst, sym, take, drop, ◌++◌}
+use Rattle.dmix_client.proofs.Growth.{Grows-none}
+use Rattle.dmix_client.specs.Growth.{Grows, StandsFor, Follows}
+use Rattle.std.proofs.Common.{◌≡◌, ◌/◌, ◌∙◌, ℕ, List, length, ap, arith, subst, sym, take, drop, ◌++◌, refl}
 use Rattle.std.specs.Prelude.{ℤ, Result}
 use Rattle.snd_base.specs.declared.errors.PcmError.{PcmError}
 use Rattle.dmix_client.specs.View.{ClientView}
@@ -24,3 +26,61 @@ returns-then-eq-clause-steps g c admitted running =
     let by_answer = subst (λ (r : Result ℕ PcmError). TakesWrite port.laid port.loaded port.geometry port.shows before after plain c.self.inside.ring.items new_ring samples (frames_in plain samples) (new_plain, r)) (sym c.few_frames.ensures) by_frames in
     let by_back = subst (λ (ring : List ℤ). TakesWrite port.laid port.loaded port.geometry port.shows before after plain c.self.inside.ring.items ring samples (frames_in plain samples) (new_plain, c.few_frames.result)) back by_answer in
     subst (λ (v : ClientView). TakesWrite port.laid port.loaded port.geometry port.shows before after v.plain v.ring (take c.self.inside.ring.len (new_ring ++ drop (length new_ring) c.self.inside.ring.items)) samples (frames_in v.plain samples) (new_plain, c.few_frames.result)) c.self.view_is by_back
+
+pub returns-in_err-admit-clause-grows : goal.returns-in_err-admit-clause-grows
+returns-in_err-admit-clause-grows g c all stands follows =
+    Grows-none g.P.MixPort.laid g.met.P.MixPort.laid_composes c.args.port.now c.args.port.now c.args.self.now.plain c.args.self.now.plain all refl refl refl refl
+
+pub returns-then-eq-clause-grows : goal.returns-then-eq-clause-grows
+returns-then-eq-clause-grows g c all stands follows =
+    let laid = g.P.MixPort.laid in
+    let plain = c.self.inside.plain in
+    let offered : List ℤ = c.args.samples.now in
+    let frames : c.whole_frames-frames.result ≡ frames_in plain offered = c.whole_frames-frames.ensures.value ∙ ap (λ (n : ℕ). length offered / n) c.len.ensures.value in
+    let here : StandsFor plain c.as_mut_slice-ring.result.now all =
+    subst (λ (ring : List ℤ). StandsFor plain ring all) (sym c.as_mut_slice-ring.ensures.value) (subst (λ (v : ClientView). StandsFor v.plain v.ring all) (sym c.self.view_is) stands) in
+    let behind : Follows plain all offered c.whole_frames-frames.result =
+    subst (λ (n : ℕ). Follows plain all offered n) (sym frames) (subst (λ (v : ClientView). Follows v.plain all offered (frames_in v.plain offered)) (sym c.self.view_is) follows) in
+    subst (λ (v : ClientView). Grows laid c.args.port.now c.write_running-answer.new.port v.plain c.write_running-answer.new.plain all) c.self.view_is (c.write_running-answer.ensures.grows all here behind)
+
+pub returns-then-eq-clause-stands : goal.returns-then-eq-clause-stands
+returns-then-eq-clause-stands g c all stands follows =
+    let laid = g.P.MixPort.laid in
+    let plain = c.self.inside.plain in
+    let offered : List ℤ = c.args.samples.now in
+    let frames : c.whole_frames-frames.result ≡ frames_in plain offered = c.whole_frames-frames.ensures.value ∙ ap (λ (n : ℕ). length offered / n) c.len.ensures.value in
+    let here : StandsFor plain c.as_mut_slice-ring.result.now all =
+    subst (λ (ring : List ℤ). StandsFor plain ring all) (sym c.as_mut_slice-ring.ensures.value) (subst (λ (v : ClientView). StandsFor v.plain v.ring all) (sym c.self.view_is) stands) in
+    let behind : Follows plain all offered c.whole_frames-frames.result =
+    subst (λ (n : ℕ). Follows plain all offered n) (sym frames) (subst (λ (v : ClientView). Follows v.plain all offered (frames_in v.plain offered)) (sym c.self.view_is) follows) in
+    let new_ring : List ℤ = c.write_running-answer.new.ring in
+    let whole : c.self.inside.ring.len ≡ length new_ring = omega (arith, c.as_mut_slice-ring.ensures.len) in
+    let back : new_ring ≡ take c.self.inside.ring.len (new_ring ++ drop (length new_ring) c.self.inside.ring.items) = sym (take-written c.self.inside.ring.len new_ring c.self.inside.ring.items whole) in
+    subst (λ (ring : List ℤ). StandsFor c.write_running-answer.new.plain ring all) back (c.write_running-answer.ensures.stands all here behind)
+
+pub returns-clause-grows : goal.returns-clause-grows
+returns-clause-grows g c all stands follows =
+    let laid = g.P.MixPort.laid in
+    let plain = c.self.inside.plain in
+    let offered : List ℤ = c.args.samples.now in
+    let frames : c.whole_frames-frames.result ≡ frames_in plain offered = c.whole_frames-frames.ensures.value ∙ ap (λ (n : ℕ). length offered / n) c.len.ensures.value in
+    let here : StandsFor plain c.as_mut_slice-ring.result.now all =
+    subst (λ (ring : List ℤ). StandsFor plain ring all) (sym c.as_mut_slice-ring.ensures.value) (subst (λ (v : ClientView). StandsFor v.plain v.ring all) (sym c.self.view_is) stands) in
+    let behind : Follows plain all offered c.whole_frames-frames.result =
+    subst (λ (n : ℕ). Follows plain all offered n) (sym frames) (subst (λ (v : ClientView). Follows v.plain all offered (frames_in v.plain offered)) (sym c.self.view_is) follows) in
+    subst (λ (v : ClientView). Grows laid c.args.port.now c.write_prepared-filled.new.port v.plain c.write_prepared-filled.new.plain all) c.self.view_is (c.write_prepared-filled.ensures.grows all here behind)
+
+pub returns-clause-stands : goal.returns-clause-stands
+returns-clause-stands g c all stands follows =
+    let laid = g.P.MixPort.laid in
+    let plain = c.self.inside.plain in
+    let offered : List ℤ = c.args.samples.now in
+    let frames : c.whole_frames-frames.result ≡ frames_in plain offered = c.whole_frames-frames.ensures.value ∙ ap (λ (n : ℕ). length offered / n) c.len.ensures.value in
+    let here : StandsFor plain c.as_mut_slice-ring.result.now all =
+    subst (λ (ring : List ℤ). StandsFor plain ring all) (sym c.as_mut_slice-ring.ensures.value) (subst (λ (v : ClientView). StandsFor v.plain v.ring all) (sym c.self.view_is) stands) in
+    let behind : Follows plain all offered c.whole_frames-frames.result =
+    subst (λ (n : ℕ). Follows plain all offered n) (sym frames) (subst (λ (v : ClientView). Follows v.plain all offered (frames_in v.plain offered)) (sym c.self.view_is) follows) in
+    let new_ring : List ℤ = c.write_prepared-filled.new.ring in
+    let whole : c.self.inside.ring.len ≡ length new_ring = omega (arith, c.as_mut_slice-ring.ensures.len) in
+    let back : new_ring ≡ take c.self.inside.ring.len (new_ring ++ drop (length new_ring) c.self.inside.ring.items) = sym (take-written c.self.inside.ring.len new_ring c.self.inside.ring.items whole) in
+    subst (λ (ring : List ℤ). StandsFor c.write_prepared-filled.new.plain ring all) back (c.write_prepared-filled.ensures.stands all here behind)
