@@ -12,25 +12,8 @@ use Rattle.bindings.specs.RisingLaws.{length-rising, rising-within}
 use Rattle.dmix_client.specs.declared.commit.Ended.{Ended}
 use Rattle.dmix_client.specs.declared.commit.Ended.TheVariants.{Whole, Late, Stopped}
 use Rattle.dmix_client.specs.Expansion.{frame_entries, run_entries}
+use Rattle.dmix_client.specs.ExpansionLaws.{frame_entries-same}
 use Rattle.dmix_client.specs.Port.{IsCommit, IsUpTo, OnWhole}
-
--- two functions that agree on a list's elements give one list
-pub map-same : {X : Type 0} (f g : ℕ → X) (xs : List ℕ) → ((k : ℕ) → k < length xs → f (get_or xs k 0) ≡ g (get_or xs k 0)) → map f xs ≡ map g xs
-map-same f g [] same = refl
-map-same f g (x ∷ xs) same = cc (same 0 (omega arith), map-same f g xs (λ k h. same (suc k) (omega arith)))
-
--- a frame's entries are told by the samples of the client's channels
-pub frame_entries-same : (member : ℕ) (bindings : List ℕ) (s t : ℕ → ℤ) (channels card : ℕ) → AreBindings bindings
-    → ((q : ℕ) → q < length bindings → s q ≡ t q) → frame_entries member bindings s channels card ≡ frame_entries member bindings t channels card
-frame_entries-same member bindings s t channels card are same =
-    let entry : (ℕ → ℤ) → ℕ → Entry = λ u q. record { member = member; frame = card; channel = slice_index bindings q; sample = u q } in
-    map-same (entry s) (entry t) (take channels (rising bindings)) (λ k within.
-    let low : k < channels = omega (arith, length-take channels (rising bindings)) in
-    let in_range : k < length bindings = omega (arith, length-take channels (rising bindings), length-rising bindings are) in
-    let is : get_or (take channels (rising bindings)) k 0 ≡ get_or (rising bindings) k 0 = get_or-take channels (rising bindings) k 0 low in
-    let here : s (get_or (rising bindings) k 0) ≡ t (get_or (rising bindings) k 0) = same (get_or (rising bindings) k 0) (rising-within bindings k are in_range) in
-    let one : entry s (get_or (rising bindings) k 0) ≡ entry t (get_or (rising bindings) k 0) = ap (λ (x : ℤ). let e : Entry = record { member = member; frame = card; channel = slice_index bindings (get_or (rising bindings) k 0); sample = x } in e) here in
-    subst (λ q. entry s q ≡ entry t q) (sym is) one)
 
 -- what was laid whole, with some channels of the next frame
 run_entries-part : (member : ℕ) (bindings : List ℕ) (s : ℕ → ℕ → ℤ) (card first n part : ℕ)

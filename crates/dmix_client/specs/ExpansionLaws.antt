@@ -14,7 +14,8 @@ use Rattle.dmix_client.specs.Calls.{commit_entries}
 use Rattle.dmix_client.specs.Expansion.{frame_entries, run_entries, sample_at}
 use Rattle.dmix_client.specs.View.{held}
 
-range_with_len-append : (a n k : ℕ) → range_with_len a (n + k) ≡ range_with_len a n ++ range_with_len (a + n) k
+-- n numbers and then k more
+pub range_with_len-append : (a n k : ℕ) → range_with_len a (n + k) ≡ range_with_len a n ++ range_with_len (a + n) k
 range_with_len-append a zero k = ap (range_with_len a) (zero-add k) ∙ ap (λ (b : ℕ). range_with_len b k) (let same : a ≡ a + 0 = omega arith in same)
 range_with_len-append a (suc n) k =
     ap (range_with_len a) (let same : suc n + k ≡ suc (n + k) = omega arith in same)
@@ -39,11 +40,13 @@ run_entries-append member bindings sample_of card first n k part =
 abbrev pub Holds : Plain → List ℤ → List ℤ → ℕ → ℕ → Type 0
 Holds c ring samples from to = (j q : ℕ) → from ≤ j → j < to → q < length c.bindings → held c ring j q ≡ sample_at samples (length c.bindings) j q
 
-map-same : {X : Type 0} (f g : ℕ → X) (xs : List ℕ) → ((k : ℕ) → k < length xs → f (get_or xs k 0) ≡ g (get_or xs k 0)) → map f xs ≡ map g xs
+-- two functions that agree on a list's elements give one list
+pub map-same : {X : Type 0} (f g : ℕ → X) (xs : List ℕ) → ((k : ℕ) → k < length xs → f (get_or xs k 0) ≡ g (get_or xs k 0)) → map f xs ≡ map g xs
 map-same f g [] same = refl
 map-same f g (x ∷ xs) same = cc (same 0 (omega arith), map-same f g xs (λ k h. same (suc k) (omega arith)))
 
-frame_entries-same : (member : ℕ) (bindings : List ℕ) (s t : ℕ → ℤ) (channels card : ℕ) → AreBindings bindings
+-- a frame's entries are told by the samples of the client's channels
+pub frame_entries-same : (member : ℕ) (bindings : List ℕ) (s t : ℕ → ℤ) (channels card : ℕ) → AreBindings bindings
     → ((q : ℕ) → q < length bindings → s q ≡ t q) → frame_entries member bindings s channels card ≡ frame_entries member bindings t channels card
 frame_entries-same member bindings s t channels card are same =
     let entry : (ℕ → ℤ) → ℕ → Entry = λ u q. record { member = member; frame = card; channel = slice_index bindings q; sample = u q } in

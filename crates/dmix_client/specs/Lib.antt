@@ -7,5 +7,6 @@ pub mod Growth
 pub mod GrowthLaws
 pub mod Port
 pub mod Ring
+pub mod RingLaws
 pub mod View
 pub mod Writes

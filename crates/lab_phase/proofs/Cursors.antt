@@ -18,7 +18,7 @@ use Rattle.bindings.specs.Bound.{rising}
 use Rattle.bindings.specs.RisingLaws.{length-rising, rising-within}
 use Rattle.dmix_client.specs.Expansion.{frame_entries, run_entries}
 use Rattle.dmix_client.specs.Port.{IsOnCard}
-use Rattle.lab_phase.proofs.Runs.{range_with_len-append}
+use Rattle.dmix_client.specs.ExpansionLaws.{range_with_len-append}
 
 -- behind entries whose last one is a member's, its cursor is free from the next frame on
 pub first_free-last : (g : Geometry) (member : ℕ) (at : Cursor) (es : List Entry) (e : Entry) → e.member ≡ member → e.channel < g.channels
@@ -70,7 +70,7 @@ run_entries-EndsAt g member bindings s card first n on_card =
       last = one.last;
       is =
           append-nil (flat_map laid (range_with_len first (n + 1)))
-          ∙ ap (flat_map laid) (sym (range_with_len-append first n 1))
+          ∙ ap (flat_map laid) (range_with_len-append first n 1)
           ∙ flat_map-append laid (range_with_len first n) ((first + n) ∷ [])
           ∙ ap (λ (es : List Entry). flat_map laid (range_with_len first n) ++ es) (append-nil (laid (first + n)) ∙ one.is)
           ∙ sym (append_assoc (flat_map laid (range_with_len first n)) one.before (one.last ∷ []));

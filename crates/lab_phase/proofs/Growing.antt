@@ -1,5 +1,5 @@
 -- How a client's segment grows by a commit, and what stands behind it.
-use Rattle.std.proofs.Common.{◌≡◌, ℕ, ◌<◌, ◌≤◌, ◌+◌, List, [], ◌++◌, sym, ◌∙◌, ap, arith, length, map, inl, inr}
+use Rattle.std.proofs.Common.{zero-add, ◌≡◌, ℕ, ◌<◌, ◌≤◌, ◌+◌, List, [], ◌++◌, sym, ◌∙◌, ap, arith, length, map, inl, inr}
 use Rattle.std.proofs.lemmas.Bool.{cases_eq}
 use Rattle.std.proofs.lemmas.Bool.Decides.{nat_tests}
 use Rattle.std.proofs.lemmas.List.Sums.{fold-append}
@@ -23,7 +23,7 @@ use Rattle.dmix_client.specs.Port.{IsOnCard}
 use Rattle.dmix_client.specs.View.{held}
 use Rattle.lab_phase.specs.Lines.{free_after}
 use Rattle.lab_phase.specs.Seats.{stretch}
-use Rattle.lab_phase.proofs.Runs.{run_entries-append, run_entries-same}
+use Rattle.dmix_client.specs.ExpansionLaws.{frames_used, run_entries-append, run_entries-same}
 use Rattle.lab_phase.proofs.Cursors.{first_free-run}
 
 -- a client is another one after a commit, but for its state, what it saw and how much is written
@@ -47,7 +47,8 @@ pub entries-file : (c : Plain) (x : Commit) (samples ring : List ℤ) → x.part
     → ((j q : ℕ) → c.committed ≤ j → j < c.committed + x.frames → q < length c.bindings → held c ring j q ≡ sample_at samples (length c.bindings) (c.source + j) q)
     → commit_entries c ring x ≡ file_entries c samples x.frames
 entries-file c x samples ring no_part bound same =
-    run_entries-same c.member c.bindings (held c ring) (λ j. sample_at samples (length c.bindings) (c.source + j)) c.card c.committed x.frames x.part bound same (λ some. absurd (omega arith))
+    run_entries-same c.member c.bindings (held c ring) (λ j. sample_at samples (length c.bindings) (c.source + j)) c.card c.committed x.frames x.part bound
+    (λ j q low high in_range. same j q low (omega (arith, high, ap (frames_used x.frames) no_part)) in_range)
     ∙ ap (run_entries c.member c.bindings (λ j. sample_at samples (length c.bindings) (c.source + j)) c.card c.committed x.frames) no_part
 
 -- and what its stretch grows by
@@ -69,7 +70,8 @@ stretch-grows c d x samples step whole no_part =
     let at_count : run_entries c.member c.bindings s c.card 0 d.committed d.part ≡ run_entries c.member c.bindings s c.card 0 (c.committed + x.frames) 0 =
     ap (λ (n : ℕ). run_entries c.member c.bindings s c.card 0 n d.part) step.committed ∙ ap (run_entries c.member c.bindings s c.card 0 (c.committed + x.frames)) (step.part ∙ no_part) in
     at_member ∙ at_bindings ∙ at_source ∙ at_card ∙ at_count
-    ∙ sym (run_entries-append c.member c.bindings s c.card c.committed x.frames 0)
+    ∙ run_entries-append c.member c.bindings s c.card 0 c.committed x.frames 0
+    ∙ ap (λ (n : ℕ). run_entries c.member c.bindings s c.card 0 c.committed 0 ++ run_entries c.member c.bindings s c.card n x.frames 0) (zero-add c.committed)
     ∙ ap (λ (es : List Entry). es ++ file_entries c samples x.frames) (sym before)
 
 -- a stretch in which nothing was laid is the same wherever it would begin

@@ -14,11 +14,9 @@ pub mod Owns
 pub mod Phased
 pub mod Played
 pub mod Resting
-pub mod Runs
 pub mod Seated
 pub mod Starting
 pub mod Steps
-pub mod Storing
 pub mod Syncing
 pub mod Totals
 pub mod Waiting

@@ -22,7 +22,7 @@ use Rattle.lab_phase.specs.Seats.{IsPending}
 use Rattle.lab_phase.proofs.Advances.{AdvancesUnwritten, if-false, not_stop}
 use Rattle.lab_phase.proofs.Calling.{held-same}
 use Rattle.lab_phase.proofs.Growing.{Advances}
-use Rattle.lab_phase.proofs.Storing.{HasRoom, stored-new, stored-old}
+use Rattle.dmix_client.specs.RingLaws.{HasRoom, stored-new, stored-old}
 
 -- a write offers the next frames of a client's file
 pub record Offers (wav : Sound) (c : Plain) (offer : List ℤ) (n : ℕ) : Type 0 where

@@ -26,7 +26,7 @@ use Rattle.lab_phase.proofs.Alike.{IsLike, is_late, is_same}
 use Rattle.lab_phase.proofs.Calling.{IsResting, pending-laid}
 use Rattle.lab_phase.proofs.Growing.{Advances, entries-file, file_entries}
 use Rattle.lab_phase.proofs.Offering.{AdvancesTaking, IsPending-accepted, IsPending-fewer, Offers, Offers-same, written_after-AdvancesTaking}
-use Rattle.lab_phase.proofs.Storing.{HasRoom}
+use Rattle.dmix_client.specs.RingLaws.{HasRoom}
 use Rattle.lab_phase.proofs.Syncing.{commit_count-most}
 
 -- what a write did to a client, whatever it answered: the frames of the file that it laid, and what is pending after it
