@@ -37,11 +37,11 @@ says-gone over e frame channel = record {
   never = λ h. cc;
 }
 
-abbrev number_in : Option (ℕ × ℕ) → ℕ
+abbrev pub number_in : Option (ℕ × ℕ) → ℕ
 number_in None = 0
 number_in (Some (x, y)) = x
 
-abbrev frame_in : Option (ℕ × ℕ) → ℕ
+abbrev pub frame_in : Option (ℕ × ℕ) → ℕ
 frame_in None = 0
 frame_in (Some (x, y)) = y
 

@@ -1,5 +1,6 @@
 mod Advances
 mod Caused
+mod CausedBy
 mod Frames
 mod Going
 mod Grown
