@@ -198,3 +198,9 @@ module _ {S : Type 0} (loaded : S → S → List Position → Type 0) (geometry 
       caused-some loaded geometry shows p q c c (synced c call (Some position) x).0 position x over (synced c call (Some position) x).1
       (subst (λ (r : Result (Unit {0}) PcmError). Says r position.gone over x.ended (end_of_commit c x) (end_channel c x)) (sym same) says)
       (reaches-over c position) (ends-if c call position x (is_stop x.ended)) shown loaded_it
+
+-- the calls of a stream that moves frames
+pub step-sync : (s : State) → is_moving s ≡ true → IsStep s call.Sync
+step-sync Running is = tt
+step-sync Draining is = tt
+step-sync s is = absurd (cc)
