@@ -1,6 +1,7 @@
 mod Advances
 mod Caused
 mod CausedBy
+mod CausedStart
 mod Frames
 mod Going
 mod Grown
