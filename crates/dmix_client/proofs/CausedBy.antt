@@ -1,11 +1,10 @@
 -- Why a sync and a start answered an error, by the position that they loaded.
-use Rattle.std.proofs.Common.{◌≡◌, ℕ, ◌+◌, ◌<◌, ◌≤◌, ◌∙◌, ap, sym, refl, subst, arith, List, [], ◌∷◌, length}
+use Rattle.std.proofs.Common.{◌≡◌, ℕ, ◌+◌, ◌≤◌, ◌∙◌, ap, sym, refl, subst, arith, List, [], ◌∷◌, length}
 use Rattle.std.proofs.lemmas.Bool.Decides.{nat_tests}
-use Rattle.std.specs.Prelude.{Bool, true, false, ◌&&◌, ◌||◌, ◌↔◌, nat_eq, nat_le, if◌then◌else◌, Option, Some, None, IfSome, is_some, Result, Ok, Err}
+use Rattle.std.specs.Prelude.{Bool, true, false, ◌&&◌, ◌||◌, ◌↔◌, nat_le, if◌then◌else◌, Option, Some, None, IfSome, is_some, Result, Ok, Err}
 use Rattle.std.specs.Option.{option_to_list}
 use Rattle.snd_base.specs.declared.errors.PcmError.{PcmError}
 use Rattle.snd_base.specs.declared.errors.PcmError.TheVariants.{LapEnd, NoDevice, Stopped, Xrun}
-use Rattle.snd_base.specs.declared.errors.XrunWhy.{XrunWhy}
 use Rattle.snd_base.specs.declared.errors.XrunWhy.TheVariants.{Avail, Late}
 use Rattle.snd_base.specs.declared.geometry.Geometry.{Geometry}
 use Rattle.mix_core.specs.declared.port.Position.{Position}

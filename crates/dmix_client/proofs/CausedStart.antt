@@ -1,10 +1,9 @@
 -- Why a start answered an error, by the position that it loaded.
-use Rattle.std.proofs.Common.{◌≡◌, ℕ, ◌+◌, ◌<◌, ◌≤◌, ◌∙◌, ap, sym, refl, subst, arith, List, [], ◌∷◌, length}
+use Rattle.std.proofs.Common.{◌≡◌, ℕ, ◌∙◌, ap, sym, refl, subst, List, [], ◌∷◌}
 use Rattle.std.specs.Prelude.{Bool, true, false, ◌↔◌, if◌then◌else◌, Option, Some, None, IfSome, Result, Ok, Err}
 use Rattle.std.specs.Option.{option_to_list}
 use Rattle.snd_base.specs.declared.errors.PcmError.{PcmError}
-use Rattle.snd_base.specs.declared.errors.PcmError.TheVariants.{LapEnd, NoDevice, Stopped, Xrun}
-use Rattle.snd_base.specs.declared.errors.XrunWhy.TheVariants.{Avail, Late}
+use Rattle.snd_base.specs.declared.errors.PcmError.TheVariants.{NoDevice, Stopped}
 use Rattle.snd_base.specs.declared.geometry.Geometry.{Geometry}
 use Rattle.snd_base.specs.declared.places.Cursor.{Cursor}
 use Rattle.mix_core.specs.declared.port.Position.{Position}
@@ -17,10 +16,10 @@ use Rattle.dmix_client.specs.declared.commit.Commit.{Commit}
 use Rattle.dmix_client.specs.declared.commit.Ended.{Ended}
 use Rattle.dmix_client.specs.declared.commit.Ended.TheVariants as ended
 use Rattle.dmix_client.specs.declared.plain.Plain.{Plain}
-use Rattle.dmix_client.specs.Calls.{Answered, accepted_if, commit_count, committed_by, end_channel, end_of_commit, found_at, going_on, going_on_by, is_stop, late_at, late_of, seen_at, start_count, started, started_in, stopped_in}
+use Rattle.dmix_client.specs.Calls.{Answered, accepted_if, committed_by, end_channel, end_of_commit, found_at, going_on, going_on_by, is_stop, late_at, late_of, seen_at, started, started_in, stopped_in, nothing_found, refusal_in, refusal_of}
 use Rattle.dmix_client.specs.Causes.{IsCaused, Reaches}
-use Rattle.dmix_client.specs.Port.{IsCommit, IsFound, OnLate}
-use Rattle.dmix_client.proofs.Caused.{Says, other-ok, other-stopped, says-gone, says-late, says-other}
+use Rattle.dmix_client.specs.Port.{OnLate}
+use Rattle.dmix_client.proofs.Caused.{Says, other-ok, other-stopped, says-late, says-other}
 use Rattle.dmix_client.proofs.CausedBy.{EndsAt, caused-none, caused-number, caused-some}
 
 none-reached : (c : Plain) (position : Position) (a f : ℕ) → c.state ≡ Prepared → ((position.gone ≡ false) × ((let o : Option (ℕ × ℕ) = None in o) ≡ Some (a, f))) ↔ Reaches c (Some position) a f
@@ -110,3 +109,12 @@ module _ {S : Type 0} (loaded : S → S → List Position → Type 0) (geometry 
     never_lap_end = λ h. cc;
   }
   caused-accepted c m (d, Err e) why = caused-number loaded geometry shows p q c (λ x. m) (d, Err e) why
+
+-- a call is admitted that may start a stream: it is prepared
+prepared-by : (stopped : Bool) (s : State) → (let o : Option PcmError = (if stopped then Some Stopped else refusal_in (next_of s call.Start nothing_found).answer) in o) ≡ None → s ≡ Prepared
+prepared-by true s is = absurd (cc)
+prepared-by false Prepared is = refl
+prepared-by false s is = absurd (cc)
+
+pub start-prepared : (c : Plain) → refusal_of c call.Start ≡ None → c.state ≡ Prepared
+start-prepared c is = prepared-by c.stopped c.state is

@@ -66,6 +66,7 @@ impl Client {
         ensures grows { (samples : List ℤ) → StandsFor self.old.plain self.old.ring samples → Grows P.laid port.old port.new self.old.plain self.new.plain samples }
         ensures stands { (samples : List ℤ) → StandsFor self.old.plain self.old.ring samples → StandsFor self.new.plain self.new.ring samples }
         ensures told { refusal_of self.old.plain call.Start ≡ None → Told result (G.stops gate.old) (G.stops gate.new) }
+        ensures causes { refusal_of self.old.plain call.Start ≡ None → 0 < self.old.plain.written → IsCaused P.loaded P.geometry P.shows port.old port.new self.old.plain self.new.plain result }
     {
         self.plain.admit(Call::Start)?;
         if self.plain.written == 0 {

@@ -2,7 +2,7 @@ use Rattle.dmix_client.proofs.CausedBy.{IsCaused-synced, step-sync}
 use Rattle.dmix_client.specs.Causes.{IsCaused}
 use Rattle.dmix_client.proofs.Growth.{Grows-none}
 use Rattle.dmix_client.specs.Growth.{StandsFor}
-use Rattle.std.proofs.Common.{List, length, subst, sym, refl, ℕ}
+use Rattle.std.proofs.Common.{List, length, subst, sym, refl}
 use Rattle.std.specs.Prelude.{ℤ}
 use Rattle.pcm_states.specs.declared.calls.Call.TheVariants as call
 use Rattle.dmix_client.specs.Calls.{sync_count, synced, Answered}
