@@ -2,6 +2,7 @@ mod Advances
 mod Caused
 mod CausedBy
 mod CausedStart
+mod CausedWrite
 mod Frames
 mod Going
 mod Grown
