@@ -1,13 +1,11 @@
 -- Which errors a sync and a start answer, and why.
-use Rattle.std.proofs.Common.{◌≡◌, ℕ, ◌+◌, ◌≤◌, ◌∙◌, ap, sym, refl, subst, arith, [], ◌∷◌}
-use Rattle.std.proofs.lemmas.Bool.Decides.{nat_tests}
-use Rattle.std.specs.Prelude.{Bool, true, false, ◌&&◌, ◌↔◌, nat_eq, nat_le, if◌then◌else◌, Option, Some, None, Result, Ok, Err}
+use Rattle.std.proofs.Common.{◌≡◌, ℕ, ◌∙◌, ap, refl, [], ◌∷◌}
+use Rattle.std.specs.Prelude.{Bool, true, false, ◌↔◌, nat_eq, if◌then◌else◌, Option, Some, None, Result, Ok, Err}
 use Rattle.snd_base.specs.declared.errors.PcmError.{PcmError}
 use Rattle.snd_base.specs.declared.errors.PcmError.TheVariants.{LapEnd, NoDevice, Stopped, Xrun}
 use Rattle.snd_base.specs.declared.errors.XrunWhy.TheVariants.{Avail, Late}
-use Rattle.mix_core.specs.declared.port.Position.{Position}
 use Rattle.pcm_states.specs.declared.states.State.{State}
-use Rattle.pcm_states.specs.declared.states.State.TheVariants.{Setup, Prepared, Running, Draining}
+use Rattle.pcm_states.specs.declared.states.State.TheVariants.{Setup, Running, Draining}
 use Rattle.pcm_states.specs.declared.calls.Call.{Call}
 use Rattle.pcm_states.specs.declared.calls.Call.TheVariants as call
 use Rattle.pcm_states.specs.declared.calls.Facts.{Facts}
@@ -29,7 +27,7 @@ pub record IsPlain (gone : Bool) (over : Option (ℕ × ℕ)) (e : Ended) : Type
   pub here : gone ≡ true → e ≡ ended.Whole
   pub below : (a f : ℕ) → over ≡ Some (a, f) → e ≡ ended.Whole
 
-says-gone : (over : Option (ℕ × ℕ)) (e : Ended) (frame channel : ℕ) → Says (Err NoDevice) true over e frame channel
+pub says-gone : (over : Option (ℕ × ℕ)) (e : Ended) (frame channel : ℕ) → Says (Err NoDevice) true over e frame channel
 says-gone over e frame channel = record {
   no_device = (λ h. refl, λ h. refl);
   reached = λ a f. (λ h. cc, λ h. let x = h.0 in cc);
@@ -37,11 +35,11 @@ says-gone over e frame channel = record {
   never = λ h. cc;
 }
 
-abbrev number_in : Option (ℕ × ℕ) → ℕ
+abbrev pub number_in : Option (ℕ × ℕ) → ℕ
 number_in None = 0
 number_in (Some (x, y)) = x
 
-abbrev frame_in : Option (ℕ × ℕ) → ℕ
+abbrev pub frame_in : Option (ℕ × ℕ) → ℕ
 frame_in None = 0
 frame_in (Some (x, y)) = y
 
@@ -59,7 +57,7 @@ says-over x y e frame channel = record {
   never = λ h. cc;
 }
 
-says-late : (word frame channel : ℕ) → Says (Err (Xrun (Late frame channel word))) false None (ended.Late word) frame channel
+pub says-late : (word frame channel : ℕ) → Says (Err (Xrun (Late frame channel word))) false None (ended.Late word) frame channel
 says-late word frame channel = record {
   no_device = (λ h. cc, λ h. cc);
   reached = λ a f. (λ h. cc, λ h. let z = h.1 in cc);
@@ -74,7 +72,7 @@ pub record IsOther (answer : Result (Unit {0}) PcmError) : Type 0 where
   pub in_time : (f c word : ℕ) → answer ≡ Err (Xrun (Late f c word)) → ⊥
   pub never : answer ≡ Err LapEnd → ⊥
 
-says-other : (answer : Result (Unit {0}) PcmError) (e : Ended) (frame channel : ℕ) → IsOther answer → Says answer false None e frame channel
+pub says-other : (answer : Result (Unit {0}) PcmError) (e : Ended) (frame channel : ℕ) → IsOther answer → Says answer false None e frame channel
 says-other answer e frame channel other = record {
   no_device = (λ h. absurd (other.here h), λ h. cc);
   reached = λ a f. (λ h. absurd (other.below a f h), λ h. let z = h.1 in cc);
@@ -82,10 +80,10 @@ says-other answer e frame channel other = record {
   never = λ h. other.never h;
 }
 
-other-ok : IsOther (Ok tt)
+pub other-ok : IsOther (Ok tt)
 other-ok = record { here = λ h. cc; below = λ a f h. cc; in_time = λ f c word h. cc; never = λ h. cc }
 
-other-stopped : IsOther (Err Stopped)
+pub other-stopped : IsOther (Err Stopped)
 other-stopped = record { here = λ h. cc; below = λ a f h. cc; in_time = λ f c word h. cc; never = λ h. cc }
 
 other-still : (call : Call) → IsStep Draining call → IsOther (still_draining call).answer

@@ -1,5 +1,8 @@
 mod Advances
 mod Caused
+mod CausedBy
+mod CausedStart
+mod CausedWrite
 mod Frames
 mod Going
 mod Grown

@@ -1,16 +1,18 @@
 -- Why a call that took steps answered an error: by the position that it loaded, and by where its commit ended.
-use Rattle.std.specs.Prelude.{◌≡◌, ℕ, ◌+◌, ◌≤◌, ◌↔◌, false, true, List, slice_index, Option, None, Some, Result, Err}
+use Rattle.std.specs.Prelude.{◌≡◌, ℕ, ◌+◌, ◌≤◌, ◌↔◌, false, true, List, slice_index, Option, None, Some, Result, Err, ◌<◌, Ok}
 use Rattle.std.specs.Option.{option_to_list}
 use Rattle.snd_base.specs.declared.errors.PcmError.{PcmError}
-use Rattle.snd_base.specs.declared.errors.PcmError.TheVariants.{LapEnd, NoDevice, Xrun}
+use Rattle.snd_base.specs.declared.errors.PcmError.TheVariants.{LapEnd, NoDevice, Xrun, Again}
 use Rattle.snd_base.specs.declared.errors.XrunWhy.TheVariants.{Avail, Late}
 use Rattle.snd_base.specs.declared.geometry.Geometry.{Geometry}
 use Rattle.mix_core.specs.declared.port.Position.{Position}
 use Rattle.mix_core.specs.Port.{IsPast}
 use Rattle.bindings.specs.Bound.{rising}
 use Rattle.pcm_states.specs.declared.states.State.TheVariants.{Running}
+use Rattle.pcm_states.specs.declared.calls.Call.TheVariants as call
+use Rattle.dmix_client.specs.declared.commit.Commit.{Commit}
 use Rattle.dmix_client.specs.declared.plain.Plain.{Plain}
-use Rattle.dmix_client.specs.Calls.{seen_at}
+use Rattle.dmix_client.specs.Calls.{seen_at, synced}
 use Rattle.dmix_client.specs.View.{avail_of}
 
 -- a position was loaded, and it says that the card is gone
@@ -39,3 +41,11 @@ pub record IsCaused {S T : Type 0} (loaded : S → S → List Position → Type 
   pub reached : (avail frame : ℕ) → (answer ≡ Err (Xrun (Avail avail frame))) ↔ Reaches c load avail frame
   pub late : (frame channel word : ℕ) → answer ≡ Err (Xrun (Late frame channel word)) → IsMissed geometry shows q d frame channel word
   pub never_lap_end : answer ≡ Err LapEnd → ⊥
+
+-- a write of n frames into a stream that runs is to be made again exactly where its sync went well, there are frames to
+-- write, and none can be taken after the sync
+pub record IsAgain {S : Type 0} (loaded : S → S → List Position → Type 0) (p q : S) (c : Plain) (n : ℕ) (answer : Result ℕ PcmError) : Type 0 where
+  pub load : Option Position
+  pub commit : Commit
+  pub loaded_it : loaded p q (option_to_list load)
+  pub again : (answer ≡ Err Again) ↔ (((synced c call.Transfer load commit).1 ≡ Ok tt) × (0 < n) × (avail_of (synced c call.Transfer load commit).0 ≡ 0))

@@ -3,6 +3,7 @@ ghost use Rattle.std.specs.Prelude.{◌≡◌, ◌≢◌, ℕ, ◌+◌, ◌*◌,
 ghost use Rattle.pcm_states.specs.declared.calls.Call.TheVariants as call;
 ghost use Rattle.dmix_client.specs.Calls.{draining, dropped, has_frames, avail_answer, delay_answer, refusal_of, start_count, started, started_in, sync_count, synced, with_number};
 ghost use Rattle.mix_core.specs.Gate.{Told};
+ghost use Rattle.dmix_client.specs.Causes.{IsCaused};
 ghost use Rattle.dmix_client.specs.Growth.{Grows, StandsFor};
 ghost use Rattle.dmix_client.specs.Port.{CanUse, TakesDrain, TakesStep};
 ghost use Rattle.dmix_client.specs.View.{ClientView, is_moving};
@@ -36,6 +37,7 @@ impl Client {
         ensures grows { (samples : List ℤ) → StandsFor self.old.plain self.old.ring samples → Grows P.laid port.old port.new self.old.plain self.new.plain samples }
         ensures stands { (samples : List ℤ) → StandsFor self.old.plain self.old.ring samples → StandsFor self.new.plain self.new.ring samples }
         ensures told { refusal_of self.old.plain call.Sync ≡ None → Told result (G.stops gate.old) (G.stops gate.new) }
+        ensures causes { refusal_of self.old.plain call.Sync ≡ None → is_moving self.old.plain.state ≡ true → IsCaused P.loaded P.geometry P.shows port.old port.new self.old.plain self.new.plain result }
     {
         self.plain.admit(Call::Sync)?;
         if !self.plain.is_moving() {
@@ -64,6 +66,7 @@ impl Client {
         ensures grows { (samples : List ℤ) → StandsFor self.old.plain self.old.ring samples → Grows P.laid port.old port.new self.old.plain self.new.plain samples }
         ensures stands { (samples : List ℤ) → StandsFor self.old.plain self.old.ring samples → StandsFor self.new.plain self.new.ring samples }
         ensures told { refusal_of self.old.plain call.Start ≡ None → Told result (G.stops gate.old) (G.stops gate.new) }
+        ensures causes { refusal_of self.old.plain call.Start ≡ None → 0 < self.old.plain.written → IsCaused P.loaded P.geometry P.shows port.old port.new self.old.plain self.new.plain result }
     {
         self.plain.admit(Call::Start)?;
         if self.plain.written == 0 {
@@ -89,6 +92,7 @@ impl Client {
         ensures ring { self.new.ring ≡ self.old.ring }
         ensures port { CanUse self.new.plain (P.geometry port.new) (P.member port.new) (P.cursor port.new) (P.seen port.new) (P.can_add port.new) }
         ensures told { refusal_of self.old.plain call.Sync ≡ None → Told result (G.stops gate.old) (G.stops gate.new) }
+        ensures causes { refusal_of self.old.plain call.Sync ≡ None → is_moving self.old.plain.state ≡ true → IsCaused P.loaded P.geometry P.shows port.old port.new self.old.plain self.new.plain result }
         ensures grows { (samples : List ℤ) → StandsFor self.old.plain self.old.ring samples → Grows P.laid port.old port.new self.old.plain self.new.plain samples }
         ensures stands { (samples : List ℤ) → StandsFor self.old.plain self.old.ring samples → StandsFor self.new.plain self.new.ring samples }
     {
@@ -117,6 +121,7 @@ impl Client {
         ensures ring { self.new.ring ≡ self.old.ring }
         ensures port { CanUse self.new.plain (P.geometry port.new) (P.member port.new) (P.cursor port.new) (P.seen port.new) (P.can_add port.new) }
         ensures told { refusal_of self.old.plain call.Sync ≡ None → Told result (G.stops gate.old) (G.stops gate.new) }
+        ensures causes { refusal_of self.old.plain call.Sync ≡ None → is_moving self.old.plain.state ≡ true → IsCaused P.loaded P.geometry P.shows port.old port.new self.old.plain self.new.plain result }
         ensures grows { (samples : List ℤ) → StandsFor self.old.plain self.old.ring samples → Grows P.laid port.old port.new self.old.plain self.new.plain samples }
         ensures stands { (samples : List ℤ) → StandsFor self.old.plain self.old.ring samples → StandsFor self.new.plain self.new.ring samples }
     {
@@ -149,6 +154,7 @@ impl Client {
         ensures grows { (samples : List ℤ) → StandsFor self.old.plain self.old.ring samples → Grows P.laid port.old port.new self.old.plain self.new.plain samples }
         ensures stands { (samples : List ℤ) → StandsFor self.old.plain self.old.ring samples → StandsFor self.new.plain self.new.ring samples }
         ensures told { refusal_of self.old.plain call.Drain ≡ None → Told result (G.stops gate.old) (G.stops gate.new) }
+        ensures causes { refusal_of self.old.plain call.Drain ≡ None → is_moving self.old.plain.state ≡ true → IsCaused P.loaded P.geometry P.shows port.old port.new (draining self.old.plain) self.new.plain result }
     {
         self.plain.admit(Call::Drain)?;
         let ring = self.ring.as_slice();

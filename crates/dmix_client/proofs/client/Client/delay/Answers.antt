@@ -1,9 +1,11 @@
+use Rattle.dmix_client.proofs.CausedBy.{IsCaused-synced, step-sync, caused-number}
+use Rattle.dmix_client.specs.Causes.{IsCaused}
 use Rattle.dmix_client.proofs.Growth.{Grows-none}
 use Rattle.dmix_client.specs.Growth.{StandsFor}
 use Rattle.std.proofs.Common.{◌∙◌, ℕ, List, ap, length, subst, sym, refl}
 use Rattle.std.specs.Prelude.{ℤ}
 use Rattle.pcm_states.specs.declared.calls.Call.TheVariants as call
-use Rattle.dmix_client.specs.Calls.{delay_answer, sync_count, synced, with_number}
+use Rattle.dmix_client.specs.Calls.{delay_answer, sync_count, synced, with_number, Answered}
 use Rattle.dmix_client.specs.Port.{TakesStep, entries_at}
 use Rattle.dmix_client.specs.View.{ClientView}
 use Rattle.dmix_client.proofs.client.Client.delay.Goals as goal
@@ -40,3 +42,14 @@ returns-clause-stands g c samples stands =
     let before : StandsFor plain c.self.inside.ring.items samples = subst (λ (v : ClientView). StandsFor v.plain v.ring samples) (sym c.self.view_is) stands in
     let here = subst (λ (ring : List ℤ). StandsFor plain ring samples) (sym c.as_slice-ring.ensures.value) before in
     subst (λ (ring : List ℤ). StandsFor c.sync_call-stepped.new.plain ring samples) c.as_slice-ring.ensures.value (c.sync_call-stepped.ensures.stands samples here)
+
+pub returns-clause-causes : goal.returns-clause-causes
+returns-clause-causes g c admitted moves =
+    let port = g.P.MixPort in
+    let before = c.args.port.now in
+    let after = c.sync_call-stepped.new.port in
+    let plain = c.args.self.now.plain in
+    let takes = returns-clause-steps g c admitted moves in
+    let why = IsCaused-synced port.loaded port.geometry port.shows before after plain call.Sync takes.load takes.commit (step-sync c.args.self.now.plain.state moves) takes.found takes.loaded_them takes.shown in
+    subst (λ (a : Answered ℕ). IsCaused {T = ℕ} port.loaded port.geometry port.shows before after plain a.0 a.1) takes.outcome
+    (caused-number port.loaded port.geometry port.shows before after plain delay_answer (synced plain call.Sync takes.load takes.commit) why)

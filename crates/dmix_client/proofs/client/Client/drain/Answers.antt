@@ -1,9 +1,11 @@
+use Rattle.dmix_client.proofs.CausedBy.{IsCaused-synced}
+use Rattle.dmix_client.specs.Causes.{IsCaused}
 use Rattle.dmix_client.proofs.Growth.{Grows-none}
 use Rattle.dmix_client.specs.Growth.{Grows, StandsFor}
 use Rattle.std.proofs.Common.{◌≡◌, List, length, subst, sym, refl}
 use Rattle.std.specs.Prelude.{ℤ, nat_lt, true}
 use Rattle.pcm_states.specs.declared.calls.Call.TheVariants as call
-use Rattle.dmix_client.specs.Calls.{draining, sync_count, synced, dropped}
+use Rattle.dmix_client.specs.Calls.{draining, sync_count, synced, dropped, Answered}
 use Rattle.dmix_client.specs.Port.{TakesStep, entries_at}
 use Rattle.dmix_client.specs.declared.plain.Plain.{Plain}
 use Rattle.dmix_client.specs.View.{ClientView, is_moving}
@@ -68,3 +70,13 @@ returns-then-not-has_frames-clause-grows g c samples stands =
     let stays = Grows-none laid g.met.P.MixPort.laid_composes port port plain (dropped plain) samples refl refl refl refl in
     let here = subst (λ (d : Plain). Grows laid port port plain d samples) (sym c.dropped-self-inside.ensures) stays in
     subst (λ (v : ClientView). Grows laid port port v.plain c.dropped-self-inside.result samples) c.self.view_is here
+
+pub returns-then-is_moving-clause-causes : goal.returns-then-is_moving-clause-causes
+returns-then-is_moving-clause-causes g c admitted moves =
+    let port = g.P.MixPort in
+    let before = c.args.port.now in
+    let after = c.sync_call.new.port in
+    let plain = draining c.args.self.now.plain in
+    let takes = returns-then-is_moving-clause-steps g c admitted moves in
+    let why = IsCaused-synced port.loaded port.geometry port.shows before after plain call.Drain takes.load takes.commit tt takes.found takes.loaded_them takes.shown in
+    subst (λ (a : Answered (Unit {0})). IsCaused {T = Unit {0}} port.loaded port.geometry port.shows before after plain a.0 a.1) takes.outcome why

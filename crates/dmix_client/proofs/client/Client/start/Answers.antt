@@ -1,8 +1,10 @@
+use Rattle.dmix_client.proofs.CausedStart.{IsCaused-started, start-prepared}
+use Rattle.dmix_client.specs.Causes.{IsCaused}
 use Rattle.dmix_client.proofs.Growth.{Grows-none}
 use Rattle.std.proofs.Common.{List, length, subst, refl}
 use Rattle.std.specs.Prelude.{ℤ}
 use Rattle.pcm_states.specs.declared.states.State.TheVariants.{Running}
-use Rattle.dmix_client.specs.Calls.{start_count, started, started_in}
+use Rattle.dmix_client.specs.Calls.{start_count, started, started_in, Answered}
 use Rattle.dmix_client.specs.Port.{TakesStep, entries_at}
 use Rattle.dmix_client.specs.View.{ClientView}
 use Rattle.dmix_client.proofs.client.Client.start.Goals as goal
@@ -33,3 +35,13 @@ returns-in_err-admit-clause-grows g c samples stands =
 pub returns-then-self-eq0-clause-grows : goal.returns-then-self-eq0-clause-grows
 returns-then-self-eq0-clause-grows g c samples stands =
     Grows-none g.P.MixPort.laid g.met.P.MixPort.laid_composes c.args.port.now c.args.port.now c.args.self.now.plain c.args.self.now.plain samples refl refl refl refl
+
+pub returns-clause-causes : goal.returns-clause-causes
+returns-clause-causes g c admitted some =
+    let port = g.P.MixPort in
+    let before = c.args.port.now in
+    let after = c.begin.new.port in
+    let plain = c.args.self.now.plain in
+    let takes = returns-clause-steps g c admitted some in
+    let why = IsCaused-started port.loaded port.geometry port.shows before after plain Running (port.cursor before) takes.load takes.commit (start-prepared plain admitted) takes.loaded_them takes.shown in
+    subst (λ (a : Answered (Unit {0})). IsCaused {T = Unit {0}} port.loaded port.geometry port.shows before after plain a.0 a.1) takes.outcome why

@@ -1,9 +1,11 @@
+use Rattle.dmix_client.proofs.CausedBy.{IsCaused-synced, step-sync}
+use Rattle.dmix_client.specs.Causes.{IsCaused}
 use Rattle.dmix_client.proofs.Growth.{Grows-none}
 use Rattle.dmix_client.specs.Growth.{StandsFor}
 use Rattle.std.proofs.Common.{List, length, subst, sym, refl}
 use Rattle.std.specs.Prelude.{ℤ}
 use Rattle.pcm_states.specs.declared.calls.Call.TheVariants as call
-use Rattle.dmix_client.specs.Calls.{sync_count, synced}
+use Rattle.dmix_client.specs.Calls.{sync_count, synced, Answered}
 use Rattle.dmix_client.specs.Port.{TakesStep, entries_at}
 use Rattle.dmix_client.specs.View.{ClientView}
 use Rattle.dmix_client.proofs.client.Client.sync.Goals as goal
@@ -40,3 +42,13 @@ returns-clause-stands g c samples stands =
     let before : StandsFor plain c.self.inside.ring.items samples = subst (λ (v : ClientView). StandsFor v.plain v.ring samples) (sym c.self.view_is) stands in
     let here = subst (λ (ring : List ℤ). StandsFor plain ring samples) (sym c.as_slice-ring.ensures.value) before in
     subst (λ (ring : List ℤ). StandsFor c.sync_call.new.plain ring samples) c.as_slice-ring.ensures.value (c.sync_call.ensures.stands samples here)
+
+pub returns-clause-causes : goal.returns-clause-causes
+returns-clause-causes g c admitted moves =
+    let port = g.P.MixPort in
+    let before = c.args.port.now in
+    let after = c.sync_call.new.port in
+    let plain = c.args.self.now.plain in
+    let takes = returns-clause-steps g c admitted moves in
+    let why = IsCaused-synced port.loaded port.geometry port.shows before after plain call.Sync takes.load takes.commit (step-sync c.args.self.now.plain.state moves) takes.found takes.loaded_them takes.shown in
+    subst (λ (a : Answered (Unit {0})). IsCaused {T = Unit {0}} port.loaded port.geometry port.shows before after plain a.0 a.1) takes.outcome why

@@ -1,3 +1,7 @@
+use Rattle.pcm_states.specs.declared.calls.Call.TheVariants as call
+use Rattle.dmix_client.proofs.CausedWrite.{synced-not_again, written_on-again}
+use Rattle.dmix_client.specs.Causes.{IsAgain}
+use Rattle.dmix_client.specs.Calls.{Answered, synced}
 use Rattle.dmix_client.proofs.Growth.{Grows-none}
 use Rattle.dmix_client.specs.Growth.{Grows, StandsFor, Follows}
 use Rattle.std.proofs.Common.{◌≡◌, ◌/◌, ◌∙◌, ℕ, List, length, ap, arith, subst, sym, take, drop, ◌++◌, refl}
@@ -84,3 +88,15 @@ returns-clause-stands g c all stands follows =
     let whole : c.self.inside.ring.len ≡ length new_ring = omega (arith, c.as_mut_slice-ring.ensures.len) in
     let back : new_ring ≡ take c.self.inside.ring.len (new_ring ++ drop (length new_ring) c.self.inside.ring.items) = sym (take-written c.self.inside.ring.len new_ring c.self.inside.ring.items whole) in
     subst (λ (ring : List ℤ). StandsFor c.write_prepared-filled.new.plain ring all) back (c.write_prepared-filled.ensures.stands all here behind)
+
+pub returns-then-eq-clause-again : goal.returns-then-eq-clause-again
+returns-then-eq-clause-again g c admitted running =
+    let port = g.P.MixPort in
+    let before = c.args.port.now in
+    let after = c.write_running-answer.new.port in
+    let plain = c.args.self.now.plain in
+    let n : ℕ = frames_in plain c.args.samples.now in
+    let writes = returns-then-eq-clause-steps g c admitted running in
+    let exactly = written_on-again (synced plain call.Transfer writes.load writes.commit) n writes.last (synced-not_again plain writes.load writes.commit running) in
+    subst (λ (a : Answered ℕ). IsAgain port.loaded before after plain n a.1) writes.outcome
+    (record { load = writes.load; commit = writes.commit; loaded_it = writes.loaded_them; again = exactly })
