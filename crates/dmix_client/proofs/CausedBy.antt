@@ -41,7 +41,7 @@ late-past : (e : Ended) (word : ℕ) (P : ℕ → Type 0) → e ≡ ended.Late w
 late-past e word P is late = subst (λ (x : Ended). OnLate x P) is late
 
 module _ {S : Type 0} (loaded : S → S → List Position → Type 0) (geometry : S → Geometry) (shows : S → ℕ → ℕ → Option ℕ) (p q : S) where
-  missed-of : (at d : Plain) (x : Commit) (frame channel word : ℕ) → EndsAt at d x → frame ≡ end_of_commit at x → channel ≡ end_channel at x
+  pub missed-of : (at d : Plain) (x : Commit) (frame channel word : ℕ) → EndsAt at d x → frame ≡ end_of_commit at x → channel ≡ end_channel at x
       → IsPast geometry shows q (end_of_commit at x) (end_channel at x) word → IsMissed geometry shows q d frame channel word
   missed-of at d x frame channel word ends is_frame is_channel past = record {
     frame_is = omega (arith, is_frame, ends.card, ends.committed);

@@ -3,6 +3,7 @@ mod Caused
 mod CausedBy
 mod CausedStart
 mod CausedWrite
+mod CausedWritten
 mod Frames
 mod Going
 mod Grown

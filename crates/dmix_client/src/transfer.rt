@@ -3,7 +3,7 @@ ghost use Rattle.std.specs.Prelude.{◌≡◌, ℕ, ◌+◌, ◌*◌, ◌/◌, �
 ghost use Rattle.mix_core.specs.Gate.{Told};
 ghost use Rattle.pcm_states.specs.declared.calls.Call.TheVariants as call;
 ghost use Rattle.dmix_client.specs.Calls.{accepted, filled, refusal_of, start_count, started_in, taken_of};
-ghost use Rattle.dmix_client.specs.Causes.{IsAgain};
+ghost use Rattle.dmix_client.specs.Causes.{IsAgain, IsCaused};
 ghost use Rattle.dmix_client.specs.Growth.{Follows, Grows, StandsFor};
 ghost use Rattle.dmix_client.specs.Port.{CanUse, TakesStep};
 ghost use Rattle.dmix_client.specs.Writes.{IsOffer, TakesWrite, frames_in, ring_with, starts_with};
@@ -65,6 +65,8 @@ impl Client {
         ensures steps { refusal_of self.old.plain call.Transfer ≡ None → self.old.plain.state ≡ State.Running →
             TakesWrite P.laid P.loaded P.geometry P.shows port.old port.new self.old.plain self.old.ring self.new.ring samples.now (frames_in self.old.plain samples.now) (self.new.plain, result) }
         ensures told { refusal_of self.old.plain call.Transfer ≡ None → self.old.plain.state ≡ State.Running → Told result (G.stops gate.old) (G.stops gate.new) }
+        ensures starts_causes { refusal_of self.old.plain call.Transfer ≡ None → self.old.plain.state ≡ State.Prepared → IsCaused P.loaded P.geometry P.shows port.old port.new self.old.plain self.new.plain result }
+        ensures causes { refusal_of self.old.plain call.Transfer ≡ None → self.old.plain.state ≡ State.Running → IsCaused P.loaded P.geometry P.shows port.old port.new self.old.plain self.new.plain result }
         ensures again { refusal_of self.old.plain call.Transfer ≡ None → self.old.plain.state ≡ State.Running → IsAgain P.loaded port.old port.new self.old.plain (frames_in self.old.plain samples.now) result }
         ensures port { CanUse self.new.plain (P.geometry port.new) (P.member port.new) (P.cursor port.new) (P.seen port.new) (P.can_add port.new) }
         ensures grows { (all : List ℤ) → StandsFor self.old.plain self.old.ring all → Follows self.old.plain all samples.now (frames_in self.old.plain samples.now) → Grows P.laid port.old port.new self.old.plain self.new.plain all }

@@ -1,6 +1,8 @@
 use Rattle.pcm_states.specs.declared.calls.Call.TheVariants as call
 use Rattle.dmix_client.proofs.CausedWrite.{synced-not_again, written_on-again}
-use Rattle.dmix_client.specs.Causes.{IsAgain}
+use Rattle.dmix_client.specs.Causes.{IsAgain, IsCaused}
+use Rattle.pcm_states.specs.declared.states.State.TheVariants.{Prepared}
+use Rattle.dmix_client.proofs.CausedWritten.{IsCaused-prepared, IsCaused-written}
 use Rattle.dmix_client.specs.Calls.{Answered, synced}
 use Rattle.dmix_client.proofs.Growth.{Grows-none}
 use Rattle.dmix_client.specs.Growth.{Grows, StandsFor, Follows}
@@ -100,3 +102,28 @@ returns-then-eq-clause-again g c admitted running =
     let exactly = written_on-again (synced plain call.Transfer writes.load writes.commit) n writes.last (synced-not_again plain writes.load writes.commit running) in
     subst (λ (a : Answered ℕ). IsAgain port.loaded before after plain n a.1) writes.outcome
     (record { load = writes.load; commit = writes.commit; loaded_it = writes.loaded_them; again = exactly })
+
+pub returns-then-eq-clause-causes : goal.returns-then-eq-clause-causes
+returns-then-eq-clause-causes g c admitted running =
+    let port = g.P.MixPort in
+    let before = c.args.port.now in
+    let after = c.write_running-answer.new.port in
+    let plain = c.args.self.now.plain in
+    let n : ℕ = frames_in plain c.args.samples.now in
+    let writes = returns-then-eq-clause-steps g c admitted running in
+    let why = IsCaused-written port.loaded port.geometry port.shows before after plain n writes.load writes.commit writes.last running writes.found writes.loaded_them writes.shown_first writes.shown in
+    subst (λ (a : Answered ℕ). IsCaused {T = ℕ} port.loaded port.geometry port.shows before after plain a.0 a.1) writes.outcome why
+
+pub returns-clause-starts_causes : goal.returns-clause-starts_causes
+returns-clause-starts_causes g c admitted waits =
+    let port = g.P.MixPort in
+    let before = c.args.port.now in
+    let after = c.write_prepared-filled.new.port in
+    let plain = c.self.inside.plain in
+    let done = c.write_prepared-filled.new.plain in
+    let prepared : plain.state ≡ Prepared = subst (λ (v : ClientView). v.plain.state ≡ Prepared) (sym c.self.view_is) waits in
+    let filled = c.write_prepared-filled.ensures in
+    let why = IsCaused-prepared port.loaded port.geometry port.shows before after port.laid plain done c.whole_frames-frames.result _ _ (length plain.bindings) c.write_prepared-filled.new.ring (port.cursor before) _
+    c.write_prepared-filled.result.answer prepared (g.met.P.MixPort.loaded_composes.none before) filled.fills filled.starts in
+    let told = subst (λ (r : Result ℕ PcmError). IsCaused {T = ℕ} port.loaded port.geometry port.shows before after plain done r) (sym c.few_frames-2.ensures) why in
+    subst (λ (v : ClientView). IsCaused {T = ℕ} port.loaded port.geometry port.shows before after v.plain done c.few_frames-2.result) c.self.view_is told
