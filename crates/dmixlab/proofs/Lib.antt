@@ -1,5 +1,6 @@
 mod Texts
 mod Sounds
+mod Replies
 mod Sessions
 mod Outputs
 mod Commands
