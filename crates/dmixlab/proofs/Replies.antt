@@ -1,6 +1,6 @@
 -- What a client's line is answered can stand in a report: it has words there.
-use Rattle.std.proofs.Common.{◌≡◌, ℕ, ◌+◌, ◌-◌}
-use Rattle.std.specs.Prelude.{Bool, true, false, nat_eq, nat_le, nat_lt, ◌&&◌, min, if◌then◌else◌, List, [], ◌∷◌, Option, Some, None, IfSome, Result, Ok, Err, IfErr}
+use Rattle.std.proofs.Common.{ℕ, ◌+◌, ◌-◌}
+use Rattle.std.specs.Prelude.{Bool, true, false, nat_eq, nat_le, nat_lt, ◌&&◌, min, if◌then◌else◌, [], ◌∷◌, Option, Some, None, IfSome, Result, Ok, Err, IfErr}
 use Rattle.snd_base.specs.declared.errors.PcmError.{PcmError}
 use Rattle.snd_base.specs.declared.errors.PcmError.TheVariants.{BadState, Xrun, Again, NoDevice, Invalid, Busy, NotSupported, LapEnd, Stopped, Memory}
 use Rattle.snd_base.specs.declared.errors.XrunWhy.{XrunWhy}
@@ -24,7 +24,7 @@ use Rattle.wav_io.specs.Sound.{Sound}
 use Rattle.lab_script.specs.declared.line.Op.{Op}
 use Rattle.lab_script.specs.declared.line.Op.TheVariants as op
 use Rattle.lab_report.specs.Text.{HasErrorWords, HasWords}
-use Rattle.lab_phase.specs.Lines.{Own, called, count_answer, counted_of, done_answer, done_of, frames_of, refused_or, told, unless_refused}
+use Rattle.lab_phase.specs.Lines.{Own, called, counted_of, done_of, frames_of, refused_or, told, unless_refused}
 use Rattle.lab_phase.specs.Rest.{cursor_at, drain_at, resting, start_at, start_commit, sync_at, sync_commit, writei_at}
 
 -- an answer's error has words, if it has one

@@ -1,7 +1,7 @@
 -- What the run of a script says of its report and of the samples that the card played.
-use Rattle.std.proofs.Common.{◌≡◌, ◌≤◌, ◌<◌, ◌+◌, ◌*◌, ◌%◌, mul-le-mul, ℕ, sym, ap, ◌∙◌, refl, subst, List, [], ◌∷◌, ◌++◌, All, length, map, arith}
+use Rattle.std.proofs.Common.{◌≡◌, ◌≤◌, ◌<◌, ◌+◌, ◌*◌, ◌%◌, mul-le-mul, ℕ, sym, ap, ◌∙◌, refl, subst, List, [], ◌∷◌, All, length, arith}
 use Rattle.std.proofs.Math.Nat.{mul-mod_left}
-use Rattle.std.specs.Prelude.{ℤ, Option, Some, None, slice_get, slice_index_or, slice_set}
+use Rattle.std.specs.Prelude.{ℤ, Option, Some, None, slice_get, slice_index_or}
 use Rattle.std.specs.List.{range_with_len}
 use Rattle.std.proofs.lemmas.List.{length-set}
 use Rattle.std.proofs.lemmas.List.Elements.{All-append, All-cons, All-nil, All-head, All-tail, All-map}
@@ -18,7 +18,6 @@ use Rattle.lab_script.specs.declared.script.Script.{Script}
 use Rattle.lab_script.specs.Script.{IsActor, IsLine, IsPhase, IsScript, frames_played}
 use Rattle.lab_report.specs.declared.report.Report.{Report}
 use Rattle.lab_report.specs.declared.row.Answer.{Answer}
-use Rattle.lab_report.specs.declared.row.Row.{Row}
 use Rattle.lab_report.specs.Text.{HasWords, IsReportOf, IsRowOf, IsSegmentOf}
 use Rattle.lab_phase.specs.Lines.{Own, segments_of}
 use Rattle.lab_phase.specs.Meaning.{IsRun, Stage, bindings_of, client_line, client_row, entries_of, first_stage, line_by, lines_of, mixed_at, numbered, numbered_lines, open_row, report_of, rows_of, stage_after}
