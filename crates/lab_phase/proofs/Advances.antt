@@ -1,7 +1,6 @@
 -- What syncs and starts make of a client's counts.
-use Rattle.std.proofs.Common.{◌≡◌, ℕ, ◌<◌, ◌≤◌, ◌+◌, refl, sym, ◌∙◌, ap, subst, inl, inr}
-use Rattle.std.proofs.lemmas.Bool.{cases_Bool}
-use Rattle.std.specs.Prelude.{Bool, true, false, if◌then◌else◌, Option, None, Some, Result, Ok, Err}
+use Rattle.std.proofs.Common.{◌≡◌, ℕ, refl, sym, subst}
+use Rattle.std.specs.Prelude.{Bool, true, false, if◌then◌else◌, Some, Result, Ok, Err}
 use Rattle.snd_base.specs.declared.errors.PcmError.{PcmError}
 use Rattle.snd_base.specs.declared.places.Cursor.{Cursor}
 use Rattle.mix_core.specs.declared.port.Position.{Position}
@@ -15,7 +14,7 @@ use Rattle.dmix_client.specs.declared.commit.Commit.{Commit}
 use Rattle.dmix_client.specs.declared.commit.Ended.{Ended}
 use Rattle.dmix_client.specs.declared.commit.Ended.TheVariants.{Whole, Late, Stopped}
 use Rattle.dmix_client.specs.declared.plain.Plain.{Plain}
-use Rattle.dmix_client.specs.Calls.{Answered, accepted, accepted_if, committed_by, facts_of, found_at, going_on, going_on_by, is_stop, late_of, over_of, seen_at, settled, started, started_in, stopped_in, synced, with_number}
+use Rattle.dmix_client.specs.Calls.{Answered, committed_by, facts_of, found_at, going_on, going_on_by, is_stop, late_of, over_of, seen_at, settled, started, started_in, stopped_in, synced, with_number}
 use Rattle.lab_phase.specs.Rest.{resting}
 use Rattle.lab_phase.proofs.Growing.{Advances}
 
@@ -32,7 +31,7 @@ not_stop (Late word) going = refl
 not_stop Stopped going = absurd (going refl)
 
 -- the first of two calls, where a test fails
-if-false : {T : Type 0} (test : Bool) (a b : T) → test ≡ false → (if test then a else b) ≡ b
+pub if-false : {T : Type 0} (test : Bool) (a b : T) → test ≡ false → (if test then a else b) ≡ b
 if-false true a b is = absurd (cc)
 if-false false a b is = refl
 
@@ -56,16 +55,30 @@ going_on_by-AdvancesUnwritten : (c from : Plain) (x : Commit) (r : Result (Unit 
     → AdvancesUnwritten c (going_on_by r (committed_by from x) s t).0 x
 going_on_by-AdvancesUnwritten c from x (Ok done) s t step = record {
   advances = record {
-    geometry = step.advances.geometry; member = step.advances.member; bindings = step.advances.bindings; config = step.advances.config; source = step.advances.source;
-    card = step.advances.card; stopped = step.advances.stopped; committed = step.advances.committed; part = step.advances.part;
+    geometry = step.advances.geometry;
+    member = step.advances.member;
+    bindings = step.advances.bindings;
+    config = step.advances.config;
+    source = step.advances.source;
+    card = step.advances.card;
+    stopped = step.advances.stopped;
+    committed = step.advances.committed;
+    part = step.advances.part;
   };
   written = step.written;
   fed = step.fed;
 }
 going_on_by-AdvancesUnwritten c from x (Err e) s t step = record {
   advances = record {
-    geometry = step.advances.geometry; member = step.advances.member; bindings = step.advances.bindings; config = step.advances.config; source = step.advances.source;
-    card = step.advances.card; stopped = step.advances.stopped; committed = step.advances.committed; part = step.advances.part;
+    geometry = step.advances.geometry;
+    member = step.advances.member;
+    bindings = step.advances.bindings;
+    config = step.advances.config;
+    source = step.advances.source;
+    card = step.advances.card;
+    stopped = step.advances.stopped;
+    committed = step.advances.committed;
+    part = step.advances.part;
   };
   written = step.written;
   fed = step.fed;

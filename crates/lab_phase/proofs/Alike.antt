@@ -1,5 +1,5 @@
 -- Calls whose late commits saw different words make the same of a client, and are told alike.
-use Rattle.std.proofs.Common.{◌≡◌, ◌≢◌, ℕ, ◌<◌, ◌≤◌, ◌+◌, List, [], ◌∷◌, refl, sym, ◌∙◌, ap, subst}
+use Rattle.std.proofs.Common.{◌≡◌, ℕ, ◌+◌, List, [], ◌∷◌, refl, ap, subst}
 use Rattle.std.specs.Prelude.{Bool, true, false, if◌then◌else◌, ◌&&◌, nat_lt, nat_le, nat_eq, Option, None, Some, Result, Ok, Err}
 use Rattle.snd_base.specs.declared.errors.PcmError.{PcmError}
 use Rattle.snd_base.specs.declared.errors.PcmError.TheVariants.{Again}
@@ -17,7 +17,7 @@ use Rattle.dmix_client.specs.declared.commit.Commit.{Commit}
 use Rattle.dmix_client.specs.declared.commit.Ended.TheVariants as ended
 use Rattle.dmix_client.specs.declared.plain.Plain.{Plain}
 use Rattle.dmix_client.specs.View.{avail_of, is_moving}
-use Rattle.dmix_client.specs.Calls.{Answered, accepted, accepted_if, committed_by, drain_of, drained_on, end_channel, end_of_commit, facts_of, filled, found_at, going_on, going_on_by, is_prepared, is_running, is_stop, late_of, over_of, seen_at, settled, start_of, started, started_in, stopped_in, sync_of, synced, taken_of, with_number, writei_of, written_after, written_on}
+use Rattle.dmix_client.specs.Calls.{Answered, accepted, accepted_if, committed_by, drain_of, drained_on, end_channel, end_of_commit, facts_of, found_at, going_on, going_on_by, is_prepared, is_running, over_of, seen_at, settled, start_of, started, started_in, sync_of, synced, taken_of, with_number, writei_of, written_after, written_on}
 use Rattle.lab_phase.specs.Lines.{done_of, counted_of, told}
 
 -- an answer as a report tells it
@@ -220,10 +220,10 @@ pub writei_of-AreSame : (c : Plain) (n : ℕ) (cursor : Cursor) (position : Posi
 writei_of-AreSame c n cursor position x y u v first last =
     if-AreSame (is_running c.state) _ _ _ _
     (λ is. written_on-AreSame (synced c call.Transfer (Some position) x) (synced c call.Transfer (Some position) y) n u v
-      (synced-AreSame c call.Transfer position x y first) last)
+    (synced-AreSame c call.Transfer position x y first) last)
     (λ other. if-AreSame (nat_le c.params.start_threshold (c.written + taken_of c n)) _ _ _ _
-      (λ starts. accepted_if-AreSame (taken_of c n) _ _ (started-AreSame c Running cursor position x y first))
-      (λ waits. AreSame-refl _))
+    (λ starts. accepted_if-AreSame (taken_of c n) _ _ (started-AreSame c Running cursor position x y first))
+    (λ waits. AreSame-refl _))
 
 pub drain_of-AreSame : (c : Plain) (cursor : Cursor) (position later : Position) (x y u v : Commit) → IsLike x y → IsLike u v
     → AreSame (drain_of c cursor (Some position) x (Some later) u) (drain_of c cursor (Some position) y (Some later) v)
@@ -231,6 +231,6 @@ drain_of-AreSame c cursor position later x y u v first last =
     if-AreSame (is_moving c.state) _ _ _ _
     (λ is. synced-AreSame (record c { state = Draining }) call.Drain position x y first)
     (λ other. if-AreSame (is_prepared c.state && nat_lt 0 c.written) _ _ _ _
-      (λ starts. drained_on-AreSame (started c Draining cursor (Some position) x) (started c Draining cursor (Some position) y) later u v
-        (started-AreSame c Draining cursor position x y first) last)
-      (λ waits. AreSame-refl _))
+    (λ starts. drained_on-AreSame (started c Draining cursor (Some position) x) (started c Draining cursor (Some position) y) later u v
+    (started-AreSame c Draining cursor position x y first) last)
+    (λ waits. AreSame-refl _))

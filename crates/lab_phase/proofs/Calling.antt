@@ -1,19 +1,15 @@
 -- What a line of a client comes to, by what its call found at a port whose core rests.
-use Rattle.std.proofs.Common.{◌≡◌, ℕ, zero, suc, ◌<◌, ◌≤◌, ◌+◌, List, [], ◌∷◌, ◌++◌, refl, sym, ◌∙◌, ap, subst, arith, inl, inr, length}
+use Rattle.std.proofs.Common.{◌≡◌, ℕ, ◌<◌, ◌≤◌, ◌+◌, List, ◌++◌, refl, sym, ◌∙◌, ap, subst, arith, inl, inr, length}
 use Rattle.std.proofs.lemmas.Bool.{cases_eq}
 use Rattle.std.proofs.lemmas.Bool.Decides.{nat_tests}
-use Rattle.std.proofs.lemmas.List.{append-nil}
-use Rattle.std.specs.Prelude.{ℤ, Bool, true, false, if◌then◌else◌, ◌&&◌, ◌||◌, nat_eq, nat_le, Option, None, Some, ⊤, pos, ◌%◌, ◌*◌, slice_index_or}
-use Rattle.snd_base.specs.declared.errors.PcmError.{PcmError}
+use Rattle.std.specs.Prelude.{ℤ, Bool, true, false, if◌then◌else◌, ◌||◌, nat_eq, nat_le, ⊤}
 use Rattle.snd_base.specs.declared.geometry.Geometry.{Geometry}
-use Rattle.snd_base.specs.Places.{first_free}
 use Rattle.mix_core.specs.declared.port.Entry.{Entry}
 use Rattle.mix_core.specs.declared.turn.Turn.{Turn}
 use Rattle.mix_core.specs.History.{Row}
 use Rattle.mix_core.specs.Stands.{Stands}
 use Rattle.mix_core.specs.Turn.{TurnLaid, core_of, cursor_of_turn, member_of}
 use Rattle.mix_core.specs.TurnLaws.{TurnLaid-composes}
-use Rattle.pcm_states.specs.declared.states.State.TheVariants.{Prepared}
 use Rattle.dmix_client.specs.declared.commit.Commit.{Commit}
 use Rattle.dmix_client.specs.declared.commit.Ended.TheVariants.{Whole, Late, Stopped}
 use Rattle.dmix_client.specs.declared.plain.Plain.{Plain}
@@ -26,7 +22,6 @@ use Rattle.wav_io.specs.Sound.{Sound}
 use Rattle.lab_script.specs.declared.line.Op.{Op}
 use Rattle.lab_report.specs.declared.row.Answer.{Answer}
 use Rattle.lab_phase.specs.Lines.{Own, after_call, called, frames_of, free_after}
-use Rattle.lab_phase.specs.Mixes.{RestsAt}
 use Rattle.lab_phase.specs.Rest.{commit_at}
 use Rattle.lab_phase.specs.Seats.{HasCalled, IsAtPort, IsOwn, IsPending, ends_stretch, stretch}
 use Rattle.lab_phase.proofs.Advances.{AdvancesUnwritten}
@@ -60,15 +55,15 @@ IsResting-like p c count x like = like-IsResting x (commit_at p c count) count l
 
 -- ---- a client after a call
 
-held-same : (c d : Plain) (r s : List ℤ) (j q : ℕ) → d.config ≡ c.config → d.bindings ≡ c.bindings → s ≡ r → held d s j q ≡ held c r j q
+pub held-same : (c d : Plain) (r s : List ℤ) (j q : ℕ) → d.config ≡ c.config → d.bindings ≡ c.bindings → s ≡ r → held d s j q ≡ held c r j q
 held-same c d r s j q config bindings ring = let b = config in let e = bindings in let f = ring in cc
 
 -- what is pending after frames were laid, where nothing was written
-pending-laid : (wav : Sound) (c d : Plain) (x : Commit) (r s : List ℤ) → AdvancesUnwritten c d x → s ≡ r → IsPending wav c r → IsPending wav d s
+pub pending-laid : (wav : Sound) (c d : Plain) (x : Commit) (r s : List ℤ) → AdvancesUnwritten c d x → s ≡ r → IsPending wav c r → IsPending wav d s
 pending-laid wav c d x r s step ring pending j q low high within =
     let channels : length d.bindings ≡ length c.bindings = ap length step.advances.bindings in
     let there : held c r j q ≡ sample_at wav.samples (length c.bindings) (c.source + j) q =
-        pending j q (omega (arith, low, step.advances.committed)) (omega (arith, high, step.written)) (omega (arith, within, channels)) in
+    pending j q (omega (arith, low, step.advances.committed)) (omega (arith, high, step.written)) (omega (arith, within, channels)) in
     held-same c d r s j q step.advances.config step.advances.bindings ring ∙ there
     ∙ ap (λ (n : ℕ). sample_at wav.samples n (c.source + j) q) (sym channels)
     ∙ ap (λ (n : ℕ). sample_at wav.samples (length d.bindings) (n + j) q) (sym step.advances.source)
@@ -89,7 +84,17 @@ pub record IsFrom (c own : Plain) : Type 0 where
 
 pub IsFrom-refl : (c : Plain) → IsFrom c c
 IsFrom-refl c = record {
-  geometry = refl; member = refl; bindings = refl; config = refl; source = refl; stopped = refl; committed = refl; part = refl; written = refl; fed = refl; card = λ some. refl;
+  geometry = refl;
+  member = refl;
+  bindings = refl;
+  config = refl;
+  source = refl;
+  stopped = refl;
+  committed = refl;
+  part = refl;
+  written = refl;
+  fed = refl;
+  card = λ some. refl;
 }
 
 free_after-behind : (free : ℕ) (d : Plain) → d.part ≡ 0 → 0 < d.committed → free_after free d ≡ d.card + d.committed
@@ -209,8 +214,8 @@ pub HasCalled-step : (members p : ℕ) (wav : Sound) (own : Own) (asked : Op) (v
 HasCalled-step members p wav own asked v w t u answer h c x count is at stands from step resting within laid same_ring sound usable is_call goes_on =
     let before : IsPending wav c v.ring = pending-from wav c own.plain v.ring from is.pending in
     let entries : commit_entries c v.ring x ≡ file_entries c wav.samples x.frames =
-        entries-file c x wav.samples v.ring resting.whole (subst (λ (b : List ℕ). AreBindings b) (sym from.bindings) is.on_card.bound)
-        (λ j q low high in_range. before j q low (omega (arith, within (omega arith))) in_range) in
+    entries-file c x wav.samples v.ring resting.whole (subst (λ (b : List ℕ). AreBindings b) (sym from.bindings) is.on_card.bound)
+    (λ j q low high in_range. before j q low (omega (arith, within (omega arith))) in_range) in
     HasCalled-laid members p wav own asked w v t u answer h c x is at stands from step.advances resting.whole
     (subst (TurnLaid t u) entries laid) (pending-laid wav c w.plain x v.ring w.ring step same_ring before)
     (omega (arith, step.fed, from.fed, is.fed)) sound usable is_call goes_on

@@ -1,5 +1,5 @@
 -- What is chosen for a client's file lies within what the card gives to clients.
-use Rattle.std.proofs.Common.{◌≡◌, ℕ, ◌≤◌, inl, inr, refl, sym, ◌∙◌, ap, subst, arith, List, [], ◌∷◌}
+use Rattle.std.proofs.Common.{◌≡◌, ℕ, inr, refl, sym, ap, subst, arith, List, [], ◌∷◌}
 use Rattle.std.specs.Prelude.{Bool, true, false, if◌then◌else◌, Option, Some, None, Result, Ok, Err, IfOk}
 use Rattle.pcm_interval.specs.declared.empty.Empty.{Empty}
 use Rattle.pcm_interval.specs.declared.interval.Interval.{Interval}
@@ -15,8 +15,8 @@ use Rattle.hw_space.specs.declared.quantity.Quantity.{Quantity}
 use Rattle.hw_space.specs.declared.quantity.Quantity.TheVariants as quantity
 use Rattle.hw_space.specs.Boxes.{IsBoxWithin, part}
 use Rattle.hw_space.specs.BoxLaws.{IsBoxWithin-part, IsBoxWithin-refl, IsBoxWithin-trans, with_part-IsBoxWithin}
-use Rattle.hw_space.specs.Choices.{Chooses, IsChoice, Makes, choices, done, fails, goes}
-use Rattle.hw_space.specs.Narrowings.{IsNear, LeavesOf, at_least, at_most, greatest_end, least_end, narrowed, nearest, point, with_access, with_format, with_value}
+use Rattle.hw_space.specs.Choices.{Chooses, IsChoice, Makes, choices, done, goes}
+use Rattle.hw_space.specs.Narrowings.{LeavesOf, at_least, at_most, greatest_end, least_end, narrowed, nearest, point, with_access, with_format, with_value}
 use Rattle.hw_space.specs.Settled.{Leaves}
 use Rattle.hw_space.specs.Widest.{whole_from_to, widest}
 use Rattle.wav_io.specs.Sound.{Sound}
@@ -35,9 +35,9 @@ nearest-IsBoxWithin : (q : Quantity) (n : ℕ) (low high : Option ParamBox) (who
     → LeavesOf (nearest q n low high) (Some d) → IsBoxWithin d whole
 nearest-IsBoxWithin q n (Some low) (Some high) whole d in_low in_high left =
     let there : IsBoxWithin (narrowed low q (greatest_end (part low q))) whole =
-        IsBoxWithin-trans (narrowed low q (greatest_end (part low q))) low whole (narrowed-IsBoxWithin low q (greatest_end (part low q))) (in_low low refl) in
+    IsBoxWithin-trans (narrowed low q (greatest_end (part low q))) low whole (narrowed-IsBoxWithin low q (greatest_end (part low q))) (in_low low refl) in
     let here : IsBoxWithin (narrowed high q (least_end (part high q))) whole =
-        IsBoxWithin-trans (narrowed high q (least_end (part high q))) high whole (narrowed-IsBoxWithin high q (least_end (part high q))) (in_high high refl) in
+    IsBoxWithin-trans (narrowed high q (least_end (part high q))) high whole (narrowed-IsBoxWithin high q (least_end (part high q))) (in_high high refl) in
     IsBoxWithin-trans d _ whole left.greatest.within (if_within _ there here)
   where
     if_within : (test : Bool) {x y : ParamBox} → IsBoxWithin x whole → IsBoxWithin y whole → IsBoxWithin (if test then x else y) whole
@@ -105,17 +105,17 @@ pub chosen-IsInRange : (most speed ring channels rate period : ℕ) (b d : Param
 chosen-IsInRange most speed ring channels rate period b d config first second choice =
     let last = choice.0 in
     let within_b : IsBoxWithin last b =
-        IsBoxWithin-trans last d b (Chooses-IsBoxWithin (choices period) d last choice.1)
-        (Leaves-IsBoxWithin (with_value b param.Rate rate) d b second (narrowed-IsBoxWithin b quantity.Rate (point rate))) in
+    IsBoxWithin-trans last d b (Chooses-IsBoxWithin (choices period) d last choice.1)
+    (Leaves-IsBoxWithin (with_value b param.Rate rate) d b second (narrowed-IsBoxWithin b quantity.Rate (point rate))) in
     let within_first : IsBoxWithin last (with_value (widest most speed ring) param.Channels channels) =
-        IsBoxWithin-trans last b (with_value (widest most speed ring) param.Channels channels) within_b first.greatest.within in
+    IsBoxWithin-trans last b (with_value (widest most speed ring) param.Channels channels) within_b first.greatest.within in
     let within_widest : IsBoxWithin last (widest most speed ring) =
-        IsBoxWithin-trans last (with_value (widest most speed ring) param.Channels channels) (widest most speed ring) within_first
-        (narrowed-IsBoxWithin (widest most speed ring) quantity.Channels (point channels)) in
+    IsBoxWithin-trans last (with_value (widest most speed ring) param.Channels channels) (widest most speed ring) within_first
+    (narrowed-IsBoxWithin (widest most speed ring) quantity.Channels (point channels)) in
     let both : IsWithin last.channels (refined (whole_from_to 1 most) (point channels)) =
-        IsBoxWithin-part last (widest most speed ring) quantity.Channels (refined (whole_from_to 1 most) (point channels)) within_first in
+    IsBoxWithin-part last (widest most speed ring) quantity.Channels (refined (whole_from_to 1 most) (point channels)) within_first in
     let at_point : IsWithin last.channels (point channels) =
-        IsWithin-trans last.channels (refined (whole_from_to 1 most) (point channels)) (point channels) both (refined-IsWithin_right (whole_from_to 1 most) (point channels)) in
+    IsWithin-trans last.channels (refined (whole_from_to 1 most) (point channels)) (point channels) both (refined-IsWithin_right (whole_from_to 1 most) (point channels)) in
     let low = IsWithin-min last.channels (point channels) at_point in
     let high = IsWithin-max last.channels (point channels) at_point in
     let few = IsWithin-max last.channels (whole_from_to 1 most) (within_widest.parts quantity.Channels) in

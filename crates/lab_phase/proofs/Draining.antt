@@ -1,15 +1,14 @@
 -- The line of a client that drains.
-use Rattle.std.proofs.Common.{◌≡◌, ◌⊎◌, ℕ, ◌<◌, ◌≤◌, ◌+◌, List, [], ◌∷◌, ◌++◌, refl, sym, ◌∙◌, ap, subst, arith, inl, inr, length}
+use Rattle.std.proofs.Common.{◌≡◌, ℕ, ◌<◌, ◌≤◌, ◌+◌, List, [], ◌∷◌, ◌++◌, refl, sym, ◌∙◌, ap, subst, arith, inl, inr, length}
 use Rattle.std.proofs.lemmas.Bool.{cases_Bool}
 use Rattle.std.proofs.lemmas.Bool.Decides.{nat_tests}
 use Rattle.std.proofs.lemmas.List.{append-nil}
 use Rattle.std.proofs.lemmas.List.Elements.{All-cons, All-head, All-nil, All-tail}
-use Rattle.std.specs.Prelude.{ℤ, Bool, true, false, if◌then◌else◌, ◌&&◌, ◌||◌, nat_lt, is_some, min, ◌-◌, Option, None, Some, Result, Ok, Err, IfNone, IfSome, OnErr, All, ⊤}
+use Rattle.std.specs.Prelude.{ℤ, Bool, true, false, if◌then◌else◌, ◌&&◌, nat_lt, min, ◌-◌, Option, None, Some, Result, Ok, Err, IfSome, OnErr, ⊤}
 use Rattle.std.specs.Option.{option_to_list}
 use Rattle.snd_base.specs.declared.errors.PcmError.{PcmError}
 use Rattle.snd_base.specs.declared.errors.PcmError.TheVariants as error
 use Rattle.snd_base.specs.declared.geometry.Geometry.{Geometry}
-use Rattle.snd_base.specs.declared.places.Cursor.{Cursor}
 use Rattle.snd_base.specs.Places.{first_free}
 use Rattle.mix_core.specs.declared.port.Entry.{Entry}
 use Rattle.mix_core.specs.declared.port.Position.{Position}
@@ -25,25 +24,24 @@ use Rattle.dmix_client.specs.declared.commit.Commit.{Commit}
 use Rattle.dmix_client.specs.declared.commit.Ended.{Ended}
 use Rattle.dmix_client.specs.declared.commit.Ended.TheVariants.{Whole, Late, Stopped}
 use Rattle.dmix_client.specs.declared.plain.Plain.{Plain}
-use Rattle.dmix_client.specs.Calls.{Answered, commit_count, commit_entries, drained_on, draining, dropped, end_channel, end_of_commit, has_frames, is_prepared, over_of, refusal_of, seen_at, start_count, started, started_in, sync_count, synced, window_end}
+use Rattle.dmix_client.specs.Calls.{Answered, commit_count, commit_entries, drained_on, draining, dropped, end_channel, end_of_commit, has_frames, is_prepared, refusal_of, start_count, started, started_in, sync_count, synced, window_end}
 use Rattle.dmix_client.specs.Port.{CanUse, IsOnCard, IsCommit, IsFound, OnLate, TakesDrain, TakesStep, ToldBy, entries_at}
 use Rattle.mix_core.specs.Port.{IsPast}
 use Rattle.dmix_client.specs.View.{ClientView, IsSound, is_moving}
 use Rattle.wav_io.specs.Sound.{Sound}
 use Rattle.lab_script.specs.declared.line.Op.TheVariants as op
-use Rattle.lab_report.specs.declared.row.Answer.{Answer}
 use Rattle.lab_phase.specs.Lines.{Own, called, done_answer, refused_or}
 use Rattle.lab_phase.specs.Mixes.{RestsAt}
 use Rattle.lab_phase.specs.Rest.{commit_at, cursor_at, drain_at, resting, start_commit, sync_commit}
 use Rattle.lab_phase.specs.Seats.{HasCalled, IsAtPort, IsOwn}
 use Rattle.lab_phase.proofs.Advances.{AdvancesUnwritten, started-AdvancesUnwritten, synced-AdvancesUnwritten}
 use Rattle.lab_phase.proofs.Alike.{AreSame, AreSame-refl, IsLike, drained_on-AreSame, is_late, is_same, started-AreSame, synced-AreSame}
-use Rattle.lab_phase.proofs.Calling.{HasCalled-step, HasCalled-still, IsFrom, IsResting, IsResting-like, Unmoved-same, nothing_laid}
+use Rattle.lab_phase.proofs.Calling.{HasCalled-step, HasCalled-still, IsFrom, IsResting-like, Unmoved-same, nothing_laid}
 use Rattle.lab_phase.proofs.Commits.{commit_rests}
-use Rattle.lab_phase.proofs.Resting.{Rested, geometry_of_turn, loaded_position, rested, rested_like, shown_by}
+use Rattle.lab_phase.proofs.Resting.{geometry_of_turn, loaded_position, rested, rested_like, shown_by}
 use Rattle.lab_phase.proofs.Starting.{started_in-IsFrom}
 use Rattle.lab_phase.proofs.Syncing.{commit_count-ahead, commit_count-most, refusal-cases, sync_count-cases, sync_count-most, tell, told_done}
-use Rattle.lab_phase.proofs.Waiting.{dropped-unmoved, usable-still}
+use Rattle.lab_phase.proofs.Waiting.{dropped-unmoved}
 
 -- ---- what a drain comes to at rest
 
@@ -115,13 +113,13 @@ like-whole x y (is_same z) whole = refl
 like-whole x y (is_late frames part word seen) whole = absurd (cc)
 
 -- a commit with nothing to lay laid nothing
-no_commit : (e : Ended) (frames part channels : ℕ) → IsCommit e frames part 0 channels → ◌≡◌ {A = Commit} (record { frames = frames; part = part; ended = e }) nothing_laid
+pub no_commit : (e : Ended) (frames part channels : ℕ) → IsCommit e frames part 0 channels → ◌≡◌ {A = Commit} (record { frames = frames; part = part; ended = e }) nothing_laid
 no_commit Whole frames part channels is = let a = is.0 in let b = is.1 in cc
 no_commit (Late word) frames part channels is = absurd (omega (arith, is.0))
 no_commit Stopped frames part channels is = absurd (omega (arith, is.0))
 
 -- nor does a commit at rest that has nothing to lay
-nothing_at_rest : (p : ℕ) (c : Plain) (n : ℕ) → n ≡ 0 → commit_at p c n ≡ nothing_laid
+pub nothing_at_rest : (p : ℕ) (c : Plain) (n : ℕ) → n ≡ 0 → commit_at p c n ≡ nothing_laid
 nothing_at_rest p c n none = ap (commit_at p c) none
 
 -- what laid nothing moves a client no further
@@ -154,8 +152,7 @@ drained_on-err (c, Err f) e later x is = refl
 -- the loads of a drain at rest, one after the other
 second-loaded : (g : Geometry) (members p : ℕ) (t u : Turn) (a b : Position) → RestsAt g members p (core_of t) → TurnLoaded t u (a ∷ b ∷ []) → (a ≡ resting p) × (b ≡ resting p)
 second-loaded g members p t u a b rests loaded =
-    let P : Position → Type 0 = λ x. (x.frame ≡ (core_of t).position) × (x.gone ≡ (core_of t).gone) in
-    (
+    let P : Position → Type 0 = λ x. (x.frame ≡ (core_of t).position) × (x.gone ≡ (core_of t).gone) in (
       loaded_position g members p t u a rests (record { same_frame = loaded.same_frame; same_gone = loaded.same_gone; each = All-cons P a [] (All-head P a (b ∷ []) loaded.each) (All-nil P) }),
       loaded_position g members p t u b rests (record { same_frame = loaded.same_frame; same_gone = loaded.same_gone; each = All-tail P a (b ∷ []) loaded.each }),
     )
@@ -182,25 +179,25 @@ drain-whole members p t u h ring c free done x last stands rests on_card none wh
     let begun : Answered (Unit {0}) = started c Draining (cursor_at free) (Some (resting p)) x in
     let going : x.ended ≡ Stopped → ⊥ = λ stop. absurd (let a = whole in let b = stop in cc) in
     let like : IsLike x (start_commit p c free c.written) =
-        commit_rests p (start_count c (cursor_at free) (resting p) c.written) (length c.bindings) from x found.commit_is found.in_time
-        (subst (λ (e : Ended). OnLate e (λ word. from.card + (from.committed + x.frames) < p)) (sym whole) tt) going in
+    commit_rests p (start_count c (cursor_at free) (resting p) c.written) (length c.bindings) from x found.commit_is found.in_time
+    (subst (λ (e : Ended). OnLate e (λ word. from.card + (from.committed + x.frames) < p)) (sym whole) tt) going in
     let is : x ≡ start_commit p c free c.written = like-whole x (start_commit p c free c.written) like whole in
     let start : AdvancesUnwritten from begun.0 x = started-AdvancesUnwritten c Draining (cursor_at free) p x going in
     let count_is : IsCommit Whole x.frames x.part (start_count c (cursor_at free) (resting p) c.written) (length c.bindings) =
-        subst (λ (e : Ended). IsCommit e x.frames x.part (start_count c (cursor_at free) (resting p) c.written) (length c.bindings)) whole found.commit_is in
+    subst (λ (e : Ended). IsCommit e x.frames x.part (start_count c (cursor_at free) (resting p) c.written) (length c.bindings)) whole found.commit_is in
     let nothing : commit_count begun.0 p begun.0.written ≡ 0 = sync_count-nothing from begun.0 p x start none count_is.0 in
     let no_sync : sync_count begun.0 (resting p) ≡ 0 = omega (arith, nothing, sync_count-most begun.0 p) in
     let last_is : last ≡ nothing_laid =
-        no_commit last.ended last.frames last.part (length c.bindings) (subst (λ (n : ℕ). IsCommit last.ended last.frames last.part n (length c.bindings)) no_sync found_last.commit_is) in
+    no_commit last.ended last.frames last.part (length c.bindings) (subst (λ (n : ℕ). IsCommit last.ended last.frames last.part n (length c.bindings)) no_sync found_last.commit_is) in
     let begun_is : begun ≡ (begun.0, Ok tt) = begun_whole c free p x whole in
     let done_is : done ≡ synced begun.0 call.Drain (Some (resting p)) nothing_laid =
-        sym outcome ∙ ap (λ (a : Answered (Unit {0})). drained_on a (Some (resting p)) last) begun_is ∙ ap (synced begun.0 call.Drain (Some (resting p))) last_is in
+    sym outcome ∙ ap (λ (a : Answered (Unit {0})). drained_on a (Some (resting p)) last) begun_is ∙ ap (synced begun.0 call.Drain (Some (resting p))) last_is in
     let later : AdvancesUnwritten begun.0 done.0 nothing_laid =
-        subst (λ (a : Answered (Unit {0})). AdvancesUnwritten begun.0 a.0 nothing_laid) (sym done_is)
-        (synced-AdvancesUnwritten begun.0 call.Drain (resting p) nothing_laid (λ stop. absurd (cc))) in
+    subst (λ (a : Answered (Unit {0})). AdvancesUnwritten begun.0 a.0 nothing_laid) (sym done_is)
+    (synced-AdvancesUnwritten begun.0 call.Drain (resting p) nothing_laid (λ stop. absurd (cc))) in
     let at_rest : sync_commit p begun.0 ≡ nothing_laid = nothing_at_rest p begun.0 (sync_count begun.0 (resting p)) no_sync in
     let wanted : ◌≡◌ {A = Answered (Unit {0})} (drained_on begun (Some (resting p)) (sync_commit p begun.0)) done =
-        ap (λ (a : Answered (Unit {0})). drained_on a (Some (resting p)) (sync_commit p begun.0)) begun_is ∙ ap (synced begun.0 call.Drain (Some (resting p))) at_rest ∙ sym done_is in
+    ap (λ (a : Answered (Unit {0})). drained_on a (Some (resting p)) (sync_commit p begun.0)) begun_is ∙ ap (synced begun.0 call.Drain (Some (resting p))) at_rest ∙ sym done_is in
     let entries_last : commit_entries begun.0 ring last ≡ [] = ap (commit_entries begun.0 ring) last_is in
     record {
       commit = x;
@@ -233,12 +230,12 @@ drain-late members p t u h ring c free done x last word stands rests on_card lat
     let going : x.ended ≡ Stopped → ⊥ = λ stop. absurd (let a = late in let b = stop in cc) in
     let told : ToldBy x.ended 0 0 = subst (λ (e : Ended). ToldBy e 0 0) (sym late) refl in
     let like : IsLike x (start_commit p c free c.written) =
-        rested_like c.geometry members p t u h ring (λ position. started_in c Running position (cursor_at free)) (λ position. start_count c (cursor_at free) position c.written)
-        x found laid shown told stands rests on_card (λ n within. commit_count-ahead from p c.written n within) in
+    rested_like c.geometry members p t u h ring (λ position. started_in c Running position (cursor_at free)) (λ position. start_count c (cursor_at free) position c.written)
+    x found laid shown told stands rests on_card (λ n within. commit_count-ahead from p c.written n within) in
     let refused = begun_late c free p x word late in
     let done_is : begun ≡ done = sym (drained_on-err begun refused.0 None last refused.1) ∙ outcome in
     let wanted : drained_on begun (Some (resting p)) (sync_commit p (started c Draining (cursor_at free) (Some (resting p)) (start_commit p c free c.written)).0) ≡ done =
-        drained_on-err begun refused.0 (Some (resting p)) (sync_commit p (started c Draining (cursor_at free) (Some (resting p)) (start_commit p c free c.written)).0) refused.1 ∙ done_is in
+    drained_on-err begun refused.0 (Some (resting p)) (sync_commit p (started c Draining (cursor_at free) (Some (resting p)) (start_commit p c free c.written)).0) refused.1 ∙ done_is in
     record {
       commit = x;
       like = like;
@@ -246,7 +243,7 @@ drain-late members p t u h ring c free done x last word stands rests on_card lat
       step = subst (λ (a : Answered (Unit {0})). AdvancesUnwritten from a.0 x) done_is (started-AdvancesUnwritten c Draining (cursor_at free) p x going);
       same = subst (λ (a : Answered (Unit {0})). AreSame a (let b = started c Draining (cursor_at free) (Some (resting p)) (start_commit p c free c.written) in drained_on b (Some (resting p)) (sync_commit p b.0))) wanted
           (drained_on-AreSame begun (started c Draining (cursor_at free) (Some (resting p)) (start_commit p c free c.written)) (resting p) _ _
-            (started-AreSame c Draining (cursor_at free) (resting p) x (start_commit p c free c.written) like) (is_same _));
+          (started-AreSame c Draining (cursor_at free) (resting p) x (start_commit p c free c.written) like) (is_same _));
     }
 
 -- a drain that was stopped answers so
@@ -338,7 +335,17 @@ drain-rested members p t u h ring c free done drain stands rests on_card none to
 -- a client that drains is as it was, but for its state
 draining-IsFrom : (c : Plain) → IsFrom (draining c) c
 draining-IsFrom c = record {
-  geometry = refl; member = refl; bindings = refl; config = refl; source = refl; stopped = refl; committed = refl; part = refl; written = refl; fed = refl; card = λ some. refl;
+  geometry = refl;
+  member = refl;
+  bindings = refl;
+  config = refl;
+  source = refl;
+  stopped = refl;
+  committed = refl;
+  part = refl;
+  written = refl;
+  fed = refl;
+  card = λ some. refl;
 }
 
 -- the answer of a drain that was refused, had nothing to play, started, or made its step
@@ -348,7 +355,7 @@ pub drain-line : {G : Type 0} (members p : ℕ) (wav : Sound) (own : Own) (h : L
     → (refusal_of v.plain call.Drain ≡ None → is_moving v.plain.state ≡ false → has_frames v.plain ≡ false → (result ≡ Ok tt) × (w ≡ record { plain = dropped v.plain; ring = v.ring }) × (u ≡ t) × G)
     → (has_frames v.plain ≡ true → refusal_of v.plain call.Drain ≡ None → TakesDrain TurnLaid TurnLoaded geometry_of_turn shown_by t u v.plain v.ring (cursor_of_turn t) (w.plain, result))
     → (refusal_of v.plain call.Drain ≡ None → is_moving v.plain.state ≡ true →
-        TakesStep TurnLaid TurnLoaded geometry_of_turn shown_by t u 0 0 v.ring (λ position. draining v.plain) (sync_count (draining v.plain)) (length v.plain.bindings) (synced (draining v.plain) call.Drain) (w.plain, result))
+    TakesStep TurnLaid TurnLoaded geometry_of_turn shown_by t u 0 0 v.ring (λ position. draining v.plain) (sync_count (draining v.plain)) (length v.plain.bindings) (synced (draining v.plain) call.Drain) (w.plain, result))
     → w.ring ≡ v.ring → IsSound w.plain w.ring → CanUse w.plain (core_of u).geometry (member_of u) (cursor_of_turn u) (core_of u).position ⊤
     → (refusal_of v.plain call.Drain ≡ None → Told result 0 0)
     → HasCalled members p wav own op.Drain w t u (done_answer result)
@@ -357,29 +364,29 @@ drain-line members p wav own h v w t u result is at stands refused empty starts 
       let r = refused found.0 (ap (λ (c : Plain). refusal_of c call.Drain) is.same ∙ found.1) in
       let w_is : w.plain ≡ own.plain = ap (λ (x : ClientView). x.plain) r.1 ∙ is.same in
       let is_call : called p wav own op.Drain ≡ (w.plain, done_answer result) =
-          ap (λ (o : Option PcmError). tell done_answer (refused_or o own.plain (drain_at p own.plain own.free))) found.1
-          ∙ ap (λ (c : Plain). tell {T = Unit {0}} done_answer (c, Err found.0)) (sym w_is) ∙ ap (λ (x : Result (Unit {0}) PcmError). tell done_answer (w.plain, x)) (sym r.0) in
+      ap (λ (o : Option PcmError). tell done_answer (refused_or o own.plain (drain_at p own.plain own.free))) found.1
+      ∙ ap (λ (c : Plain). tell {T = Unit {0}} done_answer (c, Err found.0)) (sym w_is) ∙ ap (λ (x : Result (Unit {0}) PcmError). tell done_answer (w.plain, x)) (sym r.0) in
       HasCalled-still members p wav own op.Drain v w t u (done_answer result) h is at stands r.2 (Unmoved-same own.plain w.plain is.whole w_is) same_ring sound usable is_call refl
   | inl admitted ↦
       let admitted_v : refusal_of v.plain call.Drain ≡ None = ap (λ (c : Plain). refusal_of c call.Drain) is.same ∙ admitted in
       let admitted_call : called p wav own op.Drain ≡ tell done_answer (drain_at p own.plain own.free) =
-          ap (λ (o : Option PcmError). tell done_answer (refused_or o own.plain (drain_at p own.plain own.free))) admitted in
+      ap (λ (o : Option PcmError). tell done_answer (refused_or o own.plain (drain_at p own.plain own.free))) admitted in
       elim (cases_Bool (is_moving own.plain.state)) [
         | inl moves ↦
             let c : Plain = draining own.plain in
             let moves_v : is_moving v.plain.state ≡ true = ap (λ (x : Plain). is_moving x.state) is.same ∙ moves in
             let step_own = subst (λ (x : Plain). TakesStep TurnLaid TurnLoaded geometry_of_turn shown_by t u 0 0 v.ring (λ position. draining x) (sync_count (draining x)) (length x.bindings) (synced (draining x) call.Drain) (w.plain, result)) is.same (steps admitted_v moves_v) in
             let found = rested own.plain.geometry members p t u h v.ring (λ position. c) (sync_count c) (synced c call.Drain) (w.plain, result) step_own stands at.rests is.on_card
-                (λ n within. commit_count-ahead own.plain p own.plain.written n (sync_count-cases c p n within)) in
+            (λ n within. commit_count-ahead own.plain p own.plain.written n (sync_count-cases c p n within)) in
             let x : Commit = found.commit in
             let resting_x = IsResting-like p own.plain (sync_count c (resting p)) x found.like in
             let step : AdvancesUnwritten c w.plain x =
-                subst (λ (a : Answered (Unit {0})). AdvancesUnwritten c a.0 x) found.outcome (synced-AdvancesUnwritten c call.Drain (resting p) x resting_x.going) in
+            subst (λ (a : Answered (Unit {0})). AdvancesUnwritten c a.0 x) found.outcome (synced-AdvancesUnwritten c call.Drain (resting p) x resting_x.going) in
             let is_call : called p wav own op.Drain ≡ (w.plain, done_answer result) =
-                admitted_call ∙ ap (λ (a : Answered (Unit {0})). tell done_answer a) (drain_at-moving p own.plain own.free moves)
-                ∙ sym (told_done (synced c call.Drain (Some (resting p)) x) (synced c call.Drain (Some (resting p)) (sync_commit p c))
-                  (synced-AreSame c call.Drain (resting p) x (sync_commit p c) found.like))
-                ∙ ap (λ (a : Answered (Unit {0})). tell done_answer a) found.outcome in
+            admitted_call ∙ ap (λ (a : Answered (Unit {0})). tell done_answer a) (drain_at-moving p own.plain own.free moves)
+            ∙ sym (told_done (synced c call.Drain (Some (resting p)) x) (synced c call.Drain (Some (resting p)) (sync_commit p c))
+            (synced-AreSame c call.Drain (resting p) x (sync_commit p c) found.like))
+            ∙ ap (λ (a : Answered (Unit {0})). tell done_answer a) found.outcome in
             HasCalled-step members p wav own op.Drain v w t u (done_answer result) h c x (sync_count c (resting p)) is at stands (draining-IsFrom own.plain) step resting_x
             (λ some. laid_within own.plain p x (sync_count c (resting p)) some resting_x.most (sync_count-most c p))
             found.laid same_ring sound usable is_call refl
@@ -390,8 +397,8 @@ drain-line members p wav own h v w t u result is at stands refused empty starts 
                   let r = empty admitted_v rests_v (ap has_frames is.same ∙ none) in
                   let w_is : w.plain ≡ dropped own.plain = ap (λ (x : ClientView). x.plain) r.1 ∙ ap dropped is.same in
                   let is_call : called p wav own op.Drain ≡ (w.plain, done_answer result) =
-                      admitted_call ∙ ap (λ (a : Answered (Unit {0})). tell done_answer a) (drain_at-waiting p own.plain own.free rests none)
-                      ∙ ap (λ (c : Plain). tell {T = Unit {0}} done_answer (c, Ok tt)) (sym w_is) ∙ ap (λ (x : Result (Unit {0}) PcmError). tell done_answer (w.plain, x)) (sym r.0) in
+                  admitted_call ∙ ap (λ (a : Answered (Unit {0})). tell done_answer a) (drain_at-waiting p own.plain own.free rests none)
+                  ∙ ap (λ (c : Plain). tell {T = Unit {0}} done_answer (c, Ok tt)) (sym w_is) ∙ ap (λ (x : Result (Unit {0}) PcmError). tell done_answer (w.plain, x)) (sym r.0) in
                   HasCalled-still members p wav own op.Drain v w t u (done_answer result) h is at stands r.2
                   (subst (λ (d : Plain). AdvancesUnwritten own.plain d nothing_laid) (sym w_is) (dropped-unmoved own.plain is.whole)) same_ring sound usable is_call refl
               | inl frames ↦
@@ -404,8 +411,8 @@ drain-line members p wav own h v w t u result is at stands refused empty starts 
                   let x : Commit = found.commit in
                   let resting_x = IsResting-like p from (commit_count from p own.plain.written) x found.like in
                   let is_call : called p wav own op.Drain ≡ (w.plain, done_answer result) =
-                      admitted_call ∙ ap (λ (a : Answered (Unit {0})). tell done_answer a) (drain_at-starting p own.plain own.free rests frames)
-                      ∙ sym (told_done (w.plain, result) _ found.same) in
+                  admitted_call ∙ ap (λ (a : Answered (Unit {0})). tell done_answer a) (drain_at-starting p own.plain own.free rests frames)
+                  ∙ sym (told_done (w.plain, result) _ found.same) in
                   HasCalled-step members p wav own op.Drain v w t u (done_answer result) h from x (commit_count from p own.plain.written) is at stands
                   (started_in-IsFrom own.plain Running p own.free none_laid) found.step resting_x
                   (λ some. omega (arith, commit_count-most from p own.plain.written (omega (arith, some, resting_x.most)), resting_x.most))

@@ -1,11 +1,9 @@
 -- How a client's segment grows by a commit, and what stands behind it.
-use Rattle.std.proofs.Common.{◌≡◌, ℕ, zero, suc, ◌<◌, ◌≤◌, ◌+◌, List, [], ◌∷◌, ◌++◌, refl, sym, ◌∙◌, ap, subst, arith, length, map, zero-add, inl, inr}
+use Rattle.std.proofs.Common.{◌≡◌, ℕ, ◌<◌, ◌≤◌, ◌+◌, List, [], ◌++◌, sym, ◌∙◌, ap, arith, length, map, inl, inr}
 use Rattle.std.proofs.lemmas.Bool.{cases_eq}
 use Rattle.std.proofs.lemmas.Bool.Decides.{nat_tests}
-use Rattle.std.proofs.lemmas.List.{append-nil}
 use Rattle.std.proofs.lemmas.List.Sums.{fold-append}
 use Rattle.std.specs.Prelude.{ℤ, fold}
-use Rattle.std.specs.List.{slice_index_or}
 use Rattle.snd_base.specs.declared.geometry.Geometry.{Geometry}
 use Rattle.snd_base.specs.declared.places.Cursor.{Cursor}
 use Rattle.snd_base.specs.Places.{first_frame, first_free}
@@ -19,8 +17,8 @@ use Rattle.mix_core.specs.Turn.{TurnLaid, core_of, cursor_of_turn, member_of}
 use Rattle.bindings.specs.Bound.{AreBindings}
 use Rattle.dmix_client.specs.declared.commit.Commit.{Commit}
 use Rattle.dmix_client.specs.declared.plain.Plain.{Plain}
-use Rattle.dmix_client.specs.Calls.{commit_entries, segment_of}
-use Rattle.dmix_client.specs.Expansion.{expand, run_entries, sample_at}
+use Rattle.dmix_client.specs.Calls.{commit_entries}
+use Rattle.dmix_client.specs.Expansion.{run_entries, sample_at}
 use Rattle.dmix_client.specs.Port.{IsOnCard}
 use Rattle.dmix_client.specs.View.{held}
 use Rattle.lab_phase.specs.Lines.{free_after}
@@ -59,17 +57,17 @@ stretch-grows c d x samples step whole no_part =
     let s : ℕ → ℕ → ℤ = λ j. sample_at samples (length c.bindings) (c.source + j) in
     let before : stretch c samples ≡ run_entries c.member c.bindings s c.card 0 c.committed 0 = ap (run_entries c.member c.bindings s c.card 0 c.committed) whole in
     let at_member : stretch d samples ≡ run_entries c.member d.bindings (λ j. sample_at samples (length d.bindings) (d.source + j)) d.card 0 d.committed d.part =
-        ap (λ (m : ℕ). run_entries m d.bindings (λ j. sample_at samples (length d.bindings) (d.source + j)) d.card 0 d.committed d.part) step.member in
+    ap (λ (m : ℕ). run_entries m d.bindings (λ j. sample_at samples (length d.bindings) (d.source + j)) d.card 0 d.committed d.part) step.member in
     let at_bindings : run_entries c.member d.bindings (λ j. sample_at samples (length d.bindings) (d.source + j)) d.card 0 d.committed d.part
-            ≡ run_entries c.member c.bindings (λ j. sample_at samples (length c.bindings) (d.source + j)) d.card 0 d.committed d.part =
-        ap (λ (b : List ℕ). run_entries c.member b (λ j. sample_at samples (length b) (d.source + j)) d.card 0 d.committed d.part) step.bindings in
+    ≡ run_entries c.member c.bindings (λ j. sample_at samples (length c.bindings) (d.source + j)) d.card 0 d.committed d.part =
+    ap (λ (b : List ℕ). run_entries c.member b (λ j. sample_at samples (length b) (d.source + j)) d.card 0 d.committed d.part) step.bindings in
     let at_source : run_entries c.member c.bindings (λ j. sample_at samples (length c.bindings) (d.source + j)) d.card 0 d.committed d.part
-            ≡ run_entries c.member c.bindings s d.card 0 d.committed d.part =
-        ap (λ (n : ℕ). run_entries c.member c.bindings (λ j. sample_at samples (length c.bindings) (n + j)) d.card 0 d.committed d.part) step.source in
+    ≡ run_entries c.member c.bindings s d.card 0 d.committed d.part =
+    ap (λ (n : ℕ). run_entries c.member c.bindings (λ j. sample_at samples (length c.bindings) (n + j)) d.card 0 d.committed d.part) step.source in
     let at_card : run_entries c.member c.bindings s d.card 0 d.committed d.part ≡ run_entries c.member c.bindings s c.card 0 d.committed d.part =
-        ap (λ (n : ℕ). run_entries c.member c.bindings s n 0 d.committed d.part) step.card in
+    ap (λ (n : ℕ). run_entries c.member c.bindings s n 0 d.committed d.part) step.card in
     let at_count : run_entries c.member c.bindings s c.card 0 d.committed d.part ≡ run_entries c.member c.bindings s c.card 0 (c.committed + x.frames) 0 =
-        ap (λ (n : ℕ). run_entries c.member c.bindings s c.card 0 n d.part) step.committed ∙ ap (run_entries c.member c.bindings s c.card 0 (c.committed + x.frames)) (step.part ∙ no_part) in
+    ap (λ (n : ℕ). run_entries c.member c.bindings s c.card 0 n d.part) step.committed ∙ ap (run_entries c.member c.bindings s c.card 0 (c.committed + x.frames)) (step.part ∙ no_part) in
     at_member ∙ at_bindings ∙ at_source ∙ at_card ∙ at_count
     ∙ sym (run_entries-append c.member c.bindings s c.card c.committed x.frames 0)
     ∙ ap (λ (es : List Entry). es ++ file_entries c samples x.frames) (sym before)
@@ -109,20 +107,20 @@ free-laid t u h c d x samples free laid stands step no_part on_card own is_free 
     let s : ℕ → ℕ → ℤ = λ j. sample_at samples (length c.bindings) (c.source + j) in
     let g : Geometry = (core_of t).geometry in
     let there : first_free (cursor_of_turn u) 0 ≡ first_free (fold (cursor_after g (member_of t)) (cursor_of_turn t) (file_entries c samples x.frames)) 0 =
-        ap (λ (at : Cursor). first_free at 0) (cursor-laid t u (file_entries c samples x.frames) h laid stands) in
+    ap (λ (at : Cursor). first_free at 0) (cursor-laid t u (file_entries c samples x.frames) h laid stands) in
     let entries : file_entries c samples x.frames ≡ run_entries (member_of t) c.bindings s c.card c.committed x.frames 0 =
-        ap (λ (m : ℕ). run_entries m c.bindings s c.card c.committed x.frames 0) own in
+    ap (λ (m : ℕ). run_entries m c.bindings s c.card c.committed x.frames 0) own in
     let here = there ∙ ap (λ (es : List Entry). first_free (fold (cursor_after g (member_of t)) (cursor_of_turn t) es) 0) entries in
     let d_part : d.part ≡ 0 = step.part ∙ no_part in
     elim (cases_eq x.frames 0) [
       | inl nothing ↦
           let stays : first_free (cursor_of_turn u) 0 ≡ free =
-              here ∙ ap (λ (n : ℕ). first_free (fold (cursor_after g (member_of t)) (cursor_of_turn t) (run_entries (member_of t) c.bindings s c.card c.committed n 0)) 0) nothing ∙ is_free in
+          here ∙ ap (λ (n : ℕ). first_free (fold (cursor_after g (member_of t)) (cursor_of_turn t) (run_entries (member_of t) c.bindings s c.card c.committed n 0)) 0) nothing ∙ is_free in
           let same : d.committed ≡ c.committed = omega (arith, step.committed) in
           stays ∙ sym (free_stays free c d same step.card d_part behind)
       | inr some ↦
           let behind_it : first_free (cursor_of_turn u) 0 ≡ c.card + (c.committed + x.frames) =
-              here ∙ first_free-run g (member_of t) c.bindings s c.card c.committed x.frames (cursor_of_turn t) on_card (omega arith) in
+          here ∙ first_free-run g (member_of t) c.bindings s c.card c.committed x.frames (cursor_of_turn t) on_card (omega arith) in
           behind_it ∙ sym (free_moves free c d x step d_part (omega arith))
     ]
   where

@@ -7,6 +7,7 @@ pub mod Cursors
 pub mod Draining
 pub mod Growing
 pub mod Lined
+pub mod Offering
 pub mod Opened
 pub mod OpeningLaws
 pub mod Owns
@@ -22,3 +23,6 @@ pub mod Syncing
 pub mod Totals
 pub mod Waiting
 pub mod Whole
+pub mod WriteLine
+pub mod Writing
+pub mod Written

@@ -1,12 +1,11 @@
 -- A run after a line.
-use Rattle.std.proofs.Common.{◌≡◌, ◌≢◌, ℕ, zero, suc, ◌<◌, ◌≤◌, ◌+◌, List, [], ◌∷◌, ◌++◌, refl, sym, ◌∙◌, ap, subst, arith, length, map, set, get_or, add-zero, zero-add, inl, inr, append_assoc}
+use Rattle.std.proofs.Common.{◌≡◌, ◌≢◌, ℕ, ◌<◌, ◌+◌, List, [], ◌∷◌, ◌++◌, refl, sym, ◌∙◌, ap, subst, arith, length, set, get_or, add-zero, zero-add, inl, inr, append_assoc}
 use Rattle.std.proofs.lemmas.Bool.{cases_Bool, cases_eq}
-use Rattle.std.proofs.lemmas.Bool.Decides.{nat_tests}
 use Rattle.std.proofs.lemmas.Int.{ints}
 use Rattle.std.proofs.lemmas.List.{append-nil, length-set, get_or_default}
 use Rattle.std.proofs.lemmas.List.Sums.{sum_by-append}
 use Rattle.std.proofs.lemmas.Option.{get_or_from_slice_get}
-use Rattle.std.specs.Prelude.{ℤ, pos, ◌+ℤ◌, Bool, true, false, ◌&&◌, nat_eq, if◌then◌else◌, Option, None, Some, ⊤, OnOk, Result, Ok, Err, slice_get, slice_index_or, unwrap_or}
+use Rattle.std.specs.Prelude.{ℤ, pos, ◌+ℤ◌, true, false, ◌&&◌, nat_eq, if◌then◌else◌, Option, None, Some, OnOk, Result, Ok, Err, slice_get, slice_index_or}
 use Rattle.snd_base.specs.declared.geometry.Geometry.{Geometry}
 use Rattle.snd_base.specs.declared.places.Cursor.{Cursor}
 use Rattle.snd_base.specs.declared.places.Segment.{Segment}
@@ -18,10 +17,9 @@ use Rattle.mix_core.specs.View.{View}
 use Rattle.dmix_client.specs.declared.plain.Plain.{Plain}
 use Rattle.dmix_client.specs.Calls.{segment_of}
 use Rattle.dmix_client.specs.Expansion.{expand}
-use Rattle.dmix_client.specs.Port.{CanUse, least_channel}
+use Rattle.dmix_client.specs.Port.{least_channel}
 use Rattle.dmix_client.specs.View.{ClientView}
 use Rattle.wav_io.specs.Sound.{Sound}
-use Rattle.lab_script.specs.declared.line.Actor.{Actor}
 use Rattle.lab_script.specs.declared.line.Actor.TheVariants.{Card, Client}
 use Rattle.lab_script.specs.declared.line.Line.{Line}
 use Rattle.lab_script.specs.declared.line.Op.{Op}
@@ -33,12 +31,12 @@ use Rattle.lab_report.specs.declared.row.Answer.TheVariants.{Done, Count, Failed
 use Rattle.lab_report.specs.declared.row.Row.{Row}
 use Rattle.lab_phase.specs.declared.body.Body.{Body}
 use Rattle.lab_phase.specs.declared.seat.Seat.{Seat}
-use Rattle.lab_phase.specs.Lines.{Own, after_call, called, closed_answer, ended_after, laid_in, line_done, segments_of}
-use Rattle.lab_phase.specs.Meaning.{Stage, bindings_of, card_row, client_line, client_row, entries_of, line_by, line_of_client, numbered, rows_of, stage_after}
+use Rattle.lab_phase.specs.Lines.{Own, after_call, closed_answer, ended_after, laid_in, line_done, segments_of}
+use Rattle.lab_phase.specs.Meaning.{Stage, bindings_of, card_row, client_line, client_row, entries_of, line_by, rows_of, stage_after}
 use Rattle.lab_phase.specs.Mixes.{Mixes, RestsAt}
 use Rattle.lab_phase.specs.Opening.{IsRingOf}
 use Rattle.lab_phase.specs.Seats.{IsOwn, ends_stretch, stretch}
-use Rattle.lab_phase.specs.Stages.{HasCalledAt, HasRun, IsAtSeat, IsSeated, IsSettled, IsSettledAt, LaysAt, TakesLine, TakesOpen, free_at, members_for, own_at, own_of, own_with, owns_from, played_by_lines, stage_of, sums_of}
+use Rattle.lab_phase.specs.Stages.{HasCalledAt, HasRun, IsAtSeat, IsSeated, IsSettled, IsSettledAt, LaysAt, TakesLine, TakesOpen, free_at, members_for, own_at, own_of, own_with, owns_from, stage_of, sums_of}
 use Rattle.lab_phase.proofs.Owns.{owns_from-get, owns_from-set, set-slice_get, slice_get-within, slice_get-set_other, slice_get-set_same}
 use Rattle.lab_phase.proofs.Steps.{Mixes-laid}
 use Rattle.lab_phase.proofs.Totals.{numbered_segments, own_total, own_total-grows, total-numbered-set}

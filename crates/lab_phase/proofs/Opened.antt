@@ -1,10 +1,9 @@
 -- A run before its first phase.
-use Rattle.std.proofs.Common.{◌≡◌, ℕ, zero, suc, ◌<◌, ◌≤◌, ◌+◌, ◌*◌, zero-mul, add-zero, zero-add, List, [], ◌∷◌, ◌++◌, refl, sym, ◌∙◌, ap, subst, arith, length, map, get_or, inl, inr, ◌⊎◌, All}
-use Rattle.std.proofs.lemmas.Bool.Decides.{nat_tests}
-use Rattle.std.proofs.lemmas.List.{get_or-map, get_or_default}
+use Rattle.std.proofs.Common.{◌≡◌, ℕ, zero, suc, ◌<◌, ◌+◌, ◌*◌, zero-mul, add-zero, zero-add, List, [], ◌∷◌, ◌++◌, refl, sym, ◌∙◌, ap, subst, arith, length, map, get_or, inl, inr, ◌⊎◌, All}
+use Rattle.std.proofs.lemmas.List.{get_or-map}
 use Rattle.std.proofs.lemmas.List.FromFn.{fill_by_all}
 use Rattle.std.proofs.lemmas.Option.{get_or_from_slice_get, slice_get-get_or}
-use Rattle.std.specs.Prelude.{ℤ, Option, None, Some, slice_get, slice_index_or, zip, max, ⊤}
+use Rattle.std.specs.Prelude.{Option, None, Some, slice_get, slice_index_or, zip}
 use Rattle.std.specs.List.{range_with_len}
 use Rattle.snd_base.specs.declared.geometry.Geometry.{Geometry}
 use Rattle.snd_base.specs.declared.places.Cursor.{Cursor}
@@ -25,11 +24,10 @@ use Rattle.lab_report.specs.declared.row.Row.{Row}
 use Rattle.lab_phase.specs.declared.body.Body.{Body}
 use Rattle.lab_phase.specs.declared.seat.Seat.{Seat}
 use Rattle.lab_phase.specs.Lines.{Own, segments_of}
-use Rattle.lab_phase.specs.Meaning.{AreFiles, AreOpened, Stage, bindings_of, client_row, entries_of, first_stage, numbered, open_row}
-use Rattle.lab_phase.specs.Mixes.{Mixes, RestsAt}
+use Rattle.lab_phase.specs.Meaning.{AreFiles, Stage, bindings_of, client_row, entries_of, numbered, open_row}
+use Rattle.lab_phase.specs.Mixes.{RestsAt}
 use Rattle.lab_phase.specs.Opening.{IsOpening, IsRingOf, Setup, bound_by, open_answer, opened_with}
-use Rattle.lab_phase.specs.Seats.{IsOwn}
-use Rattle.lab_phase.specs.Stages.{AddsSeat, HasOpened, IsAtSeat, IsClientOf, IsOpenedAs, IsOpeningRow, IsSeated, IsSettledAt, free_at, members_for, own_at, own_of, own_with, owns_from, stage_of, sums_of}
+use Rattle.lab_phase.specs.Stages.{AddsSeat, HasOpened, IsClientOf, IsOpenedAs, IsOpeningRow, IsSeated, IsSettledAt, free_at, members_for, own_at, own_of, own_with, owns_from, stage_of}
 use Rattle.lab_phase.proofs.Owns.{owns_from-get, owns_from-length, slice_get-within}
 
 -- ---- lists by their places

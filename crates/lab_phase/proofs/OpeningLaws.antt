@@ -1,9 +1,9 @@
 -- What a client is opened with.
-use Rattle.std.proofs.Common.{eq-eqb, ◌≡◌, ℕ, zero, suc, ◌<◌, ◌≤◌, ◌+◌, List, [], ◌∷◌, refl, sym, ◌∙◌, ap, subst, arith, length, take, get_or, zero-add}
+use Rattle.std.proofs.Common.{◌≡◌, ℕ, zero, suc, ◌<◌, ◌≤◌, ◌+◌, List, [], ◌∷◌, refl, sym, ◌∙◌, ap, subst, arith, length, take, get_or, zero-add}
 use Rattle.std.proofs.lemmas.Bool.Decides.{nat_tests}
 use Rattle.std.proofs.lemmas.List.{get_or_default}
 use Rattle.std.proofs.lemmas.List.FromFn.{length-range_with_len}
-use Rattle.std.specs.Prelude.{◌==◌, Bool, true, false, nat_le, nat_lt, if◌then◌else◌, All, Option, Some, None, Result, Ok, Err, unwrap_or}
+use Rattle.std.specs.Prelude.{◌==◌, Bool, true, false, nat_le, nat_lt, if◌then◌else◌, Option, Some, None, Ok, Err, unwrap_or}
 use Rattle.std.specs.List.{cons_option, filter_map, list_any, range_with_len}
 use Rattle.snd_base.specs.declared.errors.Why.{Why}
 use Rattle.snd_base.specs.declared.errors.Why.TheVariants.{BindingsEmpty, BindingsTooMany, BindingRange, BindingTwice}
@@ -18,7 +18,6 @@ use Rattle.dmix_client.specs.View.{ClientView, IsConfigured, IsSound}
 use Rattle.wav_io.specs.Sound.{Sound}
 use Rattle.lab_script.specs.declared.script.ClientLine.{ClientLine}
 use Rattle.lab_script.specs.Script.{IsBound}
-use Rattle.lab_phase.specs.Lines.{Own}
 use Rattle.lab_phase.specs.Opening.{bound_by}
 use Rattle.lab_phase.specs.Seats.{IsOwn}
 

@@ -1,11 +1,8 @@
 -- The lines of phases, and when a run can take one.
-use Rattle.std.proofs.Common.{◌≡◌, ℕ, zero, suc, ◌<◌, ◌≤◌, ◌+◌, List, [], ◌∷◌, ◌++◌, refl, sym, ◌∙◌, ap, subst, arith, length, map, take, drop, get_or, add-zero, append_assoc, All}
+use Rattle.std.proofs.Common.{◌≡◌, ℕ, suc, ◌<◌, ◌≤◌, ◌+◌, List, [], ◌∷◌, ◌++◌, refl, sym, ◌∙◌, ap, subst, arith, length, map, take, get_or, add-zero, append_assoc}
 use Rattle.std.proofs.lemmas.List.{append-nil, map-append, take_more, length-take}
 use Rattle.std.proofs.lemmas.List.Sums.{sum_by-append, sum_by-cons, sum_by-take-le, sum_by_more}
-use Rattle.std.proofs.lemmas.Option.{slice_get-get_or}
-use Rattle.std.specs.Prelude.{◌*◌, sum_by, slice_get, Some}
-use Rattle.snd_base.specs.Places.{end_frame}
-use Rattle.dmix_client.specs.View.{ClientView}
+use Rattle.std.specs.Prelude.{sum_by, slice_get, Some}
 use Rattle.wav_io.specs.Sound.{Sound}
 use Rattle.lab_script.specs.declared.line.Actor.{Actor}
 use Rattle.lab_script.specs.declared.line.Actor.TheVariants.{Card, Client}
@@ -17,7 +14,7 @@ use Rattle.lab_script.specs.Script.{IsActor, IsLine, IsOpOf, IsScript, frames_pl
 use Rattle.lab_phase.specs.declared.body.Body.{Body}
 use Rattle.lab_phase.specs.declared.seat.Seat.{Seat}
 use Rattle.lab_phase.specs.Meaning.{AreFiles, numbered_lines}
-use Rattle.lab_phase.specs.Stages.{CanTake, HasRun, IsOpenPort, IsSettled, played_by_lines}
+use Rattle.lab_phase.specs.Stages.{CanTake, HasRun, IsAsked, IsOpenPort, IsSettled, played_by_lines}
 use Rattle.lab_phase.proofs.Lined.{HasRun-append}
 
 -- the lines of a phase that has a number
@@ -52,20 +49,22 @@ sum_by-take_more f xs n d within = omega (arith, sum_by_more f xs n d within, su
 
 -- a run that stands between two lines can take one of its script
 pub CanTake-settled : (script : Script) (wavs : List Sound) (body : Body) (line : Line) → IsScript script → AreFiles script wavs → IsSettled script wavs body
-    → IsLine (length script.clients) line → body.position + played_by line.op ≤ 4194304 → CanTake (length wavs) body line.actor line.op
+    → IsLine (length script.clients) line → body.position + played_by line.op ≤ 4194304 → CanTake wavs body line.actor line.op
 CanTake-settled script wavs body line is_script files settled is_line few = by_actor line.actor line.op is_line.actor is_line.op few
   where
-    port : (client : ℕ) → client < length script.clients → (seat : Seat) → slice_get body.seats.items client ≡ Some seat → IsOpenPort body.core client seat
-    port client within seat here = record {
+    port : (client : ℕ) → client < length script.clients → (seat : Seat) (wav : Sound) → slice_get body.seats.items client ≡ Some seat → slice_get wavs client ≡ Some wav
+        → IsOpenPort body.core client wav seat
+    port client within seat wav here file = record {
       member = omega (arith, within, settled.rests.members_are);
-      usable = λ v is_open. (settled.each client seat v (get_or wavs client (record { channels = 0; rate = 0; samples = [] })) here is_open
-          (slice_get-get_or wavs client (record { channels = 0; rate = 0; samples = [] }) (omega (arith, within, files)))).at.usable;
+      usable = λ v is_open. (settled.each client seat v wav here is_open file).at.usable;
+      channels = λ v is_open. (settled.each client seat v wav here is_open file).is_own.channels;
+      fed = λ v is_open. (settled.each client seat v wav here is_open file).is_own.fed;
     }
 
-    by_client : (client : ℕ) (asked : Op) → client < length script.clients → played_by asked ≡ 0 → CanTake (length wavs) body (Client client) asked
-    by_client client asked within none = (none, omega (arith, within, settled.seats_are), omega (arith, within, files), port client within)
+    by_client : (client : ℕ) (asked : Op) → client < length script.clients → played_by asked ≡ 0 → IsAsked asked → CanTake wavs body (Client client) asked
+    by_client client asked within none is_asked = (none, omega (arith, within, settled.seats_are), omega (arith, within, files), port client within, is_asked)
 
-    by_actor : (actor : Actor) (asked : Op) → IsActor (length script.clients) actor → IsOpOf actor asked → body.position + played_by asked ≤ 4194304 → CanTake (length wavs) body actor asked
+    by_actor : (actor : Actor) (asked : Op) → IsActor (length script.clients) actor → IsOpOf actor asked → body.position + played_by asked ≤ 4194304 → CanTake wavs body actor asked
     by_actor Card (op.Play frames) is_actor is_op few =
         let low : 64 ≤ script.card.ring = is_script.card.ring_low in (
           few,
@@ -84,15 +83,15 @@ CanTake-settled script wavs body line is_script files settled is_line few = by_a
     by_actor Card op.Opens is_actor is_op few = absurd is_op
     by_actor (Client client) (op.Play n) is_actor is_op few = absurd is_op
     by_actor (Client client) op.Opens is_actor is_op few = absurd is_op
-    by_actor (Client client) (op.Write n) is_actor is_op few = by_client client (op.Write n) is_actor refl
-    by_actor (Client client) op.Start is_actor is_op few = by_client client op.Start is_actor refl
-    by_actor (Client client) op.Sync is_actor is_op few = by_client client op.Sync is_actor refl
-    by_actor (Client client) op.Avail is_actor is_op few = by_client client op.Avail is_actor refl
-    by_actor (Client client) op.Delay is_actor is_op few = by_client client op.Delay is_actor refl
-    by_actor (Client client) op.Drain is_actor is_op few = by_client client op.Drain is_actor refl
-    by_actor (Client client) op.Drop is_actor is_op few = by_client client op.Drop is_actor refl
-    by_actor (Client client) op.Prepare is_actor is_op few = by_client client op.Prepare is_actor refl
-    by_actor (Client client) op.Pause is_actor is_op few = by_client client op.Pause is_actor refl
+    by_actor (Client client) (op.Write n) is_actor is_op few = by_client client (op.Write n) is_actor refl is_op
+    by_actor (Client client) op.Start is_actor is_op few = by_client client op.Start is_actor refl tt
+    by_actor (Client client) op.Sync is_actor is_op few = by_client client op.Sync is_actor refl tt
+    by_actor (Client client) op.Avail is_actor is_op few = by_client client op.Avail is_actor refl tt
+    by_actor (Client client) op.Delay is_actor is_op few = by_client client op.Delay is_actor refl tt
+    by_actor (Client client) op.Drain is_actor is_op few = by_client client op.Drain is_actor refl tt
+    by_actor (Client client) op.Drop is_actor is_op few = by_client client op.Drop is_actor refl tt
+    by_actor (Client client) op.Prepare is_actor is_op few = by_client client op.Prepare is_actor refl tt
+    by_actor (Client client) op.Pause is_actor is_op few = by_client client op.Pause is_actor refl tt
 
 -- one line more
 pub HasRun-line : (script : Script) (wavs : List Sound) (number index : ℕ) (lines : List Line) (line : Line) (a b d : Body) → index < length lines → line ≡ get_or lines index line

@@ -1,8 +1,8 @@
 -- What a load and the commit behind it come to over a turn whose core rests at a position.
-use Rattle.std.proofs.Common.{◌≡◌, ◌≢◌, ℕ, ◌<◌, ◌≤◌, ◌+◌, List, [], ◌∷◌, ◌++◌, refl, sym, ◌∙◌, ap, subst, arith, map, All, length, get_or}
+use Rattle.std.proofs.Common.{◌≡◌, ℕ, ◌<◌, ◌+◌, List, [], ◌∷◌, ◌++◌, refl, sym, ◌∙◌, ap, subst, arith, map, length}
 use Rattle.std.proofs.lemmas.Bool.Decides.{nat_tests}
 use Rattle.std.proofs.lemmas.List.Elements.{All-get_or, All-head}
-use Rattle.std.specs.Prelude.{ℤ, Bool, Option, None, Some, IfSome, true, false, slice_index, ⊤}
+use Rattle.std.specs.Prelude.{ℤ, Bool, Option, None, Some, IfSome, false, slice_index}
 use Rattle.std.specs.Option.{option_to_list}
 use Rattle.snd_base.specs.declared.geometry.Geometry.{Geometry}
 use Rattle.snd_base.specs.declared.places.Cursor.{Cursor}
@@ -37,7 +37,7 @@ abbrev pub shown_by : Turn → ℕ → ℕ → Option ℕ
 shown_by t f c = Some (word_at (core_of t) f c)
 
 -- a late frame at a turn whose core rests was played: it stands before the position
-late_before : (ring : Geometry) (members p : ℕ) (t u : Turn) (es : List Entry) (h : List Row) (f c word : ℕ) → Stands (core_of t) h → TurnLaid t u es
+pub late_before : (ring : Geometry) (members p : ℕ) (t u : Turn) (es : List Entry) (h : List Row) (f c word : ℕ) → Stands (core_of t) h → TurnLaid t u es
     → RestsAt ring members p (core_of t) → c < ring.channels → f < p + ring.frames
     → IsPast geometry_of_turn shown_by u f c word → f < p
 late_before ring members p t u es h f c word stands laid rests in_range ahead late =
@@ -46,7 +46,7 @@ late_before ring members p t u es h f c word stands laid rests in_range ahead la
     let next : (core_of u).next ≡ record { frame = p; channel = 0 } = laid.rest.next ∙ rests.next in
     let here : c < (core_of u).geometry.channels = subst (λ (x : Geometry). c < x.channels) (sym g) in_range in
     let near : f < (core_of u).position + (core_of u).geometry.frames =
-        subst (λ (x : Geometry). f < (core_of u).position + x.frames) (sym g) (omega arith) in
+    subst (λ (x : Geometry). f < (core_of u).position + x.frames) (sym g) (omega arith) in
     let taken : f < first_free (core_of u).next c = taken-late u (h ++ map row_of es) f c word (laid.stands h stands) here near late in
     let free : first_free (core_of u).next c ≡ p = ap (λ (x : Cursor). first_free x c) next ∙ grind (arith, nat_tests) in
     omega (arith, taken, free)
@@ -64,7 +64,7 @@ not_stopped Whole told is = absurd (cc)
 not_stopped (Late word) told is = absurd (cc)
 not_stopped Stopped told is = absurd (omega (arith, told))
 
-late_at_rest : (e : Ended) (P Q : ℕ → Type 0) → ((word : ℕ) → e ≡ Late word → P word → Q word) → OnLate e P → OnLate e Q
+pub late_at_rest : (e : Ended) (P Q : ℕ → Type 0) → ((word : ℕ) → e ≡ Late word → P word → Q word) → OnLate e P → OnLate e Q
 late_at_rest Whole P Q follows late = tt
 late_at_rest (Late word) P Q follows late = follows word refl late
 late_at_rest Stopped P Q follows late = tt
@@ -80,12 +80,12 @@ loaded_position ring members p t u position rests loaded =
     ∙ ap (λ (b : Bool). let x : Position = record { frame = p; gone = b } in x) gone
 
 -- the card channel at which a commit of bound channels ended is one of the card's
-end_channel-within : (ring : Geometry) (c : Plain) (x : Commit) → IsOnCard c.bindings ring → x.part < length c.bindings → end_channel c x < ring.channels
+pub end_channel-within : (ring : Geometry) (c : Plain) (x : Commit) → IsOnCard c.bindings ring → x.part < length c.bindings → end_channel c x < ring.channels
 end_channel-within ring c x on_card within =
     All-get_or (λ (k : ℕ). k < ring.channels) c.bindings (slice_index (rising c.bindings) x.part) 0 (rising-within c.bindings x.part on_card.bound within) on_card.below
 
 -- a commit that ended late ended before its end
-late_within : (e : Ended) (frames part count channels word : ℕ) → e ≡ Late word → IsCommit e frames part count channels → (frames < count) × (part < channels)
+pub late_within : (e : Ended) (frames part count channels word : ℕ) → e ≡ Late word → IsCommit e frames part count channels → (frames < count) × (part < channels)
 late_within Whole frames part count channels word is commit = absurd (cc)
 late_within (Late other) frames part count channels word is commit = commit
 late_within Stopped frames part count channels word is commit = absurd (cc)
@@ -101,12 +101,12 @@ pub rested_like : (ring : Geometry) (members p : ℕ) (t u : Turn) (h : List Row
 rested_like ring members p t u h samples at count x found laid shown told stands rests on_card ahead =
     let c : Plain = at (resting p) in
     let late : OnLate x.ended (λ word. c.card + (c.committed + x.frames) < p) =
-        late_at_rest x.ended (λ word. IsPast geometry_of_turn shown_by u (end_of_commit c x) (end_channel c x) word) (λ word. c.card + (c.committed + x.frames) < p)
-        (λ word is past.
-          let within = late_within x.ended x.frames x.part (count (resting p)) (length c.bindings) word is found.commit_is in
-          late_before ring members p t u (commit_entries c samples x) h (end_of_commit c x) (end_channel c x) word stands laid rests
-          (end_channel-within ring c x on_card within.1) (ahead x.frames within.0) past)
-        shown in
+    late_at_rest x.ended (λ word. IsPast geometry_of_turn shown_by u (end_of_commit c x) (end_channel c x) word) (λ word. c.card + (c.committed + x.frames) < p)
+    (λ word is past.
+    let within = late_within x.ended x.frames x.part (count (resting p)) (length c.bindings) word is found.commit_is in
+    late_before ring members p t u (commit_entries c samples x) h (end_of_commit c x) (end_channel c x) word stands laid rests
+    (end_channel-within ring c x on_card within.1) (ahead x.frames within.0) past)
+    shown in
     commit_rests p (count (resting p)) (length c.bindings) c x found.commit_is found.in_time late (not_stopped x.ended told)
 
 -- what a load of the position and the commit behind it found

@@ -1,6 +1,5 @@
 -- Runs of frames that follow each other, and runs of the same samples.
 use Rattle.std.proofs.Common.{◌≡◌, ℕ, zero, suc, ◌<◌, ◌≤◌, ◌+◌, List, [], ◌∷◌, ◌++◌, refl, sym, ◌∙◌, ap, arith, length, map, take, get_or, add-zero, append_assoc, zero-add}
-use Rattle.std.proofs.Math.Numerals.{add-one}
 use Rattle.std.proofs.lemmas.List.{append-nil, get_or-take, length-take}
 use Rattle.std.proofs.lemmas.List.Concat.{flat_map-append}
 use Rattle.std.specs.Prelude.{ℤ, slice_index}
@@ -28,8 +27,8 @@ run_entries-append member bindings s card first n part =
     ap (λ (es : List Entry). es ++ (flat_map laid (range_with_len first n) ++ last (first + n))) (append-nil (flat_map laid (range_with_len 0 first)))
     ∙ sym (append_assoc (flat_map laid (range_with_len 0 first)) (flat_map laid (range_with_len first n)) (last (first + n)))
     ∙ ap (λ (es : List Entry). es ++ last (first + n))
-      (sym (flat_map-append laid (range_with_len 0 first) (range_with_len first n))
-      ∙ ap (flat_map laid) (ap (λ (b : ℕ). range_with_len 0 first ++ range_with_len b n) (sym (zero-add first)) ∙ range_with_len-append 0 first n))
+    (sym (flat_map-append laid (range_with_len 0 first) (range_with_len first n))
+    ∙ ap (flat_map laid) (ap (λ (b : ℕ). range_with_len 0 first ++ range_with_len b n) (sym (zero-add first)) ∙ range_with_len-append 0 first n))
     ∙ ap (λ (j : ℕ). flat_map laid (range_with_len 0 (first + n)) ++ last j) (sym (zero-add (first + n)))
 
 -- two functions that agree on a list's elements give one list
@@ -43,12 +42,12 @@ frame_entries-same : (member : ℕ) (bindings : List ℕ) (s t : ℕ → ℤ) (c
 frame_entries-same member bindings s t channels card are same =
     let entry : (ℕ → ℤ) → ℕ → Entry = λ u q. record { member = member; frame = card; channel = slice_index bindings q; sample = u q } in
     map-same (entry s) (entry t) (take channels (rising bindings)) (λ k within.
-      let low : k < channels = omega (arith, length-take channels (rising bindings)) in
-      let in_range : k < length bindings = omega (arith, length-take channels (rising bindings), length-rising bindings are) in
-      let is : get_or (take channels (rising bindings)) k 0 ≡ get_or (rising bindings) k 0 = get_or-take channels (rising bindings) k 0 low in
-      let here : s (get_or (rising bindings) k 0) ≡ t (get_or (rising bindings) k 0) = same (get_or (rising bindings) k 0) (rising-within bindings k are in_range) in
-      let one : entry s (get_or (rising bindings) k 0) ≡ entry t (get_or (rising bindings) k 0) = ap (λ (x : ℤ). let e : Entry = record { member = member; frame = card; channel = slice_index bindings (get_or (rising bindings) k 0); sample = x } in e) here in
-      ap (entry s) is ∙ one ∙ ap (entry t) (sym is))
+    let low : k < channels = omega (arith, length-take channels (rising bindings)) in
+    let in_range : k < length bindings = omega (arith, length-take channels (rising bindings), length-rising bindings are) in
+    let is : get_or (take channels (rising bindings)) k 0 ≡ get_or (rising bindings) k 0 = get_or-take channels (rising bindings) k 0 low in
+    let here : s (get_or (rising bindings) k 0) ≡ t (get_or (rising bindings) k 0) = same (get_or (rising bindings) k 0) (rising-within bindings k are in_range) in
+    let one : entry s (get_or (rising bindings) k 0) ≡ entry t (get_or (rising bindings) k 0) = ap (λ (x : ℤ). let e : Entry = record { member = member; frame = card; channel = slice_index bindings (get_or (rising bindings) k 0); sample = x } in e) here in
+    ap (entry s) is ∙ one ∙ ap (entry t) (sym is))
 
 -- n frames' entries are told by the samples of those frames
 flat_map-same : (member : ℕ) (bindings : List ℕ) (s t : ℕ → ℕ → ℤ) (card first n : ℕ) → AreBindings bindings

@@ -1,12 +1,12 @@
 -- What a client's line does at its seat.
-use Rattle.std.proofs.Common.{◌≡◌, ℕ, List, refl, sym, ◌∙◌, ap, subst, ◌<◌, length}
-use Rattle.std.specs.Prelude.{Option, None, Some}
+use Rattle.std.proofs.Common.{◌≡◌, ℕ, List, refl, sym, ◌∙◌, ap, subst}
+use Rattle.std.specs.Prelude.{Some}
 use Rattle.snd_base.specs.declared.places.Segment.{Segment}
 use Rattle.mix_core.specs.History.{Row as Event}
 use Rattle.mix_core.specs.Stands.{Stands}
 use Rattle.mix_core.specs.View.{View}
 use Rattle.mix_core.specs.declared.turn.Turn.{Turn}
-use Rattle.mix_core.specs.Turn.{core_of, cursor_of_turn, member_of}
+use Rattle.mix_core.specs.Turn.{core_of, member_of}
 use Rattle.dmix_client.specs.Calls.{segment_of}
 use Rattle.dmix_client.specs.View.{ClientView}
 use Rattle.wav_io.specs.Sound.{Sound}
@@ -17,7 +17,7 @@ use Rattle.lab_phase.specs.declared.seat.Seat.{Seat}
 use Rattle.lab_phase.specs.Lines.{Own, ended_after, line_done}
 use Rattle.lab_phase.specs.Meaning.{client_row}
 use Rattle.lab_phase.specs.Seats.{HasCalled, IsAtPort, IsOwn}
-use Rattle.lab_phase.specs.Stages.{HasCalledAt, IsAtSeat, LaysAt, TakesLine, free_at, own_at}
+use Rattle.lab_phase.specs.Stages.{HasCalledAt, IsAtSeat, TakesLine, free_at, own_at}
 
 -- a call through a turn, over the core that the turn holds
 HasCalledAt-turn : (members p : ℕ) (wav : Sound) (own : Own) (asked : Op) (x : ClientView) (t u : Turn) (answer : Answer)

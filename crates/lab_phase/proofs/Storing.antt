@@ -1,5 +1,5 @@
 -- What stands in a local ring after frames were stored in it.
-use Rattle.std.proofs.Common.{◌≡◌, ◌≢◌, ℕ, zero, suc, ◌<◌, ◌≤◌, ◌+◌, ◌*◌, ◌%◌, List, [], ◌∷◌, ◌++◌, refl, sym, ◌∙◌, ap, subst, arith, inl, inr, length, take, drop, get_or, append_assoc}
+use Rattle.std.proofs.Common.{◌≡◌, ℕ, zero, suc, ◌<◌, ◌≤◌, ◌+◌, ◌*◌, ◌%◌, List, ◌++◌, refl, sym, ◌∙◌, ap, arith, inl, inr, length, take, drop, get_or, append_assoc}
 use Rattle.std.proofs.Math.Nat.{mod-lt, mul-le-mul_right}
 use Rattle.std.proofs.lemmas.Bool.{cases_eq, cases_lt}
 use Rattle.std.proofs.lemmas.List.{get_or-append-add, get_or-append_right, get_or-drop, get_or-take, get_or_append_left, length-append, length-drop, length-take}
@@ -89,7 +89,7 @@ elsewhere : (ring part : List ℤ) (channels a b q : ℕ) → b * channels + len
 elsewhere ring part channels a b q room one in_range apart = elim (cases_lt a b) [
   | inl less ↦ written_over-before ring part (b * channels) (a * channels + q) room (slots-apart channels a b q in_range less)
   | inr not_less ↦
-      let more : b < a = elim (cases_eq a b) [ | inl same ↦ absurd (apart same) | inr other ↦ omega arith ] in
+      let more : b < a = elim (cases_eq a b) [ inl same ↦ absurd (apart same) | inr other ↦ omega arith ] in
       written_over-behind ring part (b * channels) (a * channels + q) room (omega (arith, one, slots_follow channels b a more))
 ]
   where
@@ -115,7 +115,7 @@ stored-new buffer channels ring from samples (suc n) k q has room few within in_
           ∙ ap (λ (i : ℕ). get_or samples (i * channels + q) (pos 0)) (sym same)
       | inr other ↦
           let apart : (from + k) % buffer ≡ (from + n) % buffer → ⊥ =
-              λ same. absurd (omega (arith, mod-same buffer (from + k) (from + k) (from + n) (omega arith) (omega arith) (omega arith) (omega arith) same)) in
+          λ same. absurd (omega (arith, mod-same buffer (from + k) (from + k) (from + n) (omega arith) (omega arith) (omega arith) (omega arith) same)) in
           elsewhere (stored buffer channels ring from samples n) part channels ((from + k) % buffer) ((from + n) % buffer) q room_here one in_range apart
           ∙ stored-new buffer channels ring from samples n k q has (omega arith) (omega arith) (omega arith) in_range
     ]
@@ -131,6 +131,6 @@ stored-old buffer channels ring from samples (suc n) j q has room before near in
     let one : length part ≡ channels = frame-length samples channels n (omega arith) in
     let fits = slot-within buffer channels (from + n) has.some in
     let apart : j % buffer ≡ (from + n) % buffer → ⊥ =
-        λ same. absurd (omega (arith, mod-same buffer j j (from + n) (omega arith) (omega arith) (omega arith) (omega arith) same)) in
+    λ same. absurd (omega (arith, mod-same buffer j j (from + n) (omega arith) (omega arith) (omega arith) (omega arith) same)) in
     elsewhere (stored buffer channels ring from samples n) part channels (j % buffer) ((from + n) % buffer) q (omega (arith, one, fits, earlier.room)) one in_range apart
     ∙ stored-old buffer channels ring from samples n j q has (omega arith) before (omega arith) in_range

@@ -1,34 +1,30 @@
 -- The lines of a client whose calls sync.
-use Rattle.std.proofs.Common.{◌≡◌, ◌⊎◌, ℕ, ◌<◌, ◌≤◌, ◌+◌, List, [], ◌∷◌, ◌++◌, refl, sym, ◌∙◌, ap, subst, arith, inl, inr, length}
+use Rattle.std.proofs.Common.{◌≡◌, ◌⊎◌, ℕ, ◌<◌, ◌≤◌, ◌+◌, List, refl, sym, ◌∙◌, ap, subst, arith, inl, inr, length}
 use Rattle.std.proofs.lemmas.Bool.{cases_Bool}
 use Rattle.std.proofs.lemmas.Bool.Decides.{nat_tests}
-use Rattle.std.specs.Prelude.{ℤ, Bool, true, false, if◌then◌else◌, ◌-◌, ◌||◌, is_some, min, Option, None, Some, Result, Ok, Err, ⊤}
+use Rattle.std.specs.Prelude.{Bool, true, false, if◌then◌else◌, is_some, Option, None, Some, Result, Ok, Err, ⊤}
 use Rattle.snd_base.specs.declared.errors.PcmError.{PcmError}
-use Rattle.snd_base.specs.declared.geometry.Geometry.{Geometry}
-use Rattle.mix_core.specs.declared.port.Position.{Position}
 use Rattle.mix_core.specs.declared.turn.Turn.{Turn}
 use Rattle.mix_core.specs.History.{Row}
 use Rattle.mix_core.specs.Stands.{Stands}
 use Rattle.mix_core.specs.Turn.{TurnLaid, TurnLoaded, core_of, cursor_of_turn, member_of}
-use Rattle.mix_core.specs.TurnLaws.{TurnLaid-composes}
-use Rattle.pcm_states.specs.declared.calls.Call.{Call}
 use Rattle.pcm_states.specs.declared.calls.Call.TheVariants as call
 use Rattle.dmix_client.specs.declared.commit.Commit.{Commit}
 use Rattle.dmix_client.specs.declared.plain.Plain.{Plain}
-use Rattle.dmix_client.specs.Calls.{Answered, avail_answer, commit_count, delay_answer, over_of, refusal_of, seen_at, sync_count, sync_of, synced, window_end, with_number}
+use Rattle.dmix_client.specs.Calls.{Answered, avail_answer, commit_count, delay_answer, over_of, refusal_of, seen_at, sync_count, synced, with_number}
 use Rattle.dmix_client.specs.Port.{CanUse, TakesStep}
 use Rattle.dmix_client.specs.View.{ClientView, IsSound, is_moving}
 use Rattle.wav_io.specs.Sound.{Sound}
 use Rattle.lab_script.specs.declared.line.Op.{Op}
 use Rattle.lab_script.specs.declared.line.Op.TheVariants as op
 use Rattle.lab_report.specs.declared.row.Answer.{Answer}
-use Rattle.lab_phase.specs.Lines.{Own, called, count_answer, counted_of, done_answer, done_of, refused_or, unless_refused}
-use Rattle.lab_phase.specs.Rest.{commit_at, resting, sync_at, sync_commit}
+use Rattle.lab_phase.specs.Lines.{Own, called, count_answer, done_answer, refused_or, unless_refused}
+use Rattle.lab_phase.specs.Rest.{resting, sync_at, sync_commit}
 use Rattle.lab_phase.specs.Seats.{HasCalled, IsAtPort, IsOwn, ends_stretch}
 use Rattle.lab_phase.proofs.Advances.{AdvancesUnwritten, synced-AdvancesUnwritten, with_number-client}
 use Rattle.lab_phase.proofs.Alike.{AreSame, counted_of-AreSame, done_of-AreSame, synced-AreSame, with_number-AreSame}
 use Rattle.lab_phase.proofs.Calling.{HasCalled-step, HasCalled-still, IsFrom-refl, IsResting-like, Unmoved-same}
-use Rattle.lab_phase.proofs.Resting.{Rested, geometry_of_turn, rested, shown_by}
+use Rattle.lab_phase.proofs.Resting.{geometry_of_turn, rested, shown_by}
 
 -- a frame of those that a commit is to lay stands before the window's end
 pub commit_count-ahead : (c : Plain) (p upto n : ℕ) → n < commit_count c p upto → c.card + (c.committed + n) < p + c.geometry.frames
@@ -86,7 +82,7 @@ pub synced-HasCalled : {T : Type 0} (line : Synced T) (members p : ℕ) (wav : S
     → ((e : PcmError) → refusal_of own.plain call.Sync ≡ Some e → (result ≡ Err e) × (w ≡ v) × (u ≡ t))
     → (refusal_of own.plain call.Sync ≡ None → is_moving own.plain.state ≡ false → ◌≡◌ {A = Answered T} (own.plain, result) (line.wrap (own.plain, Ok tt)) × (w ≡ v) × (u ≡ t))
     → (refusal_of own.plain call.Sync ≡ None → is_moving own.plain.state ≡ true →
-        TakesStep TurnLaid TurnLoaded geometry_of_turn shown_by t u 0 0 v.ring (λ position. own.plain) (sync_count own.plain) (length own.plain.bindings) (λ load commit. line.wrap (synced own.plain call.Sync load commit)) (w.plain, result))
+    TakesStep TurnLaid TurnLoaded geometry_of_turn shown_by t u 0 0 v.ring (λ position. own.plain) (sync_count own.plain) (length own.plain.bindings) (λ load commit. line.wrap (synced own.plain call.Sync load commit)) (w.plain, result))
     → w.ring ≡ v.ring → IsSound w.plain w.ring → CanUse w.plain (core_of u).geometry (member_of u) (cursor_of_turn u) (core_of u).position ⊤
     → HasCalled members p wav own line.asked w t u (line.told_answer result)
 synced-HasCalled {T} line members p wav own h v w t u result is at stands refused waits steps same_ring sound usable = elim (refusal-cases (refusal_of own.plain call.Sync)) [
@@ -94,39 +90,39 @@ synced-HasCalled {T} line members p wav own h v w t u result is at stands refuse
       let r = refused found.0 found.1 in
       let w_is : w.plain ≡ own.plain = ap (λ (x : ClientView). x.plain) r.1 ∙ is.same in
       let is_call : called p wav own line.asked ≡ (w.plain, line.told_answer result) =
-          line.is_called p wav own
-          ∙ ap (λ (o : Option PcmError). tell line.told_answer (refused_or o own.plain (line.wrap (sync_at p own.plain)))) found.1
-          ∙ ap (λ (c : Plain). tell {T = T} line.told_answer (c, Err found.0)) (sym w_is) ∙ ap (λ (x : Result T PcmError). tell line.told_answer (w.plain, x)) (sym r.0) in
+      line.is_called p wav own
+      ∙ ap (λ (o : Option PcmError). tell line.told_answer (refused_or o own.plain (line.wrap (sync_at p own.plain)))) found.1
+      ∙ ap (λ (c : Plain). tell {T = T} line.told_answer (c, Err found.0)) (sym w_is) ∙ ap (λ (x : Result T PcmError). tell line.told_answer (w.plain, x)) (sym r.0) in
       HasCalled-still members p wav own line.asked v w t u (line.told_answer result) h is at stands r.2 (Unmoved-same own.plain w.plain is.whole w_is) same_ring sound usable is_call (line.goes_on _)
   | inl admitted ↦
       let admitted_call : called p wav own line.asked ≡ tell line.told_answer (line.wrap (sync_at p own.plain)) =
-          line.is_called p wav own ∙ ap (λ (o : Option PcmError). tell line.told_answer (refused_or o own.plain (line.wrap (sync_at p own.plain)))) admitted in
+      line.is_called p wav own ∙ ap (λ (o : Option PcmError). tell line.told_answer (refused_or o own.plain (line.wrap (sync_at p own.plain)))) admitted in
       elim (cases_Bool (is_moving own.plain.state)) [
         | inr rests ↦
             let r = waits admitted rests in
             let w_is : w.plain ≡ own.plain = ap (λ (x : ClientView). x.plain) r.1 ∙ is.same in
             let nothing : sync_at p own.plain ≡ (own.plain, Ok tt) = if-false (is_moving own.plain.state) _ _ rests in
             let is_call : called p wav own line.asked ≡ (w.plain, line.told_answer result) =
-                admitted_call
-                ∙ ap (λ (a : Answered (Unit {0})). tell line.told_answer (line.wrap a)) nothing
-                ∙ ap (λ (a : Answered T). tell line.told_answer a) (sym r.0)
-                ∙ ap (λ (c : Plain). tell {T = T} line.told_answer (c, result)) (sym w_is) in
+            admitted_call
+            ∙ ap (λ (a : Answered (Unit {0})). tell line.told_answer (line.wrap a)) nothing
+            ∙ ap (λ (a : Answered T). tell line.told_answer a) (sym r.0)
+            ∙ ap (λ (c : Plain). tell {T = T} line.told_answer (c, result)) (sym w_is) in
             HasCalled-still members p wav own line.asked v w t u (line.told_answer result) h is at stands r.2 (Unmoved-same own.plain w.plain is.whole w_is) same_ring sound usable is_call (line.goes_on _)
         | inl moves ↦
             let found = rested own.plain.geometry members p t u h v.ring (λ position. own.plain) (sync_count own.plain) (λ load commit. line.wrap (synced own.plain call.Sync load commit)) (w.plain, result)
-                (steps admitted moves) stands at.rests is.on_card (λ n within. commit_count-ahead own.plain p own.plain.written n (sync_count-cases own.plain p n within)) in
+            (steps admitted moves) stands at.rests is.on_card (λ n within. commit_count-ahead own.plain p own.plain.written n (sync_count-cases own.plain p n within)) in
             let x : Commit = found.commit in
             let resting_x = IsResting-like p own.plain (sync_count own.plain (resting p)) x found.like in
             let step : AdvancesUnwritten own.plain w.plain x =
-                subst (λ (d : Plain). AdvancesUnwritten own.plain d x) (sym (line.client (synced own.plain call.Sync (Some (resting p)) x)) ∙ ap (λ (a : Answered T). a.0) found.outcome)
-                (synced-AdvancesUnwritten own.plain call.Sync (resting p) x resting_x.going) in
+            subst (λ (d : Plain). AdvancesUnwritten own.plain d x) (sym (line.client (synced own.plain call.Sync (Some (resting p)) x)) ∙ ap (λ (a : Answered T). a.0) found.outcome)
+            (synced-AdvancesUnwritten own.plain call.Sync (resting p) x resting_x.going) in
             let at_rest : sync_at p own.plain ≡ synced own.plain call.Sync (Some (resting p)) (sync_commit p own.plain) = if-true (is_moving own.plain.state) _ _ moves in
             let is_call : called p wav own line.asked ≡ (w.plain, line.told_answer result) =
-                admitted_call
-                ∙ ap (λ (a : Answered (Unit {0})). tell line.told_answer (line.wrap a)) at_rest
-                ∙ sym (line.same (synced own.plain call.Sync (Some (resting p)) x) (synced own.plain call.Sync (Some (resting p)) (sync_commit p own.plain))
-                  (synced-AreSame own.plain call.Sync (resting p) x (sync_commit p own.plain) found.like))
-                ∙ ap (λ (a : Answered T). tell line.told_answer a) found.outcome in
+            admitted_call
+            ∙ ap (λ (a : Answered (Unit {0})). tell line.told_answer (line.wrap a)) at_rest
+            ∙ sym (line.same (synced own.plain call.Sync (Some (resting p)) x) (synced own.plain call.Sync (Some (resting p)) (sync_commit p own.plain))
+            (synced-AreSame own.plain call.Sync (resting p) x (sync_commit p own.plain) found.like))
+            ∙ ap (λ (a : Answered T). tell line.told_answer a) found.outcome in
             HasCalled-step members p wav own line.asked v w t u (line.told_answer result) h own.plain x (sync_count own.plain (resting p)) is at stands (IsFrom-refl own.plain) step resting_x
             (λ some. laid_within own.plain p x (sync_count own.plain (resting p)) some resting_x.most (sync_count-most own.plain p))
             found.laid same_ring sound usable is_call (line.goes_on _)
@@ -182,20 +178,19 @@ pub synced-line : {T G : Type 0} (line : Synced T) (members p : ℕ) (wav : Soun
     → ((e : PcmError) → refusal_of v.plain call.Sync ≡ Some e → (result ≡ Err e) × (w ≡ v) × (u ≡ t) × G)
     → (refusal_of v.plain call.Sync ≡ None → is_moving v.plain.state ≡ false → (result ≡ idle v.plain) × (w ≡ v) × (u ≡ t) × G)
     → (refusal_of v.plain call.Sync ≡ None → is_moving v.plain.state ≡ true →
-        TakesStep TurnLaid TurnLoaded geometry_of_turn shown_by t u 0 0 v.ring (λ position. v.plain) (sync_count v.plain) (length v.plain.bindings) (λ load commit. line.wrap (synced v.plain call.Sync load commit)) (w.plain, result))
+    TakesStep TurnLaid TurnLoaded geometry_of_turn shown_by t u 0 0 v.ring (λ position. v.plain) (sync_count v.plain) (length v.plain.bindings) (λ load commit. line.wrap (synced v.plain call.Sync load commit)) (w.plain, result))
     → w.ring ≡ v.ring → IsSound w.plain w.ring → CanUse w.plain (core_of u).geometry (member_of u) (cursor_of_turn u) (core_of u).position ⊤
     → HasCalled members p wav own line.asked w t u (line.told_answer result)
 synced-line {T} line members p wav own h v w t u result idle is at stands idles refused waits steps same_ring sound usable =
     synced-HasCalled line members p wav own h v w t u result is at stands
     (λ e found. let r = refused e (ap (λ (c : Plain). refusal_of c call.Sync) is.same ∙ found) in (r.0, r.1, r.2))
     (λ admitted rests.
-      let r = waits (ap (λ (c : Plain). refusal_of c call.Sync) is.same ∙ admitted) (ap (λ (c : Plain). is_moving c.state) is.same ∙ rests) in
-      (
-        ap (λ (x : Result T PcmError). let a : Answered T = (own.plain, x) in a) (r.0 ∙ ap idle is.same) ∙ idles own.plain,
-        r.1,
-        r.2,
-      ))
+    let r = waits (ap (λ (c : Plain). refusal_of c call.Sync) is.same ∙ admitted) (ap (λ (c : Plain). is_moving c.state) is.same ∙ rests) in (
+      ap (λ (x : Result T PcmError). let a : Answered T = (own.plain, x) in a) (r.0 ∙ ap idle is.same) ∙ idles own.plain,
+      r.1,
+      r.2,
+    ))
     (λ admitted moves.
-      subst (λ (c : Plain). TakesStep TurnLaid TurnLoaded geometry_of_turn shown_by t u 0 0 v.ring (λ position. c) (sync_count c) (length c.bindings) (λ load commit. line.wrap (synced c call.Sync load commit)) (w.plain, result)) is.same
-      (steps (ap (λ (c : Plain). refusal_of c call.Sync) is.same ∙ admitted) (ap (λ (c : Plain). is_moving c.state) is.same ∙ moves)))
+    subst (λ (c : Plain). TakesStep TurnLaid TurnLoaded geometry_of_turn shown_by t u 0 0 v.ring (λ position. c) (sync_count c) (length c.bindings) (λ load commit. line.wrap (synced c call.Sync load commit)) (w.plain, result)) is.same
+    (steps (ap (λ (c : Plain). refusal_of c call.Sync) is.same ∙ admitted) (ap (λ (c : Plain). is_moving c.state) is.same ∙ moves)))
     same_ring sound usable

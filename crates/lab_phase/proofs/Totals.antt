@@ -1,13 +1,12 @@
 -- What the clients of a run laid in all, and how that grows with one client's lines.
-use Rattle.std.proofs.Common.{◌≡◌, ℕ, ◌+◌, suc, zero, add-zero, List, [], ◌∷◌, ◌++◌, refl, sym, ◌∙◌, ap, arith, set, map, length, inl, inr}
+use Rattle.std.proofs.Common.{◌≡◌, ℕ, ◌+◌, suc, zero, add-zero, List, [], ◌∷◌, ◌++◌, sym, ◌∙◌, ap, arith, set, map, length, inl, inr}
 use Rattle.std.proofs.lemmas.Int.{ints}
 use Rattle.std.proofs.lemmas.List.{append-nil, map-append}
 use Rattle.std.proofs.lemmas.Bool.{cases_Bool}
 use Rattle.std.proofs.lemmas.Bool.Decides.{nat_tests}
 use Rattle.std.proofs.lemmas.List.Concat.{flat_map-append}
-use Rattle.std.specs.Prelude.{ℤ, pos, ◌+ℤ◌, Bool, ◌&&◌, nat_eq, if◌then◌else◌, Option, None, Some, slice_get, slice_index_or}
+use Rattle.std.specs.Prelude.{ℤ, ◌+ℤ◌, Bool, ◌&&◌, nat_eq, if◌then◌else◌, Option, None, Some, slice_get, slice_index_or}
 use Rattle.std.specs.Option.{option_map_or}
-use Rattle.std.specs.List.{flat_map, range_with_len}
 use Rattle.snd_base.specs.declared.places.Segment.{Segment}
 use Rattle.mix_core.specs.declared.port.Entry.{Entry}
 use Rattle.mix_core.specs.Laid.{total}
@@ -42,27 +41,27 @@ total-numbered-set wavs bindings first zero (None ∷ owns) old new f c is = abs
 total-numbered-set wavs bindings first zero (Some own ∷ owns) old new f c is =
     let same : own ≡ old = cc in
     let here : (o : Own) → total (entries_of wavs bindings (numbered first (Some o ∷ owns))) f c
-            ≡ own_total wavs bindings first o f c +ℤ total (entries_of wavs bindings (numbered (first + 1) owns)) f c
-        = λ o. ap (λ (es : List Entry). total es f c) (entries_of-append wavs bindings (numbered_segments first (segments_of o)) (numbered (first + 1) owns))
-          ∙ total-append (entries_of wavs bindings (numbered_segments first (segments_of o))) (entries_of wavs bindings (numbered (first + 1) owns)) f c in
+    ≡ own_total wavs bindings first o f c +ℤ total (entries_of wavs bindings (numbered (first + 1) owns)) f c
+    = λ o. ap (λ (es : List Entry). total es f c) (entries_of-append wavs bindings (numbered_segments first (segments_of o)) (numbered (first + 1) owns))
+    ∙ total-append (entries_of wavs bindings (numbered_segments first (segments_of o))) (entries_of wavs bindings (numbered (first + 1) owns)) f c in
     let at_old : own_total wavs bindings (first + 0) old f c ≡ own_total wavs bindings first own f c
-        = ap (λ (n : ℕ). own_total wavs bindings n old f c) (add-zero first) ∙ ap (λ (o : Own). own_total wavs bindings first o f c) (sym same) in
+    = ap (λ (n : ℕ). own_total wavs bindings n old f c) (add-zero first) ∙ ap (λ (o : Own). own_total wavs bindings first o f c) (sym same) in
     let at_new : own_total wavs bindings (first + 0) new f c ≡ own_total wavs bindings first new f c
-        = ap (λ (n : ℕ). own_total wavs bindings n new f c) (add-zero first) in
+    = ap (λ (n : ℕ). own_total wavs bindings n new f c) (add-zero first) in
     omega (arith, ints, here own, here new, at_old, at_new)
 total-numbered-set wavs bindings first (suc client) (None ∷ owns) old new f c is =
     let later = total-numbered-set wavs bindings (first + 1) client owns old new f c is in
     let at : (o : Own) → own_total wavs bindings (first + 1 + client) o f c ≡ own_total wavs bindings (first + suc client) o f c
-        = λ o. ap (λ (n : ℕ). own_total wavs bindings n o f c) (omega arith) in
+    = λ o. ap (λ (n : ℕ). own_total wavs bindings n o f c) (omega arith) in
     omega (arith, ints, later, at old, at new)
 total-numbered-set wavs bindings first (suc client) (Some own ∷ owns) old new f c is =
     let later = total-numbered-set wavs bindings (first + 1) client owns old new f c is in
     let at : (o : Own) → own_total wavs bindings (first + 1 + client) o f c ≡ own_total wavs bindings (first + suc client) o f c
-        = λ o. ap (λ (n : ℕ). own_total wavs bindings n o f c) (omega arith) in
+    = λ o. ap (λ (n : ℕ). own_total wavs bindings n o f c) (omega arith) in
     let here : (os : List (Option Own)) → total (entries_of wavs bindings (numbered first (Some own ∷ os))) f c
-            ≡ own_total wavs bindings first own f c +ℤ total (entries_of wavs bindings (numbered (first + 1) os)) f c
-        = λ os. ap (λ (es : List Entry). total es f c) (entries_of-append wavs bindings (numbered_segments first (segments_of own)) (numbered (first + 1) os))
-          ∙ total-append (entries_of wavs bindings (numbered_segments first (segments_of own))) (entries_of wavs bindings (numbered (first + 1) os)) f c in
+    ≡ own_total wavs bindings first own f c +ℤ total (entries_of wavs bindings (numbered (first + 1) os)) f c
+    = λ os. ap (λ (es : List Entry). total es f c) (entries_of-append wavs bindings (numbered_segments first (segments_of own)) (numbered (first + 1) os))
+    ∙ total-append (entries_of wavs bindings (numbered_segments first (segments_of own))) (entries_of wavs bindings (numbered (first + 1) os)) f c in
     omega (arith, ints, later, at old, at new, here owns, here (set owns client (Some new)))
 
 -- a stretch in which nothing was laid has no entries
@@ -93,15 +92,15 @@ own_total-grows wavs bindings client own new wav es f c file same_ended grown =
     let bound = slice_index_or bindings client [] in
     let before = entries_of wavs bindings (numbered_segments client own.ended) in
     let split : (ended : List Segment) (p : Plain) → total (entries_of wavs bindings (numbered_segments client (ended ++ laid_in p))) f c
-            ≡ total (entries_of wavs bindings (numbered_segments client ended)) f c +ℤ total (expand client (segment_of p) wav.samples bound) f c
-        = λ ended p.
-          ap (λ (xs : List (ℕ × Segment)). total (entries_of wavs bindings xs) f c) (map-append (λ segment. (client, segment)) ended (laid_in p))
-          ∙ ap (λ (es : List Entry). total es f c) (entries_of-append wavs bindings (numbered_segments client ended) (numbered_segments client (laid_in p)))
-          ∙ total-append (entries_of wavs bindings (numbered_segments client ended)) (entries_of wavs bindings (numbered_segments client (laid_in p))) f c
-          ∙ ap (λ (es : List Entry). total (entries_of wavs bindings (numbered_segments client ended)) f c +ℤ total es f c) (laid_in-entries wavs bindings client p wav file) in
+    ≡ total (entries_of wavs bindings (numbered_segments client ended)) f c +ℤ total (expand client (segment_of p) wav.samples bound) f c
+    = λ ended p.
+    ap (λ (xs : List (ℕ × Segment)). total (entries_of wavs bindings xs) f c) (map-append (λ segment. (client, segment)) ended (laid_in p))
+    ∙ ap (λ (es : List Entry). total es f c) (entries_of-append wavs bindings (numbered_segments client ended) (numbered_segments client (laid_in p)))
+    ∙ total-append (entries_of wavs bindings (numbered_segments client ended)) (entries_of wavs bindings (numbered_segments client (laid_in p))) f c
+    ∙ ap (λ (es : List Entry). total (entries_of wavs bindings (numbered_segments client ended)) f c +ℤ total es f c) (laid_in-entries wavs bindings client p wav file) in
     let old_split = split own.ended own.plain in
     let new_split = split new.ended new.plain in
     let ended_same : total (entries_of wavs bindings (numbered_segments client new.ended)) f c ≡ total before f c = ap (λ (xs : List Segment). total (entries_of wavs bindings (numbered_segments client xs)) f c) same_ended in
     let more : total (expand client (segment_of new.plain) wav.samples bound) f c ≡ total (expand client (segment_of own.plain) wav.samples bound) f c +ℤ total es f c
-        = ap (λ (xs : List Entry). total xs f c) grown ∙ total-append (expand client (segment_of own.plain) wav.samples bound) es f c in
+    = ap (λ (xs : List Entry). total xs f c) grown ∙ total-append (expand client (segment_of own.plain) wav.samples bound) es f c in
     omega (arith, ints, old_split, new_split, ended_same, more)

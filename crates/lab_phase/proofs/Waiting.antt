@@ -1,11 +1,10 @@
 -- The lines of a client whose calls take no step.
-use Rattle.std.proofs.Common.{◌≡◌, ◌⊎◌, ℕ, ◌<◌, ◌≤◌, ◌+◌, List, [], ◌∷◌, ◌++◌, refl, sym, ◌∙◌, ap, subst, arith, inl, inr, length}
+use Rattle.std.proofs.Common.{◌≡◌, ◌⊎◌, ℕ, ◌<◌, ◌+◌, List, [], refl, sym, ◌∙◌, ap, subst, arith, inl, inr}
 use Rattle.std.proofs.lemmas.Bool.Decides.{nat_tests}
 use Rattle.std.proofs.lemmas.List.{append-nil}
 use Rattle.std.specs.Prelude.{ℤ, true, false, Option, None, Some, Result, Ok, Err, ⊤}
 use Rattle.snd_base.specs.declared.errors.PcmError.{PcmError}
 use Rattle.snd_base.specs.declared.errors.PcmError.TheVariants as error
-use Rattle.mix_core.specs.declared.port.Entry.{Entry}
 use Rattle.mix_core.specs.declared.turn.Turn.{Turn}
 use Rattle.mix_core.specs.History.{Row}
 use Rattle.mix_core.specs.Stands.{Stands}
@@ -17,11 +16,12 @@ use Rattle.dmix_client.specs.Calls.{dropped, prepared, refusal_of}
 use Rattle.dmix_client.specs.Port.{CanUse}
 use Rattle.dmix_client.specs.View.{ClientView, IsSound, is_moving}
 use Rattle.wav_io.specs.Sound.{Sound}
+use Rattle.lab_script.specs.declared.line.Op.{Op}
 use Rattle.lab_script.specs.declared.line.Op.TheVariants as op
 use Rattle.lab_report.specs.declared.row.Answer.{Answer}
 use Rattle.lab_report.specs.declared.row.Answer.TheVariants.{Done, Failed}
 use Rattle.lab_phase.specs.Lines.{Own, after_call, called, done_answer, free_after, refused_or, told}
-use Rattle.lab_phase.specs.Seats.{HasCalled, IsAtPort, IsOwn, IsPending, stretch}
+use Rattle.lab_phase.specs.Seats.{HasCalled, IsAtPort, IsOwn, IsPending, ends_stretch, stretch}
 use Rattle.lab_phase.proofs.Advances.{AdvancesUnwritten}
 use Rattle.lab_phase.proofs.Calling.{HasCalled-still, Unmoved-same, nothing_laid}
 use Rattle.lab_phase.proofs.Syncing.{refusal-cases, tell}
@@ -48,7 +48,7 @@ pub pause-line : (members p : ℕ) (wav : Sound) (own : Own) (h : List Row) (v w
 pause-line members p wav own h v w t result is at stands refused same sound =
     let w_is : w.plain ≡ own.plain = ap (λ (x : ClientView). x.plain) same ∙ is.same in
     let is_call : called p wav own op.Pause ≡ (w.plain, done_answer result) =
-        ap (λ (c : Plain). tell {T = Unit {0}} done_answer (c, Err error.NotSupported)) (sym w_is) ∙ ap (λ (x : Result (Unit {0}) PcmError). tell done_answer (w.plain, x)) (sym refused) in
+    ap (λ (c : Plain). tell {T = Unit {0}} done_answer (c, Err error.NotSupported)) (sym w_is) ∙ ap (λ (x : Result (Unit {0}) PcmError). tell done_answer (w.plain, x)) (sym refused) in
     HasCalled-still members p wav own op.Pause v w t t (done_answer result) h is at stands refl (Unmoved-same own.plain w.plain is.whole w_is)
     (ap (λ (x : ClientView). x.ring) same) sound (usable-same own.plain w.plain t w_is at.usable) is_call refl
 
@@ -70,21 +70,71 @@ drop-line members p wav own h v w t result is at stands refused drops sound = el
       let r = refused found.0 (ap (λ (c : Plain). refusal_of c call.Drop) is.same ∙ found.1) in
       let w_is : w.plain ≡ own.plain = ap (λ (x : ClientView). x.plain) r.1 ∙ is.same in
       let is_call : called p wav own op.Drop ≡ (w.plain, done_answer result) =
-          ap (λ (o : Option PcmError). tell done_answer (refused_or o own.plain (dropped own.plain, Ok tt))) found.1
-          ∙ ap (λ (c : Plain). tell {T = Unit {0}} done_answer (c, Err found.0)) (sym w_is) ∙ ap (λ (x : Result (Unit {0}) PcmError). tell done_answer (w.plain, x)) (sym r.0) in
+      ap (λ (o : Option PcmError). tell done_answer (refused_or o own.plain (dropped own.plain, Ok tt))) found.1
+      ∙ ap (λ (c : Plain). tell {T = Unit {0}} done_answer (c, Err found.0)) (sym w_is) ∙ ap (λ (x : Result (Unit {0}) PcmError). tell done_answer (w.plain, x)) (sym r.0) in
       HasCalled-still members p wav own op.Drop v w t t (done_answer result) h is at stands refl (Unmoved-same own.plain w.plain is.whole w_is)
       (ap (λ (x : ClientView). x.ring) r.1) sound (usable-same own.plain w.plain t w_is at.usable) is_call refl
   | inl admitted ↦
       let r = drops (ap (λ (c : Plain). refusal_of c call.Drop) is.same ∙ admitted) in
       let w_is : w.plain ≡ dropped own.plain = ap (λ (x : ClientView). x.plain) r.1 ∙ ap dropped is.same in
       let is_call : called p wav own op.Drop ≡ (w.plain, done_answer result) =
-          ap (λ (o : Option PcmError). tell done_answer (refused_or o own.plain (dropped own.plain, Ok tt))) admitted
-          ∙ ap (λ (c : Plain). tell {T = Unit {0}} done_answer (c, Ok tt)) (sym w_is) ∙ ap (λ (x : Result (Unit {0}) PcmError). tell done_answer (w.plain, x)) (sym r.0) in
+      ap (λ (o : Option PcmError). tell done_answer (refused_or o own.plain (dropped own.plain, Ok tt))) admitted
+      ∙ ap (λ (c : Plain). tell {T = Unit {0}} done_answer (c, Ok tt)) (sym w_is) ∙ ap (λ (x : Result (Unit {0}) PcmError). tell done_answer (w.plain, x)) (sym r.0) in
       HasCalled-still members p wav own op.Drop v w t t (done_answer result) h is at stands refl
       (subst (λ (d : Plain). AdvancesUnwritten own.plain d nothing_laid) (sym w_is) (dropped-unmoved own.plain is.whole))
       (ap (λ (x : ClientView). x.ring) r.1) sound
       (subst (λ (d : Plain). CanUse d (core_of t).geometry (member_of t) (cursor_of_turn t) (core_of t).position ⊤) (sym w_is)
-        (usable-still own.plain (dropped own.plain) t refl refl (λ moves. absurd (cc)) at.usable)) is_call refl
+      (usable-still own.plain (dropped own.plain) t refl refl (λ moves. absurd (cc)) at.usable)) is_call refl
+]
+
+-- what is free before a call that lays nothing is free after it
+free_after-same : (free : ℕ) (c : Plain) → c.part ≡ 0 → (0 < c.committed → free ≡ c.card + c.committed) → free_after free c ≡ free
+free_after-same free c whole behind = grind (arith, nat_tests, behind)
+
+-- a call that leaves its client and its port
+HasCalled-same : (members p : ℕ) (wav : Sound) (own : Own) (asked : Op) (v w : ClientView) (t : Turn) (answer : Answer) → IsOwn wav own v → IsAtPort members p own t
+    → w ≡ v → called p wav own asked ≡ (own.plain, answer) → ends_stretch asked answer ≡ false → HasCalled members p wav own asked w t t answer
+HasCalled-same members p wav own asked v w t answer is at same is_call goes_on = record {
+  entries = [];
+  laid = TurnLaid-composes.none t;
+  outcome = ap (λ (c : Plain). let done : Plain × Answer = (c, answer) in done) w_is ∙ sym is_call;
+  bindings = ap (λ (c : Plain). c.bindings) w_is;
+  grown = λ _. ap (λ (c : Plain). stretch c wav.samples) w_is ∙ sym (append-nil (stretch own.plain wav.samples));
+  ending = λ ends. absurd (let h = goes_on in cc);
+  own_after = subst (λ (done : Plain × Answer). IsOwn wav (after_call own asked done).0 w) (sym is_call) own_after;
+  port_after = subst (λ (done : Plain × Answer). IsAtPort members p (after_call own asked done).0 t) (sym is_call) (record {
+    rests = at.rests;
+    usable = at.usable;
+    free = at.free ∙ sym (free_after-same own.free own.plain is.whole is.behind);
+  });
+}
+  where
+    w_is : w.plain ≡ own.plain
+    w_is = ap (λ (x : ClientView). x.plain) same ∙ is.same
+
+    own_after : IsOwn wav (after_call own asked (own.plain, answer)).0 w
+    own_after = record {
+      same = w_is;
+      whole = is.whole;
+      going = is.going;
+      channels = is.channels;
+      pending = subst (λ (r : List ℤ). IsPending wav own.plain r) (sym (ap (λ (x : ClientView). x.ring) same)) is.pending;
+      behind = λ some. free_after-same own.free own.plain is.whole is.behind ∙ is.behind some;
+      on_card = is.on_card;
+      prepared = is.prepared;
+      fed = is.fed;
+    }
+
+-- a line that names no call of a client
+pub no_call-line : (members p : ℕ) (wav : Sound) (own : Own) (asked : Op) (v : ClientView) (t : Turn) → IsOwn wav own v → IsAtPort members p own t
+    → ((n : ℕ) × (asked ≡ op.Play n)) ⊎ (asked ≡ op.Opens) → HasCalled members p wav own asked v t t (Failed error.BadState)
+no_call-line members p wav own asked v t is at none = elim none [
+  | inl play ↦
+      subst (λ (o : Op). HasCalled members p wav own o v t t (Failed error.BadState)) (sym play.1)
+      (HasCalled-same members p wav own (op.Play play.0) v v t (Failed error.BadState) is at refl refl refl)
+  | inr opens ↦
+      subst (λ (o : Op). HasCalled members p wav own o v t t (Failed error.BadState)) (sym opens)
+      (HasCalled-same members p wav own op.Opens v v t (Failed error.BadState) is at refl refl refl)
 ]
 
 -- a prepare that isn't refused ends the stretch
@@ -126,42 +176,12 @@ pub prepare-line : (members p : ℕ) (wav : Sound) (own : Own) (v w : ClientView
 prepare-line members p wav own v w t result is at refused prepares = elim (refusal-cases (refusal_of own.plain call.Prepare)) [
   | inr found ↦
       let r = refused found.0 (ap (λ (c : Plain). refusal_of c call.Prepare) is.same ∙ found.1) in
-      let w_is : w.plain ≡ own.plain = ap (λ (x : ClientView). x.plain) r.1 ∙ is.same in
       let is_call : called p wav own op.Prepare ≡ (own.plain, Failed (told found.0)) =
-          ap (λ (o : Option PcmError). tell done_answer (refused_or o own.plain (prepared own.plain, Ok tt))) found.1 in
+      ap (λ (o : Option PcmError). tell done_answer (refused_or o own.plain (prepared own.plain, Ok tt))) found.1 in
       subst (λ (x : Result (Unit {0}) PcmError). HasCalled members p wav own op.Prepare w t t (done_answer x)) (sym r.0)
-      (record {
-        entries = [];
-        laid = TurnLaid-composes.none t;
-        outcome = ap (λ (c : Plain). tell {T = Unit {0}} done_answer (c, Err found.0)) w_is ∙ sym is_call;
-        bindings = ap (λ (c : Plain). c.bindings) w_is;
-        grown = λ goes_on. ap (λ (c : Plain). stretch c wav.samples) w_is ∙ sym (append-nil (stretch own.plain wav.samples));
-        ending = λ ends. absurd (cc);
-        own_after = subst (λ (done : Plain × Answer). IsOwn wav (after_call own op.Prepare done).0 w) (sym is_call) (own_same found.0 w_is (ap (λ (x : ClientView). x.ring) r.1));
-        port_after = subst (λ (done : Plain × Answer). IsAtPort members p (after_call own op.Prepare done).0 t) (sym is_call) (record {
-          rests = at.rests;
-          usable = at.usable;
-          free = at.free ∙ sym (free_same own.free own.plain is.whole is.behind);
-        });
-      })
+      (HasCalled-same members p wav own op.Prepare v w t (Failed (told found.0)) is at r.1 is_call refl)
   | inl admitted ↦
       let r = prepares (ap (λ (c : Plain). refusal_of c call.Prepare) is.same ∙ admitted) in
       subst (λ (x : Result (Unit {0}) PcmError). HasCalled members p wav own op.Prepare w t t (done_answer x)) (sym r.0)
       (prepared-HasCalled members p wav own v w t is at r.1 (ap (λ (o : Option PcmError). tell done_answer (refused_or o own.plain (prepared own.plain, Ok tt))) admitted))
 ]
-  where
-    free_same : (free : ℕ) (c : Plain) → c.part ≡ 0 → (0 < c.committed → free ≡ c.card + c.committed) → free_after free c ≡ free
-    free_same free c whole behind = grind (arith, nat_tests, behind)
-
-    own_same : (e : PcmError) → w.plain ≡ own.plain → w.ring ≡ v.ring → IsOwn wav (after_call own op.Prepare (own.plain, Failed (told e))).0 w
-    own_same e same ring = record {
-      same = same;
-      whole = is.whole;
-      going = is.going;
-      channels = is.channels;
-      pending = subst (λ (r : List ℤ). IsPending wav own.plain r) (sym ring) is.pending;
-      behind = λ some. free_same own.free own.plain is.whole is.behind ∙ is.behind some;
-      on_card = is.on_card;
-      prepared = is.prepared;
-      fed = is.fed;
-    }

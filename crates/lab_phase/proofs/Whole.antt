@@ -1,7 +1,7 @@
 -- A run whose lines are all done is the run of its script.
-use Rattle.std.proofs.Common.{◌≡◌, ℕ, ◌+◌, ◌*◌, ◌/◌, ◌%◌, zero-mul, List, [], ◌++◌, sym, ◌∙◌, ap, arith, map, length}
+use Rattle.std.proofs.Common.{◌≡◌, ℕ, ◌+◌, ◌*◌, ◌/◌, ◌%◌, zero-mul, List, ◌++◌, sym, ◌∙◌, ap, arith, map, length}
 use Rattle.std.proofs.lemmas.Nat.{div-add-mod'}
-use Rattle.std.specs.Prelude.{ℤ, Option}
+use Rattle.std.specs.Prelude.{ℤ}
 use Rattle.std.specs.List.{range_with_len}
 use Rattle.snd_base.specs.declared.geometry.Geometry.{Geometry}
 use Rattle.snd_base.specs.declared.places.Cursor.{Cursor}
@@ -15,7 +15,7 @@ use Rattle.lab_script.specs.Script.{frames_played}
 use Rattle.lab_report.specs.declared.row.Row.{Row}
 use Rattle.lab_report.specs.declared.report.Report.{Report}
 use Rattle.lab_phase.specs.declared.body.Body.{Body}
-use Rattle.lab_phase.specs.Meaning.{IsRun, Stage, bindings_of, entries_of, first_stage, lines_of, mixed_at, numbered, open_row, report_of, rows_of, stage_after}
+use Rattle.lab_phase.specs.Meaning.{AreFiles, IsRun, Stage, bindings_of, entries_of, first_stage, lines_of, mixed_at, numbered, open_row, report_of, rows_of, stage_after}
 use Rattle.lab_phase.specs.Stages.{HasOpened, HasRun, stage_of}
 use Rattle.lab_phase.proofs.Phased.{played_by_lines-numbered}
 use Rattle.lab_phase.proofs.Played.{values_of-exact}
@@ -29,10 +29,11 @@ report-same r rows segments first frames same_rows same_segments same_first same
     ∙ ap (λ (x : ℕ). let s : Report = record { rows = rows; segments = segments; first = first; frames = x } in s) same_frames
 
 pub IsRun-done : (script : Script) (wavs : List Sound) (before body : Body) (report : Report) (played : List ℤ)
-    → HasOpened script wavs before → HasRun script wavs (lines_of script) before body
+    → AreFiles script wavs → HasOpened script wavs before → HasRun script wavs (lines_of script) before body
     → report.rows ≡ body.rows.items → report.segments ≡ numbered 0 (stage_of body).clients → report.first ≡ 0 → report.frames ≡ body.position
     → played ≡ body.played.items → IsRun script wavs report played
-IsRun-done script wavs before body report played opened run rows segments first frames samples = record {
+IsRun-done script wavs before body report played files opened run rows segments first frames samples = record {
+  files = files;
   ring = before.core.geometry;
   setups = opened.setups;
   is_ring = opened.settled.ring;

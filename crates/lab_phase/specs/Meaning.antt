@@ -1,5 +1,5 @@
 -- What a script does: its rows, its segments and what the card plays.
-use Rattle.std.specs.Prelude.{◌≡◌, ℕ, ◌+◌, ◌*◌, ◌/◌, ◌%◌, ℤ, List, [], ◌∷◌, ◌++◌, map, length, slice_get, slice_index, slice_index_or, slice_set, zip, Option, Some, None, All, fold}
+use Rattle.std.specs.Prelude.{◌≡◌, ℕ, ◌+◌, ◌*◌, ◌/◌, ◌%◌, ℤ, List, [], ◌∷◌, ◌++◌, map, length, slice_get, slice_index_or, slice_set, zip, Option, Some, None, All}
 use Rattle.std.specs.List.{flat_map, range_with_len}
 use Rattle.std.specs.Option.{option_map_or}
 use Rattle.snd_base.specs.declared.geometry.Geometry.{Geometry}
@@ -8,7 +8,6 @@ use Rattle.lap_word.specs.Clamp.{clamp_of}
 use Rattle.mix_core.specs.Laid.{total}
 use Rattle.mix_core.specs.declared.port.Entry.{Entry}
 use Rattle.wav_io.specs.Sound.{Sound}
-use Rattle.pcm_states.specs.declared.states.State.{State}
 use Rattle.pcm_states.specs.declared.states.State.TheVariants.{Open, Running}
 use Rattle.lab_script.specs.declared.script.Script.{Script}
 use Rattle.lab_script.specs.declared.line.Actor.{Actor}
@@ -19,7 +18,7 @@ use Rattle.lab_script.specs.declared.line.Op.TheVariants as op
 use Rattle.lab_script.specs.Script.{frames_played, played_by}
 use Rattle.lab_report.specs.declared.row.Row.{Row}
 use Rattle.lab_report.specs.declared.row.Answer.{Answer}
-use Rattle.lab_report.specs.declared.row.Answer.TheVariants.{Done, Count}
+use Rattle.lab_report.specs.declared.row.Answer.TheVariants.{Count}
 use Rattle.lab_report.specs.declared.report.Report.{Report}
 use Rattle.dmix_client.specs.Expansion.{expand}
 use Rattle.lab_phase.specs.Lines.{Own, closed_answer, line_done, segments_of}
@@ -154,15 +153,16 @@ pub record AreOpened (script : Script) (wavs : List Sound) (setups : List (Optio
   pub one_each : length setups ≡ length script.clients
   pub each : All (λ triple. IsOpening script.card triple.0 triple.1.0 triple.1.1) (zip script.clients (zip wavs setups))
 
+-- files for the clients of a script: one each
+abbrev pub AreFiles : Script → List Sound → Type 0
+AreFiles script wavs = length wavs ≡ length script.clients
+
 -- a report and played samples are the run of a script on its clients' files
 pub record IsRun (script : Script) (wavs : List Sound) (report : Report) (played : List ℤ) : Type 0 where
+  pub files : AreFiles script wavs
   pub ring : Geometry
   pub setups : List (Option Setup)
   pub is_ring : IsRingOf script.card ring
   pub are_opened : AreOpened script wavs setups
   pub reported : report ≡ report_of script ring wavs setups
   pub mixes : played ≡ mixed script.card.channels report.first report.frames (entries_of wavs (bindings_of script wavs) report.segments)
-
--- files for the clients of a script: one each
-abbrev pub AreFiles : Script → List Sound → Type 0
-AreFiles script wavs = length wavs ≡ length script.clients

@@ -1,5 +1,5 @@
 -- That a core stands for some history with given sums, and where a core is between two lines.
-use Rattle.std.specs.Prelude.{◌≡◌, ℕ, ◌+◌, ◌≤◌, false, ℤ, List, length, map}
+use Rattle.std.specs.Prelude.{◌≡◌, ℕ, ◌+◌, false, ℤ, List, length, map}
 use Rattle.mix_core.specs.declared.event.Taken.{Taken}
 use Rattle.mix_core.specs.History.{Row, laid_of, taken_of}
 use Rattle.mix_core.specs.Laid.{total}

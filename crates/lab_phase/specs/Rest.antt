@@ -1,25 +1,16 @@
 -- What the calls of a client come to while the card rests at a position: all frames before it were played, and none from it
 -- on. So every load gives this position, and a frame is late exactly where it stands before it.
-use Rattle.std.specs.Prelude.{◌≡◌, ℕ, ◌+◌, ◌-◌, false, ◌||◌, nat_eq, nat_le, if◌then◌else◌, min, Option, Some, None, Result, Ok, Err}
-use Rattle.snd_base.specs.declared.errors.PcmError.{PcmError}
-use Rattle.snd_base.specs.declared.errors.PcmError.TheVariants.{Xrun, Invalid}
-use Rattle.snd_base.specs.declared.errors.Why.TheVariants.{Config}
-use Rattle.snd_base.specs.declared.errors.XrunWhy.{XrunWhy}
-use Rattle.snd_base.specs.declared.errors.XrunWhy.TheVariants.{Avail, Late}
+use Rattle.std.specs.Prelude.{ℕ, ◌+◌, false, ◌||◌, nat_eq, nat_le, if◌then◌else◌, Some}
 use Rattle.snd_base.specs.declared.places.Cursor.{Cursor}
 use Rattle.mix_core.specs.declared.port.Position.{Position}
 use Rattle.pcm_states.specs.declared.states.State.TheVariants.{Draining, Running}
-use Rattle.pcm_states.specs.declared.calls.Call.{Call}
 use Rattle.pcm_states.specs.declared.calls.Call.TheVariants as call
-use Rattle.lab_script.specs.declared.line.Op.{Op}
-use Rattle.lab_script.specs.declared.line.Op.TheVariants as op
-use Rattle.lab_report.specs.declared.row.Answer.{Answer}
-use Rattle.lab_report.specs.declared.row.Answer.TheVariants.{Done, Count, Failed}
 use Rattle.dmix_client.specs.declared.commit.Commit.{Commit}
 use Rattle.dmix_client.specs.declared.commit.Ended.TheVariants as ended
 use Rattle.dmix_client.specs.declared.plain.Plain.{Plain}
-use Rattle.dmix_client.specs.Calls.{Answered, commit_count, drain_of, is_running, start_count, start_of, started, started_in, sync_count, sync_of, synced, taken_of, writei_of}
+use Rattle.dmix_client.specs.Calls.{Answered, drain_of, is_running, start_count, start_of, started, started_in, sync_count, sync_of, synced, taken_of, writei_of}
 use Rattle.dmix_client.specs.View.{is_moving}
+use Rattle.dmix_client.specs.Writes.{count_after}
 
 -- what a load gives
 abbrev pub resting : ℕ → Position
@@ -65,5 +56,5 @@ abbrev pub writei_at : ℕ → Plain → ℕ → ℕ → Answered ℕ
 writei_at p c free n =
     let load = Some (resting p) in
     let first = if is_running c.state then sync_commit p c else start_commit p c free (c.written + taken_of c n) in
-    let after = (synced c call.Transfer load first).0 in
-    writei_of c n (cursor_at free) load first (commit_at p after (commit_count after p (after.written + taken_of after n)))
+    let after = synced c call.Transfer load first in
+    writei_of c n (cursor_at free) load first (commit_at p after.0 (count_after after n))

@@ -27,7 +27,7 @@ use Rattle.lab_report.specs.declared.row.Answer.{Answer}
 use Rattle.lab_report.specs.declared.row.Row.{Row}
 use Rattle.lab_phase.specs.declared.body.Body.{Body}
 use Rattle.lab_phase.specs.declared.seat.Seat.{Seat}
-use Rattle.lab_phase.specs.Lines.{Own, called, closed_answer, ended_after, laid_in, line_done}
+use Rattle.lab_phase.specs.Lines.{Own, called, closed_answer, ended_after, frames_of, line_done}
 use Rattle.lab_phase.specs.Meaning.{AreOpened, Stage, bindings_of, client_row, entries_of, first_stage, numbered, open_row, rows_of, stage_after}
 use Rattle.lab_phase.specs.Mixes.{Mixes, RestsAt}
 use Rattle.lab_phase.specs.Opening.{IsOpening, IsRingOf, Setup, open_answer, opened_with}
@@ -114,17 +114,26 @@ pub record HasOpened (script : Script) (wavs : List Sound) (body : Body) : Type 
   pub rows : body.rows.items ≡ map (open_row (stage_of body)) (range_with_len 0 (length setups))
   pub start : body.position ≡ 0
 
--- a client's port can be used, where it is open
-pub record IsOpenPort (core : View) (client : ℕ) (seat : Seat) : Type 0 where
+-- a client's port can be used, where it is open, and its stream takes no more than its file has
+pub record IsOpenPort (core : View) (client : ℕ) (wav : Sound) (seat : Seat) : Type 0 where
   pub member : client < length core.cursors
   pub usable : (v : ClientView) → seat.client ≡ Some v → CanUse v.plain core.geometry client (slice_index_or core.cursors client core.next) core.position ⊤
+  pub channels : (v : ClientView) → seat.client ≡ Some v → length v.plain.bindings ≡ wav.channels
+  pub fed : (v : ClientView) → seat.client ≡ Some v → v.plain.fed ≤ frames_of wav
+
+-- a write asks for at most the frames that a script can ask for
+abbrev pub IsAsked : Op → Type 0
+IsAsked (op.Write frames) = frames ≤ 4194304
+IsAsked other = ⊤
 
 -- a run can take a line
-abbrev pub CanTake : ℕ → Body → Actor → Op → Type 0
-CanTake files body Card (op.Play frames) = (body.position + frames ≤ 4194304) × (body.core.next.channel ≡ 0) × (body.core.next.frame + frames ≤ end_frame body.core.geometry)
-CanTake files body Card other = ⊥
-CanTake files body (Client client) asked =
-    (played_by asked ≡ 0) × (client < length body.seats.items) × (client < files) × ((seat : Seat) → slice_get body.seats.items client ≡ Some seat → IsOpenPort body.core client seat)
+abbrev pub CanTake : List Sound → Body → Actor → Op → Type 0
+CanTake wavs body Card (op.Play frames) = (body.position + frames ≤ 4194304) × (body.core.next.channel ≡ 0) × (body.core.next.frame + frames ≤ end_frame body.core.geometry)
+CanTake wavs body Card other = ⊥
+CanTake wavs body (Client client) asked =
+    (played_by asked ≡ 0) × (client < length body.seats.items) × (client < length wavs)
+    × ((seat : Seat) (wav : Sound) → slice_get body.seats.items client ≡ Some seat → slice_get wavs client ≡ Some wav → IsOpenPort body.core client wav seat)
+    × IsAsked asked
 
 -- what a call of a client did to the core: it laid entries of the client, and left the rest and the other cursors alone
 pub record LaysAt (client : ℕ) (v w : View) (entries : List Entry) : Type 0 where

@@ -1,5 +1,5 @@
 //! The calls of a client that its lines name, while the card rests.
-ghost use Rattle.std.specs.Prelude.{◌≡◌, ℕ, ◌≤◌, List, length, ⊤};
+ghost use Rattle.std.specs.Prelude.{◌≡◌, ℕ, ◌-◌, ◌*◌, ◌^◌, ◌<◌, ◌≤◌, drop, List, length, min, take, ⊤};
 ghost use Rattle.mix_core.specs.declared.turn.Turn.{Turn};
 ghost use Rattle.mix_core.specs.History.{Row};
 ghost use Rattle.mix_core.specs.Stands.{Stands};
@@ -8,6 +8,7 @@ ghost use Rattle.dmix_client.specs.Port.{CanUse};
 ghost use Rattle.wav_io.specs.Sound.{Sound};
 ghost use Rattle.lab_phase.specs.Lines.{Own, count_answer, done_answer, frames_of, told};
 ghost use Rattle.lab_phase.specs.Seats.{HasCalled, IsAtPort, IsOwn};
+ghost use Rattle.lab_phase.specs.Stages.{IsAsked};
 
 use dmix_client::Client;
 use lab_report::Answer;
@@ -138,27 +139,49 @@ fn pause_line(client: &mut Client) -> Answer
     done(answer)
 }
 
+/// The answer of a write.
+fn accepted(end: Result<u32, PcmError>) -> Answer
+    ensures { result ≡ count_answer end }
+{
+    match end {
+        Ok(frames) => Answer::Count(frames as u64),
+        Err(error) => Answer::Failed(told(error)),
+    }
+}
+
+/// The next `frames` frames of a client's file, of which `fed` frames are accepted, or those that are left of it.
+fn next_frames(wav: &Wav, fed: u64, frames: u32) -> &[i16]
+    requires { fed ≤ frames_of wav.now }
+    ensures room { frames_of wav.now < 2 ^ 63 }
+    ensures frames { result.now ≡ take (min frames (frames_of wav.now - fed) * wav.now.channels) (drop (fed * wav.now.channels) wav.now.samples) }
+{
+    let samples = wav.samples.as_slice();
+    let channels = wav.channels as usize;
+    let left = samples.len() / channels - fed as usize;
+    let from = fed as usize * channels;
+    let count = left.min(frames as usize) * channels;
+    &samples[from..from + count]
+}
+
 /// The client writes the next `frames` frames of its file, or those that are left of it.
 fn write_line(client: &mut Client, port: &mut Turn<'_>, wav: &Wav, frames: u32) -> Answer
+    requires few { frames ≤ 4194304 }
     requires usable { CanUse client.old.plain (core_of port.old).geometry (member_of port.old) (cursor_of_turn port.old) (core_of port.old).position ⊤ }
     requires channels { length client.old.plain.bindings ≡ wav.now.channels }
     requires fed { client.old.plain.fed ≤ frames_of wav.now }
     ensures { (members p : ℕ) (own : Own) (h : List Row) → IsOwn wav.now own client.old → IsAtPort members p own port.old → Stands (core_of port.old) h
         → HasCalled members p wav.now own (Op.Write frames) client.new port.old port.new result }
 {
-    let samples = wav.samples.as_slice();
-    let channels = wav.channels as usize;
-    let fed = client.fed() as usize;
-    let left = samples.len() / channels - fed;
-    let offered = left.min(frames as usize);
-    let offer = &samples[fed * channels..(fed + offered) * channels];
+    let offer = next_frames(wav, client.fed(), frames);
+    client.counts_are_sound();
     let answer = client.writei(port, &mut NeverStops, offer);
     client.counts_are_sound();
-    counted(answer.map(u64::from))
+    accepted(answer)
 }
 
 /// The call that a line names. A write offers the next frames of the client's file, or those that are left of it.
 pub(crate) fn call_line(client: &mut Client, port: &mut Turn<'_>, wav: &Wav, asked: Op) -> Answer
+    requires asked { IsAsked asked }
     requires usable { CanUse client.old.plain (core_of port.old).geometry (member_of port.old) (cursor_of_turn port.old) (core_of port.old).position ⊤ }
     requires channels { length client.old.plain.bindings ≡ wav.now.channels }
     requires fed { client.old.plain.fed ≤ frames_of wav.now }

@@ -1,16 +1,16 @@
 //! The lines of a phase, one by one.
-ghost use Rattle.std.specs.Prelude.{◌≡◌, ◌≢◌, ◌++◌, ◌∷◌, ◌<◌, [], ℕ, List, ⊤, length, slice_get, slice_index_or, IfOk, IfErr, OnOk, Some};
+ghost use Rattle.std.specs.Prelude.{◌≡◌, ◌≢◌, ◌++◌, ◌∷◌, ◌<◌, ◌≤◌, [], ℕ, List, ⊤, length, slice_get, slice_index_or, IfOk, IfErr, OnOk, Some};
 ghost use Rattle.mix_core.specs.History.{Row as Event};
 ghost use Rattle.mix_core.specs.Stands.{Stands};
 ghost use Rattle.dmix_client.specs.Calls.{segment_of};
 ghost use Rattle.dmix_client.specs.Port.{CanUse};
 ghost use Rattle.wav_io.specs.Sound.{Sound};
 ghost use Rattle.lab_script.specs.declared.script.Script.{Script};
-ghost use Rattle.lab_phase.specs.Lines.{Own, closed_answer, ended_after};
+ghost use Rattle.lab_phase.specs.Lines.{Own, closed_answer, ended_after, frames_of};
 ghost use Rattle.lab_phase.specs.Meaning.{card_row, client_row};
 ghost use Rattle.lab_phase.specs.Mixes.{RestsAt};
 ghost use Rattle.lab_phase.specs.Seats.{IsOwn, ends_stretch};
-ghost use Rattle.lab_phase.specs.Stages.{CanTake, HasCalledAt, HasRun, IsAtSeat, IsOpenPort, IsSettled, TakesLine, laid_of};
+ghost use Rattle.lab_phase.specs.Stages.{CanTake, HasCalledAt, HasRun, IsAsked, IsAtSeat, IsOpenPort, IsSettled, TakesLine, laid_of};
 
 use crate::body::Body;
 use crate::calls::call_line;
@@ -67,6 +67,9 @@ fn keep_ended(
 fn open_line(core: &mut Core, client: &mut Client, number: u32, wav: &Wav, asked: Op) -> Answer
     requires member { number < length core.old.cursors }
     requires usable { CanUse client.old.plain core.old.geometry number (slice_index_or core.old.cursors number core.old.next) core.old.position ⊤ }
+    requires channels { length client.old.plain.bindings ≡ wav.now.channels }
+    requires fed { client.old.plain.fed ≤ frames_of wav.now }
+    requires asked { IsAsked asked }
     ensures { (members p : ℕ) (own : Own) (h : List Event) → IsOwn wav.now own client.old → IsAtSeat members p number own core.old → Stands core.old h
         → HasCalledAt members p number wav.now own asked client.new core.old core.new result }
 {
@@ -111,7 +114,8 @@ fn seat_line(
     number: u32,
     asked: Op,
 ) -> Result<Row, PcmError>
-    requires port { IsOpenPort core.old number seat.old }
+    requires port { IsOpenPort core.old number wav.now seat.old }
+    requires asked { IsAsked asked }
     ensures ok { IfOk result (λ row. TakesLine phase number wav.now asked core.old core.new seat.old seat.new row) }
     ensures only { IfErr result (λ e. e ≡ PcmError.Memory) }
 {
@@ -135,7 +139,7 @@ fn client_line(
     number: u32,
     asked: Op,
 ) -> Result<(), PcmError>
-    requires can { CanTake (length wavs.now) body.old (Actor.Client number) asked }
+    requires can { CanTake wavs.now body.old (Actor.Client number) asked }
     ensures ok { OnOk result ((script : Script) (line : Line) → line.op ≡ asked → line.actor ≡ Actor.Client number → IsSettled script wavs.now body.old → HasRun script wavs.now ((phase, line) ∷ []) body.old body.new) }
     ensures only { IfErr result (λ e. e ≡ PcmError.Memory) }
 {
@@ -154,7 +158,7 @@ fn client_line(
 
 /// The card plays so many frames.
 fn card_line(body: &mut Body, phase: u32, frames: u32) -> Result<(), PcmError>
-    requires can { CanTake 0 body.old Actor.Card (Op.Play frames) }
+    requires can { CanTake [] body.old Actor.Card (Op.Play frames) }
     ensures ok { OnOk result ((script : Script) (wavs : List Sound) (line : Line) → line.op ≡ Op.Play frames → line.actor ≡ Actor.Card → IsSettled script wavs body.old → HasRun script wavs ((phase, line) ∷ []) body.old body.new) }
     ensures only { IfErr result (λ e. e ≡ PcmError.Memory) }
 {
@@ -173,7 +177,7 @@ fn card_line(body: &mut Body, phase: u32, frames: u32) -> Result<(), PcmError>
 
 /// Does a line of a phase. It refuses for memory alone.
 pub(crate) fn do_line(body: &mut Body, wavs: &[Wav], phase: u32, line: Line) -> Result<(), PcmError>
-    requires can { CanTake (length wavs.now) body.old line.actor line.op }
+    requires can { CanTake wavs.now body.old line.actor line.op }
     ensures ok { OnOk result ((script : Script) → IsSettled script wavs.now body.old → HasRun script wavs.now ((phase, line) ∷ []) body.old body.new) }
     ensures only { IfErr result (λ e. e ≡ PcmError.Memory) }
 {

@@ -18,7 +18,7 @@ pub enum Op {
     Start,
     /// `snd_pcm_hwsync`.
     Sync,
-    /// `snd_pcm_avail_update`.
+    /// `snd_pcm_avail`, which syncs first.
     Avail,
     /// `snd_pcm_delay`.
     Delay,

@@ -1,4 +1,4 @@
-use Rattle.std.proofs.Common.{◌≡◌, refl, sym, ◌∙◌, ap}
+use Rattle.std.proofs.Common.{refl}
 use Rattle.lab_phase.proofs.Lined.{OnOk-map}
 use Rattle.lab_phase.proofs.line.do_line.Goals as goal
 

@@ -1,4 +1,4 @@
-use Rattle.std.proofs.Common.{arith, ◌≡◌, refl, sym, ◌∙◌, ap}
+use Rattle.std.proofs.Common.{arith, sym, ◌∙◌}
 use Rattle.lab_phase.proofs.Seated.{HasCalledAt-through, IsAtPort-turn}
 use Rattle.lab_phase.proofs.line.open_line.Goals as goal
 

@@ -1,9 +1,15 @@
-use Rattle.std.proofs.Common.{◌≡◌, refl, sym, ◌∙◌, ap}
+use Rattle.std.proofs.Common.{refl}
 use Rattle.lab_phase.proofs.Seated.{TakesLine-open}
 use Rattle.lab_phase.proofs.line.seat_line.Goals as goal
 
 pub open_line-answer-requires-clause-usable : goal.open_line-answer-requires-clause-usable
 open_line-answer-requires-clause-usable c = c.requires.port.usable c.in-Some.client c.in-Some.is
+
+pub open_line-answer-requires-clause-channels : goal.open_line-answer-requires-clause-channels
+open_line-answer-requires-clause-channels c = c.requires.port.channels c.in-Some.client c.in-Some.is
+
+pub open_line-answer-requires-clause-fed : goal.open_line-answer-requires-clause-fed
+open_line-answer-requires-clause-fed c = c.requires.port.fed c.in-Some.client c.in-Some.is
 
 pub returns-in_ok-keep_ended-in-Some-clause-ok : goal.returns-in_ok-keep_ended-in-Some-clause-ok
 returns-in_ok-keep_ended-in-Some-clause-ok c =

@@ -1,4 +1,4 @@
-use Rattle.std.proofs.Common.{◌≡◌, ℕ, ◌+◌, ◌<◌, ◌≤◌, List, [], refl, sym, ◌∙◌, ap, subst, arith, length, get_or, take}
+use Rattle.std.proofs.Common.{◌≡◌, ◌+◌, ◌<◌, ◌≤◌, [], sym, ap, subst, arith, length, get_or, take}
 use Rattle.std.proofs.lemmas.List.{get_or_default}
 use Rattle.lab_script.specs.declared.line.Actor.TheVariants.{Card}
 use Rattle.lab_script.specs.declared.line.Line.{Line}
