@@ -20,7 +20,7 @@ use Rattle.lab_script.specs.declared.script.CardLine.{CardLine}
 use Rattle.lab_script.specs.declared.script.ClientLine.{ClientLine}
 use Rattle.lab_script.specs.declared.script.Script.{Script}
 use Rattle.lab_report.specs.declared.report.Report.{Report}
-use Rattle.lab_phase.specs.Meaning.{AreFiles, IsRun, bindings_of, entries_of, mixed, mixed_at, report_of}
+use Rattle.lab_phase.specs.Meaning.{IsRun, bindings_of, entries_of, mixed, mixed_at, report_of}
 use Rattle.lab_phase.specs.Opening.{IsChosen, IsOpening, IsRingOf, Setup}
 use Rattle.lab_report.specs.Text.{report_text}
 use Rattle.lab_shelf.specs.Files.{Files, with_file}
@@ -148,12 +148,12 @@ IsRingOf-unique card a b one other =
 -- ---- runs
 
 -- a script has one report and one list of samples on its clients' files
-pub IsRun-unique : (script : Script) (sounds : List Sound) (report other : Report) (played samples : List ℤ) → AreFiles script sounds
+pub IsRun-unique : (script : Script) (sounds : List Sound) (report other : Report) (played samples : List ℤ)
     → IsRun script sounds report played → IsRun script sounds other samples → (other ≡ report) × (samples ≡ played)
-IsRun-unique script sounds report other played samples files one two =
+IsRun-unique script sounds report other played samples one two =
     let ring : two.ring ≡ one.ring = IsRingOf-unique script.card two.ring one.ring two.is_ring one.is_ring in
     let setups : two.setups ≡ one.setups =
-    setups-unique script.card script.clients sounds two.setups one.setups files two.are_opened.one_each one.are_opened.one_each two.are_opened.each one.are_opened.each in
+    setups-unique script.card script.clients sounds two.setups one.setups one.files two.are_opened.one_each one.are_opened.one_each two.are_opened.each one.are_opened.each in
     let same : other ≡ report =
     two.reported
     ∙ ap (λ r. report_of script r sounds two.setups) ring
@@ -187,14 +187,14 @@ IsRun-mix script sounds report played is_run =
 pub IsSession-made : (files : Option Files) (name : List ℕ) (script : Script) (sounds : List Sound) (report : Report) (played : List ℤ)
     → ForSome files (λ m. SpelledIn m name script)
     → ForSome files (λ m. input_in m name ≡ Ok (record { script = script; sounds = sounds }))
-    → AreFiles script sounds → IsRun script sounds report played
+    → IsRun script sounds report played
     → IsSession files name script sounds report played
-IsSession-made files name script sounds report played spelled read are is_run = record {
+IsSession-made files name script sounds report played spelled read is_run = record {
   spelled = spelled;
   read = read;
   run = is_run;
   mix = IsRun-mix script sounds report played is_run;
-  only = λ other samples is. IsRun-unique script sounds report other played samples are is_run is;
+  only = λ other samples is. IsRun-unique script sounds report other played samples is_run is;
 }
 
 -- a run that is finished put and stored the one report and the one file

@@ -11,5 +11,5 @@ pub returns-clause-ready : goal.returns-clause-ready
 returns-clause-ready g c =
     IsReady-made _ _ _ c.in_ok-loaded.loaded.script c.in_ok-loaded.loaded.wavs.items c.in_ok-outcome.outcome.report
     c.in_ok-outcome.outcome.played.items c.prepare.result
-    (IsSession-made _ _ _ _ _ _ c.in_ok-loaded.ensures.spelled c.in_ok-loaded.ensures.input c.in_ok-loaded.ensures.are_files
+    (IsSession-made _ _ _ _ _ _ c.in_ok-loaded.ensures.spelled c.in_ok-loaded.ensures.input
     (rw c.deref.ensures.value at c.in_ok-outcome.ensures.run)) c.prepare.ensures.output
