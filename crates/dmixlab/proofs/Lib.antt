@@ -2,6 +2,7 @@ mod Texts
 mod Sounds
 mod Replies
 mod Sessions
+mod Late
 mod Only
 mod Outputs
 mod Commands

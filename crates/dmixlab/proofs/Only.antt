@@ -20,7 +20,7 @@ use Rattle.lab_script.specs.declared.script.CardLine.{CardLine}
 use Rattle.lab_script.specs.declared.script.ClientLine.{ClientLine}
 use Rattle.lab_script.specs.declared.script.Script.{Script}
 use Rattle.lab_report.specs.declared.report.Report.{Report}
-use Rattle.lab_phase.specs.Meaning.{IsRun, bindings_of, entries_of, mixed, mixed_at, report_of}
+use Rattle.lab_phase.specs.Meaning.{IsRun, bindings_of, entries_of, lines_of, mixed, mixed_at, report_of}
 use Rattle.lab_phase.specs.Opening.{IsChosen, IsOpening, IsRingOf, Setup}
 use Rattle.lab_report.specs.Text.{report_text}
 use Rattle.lab_shelf.specs.Files.{Files, with_file}
@@ -33,6 +33,7 @@ use Rattle.dmixlab.specs.Input.{Input, SpelledIn, input_in}
 use Rattle.dmixlab.specs.Run.{Finished, IsMixOf, IsOnlyRun, IsSession, laid, wav_of}
 use Rattle.dmixlab.specs.Stops.{status_of}
 use Rattle.dmixlab.specs.Top.{Leaves as LeavesBehind, OnlyIn}
+use Rattle.dmixlab.proofs.Late.{script-late}
 use Rattle.dmixlab.specs.Words.{Form, run, refine, help, version, wav_name}
 
 -- ---- openings
@@ -194,6 +195,7 @@ IsSession-made files name script sounds report played spelled read is_run = reco
   read = read;
   run = is_run;
   mix = IsRun-mix script sounds report played is_run;
+  late = script-late script sounds is_run.ring is_run.setups (lines_of script);
   only = λ other samples is. IsRun-unique script sounds report other played samples is_run is;
 }
 

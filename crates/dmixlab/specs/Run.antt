@@ -7,7 +7,7 @@ use Rattle.lab_script.specs.declared.script.CardLine.{CardLine}
 use Rattle.lab_script.specs.declared.script.Script.{Script}
 use Rattle.lab_report.specs.declared.report.Report.{Report}
 use Rattle.lab_report.specs.Text.{report_text}
-use Rattle.lab_phase.specs.Meaning.{IsRun, bindings_of, entries_of}
+use Rattle.lab_phase.specs.Meaning.{IsRun, bindings_of, entries_of, first_stage, lines_of}
 use Rattle.lap_word.specs.Clamp.{clamp_of}
 use Rattle.mix_core.specs.declared.port.Entry.{Entry}
 use Rattle.mix_core.specs.Laid.{total}
@@ -15,6 +15,7 @@ use Rattle.lab_shelf.specs.Files.{Files, with_file, TookPart}
 use Rattle.lab_shelf.specs.Changes.{Changes, PartOf}
 use Rattle.dmixlab.specs.declared.output.Output.{Output}
 use Rattle.dmixlab.specs.Input.{SpelledIn, input_in}
+use Rattle.dmixlab.specs.Late.{LateLaysNothing}
 use Rattle.dmixlab.specs.Words.{wav_name}
 
 -- the file of the samples that a card played: the canonical WAV with the card's channels and rate
@@ -34,12 +35,13 @@ pub record IsMixOf (script : Script) (sounds : List Sound) (report : Report) (pl
       ≡ clamp_of (total (laid script sounds report) (report.first + frame) channel)
 
 -- a file's text spells a script, it and its clients' sounds are what the files hold, and a report and the played samples are
--- what the script does with them, and no others are
+-- what the script does with them, and no others are; a line that was answered late laid nothing
 pub record IsSession (files : Option Files) (name : List ℕ) (script : Script) (sounds : List Sound) (report : Report) (played : List ℤ) : Type 0 where
   pub spelled : ForSome files (λ m. SpelledIn m name script)
   pub read : ForSome files (λ m. input_in m name ≡ Ok (record { script = script; sounds = sounds }))
   pub run : IsRun script sounds report played
   pub mix : IsMixOf script sounds report played
+  pub late : LateLaysNothing sounds (first_stage script run.ring run.setups) (lines_of script)
   pub only : (other : Report) (samples : List ℤ) → IsRun script sounds other samples → (other ≡ report) × (samples ≡ played)
 
 -- the name, the file and the text of a run's output
