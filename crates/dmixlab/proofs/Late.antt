@@ -1,16 +1,14 @@
 -- A line that is answered late lays nothing.
-use Rattle.std.proofs.Common.{◌≡◌, ◌≢◌, ◌<◌, ◌≤◌, ◌+◌, ◌-◌, ℕ, zero, suc, sym, ap, ◌∙◌, refl, subst, List, [], ◌∷◌, ◌++◌, map, length, arith}
+use Rattle.std.proofs.Common.{◌≡◌, ◌≤◌, ◌+◌, ◌-◌, ℕ, zero, suc, sym, ap, ◌∙◌, refl, subst, List, [], ◌∷◌, ◌++◌, map, length, arith}
 use Rattle.std.proofs.lemmas.Bool.Decides.{nat_tests}
-use Rattle.std.specs.Prelude.{Bool, true, false, nat_eq, nat_le, nat_lt, ◌&&◌, ◌||◌, min, max, if◌then◌else◌, Option, Some, None, IsOk, Result, Ok, Err, slice_get, slice_index_or, slice_set, ⊤}
+use Rattle.std.specs.Prelude.{Bool, true, false, nat_eq, nat_le, nat_lt, ◌&&◌, ◌||◌, min, if◌then◌else◌, Option, Some, None, IsOk, Result, Ok, Err, slice_get, slice_index_or, slice_set, ⊤}
 use Rattle.std.specs.List.{range_with_len}
 use Rattle.snd_base.specs.declared.errors.PcmError.{PcmError}
 use Rattle.snd_base.specs.declared.errors.PcmError.TheVariants.{BadState, Xrun, Again, NoDevice, Invalid, Busy, NotSupported, LapEnd, Stopped, Memory}
 use Rattle.snd_base.specs.declared.errors.XrunWhy.{XrunWhy}
 use Rattle.snd_base.specs.declared.errors.XrunWhy.TheVariants.{Empty, Already, Avail, Late, Overtaken}
 use Rattle.snd_base.specs.declared.geometry.Geometry.{Geometry}
-use Rattle.snd_base.specs.declared.places.Cursor.{Cursor}
 use Rattle.snd_base.specs.declared.places.Segment.{Segment}
-use Rattle.mix_core.specs.declared.port.Position.{Position}
 use Rattle.pcm_states.specs.declared.states.State.{State}
 use Rattle.pcm_states.specs.declared.states.State.TheVariants.{Disconnected, Draining, Prepared, Running}
 use Rattle.pcm_states.specs.declared.states.State.TheVariants as states
@@ -22,7 +20,7 @@ use Rattle.pcm_states.specs.Table.{Cell, to, ebadfd, enodev, eio, already, start
 use Rattle.dmix_client.specs.declared.commit.Commit.{Commit}
 use Rattle.dmix_client.specs.declared.commit.Ended.TheVariants as ended
 use Rattle.dmix_client.specs.declared.plain.Plain.{Plain}
-use Rattle.dmix_client.specs.Calls.{Answered, accepted, accepted_if, avail_answer, committed_by, delay_answer, dropped, drain_of, drained_on, facts_of, filled, found_at, going_on, going_on_by, has_frames, is_running, is_stop, late_of, nothing_found, over_of, prepared, refusal_of, seen_at, segment_of, settled, start_count, start_of, started, started_in, sync_count, sync_of, synced, taken_of, with_number, writei_of, written_after, written_on}
+use Rattle.dmix_client.specs.Calls.{Answered, accepted, accepted_if, avail_answer, committed_by, delay_answer, dropped, drained_on, facts_of, filled, found_at, going_on, going_on_by, has_frames, is_running, late_of, nothing_found, over_of, prepared, refusal_of, seen_at, settled, start_count, started, started_in, sync_count, synced, taken_of, with_number, written_after, written_on}
 use Rattle.dmix_client.specs.Calls.{draining as draining_of}
 use Rattle.dmix_client.specs.View.{avail_of, is_moving}
 use Rattle.dmix_client.specs.Writes.{count_after}
@@ -35,10 +33,11 @@ use Rattle.lab_script.specs.declared.line.Op.TheVariants as op
 use Rattle.lab_script.specs.declared.script.Script.{Script}
 use Rattle.lab_report.specs.declared.row.Answer.{Answer}
 use Rattle.lab_report.specs.declared.row.Answer.TheVariants.{Done, Count, Failed}
-use Rattle.lab_phase.specs.Lines.{Own, after_call, called, count_answer, counted_of, done_answer, done_of, ended_after, frames_of, laid_in, line_done, refused_or, segments_of, told, unless_refused}
+use Rattle.lab_phase.specs.Lines.{Own, called, counted_of, done_of, ended_after, frames_of, laid_in, refused_or, segments_of, told, unless_refused}
 use Rattle.lab_phase.specs.Meaning.{Stage, client_line, client_row, first_stage, line_by, numbered}
 use Rattle.lab_phase.specs.Opening.{Setup, opened_with}
 use Rattle.lab_phase.specs.Rest.{commit_at, cursor_at, drain_at, resting, start_at, start_commit, sync_at, sync_commit, writei_at}
+use Rattle.dmixlab.proofs.Replies.{if-both}
 use Rattle.dmixlab.specs.Late.{IsLate, LateLaysNothing}
 
 -- an error that tells of a frame that came too late
@@ -50,11 +49,6 @@ IsLateError other = ⊥
 abbrev IsLateIn : {T : Type 0} → Result T PcmError → Type 0
 IsLateIn (Ok x) = ⊥
 IsLateIn (Err e) = IsLateError e
-
--- of two cases, whichever holds
-if-both : {X : Type 0} (P : X → Type 0) (b : Bool) (x y : X) → P x → P y → P (if b then x else y)
-if-both P true x y one other = one
-if-both P false x y one other = other
 
 -- ---- the state table
 

@@ -36,7 +36,7 @@ worded : {T : Type 0} (x : T) → Worded {T = T} (Ok x)
 worded x = record { words = tt }
 
 -- of two cases, whichever holds
-if-both : {X : Type 0} (P : X → Type 0) (b : Bool) (x y : X) → P x → P y → P (if b then x else y)
+pub if-both : {X : Type 0} (P : X → Type 0) (b : Bool) (x y : X) → P x → P y → P (if b then x else y)
 if-both P true x y one other = one
 if-both P false x y one other = other
 
