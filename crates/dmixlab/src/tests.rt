@@ -2,9 +2,12 @@
 // file byte for byte, and the lines on the errors' stream.
 ghost use Rattle.std.specs.Prelude.{◌≤◌, length};
 
+mod sessions;
+
 use crate::top::dmixlab;
 use lab_shelf::{MemoryShelf, MemorySink};
 use mix_core::NeverStops;
+use sessions::{MONO, SESSIONS, Session};
 use std::alloc::{AllocError, Global};
 use std::test::Fail;
 use std::thread::Threads;
@@ -63,22 +66,6 @@ fn samples_of(alloc: Global, runs: &[(u16, i16)]) -> Result<Vec<i16>, AllocError
     Ok(samples)
 }
 
-// What stands in a WAV file between its RIFF size and its data: a format of so many channels at
-// 48,000 Hz,
-const MONO: &[u8] =
-    b"WAVEfmt \x10\x00\x00\x00\x01\x00\x01\x00\x80\xbb\x00\x00\x00\x77\x01\x00\x02\x00\x10\x00";
-
-const STEREO: &[u8] =
-    b"WAVEfmt \x10\x00\x00\x00\x01\x00\x02\x00\x80\xbb\x00\x00\x00\xee\x02\x00\x04\x00\x10\x00";
-
-// the same behind a LIST chunk of three bytes and its pad byte,
-const LISTED: &[u8] =
-    b"WAVELIST\x03\x00\x00\x00abc\x00fmt \x10\x00\x00\x00\x01\x00\x01\x00\x80\xbb\x00\x00\x00\x77\x01\x00\x02\x00\x10\x00";
-
-// and one at 44,100 Hz.
-const SLOWER: &[u8] =
-    b"WAVEfmt \x10\x00\x00\x00\x01\x00\x01\x00\x44\xac\x00\x00\x88\x58\x01\x00\x02\x00\x10\x00";
-
 // A WAV file of what stands before its data, and the samples of runs of equal ones.
 fn wav_of(alloc: Global, head: &[u8], runs: &[(u16, i16)]) -> Result<Vec<u8>, AllocError> {
     let samples = samples_of(alloc, runs)?;
@@ -94,14 +81,6 @@ fn wav_of(alloc: Global, head: &[u8], runs: &[(u16, i16)]) -> Result<Vec<u8>, Al
         bytes.extend_from_slice(&sample.to_le_bytes())?;
     }
     Ok(bytes)
-}
-
-// The line of a card of so many channels, and then these lines.
-fn script_of(alloc: Global, channels: u16, lines: &str) -> Result<Vec<u8>, AllocError> {
-    let text = format!(in alloc;
-        "card channels {channels} rate 48000 period 64 ring 256\n{lines}"
-    )?;
-    Ok(text.into_bytes())
 }
 
 // A shelf's files: the script `s`, and a WAV file for each name.
@@ -121,113 +100,93 @@ fn files_of(
     Ok(files)
 }
 
-// A run: the card's channels, the script behind the card's line, the clients' files, the report, and
-// what is played.
-struct Run<'a> {
-    channels: u16,
-    lines: &'a str,
-    wavs: &'a [(&'a str, &'a [u8], &'a [(u16, i16)])],
-    report: &'a str,
-    played: &'a [(u16, i16)],
+// Appends the lines of a phase.
+fn push_phase(text: &mut String, lines: &[(&str, &str)]) -> Result<(), AllocError> {
+    text.push_str("phase\n")?;
+    for (line, _) in lines {
+        writeln!(text, "{line}")?;
+    }
+    text.push_str("end\n")
 }
 
-const RUNS: [Run<'static>; 7] = [
-    // One client, whose frames stand one period behind the position at which it began.
-    Run {
-        channels: 1,
-        lines: "client a a.wav\nopen a\nphase\na write 64\nend\nphase\ncard play 256\nend\n",
-        wavs: &[("a.wav", MONO, &[(32, 1000), (31, -2000), (1, 7)])],
-        report: "dmixlab 1\n0 a open = ok PREPARED -\n1 a write 64 = 64 RUNNING 0\n2 card play 256 = 256 RUNNING 256\nsegment a 0 64 64 0\nplayed 0 256\nend\n",
-        played: &[(64, 0), (32, 1000), (31, -2000), (1, 7), (128, 0)],
-    },
-    // No client, and nothing played.
-    Run {
-        channels: 1,
-        lines: "phase\ncard play 0\nend\n",
-        wavs: &[],
-        report: "dmixlab 1\n1 card play 0 = 0 RUNNING 0\nplayed 0 0\nend\n",
-        played: &[],
-    },
-    // The sum is cut once: 30000 + 10000 - 20000 is 20000.
-    Run {
-        channels: 1,
-        lines: "client a a.wav\nclient b b.wav\nclient c c.wav\nopen a\nopen b\nopen c\nphase\na write 1\nend\nphase\nb write 1\nend\nphase\nc write 1\nend\nphase\ncard play 65\nend\n",
-        wavs: &[
-            ("a.wav", MONO, &[(1, 30000)]),
-            ("b.wav", MONO, &[(1, 10000)]),
-            ("c.wav", MONO, &[(1, -20000)]),
-        ],
-        report: "dmixlab 1\n0 a open = ok PREPARED -\n0 b open = ok PREPARED -\n0 c open = ok PREPARED -\n1 a write 1 = 1 RUNNING 0\n2 b write 1 = 1 RUNNING 0\n3 c write 1 = 1 RUNNING 0\n4 card play 65 = 65 RUNNING 65\nsegment a 0 64 1 0\nsegment b 0 64 1 0\nsegment c 0 64 1 0\nplayed 0 65\nend\n",
-        played: &[(64, 0), (1, 20000)],
-    },
-    // 30000 + 10000 is cut to 32767.
-    Run {
-        channels: 1,
-        lines: "client a a.wav\nclient b b.wav\nopen a\nopen b\nphase\na write 64\nend\nphase\nb write 64\nend\nphase\ncard play 128\nend\n",
-        wavs: &[
-            ("a.wav", MONO, &[(64, 30000)]),
-            ("b.wav", MONO, &[(64, 10000)]),
-        ],
-        report: "dmixlab 1\n0 a open = ok PREPARED -\n0 b open = ok PREPARED -\n1 a write 64 = 64 RUNNING 0\n2 b write 64 = 64 RUNNING 0\n3 card play 128 = 128 RUNNING 128\nsegment a 0 64 64 0\nsegment b 0 64 64 0\nplayed 0 128\nend\n",
-        played: &[(64, 0), (64, 32767)],
-    },
-    // A write takes what the ring holds, and commits what fits between its start and the ring's end.
-    Run {
-        channels: 1,
-        lines: "client a a.wav\nopen a\nphase\na write 300\nend\nphase\ncard play 256\nend\n",
-        wavs: &[("a.wav", MONO, &[(191, 5), (1, 6), (108, 7)])],
-        report: "dmixlab 1\n0 a open = ok PREPARED -\n1 a write 300 = 256 RUNNING 0\n2 card play 256 = 256 RUNNING 256\nsegment a 0 64 192 0\nplayed 0 256\nend\n",
-        played: &[(64, 0), (191, 5), (1, 6)],
-    },
-    // A client's channel is the card's of the same number: the mono client is in channel 0 alone.
-    Run {
-        channels: 2,
-        lines: "client a a.wav\nclient b b.wav\nopen a\nopen b\nphase\na write 2\nend\nphase\nb write 3\nend\nphase\ncard play 67\nend\n",
-        wavs: &[
-            (
-                "a.wav",
-                STEREO,
-                &[(1, 1000), (1, -2000), (1, 32000), (1, 4)],
-            ),
-            ("b.wav", MONO, &[(1, 10), (1, 900), (1, 30)]),
-        ],
-        report: "dmixlab 1\n0 a open = ok PREPARED -\n0 b open = ok PREPARED -\n1 a write 2 = 2 RUNNING 0\n2 b write 3 = 3 RUNNING 0\n3 card play 67 = 67 RUNNING 67\nsegment a 0 64 2 0\nsegment b 0 64 3 0\nplayed 0 67\nend\n",
-        played: &[
-            (128, 0),
-            (1, 1010),
-            (1, -2000),
-            (1, 32767),
-            (1, 4),
-            (1, 30),
-            (1, 0),
-        ],
-    },
-    // A chunk that isn't known is skipped.
-    Run {
-        channels: 1,
-        lines: "client a a.wav\nopen a\nphase\na write 2\nend\nphase\ncard play 66\nend\n",
-        wavs: &[("a.wav", LISTED, &[(1, 5), (1, -6)])],
-        report: "dmixlab 1\n0 a open = ok PREPARED -\n1 a write 2 = 2 RUNNING 0\n2 card play 66 = 66 RUNNING 66\nsegment a 0 64 2 0\nplayed 0 66\nend\n",
-        played: &[(64, 0), (1, 5), (1, -6)],
-    },
-];
+// Appends the lines of the clients and of their openings.
+fn push_clients(text: &mut String, clients: &[(&str, &str, &str)]) -> Result<(), AllocError> {
+    for (name, file, _) in clients {
+        writeln!(text, "client {name} {file}")?;
+    }
+    for (name, _, _) in clients {
+        writeln!(text, "open {name}")?;
+    }
+    Ok(())
+}
+
+// The script of a session.
+fn script_of(alloc: Global, session: &Session<'_>) -> Result<Vec<u8>, AllocError> {
+    let mut text = String::new(alloc);
+    writeln!(text, "{}", session.card)?;
+    push_clients(&mut text, session.clients)?;
+    for phase in session.phases {
+        push_phase(&mut text, phase)?;
+    }
+    Ok(text.into_bytes())
+}
+
+// Appends the rows of the phase of this number.
+fn push_rows(text: &mut String, number: usize, lines: &[(&str, &str)]) -> Result<(), AllocError> {
+    for (line, answer) in lines {
+        writeln!(text, "{number} {line} = {answer}")?;
+    }
+    Ok(())
+}
+
+// Appends the rows of the openings.
+fn push_opens(text: &mut String, clients: &[(&str, &str, &str)]) -> Result<(), AllocError> {
+    for (name, _, answer) in clients {
+        writeln!(text, "0 {name} open = {answer}")?;
+    }
+    Ok(())
+}
+
+// The report that a session is to leave.
+fn report_of(alloc: Global, session: &Session<'_>) -> Result<Vec<u8>, AllocError> {
+    let mut text = String::new(alloc);
+    text.push_str("dmixlab 1\n")?;
+    push_opens(&mut text, session.clients)?;
+    let mut number = 0usize;
+    for phase in session.phases {
+        number = number.wrapping_add(1);
+        push_rows(&mut text, number, phase)?;
+    }
+    for line in session.tail {
+        writeln!(text, "{line}")?;
+    }
+    text.push_str("end\n")?;
+    Ok(text.into_bytes())
+}
+
+// Bytes as a text, which is empty where they are none.
+fn text_in(bytes: &[u8]) -> &str {
+    str::from_utf8(bytes).unwrap_or("")
+}
 
 #[test]
-fn runs_leave_their_report_and_file(rt: HostRuntime) -> Result<(), Fail> {
+fn sessions_leave_their_report_and_file(rt: HostRuntime) -> Result<(), Fail> {
     let alloc = rt.alloc();
-    for run in &RUNS {
-        let script = script_of(alloc, run.channels, run.lines)?;
-        let files = files_of(alloc, script, run.wavs)?;
+    for session in &SESSIONS {
+        let script = script_of(alloc, session)?;
+        let report = report_of(alloc, session)?;
+        let file = wav_of(alloc, session.head, session.played)?;
+        let files = files_of(alloc, script, session.wavs)?;
         let left = call(&rt, alloc, &["run", "s", "o"], files, (&[], &[]))?;
-        assert_eq!(rt; left.status, 0, "{}", run.lines);
-        assert_eq!(rt; left.out.bytes(), run.report.as_bytes(), "{}", run.lines);
-        let head = if run.channels == 1 { MONO } else { STEREO };
-        let file = wav_of(alloc, head, run.played)?;
+        let told = text_in(left.out.bytes());
+        let wanted = text_in(&report);
+        assert_eq!(rt; left.status, 0, "{}", session.name);
+        assert_eq!(rt; told, wanted, "{}", session.name);
         assert_eq!(rt;
             left.shelf.file(b"o.wav").unwrap_or(&[]),
             file.as_slice(),
             "{}",
-            run.lines
+            session.name
         );
         assert!(rt; left.errors.bytes().is_empty());
     }
@@ -240,7 +199,7 @@ fn sixty_four_clients_are_cut_once(rt: HostRuntime) -> Result<(), Fail> {
     let alloc = rt.alloc();
     let mut lines = String::new(alloc);
     let mut rows = String::new(alloc);
-    let mut wavs = Vec::new(alloc);
+    lines.push_str("card channels 1 rate 48000 period 64 ring 256\n")?;
     for k in 0u8..64 {
         writeln!(lines, "client c{k} a.wav")?;
         writeln!(rows, "0 c{k} open = ok PREPARED -")?;
@@ -257,8 +216,11 @@ fn sixty_four_clients_are_cut_once(rt: HostRuntime) -> Result<(), Fail> {
     for k in 0u8..64 {
         writeln!(rows, "segment c{k} 0 64 64 0")?;
     }
-    wavs.push(("a.wav", MONO, [(64, -32768)].as_slice()))?;
-    let files = files_of(alloc, script_of(alloc, 1, lines.as_str())?, &wavs)?;
+    let files = files_of(
+        alloc,
+        lines.into_bytes(),
+        &[("a.wav", MONO, &[(64, -32768)])],
+    )?;
     let left = call(&rt, alloc, &["run", "s", "o"], files, (&[], &[]))?;
     assert_eq!(rt; left.status, 0);
     let report = format!(in alloc; "dmixlab 1\n{rows}played 0 128\nend\n")?;
@@ -286,10 +248,11 @@ const NINE_CHANNELS: &str = "card channels 9 rate 48000 period 64 ring 256\n";
 const EMPTY_FILE: &str =
     "card channels 1 rate 48000 period 64 ring 256\nclient a a.wav\nclient b none\nopen a\nopen b\n";
 
-const OTHER_RATE: &str = "card channels 2 rate 48000 period 64 ring 256\nclient a slower\nopen a\n";
+const TWICE_BOUND: &str =
+    "card channels 2 rate 48000 period 64 ring 256\nclient a a.wav bindings 0,0\nopen a\n";
 
-const TOO_WIDE: &str =
-    "card channels 1 rate 48000 period 64 ring 256\nclient a stereo\nclient b none\nopen a\nopen b\n";
+const TWO_ACTORS: &str =
+    "card channels 1 rate 48000 period 64 ring 256\nclient a a.wav\nopen a\nphase\na sync\ncard play 1\nend\n";
 
 const REFUSALS: [Refusal<'static>; 11] = [
     Refusal {
@@ -322,17 +285,17 @@ const REFUSALS: [Refusal<'static>; 11] = [
     },
     Refusal {
         words: &["run", "s", "o"],
-        script: OTHER_RATE,
+        script: TWICE_BOUND,
         failing: (&[], &[]),
-        status: 3,
-        line: "dmixlab: wav slower: NotYet\n",
+        status: 2,
+        line: "dmixlab: script line 2: NotYet\n",
     },
     Refusal {
         words: &["run", "s", "o"],
-        script: TOO_WIDE,
+        script: TWO_ACTORS,
         failing: (&[], &[]),
-        status: 3,
-        line: "dmixlab: wav stereo: NotYet\n",
+        status: 2,
+        line: "dmixlab: script line 6: NotYet\n",
     },
     Refusal {
         words: &["run", "t", "o"],
@@ -371,11 +334,7 @@ const REFUSALS: [Refusal<'static>; 11] = [
     },
 ];
 
-const CLIENTS: &[(&str, &[u8], &[(u16, i16)])] = &[
-    ("a.wav", MONO, &[(64, 1000)]),
-    ("slower", SLOWER, &[(64, 1000)]),
-    ("stereo", STEREO, &[(64, 1000)]),
-];
+const CLIENTS: &[(&str, &[u8], &[(u16, i16)])] = &[("a.wav", MONO, &[(64, 1000)])];
 
 #[test]
 fn calls_that_are_not_done_say_why(rt: HostRuntime) -> Result<(), Fail> {
