@@ -1,6 +1,9 @@
 mod Texts
 mod Sounds
+mod Replies
 mod Sessions
+mod Late
+mod Only
 mod Outputs
 mod Commands
 mod Ends

@@ -1,14 +1,14 @@
 -- What a call of the program leaves and when each exit status comes.
-use Rattle.std.specs.Prelude.{◌≡◌, ◌≢◌, ◌⊎◌, ◌++◌, ℕ, List, Option, Some, None, IsSome, Result, Ok, Err}
-use Rattle.std.specs.Option.{option_map}
+use Rattle.std.specs.Prelude.{◌≡◌, ◌≢◌, ◌⊎◌, ◌++◌, ℕ, List, Option, Some, None, IsSome, Result, Ok, Err, ⊤}
+use Rattle.std.specs.Option.{ForSome, option_map}
 use Rattle.lab_script.specs.declared.error.ScriptError.{ScriptError}
 use Rattle.wav_io.specs.declared.error.WavError.{WavError}
 use Rattle.lab_shelf.specs.Files.{Files, TookPart}
 use Rattle.dmixlab.specs.declared.stop.Stop.{Stop}
 use Rattle.dmixlab.specs.declared.stop.Stop.TheVariants as stops
 use Rattle.dmixlab.specs.Words.{Form, run, refine, help, version, form_of, help_text, version_text}
-use Rattle.dmixlab.specs.Input.{Cause, missing, script_refused, wav_refused, input_in}
-use Rattle.dmixlab.specs.Run.{Finished, Unfinished, Untouched}
+use Rattle.dmixlab.specs.Input.{Cause, Input, missing, script_refused, wav_refused, input_in}
+use Rattle.dmixlab.specs.Run.{Finished, IsOnlyRun, Unfinished, Untouched}
 use Rattle.dmixlab.specs.Refine.Command.{request_in, Answered, AnsweredPart}
 
 -- why a result is none
@@ -82,9 +82,19 @@ PartIn (Some (refine text)) before after taken told = AnsweredPart text before a
 PartIn (Some help) before after taken told = ToldPart help_text before after taken told
 PartIn (Some version) before after taken told = ToldPart version_text before after taken told
 
+-- what a command leaves that is done is the only thing that it can leave: a run of a script has one report and one file
+abbrev pub OnlyIn : Option Form → Option Files → Option Files → Option (List ℕ) → Option (List ℕ) → Type 0
+OnlyIn (Some (run script out)) before after taken told =
+    ForSome before (λ files. (input : Input) → input_in files script ≡ Ok input → IsOnlyRun script out files after taken told input.script input.sounds)
+OnlyIn other before after taken told = ⊤
+
 -- what a call leaves with status 0
 abbrev pub Headline : List (List ℕ) → Option Files → Option Files → Option (List ℕ) → Option (List ℕ) → Type 0
 Headline words before after taken told = DoneIn (form_of words) before after taken told
+
+-- what a call leaves with status 0 is the one report and the one file of the script and the files that it read
+abbrev pub IsExact : List (List ℕ) → Option Files → Option Files → Option (List ℕ) → Option (List ℕ) → Type 0
+IsExact words before after taken told = OnlyIn (form_of words) before after taken told
 
 -- what a call leaves with another status: nothing was written, or, with 5 or 6, it ended in its output
 abbrev pub IsLeft : ℕ → List (List ℕ) → Option Files → Option Files → Option (List ℕ) → Option (List ℕ) → Type 0

@@ -6,7 +6,7 @@ ghost use Rattle.dmixlab.specs.Words.{form_of, run, texts};
 ghost use Rattle.dmixlab.specs.Input.{input_in};
 ghost use Rattle.dmixlab.specs.Stops.{EndsOf, EndsReliably, InputFaults, IsReadStop, OutputFaults, Refuses};
 ghost use Rattle.dmixlab.specs.Run.{IsReady};
-ghost use Rattle.dmixlab.specs.Top.{cause, cause_in, ComesExactly, EndsWell, Headline, IsLeft, IsMissing, IsScriptRefused, IsValid, IsWavRefused, Leaves};
+ghost use Rattle.dmixlab.specs.Top.{cause, cause_in, ComesExactly, EndsWell, Headline, IsExact, IsLeft, IsMissing, IsScriptRefused, IsValid, IsWavRefused, Leaves};
 
 use crate::load::load;
 use crate::output::{Output, prepare, put, write};
@@ -35,12 +35,10 @@ use std::thread::Threads;
 ///
 /// - 1: the words are none of these;
 /// - 2: the script has more than 1,048,576 bytes, or isn't a script as `lab_script::read_script`
-///   reads it, in the short form: a card of 1 to 8 channels, clients that are all opened before the
-///   first phase, and phases of one line, a `write` or a `card play`; or TEXT has more bytes than
-///   that, or a line that can't stand in it;
-/// - 3: a client's file isn't a WAV file of 16-bit PCM, isn't at the card's rate, has more channels
-///   than the card, has more than 67,108,864 bytes, or is the one with which the files of all clients
-///   so far, each counted as often as a client names it, have more than 268,435,456 bytes;
+///   reads it; or TEXT has more bytes than that, or a line that can't stand in it;
+/// - 3: a client's file isn't a WAV file of 16-bit PCM, has more than 67,108,864 bytes, or is the one
+///   with which the files of all clients so far, each counted as often as a client names it, have
+///   more than 268,435,456 bytes;
 /// - 4: a file can't be read, as where there is none of its name;
 /// - 5: `OUT.wav` can't be stored, or the text can't be put;
 /// - 6: memory ran out.
@@ -49,8 +47,13 @@ use std::thread::Threads;
 /// in the order of the clients' lines, `OUT.wav`, the text. Over a reliable shelf and a reliable `out`
 /// 4 comes only where a file isn't there, and 5 never.
 ///
+/// A client whose file the card can't play, by its rate or its number of channels, or whose bindings
+/// are not as many as its file has channels, is no cause of a status: its opening is answered EINVAL
+/// in the report, and each of its lines EBADFD.
+///
 /// With status 0 `OUT.wav` holds the canonical WAV file of what the card played, at the card's rate
-/// and with its channels (a client's channel is the card's of the same number), and `out` took the
+/// and with its channels: each channel of each frame is the sum of exactly the samples that the
+/// report's segments laid there, cut once into the range of a sample. `out` took the
 /// whole report. With 1 to 4 no file changed and `out` took nothing. With 5 and 6 that is so, or
 /// `OUT.wav` holds the first bytes of what it was to hold, or all, or is as it was, no other file
 /// changed, and `out` took the first bytes of the text. `refine` changes no file: with status 0 `out`
@@ -70,6 +73,10 @@ pub fn dmixlab<R: Threads + Sync, S: Shelf, K: Sink, E: Sink, G: Gate + Send>(
 
     // With status 0 the files and the text on `out` are those of a run of what the words name.
     ensures headline { result ≡ 0 → Headline (texts words.now)
+        (S.files shelf.old) (S.files shelf.new) (K.taken out.old) (K.taken out.new) }
+
+    // They are the one report and the one file of the script and its clients' files.
+    ensures exact { result ≡ 0 → IsExact (texts words.now)
         (S.files shelf.old) (S.files shelf.new) (K.taken out.old) (K.taken out.new) }
 
     // The gates that were handed in aren't asked.

@@ -11,8 +11,7 @@ use lab_script::Script;
 use std::alloc::Global;
 use wav_io::Wav;
 
-/// Runs a script on the samples of its clients' files, which are as many and have no more channels
-/// than the card.
+/// Runs a script on the samples of its clients' files, one for each client in the order of their lines.
 pub(crate) fn work(alloc: Global, script: &Script, wavs: &[Wav]) -> Result<Outcome, Stop>
     requires script { IsScript script.now }
     requires files { AreFiles script.now wavs.now }

@@ -1,6 +1,12 @@
+use Rattle.std.proofs.Common.{sym, ◌∙◌}
 use Rattle.dmixlab.specs.Words.{form_of, texts}
 use Rattle.dmixlab.proofs.Ends.{status_of-script, status_of-wav, status_of-reliable}
+use Rattle.dmixlab.proofs.Only.{DoneIn-only}
 use Rattle.dmixlab.proofs.top.dmixlab.Goals as goal
+
+pub returns-clause-exact : goal.returns-clause-exact
+returns-clause-exact g c zero =
+    DoneIn-only c.command-end.result (form_of (texts c.args.words.now)) _ _ _ _ c.command-end.ensures.leaves (sym c.status.ensures ∙ zero)
 
 pub returns-clause-script : goal.returns-clause-script
 returns-clause-script g c files told =

@@ -1,4 +1,5 @@
 use Rattle.dmixlab.proofs.Commands.{IsReadStop-read}
+use Rattle.dmixlab.proofs.Only.{IsSession-made}
 use Rattle.dmixlab.proofs.Outputs.{IsReady-made}
 use Rattle.dmixlab.proofs.top.make.Goals as goal
 
@@ -10,4 +11,5 @@ pub returns-clause-ready : goal.returns-clause-ready
 returns-clause-ready g c =
     IsReady-made _ _ _ c.in_ok-loaded.loaded.script c.in_ok-loaded.loaded.wavs.items c.in_ok-outcome.outcome.report
     c.in_ok-outcome.outcome.played.items c.prepare.result
-    (record { spelled = c.in_ok-loaded.ensures.spelled; read = c.in_ok-loaded.ensures.input; run = rw c.deref.ensures.value at c.in_ok-outcome.ensures.run }) c.prepare.ensures.output
+    (IsSession-made _ _ _ _ _ _ c.in_ok-loaded.ensures.spelled c.in_ok-loaded.ensures.input
+    (rw c.deref.ensures.value at c.in_ok-outcome.ensures.run)) c.prepare.ensures.output
