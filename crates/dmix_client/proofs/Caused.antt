@@ -1,6 +1,6 @@
 -- Which errors a sync and a start answer, and why.
 use Rattle.std.proofs.Common.{◌≡◌, ℕ, ◌∙◌, ap, refl, [], ◌∷◌}
-use Rattle.std.specs.Prelude.{Bool, true, false, ◌↔◌, nat_eq, if◌then◌else◌, Option, Some, None, Result, Ok, Err}
+use Rattle.std.specs.Prelude.{IfErr, Bool, true, false, ◌↔◌, nat_eq, if◌then◌else◌, Option, Some, None, Result, Ok, Err}
 use Rattle.snd_base.specs.declared.errors.PcmError.{PcmError}
 use Rattle.snd_base.specs.declared.errors.PcmError.TheVariants.{LapEnd, NoDevice, Stopped, Xrun}
 use Rattle.snd_base.specs.declared.errors.XrunWhy.TheVariants.{Avail, Late}
@@ -12,6 +12,7 @@ use Rattle.pcm_states.specs.declared.calls.Facts.{Facts}
 use Rattle.pcm_states.specs.Table.{draining, first_of, moving, next_of, outcome_of, still_draining}
 use Rattle.dmix_client.specs.declared.commit.Ended.{Ended}
 use Rattle.dmix_client.specs.declared.commit.Ended.TheVariants as ended
+use Rattle.dmix_client.specs.Causes.{IsOfSteps}
 use Rattle.dmix_client.specs.Calls.{is_stop, late_at}
 use Rattle.dmix_client.specs.Port.{IsStep}
 
@@ -21,6 +22,7 @@ pub record Says (answer : Result (Unit {0}) PcmError) (gone : Bool) (over : Opti
   pub reached : (a f : ℕ) → (answer ≡ Err (Xrun (Avail a f))) ↔ ((gone ≡ false) × (over ≡ Some (a, f)))
   pub late : (f c word : ℕ) → answer ≡ Err (Xrun (Late f c word)) → (e ≡ ended.Late word) × (f ≡ frame) × (c ≡ channel)
   pub never : answer ≡ Err LapEnd → ⊥
+  pub of_steps : IfErr answer IsOfSteps
 
 -- nothing was to be laid where the card is gone or the threshold reached
 pub record IsPlain (gone : Bool) (over : Option (ℕ × ℕ)) (e : Ended) : Type 0 where
@@ -33,6 +35,7 @@ says-gone over e frame channel = record {
   reached = λ a f. (λ h. cc, λ h. let x = h.0 in cc);
   late = λ f c word h. cc;
   never = λ h. cc;
+  of_steps = tt;
 }
 
 abbrev pub number_in : Option (ℕ × ℕ) → ℕ
@@ -55,6 +58,7 @@ says-over x y e frame channel = record {
   reached = λ a f. (λ h. (refl, pair-same x y a f (cc) (cc)), λ h. xrun-same x y a f (ap (λ o. number_in o) h.1) (ap (λ o. frame_in o) h.1));
   late = λ f c word h. cc;
   never = λ h. cc;
+  of_steps = tt;
 }
 
 pub says-late : (word frame channel : ℕ) → Says (Err (Xrun (Late frame channel word))) false None (ended.Late word) frame channel
@@ -63,6 +67,7 @@ says-late word frame channel = record {
   reached = λ a f. (λ h. cc, λ h. let z = h.1 in cc);
   late = λ f c w h. (cc, cc, cc);
   never = λ h. cc;
+  of_steps = tt;
 }
 
 -- any other answer
@@ -71,6 +76,7 @@ pub record IsOther (answer : Result (Unit {0}) PcmError) : Type 0 where
   pub below : (a f : ℕ) → answer ≡ Err (Xrun (Avail a f)) → ⊥
   pub in_time : (f c word : ℕ) → answer ≡ Err (Xrun (Late f c word)) → ⊥
   pub never : answer ≡ Err LapEnd → ⊥
+  pub of_steps : IfErr answer IsOfSteps
 
 pub says-other : (answer : Result (Unit {0}) PcmError) (e : Ended) (frame channel : ℕ) → IsOther answer → Says answer false None e frame channel
 says-other answer e frame channel other = record {
@@ -78,17 +84,18 @@ says-other answer e frame channel other = record {
   reached = λ a f. (λ h. absurd (other.below a f h), λ h. let z = h.1 in cc);
   late = λ f c word h. absurd (other.in_time f c word h);
   never = λ h. other.never h;
+  of_steps = other.of_steps;
 }
 
 pub other-ok : IsOther (Ok tt)
-other-ok = record { here = λ h. cc; below = λ a f h. cc; in_time = λ f c word h. cc; never = λ h. cc }
+other-ok = record { here = λ h. cc; below = λ a f h. cc; in_time = λ f c word h. cc; never = λ h. cc; of_steps = tt }
 
 pub other-stopped : IsOther (Err Stopped)
-other-stopped = record { here = λ h. cc; below = λ a f h. cc; in_time = λ f c word h. cc; never = λ h. cc }
+other-stopped = record { here = λ h. cc; below = λ a f h. cc; in_time = λ f c word h. cc; never = λ h. cc; of_steps = tt }
 
 other-still : (call : Call) → IsStep Draining call → IsOther (still_draining call).answer
 other-still call.Sync step = other-ok
-other-still call.Drain step = record { here = λ h. cc; below = λ a f h. cc; in_time = λ f c word h. cc; never = λ h. cc }
+other-still call.Drain step = record { here = λ h. cc; below = λ a f h. cc; in_time = λ f c word h. cc; never = λ h. cc; of_steps = tt }
 other-still call step = absurd step
 
 other-played : (call : Call) (played : Bool) → IsStep Draining call → IsOther (first_of ((if played then Some (record { state = Setup; answer = Ok tt }) else None) ∷ []) (still_draining call)).answer

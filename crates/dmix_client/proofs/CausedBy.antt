@@ -1,7 +1,7 @@
 -- Why a sync and a start answered an error, by the position that they loaded.
 use Rattle.std.proofs.Common.{◌≡◌, ℕ, ◌+◌, ◌≤◌, ◌∙◌, ap, sym, refl, subst, arith, List, [], ◌∷◌, length}
 use Rattle.std.proofs.lemmas.Bool.Decides.{nat_tests}
-use Rattle.std.specs.Prelude.{Bool, true, false, ◌&&◌, ◌||◌, ◌↔◌, nat_le, if◌then◌else◌, Option, Some, None, IfSome, is_some, Result, Ok, Err}
+use Rattle.std.specs.Prelude.{IfNone, Bool, true, false, ◌&&◌, ◌||◌, ◌↔◌, nat_le, if◌then◌else◌, Option, Some, None, IfSome, is_some, Result, Ok, Err}
 use Rattle.std.specs.Option.{option_to_list}
 use Rattle.snd_base.specs.declared.errors.PcmError.{PcmError}
 use Rattle.snd_base.specs.declared.errors.PcmError.TheVariants.{LapEnd, NoDevice, Stopped, Xrun}
@@ -37,6 +37,11 @@ channel-same at d x ends =
     ap (λ (n : ℕ). end_channel at (record x { part = n })) (sym ends.part)
     ∙ ap (λ (b : List ℕ). end_channel (record at { bindings = b }) (record x { part = d.part })) (sym ends.bindings)
 
+-- what is told where nothing was loaded
+pub if-none : {X : Type 0} (o : Option X) {P Q : Type 0} → (P → Q) → IfNone o P → IfNone o Q
+if-none None follows told = follows told
+if-none (Some x) follows told = tt
+
 late-past : (e : Ended) (word : ℕ) (P : ℕ → Type 0) → e ≡ ended.Late word → OnLate e P → P word
 late-past e word P is late = subst (λ (x : Ended). OnLate x P) is late
 
@@ -58,6 +63,8 @@ module _ {S : Type 0} (loaded : S → S → List Position → Type 0) (geometry 
   caused-some c at d position x over answer says reaches ends shown loaded_it = record {
     load = Some position;
     loaded_it = loaded_it;
+    unless_stopped = tt;
+    of_steps = says.of_steps;
     no_device = says.no_device;
     reached = λ a f. (λ h. (reaches a f).0 ((says.reached a f).0 h), λ h. (says.reached a f).1 ((reaches a f).1 h));
     late = λ frame channel word h.
@@ -71,6 +78,8 @@ module _ {S : Type 0} (loaded : S → S → List Position → Type 0) (geometry 
   caused-none c d loaded_it = record {
     load = None;
     loaded_it = loaded_it;
+    unless_stopped = refl;
+    of_steps = tt;
     no_device = (λ h. cc, λ h. absurd h);
     reached = λ a f. (λ h. cc, λ h. absurd h);
     late = λ frame channel word h. cc;
@@ -83,6 +92,8 @@ module _ {S : Type 0} (loaded : S → S → List Position → Type 0) (geometry 
   caused-number c number (d, Ok done) why = record {
     load = why.load;
     loaded_it = why.loaded_it;
+    unless_stopped = if-none why.load (λ h. absurd (cc)) why.unless_stopped;
+    of_steps = tt;
     no_device = (λ h. cc, λ h. let x = why.no_device.1 h in cc);
     reached = λ a f. (λ h. cc, λ h. let x = (why.reached a f).1 h in cc);
     late = λ frame channel word h. cc;
@@ -91,6 +102,8 @@ module _ {S : Type 0} (loaded : S → S → List Position → Type 0) (geometry 
   caused-number c number (d, Err e) why = record {
     load = why.load;
     loaded_it = why.loaded_it;
+    unless_stopped = if-none why.load (λ h. number-error e Stopped h) why.unless_stopped;
+    of_steps = why.of_steps;
     no_device = (λ h. why.no_device.0 (again e NoDevice h), λ h. number-error e NoDevice (why.no_device.1 h));
     reached = λ a f. (λ h. (why.reached a f).0 (again e (Xrun (Avail a f)) h), λ h. number-error e (Xrun (Avail a f)) ((why.reached a f).1 h));
     late = λ frame channel word h. why.late frame channel word (again e (Xrun (Late frame channel word)) h);

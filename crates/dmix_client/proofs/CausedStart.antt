@@ -20,7 +20,7 @@ use Rattle.dmix_client.specs.Calls.{Answered, accepted_if, committed_by, end_cha
 use Rattle.dmix_client.specs.Causes.{IsCaused, Reaches}
 use Rattle.dmix_client.specs.Port.{OnLate}
 use Rattle.dmix_client.proofs.Caused.{Says, other-ok, other-stopped, says-late, says-other}
-use Rattle.dmix_client.proofs.CausedBy.{EndsAt, caused-none, caused-number, caused-some}
+use Rattle.dmix_client.proofs.CausedBy.{EndsAt, caused-none, caused-number, caused-some, if-none}
 
 none-reached : (c : Plain) (position : Position) (a f : ℕ) → c.state ≡ Prepared → ((position.gone ≡ false) × ((let o : Option (ℕ × ℕ) = None in o) ≡ Some (a, f))) ↔ Reaches c (Some position) a f
 none-reached c position a f waits = (λ h. let x = h.1 in cc, λ h. let x = h.1 in cc)
@@ -67,6 +67,8 @@ module _ {S : Type 0} (loaded : S → S → List Position → Type 0) (geometry 
   caused-gone c d position waits gone loaded_it = record {
     load = Some position;
     loaded_it = loaded_it;
+    unless_stopped = tt;
+    of_steps = tt;
     no_device = (λ h. gone, λ h. refl);
     reached = λ a f. (λ h. cc, λ h. let x = h.1 in cc);
     late = λ frame channel word h. cc;
@@ -103,6 +105,8 @@ module _ {S : Type 0} (loaded : S → S → List Position → Type 0) (geometry 
   caused-accepted c m (d, Ok done) why = record {
     load = why.load;
     loaded_it = why.loaded_it;
+    unless_stopped = if-none why.load (λ h. absurd (cc)) why.unless_stopped;
+    of_steps = tt;
     no_device = (λ h. cc, λ h. let x = why.no_device.1 h in cc);
     reached = λ a f. (λ h. cc, λ h. let x = (why.reached a f).1 h in cc);
     late = λ frame channel word h. cc;

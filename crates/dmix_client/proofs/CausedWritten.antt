@@ -1,7 +1,6 @@
 -- Why a write answered an error: by the position that it loaded, and by where its commits ended.
-use Rattle.std.proofs.Common.{◌≡◌, ℕ, ap, refl, subst, sym, List, [], inl, inr, length}
-use Rattle.std.proofs.lemmas.Bool.{cases_Bool}
-use Rattle.std.specs.Prelude.{ℤ, Bool, true, false, ◌&&◌, if◌then◌else◌, nat_eq, nat_lt, Option, Some, None, IfSome, OnErr, Result, Ok, Err}
+use Rattle.std.proofs.Common.{◌≡◌, ℕ, ap, refl, subst, sym, List, length}
+use Rattle.std.specs.Prelude.{Bool, true, false, ◌&&◌, if◌then◌else◌, nat_eq, nat_lt, Option, Some, None, IfSome, OnErr, Result, Ok, Err}
 use Rattle.std.specs.Option.{option_to_list}
 use Rattle.snd_base.specs.declared.errors.PcmError.{PcmError}
 use Rattle.snd_base.specs.declared.errors.PcmError.TheVariants.{Again, Stopped, Xrun}
@@ -9,7 +8,6 @@ use Rattle.snd_base.specs.declared.errors.XrunWhy.{XrunWhy}
 use Rattle.snd_base.specs.declared.errors.XrunWhy.TheVariants as why
 use Rattle.snd_base.specs.declared.geometry.Geometry.{Geometry}
 use Rattle.snd_base.specs.declared.places.Cursor.{Cursor}
-use Rattle.mix_core.specs.declared.port.Entry.{Entry}
 use Rattle.mix_core.specs.declared.port.Position.{Position}
 use Rattle.mix_core.specs.Port.{IsPast}
 use Rattle.pcm_states.specs.declared.states.State.{State}
@@ -22,11 +20,11 @@ use Rattle.dmix_client.specs.declared.commit.Ended.TheVariants as ended
 use Rattle.dmix_client.specs.declared.plain.Plain.{Plain}
 use Rattle.dmix_client.specs.Calls.{Answered, accepted, accepted_if, committed_by, end_channel, end_of_commit, facts_of, filled, is_stop, late_of, over_of, seen_at, started, started_in, sync_count, synced, taken_of, written_on}
 use Rattle.dmix_client.specs.Causes.{IsCaused}
-use Rattle.dmix_client.specs.Port.{IsFound, IsStep, OnLate, TakesStep}
+use Rattle.dmix_client.specs.Port.{IsFound, IsStep, OnLate}
 use Rattle.dmix_client.specs.View.{avail_of, queued_of}
 use Rattle.dmix_client.specs.Writes.{starts_with}
 use Rattle.dmix_client.proofs.Advances.{written_by}
-use Rattle.dmix_client.proofs.CausedBy.{EndsAt, IsCaused-synced, caused-number, missed-of}
+use Rattle.dmix_client.proofs.CausedBy.{EndsAt, IsCaused-synced, caused-number, if-none, missed-of}
 use Rattle.dmix_client.proofs.CausedStart.{IsCaused-started, caused-accepted}
 
 -- the table refuses a late frame of a stream that runs
@@ -67,6 +65,8 @@ module _ {S : Type 0} (loaded : S → S → List Position → Type 0) (geometry 
   caused-again c u d first = record {
     load = first.load;
     loaded_it = first.loaded_it;
+    unless_stopped = if-none first.load (λ h. absurd (cc)) first.unless_stopped;
+    of_steps = tt;
     no_device = (λ h. cc, λ h. let x = first.no_device.1 h in cc);
     reached = λ a f. (λ h. cc, λ h. let x = (first.reached a f).1 h in cc);
     late = λ frame channel word h. cc;
@@ -77,6 +77,8 @@ module _ {S : Type 0} (loaded : S → S → List Position → Type 0) (geometry 
   caused-stopped c u d first = record {
     load = first.load;
     loaded_it = first.loaded_it;
+    unless_stopped = if-none first.load (λ h. absurd (cc)) first.unless_stopped;
+    of_steps = tt;
     no_device = (λ h. cc, λ h. let x = first.no_device.1 h in cc);
     reached = λ a f. (λ h. cc, λ h. let x = (first.reached a f).1 h in cc);
     late = λ frame channel word h. cc;
@@ -87,6 +89,8 @@ module _ {S : Type 0} (loaded : S → S → List Position → Type 0) (geometry 
   caused-taken c u d m first = record {
     load = first.load;
     loaded_it = first.loaded_it;
+    unless_stopped = if-none first.load (λ h. absurd (cc)) first.unless_stopped;
+    of_steps = tt;
     no_device = (λ h. cc, λ h. let x = first.no_device.1 h in cc);
     reached = λ a f. (λ h. cc, λ h. let x = (first.reached a f).1 h in cc);
     late = λ frame channel word h. cc;
@@ -100,6 +104,8 @@ module _ {S : Type 0} (loaded : S → S → List Position → Type 0) (geometry 
   caused-late c u d x word first ends past = record {
     load = first.load;
     loaded_it = first.loaded_it;
+    unless_stopped = if-none first.load (λ h. absurd (cc)) first.unless_stopped;
+    of_steps = tt;
     no_device = (λ h. cc, λ h. let y = first.no_device.1 h in cc);
     reached = λ a f. (λ h. cc, λ h. let y = (first.reached a f).1 h in cc);
     late = λ frame channel w h.
@@ -147,7 +153,7 @@ module _ {S : Type 0} (loaded : S → S → List Position → Type 0) (geometry 
       shown_by None first = tt
       shown_by (Some position) first = shown-synced c position x (λ word. IsPast geometry shows q (end_of_commit c x) (end_channel c x) word) running first
 
-  -- a write into a prepared stream that starts it, and one that doesn't
+  -- a write into a prepared stream that starts it
   pub IsCaused-filled : (c : Plain) (n : ℕ) (cursor : Cursor) (load : Option Position) (x : Commit) → starts_with c n ≡ true → c.state ≡ Prepared → loaded p q (option_to_list load)
       → IfSome load (λ (position : Position). OnLate x.ended (λ word. IsPast geometry shows q (end_of_commit (started_in c Running position cursor) x) (end_channel (started_in c Running position cursor) x) word))
       → IsCaused {T = ℕ} loaded geometry shows p q c (filled c n cursor load x).0 (filled c n cursor load x).1
@@ -156,30 +162,3 @@ module _ {S : Type 0} (loaded : S → S → List Position → Type 0) (geometry 
       let same : go ≡ filled c n cursor load x = ap (λ (b : Bool). let a : Answered ℕ = (if b then go else (accepted c (taken_of c n), Ok (taken_of c n))) in a) (sym starts) in
       subst (λ (a : Answered ℕ). IsCaused {T = ℕ} loaded geometry shows p q c a.0 a.1) same
       (caused-accepted loaded geometry shows p q c (taken_of c n) (started c Running cursor load x) (IsCaused-started loaded geometry shows p q c Running cursor load x waits loaded_it shown))
-
-  pub IsCaused-stored : (c d : Plain) (m : ℕ) → loaded p q [] → IsCaused {T = ℕ} loaded geometry shows p q c d (Ok m)
-  IsCaused-stored c d m loaded_it = record {
-    load = None;
-    loaded_it = loaded_it;
-    no_device = (λ h. cc, λ h. absurd h);
-    reached = λ a f. (λ h. cc, λ h. absurd h);
-    late = λ frame channel word h. cc;
-    never_lap_end = λ h. cc;
-  }
-
-  -- a write into a prepared stream, by whether it starts it
-  pub IsCaused-prepared : {R : Type 0} (laid : S → S → List Entry → Type 0) (c d : Plain) (n before after channels : ℕ) (ring : List ℤ) (cursor : Cursor) (count : Position → ℕ) (result : Result ℕ PcmError) → c.state ≡ Prepared
-      → loaded p p []
-      → (starts_with c n ≡ false → (result ≡ Ok (taken_of c n)) × (d ≡ accepted c (taken_of c n)) × (q ≡ p) × R)
-      → (starts_with c n ≡ true → TakesStep laid loaded geometry shows p q before after ring (λ position. started_in c Running position cursor) count channels (filled c n cursor) (d, result))
-      → IsCaused {T = ℕ} loaded geometry shows p q c d result
-  IsCaused-prepared laid c d n before after channels ring cursor count result waits nothing fills starts = elim (cases_Bool (starts_with c n)) [
-    | inl is ↦
-        let takes = starts is in
-        subst (λ (a : Answered ℕ). IsCaused {T = ℕ} loaded geometry shows p q c a.0 a.1) takes.outcome
-        (IsCaused-filled c n cursor takes.load takes.commit is waits takes.loaded_them takes.shown)
-    | inr is ↦
-        let stored = fills is in
-        subst (λ (r : Result ℕ PcmError). IsCaused {T = ℕ} loaded geometry shows p q c d r) (sym stored.0)
-        (IsCaused-stored c d (taken_of c n) (subst (λ x. loaded p x []) (sym stored.2) nothing))
-  ]

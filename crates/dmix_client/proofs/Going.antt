@@ -2,6 +2,7 @@
 use Rattle.std.proofs.Common.{◌≡◌, ℕ, ◌<◌, [], ◌∷◌, ap, refl, subst, arith}
 use Rattle.std.specs.Prelude.{Bool, true, false, nat_eq, ◌&&◌, if◌then◌else◌, length, IfSome, Option, Some, None, OnErr, OnOk, Result, Ok, Err}
 use Rattle.snd_base.specs.declared.errors.PcmError.{PcmError}
+use Rattle.snd_base.specs.declared.errors.PcmError.TheVariants as error
 use Rattle.snd_base.specs.declared.errors.XrunWhy.{XrunWhy}
 use Rattle.snd_base.specs.declared.places.Cursor.{Cursor}
 use Rattle.mix_core.specs.declared.port.Position.{Position}
@@ -16,7 +17,7 @@ use Rattle.dmix_client.specs.declared.commit.Commit.{Commit}
 use Rattle.dmix_client.specs.declared.commit.Ended.{Ended}
 use Rattle.dmix_client.specs.declared.commit.Ended.TheVariants as ended
 use Rattle.dmix_client.specs.declared.plain.Plain.{Plain}
-use Rattle.dmix_client.specs.Calls.{Answered, is_prepared, commit_count, start_count, committed_by, facts_of, found_at, going_on, is_stop, late_of, over_of, seen_at, settled, started, started_in, stopped_in, synced}
+use Rattle.dmix_client.specs.Calls.{Answered, accepted_if, is_prepared, commit_count, start_count, committed_by, facts_of, found_at, going_on, is_stop, late_of, over_of, seen_at, settled, started, started_in, stopped_in, synced}
 use Rattle.dmix_client.specs.Port.{IsCommit, IsFound, IsStep, StoppedBy, ToldBy}
 use Rattle.dmix_client.specs.View.{IsGoing, is_moving, queued_of}
 
@@ -149,3 +150,12 @@ has_frames-moving Prepared b moves has = cc
 has_frames-moving Running b moves has = cc
 has_frames-moving Draining b moves has = cc
 has_frames-moving state b moves has = cc
+
+-- taking frames besides tells the same
+pub accepted_if-told : (n : ℕ) (a : Answered (Unit {0})) (before after : ℕ) → Told a.1 before after → Told (accepted_if n a).1 before after
+accepted_if-told n (c, Ok done) before after told = told
+accepted_if-told n (c, Err e) before after told = error-told e told
+  where
+    error-told : (e : PcmError) → Told {T = Unit {0}} (Err e) before after → Told {T = ℕ} (Err e) before after
+    error-told error.Stopped told = told
+    error-told e told = told

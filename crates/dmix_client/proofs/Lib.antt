@@ -4,6 +4,7 @@ mod CausedBy
 mod CausedStart
 mod CausedWrite
 mod CausedWritten
+mod Drained
 mod Frames
 mod Going
 mod Grown

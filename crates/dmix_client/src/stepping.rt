@@ -1,5 +1,5 @@
 //! The calls of a client that take steps at its port, but for those that move frames.
-ghost use Rattle.std.specs.Prelude.{◌≡◌, ◌≢◌, ℕ, ◌+◌, ◌*◌, ◌^◌, ◌<◌, ◌≤◌, true, false, [], ℤ, List, length, unwrap_or};
+ghost use Rattle.std.specs.Prelude.{◌≡◌, ◌↔◌, ◌≢◌, ℕ, ◌+◌, ◌*◌, ◌^◌, ◌<◌, ◌≤◌, true, false, [], ℤ, List, length, unwrap_or};
 ghost use Rattle.pcm_states.specs.declared.calls.Call.TheVariants as call;
 ghost use Rattle.dmix_client.specs.Calls.{draining, dropped, has_frames, avail_answer, delay_answer, refusal_of, start_count, started, started_in, sync_count, synced, with_number};
 ghost use Rattle.mix_core.specs.Gate.{Told};
@@ -154,6 +154,7 @@ impl Client {
         ensures grows { (samples : List ℤ) → StandsFor self.old.plain self.old.ring samples → Grows P.laid port.old port.new self.old.plain self.new.plain samples }
         ensures stands { (samples : List ℤ) → StandsFor self.old.plain self.old.ring samples → StandsFor self.new.plain self.new.ring samples }
         ensures told { refusal_of self.old.plain call.Drain ≡ None → Told result (G.stops gate.old) (G.stops gate.new) }
+        ensures again { refusal_of self.old.plain call.Drain ≡ None → (result ≡ Err PcmError.Again) ↔ ((self.new.plain.state ≡ State.Draining) × (self.new.plain.stopped ≡ false)) }
         ensures causes { refusal_of self.old.plain call.Drain ≡ None → is_moving self.old.plain.state ≡ true → IsCaused P.loaded P.geometry P.shows port.old port.new (draining self.old.plain) self.new.plain result }
     {
         self.plain.admit(Call::Drain)?;

@@ -6,7 +6,7 @@ ghost use Rattle.dmix_client.specs.Writes.{IsOffer};
 use super::*;
 use bindings::Bindings;
 use hw_space::Config;
-use mix_core::{Core, MixPort, NeverStops};
+use mix_core::{Core, Gate, MixPort, NeverStops, Pass, StepKind};
 use pcm_states::State;
 use snd_base::{Geometry, PcmError, Segment, XrunWhy};
 use std::alloc::Global;
@@ -96,6 +96,59 @@ fn is_offer(client: &Client, samples: &[i16]) -> bool
         && client.plain.fed < 9223372036854775808
 }
 
+/// A gate that lets some steps pass, stops the next one, and lets all that follow pass.
+#[derive(Drop)]
+struct StopsOnce {
+    left: u32,
+    stopped: bool,
+}
+
+impl Gate for StopsOnce {
+    ghost use Rattle.std.specs.Prelude.{None, if◌then◌else◌};
+
+    ghost stops = { λ g. if g.stopped then 1 else 0 };
+
+    ghost asks = { λ _. None };
+
+    fn pass(&mut self, _step: StepKind) -> Pass {
+        if self.stopped {
+            return Pass::Go;
+        }
+        if self.left > 0 {
+            self.left -= 1;
+            return Pass::Go;
+        }
+        self.stopped = true;
+        Pass::Stop
+    }
+}
+
+/// A write at the core's member 0, by a gate.
+fn write_by<G: Gate>(
+    rt: &impl Abort,
+    core: &mut Core,
+    client: &mut Client,
+    gate: &mut G,
+    samples: &[i16],
+) -> Result<u32, PcmError> {
+    assert!(rt; core.members() > 0);
+    let mut turn = core.turn(0);
+    assert!(rt; can_use(client, &turn));
+    assert!(rt; is_offer(client, samples));
+    client.writei(&mut turn, gate, samples)
+}
+
+/// How many of the next frames that the card takes aren't silent.
+fn heard(core: &mut Core, frames: u32) -> Result<u32, PcmError> {
+    let mut count: u32 = 0;
+    for _ in 0..frames {
+        if core.take()?.value != 0 {
+            count = count.wrapping_add(1);
+        }
+    }
+    Ok(count)
+}
+
 /// A write at the core's member 0.
 fn write(
     rt: &impl Abort,
@@ -165,6 +218,28 @@ fn a_stream_that_runs_out_is_an_xrun(rt: HostRuntime) -> Result<(), Fail> {
     assert_eq!(rt; client.prepare(), Ok(()));
     assert_eq!(rt; client.state(), State::Prepared);
     assert_eq!(rt; client.seen(), Some(128));
+    Ok(())
+}
+
+// A call that the gate stops lays nothing after the stop, though the gate would let it: of its asks the first is for the
+// position, and each frame of one channel has two, for the load of its word and for the exchange.
+#[test]
+fn a_call_that_is_stopped_lays_nothing_more(rt: HostRuntime) -> Result<(), Fail> {
+    for passed in [0, 1, 2, 3, 4, 99, 100] {
+        let (mut core, mut client) = opened(rt.alloc())?;
+        let mut gate = StopsOnce {
+            left: passed,
+            stopped: false,
+        };
+        let samples = [100; 64];
+        let wrote = write_by(&rt, &mut core, &mut client, &mut gate, &samples);
+        assert_eq!(rt; wrote, Err(PcmError::Stopped));
+        assert!(rt; client.is_stopped());
+        let laid = passed.saturating_sub(1) / 2;
+        assert_eq!(rt; client.segment().whole, u64::from(laid));
+        assert_eq!(rt; client.fed(), 0);
+        assert_eq!(rt; heard(&mut core, 256), Ok(laid));
+    }
     Ok(())
 }
 

@@ -174,6 +174,7 @@ fn start_write<P: MixPort, G: Gate>(
     ensures told { StoppedBy result.found.load result.found.commit.ended (G.stops gate.old) (G.stops gate.new) }
     ensures sound { IsSound plain.new ring.now }
     ensures port { CanUse plain.new (P.geometry port.new) (P.member port.new) (P.cursor port.new) (P.seen port.new) (P.can_add port.new) }
+    ensures gate { Told result.answer (G.stops gate.old) (G.stops gate.new) }
     ensures count { IfOk result.answer (λ n. n ≡ taken) }
     ensures grows { (all : List ℤ) → StandsUpTo plain.old ring.now all (plain.old.written + taken) → Grows P.laid port.old port.new plain.old plain.new all }
     ensures stands { (all : List ℤ) → StandsUpTo plain.old ring.now all (plain.old.written + taken) → StandsFor plain.new ring.now all }
@@ -209,6 +210,7 @@ pub(crate) fn write_prepared<P: MixPort, G: Gate>(
         TakesStep P.laid P.loaded P.geometry P.shows port.old port.new (G.stops gate.old) (G.stops gate.new) ring.new (λ position. started_in plain.old State.Running position (P.cursor port.old)) (λ position. start_count plain.old (P.cursor port.old) position (plain.old.written + taken_of plain.old frames)) (length plain.old.bindings) (filled plain.old frames (P.cursor port.old)) (plain.new, result.answer) }
     ensures sound { IsSound plain.new ring.new }
     ensures port { CanUse plain.new (P.geometry port.new) (P.member port.new) (P.cursor port.new) (P.seen port.new) (P.can_add port.new) }
+    ensures gate { Told result.answer (G.stops gate.old) (G.stops gate.new) }
     ensures count { IfOk result.answer (λ n. n ≤ 16384) }
     ensures grows { (all : List ℤ) → StandsFor plain.old ring.old all → Follows plain.old all samples.now frames → Grows P.laid port.old port.new plain.old plain.new all }
     ensures stands { (all : List ℤ) → StandsFor plain.old ring.old all → Follows plain.old all samples.now frames → StandsFor plain.new ring.new all }

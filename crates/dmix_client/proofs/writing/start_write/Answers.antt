@@ -6,9 +6,12 @@ use Rattle.dmix_client.specs.declared.plain.Plain.{Plain}
 use Rattle.dmix_client.specs.Calls.{Answered, accepted_if, started}
 use Rattle.dmix_client.specs.Port.{CanUse}
 use Rattle.dmix_client.specs.View.{IsSound, is_set_up}
+use Rattle.mix_core.specs.Gate.{Told}
+use Rattle.dmix_client.proofs.Going.{accepted_if-told, gone-whole, started-told}
 use Rattle.dmix_client.proofs.Grown.{Grows-started, IsBegun, StandsFor-started}
 use Rattle.dmix_client.specs.Growth.{Grows, StandsFor}
-use Rattle.std.specs.Prelude.{ℤ}
+use Rattle.std.specs.Prelude.{ℤ, Result}
+use Rattle.snd_base.specs.declared.errors.PcmError.{PcmError}
 use Rattle.dmix_client.proofs.Left.{IsAfter, IsLeft-started, grown-accepted}
 use Rattle.dmix_client.proofs.Sound.{both-of}
 use Rattle.dmix_client.proofs.Started.{KeepsAccepted-started}
@@ -120,3 +123,16 @@ returns-clause-stands g c samples stands =
     let same = ap (λ (a : Answered (Unit {0})). (accepted_if c.args.taken a).0) now.outcome ∙ ap (λ (a : Answered ℕ). a.0) (sym c.accepted_if-after.ensures) in
     subst (λ (d : Plain). StandsFor d ring samples) same
     (StandsFor-started plain ring samples Running cursor found.load found.commit c.args.taken is stands)
+
+pub returns-clause-gate : goal.returns-clause-gate
+returns-clause-gate g c =
+    let now = c.start_call-begun.ensures in
+    let found = c.start_call-begun.result.found in
+    let plain = c.args.plain.now in
+    let cursor = g.P.MixPort.cursor c.args.port.now in
+    let stops = g.G.Gate.stops c.args.gate.now in
+    let after = g.G.Gate.stops c.start_call-begun.new.gate in
+    let begun : Answered (Unit {0}) = started plain Running cursor found.load found.commit in
+    let all = started-told plain Running cursor found.load found.commit stops after now.told (gone-whole plain cursor found.load found.commit (plain.written + c.args.taken) stops after now.found now.told) in
+    let same = ap (λ (a : Answered (Unit {0})). (accepted_if c.args.taken a).1) now.outcome ∙ ap (λ (a : Answered ℕ). a.1) (sym c.accepted_if-after.ensures) in
+    subst (λ (r : Result ℕ PcmError). Told r stops after) same (accepted_if-told c.args.taken begun stops after all.told)

@@ -38,4 +38,4 @@ returns c = λ members p own h is at stands.
     subst (λ (x : Answer). HasCalled members p wav own (op.Write c.args.frames) c.writei-answer.new.self c.args.port.now c.writei-answer.new.port x) (let e = c.accepted.ensures in cc)
     (write-line members p wav own h c.args.client.now c.writei-answer.new.self c.args.port.now c.writei-answer.new.port c.writei-answer.result c.args.frames c.next_frames-offer.result.now
     is at stands offers c.counts_are_sound.ensures call.refused
-    (record { stores = call.stores; fills = call.fills; starts = call.starts; steps = call.steps; told = call.told }) c.counts_are_sound-2.ensures call.port)
+    (record { stores = call.stores; fills = call.fills; starts = call.starts; steps = call.steps; told = λ admitted _. call.told admitted }) c.counts_are_sound-2.ensures call.port)

@@ -1,9 +1,10 @@
+use Rattle.dmix_client.proofs.Drained.{IsStill, drained-still, refusal_of-unstopped, synced-still}
 use Rattle.dmix_client.proofs.CausedBy.{IsCaused-synced}
 use Rattle.dmix_client.specs.Causes.{IsCaused}
 use Rattle.dmix_client.proofs.Growth.{Grows-none}
 use Rattle.dmix_client.specs.Growth.{Grows, StandsFor}
 use Rattle.std.proofs.Common.{◌≡◌, List, length, subst, sym, refl}
-use Rattle.std.specs.Prelude.{ℤ, nat_lt, true}
+use Rattle.std.specs.Prelude.{ℤ, nat_lt, true, false}
 use Rattle.pcm_states.specs.declared.calls.Call.TheVariants as call
 use Rattle.dmix_client.specs.Calls.{draining, sync_count, synced, dropped, Answered}
 use Rattle.dmix_client.specs.Port.{TakesStep, entries_at}
@@ -80,3 +81,17 @@ returns-then-is_moving-clause-causes g c admitted moves =
     let takes = returns-then-is_moving-clause-steps g c admitted moves in
     let why = IsCaused-synced port.loaded port.geometry port.shows before after plain call.Drain takes.load takes.commit tt takes.found takes.loaded_them takes.shown in
     subst (λ (a : Answered (Unit {0})). IsCaused {T = Unit {0}} port.loaded port.geometry port.shows before after plain a.0 a.1) takes.outcome why
+
+pub returns-then-is_moving-clause-again : goal.returns-then-is_moving-clause-again
+returns-then-is_moving-clause-again g c admitted =
+    let plain = c.args.self.now.plain in
+    let moves : is_moving plain.state ≡ true = subst (λ (v : ClientView). is_moving v.plain.state ≡ true) c.self.view_is (sym c.if-is_moving.ensures) in
+    let takes = returns-then-is_moving-clause-steps g c admitted moves in
+    subst IsStill takes.outcome (synced-still (draining plain) takes.load takes.commit refl (refusal_of-unstopped plain admitted))
+
+pub returns-clause-again : goal.returns-clause-again
+returns-clause-again g c admitted =
+    let plain = c.self.inside.plain in
+    let going : plain.stopped ≡ false = subst (λ (v : ClientView). v.plain.stopped ≡ false) (sym c.self.view_is) (refusal_of-unstopped c.args.self.now.plain admitted) in
+    let takes = c.start_and_drain.ensures.drains in
+    subst IsStill takes.outcome (drained-still plain (g.P.MixPort.cursor c.args.port.now) takes.load takes.later takes.commit takes.last going)

@@ -1,16 +1,17 @@
 use Rattle.pcm_states.specs.declared.calls.Call.TheVariants as call
 use Rattle.dmix_client.proofs.CausedWrite.{synced-not_again, written_on-again}
-use Rattle.dmix_client.specs.Causes.{IsAgain, IsCaused}
+use Rattle.snd_base.specs.declared.errors.PcmError.TheVariants.{Again}
+use Rattle.dmix_client.specs.Causes.{IsCaused}
 use Rattle.pcm_states.specs.declared.states.State.TheVariants.{Prepared}
-use Rattle.dmix_client.proofs.CausedWritten.{IsCaused-prepared, IsCaused-written}
+use Rattle.dmix_client.proofs.CausedWritten.{IsCaused-filled, IsCaused-written}
 use Rattle.dmix_client.specs.Calls.{Answered, synced}
 use Rattle.dmix_client.proofs.Growth.{Grows-none}
 use Rattle.dmix_client.specs.Growth.{Grows, StandsFor, Follows}
 use Rattle.std.proofs.Common.{◌≡◌, ◌/◌, ◌∙◌, ℕ, List, length, ap, arith, subst, sym, take, drop, ◌++◌, refl}
-use Rattle.std.specs.Prelude.{ℤ, Result}
+use Rattle.std.specs.Prelude.{ℤ, ◌<◌, ◌↔◌, Result, Ok, Err, true}
 use Rattle.snd_base.specs.declared.errors.PcmError.{PcmError}
-use Rattle.dmix_client.specs.View.{ClientView}
-use Rattle.dmix_client.specs.Writes.{TakesWrite, frames_in}
+use Rattle.dmix_client.specs.View.{ClientView, avail_of}
+use Rattle.dmix_client.specs.Writes.{TakesWrite, frames_in, starts_with}
 use Rattle.dmix_client.proofs.Rings.{take-written}
 use Rattle.dmix_client.proofs.client.Client.writei.Goals as goal
 
@@ -93,15 +94,12 @@ returns-clause-stands g c all stands follows =
 
 pub returns-then-eq-clause-again : goal.returns-then-eq-clause-again
 returns-then-eq-clause-again g c admitted running =
-    let port = g.P.MixPort in
-    let before = c.args.port.now in
-    let after = c.write_running-answer.new.port in
     let plain = c.args.self.now.plain in
     let n : ℕ = frames_in plain c.args.samples.now in
     let writes = returns-then-eq-clause-steps g c admitted running in
     let exactly = written_on-again (synced plain call.Transfer writes.load writes.commit) n writes.last (synced-not_again plain writes.load writes.commit running) in
-    subst (λ (a : Answered ℕ). IsAgain port.loaded before after plain n a.1) writes.outcome
-    (record { load = writes.load; commit = writes.commit; loaded_it = writes.loaded_them; again = exactly })
+    let told = subst (λ (a : Answered ℕ). (a.1 ≡ Err Again) ↔ (((synced plain call.Transfer writes.load writes.commit).1 ≡ Ok tt) × (0 < n) × (avail_of (synced plain call.Transfer writes.load writes.commit).0 ≡ 0))) writes.outcome exactly in
+    record { writes = writes; again = told }
 
 pub returns-then-eq-clause-causes : goal.returns-then-eq-clause-causes
 returns-then-eq-clause-causes g c admitted running =
@@ -115,15 +113,19 @@ returns-then-eq-clause-causes g c admitted running =
     subst (λ (a : Answered ℕ). IsCaused {T = ℕ} port.loaded port.geometry port.shows before after plain a.0 a.1) writes.outcome why
 
 pub returns-clause-starts_causes : goal.returns-clause-starts_causes
-returns-clause-starts_causes g c admitted waits =
+returns-clause-starts_causes g c admitted waits starts =
     let port = g.P.MixPort in
     let before = c.args.port.now in
     let after = c.write_prepared-filled.new.port in
     let plain = c.self.inside.plain in
     let done = c.write_prepared-filled.new.plain in
+    let n : ℕ = c.whole_frames-frames.result in
+    let frames : n ≡ frames_in plain c.args.samples.now = c.whole_frames-frames.ensures.value ∙ ap (λ (k : ℕ). length c.args.samples.now / k) c.len.ensures.value in
     let prepared : plain.state ≡ Prepared = subst (λ (v : ClientView). v.plain.state ≡ Prepared) (sym c.self.view_is) waits in
-    let filled = c.write_prepared-filled.ensures in
-    let why = IsCaused-prepared port.loaded port.geometry port.shows before after port.laid plain done c.whole_frames-frames.result _ _ (length plain.bindings) c.write_prepared-filled.new.ring (port.cursor before) _
-    c.write_prepared-filled.result.answer prepared (g.met.P.MixPort.loaded_composes.none before) filled.fills filled.starts in
+    let begins : starts_with plain n ≡ true =
+    subst (λ (k : ℕ). starts_with plain k ≡ true) (sym frames) (subst (λ (v : ClientView). starts_with v.plain (frames_in v.plain c.args.samples.now) ≡ true) (sym c.self.view_is) starts) in
+    let takes = c.write_prepared-filled.ensures.starts begins in
+    let why = subst (λ (a : Answered ℕ). IsCaused {T = ℕ} port.loaded port.geometry port.shows before after plain a.0 a.1) takes.outcome
+    (IsCaused-filled port.loaded port.geometry port.shows before after plain n (port.cursor before) takes.load takes.commit begins prepared takes.loaded_them takes.shown) in
     let told = subst (λ (r : Result ℕ PcmError). IsCaused {T = ℕ} port.loaded port.geometry port.shows before after plain done r) (sym c.few_frames-2.ensures) why in
     subst (λ (v : ClientView). IsCaused {T = ℕ} port.loaded port.geometry port.shows before after v.plain done c.few_frames-2.result) c.self.view_is told
