@@ -1,5 +1,5 @@
 -- How a command ends whose parts read, work and write.
-use Rattle.std.proofs.Common.{◌≡◌, ◌∙◌, ℕ, List, ◌++◌, ap, subst, sym, inr}
+use Rattle.std.proofs.Common.{◌⊎◌, ◌≡◌, ◌∙◌, ℕ, List, ◌++◌, ap, subst, sym, inr}
 use Rattle.std.specs.Prelude.{Option, Some, Result, Ok, Err, IfErr, OnOk, OnErr}
 use Rattle.std.specs.Option.{option_map}
 use Rattle.std.specs.Result.{IsErrAnd}
@@ -32,15 +32,18 @@ pub Leaves-written : {X : Type 0} (r : Result X Stop) (name out : List ℕ) (bef
     → OnOk r (told ≡ option_map (λ t. t ++ o.text.items) taken)
     → Changes (PartOf o.name.items o.file.items) between after
     → OnErr r (TookPart taken told o.text.items)
+    → OnErr r ((told ≡ taken) ⊎ (after ≡ option_map (λ files. with_file files o.name.items o.file.items) between))
     → Leaves r (Some (run name out)) before after taken told
-Leaves-written (Ok x) name out before between after taken told o ready same only stored put changed part =
+Leaves-written (Ok x) name out before between after taken told o ready same only stored put changed part order =
     IsReady-done name out before after taken told o ready
     (stored ∙ ap (option_map (λ files. with_file files o.name.items o.file.items)) same) put
-Leaves-written (Err Words) name out before between after taken told o ready same only stored put changed part = absurd only
-Leaves-written (Err (Script error)) name out before between after taken told o ready same only stored put changed part = absurd only
-Leaves-written (Err (Wav file why)) name out before between after taken told o ready same only stored put changed part = absurd only
-Leaves-written (Err (Read file)) name out before between after taken told o ready same only stored put changed part = absurd only
-Leaves-written (Err Write) name out before between after taken told o ready same only stored put changed part =
+Leaves-written (Err Words) name out before between after taken told o ready same only stored put changed part order = absurd only
+Leaves-written (Err (Script error)) name out before between after taken told o ready same only stored put changed part order = absurd only
+Leaves-written (Err (Wav file why)) name out before between after taken told o ready same only stored put changed part order = absurd only
+Leaves-written (Err (Read file)) name out before between after taken told o ready same only stored put changed part order = absurd only
+Leaves-written (Err Write) name out before between after taken told o ready same only stored put changed part order =
     IsReady-part name out before after taken told o ready (subst (λ b. Changes (PartOf o.name.items o.file.items) b after) same changed) part
-Leaves-written (Err Memory) name out before between after taken told o ready same only stored put changed part =
-    inr (IsReady-part name out before after taken told o ready (subst (λ b. Changes (PartOf o.name.items o.file.items) b after) same changed) part)
+    (subst (λ b. (told ≡ taken) ⊎ (after ≡ option_map (λ files. with_file files o.name.items o.file.items) b)) same order)
+Leaves-written (Err Memory) name out before between after taken told o ready same only stored put changed part order =
+    inr (IsReady-part name out before after taken told o ready (subst (λ b. Changes (PartOf o.name.items o.file.items) b after) same changed) part
+    (subst (λ b. (told ≡ taken) ⊎ (after ≡ option_map (λ files. with_file files o.name.items o.file.items) b)) same order))

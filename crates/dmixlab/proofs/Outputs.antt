@@ -1,5 +1,5 @@
 -- What a store and a put leave.
-use Rattle.std.proofs.Common.{◌≡◌, ℕ, sym, ap, ◌∙◌, refl, subst, List, ◌++◌}
+use Rattle.std.proofs.Common.{◌≡◌, ◌⊎◌, inl, inr, ℕ, sym, ap, ◌∙◌, refl, subst, List, ◌++◌}
 use Rattle.std.specs.Prelude.{ℤ, Option, Some, None, Result, Ok, Err, IfOk}
 use Rattle.std.specs.Option.{option_map}
 use Rattle.std.proofs.lemmas.List.{append-nil}
@@ -64,8 +64,9 @@ pub IsReady-part : (name out : List ℕ) (before after : Option Files) (taken to
     → IsReady before name out o
     → Changes (PartOf o.name.items o.file.items) before after
     → TookPart taken told o.text.items
+    → (told ≡ taken) ⊎ (after ≡ option_map (λ files. with_file files o.name.items o.file.items) before)
     → Unfinished name out before after taken told
-IsReady-part name out before after taken told o ready changed part = record {
+IsReady-part name out before after taken told o ready changed part order = record {
   script = ready.script;
   sounds = ready.sounds;
   report = ready.report;
@@ -75,4 +76,10 @@ IsReady-part name out before after taken told o ready changed part = record {
       subst (λ bytes. Changes (PartOf (wav_name out) bytes) before after) ready.output.file
       (subst (λ n. Changes (PartOf n o.file.items) before after) ready.output.name changed);
   text = subst (λ bytes. TookPart taken told bytes) ready.output.text part;
+  in_order = elim order [
+    | inl nothing ↦ inl nothing
+    | inr stored ↦ inr (stored
+        ∙ ap (λ n. option_map (λ files. with_file files n o.file.items) before) ready.output.name
+        ∙ ap (λ bytes. option_map (λ files. with_file files (wav_name out) bytes) before) ready.output.file)
+  ];
 }

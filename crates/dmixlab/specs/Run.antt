@@ -1,5 +1,5 @@
 -- What a run leaves: a file with what the card played, and the text of a report.
-use Rattle.std.specs.Prelude.{◌≡◌, ◌<◌, ◌+◌, ◌*◌, ◌++◌, ℕ, ℤ, pos, List, length, slice_index_or, Option, Some, Ok}
+use Rattle.std.specs.Prelude.{◌≡◌, ◌⊎◌, ◌<◌, ◌+◌, ◌*◌, ◌++◌, ℕ, ℤ, pos, List, length, slice_index_or, Option, Some, Ok}
 use Rattle.std.specs.Option.{ForSome, option_map}
 use Rattle.wav_io.specs.Sound.{Sound}
 use Rattle.wav_io.specs.Canonical.{canonical}
@@ -79,7 +79,7 @@ pub record IsOnlyRun (name out : List ℕ) (files : Files) (after : Option Files
       → told ≡ option_map (λ t. t ++ report_text report script) taken
 
 -- a run ended in its output: its file is as it was or holds the first bytes of what it was to hold, no other changed, and
--- the first bytes of the report's text were taken
+-- the first bytes of the report's text were taken, which is put once the file is stored
 pub record Unfinished (name out : List ℕ) (before after : Option Files) (taken told : Option (List ℕ)) : Type 0 where
   pub script : Script
   pub sounds : List Sound
@@ -88,6 +88,7 @@ pub record Unfinished (name out : List ℕ) (before after : Option Files) (taken
   pub session : IsSession before name script sounds report played
   pub file : Changes (PartOf (wav_name out) (wav_of script.card played)) before after
   pub text : TookPart taken told (report_text report script)
+  pub in_order : (told ≡ taken) ⊎ (after ≡ option_map (λ files. with_file files (wav_name out) (wav_of script.card played)) before)
 
 -- nothing was written
 pub record Untouched (before after : Option Files) (taken told : Option (List ℕ)) : Type 0 where

@@ -1,5 +1,5 @@
 //! What a run writes: the file with what the card played, and the text of the report.
-ghost use Rattle.std.specs.Prelude.{◌≡◌, ◌≢◌, ◌≤◌, ◌%◌, ◌++◌, Err, IfOk, IfErr, OnOk, OnErr, length, codes};
+ghost use Rattle.std.specs.Prelude.{◌≡◌, ◌⊎◌, ◌≢◌, ◌≤◌, ◌%◌, ◌++◌, Err, IfOk, IfErr, OnOk, OnErr, length, codes};
 ghost use Rattle.lab_script.specs.Script.{IsCardLine, IsScript};
 ghost use Rattle.lab_report.specs.Text.{IsReportOf, report_text};
 ghost use Rattle.lab_phase.specs.Meaning.{IsRun};
@@ -101,6 +101,8 @@ pub(crate) fn write<S: Shelf, K: Sink>(
     ensures told { OnOk result (K.taken out.new ≡ option_map (λ taken. taken ++ output.now.text.items) (K.taken out.old)) }
     ensures files { Changes (PartOf output.now.name.items output.now.file.items) (S.files shelf.old) (S.files shelf.new) }
     ensures text { OnErr result (TookPart (K.taken out.old) (K.taken out.new) output.now.text.items) }
+    ensures in_order { OnErr result ((K.taken out.new ≡ K.taken out.old)
+        ⊎ (S.files shelf.new ≡ option_map (λ files. with_file files output.now.name.items output.now.file.items) (S.files shelf.old))) }
     ensures only { IfErr result IsWriteStop }
     ensures fetch_faults { S.fetch_faults shelf.new ≡ S.fetch_faults shelf.old }
     ensures faults { OutputFaults result (S.write_faults shelf.old) (S.write_faults shelf.new) (K.faults out.old) (K.faults out.new) }

@@ -35,7 +35,7 @@ use std::thread::Threads;
 ///
 /// - 1: the words are none of these;
 /// - 2: the script has more than 1,048,576 bytes, or isn't a script as `lab_script::read_script`
-///   reads it; or TEXT has more bytes than that, or a line that can't stand in it;
+///   reads it; or TEXT has more bytes than that, no line with words, or a line that can't stand in it;
 /// - 3: a client's file isn't a WAV file of 16-bit PCM, has more than 67,108,864 bytes, or is the one
 ///   with which the files of all clients so far, each counted as often as a client names it, have
 ///   more than 268,435,456 bytes;
@@ -79,8 +79,8 @@ pub fn dmixlab<R: Threads + Sync, S: Shelf, K: Sink, E: Sink, G: Gate + Send>(
     ensures exact { result ≡ 0 → IsExact (texts words.now)
         (S.files shelf.old) (S.files shelf.new) (K.taken out.old) (K.taken out.new) }
 
-    // The gates that were handed in aren't asked.
-    ensures gates { map G.stops gates.new ≡ map G.stops gates.old }
+    // The gates that were handed in aren't asked: they stay as they were.
+    ensures gates { gates.new ≡ gates.old }
 
     // When each status comes.
     ensures statuses { result ≤ 6 }

@@ -1,3 +1,4 @@
+//! What a run is between two lines.
 use crate::seat::Seat;
 use lab_report::Row;
 use mix_core::Core;

@@ -1,3 +1,4 @@
+//! What a run gives.
 use lab_report::Report;
 
 /// What a run gives: the report, and the samples that the card played, interleaved, from the first frame on.

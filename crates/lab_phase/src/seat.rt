@@ -1,3 +1,4 @@
+//! A client at its seat.
 use dmix_client::Client;
 use snd_base::Segment;
 
