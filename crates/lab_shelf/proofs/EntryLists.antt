@@ -1,6 +1,7 @@
 -- Lists of entries, each with a name and its bytes, as the files that they are.
 use Rattle.std.proofs.Common.{◌≡◌, ◌≢◌, ℕ, Bool, true, false, cond, List, [], ◌∷◌, ◌++◌, map, get_or, bytes_eq, Some, None, option_map, refl, sym, ap, subst, ◌∙◌}
 use Rattle.std.proofs.Math.ListN.{set}
+use Rattle.std.proofs.Math.Seq.{map-set_same}
 use Rattle.std.proofs.lemmas.Bool.{ltb-false}
 use Rattle.std.proofs.lemmas.List.{map-append}
 use Rattle.std.proofs.lemmas.List.Folds.{find_at, find-set, find_past}
@@ -11,8 +12,9 @@ use Rattle.std.proofs.lemmas.Slice.Eq.{bytes_eq-Decides}
 use Rattle.std.specs.Cmp.Lexicographic.{slice_cmp, nat_list_cmp_total}
 use Rattle.std.specs.FinMap.{from_entries, find, get-from_entries, from_entries_push, same_map, nat_cmp-IsAntisymmetric, slice_cmp-IsAntisymmetric}
 use Rattle.std.specs.List as list
+use Rattle.std.specs.Option.{option_map_or}
 use Rattle.std.specs.Ordering.{nat_cmp}
-use Rattle.lab_shelf.specs.Files.{Files, held, with_file, held-with_file_same, held-with_file_other}
+use Rattle.lab_shelf.specs.Files.{Files, held, with_file, changed, held-with_file_same, held-with_file_other}
 
 -- the entries of a list as a map's: names with bytes
 abbrev pub pairs_by : {E : Type 0} → (E → List ℕ) → (E → List ℕ) → List E → List (List ℕ × List ℕ)
@@ -142,3 +144,22 @@ push_is_with_file key content es y name bytes is named holds =
         ap (λ k. find (slice_cmp nat_cmp) k (pairs_by key content es)) named
         ∙ find-pairs_by key content name es
         ∙ ap (option_map content) (find_nowhere (λ e. bytes_eq name (key e)) es is)
+
+-- a change at a name's place, which keeps the name, makes of its file's bytes what is made of the entry's
+pub set_is_changed : {E : Type 0} (key content : E → List ℕ) (make : List ℕ → List ℕ) (es : List E) (i : ℕ) (y d : E) (name : List ℕ)
+    → list.position (λ e. bytes_eq name (key e)) es ≡ Some i → key y ≡ key (get_or es i d) → content y ≡ make (content (get_or es i d))
+    → from_entries (pairs_by key content (set es i y)) ≡ changed make (from_entries (pairs_by key content es)) name
+set_is_changed key content make es i y d name is same holds =
+    set_is_with_file key content es i y d name (make (content (get_or es i d))) is same holds
+    ∙ sym (ap (λ o. option_map_or (λ c. with_file (from_entries (pairs_by key content es)) name (make c)) o (from_entries (pairs_by key content es))) (held_found key content name es i d is))
+
+-- a write that changes neither a name nor its bytes leaves the files as they are
+pub set_is_same : {E : Type 0} (key content : E → List ℕ) (es : List E) (i : ℕ) (y d : E)
+    → key y ≡ key (get_or es i d) → content y ≡ content (get_or es i d) → ◌≡◌ {A = Files} (from_entries (pairs_by key content (set es i y))) (from_entries (pairs_by key content es))
+set_is_same key content es i y d same holds =
+    let Pair : Type 0 = List ℕ × List ℕ in
+    let entry : List ℕ → List ℕ → Pair = λ k b. (k, b) in
+    let kept : entry (key y) (content y) ≡ entry (key (get_or es i d)) (content (get_or es i d)) = ap (λ (k : List ℕ). entry k (content y)) same ∙ ap (λ (b : List ℕ). entry (key (get_or es i d)) b) holds in
+    let all : pairs_by key content (set es i y) ≡ pairs_by key content es = map-set_same (λ e. entry (key e) (content e)) es i y d kept in
+    let files : List Pair → Files = λ es. from_entries es in
+    ap files all

@@ -3,12 +3,14 @@
 --     held files name      what the file of this name holds, if there is one
 --     with_file files name bytes      the files, with this one holding exactly these bytes
 --     piece files name from most      the file's bytes from a place on, at most so many
---     IsPartWritten, TookPart      what a failed write may leave
+--     changed make files name      the files, with the named one, if it is there, holding what `make` makes of its bytes
+--     overwritten head content      the content with other first bytes
+--     IsPartWritten, IsPartAppended, IsPartFinished, TookPart      what a failed write may leave
 --     held-with_file_same, held-with_file, held-with_file_other      what the files hold once one of them was written
 --     name_test-Decides      the maps' test of two names decides whether they are equal
-use Rattle.std.specs.Prelude.{◌≡◌, ◌≢◌, ◌⊎◌, ◌++◌, ℕ, true, false, cond, List, take, drop, Option, Some, refl}
+use Rattle.std.specs.Prelude.{◌≡◌, ◌≢◌, ◌≤◌, ◌⊎◌, ◌++◌, ℕ, true, false, cond, List, length, take, drop, Option, Some, IfSome, IsSome, refl}
 use Rattle.std.specs.Bool.{Decides}
-use Rattle.std.specs.Option.{option_map}
+use Rattle.std.specs.Option.{option_map, option_map_or}
 use Rattle.std.specs.Ordering.{nat_cmp, eq_by_cmp}
 use Rattle.std.specs.Cmp.Lexicographic.{slice_cmp, nat_list_cmp_total}
 use Rattle.std.specs.FinMap.{FinMap, get, insert, get-insert}
@@ -32,10 +34,36 @@ with_file files name bytes = insert files name bytes
 abbrev pub piece : Files → List ℕ → ℕ → ℕ → Option (List ℕ)
 piece files name from most = option_map (λ content. take most (drop from content)) (held files name)
 
+-- the files, with the named one, if it is there, holding what is made of its bytes
+abbrev pub changed : (List ℕ → List ℕ) → Files → List ℕ → Files
+changed make files name = option_map_or (λ content. with_file files name (make content)) (held files name) files
+
+-- the content with as many other first bytes
+abbrev pub overwritten : List ℕ → List ℕ → List ℕ
+overwritten head content = head ++ drop (length head) content
+
 -- the files are as they were, or the named one holds the first of the bytes
 abbrev pub IsPartWritten : Option Files → Option Files → List ℕ → List ℕ → Type 0
 IsPartWritten before after name bytes =
     (after ≡ before) ⊎ ((k : ℕ) × (after ≡ option_map (λ files. with_file files name (take k bytes)) before))
+
+-- the files are as they were, or the named one, if it is there, holds the first of its bytes and these behind them
+abbrev pub IsPartAppended : Option Files → Option Files → List ℕ → List ℕ → Type 0
+IsPartAppended before after name bytes =
+    (after ≡ before) ⊎ ((k : ℕ) × (after ≡ option_map (λ files. changed (λ content. take k (content ++ bytes)) files name) before))
+
+-- the files are as they were, or the named one, if it is there, holds some first bytes of the head and otherwise what it held
+abbrev pub IsPartFinished : Option Files → Option Files → List ℕ → List ℕ → Type 0
+IsPartFinished before after name head =
+    (after ≡ before) ⊎ ((k : ℕ) × (k ≤ length head) × (after ≡ option_map (λ files. changed (overwritten (take k head)) files name) before))
+
+-- there is a file of this name, where the files are told
+abbrev pub IsHeld : Option Files → List ℕ → Type 0
+IsHeld files name = IfSome files (λ m. IsSome (held m name))
+
+-- where the files are told and there is one of this name, it has as many bytes as the head
+abbrev pub HasRoom : Option Files → List ℕ → List ℕ → Type 0
+HasRoom files name head = IfSome files (λ m. IfSome (held m name) (λ content. length head ≤ length content))
 
 -- a sink took the first of the bytes
 abbrev pub TookPart : Option (List ℕ) → Option (List ℕ) → List ℕ → Type 0

@@ -6,6 +6,7 @@ ghost use Rattle.lab_shelf.specs.Counts.{Counted, raised};
 use crate::fault::ShelfFault;
 use crate::traits::{Shelf, Sink};
 use std::alloc::Global;
+use std::fs::OpenOptions;
 use std::io::{ErrorKind, Read, Seek, SeekFrom, Write};
 use std::marker::Model;
 use std::rt::Files;
@@ -79,6 +80,48 @@ impl<R: Files> Shelf for FileShelf<R> {
         ensures fetch_faults { self.new.fetch_faults ≡ self.old.fetch_faults }
     {
         let outcome = write_file(&self.rt, name, bytes);
+        if let Err(ShelfFault::Failed) = outcome {
+            self.write_faults = self.write_faults.saturating_add(1);
+        }
+        outcome
+    }
+
+    fn begin(&mut self, name: &[u8], head: &[u8]) -> Result<(), ShelfFault>
+        ensures text { OnOk result (IsUtf8 name.now) }
+        ensures after { self.new ≡ record self.old
+            { write_faults = raised result self.old.write_faults } }
+        ensures faults { Counted result self.old.write_faults self.new.write_faults }
+        ensures fetch_faults { self.new.fetch_faults ≡ self.old.fetch_faults }
+    {
+        self.store(name, head)
+    }
+
+    fn append(&mut self, name: &[u8], bytes: &[u8]) -> Result<(), ShelfFault>
+        ensures text { OnOk result (IsUtf8 name.now) }
+        ensures after { self.new ≡ record self.old
+            { write_faults = raised result self.old.write_faults } }
+        ensures faults { Counted result self.old.write_faults self.new.write_faults }
+        ensures fetch_faults { self.new.fetch_faults ≡ self.old.fetch_faults }
+    {
+        let mut options = OpenOptions::new();
+        options.append(true);
+        let outcome = change_file(&self.rt, &options, name, bytes);
+        if let Err(ShelfFault::Failed) = outcome {
+            self.write_faults = self.write_faults.saturating_add(1);
+        }
+        outcome
+    }
+
+    fn finish(&mut self, name: &[u8], head: &[u8]) -> Result<(), ShelfFault>
+        ensures text { OnOk result (IsUtf8 name.now) }
+        ensures after { self.new ≡ record self.old
+            { write_faults = raised result self.old.write_faults } }
+        ensures faults { Counted result self.old.write_faults self.new.write_faults }
+        ensures fetch_faults { self.new.fetch_faults ≡ self.old.fetch_faults }
+    {
+        let mut options = OpenOptions::new();
+        options.write(true);
+        let outcome = change_file(&self.rt, &options, name, head);
         if let Err(ShelfFault::Failed) = outcome {
             self.write_faults = self.write_faults.saturating_add(1);
         }
@@ -185,6 +228,31 @@ fn write_file<R: Files>(rt: &R, name: &[u8], bytes: &[u8]) -> Result<(), ShelfFa
 {
     let path = path_of(name)?;
     fs::write(rt, path, bytes).map_err(|error| fault_of(&error))
+}
+
+/// Opens a file that is there, and writes these bytes: at its end where the options ask to append, and
+/// otherwise at its beginning.
+fn change_file<R: Files>(
+    rt: &R,
+    options: &OpenOptions,
+    name: &[u8],
+    bytes: &[u8],
+) -> Result<(), ShelfFault>
+    ensures { OnOk result (IsUtf8 name.now) }
+{
+    let path = path_of(name)?;
+    write_at_place(rt, options, path, bytes).map_err(|error| fault_of(&error))
+}
+
+/// Writes these bytes where a file that was opened with the options begins to be written.
+fn write_at_place<R: Files>(
+    rt: &R,
+    options: &OpenOptions,
+    path: &str,
+    bytes: &[u8],
+) -> io::Result<()> {
+    let mut file = options.open(rt, path)?;
+    file.write_all(bytes)
 }
 
 /// Writes all of the bytes to the stream.

@@ -1,9 +1,10 @@
 //! Names with their bytes, of which the first of a name stands.
-ghost use Rattle.std.specs.Prelude.{◌≡◌, length, take, drop, position, bytes_eq, OnOk, OnErr, option_map};
+ghost use Rattle.std.specs.Prelude.{◌≡◌, ◌≤◌, ◌++◌, length, take, drop, position, bytes_eq, None, IfSome, IsSome, IfErr, IsErrOf, OnOk, OnErr, option_map};
 ghost use Rattle.std.specs.Option.{option_copied};
-ghost use Rattle.lab_shelf.specs.Files.{held, with_file};
+ghost use Rattle.lab_shelf.specs.Files.{held, with_file, changed, overwritten};
 ghost use Rattle.lab_shelf.specs.States.{files_of};
 
+use crate::fault::ShelfFault;
 use std::alloc::AllocError;
 
 /// The bytes of `content` from the byte `from` on: `most` of them, or as many as there are.
@@ -49,4 +50,58 @@ pub(crate) fn put_file(
         None => entries.push((Vec::from_slice(alloc, name)?, content))?,
     }
     Ok(())
+}
+
+/// Adds bytes at the end of the first entry of this name. It fails where there is none; where there is
+/// no memory for it, nothing changes.
+pub(crate) fn append_to(
+    entries: &mut [(Vec<u8>, Vec<u8>)],
+    name: &[u8],
+    bytes: &[u8],
+) -> Result<(), ShelfFault>
+    ensures ok { OnOk result
+        (files_of entries.new ≡ changed (λ content. content ++ bytes.now) (files_of entries.old) name.now) }
+    ensures err { OnErr result (files_of entries.new ≡ files_of entries.old) }
+    ensures held { OnOk result (IsSome (held (files_of entries.old) name.now)) }
+    ensures missing { IsErrOf result ShelfFault.Failed → held (files_of entries.old) name.now ≡ None }
+{
+    match place_of(entries, name) {
+        Some(place) => match entries[place].1.extend_from_slice(bytes) {
+            Ok(()) => Ok(()),
+            Err(_) => Err(ShelfFault::Memory),
+        },
+        None => Err(ShelfFault::Failed),
+    }
+}
+
+/// Replaces the first bytes by as many others.
+fn put_front(content: &mut [u8], head: &[u8])
+    requires { length head.now ≤ length content.old }
+    ensures { content.new ≡ overwritten head.now content.old }
+{
+    content[..head.len()].copy_from_slice(head);
+}
+
+/// Replaces the first bytes of the first entry of this name, which are there, by as many others. It
+/// fails where there is no such entry, and changes nothing then.
+pub(crate) fn overwrite(
+    entries: &mut [(Vec<u8>, Vec<u8>)],
+    name: &[u8],
+    head: &[u8],
+) -> Result<(), ShelfFault>
+    requires room { IfSome (held (files_of entries.old) name.now) (λ content. length head.now ≤ length content) }
+    ensures ok { OnOk result
+        (files_of entries.new ≡ changed (overwritten head.now) (files_of entries.old) name.now) }
+    ensures err { OnErr result (files_of entries.new ≡ files_of entries.old) }
+    ensures held { OnOk result (IsSome (held (files_of entries.old) name.now)) }
+    ensures missing { OnErr result (held (files_of entries.old) name.now ≡ None) }
+    ensures failed { IfErr result (λ fault. fault ≡ ShelfFault.Failed) }
+{
+    match place_of(entries, name) {
+        Some(place) => {
+            put_front(entries[place].1.as_mut_slice(), head);
+            Ok(())
+        }
+        None => Err(ShelfFault::Failed),
+    }
 }

@@ -1,18 +1,18 @@
 //! The forms in memory, whose calls fail where the caller lists their numbers.
 ghost use Rattle.std.specs.Prelude.{◌≡◌, ◌≢◌, ◌≤◌, ◌++◌, [], None, Some, Err, IsErrOf, IfOk, OnOk, OnErr, vec_len};
 ghost use Rattle.std.specs.Option.{option_copied};
-ghost use Rattle.lab_shelf.specs.Files.{held, with_file, piece, IsPartWritten, TookPart};
+ghost use Rattle.lab_shelf.specs.Files.{held, with_file, changed, overwritten, piece, IsPartWritten, IsPartAppended, IsPartFinished, IsHeld, HasRoom, TookPart};
 ghost use Rattle.lab_shelf.specs.Counts.{Counted, Foreseen};
-ghost use Rattle.lab_shelf.specs.States.{files_of, fetch_answers, write_answers, after_fetch, after_store, after_put};
+ghost use Rattle.lab_shelf.specs.States.{files_of, fetch_answers, write_answers, after_fetch, after_store, after_change, after_put};
 
-use crate::entries::{content_of, cut, put_file};
+use crate::entries::{append_to, content_of, cut, overwrite, put_file};
 use crate::fault::ShelfFault;
 use crate::traits::{Shelf, Sink};
 use std::alloc::Global;
 use std::marker::Model;
 
-/// Files in memory. Its calls of `fetch` and `store` are numbered together from 1, and one fails
-/// with `Failed` exactly where its number is listed, or where it fetches a name that isn't there.
+/// Files in memory. Its calls are numbered together from 1, and one fails with `Failed` exactly where
+/// its number is listed, or where it fetches, appends to or finishes a name that isn't there.
 /// A call that fails changes no file. The shelf is reliable where no number is listed.
 #[derive(Drop)]
 pub struct MemoryShelf {
@@ -79,6 +79,8 @@ impl Shelf for MemoryShelf {
 
     ghost store_works = { λ s. Some (write_answers s.failing s.calls) };
 
+    ghost change_works = { λ s name. Some (fetch_answers s name) };
+
     ghost is_reliable = { λ s. s.failing ≡ [] };
 
     fn fetch(
@@ -130,6 +132,74 @@ impl Shelf for MemoryShelf {
         }
         put_file(&mut self.entries, name, bytes)?;
         Ok(())
+    }
+
+    fn begin(&mut self, name: &[u8], head: &[u8]) -> Result<(), ShelfFault>
+        ensures foreseen { Foreseen result (Some (write_answers self.old.failing self.old.calls)) }
+        ensures after { self.new ≡ after_store result self.old name.now head.now }
+        ensures ok { OnOk result
+            (Some self.new.files ≡ Some (with_file self.old.files name.now head.now)) }
+        ensures err { OnErr result
+            (IsPartWritten (Some self.old.files) (Some self.new.files) name.now head.now) }
+        ensures faults { Counted result self.old.write_faults self.new.write_faults }
+        ensures fetch_faults { self.new.fetch_faults ≡ self.old.fetch_faults }
+        ensures reliable { self.old.failing ≡ [] → self.new.failing ≡ [] }
+        ensures begins { self.old.failing ≡ [] → result ≢ Err ShelfFault.Failed }
+    {
+        self.store(name, head)
+    }
+
+    fn append(&mut self, name: &[u8], bytes: &[u8]) -> Result<(), ShelfFault>
+        ensures held { OnOk result (IsHeld (Some self.old.files) name.now) }
+        ensures foreseen { Foreseen result (Some (fetch_answers self.old name.now)) }
+        ensures after { self.new ≡ after_change result self.old (λ content. content ++ bytes.now) name.now }
+        ensures ok { OnOk result (Some self.new.files
+            ≡ Some (changed (λ content. content ++ bytes.now) self.old.files name.now)) }
+        ensures err { OnErr result
+            (IsPartAppended (Some self.old.files) (Some self.new.files) name.now bytes.now) }
+        ensures faults { Counted result self.old.write_faults self.new.write_faults }
+        ensures fetch_faults { self.new.fetch_faults ≡ self.old.fetch_faults }
+        ensures reliable { self.old.failing ≡ [] → self.new.failing ≡ [] }
+        ensures missing { self.old.failing ≡ [] → IsErrOf result ShelfFault.Failed
+            → held self.old.files name.now ≡ None }
+    {
+        self.calls = self.calls.saturating_add(1);
+        if self.failing.contains(&self.calls) {
+            self.write_faults = self.write_faults.saturating_add(1);
+            return Err(ShelfFault::Failed);
+        }
+        let outcome = append_to(&mut self.entries, name, bytes);
+        if let Err(ShelfFault::Failed) = outcome {
+            self.write_faults = self.write_faults.saturating_add(1);
+        }
+        outcome
+    }
+
+    fn finish(&mut self, name: &[u8], head: &[u8]) -> Result<(), ShelfFault>
+        requires room { HasRoom (Some self.old.files) name.now head.now }
+        ensures held { OnOk result (IsHeld (Some self.old.files) name.now) }
+        ensures foreseen { Foreseen result (Some (fetch_answers self.old name.now)) }
+        ensures after { self.new ≡ after_change result self.old (overwritten head.now) name.now }
+        ensures ok { OnOk result
+            (Some self.new.files ≡ Some (changed (overwritten head.now) self.old.files name.now)) }
+        ensures err { OnErr result
+            (IsPartFinished (Some self.old.files) (Some self.new.files) name.now head.now) }
+        ensures faults { Counted result self.old.write_faults self.new.write_faults }
+        ensures fetch_faults { self.new.fetch_faults ≡ self.old.fetch_faults }
+        ensures reliable { self.old.failing ≡ [] → self.new.failing ≡ [] }
+        ensures missing { self.old.failing ≡ [] → IsErrOf result ShelfFault.Failed
+            → held self.old.files name.now ≡ None }
+    {
+        self.calls = self.calls.saturating_add(1);
+        if self.failing.contains(&self.calls) {
+            self.write_faults = self.write_faults.saturating_add(1);
+            return Err(ShelfFault::Failed);
+        }
+        let outcome = overwrite(&mut self.entries, name, head);
+        if outcome.is_err() {
+            self.write_faults = self.write_faults.saturating_add(1);
+        }
+        outcome
     }
 }
 

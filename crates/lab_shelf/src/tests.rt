@@ -85,6 +85,23 @@ fn memory_shelf_fails_listed_calls(rt: HostRuntime) -> Result<(), Fail> {
 }
 
 #[test]
+fn files_in_memory_are_appended_to_and_finished(rt: HostRuntime) -> Result<(), Fail> {
+    let alloc = rt.alloc();
+    let mut shelf = one_file(alloc, vec![in alloc; 1, 3, 6]?)?;
+    assert_eq!(rt; shelf.begin(b"b", b"??").err(), Some(ShelfFault::Failed));
+    shelf.begin(b"b", b"??")?;
+    assert_eq!(rt; shelf.append(b"b", b"one").err(), Some(ShelfFault::Failed));
+    shelf.append(b"b", b"one")?;
+    shelf.append(b"b", b"two")?;
+    assert_eq!(rt; shelf.append(b"b", b"six").err(), Some(ShelfFault::Failed));
+    assert_eq!(rt; shelf.append(b"c", b"new").err(), Some(ShelfFault::Failed));
+    assert_eq!(rt; shelf.file(b"b").unwrap_or(&[]), b"??onetwo".as_slice());
+    assert_eq!(rt; shelf.file(b"a").unwrap_or(&[]), b"hello".as_slice());
+    assert!(rt; shelf.file(b"c").is_none());
+    Ok(())
+}
+
+#[test]
 fn memory_sink_fails_listed_calls(rt: HostRuntime) -> Result<(), Fail> {
     let alloc = rt.alloc();
     let mut sink = MemorySink::new(alloc, vec![in alloc; 2]?);
@@ -114,7 +131,17 @@ fn file_shelf_reads_what_it_wrote(rt: HostRuntime) -> Result<(), Fail> {
         b"lo".as_slice()
     );
     assert_eq!(rt; shelf.fetch(alloc, name, 9, 9)?.len(), 0);
+    shelf.begin(name, b"??")?;
+    shelf.append(name, b"one")?;
+    shelf.append(name, b"two")?;
+    shelf.finish(name, b"ok")?;
+    assert_eq!(rt;
+        shelf.fetch(alloc, name, 0, 99)?.as_slice(),
+        b"okonetwo".as_slice()
+    );
     fs::remove_file(&rt, path.as_str())?;
+    assert_eq!(rt; shelf.append(name, b"one").err(), Some(ShelfFault::Failed));
+    assert_eq!(rt; shelf.finish(name, b"ok").err(), Some(ShelfFault::Failed));
     assert_eq!(rt;
         shelf.fetch(alloc, name, 0, 9).err(),
         Some(ShelfFault::Failed)

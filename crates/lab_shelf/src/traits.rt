@@ -1,7 +1,7 @@
 //! What a program asks of its files and of a stream that it writes to.
 ghost use Rattle.std.specs.Prelude.{◌≡◌, ◌≢◌, ◌≤◌, ◌++◌, ℕ, List, Bool, Option, None, Some, Err, IsErrOf, IfOk, IfSome, OnOk, OnErr, vec_len};
 ghost use Rattle.std.specs.Option.{option_map};
-ghost use Rattle.lab_shelf.specs.Files.{Files, held, with_file, piece, IsPartWritten, TookPart};
+ghost use Rattle.lab_shelf.specs.Files.{Files, held, with_file, changed, overwritten, piece, IsPartWritten, IsPartAppended, IsPartFinished, IsHeld, HasRoom, TookPart};
 ghost use Rattle.lab_shelf.specs.Counts.{Counted, Foreseen};
 
 use crate::fault::ShelfFault;
@@ -9,8 +9,9 @@ use std::alloc::Global;
 
 /// Files by name. A contract sees a finite map from names to bytes, where the shelf tells it, and
 /// two counts of faults: of fetches that failed, and of writes that failed. Neither count falls,
-/// and each stands still at `u64::MAX`. A reliable shelf stays reliable: its fetches fail only for
-/// names that it doesn't hold, and its stores never fail, but for want of memory.
+/// and each stands still at `u64::MAX`. A reliable shelf stays reliable: its fetches, appends and
+/// finishes fail only for names that it doesn't hold, and its stores and begins never fail, but for
+/// want of memory.
 pub trait Shelf {
     // The files, where the shelf tells them.
     ghost files: { Self → Option Files };
@@ -18,14 +19,17 @@ pub trait Shelf {
     // How many fetches failed.
     ghost fetch_faults: { Self → ℕ };
 
-    // How many stores failed.
+    // How many stores, begins, appends and finishes failed.
     ghost write_faults: { Self → ℕ };
 
     // Whether the next fetch of a name works, where the shelf tells that.
     ghost fetch_works: { Self → List ℕ → Option Bool } = { λ _ _. None };
 
-    // Whether the next store works, where the shelf tells that.
+    // Whether the next store or begin works, where the shelf tells that.
     ghost store_works: { Self → Option Bool } = { λ _. None };
+
+    // Whether the next append to a name or finish of it works, where the shelf tells that.
+    ghost change_works: { Self → List ℕ → Option Bool } = { λ _ _. None };
 
     // Whether its calls fail only for a name that it doesn't hold, or for want of memory.
     ghost is_reliable: { Self → Type 0 } = { λ _. ⊥ };
@@ -66,6 +70,56 @@ pub trait Shelf {
         ensures foreseen { Foreseen result (store_works self.old) }
         ensures reliable { is_reliable self.old → is_reliable self.new }
         ensures stores { is_reliable self.old → result ≢ Err ShelfFault.Failed };
+
+    /// Begins the file `name`: makes it hold exactly the bytes of `head`, to which `append` adds and
+    /// which `finish` replaces. Its answers and what an error leaves are those of `store`.
+    fn begin(&mut self, name: &[u8], head: &[u8]) -> Result<(), ShelfFault>
+        ensures ok { OnOk result (files self.new ≡ option_map
+            (λ held_files. with_file held_files name.now head.now) (files self.old)) }
+        ensures err { OnErr result
+            (IsPartWritten (files self.old) (files self.new) name.now head.now) }
+        ensures faults { Counted result (write_faults self.old) (write_faults self.new) }
+        ensures fetch_faults { fetch_faults self.new ≡ fetch_faults self.old }
+        ensures foreseen { Foreseen result (store_works self.old) }
+        ensures reliable { is_reliable self.old → is_reliable self.new }
+        ensures begins { is_reliable self.old → result ≢ Err ShelfFault.Failed };
+
+    /// Adds `bytes` at the end of the file `name`, which isn't read. After an error it holds the
+    /// first bytes of what it would hold, or is as it was. `Failed` comes where there is no such
+    /// file or it can't be written, and `write_faults` counts it; `Memory` where there is no room
+    /// for the bytes. No other file changes. A reliable shelf that tells its files answers `Failed`
+    /// only where it holds none of this name.
+    fn append(&mut self, name: &[u8], bytes: &[u8]) -> Result<(), ShelfFault>
+        ensures held { OnOk result (IsHeld (files self.old) name.now) }
+        ensures ok { OnOk result (files self.new ≡ option_map
+            (λ held_files. changed (λ content. content ++ bytes.now) held_files name.now) (files self.old)) }
+        ensures err { OnErr result
+            (IsPartAppended (files self.old) (files self.new) name.now bytes.now) }
+        ensures faults { Counted result (write_faults self.old) (write_faults self.new) }
+        ensures fetch_faults { fetch_faults self.new ≡ fetch_faults self.old }
+        ensures foreseen { Foreseen result (change_works self.old name.now) }
+        ensures reliable { is_reliable self.old → is_reliable self.new }
+        ensures missing { is_reliable self.old → IsErrOf result ShelfFault.Failed
+            → IfSome (files self.old) (λ held_files. held held_files name.now ≡ None) };
+
+    /// Finishes the file `name`: replaces its first bytes, which are there, by as many of `head`. The
+    /// others aren't touched, and none is read. After an error some first bytes may be those of
+    /// `head`, and all others are as they were. `Failed` comes where there is no such file or it
+    /// can't be written, and `write_faults` counts it. No other file changes. A reliable shelf that
+    /// tells its files answers `Failed` only where it holds none of this name.
+    fn finish(&mut self, name: &[u8], head: &[u8]) -> Result<(), ShelfFault>
+        requires room { HasRoom (files self.old) name.now head.now }
+        ensures held { OnOk result (IsHeld (files self.old) name.now) }
+        ensures ok { OnOk result (files self.new ≡ option_map
+            (λ held_files. changed (overwritten head.now) held_files name.now) (files self.old)) }
+        ensures err { OnErr result
+            (IsPartFinished (files self.old) (files self.new) name.now head.now) }
+        ensures faults { Counted result (write_faults self.old) (write_faults self.new) }
+        ensures fetch_faults { fetch_faults self.new ≡ fetch_faults self.old }
+        ensures foreseen { Foreseen result (change_works self.old name.now) }
+        ensures reliable { is_reliable self.old → is_reliable self.new }
+        ensures missing { is_reliable self.old → IsErrOf result ShelfFault.Failed
+            → IfSome (files self.old) (λ held_files. held held_files name.now ≡ None) };
 }
 
 /// A stream that takes bytes. A contract sees the bytes that it took, where the sink tells them,

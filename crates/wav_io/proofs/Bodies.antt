@@ -1,5 +1,5 @@
 -- Samples, two bytes each.
-use Rattle.std.proofs.Common.{◌≡◌, ℕ, zero, suc, ◌+◌, ◌*◌, ◌^◌, ◌<◌, List, [], ◌∷◌, ◌++◌, length, get_or, drop, ℤ, refl, sym, ap, ◌∙◌, append_assoc, arith, false, ◌%◌, ◌/◌, take, ◌≤◌}
+use Rattle.std.proofs.Common.{◌≡◌, ℕ, zero, suc, ◌+◌, ◌*◌, ◌^◌, ◌<◌, List, [], ◌∷◌, ◌++◌, length, get_or, drop, ℤ, refl, sym, ap, ◌∙◌, append_assoc, arith, false, ◌%◌, ◌/◌, take, ◌≤◌, set, length-set}
 use Rattle.std.specs.Prelude.{FitsSigned}
 use Rattle.std.specs.Str.{bytes_eq}
 use Rattle.std.proofs.Math.Nat.{mul-mod_left, div-mul-le_self}
@@ -9,7 +9,7 @@ use Rattle.std.specs.List.{flat_map, AllByRecursion}
 use Rattle.std.specs.Int.{w16, from_le_bytes, to_le_bytes, cast_signed, cast_unsigned}
 use Rattle.std.proofs.Math.Facts.{sfits_to_z, Fits-of_lt, Fits-of_z}
 use Rattle.std.proofs.lemmas.Int.{to_z-of_z, of_z-to_z}
-use Rattle.std.proofs.lemmas.List.{append-nil, drop_more, length-drop, length-take, length-take-le}
+use Rattle.std.proofs.lemmas.List.{append-nil, take_more_set, drop_more, length-drop, length-take, length-take-le}
 use Rattle.std.proofs.lemmas.Nat.{le_bytes_2, from_le_bytes-to_le_bytes_2}
 use Rattle.wav_io.specs.declared.format.Format.{Format}
 use Rattle.wav_io.specs.Sound.{IsSound}
@@ -112,3 +112,11 @@ is_sound f body zs in_order e = record {
 pub no_room : (place : ℕ) (bytes name : List ℕ) → length name ≡ 4 → length bytes < place + 4 → bytes_eq (take 4 (drop place bytes)) name ≡ false
 no_room place bytes name four short =
     false_from_ne_true _ (λ same. omega (arith, four, ap length ((bytes_eq-Decides (take 4 (drop place bytes)) name).0 same), length-take 4 (drop place bytes), length-drop place bytes))
+
+-- two bytes behind those that were put
+pub pair_put : (i : ℕ) (out : List ℕ) (low high : ℕ) → 2 * i + 1 < length out → take (2 * (i + 1)) (set (set out (2 * i) low) (2 * i + 1) high) ≡ take (2 * i) out ++ (low ∷ high ∷ [])
+pair_put i out low high inside =
+    ap (λ (n : ℕ). take n (set (set out (2 * i) low) (2 * i + 1) high)) (omega arith)
+    ∙ take_more_set (set out (2 * i) low) (2 * i + 1) high (omega (arith, length-set out (2 * i) low))
+    ∙ ap (λ (front : List ℕ). front ++ high ∷ []) (take_more_set out (2 * i) low (omega arith))
+    ∙ append_assoc (take (2 * i) out) (low ∷ []) (high ∷ [])

@@ -1,9 +1,13 @@
 -- A file is cut into its chunks one by one.
-use Rattle.std.proofs.Common.{◌≡◌, ℕ, zero, suc, ◌+◌, ◌%◌, ◌<◌, ◌≤◌, List, [], ◌∷◌, length, drop, Option, refl, sym, ap, ◌∙◌, arith, inl, inr, ltb}
+use Rattle.std.proofs.Common.{◌≡◌, ℕ, zero, suc, ◌+◌, ◌%◌, ◌<◌, ◌≤◌, List, [], ◌∷◌, ◌++◌, length, take, drop, Option, refl, sym, ap, ◌∙◌, arith, inl, inr, ltb}
 use Rattle.std.proofs.lemmas.Bool.{cases_lt, lt-ltb, le-ltb, cond-true, cond-false}
 use Rattle.std.proofs.lemmas.List.{length-drop}
+use Rattle.std.specs.Int.{w32}
+use Rattle.wav_io.specs.declared.format.Depths.{Depths}
 use Rattle.wav_io.specs.declared.format.Format.{Format}
 use Rattle.wav_io.specs.Chunks.{Chunk, size_at, first_chunk, after_chunk, chunks_in, chunks}
+use Rattle.wav_io.specs.Fields.{number_at}
+use Rattle.wav_io.specs.Pieces.{sized, behind}
 use Rattle.wav_io.specs.Reading.{Finding, ended, Verdict, decides, goes_on, judged, followed, finding}
 
 pub length-after_chunk : (bytes : List ℕ) → 8 ≤ length bytes → length (after_chunk bytes) + 8 ≤ length bytes
@@ -44,15 +48,32 @@ chunks-none bytes short = chunks_in-none (length bytes) bytes short
 
 -- ---- the walk over the chunks
 
-first_judged : (format : Option Format) (bytes : List ℕ) (v : Verdict) → 8 ≤ length bytes → judged format (first_chunk bytes) ≡ v → finding format (chunks bytes) ≡ followed v (λ kept. finding kept (chunks (after_chunk bytes)))
-first_judged format bytes v long e =
-    ap (finding format) (chunks-some bytes long) ∙ ap (λ (w : Verdict). followed w (λ kept. finding kept (chunks (after_chunk bytes)))) e
+first_judged : (depths : Depths) (format : Option Format) (bytes : List ℕ) (v : Verdict) → 8 ≤ length bytes → judged depths format (first_chunk bytes) ≡ v → finding depths format (chunks bytes) ≡ followed v (λ kept. finding depths kept (chunks (after_chunk bytes)))
+first_judged depths format bytes v long e =
+    ap (finding depths format) (chunks-some bytes long) ∙ ap (λ (w : Verdict). followed w (λ kept. finding depths kept (chunks (after_chunk bytes)))) e
 
-pub finding-decides : (format : Option Format) (bytes : List ℕ) (f : Finding) → 8 ≤ length bytes → judged format (first_chunk bytes) ≡ decides f → finding format (chunks bytes) ≡ f
-finding-decides format bytes f long e = first_judged format bytes (decides f) long e
+pub finding-decides : (depths : Depths) (format : Option Format) (bytes : List ℕ) (f : Finding) → 8 ≤ length bytes → judged depths format (first_chunk bytes) ≡ decides f → finding depths format (chunks bytes) ≡ f
+finding-decides depths format bytes f long e = first_judged depths format bytes (decides f) long e
 
-pub finding-goes_on : (format kept : Option Format) (bytes : List ℕ) → 8 ≤ length bytes → judged format (first_chunk bytes) ≡ goes_on kept → finding format (chunks bytes) ≡ finding kept (chunks (after_chunk bytes))
-finding-goes_on format kept bytes long e = first_judged format bytes (goes_on kept) long e
+pub finding-goes_on : (depths : Depths) (format kept : Option Format) (bytes : List ℕ) → 8 ≤ length bytes → judged depths format (first_chunk bytes) ≡ goes_on kept → finding depths format (chunks bytes) ≡ finding depths kept (chunks (after_chunk bytes))
+finding-goes_on depths format kept bytes long e = first_judged depths format bytes (goes_on kept) long e
 
-pub finding-ended : (format : Option Format) (bytes : List ℕ) → length bytes < 8 → finding format (chunks bytes) ≡ ended format
-finding-ended format bytes short = ap (finding format) (chunks-none bytes short)
+pub finding-ended : (depths : Depths) (format : Option Format) (bytes : List ℕ) → length bytes < 8 → finding depths format (chunks bytes) ≡ ended format
+finding-ended depths format bytes short = ap (finding depths format) (chunks-none bytes short)
+
+-- ---- a head of eight bytes, and what follows it
+
+-- the chunk of a head, and the bytes behind it
+abbrev pub headed : List ℕ → List ℕ → Chunk
+headed head bytes = sized (take 4 head) (number_at w32 4 head) bytes
+
+by_cells : (a b c d e f g h : ℕ) (depths : Depths) (format : Option Format) (bytes : List ℕ)
+    → let head : List ℕ = a ∷ b ∷ c ∷ d ∷ e ∷ f ∷ g ∷ h ∷ [] in
+    finding depths format (chunks (head ++ bytes)) ≡ followed (judged depths format (headed head bytes)) (λ kept. finding depths kept (chunks (behind (number_at w32 4 head) bytes)))
+by_cells a b c d e f g h depths format bytes =
+    first_judged depths format (a ∷ b ∷ c ∷ d ∷ e ∷ f ∷ g ∷ h ∷ bytes) _ (omega arith) refl
+
+pub finding-headed : (depths : Depths) (format : Option Format) (head bytes : List ℕ) → length head ≡ 8
+    → finding depths format (chunks (head ++ bytes)) ≡ followed (judged depths format (headed head bytes)) (λ kept. finding depths kept (chunks (behind (number_at w32 4 head) bytes)))
+finding-headed depths format (a ∷ b ∷ c ∷ d ∷ e ∷ f ∷ g ∷ h ∷ []) bytes eight = by_cells a b c d e f g h depths format bytes
+finding-headed depths format _ bytes eight = absurd (omega arith)

@@ -1,25 +1,27 @@
 -- A canonical file is read as what it was written from.
-use Rattle.std.proofs.Common.{◌≡◌, ℕ, ◌+◌, ◌*◌, ◌/◌, ◌^◌, ◌<◌, ◌≤◌, cond, ◌||◌, List, ◌++◌, length, take, drop, ℤ, Some, None, Result, Ok, Err, refl, sym, ap, subst, ◌∙◌, arith, eqb, leb, ltb}
+use Rattle.std.proofs.Common.{◌≡◌, ℕ, ◌+◌, ◌*◌, ◌/◌, ◌^◌, ◌<◌, ◌≤◌, cond, ◌||◌, List, ◌++◌, length, take, drop, ℤ, Some, None, Result, Ok, Err, refl, sym, ap, subst, ◌∙◌, arith, eqb, ltb}
 use Rattle.std.specs.Global.{Vec}
 use Rattle.std.specs.Prelude.{All, FitsSigned, IfOk, OnOk, codes}
 use Rattle.std.specs.List.{flat_map}
 use Rattle.std.specs.Int.{w16, w32, to_le_bytes, from_le_bytes}
 use Rattle.std.proofs.Math.Nat.{mul-div_cancel}
 use Rattle.std.proofs.lemmas.Nat.{div-add-mod', from_le_bytes-to_le_bytes_2, from_le_bytes-to_le_bytes_4}
-use Rattle.std.proofs.lemmas.Bool.{le-leb, le-ltb, ne_eqb, or_from, cond-true, cond-false}
+use Rattle.std.proofs.lemmas.Bool.{le-ltb, ne_eqb, or_from, cond-false}
 use Rattle.std.proofs.lemmas.List.{take_all}
 use Rattle.std.proofs.lemmas.List.Elements.{recursion_from_All}
 use Rattle.wav_io.specs.declared.error.WavError.{WavError}
 use Rattle.wav_io.specs.declared.error.WavError.TheVariants.{Channels, RateZero, Bits}
+use Rattle.wav_io.specs.declared.format.Depths.TheVariants.{Sixteen}
 use Rattle.wav_io.specs.declared.format.Format.{Format}
 use Rattle.wav_io.specs.Sound.{Sound, IsSound}
-use Rattle.wav_io.specs.Canonical.{sample_bytes, canonical, HasFile}
+use Rattle.wav_io.specs.Canonical.{sample_bytes, canonical, open_head, HasFile}
 use Rattle.wav_io.specs.Fields.{number_at, samples_of, whole_frames}
 use Rattle.wav_io.specs.Chunks.{Chunk, chunks}
 use Rattle.wav_io.specs.Formats.{terms_of, format_of}
-use Rattle.wav_io.specs.Reading.{most_bytes, body_found, decides, goes_on, settled, judged, finding, sound_of, at_end, before_end, found_in, wav_file}
+use Rattle.wav_io.specs.Reading.{most_bytes, body_found, decides, goes_on, settled, judged, finding, sound_of, sounds, at_end, found_in, wav_file}
 use Rattle.wav_io.proofs.Bodies.{samples_of-sample_bytes, length-sample_bytes}
 use Rattle.wav_io.proofs.Cutting.{finding-decides, finding-goes_on}
+use Rattle.wav_io.proofs.Limits.{limited-short}
 
 abbrev sound : ℕ → ℕ → List ℤ → Sound
 sound channels rate samples = record { channels = channels; rate = rate; samples = samples }
@@ -52,7 +54,7 @@ canonical_one s t p q e = sym (shown-canonical s p) ∙ ap shown e ∙ shown-can
 -- ---- the format chunk
 
 abbrev format : ℕ → ℕ → Format
-format channels rate = record { channels = channels; rate = rate }
+format channels rate = record { channels = channels; rate = rate; bits = 16 }
 
 abbrev terms : ℕ → ℕ → ℕ → Result Format WavError
 terms channels rate bits = cond (ltb channels 1 || ltb 8 channels) (Err (Channels channels)) (cond (eqb rate 0) (Err RateZero) (cond (eqb bits 16) (Ok (format channels rate)) (Err (Bits bits))))
@@ -67,7 +69,7 @@ abbrev format_body : ℕ → ℕ → List ℕ
 format_body channels rate =
     to_le_bytes w16 1 ++ to_le_bytes w16 channels ++ to_le_bytes w32 rate ++ to_le_bytes w32 (rate * (channels * 2)) ++ to_le_bytes w16 (channels * 2) ++ to_le_bytes w16 16
 
-format_of-body : (channels rate : ℕ) → 1 ≤ channels → channels ≤ 8 → 1 ≤ rate → rate < 2 ^ 32 → format_of (format_body channels rate) ≡ Ok (format channels rate)
+format_of-body : (channels rate : ℕ) → 1 ≤ channels → channels ≤ 8 → 1 ≤ rate → rate < 2 ^ 32 → format_of Sixteen (format_body channels rate) ≡ Ok (format channels rate)
 unfolding format_of terms_of
 format_of-body channels rate some few rated fits =
     ap (λ (n : ℕ). terms n (from_le_bytes w32 (to_le_bytes w32 rate)) 16) (read_two channels (omega arith))
@@ -77,7 +79,7 @@ format_of-body channels rate some few rated fits =
 abbrev format_part : ℕ → ℕ → Chunk
 format_part channels rate = record { name = codes "fmt "; size = 16; body = format_body channels rate }
 
-judged-format : (channels rate : ℕ) → 1 ≤ channels → channels ≤ 8 → 1 ≤ rate → rate < 2 ^ 32 → judged None (format_part channels rate) ≡ goes_on (Some (format channels rate))
+judged-format : (channels rate : ℕ) → 1 ≤ channels → channels ≤ 8 → 1 ≤ rate → rate < 2 ^ 32 → judged Sixteen None (format_part channels rate) ≡ goes_on (Some (format channels rate))
 unfolding judged
 judged-format channels rate some few rated fits = ap settled (format_of-body channels rate some few rated fits)
 
@@ -86,7 +88,7 @@ judged-format channels rate some few rated fits = ap settled (format_of-body cha
 abbrev data_part : ℕ → List ℕ → Chunk
 data_part size body = record { name = codes "data"; size = size; body = body }
 
-judged-data : (f : Format) (size : ℕ) (body : List ℕ) → judged (Some f) (data_part size body) ≡ decides (body_found f body)
+judged-data : (f : Format) (size : ℕ) (body : List ℕ) → judged Sixteen (Some f) (data_part size body) ≡ decides (body_found f body)
 unfolding judged
 judged-data f size body = refl
 
@@ -114,23 +116,29 @@ from_data size body = codes "data" ++ to_le_bytes w32 size ++ body
 abbrev from_format : ℕ → ℕ → ℕ → List ℕ → List ℕ
 from_format channels rate size body = codes "fmt " ++ to_le_bytes w32 16 ++ format_body channels rate ++ from_data size body
 
-finding-data : (f : Format) (size : ℕ) (body : List ℕ) → size < 2 ^ 32 → length body ≡ size → finding (Some f) (chunks (from_data size body)) ≡ body_found f body
+finding-data : (f : Format) (size : ℕ) (body : List ℕ) → size < 2 ^ 32 → length body ≤ size → finding Sixteen (Some f) (chunks (from_data size body)) ≡ body_found f body
 finding-data f size body fits len =
-    let all : take (from_le_bytes w32 (to_le_bytes w32 size)) body ≡ body = ap (λ (n : ℕ). take n body) (read_four size fits) ∙ take_all size body (omega arith) in
-    finding-decides (Some f) (from_data size body) (body_found f (take (from_le_bytes w32 (to_le_bytes w32 size)) body)) (omega arith) (judged-data f _ _)
+    let all : take (from_le_bytes w32 (to_le_bytes w32 size)) body ≡ body = ap (λ (n : ℕ). take n body) (read_four size fits) ∙ take_all size body len in
+    finding-decides Sixteen (Some f) (from_data size body) (body_found f (take (from_le_bytes w32 (to_le_bytes w32 size)) body)) (omega arith) (judged-data f _ _)
     ∙ ap (body_found f) all
 
-finding-format : (channels rate size : ℕ) (body : List ℕ) → 1 ≤ channels → channels ≤ 8 → 1 ≤ rate → rate < 2 ^ 32 → size < 2 ^ 32 → length body ≡ size → finding None (chunks (from_format channels rate size body)) ≡ body_found (format channels rate) body
+finding-format : (channels rate size : ℕ) (body : List ℕ) → 1 ≤ channels → channels ≤ 8 → 1 ≤ rate → rate < 2 ^ 32 → size < 2 ^ 32 → length body ≤ size → finding Sixteen None (chunks (from_format channels rate size body)) ≡ body_found (format channels rate) body
 finding-format channels rate size body some few rated low fits len =
-    finding-goes_on None (Some (format channels rate)) (from_format channels rate size body) (omega arith) (judged-format channels rate some few rated low)
+    finding-goes_on Sixteen None (Some (format channels rate)) (from_format channels rate size body) (omega arith) (judged-format channels rate some few rated low)
     ∙ finding-data (format channels rate) size body fits len
 
-found_in-canonical : (s : Sound) → HasFile s → found_in (canonical s) ≡ body_found (format s.channels s.rate) (flat_map sample_bytes s.samples)
+found_in-canonical : (s : Sound) → HasFile s → found_in Sixteen (canonical s) ≡ body_found (format s.channels s.rate) (flat_map sample_bytes s.samples)
+unfolding found_in
 found_in-canonical s file =
     let body = flat_map sample_bytes s.samples in
     let count = length-body s file in
     let fits : (length s.samples / s.channels) * s.channels * 2 < 2 ^ 32 = omega (arith, count, length-sample_bytes s.samples, file.size) in
-    finding-format s.channels s.rate ((length s.samples / s.channels) * s.channels * 2) body file.sound.some_channel file.sound.few_channels file.sound.some_rate (omega (arith, file.low_rate)) fits count
+    finding-format s.channels s.rate ((length s.samples / s.channels) * s.channels * 2) body file.sound.some_channel file.sound.few_channels file.sound.some_rate (omega (arith, file.low_rate)) fits (omega (arith, count))
+
+found_in-open : (s : Sound) → HasFile s → length (flat_map sample_bytes s.samples) ≤ 4294967295 → found_in Sixteen (open_head s.channels s.rate ++ flat_map sample_bytes s.samples) ≡ body_found (format s.channels s.rate) (flat_map sample_bytes s.samples)
+unfolding found_in
+found_in-open s file fits =
+    finding-format s.channels s.rate 4294967295 (flat_map sample_bytes s.samples) file.sound.some_channel file.sound.few_channels file.sound.some_rate (omega (arith, file.low_rate)) (omega arith) fits
 
 sound_of-body : (s : Sound) → HasFile s → sound_of (format s.channels s.rate) (flat_map sample_bytes s.samples) ≡ s
 sound_of-body s file =
@@ -138,10 +146,16 @@ sound_of-body s file =
 
 -- a canonical file that isn't too long is read as what it was written from
 pub wav_file-canonical : (s : Sound) → HasFile s → length (canonical s) ≤ most_bytes → wav_file (canonical s) ≡ Ok s
-unfolding wav_file
 wav_file-canonical s file short =
-    cond-true (leb (length (canonical s)) most_bytes) (at_end (found_in (canonical s))) (before_end (found_in (take most_bytes (canonical s)))) (le-leb _ _ short)
-    ∙ ap at_end (found_in-canonical s file)
+    ap sounds (limited-short 0 (found_in Sixteen) (canonical s) (omega (arith, short)) ∙ ap at_end (found_in-canonical s file))
+    ∙ ap (λ (t : Sound). Ok t) (sound_of-body s file)
+
+-- a file that isn't finished is read as the frames that are there
+pub wav_file-open : (channels rate : ℕ) (s : Sound) → HasFile s → s.channels ≡ channels → s.rate ≡ rate → length s.samples * 2 + 44 ≤ most_bytes → wav_file (open_head channels rate ++ flat_map sample_bytes s.samples) ≡ Ok s
+wav_file-open channels rate s file same_channels same_rate short =
+    ap (λ (n : ℕ). wav_file (open_head n rate ++ flat_map sample_bytes s.samples)) (sym same_channels)
+    ∙ ap (λ (n : ℕ). wav_file (open_head s.channels n ++ flat_map sample_bytes s.samples)) (sym same_rate)
+    ∙ ap sounds (limited-short 0 (found_in Sixteen) (open_head s.channels s.rate ++ flat_map sample_bytes s.samples) (omega (arith, short, length-sample_bytes s.samples)) ∙ ap at_end (found_in-open s file (omega (arith, short, length-sample_bytes s.samples))))
     ∙ ap (λ (t : Sound). Ok t) (sound_of-body s file)
 
 pub wav_file-written : (s : Sound) (bytes : List ℕ) → HasFile s → bytes ≡ canonical s → length bytes ≤ most_bytes → wav_file bytes ≡ Ok s

@@ -1,4 +1,11 @@
 pub mod Bodies
 pub mod Cutting
+pub mod Limits
+pub mod Places
+pub mod Scans
+pub mod Parts
+pub mod Raws
+pub mod Rooms
+pub mod Readers
 pub mod Files
 pub mod Refusals

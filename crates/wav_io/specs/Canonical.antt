@@ -4,12 +4,20 @@ use Rattle.std.specs.List.{flat_map}
 use Rattle.std.specs.Int.{w16, w32, to_le_bytes, cast_unsigned}
 use Rattle.wav_io.specs.Sound.{Sound, IsSound}
 
--- the 44 bytes before `size` bytes of samples
-abbrev pub head_before : ℕ → ℕ → ℕ → List ℕ
-head_before channels rate size =
-    codes "RIFF" ++ to_le_bytes w32 (36 + size) ++ codes "WAVE" ++ codes "fmt " ++ to_le_bytes w32 16
+-- the 44 bytes with these two sizes, of what follows `RIFF` and its size, and of the samples
+abbrev pub head_with : ℕ → ℕ → ℕ → ℕ → List ℕ
+head_with riff channels rate size =
+    codes "RIFF" ++ to_le_bytes w32 riff ++ codes "WAVE" ++ codes "fmt " ++ to_le_bytes w32 16
     ++ to_le_bytes w16 1 ++ to_le_bytes w16 channels ++ to_le_bytes w32 rate ++ to_le_bytes w32 (rate * (channels * 2))
     ++ to_le_bytes w16 (channels * 2) ++ to_le_bytes w16 16 ++ codes "data" ++ to_le_bytes w32 size
+
+-- the 44 bytes before `size` bytes of samples
+abbrev pub head_before : ℕ → ℕ → ℕ → List ℕ
+head_before channels rate size = head_with (36 + size) channels rate size
+
+-- the 44 bytes before frames of which the number isn't known yet
+abbrev pub open_head : ℕ → ℕ → List ℕ
+open_head channels rate = head_with 4294967295 channels rate 4294967295
 
 -- the 44 bytes before this many frames
 abbrev pub head : ℕ → ℕ → ℕ → List ℕ

@@ -12,6 +12,10 @@ samples_of (low ∷ high ∷ rest) = cast_signed w16 (from_le_bytes w16 (low ∷
 samples_of (low ∷ []) = []
 samples_of [] = []
 
+-- as many whole frames of this size in bytes as there are
+abbrev pub whole : ℕ → List ℕ → List ℕ
+whole size body = take (length body / size * size) body
+
 -- as many whole frames as there are, of two bytes for each channel
 abbrev pub whole_frames : ℕ → List ℕ → List ℕ
-whole_frames channels body = take (length body / (2 * channels) * (2 * channels)) body
+whole_frames channels body = whole (2 * channels) body

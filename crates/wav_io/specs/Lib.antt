@@ -4,4 +4,7 @@ pub mod Fields
 pub mod Chunks
 pub mod Formats
 pub mod Reading
-pub mod Views
+pub mod Pieces
+pub mod Frames
+pub mod Scans
+pub mod Readers

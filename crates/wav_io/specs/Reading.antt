@@ -1,8 +1,10 @@
 -- What reading a file of bytes gives.
-use Rattle.std.specs.Prelude.{◌≡◌, ℕ, nat_lt, nat_le, if◌then◌else◌, List, [], ◌∷◌, length, take, drop, codes, Option, Some, None, Result, Ok, Err}
+use Rattle.std.specs.Prelude.{◌≡◌, ℕ, ◌+◌, ◌-◌, nat_lt, nat_le, if◌then◌else◌, List, [], ◌∷◌, length, take, drop, codes, Option, Some, None, Result, Ok, Err}
 use Rattle.std.specs.Str.{bytes_eq}
 use Rattle.wav_io.specs.declared.error.WavError.{WavError}
 use Rattle.wav_io.specs.declared.error.WavError.TheVariants.{NotRiff, NotWave, NoFormat, FormatTwice, ShortFormat, NoData, TooLong, Memory}
+use Rattle.wav_io.specs.declared.format.Depths.{Depths}
+use Rattle.wav_io.specs.declared.format.Depths.TheVariants.{Sixteen}
 use Rattle.wav_io.specs.declared.format.Format.{Format}
 use Rattle.wav_io.specs.Sound.{Sound}
 use Rattle.wav_io.specs.Fields.{samples_of, whole_frames}
@@ -41,13 +43,14 @@ abbrev pub settled : Result Format WavError → Verdict
 settled (Ok f) = goes_on (Some f)
 settled (Err e) = decides (refused e)
 
--- a second format chunk is refused before its size, a size below 16 before its body
-abbrev pub format_chunk : Option Format → Chunk → Verdict
-format_chunk (Some f) chunk = decides (refused FormatTwice)
-format_chunk None chunk =
+-- a second format chunk is refused before its size, a size below 16 before its body, of which the
+-- first 40 bytes are looked at
+abbrev pub format_chunk : Depths → Option Format → Chunk → Verdict
+format_chunk depths (Some f) chunk = decides (refused FormatTwice)
+format_chunk depths None chunk =
     if nat_lt chunk.size 16 then decides (refused ShortFormat)
     else if nat_lt (length chunk.body) chunk.size then decides format_cut
-    else settled (format_of chunk.body)
+    else settled (format_of depths (take 40 chunk.body))
 
 -- the first data chunk has the samples
 abbrev pub data_chunk : Option Format → Chunk → Verdict
@@ -55,9 +58,9 @@ data_chunk (Some f) chunk = decides (body_found f chunk.body)
 data_chunk None chunk = decides (refused NoFormat)
 
 -- every other chunk is skipped
-unfoldable pub judged : Option Format → Chunk → Verdict
-judged format chunk =
-    if bytes_eq chunk.name (codes "fmt ") then format_chunk format chunk
+unfoldable pub judged : Depths → Option Format → Chunk → Verdict
+judged depths format chunk =
+    if bytes_eq chunk.name (codes "fmt ") then format_chunk depths format chunk
     else if bytes_eq chunk.name (codes "data") then data_chunk format chunk
     else goes_on format
 
@@ -67,38 +70,55 @@ followed (decides f) next = f
 followed (goes_on format) next = next format
 
 -- what the chunks come to, after the format that stood before them
-abbrev pub finding : Option Format → List Chunk → Finding
-finding format [] = ended format
-finding format (chunk ∷ behind) = followed (judged format chunk) (λ kept. finding kept behind)
+abbrev pub finding : Depths → Option Format → List Chunk → Finding
+finding depths format [] = ended format
+finding depths format (chunk ∷ behind) = followed (judged depths format chunk) (λ kept. finding depths kept behind)
 
--- the sound of a body: whole frames, without a rest
-abbrev pub sound_of : Format → List ℕ → Sound
-sound_of f body = record { channels = f.channels; rate = f.rate; samples = samples_of (whole_frames f.channels body) }
+-- the chunks behind `RIFF`, the RIFF size, which isn't looked at, and `WAVE`
+unfoldable pub found_in : Depths → List ℕ → Finding
+found_in depths bytes =
+    if bytes_eq (take 4 bytes) (codes "RIFF") then
+    (if bytes_eq (take 4 (drop 8 bytes)) (codes "WAVE") then finding depths None (chunks (drop 12 bytes)) else refused NotWave)
+    else refused NotRiff
+
+-- the format and the data of a file
+pub record Contents : Type 0 where
+  pub format : Format
+  pub body : List ℕ
 
 -- at the end of the file
-abbrev pub at_end : Finding → Result Sound WavError
+abbrev pub at_end : Finding → Result Contents WavError
 at_end (refused e) = Err e
-at_end (body_found f body) = Ok (sound_of f body)
+at_end (body_found f body) = Ok (record { format = f; body = body })
 at_end format_cut = Err ShortFormat
 at_end (ended None) = Err NoFormat
 at_end (ended (Some f)) = Err NoData
 
 -- in a file that is too long, after as many bytes as a file may have
-abbrev pub before_end : Finding → Result Sound WavError
+abbrev pub before_end : Finding → Result Contents WavError
 before_end (refused e) = Err e
 before_end (body_found f body) = Err TooLong
 before_end format_cut = Err TooLong
 before_end (ended format) = Err TooLong
 
--- the chunks behind `RIFF`, the RIFF size, which isn't looked at, and `WAVE`
-abbrev pub found_in : List ℕ → Finding
-found_in bytes = finding None (chunks (drop 12 bytes))
+-- what is found in the bytes that follow so many, where a file has no more than it may have
+unfoldable pub limited : ℕ → (List ℕ → Finding) → List ℕ → Result Contents WavError
+limited seen find bytes =
+    if nat_le (seen + length bytes) most_bytes then at_end (find bytes) else before_end (find (take (most_bytes - seen) bytes))
+
+-- the format and the data of a file of bytes, of samples with bits that are taken
+abbrev pub contents : Depths → List ℕ → Result Contents WavError
+contents depths bytes = limited 0 (found_in depths) bytes
+
+-- the sound of a body: whole frames, without a rest
+abbrev pub sound_of : Format → List ℕ → Sound
+sound_of f body = record { channels = f.channels; rate = f.rate; samples = samples_of (whole_frames f.channels body) }
+
+-- the sound of a file's format and data
+abbrev pub sounds : Result Contents WavError → Result Sound WavError
+sounds (Ok c) = Ok (sound_of c.format c.body)
+sounds (Err e) = Err e
 
 -- what reading a file gives
-unfoldable pub wav_file : List ℕ → Result Sound WavError
-wav_file bytes =
-    if bytes_eq (take 4 bytes) (codes "RIFF") then
-    (if bytes_eq (take 4 (drop 8 bytes)) (codes "WAVE") then
-    (if nat_le (length bytes) most_bytes then at_end (found_in bytes) else before_end (found_in (take most_bytes bytes)))
-    else Err NotWave)
-    else Err NotRiff
+abbrev pub wav_file : List ℕ → Result Sound WavError
+wav_file bytes = sounds (contents Sixteen bytes)

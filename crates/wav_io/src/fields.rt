@@ -1,10 +1,8 @@
 //! Little-endian numbers and samples in bytes.
 
-ghost use Rattle.std.specs.Prelude.{◌≡◌, ◌+◌, ◌≤◌, length, IfOk};
+ghost use Rattle.std.specs.Prelude.{◌≡◌, ◌+◌, ◌/◌, ◌≤◌, length};
 ghost use Rattle.std.specs.Int.{w16, w32};
 ghost use Rattle.wav_io.specs.Fields.{number_at, samples_of};
-
-use std::alloc::{AllocError, Global};
 
 /// The 16-bit number at a place.
 pub fn u16_at(bytes: &[u8], place: usize) -> u16
@@ -27,14 +25,13 @@ pub fn u32_at(bytes: &[u8], place: usize) -> u32
     ])
 }
 
-/// The samples of a body, two bytes each.
-pub fn read_samples(alloc: Global, body: &[u8]) -> Result<Vec<i16>, AllocError>
-    ensures { IfOk result (λ v. v.items ≡ samples_of body.now) }
+/// Puts the samples of the bytes, two bytes each, into as many places. No bound is tested, so that the compiler can do
+/// several at a time.
+pub fn decode(samples: &mut [i16], bytes: &[u8])
+    requires { length samples.old ≡ length bytes.now / 2 }
+    ensures { samples.new ≡ samples_of bytes.now }
 {
-    let count = body.len() / 2;
-    let mut samples = Vec::with_capacity(alloc, count)?;
-    for i in 0..count {
-        samples.push(i16::from_le_bytes([body[2 * i], body[2 * i + 1]]))?;
+    for i in 0..samples.len() {
+        samples[i] = i16::from_le_bytes([bytes[2 * i], bytes[2 * i + 1]]);
     }
-    Ok(samples)
 }

@@ -1,23 +1,24 @@
-//! What the chunks of a WAV file come to.
+//! Where the bytes of the opening, of a chunk's head and of the format chunk lead.
 
-ghost use Rattle.std.specs.Prelude.{◌≡◌, ◌≢◌, ◌+◌, ◌≤◌, length, None, Some, IfSome, IfOk, IfErr};
+ghost use Rattle.std.specs.Prelude.{◌≡◌, ◌≢◌, ◌+◌, ◌≤◌, ◌++◌, ℕ, List, [], length, take, drop, IfSome, IfOk, IfErr, IsTrue};
 ghost use Rattle.std.specs.Int.{w16, w32};
+ghost use Rattle.std.specs.Str.{bytes_eq};
 ghost use Rattle.wav_io.specs.declared.error.WavError.TheVariants.{Memory};
+ghost use Rattle.wav_io.specs.declared.format.Depths.{Depths};
 ghost use Rattle.wav_io.specs.Chunks.{chunks};
 ghost use Rattle.wav_io.specs.Formats.{IsFormat, terms_of, extensible_of, format_of};
-ghost use Rattle.wav_io.specs.Reading.{judged, format_chunk, data_chunk, finding};
-ghost use Rattle.wav_io.specs.Views.{chunk_of, found_of, verdict_of, FoundInOrder, VerdictInOrder};
+ghost use Rattle.wav_io.specs.Pieces.{LeadsTo, sized, behind};
+ghost use Rattle.wav_io.specs.Reading.{finding, found_in, followed, settled, format_chunk};
 
-use crate::chunk::{ChunkRef, cut};
 use crate::error::WavError;
 use crate::fields::{u16_at, u32_at};
-use crate::finding::{Found, Verdict};
-use crate::format::Format;
+use crate::format::{Depths, Format};
+use crate::place::Place;
 
 #[tactic(auto, unfolding(crate::specs::Formats::terms_of))]
-fn read_terms(body: &[u8]) -> Result<Format, WavError>
+fn read_terms(depths: Depths, body: &[u8]) -> Result<Format, WavError>
     requires { 16 ≤ length body.now }
-    ensures value { result ≡ terms_of body.now }
+    ensures value { result ≡ terms_of depths body.now }
     ensures in_order { IfOk result IsFormat }
     ensures refused { IfErr result (λ e. e ≢ Memory) }
 {
@@ -30,17 +31,21 @@ fn read_terms(body: &[u8]) -> Result<Format, WavError>
         return Err(WavError::RateZero);
     }
     let bits = u16_at(body, 14);
-    if bits == 16 {
-        Ok(Format { channels, rate })
+    if depths.accepts(bits) {
+        Ok(Format {
+            channels,
+            rate,
+            bits,
+        })
     } else {
         Err(WavError::Bits(bits))
     }
 }
 
 #[tactic(auto, unfolding(crate::specs::Formats::extensible_of))]
-fn read_extensible(body: &[u8]) -> Result<Format, WavError>
+fn read_extensible(depths: Depths, body: &[u8]) -> Result<Format, WavError>
     requires { 16 ≤ length body.now }
-    ensures value { result ≡ extensible_of body.now }
+    ensures value { result ≡ extensible_of depths body.now }
     ensures in_order { IfOk result IsFormat }
     ensures refused { IfErr result (λ e. e ≢ Memory) }
 {
@@ -49,90 +54,112 @@ fn read_extensible(body: &[u8]) -> Result<Format, WavError>
     }
     let tag = u16_at(body, 24);
     if tag == 1 {
-        read_terms(body)
+        read_terms(depths, body)
     } else {
         Err(WavError::Tag(tag))
     }
 }
 
 #[tactic(auto, unfolding(crate::specs::Formats::format_of))]
-fn read_format(body: &[u8]) -> Result<Format, WavError>
+fn read_format(depths: Depths, body: &[u8]) -> Result<Format, WavError>
     requires { 16 ≤ length body.now }
-    ensures value { result ≡ format_of body.now }
+    ensures value { result ≡ format_of depths body.now }
     ensures in_order { IfOk result IsFormat }
     ensures refused { IfErr result (λ e. e ≢ Memory) }
 {
     let tag = u16_at(body, 0);
     if tag == 1 {
-        return read_terms(body);
+        return read_terms(depths, body);
     }
     if tag == 0xfffe {
-        read_extensible(body)
+        read_extensible(depths, body)
     } else {
         Err(WavError::Tag(tag))
     }
 }
 
-fn judge_format(format: Option<Format>, chunk: ChunkRef<'_>) -> Verdict<'_>
-    requires { IfSome format IsFormat }
-    ensures value { verdict_of result ≡ format_chunk format (chunk_of chunk.entry) }
-    ensures in_order { VerdictInOrder result }
+/// The place after the body of a format chunk, of which these are the first 40 bytes or all.
+pub fn after_format(depths: Depths, pad: usize, body: &[u8]) -> Place
+    requires { 16 ≤ length body.now }
+    ensures { LeadsTo depths result (λ more. followed (settled (format_of depths body.now)) (λ f. finding depths f (chunks (drop pad more)))) }
 {
-    if let Some(_) = format {
-        return Verdict::Decides(Found::Refused(WavError::FormatTwice));
-    }
-    if chunk.size < 16 {
-        return Verdict::Decides(Found::Refused(WavError::ShortFormat));
-    }
-    if chunk.body.len() < chunk.size {
-        return Verdict::Decides(Found::FormatCut);
-    }
-    match read_format(chunk.body) {
-        Ok(read) => Verdict::GoesOn(Some(read)),
-        Err(error) => Verdict::Decides(Found::Refused(error)),
+    match read_format(depths, body) {
+        Ok(format) => Place::Head {
+            format: Some(format),
+            skip: pad,
+        },
+        Err(error) => Place::Refused(error),
     }
 }
 
-fn judge_data(format: Option<Format>, chunk: ChunkRef<'_>) -> Verdict<'_>
-    requires { IfSome format IsFormat }
-    ensures value { verdict_of result ≡ data_chunk format (chunk_of chunk.entry) }
-    ensures in_order { VerdictInOrder result }
+/// The place after the head of a format chunk with a body of this size, behind a format or not.
+fn after_format_head(format: Option<Format>, size: usize) -> Place
+    ensures { (depths : Depths) (name : List ℕ) → LeadsTo depths result
+        (λ more. followed (format_chunk depths format (sized name size more)) (λ f. finding depths f (chunks (behind size more)))) }
 {
-    match format {
-        Some(format) => Verdict::Decides(Found::Body(format, chunk.body)),
-        None => Verdict::Decides(Found::Refused(WavError::NoFormat)),
+    if format.is_some() {
+        return Place::Refused(WavError::FormatTwice);
+    }
+    if size < 16 {
+        return Place::Refused(WavError::ShortFormat);
+    }
+    Place::FormatBody {
+        missing: size,
+        pad: size % 2,
     }
 }
 
-#[tactic(auto, unfolding(crate::specs::Reading::judged))]
-fn judge(format: Option<Format>, chunk: ChunkRef<'_>) -> Verdict<'_>
-    requires { IfSome format IsFormat }
-    ensures value { verdict_of result ≡ judged format (chunk_of chunk.entry) }
-    ensures in_order { VerdictInOrder result }
+/// The place after a chunk's head of eight bytes, behind a format or not.
+pub fn after_head(format: Option<Format>, head: &[u8]) -> Place
+    requires in_order { IfSome format IsFormat }
+    requires eight { length head.now ≡ 8 }
+    ensures { (depths : Depths) → LeadsTo depths result (λ more. finding depths format (chunks (head.now ++ more))) }
 {
-    if chunk.name == b"fmt ".as_slice() {
-        return judge_format(format, chunk);
+    let size = u32_at(head, 4) as usize;
+    let name = &head[..4];
+    if name == b"fmt ".as_slice() {
+        return after_format_head(format, size);
     }
-    if chunk.name == b"data".as_slice() {
-        return judge_data(format, chunk);
+    if name == b"data".as_slice() {
+        return match format {
+            Some(format) => Place::DataBody {
+                format,
+                missing: size,
+            },
+            None => Place::Refused(WavError::NoFormat),
+        };
     }
-    Verdict::GoesOn(format)
+    Place::Head {
+        format,
+        skip: size + size % 2,
+    }
 }
 
-/// What the chunks come to, of which the first one begins at the first byte.
-pub fn find(bytes: &[u8]) -> Found<'_>
-    ensures value { found_of result ≡ finding None (chunks bytes.now) }
-    ensures in_order { FoundInOrder result }
+/// Whether these four bytes are at a place.
+pub fn is_at(bytes: &[u8], place: usize, name: &[u8]) -> bool
+    requires near { place ≤ 8 }
+    requires four { length name.now ≡ 4 }
+    ensures { result ≡ bytes_eq (take 4 (drop place bytes.now)) name.now }
 {
-    let mut format = None;
-    let mut rest = bytes;
-    while rest.len() >= 8 {
-        let (chunk, behind) = cut(rest);
-        match judge(format, chunk) {
-            Verdict::Decides(found) => return found,
-            Verdict::GoesOn(kept) => format = kept,
-        }
-        rest = behind;
+    if bytes.len() < place + 4 {
+        return false;
     }
-    Found::Ended(format)
+    &bytes[place..place + 4] == name
+}
+
+/// The place after the first 12 bytes of a file.
+pub fn after_opening(bytes: &[u8]) -> Place
+    requires { length bytes.now ≡ 12 }
+    ensures { (depths : Depths) → LeadsTo depths result (λ more. found_in depths (bytes.now ++ more)) }
+{
+    if !is_at(bytes, 0, b"RIFF") {
+        return Place::Refused(WavError::NotRiff);
+    }
+    if !is_at(bytes, 8, b"WAVE") {
+        return Place::Refused(WavError::NotWave);
+    }
+    Place::Head {
+        format: None,
+        skip: 0,
+    }
 }

@@ -1,26 +1,33 @@
-//! WAV files of signed 16-bit samples: bytes to samples and back.
+//! WAV files of signed 16-bit samples: bytes to samples and back, at once or in pieces.
 //!
 //! The format is RIFF WAVE (Multimedia Programming Interface and Data Specifications 1.0).
 #![tactic(auto)]
 
-mod chunk;
 mod error;
 mod fields;
-mod finding;
 mod format;
+mod frames;
 mod head;
 mod judging;
+mod kept;
+mod place;
+mod raw;
+mod reader;
 mod reading;
 mod samples;
+mod scan;
+mod steps;
 mod wav;
 mod writing;
 
 pub use error::WavError;
-pub use head::header;
+pub use head::{header, open_header};
+pub use raw::{RawHead, RawReader};
+pub use reader::{WavHead, WavReader};
 pub use reading::read_wav;
 pub use samples::Samples;
 pub use wav::Wav;
-pub use writing::write_wav;
+pub use writing::{append_samples, write_wav};
 
 #[cfg(test)]
 mod tests;

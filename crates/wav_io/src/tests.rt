@@ -1,6 +1,8 @@
+mod pieces;
 mod real_files;
 
 use super::*;
+use pieces::{in_pieces, is_alike_in_pieces};
 use std::alloc::{AllocError, Global};
 use std::test::*;
 
@@ -14,6 +16,11 @@ const EMPTY: [u8; 44] = [
 #[test]
 fn the_empty_file_both_ways(rt: HostRuntime) -> Result<(), Fail> {
     assert_eq!(rt; header(1, 48000, 0), EMPTY);
+    let open = open_header(1, 48000);
+    assert_eq!(rt; &open[..4], &EMPTY[..4]);
+    assert_eq!(rt; &open[4..8], [0xffu8; 4].as_slice());
+    assert_eq!(rt; &open[8..40], &EMPTY[8..40]);
+    assert_eq!(rt; &open[40..], [0xffu8; 4].as_slice());
     let read = read_wav(rt.alloc(), &EMPTY).ok().ok_or("the file is read")?;
     assert_eq!(rt; read.channels, 1);
     assert_eq!(rt; read.rate, 48000);
@@ -105,12 +112,15 @@ fn list_chunks_and_extensible_formats_are_read(rt: HostRuntime) -> Result<(), Fa
     let alloc = rt.alloc();
     let list = joined(alloc, &[&BEGIN, &LIST, &DATA])?;
     assert!(rt; is_one_sample(read_wav(alloc, &list)));
+    assert!(rt; is_alike_in_pieces(alloc, &list));
     let mut bytes = joined(alloc, &[&BEGIN[..12], &EXTENSIBLE, &DATA])?;
     assert!(rt; is_one_sample(read_wav(alloc, &bytes)));
+    assert!(rt; is_alike_in_pieces(alloc, &bytes));
     if let Some(tag) = bytes.get_mut(12 + 8 + 24) {
         *tag = 3;
     }
     assert_eq!(rt; refusal(read_wav(alloc, &bytes)), Some(WavError::Tag(3)));
+    assert!(rt; is_alike_in_pieces(alloc, &bytes));
     Ok(())
 }
 
@@ -119,6 +129,8 @@ fn cut_files(rt: HostRuntime) -> Result<(), Fail> {
     let alloc = rt.alloc();
     let rest = joined(alloc, &[&BEGIN, &DATA[..4], &[4, 0, 0, 0, 1, 0, 2]])?;
     assert!(rt; is_one_sample(read_wav(alloc, &rest)));
+    assert!(rt; is_alike_in_pieces(alloc, &rest));
+    assert!(rt; is_alike_in_pieces(alloc, &BEGIN[..30]));
     assert_eq!(rt;
         refusal(read_wav(alloc, &BEGIN[..30])),
         Some(WavError::ShortFormat)
@@ -150,6 +162,7 @@ fn one_frame_cut_after_each_byte(rt: HostRuntime) -> Result<(), Fail> {
         for n in from..to {
             let cut = whole.get(..n).ok_or("the file has so many bytes")?;
             assert_eq!(rt; refusal(read_wav(alloc, cut)), want, "at {n}");
+            assert_eq!(rt; refusal(in_pieces(alloc, cut, 1)), want, "at {n}");
         }
     }
     let cut = whole.get(..45).ok_or("the file has so many bytes")?;

@@ -1,6 +1,6 @@
 //! A WAV file from its content.
 
-ghost use Rattle.std.specs.Prelude.{◌≡◌, ◌++◌, ◌+◌, ◌*◌, ◌^◌, ◌<◌, ◌≤◌, length, Ok, All, FitsSigned, IfOk, OnOk, IfErr};
+ghost use Rattle.std.specs.Prelude.{◌≡◌, ◌++◌, ◌+◌, ◌*◌, ◌^◌, ◌<◌, ◌≤◌, length, Ok, All, FitsSigned, IfOk, OnOk, OnErr, IfErr};
 ghost use Rattle.std.specs.Int.{w16};
 ghost use Rattle.std.specs.List.{flat_map};
 ghost use Rattle.wav_io.specs.declared.error.WavError.TheVariants.{Memory};
@@ -13,13 +13,29 @@ use crate::head::header;
 use crate::wav::Wav;
 use std::alloc::{AllocError, Global};
 
-fn put_samples(bytes: &mut Vec<u8>, samples: &[i16]) -> Result<(), AllocError>
-    ensures put { OnOk result (bytes.new.items ≡ bytes.old.items ++ flat_map sample_bytes samples.now) }
-    ensures fit { OnOk result (All (FitsSigned w16) samples.now) }
+/// Puts the two bytes of each sample into their places. No bound is tested, so that the compiler can do several at a time.
+fn encode(bytes: &mut [u8], samples: &[i16])
+    requires { length bytes.old ≡ 2 * length samples.now }
+    ensures put { bytes.new ≡ flat_map sample_bytes samples.now }
+    ensures fit { All (FitsSigned w16) samples.now }
 {
-    for sample in samples {
-        bytes.extend_from_slice(&sample.to_le_bytes())?;
+    for i in 0..samples.len() {
+        let pair = samples[i].to_le_bytes();
+        bytes[2 * i] = pair[0];
+        bytes[2 * i + 1] = pair[1];
     }
+}
+
+/// Appends the samples as a WAV file has them, two bytes each, the low one first. The only error is want of memory; then
+/// nothing is appended.
+pub fn append_samples(bytes: &mut Vec<u8>, samples: &[i16]) -> Result<(), AllocError>
+    ensures ok { OnOk result (bytes.new.items ≡ bytes.old.items ++ flat_map sample_bytes samples.now) }
+    ensures fit { OnOk result (All (FitsSigned w16) samples.now) }
+    ensures err { OnErr result (bytes.new.items ≡ bytes.old.items) }
+{
+    let before = bytes.len();
+    bytes.resize(before + 2 * samples.len(), 0)?;
+    encode(&mut bytes[before..], samples);
     Ok(())
 }
 
@@ -35,7 +51,7 @@ fn write_file(alloc: Global, wav: &Wav) -> Result<Vec<u8>, WavError>
     let head = header(wav.channels, wav.rate, frames as u32);
     let mut bytes = Vec::with_capacity(alloc, 44 + 2 * samples.len())?;
     bytes.extend_from_slice(&head)?;
-    put_samples(&mut bytes, samples)?;
+    append_samples(&mut bytes, samples)?;
     Ok(bytes)
 }
 

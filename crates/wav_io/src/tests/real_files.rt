@@ -1,6 +1,7 @@
 //! WAV files as sox 14.4.2 and ffmpeg 5.1 write them. Above each stands the command that wrote it. The samples of
 //! FILE are those of `sox FILE -t raw -e signed -b 16 - | od -A n -v -t d2`.
 
+use super::pieces::is_alike_in_pieces;
 use super::refusal;
 use crate::{WavError, read_wav};
 use std::alloc::Global;
@@ -246,7 +247,10 @@ const BIG_ENDIAN: [u8; 48] = [
 fn is_read(alloc: Global, file: &[u8], channels: u16, rate: u32, samples: &[i16]) -> bool {
     match read_wav(alloc, file) {
         Ok(wav) => {
-            wav.channels == channels && wav.rate == rate && wav.samples.as_slice() == samples
+            wav.channels == channels
+                && wav.rate == rate
+                && wav.samples.as_slice() == samples
+                && is_alike_in_pieces(alloc, file)
         }
         Err(_) => false,
     }

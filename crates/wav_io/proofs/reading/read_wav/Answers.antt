@@ -7,7 +7,7 @@ use Rattle.wav_io.proofs.reading.read_wav.Goals as goal
 pub returns-clause-only : goal.returns-clause-only
 returns-clause-only c = λ s file same short.
     let short' = subst (λ (bytes : List ℕ). length bytes ≤ most_bytes) same short in
-    subst (λ given. Reads c.read_file.result given) (ap wav_file same ∙ wav_file-canonical s file short') c.read_file.ensures.exact
+    subst (λ given. Reads c.read_whole.result given) (ap wav_file same ∙ wav_file-canonical s file short') c.read_whole.ensures.exact
 
 pub returns-clause-refused : goal.returns-clause-refused
-returns-clause-refused c = refusal_comes c.read_file.result _ c.read_file.ensures.exact c.read_file.ensures.memory
+returns-clause-refused c = refusal_comes c.read_whole.result _ c.read_whole.ensures.exact c.read_whole.ensures.memory

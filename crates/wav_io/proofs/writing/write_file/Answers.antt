@@ -7,4 +7,4 @@ pub returns-clause-fits : goal.returns-clause-fits
 returns-clause-fits c =
     let sound : IsSound c.args.wav.now = subst IsSound c.wav.view_is c.wav.invariant in
     let samples = c.as_slice-samples.ensures ∙ ap (λ (s : Sound). s.samples) c.wav.view_is in
-    file_from c.args.wav.now _ sound c.requires.rate c.requires.size samples c.in_ok-put_samples.ensures.fit
+    file_from c.args.wav.now _ sound c.requires.rate c.requires.size samples c.in_ok-append_samples.ensures.fit

@@ -1,0 +1,104 @@
+-- The numbered values of a group, and the bindings that they are.
+use Rattle.std.proofs.Common.{◌≡◌, ℕ, zero, suc, ◌<◌, ◌≤◌, ◌+◌, ◌==◌, true, false, min, List, [], ◌∷◌, ◌++◌, length, take, set, Option, Some, None, refl, sym, ◌∙◌, ap, arith, inl, inr, length-append}
+use Rattle.std.specs.Prelude.{nat_lt, Err, option_map}
+use Rattle.asound_conf.specs.declared.error.ConfWhy.TheVariants as why
+use Rattle.std.specs.Fmt.{decimal}
+use Rattle.std.proofs.lemmas.Bool.{cases_lt}
+use Rattle.std.proofs.lemmas.Bool.Decides.{nat_tests}
+use Rattle.std.proofs.lemmas.List.{take_all, take-append-le, length-take-le}
+use Rattle.std.proofs.lemmas.List as lists
+use Rattle.bindings.specs.Answers.{answer_of}
+use Rattle.snd_base.specs.declared.errors.Why.TheVariants.{BindingsTooMany}
+use Rattle.asound_conf.specs.declared.conf.Node.{Node}
+use Rattle.asound_conf.specs.Device.{bindings_in, bound, count_of, number_in, one_more, values_of}
+use Rattle.asound_conf.specs.Tree.{Entries, get}
+use Rattle.asound_conf.specs.View.{entries_of}
+
+-- a group has as many names as it has items
+pub count_of-entries_of : (items : List (List ℕ × Node)) → count_of (entries_of items) ≡ length items
+count_of-entries_of [] = refl
+count_of-entries_of (x ∷ items) = omega (arith, count_of-entries_of items)
+
+-- the first values, of which at most nine are kept
+pub record AreFirst (g : Entries) (n : ℕ) (kept : List ℕ) : Type 0 where
+  pub list : List ℕ
+  pub are : values_of g n ≡ Some list
+  pub count : length list ≡ n
+  pub front : take (min n 9) kept ≡ take 9 list
+
+pub AreFirst-none : (g : Entries) (kept : List ℕ) → AreFirst g 0 kept
+unfolding values_of
+AreFirst-none g kept = record { list = []; are = refl; count = refl; front = refl }
+
+more-are : (g : Entries) (n value : ℕ) (list : List ℕ) → values_of g n ≡ Some list → number_in (get (decimal n) g) ≡ Some value → values_of g (suc n) ≡ Some (list ++ value ∷ [])
+unfolding values_of
+more-are g n value list are is = rw (are, is) refl
+
+-- one value more, which is kept
+pub AreFirst-kept : (g : Entries) (n value : ℕ) (kept : List ℕ) → AreFirst g n kept → number_in (get (decimal n) g) ≡ Some value → n < 9 → length kept ≡ 9 → AreFirst g (n + 1) (set kept n value)
+AreFirst-kept g n value kept first is low size =
+    let next : suc n ≡ n + 1 = omega arith in
+    let few : min n 9 ≡ n = omega arith in
+    let fewer : min (n + 1) 9 ≡ n + 1 = omega arith in
+    let front : take n kept ≡ first.list = ap (λ k. take k kept) (sym few) ∙ first.front ∙ take_all 9 first.list (omega (arith, first.count)) in
+    let within : n < length kept = omega arith in
+    record {
+      list = first.list ++ value ∷ [];
+      are = ap (values_of g) (sym next) ∙ more-are g n value first.list first.are is;
+      count = omega (arith, length-append first.list (value ∷ []), first.count);
+      front = ap (λ k. take k (set kept n value)) fewer ∙ lists.take_more_set kept n value within ∙ ap (λ l. l ++ value ∷ []) front ∙ sym (take_all 9 (first.list ++ value ∷ []) (omega (arith, length-append first.list (value ∷ []), first.count)));
+    }
+
+-- one value more, which isn't
+pub AreFirst-more : (g : Entries) (n value : ℕ) (kept : List ℕ) → AreFirst g n kept → number_in (get (decimal n) g) ≡ Some value → 9 ≤ n → AreFirst g (n + 1) kept
+AreFirst-more g n value kept first is high =
+    let next : suc n ≡ n + 1 = omega arith in
+    let many : min n 9 ≡ min (n + 1) 9 = omega arith in
+    record {
+      list = first.list ++ value ∷ [];
+      are = ap (values_of g) (sym next) ∙ more-are g n value first.list first.are is;
+      count = omega (arith, length-append first.list (value ∷ []), first.count);
+      front = ap (λ k. take k kept) (sym many) ∙ first.front ∙ sym (take-append-le 9 first.list (value ∷ []) (omega (arith, first.count)));
+    }
+
+-- where one value is none, there are none
+pub values_of-None : (g : Entries) (n m : ℕ) → number_in (get (decimal n) g) ≡ None → n < m → values_of g m ≡ None
+unfolding values_of
+values_of-None g n zero none below = absurd (omega arith)
+values_of-None g n (suc m) none below = elim (cases_lt n m) [
+  | inl low ↦ ap (λ o. one_more o (number_in (get (decimal m) g))) (values_of-None g n m none low)
+  | inr high ↦
+      let last : m ≡ n = omega arith in
+      let is : number_in (get (decimal m) g) ≡ None = ap (λ k. number_in (get (decimal k) g)) last ∙ none in
+      ap (one_more (values_of g m)) is ∙ one_more-None (values_of g m)
+]
+  where
+    one_more-None : (o : Option (List ℕ)) → one_more o None ≡ None
+    one_more-None (Some list) = refl
+    one_more-None None = refl
+
+-- nine entries are as good as more: too many
+pub answer_of-take : (list : List ℕ) (channels : ℕ) → answer_of (take 9 list) channels ≡ answer_of list channels
+answer_of-take list channels = elim (cases_lt (length list) 10) [
+  | inl few ↦ ap (λ l. answer_of l channels) (take_all 9 list (omega arith))
+  | inr many ↦
+      let size : length (take 9 list) ≡ 9 = length-take-le 9 list (omega arith) in
+      too_many (take 9 list) channels (omega (arith, size)) ∙ sym (too_many list channels (omega arith))
+]
+  where
+    too_many : (l : List ℕ) (channels : ℕ) → 8 < length l → answer_of l channels ≡ Err BindingsTooMany
+    too_many l channels many =
+        let some : (length l == 0) ≡ false = grind (arith, nat_tests, many) in
+        let more : nat_lt 8 (length l) ≡ true = grind (arith, nat_tests, many) in
+        rw (some, more) refl
+
+-- the bindings of nine values are those of all
+pub bindings_in-take : (values : Option (List ℕ)) (kept : List ℕ) (channels : ℕ) → Some kept ≡ option_map (λ list. take 9 list) values → bound (answer_of kept channels) ≡ bindings_in values channels
+bindings_in-take (Some list) kept channels same =
+    let is : kept ≡ take 9 list = cc in
+    ap bound (ap (λ l. answer_of l channels) is ∙ answer_of-take list channels)
+bindings_in-take None kept channels same = cc
+
+pub bindings_in-None : (values : Option (List ℕ)) (channels : ℕ) → None ≡ option_map (λ list. take 9 list) values → bindings_in values channels ≡ Err why.BindingKey
+bindings_in-None (Some list) channels same = cc
+bindings_in-None None channels same = refl

@@ -1,0 +1,32 @@
+-- What tokens mean, one by one.
+use Rattle.std.proofs.Common.{◌≡◌, ℕ, List, [], ◌∷◌, Result, Ok, refl, sym, ap, ◌∙◌, subst}
+use Rattle.asound_conf.specs.declared.error.ConfError.{ConfError}
+use Rattle.asound_conf.specs.declared.error.ConfWhy.{ConfWhy}
+use Rattle.asound_conf.specs.declared.error.ConfWhy.TheVariants as why
+use Rattle.asound_conf.specs.Grammar.{State, finished, meaning, step, stepped}
+use Rattle.asound_conf.specs.Reading.{Reads, Refuses, RefusesText}
+use Rattle.asound_conf.specs.Token.{LineToken}
+use Rattle.asound_conf.specs.Tree.{Entries}
+
+-- behind a token that leads on
+pub meaning-next : (s next : State) (last : ℕ) (t : LineToken) (ts : List LineToken) → step s t.line t.token ≡ Ok next → meaning s last (t ∷ ts) ≡ meaning next last ts
+unfolding meaning
+meaning-next s next last t ts leads = ap (λ r. stepped t.line r (λ n. meaning n last ts)) leads
+
+-- at the end
+pub meaning-nil : (s : State) (last : ℕ) → meaning s last [] ≡ finished s last s.outer s.awaits
+unfolding meaning
+meaning-nil s last = refl
+
+refused-by : (cause : ConfWhy) (line : ℕ) (r : Result State ConfWhy) (more : State → Result Entries ConfError) (given : Result Entries ConfError) → given ≡ stepped line r more → Refuses cause r → RefusesText cause (record { line = line; why = cause }) given
+refused-by why.Memory line r more given is refuses = tt
+refused-by cause line r more given is refuses = is ∙ ap (λ x. stepped line x more) refuses
+
+-- a token that is refused is the first defect
+pub meaning-refused : (cause : ConfWhy) (s : State) (last : ℕ) (t : LineToken) (ts : List LineToken) (given : Result Entries ConfError) → given ≡ meaning s last (t ∷ ts) → Refuses cause (step s t.line t.token) → RefusesText cause (record { line = t.line; why = cause }) given
+unfolding meaning
+meaning-refused cause s last t ts given is refuses = refused-by cause t.line (step s t.line t.token) (λ n. meaning n last ts) given is refuses
+
+-- what was read is what is given
+pub Reads-along : (result given other : Result Entries ConfError) → given ≡ other → Reads result other → Reads result given
+Reads-along result given other same reads = subst (λ g. Reads result g) (sym same) reads

@@ -1,0 +1,28 @@
+-- The pieces of a list between elements that pass a test.
+use Rattle.std.proofs.Common.{◌≡◌, ℕ, ◌<◌, ◌+◌, ◌-◌, Bool, List, [], ◌∷◌, length, take, drop, Some, None, ap, ◌∙◌, arith}
+use Rattle.std.specs.List.{slice_split, position, position_or_len}
+use Rattle.std.proofs.lemmas.List.{take_all, length-drop}
+use Rattle.std.proofs.lemmas.List.Splits.{slice_split_first, slice_split_none}
+use Rattle.std.proofs.lemmas.Bool.Decides.{nat_tests}
+use Rattle.std.proofs.lemmas.Option.{cond_some}
+use Rattle.std.proofs.lemmas.List.Sums.{fails_before_first}
+
+-- the rest of a list
+take-drop : (i : ℕ) (xs : List ℕ) → take (length xs - i) (drop i xs) ≡ drop i xs
+take-drop i xs = take_all (length xs - i) (drop i xs) (omega (arith, length-drop i xs))
+
+position_place : (p : ℕ → Bool) (xs : List ℕ) (i : ℕ) → position p xs ≡ Some i → (position_or_len p xs < length xs) × (position_or_len p xs ≡ i)
+position_place p xs i e = grind (arith, nat_tests, cond_some)
+
+position_missing : (p : ℕ → Bool) (xs : List ℕ) (k : ℕ) → position p xs ≡ None → k < length xs → k < position_or_len p xs
+position_missing p xs k e h = grind (arith, nat_tests)
+
+-- the first piece ends at the first that passes
+pub slice_split-at : (p : ℕ → Bool) (xs : List ℕ) (i : ℕ) → position p xs ≡ Some i → slice_split p xs ≡ take i xs ∷ slice_split p (take (length xs - (i + 1)) (drop (i + 1) xs))
+slice_split-at p xs i e =
+    let h = position_place p xs i e in
+    rw (take-drop (i + 1) xs) (slice_split_first p xs 0 h.0 ∙ ap (λ k. take k xs ∷ slice_split p (drop (k + 1) xs)) h.1)
+
+-- where none passes there is one piece
+pub slice_split-none : (p : ℕ → Bool) (xs : List ℕ) → position p xs ≡ None → slice_split p xs ≡ xs ∷ []
+slice_split-none p xs e = slice_split_none p xs (λ k d h. fails_before_first p xs k d (position_missing p xs k e h))

@@ -1,0 +1,218 @@
+-- The device that a configuration defines under a name, or why it defines none.
+use Rattle.std.specs.Prelude.{ℕ, zero, suc, ◌+◌, ◌*◌, ◌/◌, ◌%◌, ◌==◌, ◌&&◌, ◌||◌, not, nat_lt, nat_le, Bool, if◌then◌else◌, List, [], ◌∷◌, ◌++◌, length, slice_index, codes, bytes_eq, Option, Some, None, Result, Ok, Err}
+use Rattle.std.specs.Str.{all_ascii_digits}
+use Rattle.std.specs.Str.Parse.{digits_value}
+use Rattle.std.specs.Fmt.{decimal}
+use Rattle.bindings.specs.Answers.{answer_of}
+use Rattle.snd_base.specs.declared.errors.Why.{Why}
+use Rattle.snd_base.specs.declared.errors.Why.TheVariants as base
+use Rattle.asound_conf.specs.declared.plugin.Card.{Card}
+use Rattle.asound_conf.specs.declared.plugin.Device.{Device}
+use Rattle.asound_conf.specs.declared.plugin.DeviceKind.{DeviceKind}
+use Rattle.asound_conf.specs.declared.plugin.DeviceKind.TheVariants as kinds
+use Rattle.asound_conf.specs.declared.plugin.Numbers.{Numbers}
+use Rattle.asound_conf.specs.declared.error.ConfError.{ConfError}
+use Rattle.asound_conf.specs.declared.error.ConfWhy.{ConfWhy}
+use Rattle.asound_conf.specs.declared.error.ConfWhy.TheVariants as why
+use Rattle.asound_conf.specs.Tree.{Tree, text, group, Entries, empty, entry, get}
+
+-- what follows from a result where it is Ok
+infixl 10 ◌>>=◌
+abbrev pub ◌>>=◌ : {A B : Type 0} → Result A ConfWhy → (A → Result B ConfWhy) → Result B ConfWhy
+(Ok x) >>= f = f x
+(Err e) >>= f = Err e
+
+-- what a call gave, seen by view
+abbrev pub seen : {X Y : Type 0} → (X → Y) → Result X ConfWhy → Result Y ConfWhy
+seen view (Ok x) = Ok (view x)
+seen view (Err e) = Err e
+
+-- the group that a node is
+abbrev pub as_group : Option Tree → Result Entries ConfWhy
+as_group (Some (group g)) = Ok g
+as_group (Some (text t)) = Err why.Missing
+as_group None = Err why.Missing
+
+-- the group of this name in the text's group of this kind: `kind.name`
+unfoldable pub defined : List ℕ → List ℕ → Entries → Result Entries ConfWhy
+defined kind name root = do
+  all ← as_group (get kind root)
+  as_group (get name all)
+
+-- the slave of a device: a group of its own, or the name of one among those of `pcm_slave`
+abbrev pub slave_of : Entries → Option Tree → Result Entries ConfWhy
+slave_of root (Some (group g)) = Ok g
+slave_of root (Some (text t)) = defined (codes "pcm_slave") t root
+slave_of root None = Err why.Missing
+
+-- the kind that a device's type names
+abbrev pub kind_named : List ℕ → Result DeviceKind ConfWhy
+kind_named t =
+    if bytes_eq t (codes "dmix") then Ok kinds.Dmix else
+    if bytes_eq t (codes "dsnoop") then Ok kinds.Dsnoop else
+    if bytes_eq t (codes "dshare") then Ok kinds.Dshare else Err why.PluginType
+
+-- the kind that a device's type is
+abbrev pub kind_of : Option Tree → Result DeviceKind ConfWhy
+kind_of (Some (text t)) = kind_named t
+kind_of (Some (group g)) = Err why.PluginType
+kind_of None = Err why.PluginType
+
+-- samples are of 16 bits, little-endian, where a format is given
+abbrev pub format_of : Option Tree → Result (Unit {0}) ConfWhy
+format_of (Some (text t)) = if bytes_eq t (codes "S16_LE") || bytes_eq t (codes "S16") then Ok tt else Err why.Format
+format_of (Some (group g)) = Err why.Format
+format_of None = Ok tt
+
+-- a text is a number: 1 to 10 decimal digits, below 2 ^ 32
+abbrev pub is_number : List ℕ → Bool
+is_number t = nat_le 1 (length t) && nat_le (length t) 10 && all_ascii_digits t && nat_lt (digits_value 10 t) 4294967296
+
+-- the number that a text is
+abbrev pub number_of : List ℕ → Option ℕ
+number_of t = if is_number t then Some (digits_value 10 t) else None
+
+-- the number that a node is
+abbrev pub number_in : Option Tree → Option ℕ
+number_in (Some (text t)) = number_of t
+number_in (Some (group g)) = None
+number_in None = None
+
+-- a number field: 0 where it isn't given
+abbrev pub field_in : Option Tree → Option ℕ
+field_in None = Some 0
+field_in (Some node) = number_in (Some node)
+
+-- what is refused with this cause where it isn't there
+abbrev pub or_refuse : {X : Type 0} → ConfWhy → Option X → Result X ConfWhy
+or_refuse cause (Some x) = Ok x
+or_refuse cause None = Err cause
+
+-- a number field of a slave
+abbrev pub field : List ℕ → Entries → Result ℕ ConfWhy
+field name slave = or_refuse why.Number (field_in (get name slave))
+
+-- the number fields of a slave, in this order
+unfoldable pub numbers_of : Entries → Result Numbers ConfWhy
+numbers_of slave = do
+  channels ← field (codes "channels") slave
+  rate ← field (codes "rate") slave
+  period_size ← field (codes "period_size") slave
+  period_time ← field (codes "period_time") slave
+  buffer_size ← field (codes "buffer_size") slave
+  periods ← field (codes "periods") slave
+  buffer_time ← field (codes "buffer_time") slave
+  Ok (record { channels = channels; rate = rate; period_size = period_size; period_time = period_time; buffer_size = buffer_size; periods = periods; buffer_time = buffer_time })
+
+-- a number, or another one where it isn't given
+abbrev pub or_default : ℕ → ℕ → ℕ
+or_default n other = if n == 0 then other else n
+
+-- how many frames a time in microseconds is
+abbrev pub frames_in : ℕ → ℕ → ℕ
+frames_in rate time = rate * time / 1000000
+
+-- the period in frames: its size, else its time, else 1024
+abbrev pub period_of : Numbers → ℕ → ℕ
+period_of n rate = or_default n.period_size (if n.period_time == 0 then 1024 else frames_in rate n.period_time)
+
+-- the ring in frames: the buffer's size, else its periods, else its time, else eight periods
+abbrev pub ring_of : Numbers → ℕ → ℕ → ℕ
+ring_of n rate period =
+    or_default n.buffer_size (
+    if n.periods == 0 then (if n.buffer_time == 0 then 8 * period else frames_in rate n.buffer_time) else period * n.periods)
+
+-- channels and rate are in their ranges
+abbrev pub is_stream : ℕ → ℕ → Bool
+is_stream channels rate = nat_le 1 channels && nat_le channels 8 && nat_le 4000 rate && nat_le rate 192000
+
+-- a period is in its range: at least 16 frames, and at most 16384 where it was computed
+abbrev pub is_period : Numbers → ℕ → Bool
+is_period n period = nat_le 16 period && (nat_lt 0 n.period_size || nat_le period 16384)
+
+-- a ring is in its range
+abbrev pub is_ring : ℕ → Bool
+is_ring ring = nat_le 64 ring && nat_le ring 16384
+
+-- a period divides its ring at least twice
+abbrev pub is_fit : ℕ → ℕ → Bool
+is_fit period ring = nat_le period (ring / 2) && ring % period == 0
+
+-- the card of these numbers
+abbrev pub card_with : Numbers → ℕ → ℕ → ℕ → ℕ → Result Card ConfWhy
+card_with n channels rate period ring =
+    if not (is_stream channels rate) then Err why.Range else
+    if not (is_period n period) then Err why.Range else
+    if not (is_ring ring) then Err why.Range else
+    if not (is_fit period ring) then Err why.Fit else Ok (record { channels = channels; rate = rate; period = period; ring = ring })
+
+-- the card of a slave's numbers
+abbrev pub card_of : Numbers → Result Card ConfWhy
+card_of n =
+    let rate = or_default n.rate 48000 in
+    let period = period_of n rate in
+    card_with n (or_default n.channels 2) rate period (ring_of n rate period)
+
+-- a text is 1 to 19 decimal digits without a leading zero
+abbrev pub is_canonical : List ℕ → Bool
+is_canonical t = nat_le 1 (length t) && nat_le (length t) 19 && all_ascii_digits t && (length t == 1 || not (slice_index t 0 == 48))
+
+-- how many names a group has
+abbrev pub count_of : Entries → ℕ
+count_of empty = 0
+count_of (entry name node rest) = count_of rest + 1
+
+-- a list with one value more, where there are both
+abbrev pub one_more : Option (List ℕ) → Option ℕ → Option (List ℕ)
+one_more (Some values) (Some value) = Some (values ++ value ∷ [])
+one_more (Some values) None = None
+one_more None value = None
+
+-- the values of the names 0, 1 and so on, so many
+unfoldable pub values_of : Entries → ℕ → Option (List ℕ)
+values_of g zero = Some []
+values_of g (suc n) = one_more (values_of g n) (number_in (get (decimal n) g))
+
+-- why a list of channels is refused
+abbrev pub cause_of : Why → ConfWhy
+cause_of base.BindingsTooMany = why.BindingsTooMany
+cause_of (base.BindingRange channel) = why.BindingRange channel
+cause_of (base.BindingTwice channel) = why.BindingTwice channel
+cause_of other = why.BindingsEmpty
+
+-- the bindings that a list of channels is
+abbrev pub bound : Result (List ℕ) Why → Result (Option (List ℕ)) ConfWhy
+bound (Ok list) = Ok (Some list)
+bound (Err cause) = Err (cause_of cause)
+
+-- the bindings of a group of channels: its names are 0 to n - 1 in some order, and its values numbers
+abbrev pub bindings_in : Option (List ℕ) → ℕ → Result (Option (List ℕ)) ConfWhy
+bindings_in (Some list) channels = bound (answer_of list channels)
+bindings_in None channels = Err why.BindingKey
+
+-- the bindings of a device on a card of so many channels
+abbrev pub bindings_of : Option Tree → ℕ → Result (Option (List ℕ)) ConfWhy
+bindings_of (Some (group g)) channels = bindings_in (values_of g (count_of g)) channels
+bindings_of (Some (text t)) channels = Err why.BindingKey
+bindings_of None channels = Ok None
+
+-- the device of this name, or why there is none
+unfoldable pub device_by : Entries → List ℕ → Result Device ConfWhy
+device_by root name = do
+  definition ← defined (codes "pcm") name root
+  slave ← slave_of root (get (codes "slave") definition)
+  kind ← kind_of (get (codes "type") definition)
+  fits ← format_of (get (codes "format") slave)
+  numbers ← numbers_of slave
+  card ← card_of numbers
+  bindings ← bindings_of (get (codes "bindings") definition) card.channels
+  Ok (record { kind = kind; channels = card.channels; rate = card.rate; period = card.period; ring = card.ring; bindings = bindings })
+
+-- a refusal of the text as a whole
+abbrev pub of_text : Result Device ConfWhy → Result Device ConfError
+of_text (Ok device) = Ok device
+of_text (Err cause) = Err (record { line = 0; why = cause })
+
+-- the device of this name, or the refusal of the text as a whole
+abbrev pub device_of : Entries → List ℕ → Result Device ConfError
+device_of root name = of_text (device_by root name)

@@ -1,0 +1,11 @@
+pub mod Device
+pub mod Grammar
+pub mod Key
+pub mod NodeFalls
+pub mod Place
+pub mod Reading
+pub mod Text
+pub mod Token
+pub mod Tree
+pub mod TreeCode
+pub mod View

@@ -1,0 +1,175 @@
+//! Nodes in a group: by their names, and down the parts of a key.
+ghost use Rattle.std.specs.Prelude.{◌≡◌, ℕ, ◌<◌, length, option_map, IfOk, OnOk, IfSome, IfNone, Some, None, false, vec_len};
+ghost use Rattle.asound_conf.specs.Tree.{get, group, group_in, has, set, without};
+ghost use Rattle.asound_conf.specs.Place.{base, met, meets_text, node_at, put, put_there};
+ghost use Rattle.asound_conf.specs.View.{added, entries_of, put_node, tree_of, IsLast};
+
+use crate::conf::{Conf, Node};
+use crate::part::Part;
+use crate::text::ConfText;
+use std::alloc::{AllocError, Global};
+
+/// The place of the node of this name. It is sought from the end, where what was added last is.
+fn place_of(items: &[(ConfText, Node)], name: &[u8]) -> Option<usize>
+    ensures some { IfSome result (λ at. IsLast name.now items.now at) }
+    ensures within { IfSome result (λ at. at < length items.now) }
+    ensures none { IfNone result (has name.now (entries_of items.now) ≡ false) }
+{
+    let mut left = items.len();
+    while left > 0 {
+        left -= 1;
+        if items[left].0.as_bytes() == name {
+            return Some(left);
+        }
+    }
+    None
+}
+
+/// Removes the nodes of this name.
+fn remove_all(items: &mut Vec<(ConfText, Node)>, name: &[u8])
+    ensures { entries_of items.new.items ≡ without name.now (entries_of items.old.items) }
+{
+    while let Some(at) = place_of(items.as_slice(), name) {
+        drop(items.remove(at));
+    }
+}
+
+/// Leaves a group as a part of a key does before it goes on: without the part's node, where `!` stands before the part.
+fn clear(group: &mut Conf, part: &Part)
+    ensures { group.new ≡ base part.now group.old }
+{
+    if part.removes {
+        remove_all(&mut group.items, part.name.as_bytes());
+    }
+}
+
+/// The place of the node of this name. An empty group is added at the end where there is none.
+fn place_or_add(
+    alloc: Global,
+    items: &mut Vec<(ConfText, Node)>,
+    name: &[u8],
+) -> Result<usize, AllocError>
+    ensures place { IfOk result (λ at. IsLast name.now items.new.items at) }
+    ensures within { IfOk result (λ at. at < vec_len items.new) }
+    ensures items { OnOk result (entries_of items.new.items
+        ≡ added name.now (entries_of items.old.items)) }
+{
+    if let Some(at) = place_of(items.as_slice(), name) {
+        return Ok(at);
+    }
+    let at = items.len();
+    let name = ConfText::copied(alloc, name)?;
+    items.push((name, Node::Group(Conf::new(alloc))))?;
+    Ok(at)
+}
+
+/// Makes a text an empty group, and leaves a group as it is.
+fn make_group(alloc: Global, node: &mut Node)
+    ensures { tree_of node.new ≡ group (group_in (Some (tree_of node.old))) }
+{
+    if let Node::Text(_) = node {
+        *node = Node::Group(Conf::new(alloc));
+    }
+}
+
+/// Puts an item's text where a node is, or makes the node a group where the item has no text.
+fn put_there(alloc: Global, node: &mut Node, text: Option<ConfText>)
+    ensures { tree_of node.new ≡ put_there text (Some (tree_of node.old)) }
+{
+    match text {
+        Some(text) => *node = Node::Text(text),
+        None => make_group(alloc, node),
+    }
+}
+
+/// Puts an item's text, or a group where it has none, down what is left of its key's parts at a node.
+#[cycle(put)]
+fn put_node(
+    alloc: Global,
+    node: &mut Node,
+    parts: &[Part],
+    text: Option<ConfText>,
+) -> Result<(), AllocError>
+    ensures { OnOk result (tree_of node.new ≡ put_node text parts.now (tree_of node.old)) }
+{
+    if parts.is_empty() {
+        put_there(alloc, node, text);
+        return Ok(());
+    }
+    make_group(alloc, node);
+    match node {
+        Node::Group(group) => put(alloc, group, parts, text),
+        Node::Text(_) => Ok(()),
+    }
+}
+
+/// Puts an item's text, or a group where it has none, down the parts of its key.
+#[cycle(put)]
+pub fn put(
+    alloc: Global,
+    group: &mut Conf,
+    parts: &[Part],
+    text: Option<ConfText>,
+) -> Result<(), AllocError>
+    ensures { OnOk result (group.new ≡ put text parts.now group.old) }
+{
+    let [part, rest @ ..] = parts else {
+        return Ok(());
+    };
+    clear(group, part);
+    let at = place_or_add(alloc, &mut group.items, part.name.as_bytes())?;
+    put_node(alloc, &mut group.items[at].1, rest, text)
+}
+
+/// The node of this name.
+pub fn get<'a>(group: &'a Conf, name: &[u8]) -> Option<&'a Node>
+    ensures { option_map (λ n. tree_of n.now) result ≡ get name.now group.now }
+{
+    let at = place_of(group.items.as_slice(), name)?;
+    Some(&group.items[at].1)
+}
+
+/// The node that a part of a key meets.
+fn met<'a>(group: &'a Conf, part: &Part) -> Option<&'a Node>
+    ensures { option_map (λ n. tree_of n.now) result ≡ met part.now group.now }
+{
+    if part.removes {
+        None
+    } else {
+        get(group, part.name.as_bytes())
+    }
+}
+
+/// The node at the end of a key's parts.
+#[tactic(auto, using(crate::proofs::Puts::from_nothing), unfolding(crate::specs::Place::node_at))]
+pub fn node_at<'a>(group: &'a Conf, parts: &[Part]) -> Option<&'a Node>
+    ensures { option_map (λ n. tree_of n.now) result ≡ node_at parts.now group.now }
+{
+    let [part, rest @ ..] = parts else {
+        return None;
+    };
+    let node = met(group, part)?;
+    match node {
+        _ if rest.is_empty() => Some(node),
+        Node::Group(inner) => node_at(inner, rest),
+        Node::Text(_) => None,
+    }
+}
+
+/// Whether a part of a key before the last meets a text.
+#[tactic(auto, using(crate::proofs::Puts::from_nothing), unfolding(crate::specs::Place::meets_text))]
+pub fn meets_text(group: &Conf, parts: &[Part]) -> bool
+    ensures { result ≡ meets_text parts.now group.now }
+{
+    let [part, rest @ ..] = parts else {
+        return false;
+    };
+    if rest.is_empty() {
+        return false;
+    }
+    match met(group, part) {
+        Some(Node::Text(_)) => true,
+        Some(Node::Group(inner)) => meets_text(inner, rest),
+        None => false,
+    }
+}

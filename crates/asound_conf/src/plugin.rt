@@ -1,0 +1,293 @@
+//! The dmix, dsnoop and dshare devices that a configuration defines.
+ghost use Rattle.std.specs.Prelude.{◌≡◌, ◌<◌, ◌≤◌, ◌+◌, ◌^◌, option_map};
+ghost use Rattle.asound_conf.specs.Device.{as_group, card_of, defined, device_by, field, field_in, format_of, frames_in, is_fit, is_period, is_ring, is_stream, kind_named, kind_of, number_in, numbers_of, or_default, period_of, ring_of, seen, slave_of, bindings_of};
+ghost use Rattle.asound_conf.specs.Tree.{get};
+ghost use Rattle.asound_conf.specs.View.{tree_of};
+
+use crate::channels::read_bindings;
+use crate::conf::{Conf, Node};
+use crate::error::ConfWhy;
+use crate::group::get;
+use crate::number::number_in;
+use bindings::Bindings;
+
+/// The type of a device.
+#[derive(Clone, Copy, Debug, PartialEq, Eq)]
+pub enum DeviceKind {
+    /// Mixes what several clients play.
+    Dmix,
+    /// Lets several clients record the same.
+    Dsnoop,
+    /// Gives channels of the card to one client each.
+    Dshare,
+}
+
+/// A device: its card, and to which of the card's channels its own go.
+#[derive(Clone, Copy, Debug, PartialEq, Eq)]
+pub struct Device {
+    pub kind: DeviceKind,
+    /// How many channels the card has, 1 to 8.
+    pub channels: u8,
+    /// Frames a second, 4000 to 192000.
+    pub rate: u32,
+    /// The card's period in frames, at least 16, which divides the ring at least twice.
+    pub period: u32,
+    /// The card's ring in frames, 64 to 16384.
+    pub ring: u32,
+    /// To which of the card's channels each channel of the device goes, where the definition says it.
+    pub bindings: Option<Bindings>,
+}
+
+/// The number fields of a slave, each 0 where it isn't given.
+#[derive(Clone, Copy, Debug)]
+pub struct Numbers {
+    pub channels: u32,
+    pub rate: u32,
+    /// In frames.
+    pub period_size: u32,
+    /// In microseconds.
+    pub period_time: u32,
+    /// In frames.
+    pub buffer_size: u32,
+    pub periods: u32,
+    /// In microseconds.
+    pub buffer_time: u32,
+}
+
+/// A card's numbers in their ranges.
+#[derive(Clone, Copy, Debug)]
+pub struct Card {
+    pub channels: u8,
+    pub rate: u32,
+    pub period: u32,
+    pub ring: u32,
+}
+
+/// The group that a node is.
+fn as_group(node: Option<&Node>) -> Result<&Conf, ConfWhy>
+    ensures { seen (λ g. g.now) result
+        ≡ as_group (option_map (λ n. tree_of n.now) node.entry) }
+{
+    match node {
+        Some(Node::Group(group)) => Ok(group),
+        Some(Node::Text(_)) => Err(ConfWhy::Missing),
+        None => Err(ConfWhy::Missing),
+    }
+}
+
+/// The group `kind.name`.
+#[tactic(auto, unfolding(crate::specs::Device::defined))]
+fn defined<'a>(kind: &[u8], name: &[u8], root: &'a Conf) -> Result<&'a Conf, ConfWhy>
+    ensures { seen (λ g. g.now) result ≡ defined kind.now name.now root.now }
+{
+    let all = as_group(get(root, kind))?;
+    as_group(get(all, name))
+}
+
+/// The slave of a device's definition.
+fn slave_of<'a>(root: &'a Conf, node: Option<&'a Node>) -> Result<&'a Conf, ConfWhy>
+    ensures { seen (λ g. g.now) result
+        ≡ slave_of root.now (option_map (λ n. tree_of n.now) node.entry) }
+{
+    match node {
+        Some(Node::Group(group)) => Ok(group),
+        Some(Node::Text(name)) => defined(b"pcm_slave", name.as_bytes(), root),
+        None => Err(ConfWhy::Missing),
+    }
+}
+
+/// The kind of device that a type names.
+fn kind_named(name: &[u8]) -> Result<DeviceKind, ConfWhy>
+    ensures { result ≡ kind_named name.now }
+{
+    if name == b"dmix".as_slice() {
+        return Ok(DeviceKind::Dmix);
+    }
+    if name == b"dsnoop".as_slice() {
+        return Ok(DeviceKind::Dsnoop);
+    }
+    if name == b"dshare".as_slice() {
+        return Ok(DeviceKind::Dshare);
+    }
+    Err(ConfWhy::PluginType)
+}
+
+/// The kind of device that a definition's type is.
+fn kind_of(node: Option<&Node>) -> Result<DeviceKind, ConfWhy>
+    ensures { result ≡ kind_of (option_map (λ n. tree_of n.now) node.entry) }
+{
+    match node {
+        Some(Node::Text(name)) => kind_named(name.as_bytes()),
+        Some(Node::Group(_)) => Err(ConfWhy::PluginType),
+        None => Err(ConfWhy::PluginType),
+    }
+}
+
+/// Whether a format is given that isn't 16 bits, little-endian.
+fn check_format(node: Option<&Node>) -> Result<(), ConfWhy>
+    ensures { result ≡ format_of (option_map (λ n. tree_of n.now) node.entry) }
+{
+    match node {
+        Some(Node::Text(name)) => {
+            let name = name.as_bytes();
+            if name == b"S16_LE".as_slice() || name == b"S16".as_slice() {
+                Ok(())
+            } else {
+                Err(ConfWhy::Format)
+            }
+        }
+        Some(Node::Group(_)) => Err(ConfWhy::Format),
+        None => Ok(()),
+    }
+}
+
+/// A number field of a slave, 0 where it isn't given.
+fn field(name: &[u8], slave: &Conf) -> Result<u32, ConfWhy>
+    ensures { result ≡ field name.now slave.now }
+{
+    match get(slave, name) {
+        Some(node) => number_in(Some(node)).ok_or(ConfWhy::Number),
+        None => Ok(0),
+    }
+}
+
+/// The number fields of a slave.
+#[tactic(auto, unfolding(crate::specs::Device::numbers_of))]
+fn numbers_of(slave: &Conf) -> Result<Numbers, ConfWhy>
+    ensures { result ≡ numbers_of slave.now }
+{
+    Ok(Numbers {
+        channels: field(b"channels", slave)?,
+        rate: field(b"rate", slave)?,
+        period_size: field(b"period_size", slave)?,
+        period_time: field(b"period_time", slave)?,
+        buffer_size: field(b"buffer_size", slave)?,
+        periods: field(b"periods", slave)?,
+        buffer_time: field(b"buffer_time", slave)?,
+    })
+}
+
+/// A number, or another one where it isn't given.
+fn or_default(number: u64, other: u64) -> u64
+    ensures { result ≡ or_default number other }
+{
+    if number == 0 { other } else { number }
+}
+
+/// How many frames a time in microseconds is.
+fn frames_in(rate: u64, time: u32) -> u64
+    requires { rate < 2 ^ 32 }
+    ensures value { result ≡ frames_in rate time }
+    ensures bound { result < 2 ^ 64 }
+{
+    rate * u64::from(time) / 1_000_000
+}
+
+/// The period in frames.
+fn period_of(numbers: &Numbers, rate: u64) -> u64
+    requires { rate < 2 ^ 32 }
+    ensures value { result ≡ period_of numbers.now rate }
+    ensures given { 0 < numbers.now.period_size → result < 2 ^ 32 }
+{
+    let computed = if numbers.period_time == 0 {
+        1024
+    } else {
+        frames_in(rate, numbers.period_time)
+    };
+    or_default(u64::from(numbers.period_size), computed)
+}
+
+/// The ring in frames.
+fn ring_of(numbers: &Numbers, rate: u64, period: u64) -> u64
+    requires rate { rate < 2 ^ 32 }
+    requires period { period < 2 ^ 32 }
+    ensures { result ≡ ring_of numbers.now rate period }
+{
+    let computed = if numbers.periods != 0 {
+        period * u64::from(numbers.periods)
+    } else if numbers.buffer_time != 0 {
+        frames_in(rate, numbers.buffer_time)
+    } else {
+        8 * period
+    };
+    or_default(u64::from(numbers.buffer_size), computed)
+}
+
+/// Whether channels and rate are in their ranges.
+fn is_stream(channels: u64, rate: u64) -> bool
+    ensures { result ≡ is_stream channels rate }
+{
+    1 <= channels && channels <= 8 && 4000 <= rate && rate <= 192_000
+}
+
+/// Whether a period is in its range.
+fn is_period(numbers: &Numbers, period: u64) -> bool
+    ensures { result ≡ is_period numbers.now period }
+{
+    16 <= period && (0 < numbers.period_size || period <= 16_384)
+}
+
+/// Whether a ring is in its range.
+fn is_ring(ring: u64) -> bool
+    ensures { result ≡ is_ring ring }
+{
+    64 <= ring && ring <= 16_384
+}
+
+/// Whether a period divides its ring at least twice.
+fn is_fit(period: u64, ring: u64) -> bool
+    requires { 0 < period }
+    ensures { result ≡ is_fit period ring }
+{
+    period <= ring / 2 && ring % period == 0
+}
+
+/// The card of a slave's numbers.
+fn card_of(numbers: &Numbers) -> Result<Card, ConfWhy>
+    ensures { result ≡ card_of numbers.now }
+{
+    let channels = or_default(u64::from(numbers.channels), 2);
+    let rate = or_default(u64::from(numbers.rate), 48_000);
+    if !is_stream(channels, rate) {
+        return Err(ConfWhy::Range);
+    }
+    let period = period_of(numbers, rate);
+    if !is_period(numbers, period) {
+        return Err(ConfWhy::Range);
+    }
+    let ring = ring_of(numbers, rate, period);
+    if !is_ring(ring) {
+        return Err(ConfWhy::Range);
+    }
+    if !is_fit(period, ring) {
+        return Err(ConfWhy::Fit);
+    }
+    Ok(Card {
+        channels: channels as u8,
+        rate: rate as u32,
+        period: period as u32,
+        ring: ring as u32,
+    })
+}
+
+/// The device of this name, or why there is none.
+#[tactic(auto, unfolding(crate::specs::Device::device_by))]
+pub fn device_by(root: &Conf, name: &[u8]) -> Result<Device, ConfWhy>
+    ensures { result ≡ device_by root.now name.now }
+{
+    let definition = defined(b"pcm", name, root)?;
+    let slave = slave_of(root, get(definition, b"slave"))?;
+    let kind = kind_of(get(definition, b"type"))?;
+    check_format(get(slave, b"format"))?;
+    let numbers = numbers_of(slave)?;
+    let card = card_of(&numbers)?;
+    let bindings = read_bindings(get(definition, b"bindings"), card.channels)?;
+    Ok(Device {
+        kind,
+        channels: card.channels,
+        rate: card.rate,
+        period: card.period,
+        ring: card.ring,
+        bindings,
+    })
+}

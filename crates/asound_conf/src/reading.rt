@@ -1,0 +1,324 @@
+//! What each token does at its place.
+ghost use Rattle.std.specs.Prelude.{◌≡◌, ◌+◌, ◌∷◌, [], ◌++◌, map, drop, take, length, IfOk, OnOk, IsTrue, Ok, reverse, ◌≤◌, not, if◌then◌else◌};
+ghost use Rattle.std.specs.Fmt.{decimal};
+ghost use Rattle.asound_conf.specs.Grammar.{after_item, at_number, close_group, equals_at, finished, open_at, open_group, put_text, separator_at, misplaced, settled, start, step, take_mark, take_text, value_place, put_key};
+ghost use Rattle.asound_conf.specs.Key.{key_defect, named, word_parts};
+ghost use Rattle.asound_conf.specs.Reading.{state_of, key_checked, Leads, Places, Reads};
+ghost use Rattle.asound_conf.specs.Token.{token_of};
+
+use crate::bracket::{Awaits, Bracket};
+use crate::conf::{Conf, Node};
+use crate::error::{ConfError, ConfWhy};
+use crate::group::{meets_text, node_at, put};
+use crate::part::{Part, begins, key_defect, named, push_parts};
+use crate::text::ConfText;
+use crate::token::{Mark, Token};
+use std::alloc::{AllocError, Global};
+
+/// Groups may be within each other this deep, the text's own counted.
+const DEEPEST: usize = 16;
+
+/// Where a reader of tokens is.
+#[derive(Drop)]
+pub struct Reading {
+    /// The group so far.
+    root: Conf,
+    /// The parts that lead to the place of what comes next.
+    path: Vec<Part>,
+    /// The innermost bracket that is open, or the text itself.
+    here: Bracket,
+    /// The brackets around it, the outermost first.
+    outer: Vec<Bracket>,
+    /// What may come next.
+    awaits: Awaits,
+}
+
+/// Takes the `!` from some parts, once it has done its work.
+fn settle(path: &mut Vec<Part>)
+    ensures { path.new.items ≡ settled path.old.items }
+{
+    for place in 0..path.len() {
+        let part = &mut path[place];
+        part.removes = false;
+    }
+}
+
+/// The part whose name is a number.
+fn numbered(alloc: Global, number: u32) -> Result<Part, AllocError>
+    ensures { IfOk result (λ part. part ≡ named (decimal number)) }
+{
+    let name = format!(in alloc; "{number}")?;
+    named(alloc, name.as_str().as_bytes())
+}
+
+impl Reading {
+    /// A reader before the first token.
+    pub fn new(alloc: Global) -> Reading
+        ensures { state_of result ≡ start }
+    {
+        Reading {
+            root: Conf::new(alloc),
+            path: Vec::new(alloc),
+            here: Bracket {
+                line: 0,
+                array: false,
+                names: 0,
+                values: 0,
+            },
+            outer: Vec::new(alloc),
+            awaits: Awaits::Item { separator: false },
+        }
+    }
+
+    /// Goes to where the next value of `[ ]` is put. The count of values can't pass its type's end in a text that is
+    /// short enough to be read.
+    fn go_to_number(&mut self, alloc: Global) -> Result<(), ConfWhy>
+        ensures { Leads result (state_of self.new) (Ok (at_number (state_of self.old))) }
+    {
+        let values = self.here.values;
+        let next = values.checked_add(1).ok_or(ConfWhy::Memory)?;
+        let part = numbered(alloc, values)?;
+        self.path.push(part)?;
+        self.here.values = next;
+        self.awaits = Awaits::Value { equals: false };
+        Ok(())
+    }
+
+    /// Goes to where a value is put, and says whether one can come: behind a key, or within `[ ]`.
+    fn go_to_value(&mut self, alloc: Global) -> Result<bool, ConfWhy>
+        ensures { Places result (state_of self.old) (state_of self.new)
+            (value_place (state_of self.old) self.old.awaits self.old.here.array) }
+    {
+        if let Awaits::Value { .. } = self.awaits {
+            return Ok(true);
+        }
+        if !self.here.array {
+            return Ok(false);
+        }
+        self.go_to_number(alloc)?;
+        Ok(true)
+    }
+
+    /// Puts a text at its place.
+    fn put_text(&mut self, alloc: Global, text: &[u8]) -> Result<(), ConfWhy>
+        ensures { Leads result (state_of self.new) (put_text (state_of self.old) text.now) }
+    {
+        if let Some(Node::Group(_)) = node_at(&self.root, self.path.as_slice()) {
+            return Err(ConfWhy::Kind);
+        }
+        let text = ConfText::copied(alloc, text)?;
+        put(alloc, &mut self.root, self.path.as_slice(), Some(text))?;
+        self.path.truncate(self.here.names);
+        self.awaits = Awaits::Item { separator: true };
+        Ok(())
+    }
+
+    /// Takes the key whose parts are the last of the path, behind the first `from` of it.
+    fn check_key(&mut self, from: usize) -> Result<(), ConfWhy>
+        requires { from ≤ length self.old.path.items }
+        ensures { Leads result (state_of self.new)
+            (key_checked (state_of self.old) (key_defect (drop from self.old.path.items))) }
+    {
+        if let Some(why) = key_defect(&self.path.as_slice()[from..]) {
+            return Err(why);
+        }
+        if self.path.len() > DEEPEST {
+            return Err(ConfWhy::Deep);
+        }
+        if meets_text(&self.root, self.path.as_slice()) {
+            return Err(ConfWhy::Kind);
+        }
+        self.awaits = Awaits::Value { equals: true };
+        Ok(())
+    }
+
+    /// Takes a word as a key.
+    fn take_key(&mut self, alloc: Global, word: &[u8]) -> Result<(), ConfWhy>
+        ensures { Leads result (state_of self.new)
+            (put_key (state_of self.old) (key_defect (word_parts word.now)) (word_parts word.now)) }
+    {
+        let from = self.path.len();
+        push_parts(alloc, &mut self.path, word)?;
+        self.check_key(from)
+    }
+
+    /// Takes a quoted text as a key of one part.
+    fn take_quoted_key(&mut self, alloc: Global, text: &[u8]) -> Result<(), ConfWhy>
+        ensures { Leads result (state_of self.new) (put_key (state_of self.old)
+            (key_defect (named text.now ∷ [])) (named text.now ∷ [])) }
+    {
+        let from = self.path.len();
+        let part = named(alloc, text)?;
+        self.path.push(part)?;
+        self.check_key(from)
+    }
+
+    /// Takes a word.
+    fn take_word(&mut self, alloc: Global, word: &[u8]) -> Result<(), ConfWhy>
+        ensures { Leads result (state_of self.new)
+            (take_text (state_of self.old) (word_parts word.now) word.now) }
+    {
+        if self.go_to_value(alloc)? {
+            self.put_text(alloc, word)
+        } else {
+            self.take_key(alloc, word)
+        }
+    }
+
+    /// Takes a quoted text.
+    fn take_quoted(&mut self, alloc: Global, text: &[u8]) -> Result<(), ConfWhy>
+        ensures { Leads result (state_of self.new)
+            (take_text (state_of self.old) (named text.now ∷ []) text.now) }
+    {
+        if self.go_to_value(alloc)? {
+            self.put_text(alloc, text)
+        } else {
+            self.take_quoted_key(alloc, text)
+        }
+    }
+
+    /// Opens a group or an array at its place.
+    fn open_group(&mut self, alloc: Global, line: u32, array: bool) -> Result<(), ConfWhy>
+        ensures { Leads result (state_of self.new) (open_group (state_of self.old) line array) }
+    {
+        if self.path.len() >= DEEPEST {
+            return Err(ConfWhy::Deep);
+        }
+        if let Some(Node::Text(_)) = node_at(&self.root, self.path.as_slice()) {
+            return Err(ConfWhy::Kind);
+        }
+        put(alloc, &mut self.root, self.path.as_slice(), None)?;
+        settle(&mut self.path);
+        self.outer.push(self.here)?;
+        self.here = Bracket {
+            line,
+            array,
+            names: self.path.len(),
+            values: 0,
+        };
+        self.awaits = Awaits::Item { separator: false };
+        Ok(())
+    }
+
+    /// Takes a mark that opens a group or an array.
+    fn open(&mut self, alloc: Global, line: u32, array: bool) -> Result<(), ConfWhy>
+        ensures { Leads result (state_of self.new)
+            (open_at (value_place (state_of self.old) self.old.awaits self.old.here.array) line array) }
+    {
+        if self.go_to_value(alloc)? {
+            self.open_group(alloc, line, array)
+        } else {
+            Err(ConfWhy::Key)
+        }
+    }
+
+    /// Takes a mark that closes a group, or an array.
+    fn close(&mut self, array: bool) -> Result<(), ConfWhy>
+        ensures { Leads result (state_of self.new) (close_group (state_of self.old) self.old.awaits
+            (if array then self.old.here.array else not self.old.here.array)) }
+    {
+        if let Awaits::Value { .. } = self.awaits {
+            return Err(ConfWhy::Value);
+        }
+        if self.here.array != array {
+            return Err(ConfWhy::Close);
+        }
+        let Some(around) = self.outer.pop() else {
+            return Err(ConfWhy::Close);
+        };
+        self.path.truncate(around.names);
+        self.here = around;
+        self.awaits = Awaits::Item { separator: true };
+        Ok(())
+    }
+
+    /// What a mark is that has no place here.
+    fn misplaced(&self) -> ConfWhy
+        ensures { result ≡ misplaced (state_of self.now) }
+    {
+        if self.here.array {
+            ConfWhy::Value
+        } else {
+            ConfWhy::Key
+        }
+    }
+
+    /// Takes an `=`.
+    fn equals(&mut self) -> Result<(), ConfWhy>
+        ensures { Leads result (state_of self.new) (equals_at (state_of self.old) self.old.awaits) }
+    {
+        match self.awaits {
+            Awaits::Value { equals: true } => {
+                self.awaits = Awaits::Value { equals: false };
+                Ok(())
+            }
+            Awaits::Value { equals: false } => Err(ConfWhy::Value),
+            Awaits::Item { .. } => Err(self.misplaced()),
+        }
+    }
+
+    /// Takes a `,` or `;`.
+    fn separator(&mut self) -> Result<(), ConfWhy>
+        ensures { Leads result (state_of self.new) (separator_at (state_of self.old) self.old.awaits) }
+    {
+        match self.awaits {
+            Awaits::Item { separator: true } => {
+                self.awaits = Awaits::Item { separator: false };
+                Ok(())
+            }
+            Awaits::Item { separator: false } => Err(self.misplaced()),
+            Awaits::Value { .. } => Err(ConfWhy::Value),
+        }
+    }
+
+    /// Takes a mark.
+    fn take_mark(&mut self, alloc: Global, line: u32, mark: Mark) -> Result<(), ConfWhy>
+        ensures { Leads result (state_of self.new) (take_mark (state_of self.old) line mark) }
+    {
+        match mark {
+            Mark::OpenBrace => self.open(alloc, line, false),
+            Mark::OpenBracket => self.open(alloc, line, true),
+            Mark::CloseBrace => self.close(false),
+            Mark::CloseBracket => self.close(true),
+            Mark::Equals => self.equals(),
+            Mark::Comma | Mark::Semicolon => self.separator(),
+        }
+    }
+
+    /// Takes a token of this line. After an `Err` the reader is of no more use.
+    pub fn take(&mut self, alloc: Global, line: u32, token: Token<'_>) -> Result<(), ConfWhy>
+        ensures { Leads result (state_of self.new)
+            (step (state_of self.old) line (token_of token.entry)) }
+    {
+        match token {
+            Token::Word(word) => {
+                if begins(word, b'<') {
+                    return Err(ConfWhy::Include);
+                }
+                self.take_word(alloc, word)
+            }
+            Token::Quoted(text) => self.take_quoted(alloc, text),
+            Token::Mark(mark) => self.take_mark(alloc, line, mark),
+            Token::Bad(why) => Err(why),
+        }
+    }
+
+    /// The group at the text's end, whose last line has this number.
+    pub fn finish(self, last_line: u32) -> Result<Conf, ConfError>
+        ensures { Reads result (finished (state_of self) last_line (reverse self.outer.items) self.awaits) }
+    {
+        if !self.outer.is_empty() {
+            return Err(ConfError {
+                line: self.here.line,
+                why: ConfWhy::Unclosed,
+            });
+        }
+        if let Awaits::Value { .. } = self.awaits {
+            return Err(ConfError {
+                line: last_line,
+                why: ConfWhy::Value,
+            });
+        }
+        Ok(self.root)
+    }
+}

@@ -1,0 +1,9 @@
+pub mod Bytes
+pub mod Cuts
+pub mod Courses
+pub mod Lines
+pub mod Places
+pub mod Ranges
+pub mod Reached
+pub mod Stages
+pub mod Sums

@@ -1,0 +1,148 @@
+-- How a conversion goes on with more bytes.
+use Rattle.std.proofs.Common.{◌≡◌, ℕ, zero, suc, ◌*◌, ◌≤◌, ◌<◌, ◌++◌, List, [], ◌∷◌, length, take, drop, refl, sym, ap, subst, ◌∙◌, arith, ℤ, append_assoc, Result, Ok, Err}
+use Rattle.std.proofs.Math.Nat.{mul-le-mul}
+use Rattle.std.proofs.Math.Seq.{drop-length, take-length}
+use Rattle.std.proofs.lemmas.List.{append-nil}
+use Rattle.std.proofs.lemmas.List.FromFn.{length-map-range_with_len}
+use Rattle.std.specs.Prelude.{OnOk}
+use Rattle.plug_chain.specs.declared.converter.Converter.{Converter}
+use Rattle.plug_chain.specs.declared.converter.Progress.{Progress}
+use Rattle.plug_chain.specs.declared.interpolation.Course.{Course}
+use Rattle.plug_chain.specs.declared.wide.Wide.{Wide}
+use Rattle.plug_chain.specs.declared.wide.Wide.TheVariants.{S8, U8, S16Le, S16Be, S24Packed, S32Le}
+use Rattle.plug_chain.specs.Courses.{Advances, Goes}
+use Rattle.plug_chain.specs.Frames.{Conversion, frame_bytes, frame_of, frames_of, rest_of, samples_in}
+use Rattle.plug_chain.specs.Growth.{Appends}
+use Rattle.plug_chain.specs.Held.{part_of, samples_of}
+use Rattle.plug_chain.specs.Plugs.{Continues, HasTaken}
+use Rattle.plug_chain.specs.Rates.{IsAt, RatePair, known}
+use Rattle.plug_chain.specs.Samples.{bytes_of}
+use Rattle.plug_chain.specs.Tables.{ChannelTable, IsTable, mixed, output_channel}
+use Rattle.plug_chain.specs.Views.{conversion_of, stage_of}
+use Rattle.plug_chain.proofs.Courses.{Goes-none, Goes-trans}
+use Rattle.plug_chain.proofs.Cuts.{frames_of-append, frames_of-front, frames_of-short, rest_of-append, rest_of-front, rest_of-short}
+
+-- two facts of what was returned
+pub on_ok_both : {T E P Q R : Type 0} (r : Result T E) → (P → Q → R) → OnOk r P → OnOk r Q → OnOk r R
+on_ok_both (Ok x) f p q = f p q
+on_ok_both (Err e) f p q = p
+
+-- ---- sizes
+
+record IsWidth (n : ℕ) : Type 0 where
+  some : 1 ≤ n
+  few : n ≤ 4
+
+width_of : (from : Wide) → IsWidth (bytes_of from)
+width_of S8 = record { some = omega arith; few = omega arith }
+width_of U8 = record { some = omega arith; few = omega arith }
+width_of S16Le = record { some = omega arith; few = omega arith }
+width_of S16Be = record { some = omega arith; few = omega arith }
+width_of S24Packed = record { some = omega arith; few = omega arith }
+width_of S32Le = record { some = omega arith; few = omega arith }
+
+pub frame_bytes-some : (c : Conversion) → IsTable c.table → 1 ≤ frame_bytes c
+frame_bytes-some c table = let h : 1 * 1 ≤ c.table.inputs * bytes_of c.from = mul-le-mul table.some_input (width_of c.from).some in omega (arith, h)
+
+pub frame_bytes-few : (c : Conversion) → IsTable c.table → frame_bytes c ≤ 32
+frame_bytes-few c table = let h : c.table.inputs * bytes_of c.from ≤ 8 * 4 = mul-le-mul table.few_inputs (width_of c.from).few in omega (arith, h)
+
+pub length-samples_in : (from : Wide) (n : ℕ) (bytes : List ℕ) → length (samples_in from n bytes) ≡ n
+length-samples_in from zero bytes = refl
+length-samples_in from (suc n) bytes = ap suc (length-samples_in from n (drop (bytes_of from) bytes))
+
+pub length-mixed : (t : ChannelTable) (samples : List ℤ) → length (mixed t samples) ≡ t.outputs
+unfolding mixed
+length-mixed t samples = length-map-range_with_len (output_channel t samples) 0 t.outputs
+
+-- ---- more frames
+
+pub Advances-none : (r : RatePair) (channels : ℕ) (course : Course) (old : List ℤ) → Advances r channels [] course course old old
+Advances-none r channels course old = λ frames at. subst (λ (xs : List (List ℤ)). Goes r channels frames xs course old old) (sym (append-nil frames)) (Goes-none r channels frames course old at)
+
+pub Advances-trans : (r : RatePair) (channels : ℕ) (first : List ℤ) (more : List (List ℤ)) (start middle course : Course) (old mid new : List ℤ)
+    → Advances r channels (first ∷ []) start middle old mid → Advances r channels more middle course mid new → Advances r channels (first ∷ more) start course old new
+Advances-trans r channels first more start middle course old mid new one rest = λ frames at.
+    let first_goes = one frames at in
+    let rest_goes = rest (frames ++ first ∷ []) first_goes.at in
+    subst (λ (xs : List (List ℤ)). Goes r channels frames xs course old new) (append_assoc frames (first ∷ []) more)
+    (Goes-trans r channels frames (frames ++ first ∷ []) ((frames ++ first ∷ []) ++ more) middle course old mid new first_goes rest_goes)
+
+-- ---- more bytes
+
+-- what the begun frame and the bytes after it give, whatever came before
+pub Continues-by : (v : Converter) (p q : Progress) (bytes : List ℕ) (old new : List ℤ) → IsTable v.table
+    → Advances v.rates v.table.outputs (frames_of (conversion_of v) (part_of p.part ++ bytes)) p.course q.course old new
+    → part_of q.part ≡ rest_of (conversion_of v) (part_of p.part ++ bytes)
+    → Continues (stage_of v p) (stage_of v q) bytes old new
+Continues-by v p q bytes old new table advances part =
+    let c : Conversion = conversion_of v in
+    let some : 1 ≤ frame_bytes (conversion_of v) = frame_bytes-some (conversion_of v) table in
+    let all : (fed : List ℕ) → HasTaken (stage_of v p) fed → frames_of (conversion_of v) (fed ++ bytes) ≡ frames_of (conversion_of v) fed ++ frames_of (conversion_of v) (part_of p.part ++ bytes) =
+    λ fed taken. frames_of-append (conversion_of v) fed bytes some
+    ∙ ap (λ (xs : List ℕ). frames_of (conversion_of v) fed ++ frames_of (conversion_of v) (xs ++ bytes)) (sym taken.part)
+    in
+    record {
+      conversion = refl;
+      stage = λ fed taken. record {
+        part = part ∙ (ap (λ (xs : List ℕ). rest_of (conversion_of v) (xs ++ bytes)) taken.part ∙ sym (rest_of-append (conversion_of v) fed bytes some));
+        course = subst (λ (xs : List (List ℤ)). IsAt v.rates v.table.outputs xs (samples_of q.course.last) q.course.place) (sym (all fed taken)) (advances (frames_of (conversion_of v) fed) taken.course).at;
+      };
+      appends = λ fed taken.
+          subst (λ (xs : List (List ℤ)). Appends (known v.rates (frames_of (conversion_of v) fed)) (known v.rates xs) old new) (sym (all fed taken)) (advances (frames_of (conversion_of v) fed) taken.course).appends;
+    }
+
+-- bytes from the beginning of a frame on
+pub Continues-whole : (v : Converter) (p q : Progress) (bytes : List ℕ) (old new : List ℤ) → IsTable v.table → part_of p.part ≡ []
+    → Advances v.rates v.table.outputs (frames_of (conversion_of v) bytes) p.course q.course old new → part_of q.part ≡ rest_of (conversion_of v) bytes
+    → Continues (stage_of v p) (stage_of v q) bytes old new
+Continues-whole v p q bytes old new table none advances part =
+    let all : bytes ≡ part_of p.part ++ bytes = ap (λ (xs : List ℕ). xs ++ bytes) (sym none) in
+    Continues-by v p q bytes old new table
+    (subst (λ (xs : List ℕ). Advances v.rates v.table.outputs (frames_of (conversion_of v) xs) p.course q.course old new) all advances)
+    (part ∙ ap (rest_of (conversion_of v)) all)
+
+-- bytes that end within the begun frame
+pub Continues-short : (v : Converter) (p q : Progress) (bytes : List ℕ) (old : List ℤ) → IsTable v.table → part_of q.part ≡ part_of p.part ++ bytes
+    → length (part_of q.part) < frame_bytes (conversion_of v) → q.course ≡ p.course → Continues (stage_of v p) (stage_of v q) bytes old old
+Continues-short v p q bytes old table part short same =
+    let short_all : length (part_of p.part ++ bytes) < frame_bytes (conversion_of v) = subst (λ (xs : List ℕ). length xs < frame_bytes (conversion_of v)) part short in
+    Continues-by v p q bytes old old table
+    (subst (λ (xs : List (List ℤ)). Advances v.rates v.table.outputs xs p.course q.course old old) (sym (frames_of-short (conversion_of v) (part_of p.part ++ bytes) short_all))
+    (subst (λ (x : Course). Advances v.rates v.table.outputs [] p.course x old old) (sym same) (Advances-none v.rates v.table.outputs p.course old)))
+    (part ∙ sym (rest_of-short (conversion_of v) (part_of p.part ++ bytes) short_all))
+
+-- bytes that fill the begun frame, and bytes after them
+pub Continues-full : (v : Converter) (p q : Progress) (filled behind bytes : List ℕ) (middle : Course) (old mid new : List ℤ) → IsTable v.table
+    → filled ++ behind ≡ part_of p.part ++ bytes → length filled ≡ frame_bytes (conversion_of v)
+    → Advances v.rates v.table.outputs (frame_of (conversion_of v) filled ∷ []) p.course middle old mid
+    → Advances v.rates v.table.outputs (frames_of (conversion_of v) behind) middle q.course mid new
+    → part_of q.part ≡ rest_of (conversion_of v) behind
+    → Continues (stage_of v p) (stage_of v q) bytes old new
+Continues-full v p q filled behind bytes middle old mid new table all whole first more part =
+    let some : 1 ≤ frame_bytes (conversion_of v) = frame_bytes-some (conversion_of v) table in
+    let enough : frame_bytes (conversion_of v) ≤ length filled = omega (arith, whole) in
+    let front : take (frame_bytes (conversion_of v)) filled ≡ filled = ap (λ (n : ℕ). take n filled) (sym whole) ∙ take-length filled in
+    let back : drop (frame_bytes (conversion_of v)) filled ≡ [] = ap (λ (n : ℕ). drop n filled) (sym whole) ∙ drop-length filled in
+    let frames : frames_of (conversion_of v) (filled ++ behind) ≡ frame_of (conversion_of v) filled ∷ frames_of (conversion_of v) behind =
+    frames_of-front (conversion_of v) filled behind some enough
+    ∙ (ap (λ (xs : List ℕ). frame_of (conversion_of v) xs ∷ frames_of (conversion_of v) (drop (frame_bytes (conversion_of v)) filled ++ behind)) front
+    ∙ ap (λ (xs : List ℕ). frame_of (conversion_of v) filled ∷ frames_of (conversion_of v) (xs ++ behind)) back)
+    in
+    let rest : rest_of (conversion_of v) (filled ++ behind) ≡ rest_of (conversion_of v) behind =
+    rest_of-front (conversion_of v) filled behind some enough ∙ ap (λ (xs : List ℕ). rest_of (conversion_of v) (xs ++ behind)) back
+    in
+    Continues-by v p q bytes old new table
+    (subst (λ (xs : List (List ℤ)). Advances v.rates v.table.outputs xs p.course q.course old new) (sym frames ∙ ap (frames_of (conversion_of v)) all)
+    (Advances-trans v.rates v.table.outputs (frame_of (conversion_of v) filled) (frames_of (conversion_of v) behind) p.course middle q.course old mid new first more))
+    (part ∙ (sym rest ∙ ap (rest_of (conversion_of v)) all))
+
+-- no bytes
+pub HasTaken-none : (v : Converter) (p : Progress) → IsTable v.table → part_of p.part ≡ [] → IsAt v.rates v.table.outputs [] (samples_of p.course.last) p.course.place
+    → HasTaken (stage_of v p) []
+HasTaken-none v p table none at =
+    let short : length {A = ℕ} [] < frame_bytes (conversion_of v) = frame_bytes-some (conversion_of v) table in
+    record {
+      part = none ∙ sym (rest_of-short (conversion_of v) [] short);
+      course = subst (λ (xs : List (List ℤ)). IsAt v.rates v.table.outputs xs (samples_of p.course.last) p.course.place) (sym (frames_of-short (conversion_of v) [] short)) at;
+    }

@@ -1,0 +1,29 @@
+use Rattle.std.proofs.Common.{◌≡◌, ap, ◌∙◌, arith, length, ◌++◌, ℕ, List}
+use Rattle.plug_chain.specs.Frames.{rest_of}
+use Rattle.plug_chain.specs.Held.{part_of}
+use Rattle.plug_chain.specs.Views.{conversion_of}
+use Rattle.plug_chain.proofs.Cuts.{length-rest_of}
+use Rattle.plug_chain.proofs.Stages.{frame_bytes-few, frame_bytes-some}
+use Rattle.plug_chain.proofs.converter.Converter.take_whole.Goals as goal
+
+pub extend-requires : goal.extend-requires
+extend-requires c =
+    omega (
+      arith,
+      ap length c.requires.whole,
+      ap length c.in_ok-rest.ensures.rest,
+      frame_bytes-few (conversion_of c.args.self.now) c.requires.stage.table,
+      length-rest_of (conversion_of c.args.self.now) c.args.bytes.now (frame_bytes-some (conversion_of c.args.self.now) c.requires.stage.table),
+    )
+
+pub returns-clause-stage : goal.returns-clause-stage
+returns-clause-stage c =
+    let part : part_of c.extend.new.self ≡ rest_of (conversion_of c.args.self.now) c.args.bytes.now =
+    c.extend.ensures ∙ (ap (λ (xs : List ℕ). xs ++ c.in_ok-rest.rest.now) c.requires.whole ∙ c.in_ok-rest.ensures.rest)
+    in
+    record {
+      table = c.requires.stage.table;
+      rates = c.requires.stage.rates;
+      part = omega (arith, ap length part, length-rest_of (conversion_of c.args.self.now) c.args.bytes.now (frame_bytes-some (conversion_of c.args.self.now) c.requires.stage.table));
+      course = c.in_ok-rest.ensures.course;
+    }

@@ -1,0 +1,6 @@
+use Rattle.std.proofs.Common.{pos}
+use Rattle.std.proofs.lemmas.List.{take-replicate}
+use Rattle.plug_chain.proofs.frame.Frame.silent.Goals as goal
+
+pub returns : goal.returns
+returns c = take-replicate c.args.channels 8 (pos 0) c.requires

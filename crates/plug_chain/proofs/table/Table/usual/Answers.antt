@@ -1,0 +1,33 @@
+use Rattle.std.proofs.Common.{◌≡◌, ℕ, ℤ, ap, sym, subst, ◌∙◌, arith, rules, length, map, All, [], ◌∷◌, ◌++◌, ◌/◌, ◌%◌, FitsSigned}
+use Rattle.std.proofs.lemmas.Int.{to_z-of_z}
+use Rattle.std.proofs.lemmas.List.Elements.{All-append, All-cons, All-nil}
+use Rattle.std.proofs.lemmas.List.FromFn.{length-map-range_with_len, map-range_with_len_more}
+use Rattle.std.specs.Int.{w32}
+use Rattle.std.specs.List.{range_with_len}
+use Rattle.plug_chain.specs.Tables.{IsWeight, usual_weight}
+use Rattle.plug_chain.proofs.table.Table.usual.Goals as goal
+
+abbrev weight_at : ℕ → ℕ → ℕ → ℤ
+weight_at inputs outputs place = usual_weight inputs outputs (place / inputs) (place % inputs)
+
+pub loop-place-preserved : goal.loop-place-preserved
+loop-place-preserved c =
+    let fits : FitsSigned w32 c.usual_weight.result = search rules in
+    let grown : c.push.new.self.items ≡ c.loop-place.weights.items ++ c.usual_weight.result ∷ [] = simp to_z-of_z at c.in_ok-push.ensures.items in
+    record {
+      weights = grown
+          ∙ (ap (λ xs. xs ++ c.usual_weight.result ∷ []) c.loop-place.invariant.weights
+          ∙ (ap (λ x. map (weight_at c.args.inputs c.args.outputs) (range_with_len 0 c.loop-place.place) ++ x ∷ []) c.usual_weight.ensures.value
+          ∙ sym (map-range_with_len_more (weight_at c.args.inputs c.args.outputs) 0 c.loop-place.place c.loop-place.place (omega arith))));
+      each = subst (All IsWeight) (sym grown) (All-append IsWeight c.loop-place.weights.items (c.usual_weight.result ∷ []) c.loop-place.invariant.each (All-cons IsWeight c.usual_weight.result [] c.usual_weight.ensures.within (All-nil IsWeight)));
+    }
+
+pub invariant_of-result : goal.invariant_of-result
+invariant_of-result c = record {
+  some_input = c.requires.some_input;
+  few_inputs = c.requires.few_inputs;
+  some_output = c.requires.some_output;
+  few_outputs = c.requires.few_outputs;
+  each_pair = omega (arith, ap length c.loop-place.invariant.weights, length-map-range_with_len (weight_at c.args.inputs c.args.outputs) 0 c.loop-place.place);
+  each_weight = c.loop-place.invariant.each;
+}

@@ -1,0 +1,42 @@
+-- Bytes cut into frames.
+use Rattle.std.specs.Prelude.{ℕ, zero, suc, ◌*◌, ◌/◌, List, [], ◌∷◌, length, take, drop, ℤ}
+use Rattle.plug_chain.specs.declared.wide.Wide.{Wide}
+use Rattle.plug_chain.specs.Samples.{bytes_of, wide_sample}
+use Rattle.plug_chain.specs.Tables.{ChannelTable, mixed}
+use Rattle.plug_chain.specs.Rates.{RatePair}
+
+-- how bytes are converted: the width of a sample, the table of channels, the rates
+pub record Conversion : Type 0 where
+  pub from : Wide
+  pub table : ChannelTable
+  pub rates : RatePair
+
+-- how many bytes a frame has
+abbrev pub frame_bytes : Conversion → ℕ
+frame_bytes c = c.table.inputs * bytes_of c.from
+
+-- the first n samples
+abbrev pub samples_in : Wide → ℕ → List ℕ → List ℤ
+samples_in from zero bytes = []
+samples_in from (suc n) bytes = wide_sample from (take (bytes_of from) bytes) ∷ samples_in from n (drop (bytes_of from) bytes)
+
+-- the output channels of one frame's bytes
+abbrev pub frame_of : Conversion → List ℕ → List ℤ
+frame_of c bytes = mixed c.table (samples_in c.from c.table.inputs bytes)
+
+-- the first n frames
+abbrev pub frames_in : Conversion → ℕ → List ℕ → List (List ℤ)
+frames_in c zero bytes = []
+frames_in c (suc n) bytes = frame_of c (take (frame_bytes c) bytes) ∷ frames_in c n (drop (frame_bytes c) bytes)
+
+-- how many whole frames there are
+abbrev pub frame_count : Conversion → List ℕ → ℕ
+frame_count c bytes = length bytes / frame_bytes c
+
+-- all whole frames
+unfoldable pub frames_of : Conversion → List ℕ → List (List ℤ)
+frames_of c bytes = frames_in c (frame_count c bytes) bytes
+
+-- the bytes behind the last whole frame
+unfoldable pub rest_of : Conversion → List ℕ → List ℕ
+rest_of c bytes = drop (frame_count c bytes * frame_bytes c) bytes

@@ -1,0 +1,9 @@
+pub mod Samples
+pub mod Tables
+pub mod Rates
+pub mod Frames
+pub mod Held
+pub mod Growth
+pub mod Courses
+pub mod Plugs
+pub mod Views

@@ -1,0 +1,49 @@
+-- What is found in a file of no more bytes than it may have, and in a longer one.
+use Rattle.std.proofs.Common.{◌≡◌, ℕ, ◌+◌, ◌-◌, ◌<◌, ◌≤◌, List, ◌++◌, length, take, Some, None, refl, sym, ap, ◌∙◌, arith, inl, inr, length-append}
+use Rattle.std.proofs.lemmas.Bool.{cases_lt, le-leb, lt-leb, cond-true, cond-false}
+use Rattle.std.proofs.Math.Seq.{take-append-add}
+use Rattle.wav_io.specs.Pieces.{with_front}
+use Rattle.wav_io.specs.Reading.{Finding, refused, body_found, format_cut, ended, at_end, before_end, limited, most_bytes}
+use Rattle.wav_io.specs.Scans.{with_body}
+
+pub limited-short : (seen : ℕ) (find : List ℕ → Finding) (bytes : List ℕ) → seen + length bytes ≤ most_bytes → limited seen find bytes ≡ at_end (find bytes)
+unfolding limited
+limited-short seen find bytes short = cond-true _ _ _ (le-leb _ _ short)
+
+pub limited-long : (seen : ℕ) (find : List ℕ → Finding) (bytes : List ℕ) → most_bytes < seen + length bytes → limited seen find bytes ≡ before_end (find (take (most_bytes - seen) bytes))
+unfolding limited
+limited-long seen find bytes long = cond-false _ _ _ (lt-leb _ _ long)
+
+at_end-with_body : (front : List ℕ) (f : Finding) → at_end (with_body front f) ≡ with_front front (at_end f)
+at_end-with_body front (refused e) = refl
+at_end-with_body front (body_found f body) = refl
+at_end-with_body front format_cut = refl
+at_end-with_body front (ended None) = refl
+at_end-with_body front (ended (Some f)) = refl
+
+pub before_end-with_body : (front : List ℕ) (f : Finding) → before_end (with_body front f) ≡ with_front front (before_end f)
+before_end-with_body front (refused e) = refl
+before_end-with_body front (body_found f body) = refl
+before_end-with_body front format_cut = refl
+before_end-with_body front (ended format) = refl
+
+-- a piece that doesn't pass the limit, and what follows it
+pub limited-append : (seen : ℕ) (old new : List ℕ → Finding) (front piece : List ℕ) → seen + length piece ≤ most_bytes
+    → ((more : List ℕ) → old (piece ++ more) ≡ with_body front (new more))
+    → (more : List ℕ) → limited seen old (piece ++ more) ≡ with_front front (limited (seen + length piece) new more)
+limited-append seen old new front piece short same more =
+    elim (cases_lt most_bytes (seen + length piece + length more)) [
+      | inr within ↦
+          limited-short seen old (piece ++ more) (omega (arith, length-append piece more))
+          ∙ ap at_end (same more)
+          ∙ at_end-with_body front (new more)
+          ∙ ap (with_front front) (sym (limited-short (seen + length piece) new more within))
+      | inl long ↦
+          let room : most_bytes - seen ≡ length piece + (most_bytes - (seen + length piece)) = omega arith in
+          limited-long seen old (piece ++ more) (omega (arith, length-append piece more))
+          ∙ ap (λ (n : ℕ). before_end (old (take n (piece ++ more)))) room
+          ∙ ap (λ (bytes : List ℕ). before_end (old bytes)) (take-append-add piece more (most_bytes - (seen + length piece)))
+          ∙ ap before_end (same (take (most_bytes - (seen + length piece)) more))
+          ∙ before_end-with_body front (new (take (most_bytes - (seen + length piece)) more))
+          ∙ ap (with_front front) (sym (limited-long (seen + length piece) new more long))
+    ]

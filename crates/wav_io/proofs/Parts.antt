@@ -1,0 +1,68 @@
+-- Frames that are cut between two parts of the data.
+use Rattle.std.proofs.Common.{◌≡◌, ℕ, ◌+◌, ◌*◌, ◌/◌, ◌%◌, ◌<◌, ◌⊎◌, List, [], ◌++◌, length, take, drop, sym, ap, ◌∙◌, arith, inl, inr, append_assoc, append-nil, length-append}
+use Rattle.std.specs.Prelude.{min}
+use Rattle.std.proofs.lemmas.List.{take-append-drop, length-take, length-drop, nil_from_length}
+use Rattle.std.proofs.lemmas.Nat.{div-add-mod'}
+use Rattle.std.proofs.Math.Nat.{div-mul-le_self}
+use Rattle.wav_io.specs.Frames.{IsCut}
+
+-- nothing is behind a part that isn't filled
+pub nothing_behind : (size : ℕ) (part rest before body : List ℕ) → part ++ rest ≡ before ++ body → length part ≡ min size (length before + length body) → length part < size → rest ≡ []
+nothing_behind size part rest before body same len less =
+    let all : length part + length rest ≡ length before + length body = omega (arith, ap length same, length-append part rest, length-append before body) in
+    nil_from_length rest (omega (arith, all, len))
+
+rest_less : (size : ℕ) (bytes : List ℕ) → 0 < size → length (drop (length bytes / size * size) bytes) < size
+rest_less size bytes some = omega (arith, length-drop (length bytes / size * size) bytes, div-add-mod' (length bytes) size, mod_less (length bytes) size some)
+  where
+    mod_less : (n size : ℕ) → 0 < size → n % size < size
+    mod_less n size some = omega arith
+
+-- what was filled in is all
+filled_all : (size : ℕ) (part left before rest : List ℕ) → part ++ left ≡ before ++ rest → length part ≡ min size (length before + length rest) → length before + length rest < size → part ≡ before ++ rest
+filled_all size part left before rest same len few =
+    let all : length part + length left ≡ length before + length rest = omega (arith, ap length same, length-append part left, length-append before rest) in
+    sym (append-nil part) ∙ ap (λ (b : List ℕ). part ++ b) (sym (nil_from_length left (omega (arith, all, len)))) ∙ same
+
+pub cut_is : (size : ℕ) (part body first mid behind others rest new left : List ℕ) (n : ℕ) → first ++ (mid ++ behind) ≡ part ++ body → length first ≡ n * size → length mid < size → (mid ≡ []) ⊎ (behind ≡ [])
+    → others ≡ take (length behind / size * size) behind → rest ≡ drop (length behind / size * size) behind → new ++ left ≡ mid ++ rest → length new ≡ min size (length mid + length rest)
+    → IsCut size part body (first ++ others) new
+cut_is size part body first mid behind others rest new left n all frames less one front back filled len = record {
+  frames = n + length behind / size;
+  all = append_assoc first others new ∙ ap (λ (b : List ℕ). first ++ b) (joined one) ∙ all;
+  whole_frames = omega (arith, length-append first others, frames, count, distribute);
+  less = omega (arith, ap length whole_new, length-append mid rest, short);
+}
+  where
+    some : 0 < size
+    some = omega arith
+
+    count : length others ≡ length behind / size * size
+    count = omega (arith, ap length front, length-take (length behind / size * size) behind, div-mul-le_self (length behind) size)
+
+    distribute : (n + length behind / size) * size ≡ n * size + length behind / size * size
+    distribute = omega arith
+
+    rest_short : length rest < size
+    rest_short = omega (arith, ap length back, rest_less size behind some)
+
+    few : (mid ≡ []) ⊎ (behind ≡ []) → length mid + length rest < size
+    few (inl none) = omega (arith, ap length none, rest_short)
+    few (inr none) = omega (arith, ap length none, ap length back, length-drop (length behind / size * size) behind)
+
+    short : length mid + length rest < size
+    short = few one
+
+    whole_new : new ≡ mid ++ rest
+    whole_new = filled_all size new left mid rest filled len short
+
+    parts : others ++ rest ≡ behind
+    parts = ap (λ (b : List ℕ). b ++ rest) front ∙ ap (λ (b : List ℕ). take (length behind / size * size) behind ++ b) back ∙ take-append-drop (length behind / size * size) behind
+
+    joined : (mid ≡ []) ⊎ (behind ≡ []) → others ++ new ≡ mid ++ behind
+    joined (inl none) =
+        ap (λ (b : List ℕ). others ++ b) (whole_new ∙ ap (λ (b : List ℕ). b ++ rest) none) ∙ parts ∙ ap (λ (b : List ℕ). b ++ behind) (sym none)
+    joined (inr none) =
+        let no_others : others ≡ [] = nil_from_length others (omega (arith, ap length none, ap length front, length-take (length behind / size * size) behind)) in
+        let no_rest : rest ≡ [] = nil_from_length rest (omega (arith, ap length none, ap length back, length-drop (length behind / size * size) behind)) in
+        ap (λ (b : List ℕ). b ++ new) no_others ∙ whole_new ∙ ap (λ (b : List ℕ). mid ++ b) (no_rest ∙ sym none)

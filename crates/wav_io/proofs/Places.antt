@@ -1,0 +1,343 @@
+-- Places in a file, and the steps from one to the next.
+use Rattle.std.proofs.Common.{◌≡◌, ◌≢◌, ℕ, ◌+◌, ◌-◌, ◌%◌, ◌<◌, ◌≤◌, true, false, cond, List, [], ◌++◌, length, take, drop, Option, Some, None, Result, Ok, Err, refl, sym, ap, subst, ◌∙◌, append_assoc, arith, ltb, inl, inr, length-append, append-nil}
+use Rattle.std.proofs.lemmas.Bool.{cases_lt, lt-ltb, le-ltb, cond-true, cond-false}
+use Rattle.std.proofs.Math.Seq.{take-append-add, drop-append-add, take-append_seam}
+use Rattle.std.proofs.lemmas.List.{take_all, length-take, length-drop, drop-append-le, drop-drop, take-append-le, take-take, drop_all, nil_from_length}
+use Rattle.std.specs.Prelude.{IfSome, codes, min, is_some}
+use Rattle.std.specs.Int.{w32}
+use Rattle.std.specs.Str.{bytes_eq}
+use Rattle.std.proofs.lemmas.Slice.{take-put_mid}
+use borrow.Rule.Slice.PartMut.{put_mid}
+use Rattle.wav_io.specs.declared.error.WavError.{WavError}
+use Rattle.wav_io.specs.declared.error.WavError.TheVariants.{Memory, FormatTwice, ShortFormat, NoFormat, NotRiff, NotWave}
+use Rattle.wav_io.specs.declared.format.Depths.{Depths}
+use Rattle.wav_io.specs.declared.format.Format.{Format}
+use Rattle.wav_io.specs.declared.place.Place.{Place}
+use Rattle.wav_io.specs.declared.place.Place.TheVariants.{Opening, Head, FormatBody, DataBody, Refused}
+use Rattle.wav_io.specs.Chunks.{Chunk, chunks}
+use Rattle.wav_io.specs.Fields.{number_at}
+use Rattle.wav_io.specs.Formats.{IsFormat, format_of}
+use Rattle.wav_io.specs.Pieces.{found_from, sized, behind, LeadsTo, GoesOn}
+use Rattle.wav_io.specs.Reading.{Finding, refused, body_found, format_cut, Verdict, decides, goes_on, settled, format_chunk, data_chunk, judged, followed, finding, found_in}
+use Rattle.wav_io.proofs.Cutting.{finding-headed, headed}
+
+-- ---- places with no byte kept
+
+pub leads_head : (depths : Depths) (format : Option Format) (skip : ℕ) (find : List ℕ → Finding)
+    → ((more : List ℕ) → finding depths format (chunks (drop skip more)) ≡ find more) → IfSome format IsFormat → LeadsTo depths (Head format skip) find
+unfolding found_from
+leads_head depths format skip find same in_order = record { same = same; place = (omega arith, in_order); opened = λ kept n. tt }
+
+pub leads_refused : (depths : Depths) (e : WavError) (find : List ℕ → Finding) → ((more : List ℕ) → refused e ≡ find more) → e ≢ Memory → LeadsTo depths (Refused e) find
+unfolding found_from
+leads_refused depths e find same other = record { same = same; place = other; opened = λ kept n. tt }
+
+pub leads_data : (depths : Depths) (f : Format) (size : ℕ) (find : List ℕ → Finding) → ((more : List ℕ) → body_found f (take size more) ≡ find more) → IsFormat f → LeadsTo depths (DataBody f size) find
+unfolding found_from
+leads_data depths f size find same in_order = record { same = same; place = in_order; opened = λ kept n. tt }
+
+-- what a format chunk comes to, of which the head is known
+abbrev format_found : Depths → ℕ → List ℕ → Finding
+format_found depths size more =
+    cond (ltb (length more) size) format_cut (followed (settled (format_of depths (take 40 (take size more)))) (λ f. finding depths f (chunks (drop (size + size % 2) more))))
+
+short_body : (size : ℕ) (more : List ℕ) → length more < size → length (take size more) < size
+short_body size more short = omega (arith, length-take size more)
+
+long_body : (size : ℕ) (more : List ℕ) → size ≤ length more → size ≤ length (take size more)
+long_body size more long = omega (arith, length-take size more)
+
+format_found-is : (depths : Depths) (name : List ℕ) (size : ℕ) (more : List ℕ) → 16 ≤ size
+    → format_found depths size more ≡ followed (format_chunk depths None (sized name size more)) (λ f. finding depths f (chunks (behind size more)))
+format_found-is depths name size more big =
+    let next : Option Format → Finding = λ f. finding depths f (chunks (behind size more)) in
+    let rest : Verdict = cond (ltb (length (take size more)) size) (decides format_cut) (settled (format_of depths (take 40 (take size more)))) in
+    elim (cases_lt (length more) size) [
+      | inl short ↦
+          cond-true (ltb (length more) size) format_cut (followed (settled (format_of depths (take 40 (take size more)))) next) (lt-ltb _ _ short)
+          ∙ ap (λ (v : Verdict). followed v next) (sym (cond-true (ltb (length (take size more)) size) (decides format_cut) (settled (format_of depths (take 40 (take size more)))) (lt-ltb _ _ (short_body size more short))))
+          ∙ ap (λ (v : Verdict). followed v next) (sym (cond-false (ltb size 16) (decides (refused ShortFormat)) rest (le-ltb _ _ big)))
+      | inr long ↦
+          cond-false (ltb (length more) size) format_cut (followed (settled (format_of depths (take 40 (take size more)))) next) (le-ltb _ _ long)
+          ∙ ap (λ (v : Verdict). followed v next) (sym (cond-false (ltb (length (take size more)) size) (decides format_cut) (settled (format_of depths (take 40 (take size more)))) (le-ltb _ _ (long_body size more long))))
+          ∙ ap (λ (v : Verdict). followed v next) (sym (cond-false (ltb size 16) (decides (refused ShortFormat)) rest (le-ltb _ _ big)))
+    ]
+
+pub leads_format : (depths : Depths) (name : List ℕ) (size : ℕ) → 16 ≤ size
+    → LeadsTo depths (FormatBody size (size % 2)) (λ more. followed (format_chunk depths None (sized name size more)) (λ f. finding depths f (chunks (behind size more))))
+unfolding found_from
+leads_format depths name size big = record {
+  same = λ more. format_found-is depths name size more big;
+  place = (omega arith, omega arith, omega arith);
+  opened = λ kept n. tt;
+}
+
+pub leads_short : (depths : Depths) (name : List ℕ) (size : ℕ) → size < 16
+    → LeadsTo depths (Refused ShortFormat) (λ more. followed (format_chunk depths None (sized name size more)) (λ f. finding depths f (chunks (behind size more))))
+leads_short depths name size small =
+    leads_refused depths ShortFormat _ (λ more. ap (λ (v : Verdict). followed v (λ f. finding depths f (chunks (behind size more)))) (sym (cond-true (ltb size 16) (decides (refused ShortFormat)) _ (lt-ltb _ _ small)))) (λ e. cc)
+
+pub leads_twice : (depths : Depths) (format : Option Format) (name : List ℕ) (size : ℕ) → is_some format ≡ true
+    → LeadsTo depths (Refused FormatTwice) (λ more. followed (format_chunk depths format (sized name size more)) (λ f. finding depths f (chunks (behind size more))))
+leads_twice depths None name size is = absurd (cc)
+leads_twice depths (Some f) name size is = leads_refused depths FormatTwice _ (λ more. refl) (λ e. cc)
+
+pub leads_first_short : (depths : Depths) (format : Option Format) (name : List ℕ) (size : ℕ) → is_some format ≡ false → size < 16
+    → LeadsTo depths (Refused ShortFormat) (λ more. followed (format_chunk depths format (sized name size more)) (λ f. finding depths f (chunks (behind size more))))
+leads_first_short depths None name size is small = leads_short depths name size small
+leads_first_short depths (Some f) name size is small = absurd (cc)
+
+pub leads_first : (depths : Depths) (format : Option Format) (name : List ℕ) (size : ℕ) → is_some format ≡ false → 16 ≤ size
+    → LeadsTo depths (FormatBody size (size % 2)) (λ more. followed (format_chunk depths format (sized name size more)) (λ f. finding depths f (chunks (behind size more))))
+leads_first depths None name size is big = leads_format depths name size big
+leads_first depths (Some f) name size is big = absurd (cc)
+
+-- ---- a chunk whose head is known, by its name
+
+judged-format : (depths : Depths) (format : Option Format) (chunk : Chunk) → bytes_eq chunk.name (codes "fmt ") ≡ true → judged depths format chunk ≡ format_chunk depths format chunk
+unfolding judged
+judged-format depths format chunk is = cond-true _ _ _ is
+
+judged-data : (depths : Depths) (format : Option Format) (chunk : Chunk) → bytes_eq chunk.name (codes "fmt ") ≡ false → bytes_eq chunk.name (codes "data") ≡ true → judged depths format chunk ≡ data_chunk format chunk
+unfolding judged
+judged-data depths format chunk isnt is = cond-false _ _ _ isnt ∙ cond-true _ _ _ is
+
+judged-other : (depths : Depths) (format : Option Format) (chunk : Chunk) → bytes_eq chunk.name (codes "fmt ") ≡ false → bytes_eq chunk.name (codes "data") ≡ false → judged depths format chunk ≡ goes_on format
+unfolding judged
+judged-other depths format chunk isnt not = cond-false _ _ _ isnt ∙ cond-false _ _ _ not
+
+-- another reading of what follows
+pub leads_as : (depths : Depths) (place : Place) (find other : List ℕ → Finding) → LeadsTo depths place find → ((more : List ℕ) → find more ≡ other more) → LeadsTo depths place other
+leads_as depths place find other leads is = record { same = λ more. leads.same more ∙ is more; place = leads.place; opened = leads.opened }
+
+-- what the chunks come to after a head
+abbrev after : Depths → Option Format → List ℕ → List ℕ → Finding
+after depths format head more = finding depths format (chunks (head ++ more))
+
+after-judged : (depths : Depths) (format : Option Format) (head : List ℕ) → length head ≡ 8 → (v : List ℕ → Verdict) → ((more : List ℕ) → judged depths format (headed head more) ≡ v more)
+    → (more : List ℕ) → followed (v more) (λ f. finding depths f (chunks (behind (number_at w32 4 head) more))) ≡ after depths format head more
+after-judged depths format head eight v is more =
+    sym (finding-headed depths format head more eight ∙ ap (λ (w : Verdict). followed w (λ f. finding depths f (chunks (behind (number_at w32 4 head) more)))) (is more))
+
+pub leads_by_format : (depths : Depths) (format : Option Format) (head : List ℕ) (place : Place) → length head ≡ 8 → bytes_eq (take 4 head) (codes "fmt ") ≡ true
+    → LeadsTo depths place (λ more. followed (format_chunk depths format (headed head more)) (λ f. finding depths f (chunks (behind (number_at w32 4 head) more))))
+    → LeadsTo depths place (λ more. finding depths format (chunks (head ++ more)))
+leads_by_format depths format head place eight is leads =
+    leads_as depths place _ _ leads (after-judged depths format head eight (λ more. format_chunk depths format (headed head more)) (λ more. judged-format depths format (headed head more) is))
+
+-- the size as the head gives it
+pub leads_at_size : (depths : Depths) (format : Option Format) (head : List ℕ) (size : ℕ) (place : Place) → size ≡ number_at w32 4 head
+    → LeadsTo depths place (λ more. followed (format_chunk depths format (sized (take 4 head) size more)) (λ f. finding depths f (chunks (behind size more))))
+    → LeadsTo depths place (λ more. followed (format_chunk depths format (headed head more)) (λ f. finding depths f (chunks (behind (number_at w32 4 head) more))))
+leads_at_size depths format head size place is leads =
+    subst (λ (n : ℕ). LeadsTo depths place (λ more. followed (format_chunk depths format (sized (take 4 head) n more)) (λ f. finding depths f (chunks (behind n more))))) is leads
+
+pub leads_by_data : (depths : Depths) (f : Format) (head : List ℕ) → length head ≡ 8 → bytes_eq (take 4 head) (codes "fmt ") ≡ false → bytes_eq (take 4 head) (codes "data") ≡ true → IsFormat f
+    → LeadsTo depths (DataBody f (number_at w32 4 head)) (λ more. finding depths (Some f) (chunks (head ++ more)))
+leads_by_data depths f head eight isnt is in_order =
+    leads_data depths f (number_at w32 4 head) _ (after-judged depths (Some f) head eight (λ more. data_chunk (Some f) (headed head more)) (λ more. judged-data depths (Some f) (headed head more) isnt is)) in_order
+
+pub leads_by_no_format : (depths : Depths) (head : List ℕ) → length head ≡ 8 → bytes_eq (take 4 head) (codes "fmt ") ≡ false → bytes_eq (take 4 head) (codes "data") ≡ true
+    → LeadsTo depths (Refused NoFormat) (λ more. finding depths None (chunks (head ++ more)))
+leads_by_no_format depths head eight isnt is =
+    leads_refused depths NoFormat _ (after-judged depths None head eight (λ more. data_chunk None (headed head more)) (λ more. judged-data depths None (headed head more) isnt is)) (λ e. cc)
+
+pub leads_by_other : (depths : Depths) (format : Option Format) (head : List ℕ) → length head ≡ 8 → bytes_eq (take 4 head) (codes "fmt ") ≡ false → bytes_eq (take 4 head) (codes "data") ≡ false → IfSome format IsFormat
+    → LeadsTo depths (Head format (number_at w32 4 head + number_at w32 4 head % 2)) (λ more. finding depths format (chunks (head ++ more)))
+leads_by_other depths format head eight isnt not in_order =
+    leads_head depths format _ _ (after-judged depths format head eight (λ more. goes_on format) (λ more. judged-other depths format (headed head more) isnt not)) in_order
+
+-- ---- the first twelve bytes
+
+pub found_in-riff : (depths : Depths) (bytes : List ℕ) → bytes_eq (take 4 bytes) (codes "RIFF") ≡ false → found_in depths bytes ≡ refused NotRiff
+unfolding found_in
+found_in-riff depths bytes isnt = cond-false _ _ _ isnt
+
+pub found_in-wave : (depths : Depths) (bytes : List ℕ) → bytes_eq (take 4 bytes) (codes "RIFF") ≡ true → bytes_eq (take 4 (drop 8 bytes)) (codes "WAVE") ≡ false → found_in depths bytes ≡ refused NotWave
+unfolding found_in
+found_in-wave depths bytes is isnt = cond-true _ _ _ is ∙ cond-false _ _ _ isnt
+
+found_in-chunks : (depths : Depths) (bytes : List ℕ) → bytes_eq (take 4 bytes) (codes "RIFF") ≡ true → bytes_eq (take 4 (drop 8 bytes)) (codes "WAVE") ≡ true → found_in depths bytes ≡ finding depths None (chunks (drop 12 bytes))
+unfolding found_in
+found_in-chunks depths bytes is also = cond-true _ _ _ is ∙ cond-true _ _ _ also
+
+riff_front : (bytes more : List ℕ) → length bytes ≡ 12 → take 4 (bytes ++ more) ≡ take 4 bytes
+riff_front bytes more twelve = take-append-le 4 bytes more (omega arith)
+
+wave_front : (bytes more : List ℕ) → length bytes ≡ 12 → take 4 (drop 8 (bytes ++ more)) ≡ take 4 (drop 8 bytes)
+wave_front bytes more twelve =
+    ap (take 4) (drop-append-le 8 bytes more (omega arith)) ∙ take-append-le 4 (drop 8 bytes) more (omega (arith, length-drop 8 bytes))
+
+chunks_front : (bytes more : List ℕ) → length bytes ≡ 12 → drop 12 (bytes ++ more) ≡ more
+chunks_front bytes more twelve = drop-append-le 12 bytes more (omega arith) ∙ ap (λ (b : List ℕ). b ++ more) (drop_all 12 bytes (omega arith))
+
+pub leads_not_riff : (depths : Depths) (bytes : List ℕ) → length bytes ≡ 12 → bytes_eq (take 4 bytes) (codes "RIFF") ≡ false → LeadsTo depths (Refused NotRiff) (λ more. found_in depths (bytes ++ more))
+leads_not_riff depths bytes twelve isnt =
+    leads_refused depths NotRiff _ (λ more. sym (found_in-riff depths (bytes ++ more) (ap (λ (b : List ℕ). bytes_eq b (codes "RIFF")) (riff_front bytes more twelve) ∙ isnt))) (λ e. cc)
+
+pub leads_not_wave : (depths : Depths) (bytes : List ℕ) → length bytes ≡ 12 → bytes_eq (take 4 bytes) (codes "RIFF") ≡ true → bytes_eq (take 4 (drop 8 bytes)) (codes "WAVE") ≡ false → LeadsTo depths (Refused NotWave) (λ more. found_in depths (bytes ++ more))
+leads_not_wave depths bytes twelve is isnt =
+    leads_refused depths NotWave _ (λ more. sym (found_in-wave depths (bytes ++ more) (ap (λ (b : List ℕ). bytes_eq b (codes "RIFF")) (riff_front bytes more twelve) ∙ is) (ap (λ (b : List ℕ). bytes_eq b (codes "WAVE")) (wave_front bytes more twelve) ∙ isnt))) (λ e. cc)
+
+pub leads_opened : (depths : Depths) (bytes : List ℕ) → length bytes ≡ 12 → bytes_eq (take 4 bytes) (codes "RIFF") ≡ true → bytes_eq (take 4 (drop 8 bytes)) (codes "WAVE") ≡ true → LeadsTo depths (Head None 0) (λ more. found_in depths (bytes ++ more))
+leads_opened depths bytes twelve is also =
+    leads_head depths None 0 _ (λ more. sym (found_in-chunks depths (bytes ++ more) (ap (λ (b : List ℕ). bytes_eq b (codes "RIFF")) (riff_front bytes more twelve) ∙ is) (ap (λ (b : List ℕ). bytes_eq b (codes "WAVE")) (wave_front bytes more twelve) ∙ also) ∙ ap (λ (b : List ℕ). finding depths None (chunks b)) (chunks_front bytes more twelve))) tt
+
+-- ---- the body of a format chunk
+
+pub leads_in_order : (depths : Depths) (pad : ℕ) (body : List ℕ) (f : Format) → format_of depths body ≡ Ok f → IsFormat f
+    → LeadsTo depths (Head (Some f) pad) (λ more. followed (settled (format_of depths body)) (λ g. finding depths g (chunks (drop pad more))))
+leads_in_order depths pad body f is in_order =
+    leads_head depths (Some f) pad _ (λ more. sym (ap (λ (r : Result Format WavError). followed (settled r) (λ g. finding depths g (chunks (drop pad more)))) is)) in_order
+
+pub leads_out_of_order : (depths : Depths) (pad : ℕ) (body : List ℕ) (e : WavError) → format_of depths body ≡ Err e → e ≢ Memory
+    → LeadsTo depths (Refused e) (λ more. followed (settled (format_of depths body)) (λ g. finding depths g (chunks (drop pad more))))
+leads_out_of_order depths pad body e is other =
+    leads_refused depths e _ (λ more. sym (ap (λ (r : Result Format WavError). followed (settled r) (λ g. finding depths g (chunks (drop pad more)))) is)) other
+
+-- ---- steps
+
+-- two cuts of the same bytes
+pub regroup : (a b c d more : List ℕ) → a ++ b ≡ c ++ d → a ++ (b ++ more) ≡ c ++ (d ++ more)
+regroup a b c d more same = sym (append_assoc a b more) ∙ ap (λ (front : List ℕ). front ++ more) same ∙ append_assoc c d more
+
+pub goes_on-leads : (depths : Depths) (old : Place) (before bytes : List ℕ) (new : Place) (rest : List ℕ) (find : List ℕ → Finding) → LeadsTo depths new find
+    → ((more : List ℕ) → find (rest ++ more) ≡ found_from depths old before (bytes ++ more)) → GoesOn depths old before bytes new [] rest
+goes_on-leads depths old before bytes new rest find leads same = record {
+  same = λ more. leads.same (rest ++ more) ∙ same more;
+  place = leads.place;
+  seen = λ n was. leads.opened rest n;
+}
+
+pub opening-stays : (depths : Depths) (before bytes after rest : List ℕ) → after ++ rest ≡ before ++ bytes → length after < 12 → GoesOn depths Opening before bytes Opening after rest
+unfolding found_from
+opening-stays depths before bytes after rest same few = record {
+  same = λ more. ap (found_in depths) (regroup after rest before bytes more same);
+  place = few;
+  seen = λ n was. was ∙ ap length (sym same);
+}
+
+pub opening-leads : (depths : Depths) (before bytes opening rest : List ℕ) (new : Place) → opening ++ rest ≡ before ++ bytes → LeadsTo depths new (λ more. found_in depths (opening ++ more)) → GoesOn depths Opening before bytes new [] rest
+unfolding found_from
+opening-leads depths before bytes opening rest new same leads =
+    goes_on-leads depths Opening before bytes new rest _ leads (λ more. ap (found_in depths) (regroup opening rest before bytes more same))
+
+pub head-stays : (depths : Depths) (format : Option Format) (before bytes after rest : List ℕ) → after ++ rest ≡ before ++ bytes → length after < 8 → IfSome format IsFormat → GoesOn depths (Head format 0) before bytes (Head format 0) after rest
+unfolding found_from
+head-stays depths format before bytes after rest same few in_order = record {
+  same = λ more. ap (λ (b : List ℕ). finding depths format (chunks b)) (regroup after rest before bytes more same);
+  place = (few, in_order);
+  seen = λ n was. tt;
+}
+
+pub head-leads : (depths : Depths) (format : Option Format) (before bytes head rest : List ℕ) (new : Place) → head ++ rest ≡ before ++ bytes → LeadsTo depths new (λ more. finding depths format (chunks (head ++ more))) → GoesOn depths (Head format 0) before bytes new [] rest
+unfolding found_from
+head-leads depths format before bytes head rest new same leads =
+    goes_on-leads depths (Head format 0) before bytes new rest _ leads (λ more. ap (λ (b : List ℕ). finding depths format (chunks b)) (regroup head rest before bytes more same))
+
+-- what is skipped in two parts
+skipped : (skip gone : ℕ) (bytes more : List ℕ) → gone ≤ skip → gone ≤ length bytes → drop (skip - gone) (drop gone bytes ++ more) ≡ drop skip (bytes ++ more)
+skipped skip gone bytes more few inside =
+    ap (drop (skip - gone)) (sym (drop-append-le gone bytes more inside)) ∙ drop-drop (skip - gone) gone (bytes ++ more)
+    ∙ ap (λ (n : ℕ). drop n (bytes ++ more)) (omega arith)
+
+pub gap-stays : (depths : Depths) (format : Option Format) (skip gone : ℕ) (kept bytes : List ℕ) → gone ≤ skip → gone ≤ length bytes → (length kept < 8) × IfSome format IsFormat
+    → GoesOn depths (Head format skip) kept bytes (Head format (skip - gone)) kept (drop gone bytes)
+unfolding found_from
+gap-stays depths format skip gone kept bytes few inside place = record {
+  same = λ more. ap (λ (b : List ℕ). finding depths format (chunks (kept ++ b))) (skipped skip gone bytes more few inside);
+  place = place;
+  seen = λ n was. tt;
+}
+
+-- fewer bytes are behind
+pub fewer : (want : ℕ) (kept rest before bytes : List ℕ) → kept ++ rest ≡ before ++ bytes → length kept ≡ min want (length before + length bytes) → length before < want → 0 < length bytes → length rest < length bytes
+fewer want kept rest before bytes same len room some =
+    let all : length kept + length rest ≡ length before + length bytes = omega (arith, ap length same, length-append kept rest, length-append before bytes) in
+    omega (arith, all, len)
+
+-- bytes that were kept, and those that are kept behind them
+pub filled : (len count k : ℕ) (held front behind bytes now : List ℕ) → take len held ≡ now → len ≤ length held → length front ≡ count → front ++ behind ≡ bytes
+    → take (len + count) (put_mid len k held front) ++ behind ≡ now ++ bytes
+filled len count k held front behind bytes now view inside some all =
+    ap (λ (b : List ℕ). b ++ behind) (take-put_mid len k held front (len + count) (omega arith) inside ∙ ap (λ (b : List ℕ). b ++ front) view)
+    ∙ append_assoc now front behind ∙ ap (λ (b : List ℕ). now ++ b) all
+
+-- bytes of which the first forty are kept
+pub front_is : (want : ℕ) (kept rest before body : List ℕ) → kept ++ rest ≡ before ++ body → length kept ≡ min want (length before + length body) → kept ≡ take want (before ++ body)
+front_is want kept rest before body same len =
+    elim (cases_lt want (length kept + length rest)) [
+      | inl more ↦
+          let all : length kept + length rest ≡ length before + length body = omega (arith, ap length same, length-append kept rest, length-append before body) in
+          let full : want ≡ length kept = omega (arith, all, len) in
+          sym (ap (λ (n : ℕ). take n (kept ++ rest)) full ∙ take-append_seam kept rest) ∙ ap (take want) same
+      | inr within ↦
+          let all : length kept + length rest ≡ length before + length body = omega (arith, ap length same, length-append kept rest, length-append before body) in
+          let none : length rest ≡ 0 = omega (arith, all, len) in
+          sym (append-nil kept) ∙ ap (λ (b : List ℕ). kept ++ b) (sym (nil_from_length rest none)) ∙ same ∙ sym (take_all want (before ++ body) (omega (arith, all, length-append before body)))
+    ]
+
+-- the first bytes of a list that grows
+take-take_front : (n : ℕ) (a b : List ℕ) → take n (take n a ++ b) ≡ take n (a ++ b)
+take-take_front n a b =
+    elim (cases_lt n (length a)) [
+      | inl long ↦
+          let few : length (take n a) ≡ n = omega (arith, length-take n a) in
+          take-append-le n (take n a) b (omega arith) ∙ take-take n n a (omega arith) ∙ sym (take-append-le n a b (omega arith))
+      | inr short ↦ ap (λ (front : List ℕ). take n (front ++ b)) (take_all n a short)
+    ]
+
+abbrev judged_body : Depths → ℕ → List ℕ → List ℕ → Finding
+judged_body depths pad body more = followed (settled (format_of depths body)) (λ f. finding depths f (chunks (drop pad more)))
+
+pub body-stays : (depths : Depths) (missing pad : ℕ) (before bytes after : List ℕ) → after ≡ take 40 (before ++ bytes) → length bytes < missing → (length before ≤ 40) × (16 ≤ length before + missing)
+    → GoesOn depths (FormatBody missing pad) before bytes (FormatBody (missing - length bytes) pad) after []
+unfolding found_from
+body-stays depths missing pad before bytes after kept few place =
+    record { same = same; place = (omega arith, omega (arith, ap length kept, length-take 40 (before ++ bytes)), omega (arith, ap length kept, length-take 40 (before ++ bytes), length-append before bytes)); seen = λ n was. tt }
+  where
+    left : ℕ
+    left = missing - length bytes
+
+    whole : missing ≡ length bytes + (missing - length bytes)
+    whole = omega arith
+
+    body : (more : List ℕ) → take 40 (after ++ take (missing - length bytes) more) ≡ take 40 (before ++ take missing (bytes ++ more))
+    body more =
+        ap (λ (a : List ℕ). take 40 (a ++ take (missing - length bytes) more)) kept
+        ∙ take-take_front 40 (before ++ bytes) (take (missing - length bytes) more)
+        ∙ ap (take 40) (append_assoc before bytes (take (missing - length bytes) more))
+        ∙ ap (λ (b : List ℕ). take 40 (before ++ b)) (sym (ap (λ (n : ℕ). take n (bytes ++ more)) whole ∙ take-append-add bytes more (missing - length bytes)))
+
+    later : (more : List ℕ) → drop ((missing - length bytes) + pad) more ≡ drop (missing + pad) (bytes ++ more)
+    later more =
+        sym (ap (λ (n : ℕ). drop n (bytes ++ more)) (omega arith) ∙ drop-append-add bytes more ((missing - length bytes) + pad))
+
+    same : (more : List ℕ) → found_from depths (FormatBody (missing - length bytes) pad) after more ≡ found_from depths (FormatBody missing pad) before (bytes ++ more)
+    same more =
+        elim (cases_lt (length more) (missing - length bytes)) [
+          | inl short ↦
+              cond-true (ltb (length more) (missing - length bytes)) format_cut _ (lt-ltb _ _ short)
+              ∙ sym (cond-true (ltb (length (bytes ++ more)) missing) format_cut _ (lt-ltb _ _ (omega (arith, length-append bytes more))))
+          | inr long ↦
+              cond-false (ltb (length more) (missing - length bytes)) format_cut _ (le-ltb _ _ long)
+              ∙ ap (λ (b : List ℕ). followed (settled (format_of depths b)) (λ f. finding depths f (chunks (drop ((missing - length bytes) + pad) more)))) (body more)
+              ∙ ap (λ (b : List ℕ). followed (settled (format_of depths (take 40 (before ++ take missing (bytes ++ more))))) (λ f. finding depths f (chunks b))) (later more)
+              ∙ sym (cond-false (ltb (length (bytes ++ more)) missing) format_cut _ (le-ltb _ _ (omega (arith, length-append bytes more))))
+        ]
+
+pub body-leads : (depths : Depths) (missing pad : ℕ) (before bytes body : List ℕ) (new : Place) → body ≡ take 40 (before ++ take missing bytes) → missing ≤ length bytes
+    → LeadsTo depths new (λ more. followed (settled (format_of depths body)) (λ f. finding depths f (chunks (drop pad more))))
+    → GoesOn depths (FormatBody missing pad) before bytes new [] (drop missing bytes)
+unfolding found_from
+body-leads depths missing pad before bytes body new kept whole leads =
+    goes_on-leads depths (FormatBody missing pad) before bytes new (drop missing bytes) _ leads same
+  where
+    later : (more : List ℕ) → drop pad (drop missing bytes ++ more) ≡ drop (missing + pad) (bytes ++ more)
+    later more = ap (drop pad) (sym (drop-append-le missing bytes more whole)) ∙ drop-drop pad missing (bytes ++ more)
+
+    same : (more : List ℕ) → followed (settled (format_of depths body)) (λ f. finding depths f (chunks (drop pad (drop missing bytes ++ more)))) ≡ found_from depths (FormatBody missing pad) before (bytes ++ more)
+    same more =
+        ap (λ (b : List ℕ). followed (settled (format_of depths b)) (λ f. finding depths f (chunks (drop pad (drop missing bytes ++ more))))) (kept ∙ ap (λ (b : List ℕ). take 40 (before ++ b)) (sym (take-append-le missing bytes more whole)))
+        ∙ ap (λ (b : List ℕ). followed (settled (format_of depths (take 40 (before ++ take missing (bytes ++ more))))) (λ f. finding depths f (chunks b))) (later more)
+        ∙ sym (cond-false (ltb (length (bytes ++ more)) missing) format_cut _ (le-ltb _ _ (omega (arith, length-append bytes more))))

@@ -1,0 +1,70 @@
+-- Readers of the bytes of a file's samples.
+use Rattle.std.proofs.Common.{◌≡◌, ℕ, ◌*◌, ◌/◌, ◌%◌, ◌<◌, ◌≤◌, true, false, List, [], ◌++◌, length, Result, Ok, Err, refl, sym, ap, subst, ◌∙◌, arith, append-nil, append_assoc}
+use Rattle.std.proofs.lemmas.Bool.Decides.{nat_tests}
+use Rattle.std.proofs.Math.Nat.{mul-le-mul_left, mul-mod_left}
+use Rattle.std.proofs.lemmas.List.{length-take-le}
+use Rattle.std.proofs.Math.Nat.{div-mul-le_self}
+use Rattle.wav_io.specs.declared.error.WavError.{WavError}
+use Rattle.wav_io.specs.declared.format.Depths.TheVariants.{UpTo32}
+use Rattle.wav_io.specs.declared.format.Format.{Format}
+use Rattle.wav_io.specs.declared.place.Place.{Place}
+use Rattle.wav_io.specs.declared.place.Place.TheVariants.{DataBody}
+use Rattle.wav_io.specs.Fields.{whole}
+use Rattle.wav_io.specs.Formats.{IsFormat, is_accepted}
+use Rattle.wav_io.specs.Frames.{IsCut}
+use Rattle.wav_io.specs.Pieces.{with_front}
+use Rattle.wav_io.specs.Reading.{Contents}
+use Rattle.wav_io.specs.Readers.{Reader, IsPart, Raw, rest_of, raw_to_come, raw_frame, raws, with_bytes}
+use Rattle.wav_io.specs.Scans.{to_come}
+use Rattle.wav_io.proofs.Readers.{fed_comes, cut-whole, whole-less, format_comes}
+
+-- the bits of a sample
+bits_range : (bits : ℕ) → is_accepted UpTo32 bits ≡ true → (8 ≤ bits) × (bits ≤ 32)
+bits_range bits is = (grind (arith, nat_tests), grind (arith, nat_tests))
+
+pub raw_frame-some : (f : Format) → IsFormat f → 0 < raw_frame f
+raw_frame-some f in_order =
+    let range = bits_range f.bits in_order.whole_bytes in
+    let bytes : 1 ≤ f.bits / 8 = omega (arith, range.0) in
+    omega (arith, mul-le-mul_left f.channels bytes, in_order.some_channel)
+
+pub raw_frame-few : (f : Format) → IsFormat f → raw_frame f ≤ 40
+raw_frame-few f in_order =
+    let range = bits_range f.bits in_order.whole_bytes in
+    let bytes : f.bits / 8 ≤ 4 = omega (arith, range.1) in
+    omega (arith, mul-le-mul_left f.channels bytes, in_order.few_channels)
+
+pub raws-frames : (r : Result Contents WavError) (s : Raw) → raws r ≡ Ok s → length s.body % (s.channels * (s.bits / 8)) ≡ 0
+raws-frames (Ok c) s is =
+    let size = raw_frame c.format in
+    let count = length c.body / size in
+    let same : record { channels = c.format.channels; rate = c.format.rate; bits = c.format.bits; body = whole size c.body } ≡ s = cc in
+    let bytes : length (whole size c.body) ≡ count * size = length-take-le (count * size) c.body (div-mul-le_self (length c.body) size) in
+    ap (λ (t : Raw). length t.body % (t.channels * (t.bits / 8))) (sym same) ∙ ap (λ (n : ℕ). n % size) bytes ∙ mul-mod_left count size
+raws-frames (Err e) s is = absurd (cc)
+
+raws-cut : (f : Format) (part body bytes rest items : List ℕ) (r : Result Contents WavError) → IsCut (raw_frame f) part body bytes rest → 0 < raw_frame f → ((c : Contents) → r ≡ Ok c → c.format ≡ f)
+    → with_bytes items (raws (with_front part (with_front body r))) ≡ with_bytes (items ++ bytes) (raws (with_front rest r))
+raws-cut f part body bytes rest items (Err e) cut some same = refl
+raws-cut f part body bytes rest items (Ok c) cut some same =
+    let is : c.format ≡ f = same c refl in
+    let frames : whole (raw_frame c.format) (part ++ (body ++ c.body)) ≡ bytes ++ whole (raw_frame c.format) (rest ++ c.body) =
+    subst (λ (g : Format). whole (raw_frame g) (part ++ (body ++ c.body)) ≡ bytes ++ whole (raw_frame g) (rest ++ c.body)) (sym is) (cut-whole (raw_frame f) part body bytes rest c.body cut some) in
+    ap (λ (b : List ℕ). Ok (record { channels = c.format.channels; rate = c.format.rate; bits = c.format.bits; body = b })) (ap (λ (b : List ℕ). items ++ b) frames ∙ sym (append_assoc items bytes (whole (raw_frame c.format) (rest ++ c.body))))
+
+pub some_raw : (old new : Reader) (f : Format) (n : ℕ) (piece body bytes items after : List ℕ) → old.starved ≡ false → new.starved ≡ false → new.scan.place ≡ DataBody f n → 0 < raw_frame f
+    → IsCut (raw_frame f) old.part body bytes new.part → after ≡ items ++ bytes
+    → (more : List ℕ) → to_come UpTo32 old.scan (piece ++ more) ≡ with_front body (to_come UpTo32 new.scan more)
+    → with_bytes items (raws (rest_of UpTo32 old (piece ++ more))) ≡ with_bytes after (raws (rest_of UpTo32 new more))
+some_raw old new f n piece body bytes items after fed still is some cut appended more come =
+    ap (λ (r : Result Contents WavError). with_bytes items (raws r)) (fed_comes UpTo32 old (piece ++ more) fed ∙ ap (with_front old.part) come)
+    ∙ raws-cut f old.part body bytes new.part items (to_come UpTo32 new.scan more) cut some (format_comes UpTo32 new.scan f n is more)
+    ∙ ap (λ (r : Result Contents WavError). with_bytes (items ++ bytes) (raws r)) (sym (fed_comes UpTo32 new more still))
+    ∙ ap (λ (zs : List ℕ). with_bytes zs (raws (rest_of UpTo32 new more))) (sym appended)
+
+pub ends_raw : (r : Reader) (f : Format) (n : ℕ) → r.starved ≡ false → r.scan.place ≡ DataBody f n → IsPart raw_frame r.scan.place r.part → to_come UpTo32 r.scan [] ≡ Ok (record { format = f; body = [] })
+    → raw_to_come r [] ≡ Ok (record { channels = f.channels; rate = f.rate; bits = f.bits; body = [] })
+ends_raw r f n fed is part come =
+    let less : length (r.part ++ []) < raw_frame f = omega (arith, subst (λ (q : Place). IsPart raw_frame q r.part) is part, ap length (append-nil r.part)) in
+    ap raws (fed_comes UpTo32 r [] fed ∙ ap (with_front r.part) come)
+    ∙ ap (λ (b : List ℕ). Ok (record { channels = f.channels; rate = f.rate; bits = f.bits; body = b })) (whole-less (raw_frame f) (r.part ++ []) less)

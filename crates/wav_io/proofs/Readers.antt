@@ -1,0 +1,231 @@
+-- Readers of a file in pieces.
+use Rattle.std.proofs.Common.{◌≡◌, ◌≢◌, ℕ, zero, suc, ◌+◌, ◌*◌, ◌/◌, ◌%◌, ◌<◌, true, false, List, [], ◌∷◌, ◌++◌, length, take, Option, Some, None, Result, Ok, Err, refl, sym, ap, subst, ◌∙◌, arith, append-nil, append_assoc, length-append, inl, inr, ℤ}
+use Rattle.std.proofs.Math.Seq.{take-append-add}
+use Rattle.std.specs.Prelude.{IfSome}
+use Rattle.std.specs.Int.{w16, cast_signed, from_le_bytes}
+use Rattle.std.proofs.lemmas.Bool.{cond-true, cond-false, cases_lt, cases_Bool}
+use Rattle.std.proofs.lemmas.List.{nil_from_length}
+use Rattle.std.proofs.Math.Nat.{div-eq_of_lt, mul-add-div_right}
+use Rattle.wav_io.specs.declared.error.WavError.{WavError}
+use Rattle.wav_io.specs.declared.error.WavError.TheVariants.{NotRiff, NotWave, NoFormat, FormatTwice, ShortFormat, Tag, Bits, Channels, RateZero, NoData, TooLong, Memory}
+use Rattle.wav_io.specs.declared.format.Depths.{Depths}
+use Rattle.wav_io.specs.declared.format.Depths.TheVariants.{Sixteen}
+use Rattle.wav_io.specs.declared.format.Format.{Format}
+use Rattle.wav_io.specs.declared.place.Place.{Place}
+use Rattle.wav_io.specs.declared.place.Place.TheVariants.{Opening, Head, FormatBody, DataBody, Refused}
+use Rattle.wav_io.specs.declared.scan.Scan.{Scan}
+use Rattle.wav_io.specs.Fields.{whole, samples_of}
+use Rattle.wav_io.specs.Frames.{IsCut}
+use Rattle.wav_io.specs.Pieces.{with_front, found_from}
+use Rattle.wav_io.specs.Reading.{Contents, contents, limited, most_bytes, sound_of, sounds, wav_file, IsRefusal}
+use Rattle.wav_io.specs.Readers.{Reader, IsPart, error_of, rest_of, sound_to_come, wav_frame, with_samples}
+use Rattle.wav_io.specs.Scans.{to_come, refusal_of, IsScan}
+use Rattle.wav_io.specs.Sound.{Sound}
+use Rattle.wav_io.proofs.Bodies.{whole_frames-whole}
+use Rattle.wav_io.proofs.Limits.{limited-short, limited-long}
+use Rattle.wav_io.proofs.Places.{regroup}
+use Rattle.wav_io.proofs.Scans.{ends_at, ends_data, refused_comes}
+
+pub starved_comes : (depths : Depths) (r : Reader) (more : List ℕ) → r.starved ≡ true → rest_of depths r more ≡ Err Memory
+unfolding rest_of
+starved_comes depths r more is = cond-true r.starved _ _ is
+
+pub fed_comes : (depths : Depths) (r : Reader) (more : List ℕ) → r.starved ≡ false → rest_of depths r more ≡ with_front r.part (to_come depths r.scan more)
+unfolding rest_of
+fed_comes depths r more is = cond-false r.starved _ _ is
+
+pub with_front-nil : (r : Result Contents WavError) → with_front [] r ≡ r
+with_front-nil (Ok c) = refl
+with_front-nil (Err e) = refl
+
+-- less than a frame is none
+pub whole-less : (size : ℕ) (xs : List ℕ) → length xs < size → whole size xs ≡ []
+whole-less size xs less =
+    let none : length xs / size ≡ 0 = div-eq_of_lt less in
+    let bytes : length xs / size * size ≡ 0 = ap (λ (n : ℕ). n * size) none ∙ omega arith in
+    ap (λ (n : ℕ). take n xs) bytes
+
+pub sounds-frames : (r : Result Contents WavError) (s : Sound) → sounds r ≡ Ok s → length s.samples % s.channels ≡ 0
+sounds-frames (Ok c) s is =
+    let same : sound_of c.format c.body ≡ s = cc in
+    ap (λ (t : Sound). length t.samples % t.channels) (sym same) ∙ whole_frames-whole c.format.channels c.body
+sounds-frames (Err e) s is = absurd (cc)
+
+-- ---- the first piece, and one that brings no data
+
+pub new_rest : (depths : Depths) (bytes : List ℕ) → rest_of depths (record { scan = record { place = Opening; kept = []; seen = 0 }; part = []; starved = false }) bytes ≡ contents depths bytes
+unfolding rest_of found_from
+new_rest depths bytes = with_front-nil (contents depths bytes)
+
+pub new_comes : (depths : Depths) (s : Scan) (part bytes : List ℕ) → s ≡ record { place = Opening; kept = []; seen = 0 } → part ≡ [] → rest_of depths (record { scan = s; part = part; starved = false }) bytes ≡ contents depths bytes
+new_comes depths s part bytes is none =
+    ap (λ (t : Scan). rest_of depths (record { scan = t; part = part; starved = false }) bytes) is
+    ∙ ap (λ (p : List ℕ). rest_of depths (record { scan = record { place = Opening; kept = []; seen = 0 }; part = p; starved = false }) bytes) none
+    ∙ new_rest depths bytes
+
+pub no_data : (depths : Depths) (old new : Reader) (bytes more : List ℕ) → old.starved ≡ false → new.starved ≡ false → new.part ≡ old.part → to_come depths old.scan (bytes ++ more) ≡ with_front [] (to_come depths new.scan more)
+    → rest_of depths old (bytes ++ more) ≡ rest_of depths new more
+no_data depths old new bytes more fed still same come =
+    fed_comes depths old (bytes ++ more) fed
+    ∙ ap (with_front old.part) (come ∙ with_front-nil (to_come depths new.scan more))
+    ∙ ap (λ (p : List ℕ). with_front p (to_come depths new.scan more)) (sym same)
+    ∙ sym (fed_comes depths new more still)
+
+pub refused_rest : (depths : Depths) (old : Reader) (bytes : List ℕ) (e : WavError) → old.starved ≡ false → to_come depths old.scan bytes ≡ Err e → rest_of depths old bytes ≡ Err e
+refused_rest depths old bytes e fed is = fed_comes depths old bytes fed ∙ ap (with_front old.part) is
+
+-- ---- a piece with data
+
+whole-append : (n size : ℕ) (a b : List ℕ) → 0 < size → length a ≡ n * size → whole size (a ++ b) ≡ a ++ whole size b
+whole-append n size a b some count =
+    let frames : length (a ++ b) / size ≡ n + length b / size = ap (λ (k : ℕ). k / size) (length-append a b ∙ ap (λ (k : ℕ). k + length b) count) ∙ mul-add-div_right some n (length b) in
+    let bytes : length (a ++ b) / size * size ≡ length a + length b / size * size = omega (arith, ap (λ (k : ℕ). k * size) frames, count) in
+    ap (λ (k : ℕ). take k (a ++ b)) bytes ∙ take-append-add a b (length b / size * size)
+
+pub samples_of-append : (n : ℕ) (a b : List ℕ) → length a ≡ 2 * n → samples_of (a ++ b) ≡ samples_of a ++ samples_of b
+samples_of-append n [] b even = refl
+samples_of-append n (low ∷ []) b even = absurd (omega arith)
+samples_of-append zero (low ∷ high ∷ rest) b even = absurd (omega arith)
+samples_of-append (suc n) (low ∷ high ∷ rest) b even =
+    ap (λ (zs : List ℤ). cast_signed w16 (from_le_bytes w16 (low ∷ high ∷ [])) ∷ zs) (samples_of-append n rest b (omega arith))
+
+pub samples_of-frames : (n channels : ℕ) (a b : List ℕ) → length a ≡ n * (2 * channels) → samples_of (a ++ b) ≡ samples_of a ++ samples_of b
+samples_of-frames n channels a b count = samples_of-append (n * channels) a b (omega arith)
+
+-- the frames of a part and more of the data
+pub cut-whole : (size : ℕ) (part body bytes rest more : List ℕ) → IsCut size part body bytes rest → 0 < size → whole size (part ++ (body ++ more)) ≡ bytes ++ whole size (rest ++ more)
+cut-whole size part body bytes rest more cut some =
+    ap (whole size) (regroup part body bytes rest more (sym cut.all)) ∙ whole-append cut.frames size bytes (rest ++ more) some cut.whole_frames
+
+pub sounds-cut : (f : Format) (part body bytes rest : List ℕ) (items : List ℤ) (r : Result Contents WavError) → IsCut (wav_frame f) part body bytes rest → 0 < wav_frame f → ((c : Contents) → r ≡ Ok c → c.format ≡ f)
+    → with_samples items (sounds (with_front part (with_front body r))) ≡ with_samples (items ++ samples_of bytes) (sounds (with_front rest r))
+sounds-cut f part body bytes rest items (Err e) cut some same = refl
+sounds-cut f part body bytes rest items (Ok c) cut some same =
+    let is : c.format ≡ f = same c refl in
+    let frames : whole (wav_frame c.format) (part ++ (body ++ c.body)) ≡ bytes ++ whole (wav_frame c.format) (rest ++ c.body) =
+    subst (λ (g : Format). whole (wav_frame g) (part ++ (body ++ c.body)) ≡ bytes ++ whole (wav_frame g) (rest ++ c.body)) (sym is) (cut-whole (wav_frame f) part body bytes rest c.body cut some) in
+    let samples : items ++ samples_of (whole (wav_frame c.format) (part ++ (body ++ c.body))) ≡ (items ++ samples_of bytes) ++ samples_of (whole (wav_frame c.format) (rest ++ c.body)) =
+    ap (λ (b : List ℕ). items ++ samples_of b) frames
+    ∙ ap (λ (zs : List ℤ). items ++ zs) (samples_of-frames cut.frames f.channels bytes (whole (wav_frame c.format) (rest ++ c.body)) cut.whole_frames)
+    ∙ sym (append_assoc items (samples_of bytes) (samples_of (whole (wav_frame c.format) (rest ++ c.body)))) in
+    ap (λ (zs : List ℤ). Ok (record { channels = c.format.channels; rate = c.format.rate; samples = zs })) samples
+
+-- the format of the data that is to come
+pub format_comes : (depths : Depths) (s : Scan) (f : Format) (n : ℕ) → s.place ≡ DataBody f n → (more : List ℕ) (c : Contents) → to_come depths s more ≡ Ok c → c.format ≡ f
+unfolding found_from
+format_comes depths s f n is more c come =
+    let at : limited s.seen (found_from depths (DataBody f n) s.kept) more ≡ Ok c = sym (ap (λ (q : Place). limited s.seen (found_from depths q s.kept) more) is) ∙ come in
+    elim (cases_lt most_bytes (s.seen + length more)) [
+      | inl long ↦ absurd (let e = sym (limited-long s.seen (found_from depths (DataBody f n) s.kept) more long) ∙ at in cc)
+      | inr short ↦
+          let e : Ok (record { format = f; body = take n more }) ≡ Ok c = sym (limited-short s.seen (found_from depths (DataBody f n) s.kept) more short) ∙ at in
+          let same : record { format = f; body = take n more } ≡ c = cc in
+          ap (λ (d : Contents). d.format) (sym same)
+    ]
+
+pub some_data : (old new : Reader) (f : Format) (n : ℕ) (piece body bytes : List ℕ) (items after : List ℤ) → old.starved ≡ false → new.starved ≡ false → new.scan.place ≡ DataBody f n → 0 < wav_frame f
+    → IsCut (wav_frame f) old.part body bytes new.part → after ≡ items ++ samples_of bytes
+    → (more : List ℕ) → to_come Sixteen old.scan (piece ++ more) ≡ with_front body (to_come Sixteen new.scan more)
+    → with_samples items (sounds (rest_of Sixteen old (piece ++ more))) ≡ with_samples after (sounds (rest_of Sixteen new more))
+some_data old new f n piece body bytes items after fed still is some cut appended more come =
+    ap (λ (r : Result Contents WavError). with_samples items (sounds r)) (fed_comes Sixteen old (piece ++ more) fed ∙ ap (with_front old.part) come)
+    ∙ sounds-cut f old.part body bytes new.part items (to_come Sixteen new.scan more) cut some (format_comes Sixteen new.scan f n is more)
+    ∙ ap (λ (r : Result Contents WavError). with_samples (items ++ samples_of bytes) (sounds r)) (sym (fed_comes Sixteen new more still))
+    ∙ ap (λ (zs : List ℤ). with_samples zs (sounds (rest_of Sixteen new more))) (sym appended)
+
+-- where memory was wanted the file isn't refused so far
+pub not_refused : (depths : Depths) (old : Reader) (scan : Scan) (f : Format) (n : ℕ) (piece body : List ℕ) → old.starved ≡ false → IsScan scan → scan.place ≡ DataBody f n
+    → to_come depths old.scan (piece ++ []) ≡ with_front body (to_come depths scan []) → (c : Contents) × (rest_of depths old piece ≡ Ok c)
+not_refused depths old scan f n piece body fed is place come =
+    (_, fed_comes depths old piece fed ∙ ap (λ (b : List ℕ). with_front old.part (to_come depths old.scan b)) (sym (append-nil piece)) ∙ ap (with_front old.part) (come ∙ ap (with_front body) (ends_at depths scan (DataBody f n) _ is place (ends_data depths f n scan.kept))))
+
+-- ---- answers of a reader
+
+pub refused_place : (place : Place) → ((e : WavError) → place ≡ Refused e → ⊥) → refusal_of place ≡ None
+refused_place Opening other = refl
+refused_place (Head format skip) other = refl
+refused_place (FormatBody missing pad) other = refl
+refused_place (DataBody f n) other = refl
+refused_place (Refused e) other = absurd (other e refl)
+
+pub place_refused : (place : Place) (e : WavError) → refusal_of place ≡ Some e → place ≡ Refused e
+place_refused Opening e is = absurd (cc)
+place_refused (Head format skip) e is = absurd (cc)
+place_refused (FormatBody missing pad) e is = absurd (cc)
+place_refused (DataBody f n) e is = absurd (cc)
+place_refused (Refused d) e is = let same : d ≡ e = cc in ap (λ (x : WavError). Refused x) same
+
+pub error_comes : (depths : Depths) (r : Reader) (e : WavError) → error_of r ≡ Some e → (more : List ℕ) → rest_of depths r more ≡ Err e
+error_comes depths r e is more =
+    elim (cases_Bool r.starved) [
+      | inl hungry ↦
+          let memory : Some Memory ≡ Some e = sym (cond-true r.starved (Some Memory) (refusal_of r.scan.place) hungry) ∙ is in
+          let same : Memory ≡ e = cc in
+          starved_comes depths r more hungry ∙ ap (λ (x : WavError). Err x) same
+      | inr fed ↦
+          let place = place_refused r.scan.place e (sym (cond-false r.starved (Some Memory) (refusal_of r.scan.place) fed) ∙ is) in
+          refused_rest depths r more e fed (refused_comes depths r.scan e place more)
+    ]
+
+-- ---- a file in one piece
+
+unsampled : (a : List ℤ) (r : Result Sound WavError) (e : WavError) → with_samples a r ≡ Err e → r ≡ Err e
+unsampled a (Ok s) e is = absurd (cc)
+unsampled a (Err d) e is = is
+
+pub whole_err : (old new : Reader) (bytes : List ℕ) (a b : List ℤ) (e : WavError) → ((x : List ℕ) → sound_to_come old x ≡ wav_file x) → with_samples a (sound_to_come old (bytes ++ [])) ≡ with_samples b (sound_to_come new []) → sound_to_come new [] ≡ Err e
+    → wav_file bytes ≡ Err e
+whole_err old new bytes a b e file same is =
+    ap wav_file (sym (append-nil bytes)) ∙ sym (file (bytes ++ [])) ∙ unsampled a (sound_to_come old (bytes ++ [])) e (same ∙ ap (with_samples b) is)
+
+with_samples-nil : (r : Result Sound WavError) → with_samples [] r ≡ r
+with_samples-nil (Ok s) = refl
+with_samples-nil (Err e) = refl
+
+pub whole_ok : (old new : Reader) (bytes : List ℕ) (a b : List ℤ) (channels rate : ℕ) → ((x : List ℕ) → sound_to_come old x ≡ wav_file x) → with_samples a (sound_to_come old (bytes ++ [])) ≡ with_samples b (sound_to_come new []) → a ≡ []
+    → sound_to_come new [] ≡ Ok (record { channels = channels; rate = rate; samples = [] }) → wav_file bytes ≡ Ok (record { channels = channels; rate = rate; samples = b })
+whole_ok old new bytes a b channels rate file same none is =
+    ap wav_file (sym (append-nil bytes)) ∙ sym (file (bytes ++ [])) ∙ sym (with_samples-nil (sound_to_come old (bytes ++ [])))
+    ∙ ap (λ (zs : List ℤ). with_samples zs (sound_to_come old (bytes ++ []))) (sym none) ∙ same ∙ ap (with_samples b) is
+    ∙ ap (λ (zs : List ℤ). Ok (record { channels = channels; rate = rate; samples = zs })) (append-nil b)
+
+-- a file in pieces, of which the last one came
+pub pieces_ok : (r : Reader) (bytes rest : List ℕ) (b : List ℤ) (channels rate : ℕ) → with_samples b (sound_to_come r rest) ≡ wav_file bytes → length rest ≡ 0
+    → sound_to_come r [] ≡ Ok (record { channels = channels; rate = rate; samples = [] }) → wav_file bytes ≡ Ok (record { channels = channels; rate = rate; samples = b })
+pieces_ok r bytes rest b channels rate same none is =
+    sym same ∙ ap (λ (x : List ℕ). with_samples b (sound_to_come r x)) (nil_from_length rest none) ∙ ap (with_samples b) is
+    ∙ ap (λ (zs : List ℤ). Ok (record { channels = channels; rate = rate; samples = zs })) (append-nil b)
+
+-- ---- the end of a reader
+
+pub ends_fed : (r : Reader) (f : Format) (n : ℕ) → r.starved ≡ false → r.scan.place ≡ DataBody f n → IsPart wav_frame r.scan.place r.part → to_come Sixteen r.scan [] ≡ Ok (record { format = f; body = [] })
+    → sound_to_come r [] ≡ Ok (record { channels = f.channels; rate = f.rate; samples = [] })
+ends_fed r f n fed is part come =
+    let less : length (r.part ++ []) < wav_frame f = omega (arith, subst (λ (q : Place). IsPart wav_frame q r.part) is part, ap length (append-nil r.part)) in
+    ap sounds (fed_comes Sixteen r [] fed ∙ ap (with_front r.part) come)
+    ∙ ap (λ (b : List ℕ). Ok (record { channels = f.channels; rate = f.rate; samples = samples_of b })) (whole-less (wav_frame f) (r.part ++ []) less)
+
+again_at : (depths : Depths) (r : Reader) (e : WavError) (o : Option WavError) → error_of r ≡ o → rest_of depths r [] ≡ Err e → IfSome o (λ d. e ≡ d)
+again_at depths r e None is come = tt
+again_at depths r e (Some d) is come = let same = sym come ∙ error_comes depths r d is [] in cc
+
+pub again_from : (depths : Depths) (r : Reader) (e : WavError) → rest_of depths r [] ≡ Err e → IfSome (error_of r) (λ d. e ≡ d)
+again_from depths r e come = again_at depths r e (error_of r) refl come
+
+pub IfSome-weaker : (o : Option WavError) (P Q : WavError → Type 0) → ((e : WavError) → P e → Q e) → IfSome o P → IfSome o Q
+IfSome-weaker None P Q f h = tt
+IfSome-weaker (Some e) P Q f h = f e h
+
+pub refusal_from : (e : WavError) (given : Result Sound WavError) → (e ≢ Memory → given ≡ Err e) → IsRefusal e given
+refusal_from Memory given h = tt
+refusal_from NotRiff given h = h (λ is. cc)
+refusal_from NotWave given h = h (λ is. cc)
+refusal_from NoFormat given h = h (λ is. cc)
+refusal_from FormatTwice given h = h (λ is. cc)
+refusal_from ShortFormat given h = h (λ is. cc)
+refusal_from (Tag n) given h = h (λ is. cc)
+refusal_from (Bits n) given h = h (λ is. cc)
+refusal_from (Channels n) given h = h (λ is. cc)
+refusal_from RateZero given h = h (λ is. cc)
+refusal_from NoData given h = h (λ is. cc)
+refusal_from TooLong given h = h (λ is. cc)

@@ -1,0 +1,22 @@
+use Rattle.std.proofs.Common.{◌≡◌, ◌*◌, ◌+◌, ◌<◌, [], ◌∷◌, ◌++◌, get_or, length, drop, take, arith, rules, ◌∙◌, ap, sym, to_z, of_z, FitsSigned, length-set}
+use Rattle.std.specs.Int.{w16, cast_signed, from_le_bytes}
+use Rattle.std.proofs.lemmas.Int.{to_z-of_z}
+use Rattle.std.proofs.lemmas.List.{take_more_set, take_all}
+use Rattle.wav_io.specs.Fields.{samples_of}
+use Rattle.wav_io.proofs.Bodies.{goes_on, ends}
+use Rattle.wav_io.proofs.fields.decode.Goals as goal
+
+pub loop-i-preserved : goal.loop-i-preserved
+loop-i-preserved c =
+    let i = c.loop-i.i in
+    let bytes = c.args.bytes.now in
+    let fits : FitsSigned w16 c.from_le_bytes.result = search rules in
+    let sample : to_z w16 (of_z w16 c.from_le_bytes.result) ≡ cast_signed w16 (from_le_bytes w16 (get_or bytes (2 * i) 0 ∷ get_or bytes (2 * i + 1) 0 ∷ [])) = to_z-of_z w16 _ fits ∙ c.from_le_bytes.ensures in
+    let inside : i < length c.loop-i.samples = omega arith in
+    record {
+      so_far = ap (λ zs. zs ++ samples_of (drop (2 * (i + 1)) bytes)) (take_more_set c.loop-i.samples i _ inside ∙ ap (λ z. take i c.loop-i.samples ++ z ∷ []) sample) ∙ goes_on (take i c.loop-i.samples) bytes i _ (omega arith) c.loop-i.invariant.so_far;
+      len = length-set c.loop-i.samples i _ ∙ c.loop-i.invariant.len;
+    }
+
+pub returns : goal.returns
+returns c = sym (take_all c.loop-i.i c.loop-i.samples (omega arith)) ∙ ends (take c.loop-i.i c.loop-i.samples) c.args.bytes.now c.loop-i.i _ (omega arith) c.loop-i.invariant.so_far
