@@ -1,5 +1,6 @@
 /* The loops of crates/sum_bench by hand: a ring of 64-bit words, each with the lap of the ring in its upper half, below it
- * the number of samples that were laid there, and in its lowest 24 bits their sum plus 2^23. It prints the same lines. */
+ * the number of samples that were laid there, and in its lowest 24 bits their sum plus 2^23. The ring's length is a constant, so
+ * nothing is divided. It prints the same lines. */
 #include <pthread.h>
 #include <stdint.h>
 #include <stdio.h>
@@ -12,16 +13,9 @@
 #define EMPTY (1u << 23)
 #define MOST_THREADS 4u
 
-#ifdef FIXED
-#define LENGTH(ring) FRAMES
-#else
-#define LENGTH(ring) (ring)->frames
-#endif
-
 /* A ring: word 0 is the position, and the others are the words of its frames and channels. */
 struct ring {
     uint64_t *words;
-    uint32_t frames;
     uint32_t channels;
     uint64_t next;
 };
@@ -52,36 +46,16 @@ static void fail(const char *why)
     exit(1);
 }
 
-/* The lap of a frame. */
-static uint64_t lap_of(struct ring *ring, uint64_t frame)
-{
-#ifdef NARROW
-    if (frame >> 32 == 0)
-        return (uint32_t)frame / LENGTH(ring);
-#endif
-    return frame / LENGTH(ring);
-}
-
-/* The slot of a frame. */
-static uint64_t slot_of(struct ring *ring, uint64_t frame)
-{
-#ifdef NARROW
-    if (frame >> 32 == 0)
-        return (uint32_t)frame % LENGTH(ring);
-#endif
-    return frame % LENGTH(ring);
-}
-
 static uint64_t *word_at(struct ring *ring, uint64_t frame, uint32_t channel)
 {
-    return &ring->words[1 + slot_of(ring, frame) * ring->channels + channel];
+    return &ring->words[1 + frame % FRAMES * ring->channels + channel];
 }
 
 /* Adds the sample by a load and compare-exchanges, while the word has the frame's lap. */
 static int place(struct ring *ring, uint64_t frame, uint32_t channel, int16_t sample)
 {
     uint64_t *word = word_at(ring, frame, channel);
-    uint64_t lap = lap_of(ring, frame);
+    uint64_t lap = frame / FRAMES;
     uint64_t old = __atomic_load_n(word, __ATOMIC_SEQ_CST);
     while (old >> 32 == lap) {
         uint64_t sum = old + (1u << 24) + (int64_t)sample;
@@ -94,7 +68,7 @@ static int place(struct ring *ring, uint64_t frame, uint32_t channel, int16_t sa
 /* Takes the word by a swap with the empty word of the next lap, and answers its sum, cut to 16 bits. */
 static int16_t take(struct ring *ring, uint64_t frame, uint32_t channel)
 {
-    uint64_t empty = ((lap_of(ring, frame) + 1) << 32) + EMPTY;
+    uint64_t empty = ((frame / FRAMES + 1) << 32) + EMPTY;
     uint64_t found = __atomic_exchange_n(word_at(ring, frame, channel), empty, __ATOMIC_SEQ_CST);
     int32_t sum = (int32_t)(found & 0xffffff) - (int32_t)EMPTY;
     return sum > 32767 ? 32767 : sum < -32768 ? -32768 : sum;
@@ -126,7 +100,7 @@ static uint64_t play(struct ring *ring, uint64_t frames)
 static struct ring new_ring(uint32_t channels)
 {
     uint32_t count = 1 + FRAMES * channels;
-    struct ring ring = {malloc(8 * count), FRAMES, channels, 0};
+    struct ring ring = {malloc(8 * count), channels, 0};
     if (ring.words == NULL)
         fail("no memory");
     ring.words[0] = 0;

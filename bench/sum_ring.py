@@ -3,9 +3,9 @@
 
 usage: bench/sum_ring.py        from the top of the repository; wants cc, and proves and builds crates/sum_bench if needed
 
-The C program is built three times: with the ring's length as a field, as it is in the crate; so, and with divisions in 32 bits
-where the numbers fit; and with the length as a constant. The programs lay and take a ring of 16,384 frames lap by lap, and give for each measurement the time on the clock of the fastest of 400
-laps. They are run in turn, ROUNDS times each, and the least time counts.
+The C program has the ring's length as a constant. Both programs lay and take a ring of 16,384 frames lap by lap, and give for
+each measurement the time on the clock of the fastest of 400 laps. They are run in turn, ROUNDS times each, and the least time
+counts.
 """
 import subprocess
 import sys
@@ -27,14 +27,13 @@ ROWS = (
 
 
 def build(folder):
-    """The three C programs, which are compiled anew; the crate is proved and built only where it has changed."""
-    programs = [folder / "by_field", folder / "narrow", folder / "fixed"]
-    for program, flags in zip(programs, ([], ["-DNARROW"], ["-DFIXED"])):
-        subprocess.run(["cc", "-O2", "-pthread", *flags, "-o", program, TOP / "bench/sum_ring.c"], check=True)
+    """The C program, which is compiled anew; the crate is proved and built only where it has changed."""
+    by_hand = folder / "by_hand"
+    subprocess.run(["cc", "-O2", "-pthread", "-o", by_hand, TOP / "bench/sum_ring.c"], check=True)
     subprocess.run(["rt", "run"], cwd=CRATE, stdout=subprocess.DEVNULL, stderr=subprocess.DEVNULL)
     if not PROGRAM.exists():
         sys.exit("crates/sum_bench isn't built: see `rt run` there")
-    return [PROGRAM, *programs]
+    return [PROGRAM, by_hand]
 
 
 def measure(program, best):
@@ -45,28 +44,24 @@ def measure(program, best):
         best[what] = min(best.get(what, float("inf")), int(nanoseconds))
 
 
-def cells(step, key, ring, *by_hand):
-    """Nanoseconds for each word, of the crate and of each C program, each of these with how the crate compares."""
+def cells(step, key, ring, by_hand):
+    """Nanoseconds for each word, of the crate and of the C program, and how the crate compares."""
     words = FRAMES * (2 if key == "alone 2" else 1)
-    ours = ring[f"{key} {step}"] / words
-    texts = [f"{ours:.2f}"]
-    for times in by_hand:
-        theirs = times[f"{key} {step}"] / words
-        texts += [f"{theirs:.2f}", f"{ours / theirs:.2f}"]
-    return " | ".join(texts)
+    ours, theirs = ring[f"{key} {step}"] / words, by_hand[f"{key} {step}"] / words
+    return f"{ours:.2f} | {theirs:.2f} | {ours / theirs:.2f}"
 
 
 def main():
     """Builds and runs the programs, and prints the table."""
-    times = [{}, {}, {}, {}]
+    times = [{}, {}]
     with tempfile.TemporaryDirectory() as name:
         programs = build(Path(name))
         for _ in range(ROUNDS):
             for program, best in zip(programs, times):
                 measure(program, best)
     for step, what in (("place", "ns per `place`"), ("take", "ns per `take_word`")):
-        print(f"| {what} | the ring | C | ratio | C, 32-bit division | ratio | C, fixed length | ratio |")
-        print("|---|---|---|---|---|---|---|---|")
+        print(f"| {what} | the ring | C | ratio |")
+        print("|---|---|---|---|")
         for key, row in ROWS:
             print(f"| {row} | {cells(step, key, *times)} |")
         print()

@@ -13,8 +13,8 @@ use Rattle.pcm_states.specs.declared.calls.Call.{Call}
 use Rattle.pcm_states.specs.declared.calls.Call.TheVariants as call
 use Rattle.pcm_states.specs.Table.{next_of}
 use Rattle.dmix_client.specs.declared.commit.Commit.{Commit}
-use Rattle.dmix_client.specs.declared.commit.Ended.{Ended}
-use Rattle.dmix_client.specs.declared.commit.Ended.TheVariants as ended
+use Rattle.mix_core.specs.declared.port.Ended.{Ended}
+use Rattle.mix_core.specs.declared.port.Ended.TheVariants as ended
 use Rattle.dmix_client.specs.declared.plain.Plain.{Plain}
 use Rattle.dmix_client.specs.Calls.{Answered, accepted_if, commit_count, commit_entries, committed_by, facts_of, found_at, going_on, going_on_by, is_stop, late_of, over_of, seen_at, settled, start_count, started, started_in, stopped_in, sync_count, synced, taken_of, window_end, written_after}
 use Rattle.dmix_client.specs.Expansion.{run_entries, sample_at}

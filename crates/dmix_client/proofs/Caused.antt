@@ -10,8 +10,8 @@ use Rattle.pcm_states.specs.declared.calls.Call.{Call}
 use Rattle.pcm_states.specs.declared.calls.Call.TheVariants as call
 use Rattle.pcm_states.specs.declared.calls.Facts.{Facts}
 use Rattle.pcm_states.specs.Table.{draining, first_of, moving, next_of, outcome_of, still_draining}
-use Rattle.dmix_client.specs.declared.commit.Ended.{Ended}
-use Rattle.dmix_client.specs.declared.commit.Ended.TheVariants as ended
+use Rattle.mix_core.specs.declared.port.Ended.{Ended}
+use Rattle.mix_core.specs.declared.port.Ended.TheVariants as ended
 use Rattle.dmix_client.specs.Causes.{IsOfSteps}
 use Rattle.dmix_client.specs.Calls.{is_stop, late_at}
 use Rattle.dmix_client.specs.Port.{IsStep}

@@ -1,26 +1,24 @@
 -- Why a sync and a start answered an error, by the position that they loaded.
-use Rattle.std.proofs.Common.{◌≡◌, ℕ, ◌+◌, ◌≤◌, ◌∙◌, ap, sym, refl, subst, arith, List, [], ◌∷◌, length}
+use Rattle.std.proofs.Common.{◌≡◌, ℕ, ◌+◌, ◌≤◌, ◌∙◌, ap, sym, refl, subst, arith, List, length}
 use Rattle.std.proofs.lemmas.Bool.Decides.{nat_tests}
 use Rattle.std.specs.Prelude.{IfNone, Bool, true, false, ◌&&◌, ◌||◌, ◌↔◌, nat_le, if◌then◌else◌, Option, Some, None, IfSome, is_some, Result, Ok, Err}
-use Rattle.std.specs.Option.{option_to_list}
 use Rattle.snd_base.specs.declared.errors.PcmError.{PcmError}
 use Rattle.snd_base.specs.declared.errors.PcmError.TheVariants.{LapEnd, NoDevice, Stopped, Xrun}
 use Rattle.snd_base.specs.declared.errors.XrunWhy.TheVariants.{Avail, Late}
-use Rattle.snd_base.specs.declared.geometry.Geometry.{Geometry}
 use Rattle.mix_core.specs.declared.port.Position.{Position}
-use Rattle.mix_core.specs.Port.{IsPast}
 use Rattle.pcm_states.specs.declared.states.State.{State}
 use Rattle.pcm_states.specs.declared.states.State.TheVariants.{Running, Draining}
 use Rattle.pcm_states.specs.declared.calls.Call.{Call}
 use Rattle.pcm_states.specs.declared.calls.Call.TheVariants as call
 use Rattle.pcm_states.specs.Table.{next_of}
 use Rattle.dmix_client.specs.declared.commit.Commit.{Commit}
-use Rattle.dmix_client.specs.declared.commit.Ended.{Ended}
-use Rattle.dmix_client.specs.declared.commit.Ended.TheVariants as ended
+use Rattle.mix_core.specs.declared.port.Ended.{Ended}
+use Rattle.mix_core.specs.declared.port.Ended.TheVariants as ended
 use Rattle.dmix_client.specs.declared.plain.Plain.{Plain}
 use Rattle.dmix_client.specs.Calls.{Answered, commit_count, committed_by, end_channel, end_of_commit, facts_of, is_running, is_stop, late_of, over_of, seen_at, settled, stopped_in, sync_count, synced, with_number}
 use Rattle.dmix_client.specs.Causes.{IsCaused, IsMissed, Reaches}
-use Rattle.dmix_client.specs.Port.{IsCommit, IsFound, IsStep, OnLate}
+use Rattle.mix_core.specs.Port.{IsPast, OnLate, PortView}
+use Rattle.dmix_client.specs.Port.{IsCommit, IsFound, IsStep}
 use Rattle.dmix_client.specs.View.{avail_of, is_moving, queued_of}
 use Rattle.dmix_client.proofs.Caused.{IsPlain, Says, frame_in, next-says, number_in}
 
@@ -45,39 +43,35 @@ if-none (Some x) follows told = tt
 late-past : (e : Ended) (word : ℕ) (P : ℕ → Type 0) → e ≡ ended.Late word → OnLate e P → P word
 late-past e word P is late = subst (λ (x : Ended). OnLate x P) is late
 
-module _ {S : Type 0} (loaded : S → S → List Position → Type 0) (geometry : S → Geometry) (shows : S → ℕ → ℕ → Option ℕ) (p q : S) where
+module _ {S : Type 0} (view : S → PortView) (shows : S → ℕ → ℕ → Option ℕ) (q : S) where
   pub missed-of : (at d : Plain) (x : Commit) (frame channel word : ℕ) → EndsAt at d x → frame ≡ end_of_commit at x → channel ≡ end_channel at x
-      → IsPast geometry shows q (end_of_commit at x) (end_channel at x) word → IsMissed geometry shows q d frame channel word
+      → IsPast view shows q (end_of_commit at x) (end_channel at x) word → IsMissed view shows q d frame channel word
   missed-of at d x frame channel word ends is_frame is_channel past = record {
     frame_is = omega (arith, is_frame, ends.card, ends.committed);
     channel_is = is_channel ∙ channel-same at d x ends;
-    past = subst (λ (c : ℕ). IsPast geometry shows q frame c word) (sym is_channel) (subst (λ (f : ℕ). IsPast geometry shows q f (end_channel at x) word) (sym is_frame) past);
+    past = subst (λ (c : ℕ). IsPast view shows q frame c word) (sym is_channel) (subst (λ (f : ℕ). IsPast view shows q f (end_channel at x) word) (sym is_frame) past);
   }
 
   -- by what was found at a position
   pub caused-some : (c at d : Plain) (position : Position) (x : Commit) (over : Option (ℕ × ℕ)) (answer : Result (Unit {0}) PcmError)
       → Says answer position.gone over x.ended (end_of_commit at x) (end_channel at x)
       → ((a f : ℕ) → ((position.gone ≡ false) × (over ≡ Some (a, f))) ↔ Reaches c (Some position) a f)
-      → EndsAt at d x → OnLate x.ended (λ word. IsPast geometry shows q (end_of_commit at x) (end_channel at x) word) → loaded p q (position ∷ [])
-      → IsCaused {T = Unit {0}} loaded geometry shows p q c d answer
-  caused-some c at d position x over answer says reaches ends shown loaded_it = record {
-    load = Some position;
-    loaded_it = loaded_it;
+      → EndsAt at d x → OnLate x.ended (λ word. IsPast view shows q (end_of_commit at x) (end_channel at x) word)
+      → IsCaused {X = Unit {0}} view shows q c d (Some position) answer
+  caused-some c at d position x over answer says reaches ends shown = record {
     unless_stopped = tt;
     of_steps = says.of_steps;
     no_device = says.no_device;
     reached = λ a f. (λ h. (reaches a f).0 ((says.reached a f).0 h), λ h. (says.reached a f).1 ((reaches a f).1 h));
     late = λ frame channel word h.
         let is = says.late frame channel word h in
-        missed-of at d x frame channel word ends is.1 is.2 (late-past x.ended word (λ w. IsPast geometry shows q (end_of_commit at x) (end_channel at x) w) is.0 shown);
+        missed-of at d x frame channel word ends is.1 is.2 (late-past x.ended word (λ w. IsPast view shows q (end_of_commit at x) (end_channel at x) w) is.0 shown);
     never_lap_end = says.never;
   }
 
   -- the gate stopped the load
-  pub caused-none : (c d : Plain) → loaded p q [] → IsCaused {T = Unit {0}} loaded geometry shows p q c d (Err Stopped)
-  caused-none c d loaded_it = record {
-    load = None;
-    loaded_it = loaded_it;
+  pub caused-none : (c d : Plain) → IsCaused {X = Unit {0}} view shows q c d None (Err Stopped)
+  caused-none c d = record {
     unless_stopped = refl;
     of_steps = tt;
     no_device = (λ h. cc, λ h. absurd h);
@@ -86,23 +80,23 @@ module _ {S : Type 0} (loaded : S → S → List Position → Type 0) (geometry 
     never_lap_end = λ h. cc;
   }
 
-  -- an answer with a number has the same causes
-  pub caused-number : (c : Plain) (number : Plain → ℕ) (a : Answered (Unit {0})) → IsCaused {T = Unit {0}} loaded geometry shows p q c a.0 a.1
-      → IsCaused {T = ℕ} loaded geometry shows p q c (with_number number a).0 (with_number number a).1
-  caused-number c number (d, Ok done) why = record {
-    load = why.load;
-    loaded_it = why.loaded_it;
-    unless_stopped = if-none why.load (λ h. absurd (cc)) why.unless_stopped;
+  -- an answer that is well has no other cause
+  pub caused-ok : (load : Option Position) (c u d : Plain) (m : ℕ) → IsCaused {X = Unit {0}} view shows q c u load (Ok tt) → IsCaused {X = ℕ} view shows q c d load (Ok m)
+  caused-ok load c u d m why = record {
+    unless_stopped = if-none load (λ h. absurd (cc)) why.unless_stopped;
     of_steps = tt;
     no_device = (λ h. cc, λ h. let x = why.no_device.1 h in cc);
     reached = λ a f. (λ h. cc, λ h. let x = (why.reached a f).1 h in cc);
     late = λ frame channel word h. cc;
     never_lap_end = λ h. cc;
   }
-  caused-number c number (d, Err e) why = record {
-    load = why.load;
-    loaded_it = why.loaded_it;
-    unless_stopped = if-none why.load (λ h. number-error e Stopped h) why.unless_stopped;
+
+  -- an answer with a number has the same causes
+  pub caused-number : (load : Option Position) (c : Plain) (number : Plain → ℕ) (a : Answered (Unit {0})) → IsCaused {X = Unit {0}} view shows q c a.0 load a.1
+      → IsCaused {X = ℕ} view shows q c (with_number number a).0 load (with_number number a).1
+  caused-number load c number (d, Ok done) why = caused-ok load c d d (number d) why
+  caused-number load c number (d, Err e) why = record {
+    unless_stopped = if-none load (λ h. number-error e Stopped h) why.unless_stopped;
     of_steps = why.of_steps;
     no_device = (λ h. why.no_device.0 (again e NoDevice h), λ h. number-error e NoDevice (why.no_device.1 h));
     reached = λ a f. (λ h. (why.reached a f).0 (again e (Xrun (Avail a f)) h), λ h. number-error e (Xrun (Avail a f)) ((why.reached a f).1 h));
@@ -197,19 +191,19 @@ ends-if : (c : Plain) (call : Call) (position : Position) (x : Commit) (stop : B
 ends-if c call position x true = record { card = refl; bindings = refl; committed = refl; part = refl }
 ends-if c call position x false = record { card = refl; bindings = refl; committed = refl; part = refl }
 
-module _ {S : Type 0} (loaded : S → S → List Position → Type 0) (geometry : S → Geometry) (shows : S → ℕ → ℕ → Option ℕ) (p q : S) where
+module _ {S : Type 0} (view : S → PortView) (shows : S → ℕ → ℕ → Option ℕ) (q : S) where
   pub IsCaused-synced : (c : Plain) (call : Call) (load : Option Position) (x : Commit) → IsStep c.state call → IsFound load x (λ position. c) (sync_count c) (length c.bindings)
-      → loaded p q (option_to_list load) → IfSome load (λ position. OnLate x.ended (λ word. IsPast geometry shows q (end_of_commit c x) (end_channel c x) word))
-      → IsCaused {T = Unit {0}} loaded geometry shows p q c (synced c call load x).0 (synced c call load x).1
-  IsCaused-synced c call None x step found loaded_it shown = caused-none loaded geometry shows p q c (record c { stopped = true }) loaded_it
-  IsCaused-synced c call (Some position) x step found loaded_it shown =
+      → IfSome load (λ position. OnLate x.ended (λ word. IsPast view shows q (end_of_commit c x) (end_channel c x) word))
+      → IsCaused {X = Unit {0}} view shows q c (synced c call load x).0 load (synced c call load x).1
+  IsCaused-synced c call None x step found shown = caused-none view shows q c (record c { stopped = true })
+  IsCaused-synced c call (Some position) x step found shown =
       let over = over_of (seen_at c position) position in
       let done = committed_by (seen_at c position) x in
       let says = next-says c.state call (queued_of done) position.gone over x.ended (end_of_commit c x) (end_channel c x) step (draining-below c position) (IsPlain-synced c position x found.commit_is) in
       let same = answer-if (is_stop x.ended) (stopped_in done) (settled done (next_of c.state call (facts_of done position over (late_of (seen_at c position) x)))) in
-      caused-some loaded geometry shows p q c c (synced c call (Some position) x).0 position x over (synced c call (Some position) x).1
+      caused-some view shows q c c (synced c call (Some position) x).0 position x over (synced c call (Some position) x).1
       (subst (λ (r : Result (Unit {0}) PcmError). Says r position.gone over x.ended (end_of_commit c x) (end_channel c x)) (sym same) says)
-      (reaches-over c position) (ends-if c call position x (is_stop x.ended)) shown loaded_it
+      (reaches-over c position) (ends-if c call position x (is_stop x.ended)) shown
 
 -- the calls of a stream that moves frames
 pub step-sync : (s : State) → is_moving s ≡ true → IsStep s call.Sync

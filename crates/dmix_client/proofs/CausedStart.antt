@@ -1,26 +1,23 @@
 -- Why a start answered an error, by the position that it loaded.
-use Rattle.std.proofs.Common.{◌≡◌, ℕ, ◌∙◌, ap, sym, refl, subst, List, [], ◌∷◌}
+use Rattle.std.proofs.Common.{◌≡◌, ℕ, ◌∙◌, ap, sym, refl, subst}
 use Rattle.std.specs.Prelude.{Bool, true, false, ◌↔◌, if◌then◌else◌, Option, Some, None, IfSome, Result, Ok, Err}
-use Rattle.std.specs.Option.{option_to_list}
 use Rattle.snd_base.specs.declared.errors.PcmError.{PcmError}
 use Rattle.snd_base.specs.declared.errors.PcmError.TheVariants.{NoDevice, Stopped}
-use Rattle.snd_base.specs.declared.geometry.Geometry.{Geometry}
 use Rattle.snd_base.specs.declared.places.Cursor.{Cursor}
 use Rattle.mix_core.specs.declared.port.Position.{Position}
-use Rattle.mix_core.specs.Port.{IsPast}
 use Rattle.pcm_states.specs.declared.states.State.{State}
 use Rattle.pcm_states.specs.declared.states.State.TheVariants.{Prepared, Running}
 use Rattle.pcm_states.specs.declared.calls.Call.TheVariants as call
 use Rattle.pcm_states.specs.Table.{next_of}
 use Rattle.dmix_client.specs.declared.commit.Commit.{Commit}
-use Rattle.dmix_client.specs.declared.commit.Ended.{Ended}
-use Rattle.dmix_client.specs.declared.commit.Ended.TheVariants as ended
+use Rattle.mix_core.specs.declared.port.Ended.{Ended}
+use Rattle.mix_core.specs.declared.port.Ended.TheVariants as ended
 use Rattle.dmix_client.specs.declared.plain.Plain.{Plain}
-use Rattle.dmix_client.specs.Calls.{Answered, accepted_if, committed_by, end_channel, end_of_commit, found_at, going_on, going_on_by, is_stop, late_at, late_of, seen_at, started, started_in, stopped_in, nothing_found, refusal_in, refusal_of}
+use Rattle.dmix_client.specs.Calls.{Answered, accepted, accepted_if, committed_by, end_channel, end_of_commit, found_at, going_on, going_on_by, is_stop, late_at, late_of, seen_at, started, started_in, stopped_in}
 use Rattle.dmix_client.specs.Causes.{IsCaused, Reaches}
-use Rattle.dmix_client.specs.Port.{OnLate}
+use Rattle.mix_core.specs.Port.{IsPast, OnLate, PortView}
 use Rattle.dmix_client.proofs.Caused.{Says, other-ok, other-stopped, says-late, says-other}
-use Rattle.dmix_client.proofs.CausedBy.{EndsAt, caused-none, caused-number, caused-some, if-none}
+use Rattle.dmix_client.proofs.CausedBy.{caused-ok, EndsAt, caused-none, caused-number, caused-some}
 
 none-reached : (c : Plain) (position : Position) (a f : ℕ) → c.state ≡ Prepared → ((position.gone ≡ false) × ((let o : Option (ℕ × ℕ) = None in o) ≡ Some (a, f))) ↔ Reaches c (Some position) a f
 none-reached c position a f waits = (λ h. let x = h.1 in cc, λ h. let x = h.1 in cc)
@@ -61,12 +58,10 @@ begun-ends c state cursor position x false =
     going_on-ends (started_in c Running position cursor) (committed_by (started_in c state position cursor) x) x outcome.answer state outcome.state
     (record { card = refl; bindings = refl; committed = refl; part = refl })
 
-module _ {S : Type 0} (loaded : S → S → List Position → Type 0) (geometry : S → Geometry) (shows : S → ℕ → ℕ → Option ℕ) (p q : S) where
+module _ {S : Type 0} (view : S → PortView) (shows : S → ℕ → ℕ → Option ℕ) (q : S) where
   -- the card is gone
-  caused-gone : (c d : Plain) (position : Position) → c.state ≡ Prepared → position.gone ≡ true → loaded p q (position ∷ []) → IsCaused {T = Unit {0}} loaded geometry shows p q c d (Err NoDevice)
-  caused-gone c d position waits gone loaded_it = record {
-    load = Some position;
-    loaded_it = loaded_it;
+  caused-gone : (c d : Plain) (position : Position) → c.state ≡ Prepared → position.gone ≡ true → IsCaused {X = Unit {0}} view shows q c d (Some position) (Err NoDevice)
+  caused-gone c d position waits gone = record {
     unless_stopped = tt;
     of_steps = tt;
     no_device = (λ h. gone, λ h. refl);
@@ -75,50 +70,32 @@ module _ {S : Type 0} (loaded : S → S → List Position → Type 0) (geometry 
     never_lap_end = λ h. cc;
   }
 
-  caused-by_gone : (c : Plain) (state : State) (cursor : Cursor) (position : Position) (x : Commit) (gone : Bool) → position.gone ≡ gone → c.state ≡ Prepared → loaded p q (position ∷ [])
-      → OnLate x.ended (λ word. IsPast geometry shows q (end_of_commit (started_in c Running position cursor) x) (end_channel (started_in c Running position cursor) x) word)
+  caused-by_gone : (c : Plain) (state : State) (cursor : Cursor) (position : Position) (x : Commit) (gone : Bool) → position.gone ≡ gone → c.state ≡ Prepared
+      → OnLate x.ended (λ word. IsPast view shows q (end_of_commit (started_in c Running position cursor) x) (end_channel (started_in c Running position cursor) x) word)
       → (let a : Answered (Unit {0}) = (if gone then going_on (seen_at c position) state (next_of Prepared call.Start (found_at position None)) else begun_by c state cursor position x (is_stop x.ended)) in
-      IsCaused {T = Unit {0}} loaded geometry shows p q c a.0 a.1)
-  caused-by_gone c state cursor position x true is waits loaded_it shown =
+      IsCaused {X = Unit {0}} view shows q c a.0 (Some position) a.1)
+  caused-by_gone c state cursor position x true is waits shown =
       let outcome = next_of Prepared call.Start (found_at position None) in
       let answer : outcome.answer ≡ Err NoDevice = ap (λ (b : Bool). (next_of Prepared call.Start (record { capture = false; queued = 1; starts = true; gone = b; over = None; late = None })).answer) is in
       let there : (going_on_by outcome.answer (seen_at c position) state outcome.state).1 ≡ Err NoDevice = going_on-answer (seen_at c position) outcome.answer state outcome.state ∙ answer in
-      subst (λ (r : Result (Unit {0}) PcmError). IsCaused {T = Unit {0}} loaded geometry shows p q c (going_on_by outcome.answer (seen_at c position) state outcome.state).0 r) (sym there)
-      (caused-gone c (going_on_by outcome.answer (seen_at c position) state outcome.state).0 position waits is loaded_it)
-  caused-by_gone c state cursor position x false is waits loaded_it shown =
+      subst (λ (r : Result (Unit {0}) PcmError). IsCaused {X = Unit {0}} view shows q c (going_on_by outcome.answer (seen_at c position) state outcome.state).0 (Some position) r) (sym there)
+      (caused-gone c (going_on_by outcome.answer (seen_at c position) state outcome.state).0 position waits is)
+  caused-by_gone c state cursor position x false is waits shown =
       let at = started_in c Running position cursor in
       let says = here-says position.gone x.ended (end_of_commit at x) (end_channel at x) is in
       let same = begun-answer c state cursor position x (is_stop x.ended) in
-      caused-some loaded geometry shows p q c at (begun_by c state cursor position x (is_stop x.ended)).0 position x None (begun_by c state cursor position x (is_stop x.ended)).1
+      caused-some view shows q c at (begun_by c state cursor position x (is_stop x.ended)).0 position x None (begun_by c state cursor position x (is_stop x.ended)).1
       (subst (λ (r : Result (Unit {0}) PcmError). Says r position.gone None x.ended (end_of_commit at x) (end_channel at x)) (sym same) says)
-      (λ a f. none-reached c position a f waits) (begun-ends c state cursor position x (is_stop x.ended)) shown loaded_it
+      (λ a f. none-reached c position a f waits) (begun-ends c state cursor position x (is_stop x.ended)) shown
 
-  pub IsCaused-started : (c : Plain) (state : State) (cursor : Cursor) (load : Option Position) (x : Commit) → c.state ≡ Prepared → loaded p q (option_to_list load)
-      → IfSome load (λ (position : Position). OnLate x.ended (λ word. IsPast geometry shows q (end_of_commit (started_in c Running position cursor) x) (end_channel (started_in c Running position cursor) x) word))
-      → IsCaused {T = Unit {0}} loaded geometry shows p q c (started c state cursor load x).0 (started c state cursor load x).1
-  IsCaused-started c state cursor None x waits loaded_it shown = caused-none loaded geometry shows p q c (record c { stopped = true }) loaded_it
-  IsCaused-started c state cursor (Some position) x waits loaded_it shown = caused-by_gone c state cursor position x position.gone refl waits loaded_it shown
+  pub IsCaused-started : (c : Plain) (state : State) (cursor : Cursor) (load : Option Position) (x : Commit) → c.state ≡ Prepared
+      → IfSome load (λ (position : Position). OnLate x.ended (λ word. IsPast view shows q (end_of_commit (started_in c Running position cursor) x) (end_channel (started_in c Running position cursor) x) word))
+      → IsCaused {X = Unit {0}} view shows q c (started c state cursor load x).0 load (started c state cursor load x).1
+  IsCaused-started c state cursor None x waits shown = caused-none view shows q c (record c { stopped = true })
+  IsCaused-started c state cursor (Some position) x waits shown = caused-by_gone c state cursor position x position.gone refl waits shown
 
   -- so does a write that starts a stream
-  pub caused-accepted : (c : Plain) (m : ℕ) (a : Answered (Unit {0})) → IsCaused {T = Unit {0}} loaded geometry shows p q c a.0 a.1
-      → IsCaused {T = ℕ} loaded geometry shows p q c (accepted_if m a).0 (accepted_if m a).1
-  caused-accepted c m (d, Ok done) why = record {
-    load = why.load;
-    loaded_it = why.loaded_it;
-    unless_stopped = if-none why.load (λ h. absurd (cc)) why.unless_stopped;
-    of_steps = tt;
-    no_device = (λ h. cc, λ h. let x = why.no_device.1 h in cc);
-    reached = λ a f. (λ h. cc, λ h. let x = (why.reached a f).1 h in cc);
-    late = λ frame channel word h. cc;
-    never_lap_end = λ h. cc;
-  }
-  caused-accepted c m (d, Err e) why = caused-number loaded geometry shows p q c (λ x. m) (d, Err e) why
-
--- a call is admitted that may start a stream: it is prepared
-prepared-by : (stopped : Bool) (s : State) → (let o : Option PcmError = (if stopped then Some Stopped else refusal_in (next_of s call.Start nothing_found).answer) in o) ≡ None → s ≡ Prepared
-prepared-by true s is = absurd (cc)
-prepared-by false Prepared is = refl
-prepared-by false s is = absurd (cc)
-
-pub start-prepared : (c : Plain) → refusal_of c call.Start ≡ None → c.state ≡ Prepared
-start-prepared c is = prepared-by c.stopped c.state is
+  pub caused-accepted : (load : Option Position) (c : Plain) (m : ℕ) (a : Answered (Unit {0})) → IsCaused {X = Unit {0}} view shows q c a.0 load a.1
+      → IsCaused {X = ℕ} view shows q c (accepted_if m a).0 load (accepted_if m a).1
+  caused-accepted load c m (d, Ok done) why = caused-ok view shows q load c d (accepted d m) m why
+  caused-accepted load c m (d, Err e) why = caused-number view shows q load c (λ x. m) (d, Err e) why

@@ -1,5 +1,5 @@
 -- When a drain is to be made again.
-use Rattle.std.proofs.Common.{◌≡◌, ◌⊎◌, ℕ, ◌∙◌, refl, subst, sym, [], ◌∷◌, inl, inr}
+use Rattle.std.proofs.Common.{◌≡◌, ◌⊎◌, ℕ, refl, subst, sym, [], ◌∷◌, inl, inr}
 use Rattle.std.specs.Prelude.{Bool, true, false, ◌↔◌, nat_eq, if◌then◌else◌, Option, Some, None, Ok, Err}
 use Rattle.snd_base.specs.declared.errors.PcmError.{PcmError}
 use Rattle.snd_base.specs.declared.errors.PcmError.TheVariants.{Again, Stopped}
@@ -13,7 +13,7 @@ use Rattle.pcm_states.specs.declared.calls.Outcome.{Outcome}
 use Rattle.pcm_states.specs.Table.{first_of, next_of, still_draining}
 use Rattle.dmix_client.specs.declared.commit.Commit.{Commit}
 use Rattle.dmix_client.specs.declared.plain.Plain.{Plain}
-use Rattle.dmix_client.specs.Calls.{Answered, committed_by, drained_on, facts_of, going_on, is_stop, late_of, nothing_found, over_of, refusal_in, refusal_of, seen_at, settled, started, started_in, stopped_in, synced}
+use Rattle.dmix_client.specs.Calls.{Answered, committed_by, facts_of, going_on, is_stop, late_of, nothing_found, over_of, refusal_in, refusal_of, seen_at, settled, started, started_in, stopped_in, synced}
 use Rattle.dmix_client.specs.View.{queued_of}
 
 -- an answer is to be made again exactly where the stream still drains
@@ -60,34 +60,24 @@ synced-still c (Some position) x drains going = by_stop (is_stop x.ended)
     by_stop false = settled-still done outcome going still
 
 -- a start that leads to draining: it goes well, or it is refused and doesn't drain
-abbrev IsBegun : Plain → Answered (Unit {0}) → Type 0
-IsBegun c a = ((a.1 ≡ Ok tt) × (a.0.state ≡ Draining) × (a.0.stopped ≡ c.stopped)) ⊎ (IsStill a × ((e : PcmError) × (a.1 ≡ Err e)))
+abbrev pub StillBegun : Plain → Answered (Unit {0}) → Type 0
+StillBegun c a = ((a.1 ≡ Ok tt) × (a.0.state ≡ Draining) × (a.0.stopped ≡ c.stopped)) ⊎ (IsStill a × ((e : PcmError) × (a.1 ≡ Err e)))
 
 begun-parts : (c at done : Plain) (gone stop : Bool) (late : Option XrunWhy) → done.stopped ≡ c.stopped
     → (let a : Answered (Unit {0}) = if gone
     then going_on at Draining (next_of Prepared call.Start (record { capture = false; queued = 1; starts = true; gone = gone; over = None; late = None }))
     else (if stop then stopped_in done else going_on done Draining (next_of Prepared call.Start (record { capture = false; queued = 1; starts = true; gone = gone; over = None; late = late }))) in
-    IsBegun c a)
+    StillBegun c a)
 begun-parts c at done true stop late same = inr ((λ h. cc, λ h. let x = h.0 in cc), (_, refl))
 begun-parts c at done false true late same = inr (stopped-still done, (Stopped, refl))
 begun-parts c at done false false None same = inl (refl, refl, same)
 begun-parts c at done false false (Some why) same = inr ((λ h. cc, λ h. let x = h.0 in cc), (_, refl))
 
-started-begun : (c : Plain) (cursor : Cursor) (load : Option Position) (x : Commit) → IsBegun c (started c Draining cursor load x)
+pub started-begun : (c : Plain) (cursor : Cursor) (load : Option Position) (x : Commit) → StillBegun c (started c Draining cursor load x)
 started-begun c cursor None x = inr (stopped-still c, (Stopped, refl))
 started-begun c cursor (Some position) x =
     let from : Plain = started_in c Draining position cursor in
     begun-parts c (seen_at c position) (committed_by from x) position.gone (is_stop x.ended) (late_of from x) refl
-
-drained-begun : (c : Plain) (a : Answered (Unit {0})) (later : Option Position) (last : Commit) → IsBegun c a → c.stopped ≡ false → IsStill (drained_on a later last)
-drained-begun c (u, Ok done) later last (inl ok) going = synced-still u later last ok.1 (ok.2 ∙ going)
-drained-begun c (u, Ok done) later last (inr refused) going = absurd (let h = refused.1.1 in cc)
-drained-begun c (u, Err e) later last (inl ok) going = absurd (let h = ok.0 in cc)
-drained-begun c (u, Err e) later last (inr refused) going = refused.0
-
--- the drain of a prepared stream
-pub drained-still : (c : Plain) (cursor : Cursor) (load later : Option Position) (x last : Commit) → c.stopped ≡ false → IsStill (drained_on (started c Draining cursor load x) later last)
-drained-still c cursor load later x last going = drained-begun c (started c Draining cursor load x) later last (started-begun c cursor load x) going
 
 -- a client whose call is admitted isn't stopped
 unstopped-by : (stopped : Bool) (o : Option PcmError) → (if stopped then Some Stopped else o) ≡ None → stopped ≡ false

@@ -15,10 +15,11 @@ use Rattle.pcm_states.specs.Table.{next_of}
 use Rattle.dmix_client.specs.declared.commit.Commit.{Commit}
 use Rattle.dmix_client.specs.declared.plain.Plain.{Plain}
 use Rattle.dmix_client.specs.Calls.{Answered, accepted_if, commit_count, committed_by, end_channel, end_of_commit, found_at, going_on, is_stop, late_of, seen_at, start_count, started, started_in, stopped_in}
-use Rattle.dmix_client.specs.Port.{CanUse, OnWhole, least_channel}
+use Rattle.mix_core.specs.Port.{OnWhole, PortView}
+use Rattle.dmix_client.specs.Port.{CanUse, least_channel}
 use Rattle.dmix_client.specs.View.{IsConfigured, IsSound, is_moving}
 use Rattle.dmix_client.proofs.Sound.{OnWhole-of, whole-of}
-use Rattle.dmix_client.proofs.Started.{KeepsAccepted}
+use Rattle.dmix_client.specs.Growth.{KeepsAccepted}
 use Rattle.dmix_client.proofs.Starting.{IsMoving-begun, IsSound-begun, IsStarting, begun}
 
 -- a client with other counts of what was accepted, where its call went well
@@ -27,20 +28,20 @@ grown written fed (d, Ok done) = record d { written = written; fed = fed }
 grown written fed (d, Err e) = d
 
 -- the port after a start: it is the client's, and where all was laid its cursor is where the commit ended
-pub record IsAfter (c : Plain) (cursor : Cursor) (load : Option Position) (commit : Commit) (geometry : Geometry) (member : ℕ) (at : Cursor) (seen : ℕ) (can : Type 0) : Type 0 where
-  pub same_geometry : geometry ≡ c.geometry
-  pub same_member : member ≡ c.member
-  pub able : can
-  pub stayed : IfSome load (λ (position : Position). OnWhole commit.ended (IsFrom at (end_of_commit (started_in c Running position cursor) commit) (least_channel c.bindings)))
-  pub saw : IfSome load (λ (position : Position). seen ≡ position.frame)
+pub record IsAfter (c : Plain) (cursor : Cursor) (load : Option Position) (commit : Commit) (v : PortView) : Type 0 where
+  pub same_geometry : v.geometry ≡ c.geometry
+  pub same_member : v.member ≡ c.member
+  pub able : v.can_add ≡ true
+  pub stayed : IfSome load (λ (position : Position). OnWhole commit.ended (IsFrom v.marks.cursor (end_of_commit (started_in c Running position cursor) commit) (least_channel c.bindings)))
+  pub saw : IfSome load (λ (position : Position). v.seen ≡ position.frame)
 
-pub record IsLeft (d : Plain) (ring : List ℤ) (geometry : Geometry) (member : ℕ) (at : Cursor) (seen : ℕ) (can : Type 0) : Type 0 where
+pub record IsLeft (d : Plain) (ring : List ℤ) (v : PortView) : Type 0 where
   pub sound : IsSound d ring
-  pub use_it : CanUse d geometry member at seen can
+  pub use_it : CanUse d v
 
 -- a port is used by a client that doesn't move frames, or is stopped
-CanUse-still : (d : Plain) (geometry : Geometry) (member : ℕ) (at : Cursor) (seen : ℕ) (can : Type 0) → geometry ≡ d.geometry → member ≡ d.member → can → (is_moving d.state ≡ true → d.stopped ≡ false → ⊥) → CanUse d geometry member at seen can
-CanUse-still d geometry member at seen can same_geometry same_member able still = record {
+CanUse-still : (d : Plain) (v : PortView) → v.geometry ≡ d.geometry → v.member ≡ d.member → v.can_add ≡ true → (is_moving d.state ≡ true → d.stopped ≡ false → ⊥) → CanUse d v
+CanUse-still d v same_geometry same_member able still = record {
   same_geometry = same_geometry;
   same_member = same_member;
   can = able;
@@ -59,8 +60,8 @@ IsConfigured-as c d ring same_bindings same_geometry same_config k = record {
 }
 
 module _ (c : Plain) (ring : List ℤ) (state : State) (moves_then : is_moving state ≡ true) (cursor : Cursor) (commit : Commit) (upto fed : ℕ) (sums : upto + c.source ≡ fed)
-    (geometry : Geometry) (member : ℕ) (at : Cursor) (seen : ℕ) (can : Type 0) where
-  left-None : IsStarting c ring cursor None commit upto → IsAfter c cursor None commit geometry member at seen can → IsLeft (record c { stopped = true }) ring geometry member at seen can
+    (v : PortView) where
+  left-None : IsStarting c ring cursor None commit upto → IsAfter c cursor None commit v → IsLeft (record c { stopped = true }) ring v
   left-None starting after =
       let sound = starting.sound in
       let p = sound.prepared starting.prepared in
@@ -76,11 +77,11 @@ module _ (c : Plain) (ring : List ℤ) (state : State) (moves_then : is_moving s
           prepared = λ is. record { waiting = p.waiting; no_frame = p.no_frame; no_part = p.no_part; fits = p.fits };
           moving = λ moves going. absurd (cc);
         };
-        use_it = CanUse-still (record c { stopped = true }) geometry member at seen can after.same_geometry after.same_member after.able (λ moves going. cc);
+        use_it = CanUse-still (record c { stopped = true }) v after.same_geometry after.same_member after.able (λ moves going. cc);
       }
 
-  left-gone : (position : Position) → IsStarting c ring cursor (Some position) commit upto → IsAfter c cursor (Some position) commit geometry member at seen can
-      → IsLeft (record c { state = Disconnected; seen = Some position.frame }) ring geometry member at seen can
+  left-gone : (position : Position) → IsStarting c ring cursor (Some position) commit upto → IsAfter c cursor (Some position) commit v
+      → IsLeft (record c { state = Disconnected; seen = Some position.frame }) ring v
   left-gone position starting after =
       let sound = starting.sound in
       let d : Plain = record c { state = Disconnected; seen = Some position.frame } in
@@ -96,29 +97,29 @@ module _ (c : Plain) (ring : List ℤ) (state : State) (moves_then : is_moving s
           prepared = λ is. absurd (cc);
           moving = λ moves going. absurd (cc);
         };
-        use_it = CanUse-still d geometry member at seen can after.same_geometry after.same_member after.able (λ moves going. cc);
+        use_it = CanUse-still d v after.same_geometry after.same_member after.able (λ moves going. cc);
       }
 
-  left-stopped : (position : Position) → IsStarting c ring cursor (Some position) commit upto → IsAfter c cursor (Some position) commit geometry member at seen can
-      → IsLeft (begun c state position cursor commit true c.written c.fed) ring geometry member at seen can
+  left-stopped : (position : Position) → IsStarting c ring cursor (Some position) commit upto → IsAfter c cursor (Some position) commit v
+      → IsLeft (begun c state position cursor commit true c.written c.fed) ring v
   left-stopped position starting after = record {
     sound = IsSound-begun c ring state position cursor commit true upto c.written c.fed starting not_prepared starting.sound.fed (λ moves going. absurd (cc));
-    use_it = CanUse-still (begun c state position cursor commit true c.written c.fed) geometry member at seen can after.same_geometry after.same_member after.able (λ moves going. cc);
+    use_it = CanUse-still (begun c state position cursor commit true c.written c.fed) v after.same_geometry after.same_member after.able (λ moves going. cc);
   }
     where
       not_prepared : state ≡ Prepared → ⊥
       not_prepared is = let no : is_moving Prepared ≡ true = subst (λ (x : State). is_moving x ≡ true) is moves_then in cc
 
-  left-late : (position : Position) → IsStarting c ring cursor (Some position) commit upto → IsAfter c cursor (Some position) commit geometry member at seen can
-      → IsLeft (begun c Xrun position cursor commit c.stopped c.written c.fed) ring geometry member at seen can
+  left-late : (position : Position) → IsStarting c ring cursor (Some position) commit upto → IsAfter c cursor (Some position) commit v
+      → IsLeft (begun c Xrun position cursor commit c.stopped c.written c.fed) ring v
   left-late position starting after = record {
     sound = IsSound-begun c ring Xrun position cursor commit c.stopped upto c.written c.fed starting (λ is. cc) starting.sound.fed (λ moves going. absurd (cc));
-    use_it = CanUse-still (begun c Xrun position cursor commit c.stopped c.written c.fed) geometry member at seen can after.same_geometry after.same_member after.able (λ moves going. cc);
+    use_it = CanUse-still (begun c Xrun position cursor commit c.stopped c.written c.fed) v after.same_geometry after.same_member after.able (λ moves going. cc);
   }
 
-  left-whole : (position : Position) → IsStarting c ring cursor (Some position) commit upto → IsAfter c cursor (Some position) commit geometry member at seen can
+  left-whole : (position : Position) → IsStarting c ring cursor (Some position) commit upto → IsAfter c cursor (Some position) commit v
       → position.gone ≡ false → is_stop commit.ended ≡ false → late_of (started_in c state position cursor) commit ≡ None
-      → IsLeft (begun c state position cursor commit c.stopped upto fed) ring geometry member at seen can
+      → IsLeft (begun c state position cursor commit c.stopped upto fed) ring v
   left-whole position starting after here unstopped in_time =
       let whole = whole-of commit.ended commit.frames commit.part (start_count c cursor position upto) (length c.bindings) (end_of_commit (started_in c state position cursor) commit) (end_channel (started_in c state position cursor) commit) starting.found.commit_is unstopped in_time in
       let all : commit.frames ≡ commit_count (started_in c Running position cursor) position.frame upto =
@@ -129,7 +130,7 @@ module _ (c : Plain) (ring : List ℤ) (state : State) (moves_then : is_moving s
           same_geometry = after.same_geometry;
           same_member = after.same_member;
           can = after.able;
-          behind = λ moves going. OnWhole-of commit.ended (IsFrom at (end_of_commit (started_in c Running position cursor) commit) (least_channel c.bindings)) (end_of_commit (started_in c state position cursor) commit) (end_channel (started_in c state position cursor) commit) unstopped in_time after.stayed;
+          behind = λ moves going. OnWhole-of commit.ended (IsFrom v.marks.cursor (end_of_commit (started_in c Running position cursor) commit) (least_channel c.bindings)) (end_of_commit (started_in c state position cursor) commit) (end_channel (started_in c state position cursor) commit) unstopped in_time after.stayed;
           newer = λ moves going. omega (arith, after.saw);
         };
       }
@@ -137,30 +138,30 @@ module _ (c : Plain) (ring : List ℤ) (state : State) (moves_then : is_moving s
       not_prepared : state ≡ Prepared → ⊥
       not_prepared is = let no : is_moving Prepared ≡ true = subst (λ (x : State). is_moving x ≡ true) is moves_then in cc
 
-  left-by_late : (position : Position) (late : Option XrunWhy) → late_of (started_in c state position cursor) commit ≡ late → IsStarting c ring cursor (Some position) commit upto → IsAfter c cursor (Some position) commit geometry member at seen can
+  left-by_late : (position : Position) (late : Option XrunWhy) → late_of (started_in c state position cursor) commit ≡ late → IsStarting c ring cursor (Some position) commit upto → IsAfter c cursor (Some position) commit v
       → (gone : Bool) → position.gone ≡ gone → gone ≡ false → is_stop commit.ended ≡ false
-      → IsLeft (grown upto fed (going_on (committed_by (started_in c state position cursor) commit) state (next_of Prepared call.Start (record { capture = false; queued = 1; starts = true; gone = gone; over = None; late = late })))) ring geometry member at seen can
+      → IsLeft (grown upto fed (going_on (committed_by (started_in c state position cursor) commit) state (next_of Prepared call.Start (record { capture = false; queued = 1; starts = true; gone = gone; over = None; late = late })))) ring v
   left-by_late position late is starting after true is_gone here unstopped = absurd (cc)
   left-by_late position (Some why) is starting after false is_gone here unstopped = left-late position starting after
   left-by_late position None is starting after false is_gone here unstopped = left-whole position starting after is_gone unstopped is
 
-  left-by_stop : (position : Position) (stop : Bool) → is_stop commit.ended ≡ stop → IsStarting c ring cursor (Some position) commit upto → IsAfter c cursor (Some position) commit geometry member at seen can
+  left-by_stop : (position : Position) (stop : Bool) → is_stop commit.ended ≡ stop → IsStarting c ring cursor (Some position) commit upto → IsAfter c cursor (Some position) commit v
       → position.gone ≡ false
       → IsLeft (grown upto fed (if stop then stopped_in (committed_by (started_in c state position cursor) commit)
-      else going_on (committed_by (started_in c state position cursor) commit) state (next_of Prepared call.Start (found_at position (late_of (started_in c state position cursor) commit))))) ring geometry member at seen can
+      else going_on (committed_by (started_in c state position cursor) commit) state (next_of Prepared call.Start (found_at position (late_of (started_in c state position cursor) commit))))) ring v
   left-by_stop position true is starting after here = left-stopped position starting after
   left-by_stop position false is starting after here = left-by_late position (late_of (started_in c state position cursor) commit) refl starting after position.gone refl here is
 
-  left-by_gone : (position : Position) (gone : Bool) → position.gone ≡ gone → IsStarting c ring cursor (Some position) commit upto → IsAfter c cursor (Some position) commit geometry member at seen can
+  left-by_gone : (position : Position) (gone : Bool) → position.gone ≡ gone → IsStarting c ring cursor (Some position) commit upto → IsAfter c cursor (Some position) commit v
       → IsLeft (grown upto fed (if gone then going_on (seen_at c position) state (next_of Prepared call.Start (record { capture = false; queued = 1; starts = true; gone = gone; over = None; late = None }))
       else (if is_stop commit.ended then stopped_in (committed_by (started_in c state position cursor) commit)
-      else going_on (committed_by (started_in c state position cursor) commit) state (next_of Prepared call.Start (found_at position (late_of (started_in c state position cursor) commit)))))) ring geometry member at seen can
+      else going_on (committed_by (started_in c state position cursor) commit) state (next_of Prepared call.Start (found_at position (late_of (started_in c state position cursor) commit)))))) ring v
   left-by_gone position true is starting after = left-gone position starting after
   left-by_gone position false is starting after = left-by_stop position (is_stop commit.ended) refl starting after is
 
   -- a start of frames that are accepted where it goes well
-  pub IsLeft-started : (load : Option Position) → IsStarting c ring cursor load commit upto → IsAfter c cursor load commit geometry member at seen can
-      → IsLeft (grown upto fed (started c state cursor load commit)) ring geometry member at seen can
+  pub IsLeft-started : (load : Option Position) → IsStarting c ring cursor load commit upto → IsAfter c cursor load commit v
+      → IsLeft (grown upto fed (started c state cursor load commit)) ring v
   IsLeft-started None starting after = left-None starting after
   IsLeft-started (Some position) starting after = left-by_gone position position.gone refl starting after
 
@@ -168,8 +169,3 @@ module _ (c : Plain) (ring : List ℤ) (state : State) (moves_then : is_moving s
 pub grown-accepted : (c : Plain) (n : ℕ) (a : Answered (Unit {0})) → KeepsAccepted c a.0 → (accepted_if n a).0 ≡ grown (c.written + n) (c.fed + n) a
 grown-accepted c n (d, Ok done) keeps = ap (λ (w : ℕ). record d { written = w + n; fed = d.fed + n }) keeps.written ∙ ap (λ (f : ℕ). record d { written = c.written + n; fed = f + n }) keeps.fed
 grown-accepted c n (d, Err e) keeps = refl
-
--- no more are
-pub grown-same : (c : Plain) (a : Answered (Unit {0})) → KeepsAccepted c a.0 → a.0 ≡ grown c.written c.fed a
-grown-same c (d, Ok done) keeps = ap (λ (w : ℕ). record d { written = w }) keeps.written ∙ ap (λ (f : ℕ). record d { written = c.written; fed = f }) keeps.fed
-grown-same c (d, Err e) keeps = refl

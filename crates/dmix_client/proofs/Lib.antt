@@ -9,12 +9,14 @@ mod Frames
 mod Going
 mod Grown
 mod Growth
+mod Keeping
+mod Laying
+mod Looking
 mod Left
 mod Rings
 mod Same
-mod Runs
 mod Sound
-mod Starting
-mod Writes
 mod Started
+mod Starting
 mod Storing
+mod Writes

@@ -11,13 +11,12 @@ use Rattle.pcm_states.specs.declared.calls.Call.{Call}
 use Rattle.pcm_states.specs.declared.calls.Call.TheVariants as call
 use Rattle.pcm_states.specs.Table.{draining, first_of, moving, next_of, outcome_of, still_draining}
 use Rattle.dmix_client.specs.declared.commit.Commit.{Commit}
-use Rattle.dmix_client.specs.declared.commit.Ended.{Ended}
-use Rattle.dmix_client.specs.declared.commit.Ended.TheVariants as ended
+use Rattle.mix_core.specs.declared.port.Ended.{Ended}
+use Rattle.mix_core.specs.declared.port.Ended.TheVariants as ended
 use Rattle.dmix_client.specs.declared.plain.Plain.{Plain}
 use Rattle.dmix_client.specs.Calls.{commit_count, committed_by, end_channel, end_of_commit, facts_of, is_running, is_stop, late_at, late_of, over_of, seen_at, settled, stopped_in, sync_count, synced, window_end}
-use Rattle.dmix_client.specs.Port.{CanUse, IsCommit, IsFound, IsStep, OnWhole, least_channel}
-use Rattle.snd_base.specs.declared.geometry.Geometry.{Geometry}
-use Rattle.snd_base.specs.declared.places.Cursor.{Cursor}
+use Rattle.mix_core.specs.Port.{OnWhole, PortView}
+use Rattle.dmix_client.specs.Port.{CanUse, IsCommit, IsFound, IsStep, least_channel}
 use Rattle.dmix_client.specs.View.{IsMoving, IsSound, avail_of, hw_of, is_moving, is_set_up, queued_of}
 
 -- a stream that still moves frames found nothing against it
@@ -226,50 +225,38 @@ OnWhole-of ended.Whole P frame channel going in_time is = is
 OnWhole-of (ended.Late word) P frame channel going in_time is = absurd (cc)
 OnWhole-of ended.Stopped P frame channel going in_time is = absurd (cc)
 
-use_by : (c : Plain) (ring : List ℤ) (call : Call) (position : Position) (commit : Commit) (stop : Bool) (geometry : Geometry) (member : ℕ) (cursor : Cursor) (seen : ℕ) (can : Type 0)
+use_by : (c : Plain) (ring : List ℤ) (call : Call) (position : Position) (commit : Commit) (stop : Bool) (v : PortView)
     → is_stop commit.ended ≡ stop → IsSyncing c ring call (Some position) commit
-    → geometry ≡ c.geometry → member ≡ c.member → can → OnWhole commit.ended (IsFrom cursor (end_of_commit c commit) (least_channel c.bindings)) → seen ≡ position.frame
+    → v.geometry ≡ c.geometry → v.member ≡ c.member → v.can_add ≡ true → OnWhole commit.ended (IsFrom v.marks.cursor (end_of_commit c commit) (least_channel c.bindings)) → v.seen ≡ position.frame
     → CanUse (if stop then stopped_in {T = Unit {0}} (committed_by (seen_at c position) commit)
-    else settled (committed_by (seen_at c position) commit) (next_of c.state call (facts_of (committed_by (seen_at c position) commit) position (over_of (seen_at c position) position) (late_of (seen_at c position) commit)))).0 geometry member cursor seen can
-use_by c ring call position commit true geometry member cursor seen can is syncing same_geometry same_member able whole saw = record {
+    else settled (committed_by (seen_at c position) commit) (next_of c.state call (facts_of (committed_by (seen_at c position) commit) position (over_of (seen_at c position) position) (late_of (seen_at c position) commit)))).0 v
+use_by c ring call position commit true v is syncing same_geometry same_member able whole saw = record {
   same_geometry = same_geometry;
   same_member = same_member;
   can = able;
   behind = λ moves going. absurd (cc);
   newer = λ moves going. absurd (cc);
 }
-use_by c ring call position commit false geometry member cursor seen can is syncing same_geometry same_member able whole saw =
+use_by c ring call position commit false v is syncing same_geometry same_member able whole saw =
     let goes = next-GoesOn c.state call (queued_of (committed_by (seen_at c position) commit)) position.gone (over_of (seen_at c position) position) (late_of (seen_at c position) commit) syncing.step in
     record {
       same_geometry = same_geometry;
       same_member = same_member;
       can = able;
-      behind = λ moves going. OnWhole-of commit.ended (IsFrom cursor (end_of_commit c commit) (least_channel c.bindings)) (end_of_commit (seen_at c position) commit) (end_channel (seen_at c position) commit) is (goes.in_time moves) whole;
+      behind = λ moves going. OnWhole-of commit.ended (IsFrom v.marks.cursor (end_of_commit c commit) (least_channel c.bindings)) (end_of_commit (seen_at c position) commit) (end_channel (seen_at c position) commit) is (goes.in_time moves) whole;
       newer = λ moves going. omega (arith, saw);
     }
 
 -- after a sync the port is still one that the client can use
-pub CanUse-synced : (c : Plain) (ring : List ℤ) (call : Call) (load : Option Position) (commit : Commit) (geometry : Geometry) (member : ℕ) (cursor : Cursor) (seen : ℕ) (can : Type 0)
-    → IsSyncing c ring call load commit → geometry ≡ c.geometry → member ≡ c.member → can → OnWhole commit.ended (IsFrom cursor (end_of_commit c commit) (least_channel c.bindings))
-    → IfSome load (λ (position : Position). seen ≡ position.frame) → CanUse (synced c call load commit).0 geometry member cursor seen can
-CanUse-synced c ring call None commit geometry member cursor seen can syncing same_geometry same_member able whole saw = record {
+pub CanUse-synced : (c : Plain) (ring : List ℤ) (call : Call) (load : Option Position) (commit : Commit) (v : PortView)
+    → IsSyncing c ring call load commit → v.geometry ≡ c.geometry → v.member ≡ c.member → v.can_add ≡ true → IfSome load (λ (position : Position). OnWhole commit.ended (IsFrom v.marks.cursor (end_of_commit c commit) (least_channel c.bindings)))
+    → IfSome load (λ (position : Position). v.seen ≡ position.frame) → CanUse (synced c call load commit).0 v
+CanUse-synced c ring call None commit v syncing same_geometry same_member able whole saw = record {
   same_geometry = same_geometry;
   same_member = same_member;
   can = able;
   behind = λ moves going. absurd (cc);
   newer = λ moves going. absurd (cc);
 }
-CanUse-synced c ring call (Some position) commit geometry member cursor seen can syncing same_geometry same_member able whole saw =
-    use_by c ring call position commit (is_stop commit.ended) geometry member cursor seen can refl syncing same_geometry same_member able whole saw
-
-pub first-of : (load : Option Position) (P Q R : Position → Type 0) → IfSome load (λ p. P p × Q p × R p) → IfSome load (λ p. P p × Q p)
-first-of None P Q R is = tt
-first-of (Some p) P Q R is = (is.0, is.1)
-
-pub last-of : (load : Option Position) (P Q R : Position → Type 0) → IfSome load (λ p. P p × Q p × R p) → IfSome load R
-last-of None P Q R is = tt
-last-of (Some p) P Q R is = is.2
-
-pub both-of : (load : Option Position) (P Q : Position → Type 0) → IfSome load (λ p. P p × Q p) → IfSome load P × IfSome load Q
-both-of None P Q is = (tt, tt)
-both-of (Some p) P Q is = is
+CanUse-synced c ring call (Some position) commit v syncing same_geometry same_member able whole saw =
+    use_by c ring call position commit (is_stop commit.ended) v refl syncing same_geometry same_member able whole saw

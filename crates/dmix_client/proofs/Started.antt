@@ -1,5 +1,5 @@
 -- What a start leaves as it was.
-use Rattle.std.proofs.Common.{◌≡◌, refl}
+use Rattle.std.proofs.Common.{refl}
 use Rattle.std.specs.Prelude.{Bool, true, false, if◌then◌else◌, Option, Some, None, Result, Ok, Err}
 use Rattle.snd_base.specs.declared.errors.PcmError.{PcmError}
 use Rattle.snd_base.specs.declared.places.Cursor.{Cursor}
@@ -11,13 +11,8 @@ use Rattle.pcm_states.specs.declared.calls.Call.TheVariants as call
 use Rattle.pcm_states.specs.Table.{next_of}
 use Rattle.dmix_client.specs.declared.commit.Commit.{Commit}
 use Rattle.dmix_client.specs.declared.plain.Plain.{Plain}
+use Rattle.dmix_client.specs.Growth.{KeepsAccepted}
 use Rattle.dmix_client.specs.Calls.{committed_by, facts_of, over_of, settled, synced, found_at, going_on, going_on_by, is_stop, late_of, seen_at, started, started_in, stopped_in}
-
--- the counts of what was accepted are the same
-pub record KeepsAccepted (c d : Plain) : Type 0 where
-  pub written : d.written ≡ c.written
-  pub fed : d.fed ≡ c.fed
-  pub bindings : d.bindings ≡ c.bindings
 
 KeepsAccepted-going_on : (c : Plain) (answer : Result (Unit {0}) PcmError) (state refused : State) → KeepsAccepted c (going_on_by answer c state refused).0
 KeepsAccepted-going_on c (Ok done) state refused = record { written = refl; fed = refl; bindings = refl }

@@ -4,21 +4,19 @@ use Rattle.std.proofs.lemmas.Bool.Decides.{nat_tests}
 use Rattle.std.specs.Prelude.{Bool, true, false, ◌&&◌, nat_eq, nat_lt, if◌then◌else◌, ℤ, Option, Some, None, IfOk, unwrap_or, Ok, Err}
 use Rattle.snd_base.specs.declared.errors.PcmError.TheVariants.{Again}
 use Rattle.snd_base.specs.declared.errors.PcmError.TheVariants as error
-use Rattle.dmix_client.specs.declared.commit.Ended.TheVariants as ended
+use Rattle.mix_core.specs.declared.port.Ended.TheVariants as ended
 use Rattle.snd_base.specs.declared.errors.XrunWhy.{XrunWhy}
-use Rattle.snd_base.specs.declared.geometry.Geometry.{Geometry}
-use Rattle.snd_base.specs.declared.places.Cursor.{Cursor}
 use Rattle.snd_base.specs.Places.{IsFrom, end_frame}
-use Rattle.mix_core.specs.Gate.{Told}
 use Rattle.pcm_states.specs.declared.states.State.{State}
 use Rattle.pcm_states.specs.declared.states.State.TheVariants.{Prepared, Running, Xrun}
 use Rattle.pcm_states.specs.declared.calls.Call.TheVariants as call
 use Rattle.pcm_states.specs.Table.{next_of}
 use Rattle.dmix_client.specs.declared.commit.Commit.{Commit}
-use Rattle.dmix_client.specs.declared.commit.Ended.{Ended}
+use Rattle.mix_core.specs.declared.port.Ended.{Ended}
 use Rattle.dmix_client.specs.declared.plain.Plain.{Plain}
 use Rattle.dmix_client.specs.Calls.{Answered, accepted_if, commit_count, committed_by, end_channel, end_of_commit, found_at, is_stop, late_of, settled, stopped_in, taken_of, window_end, written_after}
-use Rattle.dmix_client.specs.Port.{CanUse, IsCommit, OnWhole, ToldBy, least_channel}
+use Rattle.mix_core.specs.Port.{OnWhole, PortView}
+use Rattle.dmix_client.specs.Port.{CanUse, CountsEnd, CountsStop, IsCommit, least_channel}
 use Rattle.dmix_client.specs.View.{IsMoving, IsSound, avail_of, hw_of, is_moving}
 use Rattle.dmix_client.specs.Writes.{count_with}
 use Rattle.dmix_client.proofs.Going.{told-going, told-stop}
@@ -26,23 +24,23 @@ use Rattle.dmix_client.proofs.Left.{IsConfigured-as}
 use Rattle.dmix_client.proofs.Sound.{OnWhole-of, frames-le, hw-started, laid_most, not_prepared-moving, set_up-moving, whole-of, window_end-above}
 
 -- a client that moves frames, with a commit of a write of n frames behind it; the port at its end
-pub record IsWriting (c : Plain) (ring : List ℤ) (n : ℕ) (last : Commit) (geometry : Geometry) (member : ℕ) (at : Cursor) (seen : ℕ) (can : Type 0) (before after : ℕ) : Type 0 where
+pub record IsWriting (c : Plain) (ring : List ℤ) (n : ℕ) (last : Commit) (v : PortView) (before after : ℕ) : Type 0 where
   pub sound : IsSound c ring
   pub moves : is_moving c.state ≡ true
   pub going : c.stopped ≡ false
   pub commit_is : IsCommit last.ended last.frames last.part (count_with c (taken_of c n)) (length c.bindings)
-  pub same_geometry : geometry ≡ c.geometry
-  pub same_member : member ≡ c.member
-  pub able : can
-  pub whole : OnWhole last.ended (IsFrom at (end_of_commit c last) (least_channel c.bindings))
-  pub newer : unwrap_or c.seen 0 ≤ seen
-  pub told : ToldBy last.ended before after
+  pub same_geometry : v.geometry ≡ c.geometry
+  pub same_member : v.member ≡ c.member
+  pub able : v.can_add ≡ true
+  pub whole : OnWhole last.ended (IsFrom v.marks.cursor (end_of_commit c last) (least_channel c.bindings))
+  pub newer : unwrap_or c.seen 0 ≤ v.seen
+  pub told : CountsEnd last.ended before after
 
 -- what a write leaves
-pub record IsWritten (a : Answered ℕ) (ring : List ℤ) (geometry : Geometry) (member : ℕ) (at : Cursor) (seen : ℕ) (can : Type 0) (before after : ℕ) : Type 0 where
+pub record IsWritten (a : Answered ℕ) (ring : List ℤ) (v : PortView) (before after : ℕ) : Type 0 where
   pub sound : IsSound a.0 ring
-  pub use_it : CanUse a.0 geometry member at seen can
-  pub told : Told a.1 before after
+  pub use_it : CanUse a.0 v
+  pub told : CountsStop a.1 before after
   pub count : IfOk a.1 (λ taken. taken ≤ 16384)
 
 -- a client behind a write, in any state, with other counts of what was accepted
@@ -81,9 +79,6 @@ some_most w m k card n stop most is = grind (arith, nat_tests)
 some_least : (w m k card n h stop : ℕ) → h ≤ stop → n ≡ min (w + m) (stop - card) - k → min (w + m) (h - card) ≤ k + n
 some_least w m k card n h stop low is = grind (arith, nat_tests)
 
-count-zero : (m n k : ℕ) → m ≡ 0 → n ≡ (if nat_eq m 0 then 0 else k) → n ≡ 0
-count-zero m n k none is = grind (arith, nat_tests)
-
 count-some : (m n k : ℕ) → 0 < m → n ≡ (if nat_eq m 0 then 0 else k) → n ≡ k
 count-some m n k some is = grind (arith, nat_tests)
 
@@ -118,13 +113,13 @@ taken-none n b hw w none = grind (arith, nat_tests)
 again-of : (n a : ℕ) → (nat_lt 0 n && nat_eq a 0) ≡ true → a ≡ 0
 again-of n a is = grind (arith, nat_tests)
 
-none-of : (e : Ended) (frames part channels before after : ℕ) → IsCommit e frames part 0 channels → ToldBy e before after → (frames ≡ 0) × (e ≡ ended.Whole) × (after ≡ before)
+none-of : (e : Ended) (frames part channels before after : ℕ) → IsCommit e frames part 0 channels → CountsEnd e before after → (frames ≡ 0) × (e ≡ ended.Whole) × (after ≡ before)
 none-of ended.Whole frames part channels before after is told = (is.0, refl, told)
 none-of (ended.Late word) frames part channels before after is told = absurd (omega (arith, is.0))
 none-of ended.Stopped frames part channels before after is told = absurd (omega (arith, is.0))
 
-module _ (c : Plain) (ring : List ℤ) (n : ℕ) (last : Commit) (geometry : Geometry) (member : ℕ) (at : Cursor) (seen : ℕ) (can : Type 0) (before after : ℕ) where
-  still_used : (d : Plain) → d.geometry ≡ c.geometry → d.member ≡ c.member → IsWriting c ring n last geometry member at seen can before after → (is_moving d.state ≡ true → d.stopped ≡ false → ⊥) → CanUse d geometry member at seen can
+module _ (c : Plain) (ring : List ℤ) (n : ℕ) (last : Commit) (v : PortView) (before after : ℕ) where
+  still_used : (d : Plain) → d.geometry ≡ c.geometry → d.member ≡ c.member → IsWriting c ring n last v before after → (is_moving d.state ≡ true → d.stopped ≡ false → ⊥) → CanUse d v
   still_used d same_geometry same_member writing still = record {
     same_geometry = writing.same_geometry ∙ sym same_geometry;
     same_member = writing.same_member ∙ sym same_member;
@@ -133,15 +128,15 @@ module _ (c : Plain) (ring : List ℤ) (n : ℕ) (last : Commit) (geometry : Geo
     newer = λ moves going. absurd (still moves going);
   }
 
-  set_of : IsWriting c ring n last geometry member at seen can before after → c.configured ≡ true
+  set_of : IsWriting c ring n last v before after → c.configured ≡ true
   set_of writing = writing.sound.set_up (set_up-moving c.state writing.moves)
 
-  written-again : IsWriting c ring n last geometry member at seen can before after → avail_of c ≡ 0 → IsWritten (c, Err Again) ring geometry member at seen can before after
+  written-again : IsWriting c ring n last v before after → avail_of c ≡ 0 → IsWritten (c, Err Again) ring v before after
   written-again writing none =
       let taken : taken_of c n ≡ 0 = taken-none n c.config.buffer_size (hw_of c) c.written none in
       let count : count_with c (taken_of c n) ≡ 0 = ap (λ (m : ℕ). count_with c m) taken in
       let at_end = none-of last.ended last.frames last.part (length c.bindings) before after (subst (λ (k : ℕ). IsCommit last.ended last.frames last.part k (length c.bindings)) count writing.commit_is) writing.told in
-      let here : IsFrom at (end_of_commit c last) (least_channel c.bindings) = subst (λ (e : Ended). OnWhole e (IsFrom at (end_of_commit c last) (least_channel c.bindings))) at_end.1 writing.whole in
+      let here : IsFrom v.marks.cursor (end_of_commit c last) (least_channel c.bindings) = subst (λ (e : Ended). OnWhole e (IsFrom v.marks.cursor (end_of_commit c last) (least_channel c.bindings))) at_end.1 writing.whole in
       let same : end_of_commit c last ≡ c.card + c.committed = omega (arith, at_end.0) in
       record {
         sound = writing.sound;
@@ -149,14 +144,14 @@ module _ (c : Plain) (ring : List ℤ) (n : ℕ) (last : Commit) (geometry : Geo
           same_geometry = writing.same_geometry;
           same_member = writing.same_member;
           can = writing.able;
-          behind = λ moves going. subst (λ (f : ℕ). IsFrom at f (least_channel c.bindings)) same here;
+          behind = λ moves going. subst (λ (f : ℕ). IsFrom v.marks.cursor f (least_channel c.bindings)) same here;
           newer = λ moves going. writing.newer;
         };
         told = at_end.2;
         count = tt;
       }
 
-  written-stopped : IsWriting c ring n last geometry member at seen can before after → is_stop last.ended ≡ true → IsWritten (stopped_in (committed_by c last)) ring geometry member at seen can before after
+  written-stopped : IsWriting c ring n last v before after → is_stop last.ended ≡ true → IsWritten (stopped_in (committed_by c last)) ring v before after
   written-stopped writing is = record {
     sound = IsSound-behind c ring c.state last true (c.written + taken_of c n) c.written c.fed writing.sound (set_of writing) (write_few c n last (length c.bindings) writing.commit_is) (not_prepared-moving c.state writing.moves) writing.sound.fed (λ moves going. absurd (cc));
     use_it = still_used (behind c last c.state true c.written c.fed) refl refl writing (λ moves going. cc);
@@ -164,8 +159,8 @@ module _ (c : Plain) (ring : List ℤ) (n : ℕ) (last : Commit) (geometry : Geo
     count = tt;
   }
 
-  written-late : (late : XrunWhy) → IsWriting c ring n last geometry member at seen can before after → is_stop last.ended ≡ false
-      → IsWritten (behind c last Xrun c.stopped c.written c.fed, Err (error.Xrun late)) ring geometry member at seen can before after
+  written-late : (late : XrunWhy) → IsWriting c ring n last v before after → is_stop last.ended ≡ false
+      → IsWritten (behind c last Xrun c.stopped c.written c.fed, Err (error.Xrun late)) ring v before after
   written-late late writing is = record {
     sound = IsSound-behind c ring Xrun last c.stopped (c.written + taken_of c n) c.written c.fed writing.sound (set_of writing) (write_few c n last (length c.bindings) writing.commit_is) (λ same. cc) writing.sound.fed (λ moves going. absurd (cc));
     use_it = still_used (behind c last Xrun c.stopped c.written c.fed) refl refl writing (λ moves going. cc);
@@ -173,8 +168,8 @@ module _ (c : Plain) (ring : List ℤ) (n : ℕ) (last : Commit) (geometry : Geo
     count = tt;
   }
 
-  written-whole : IsWriting c ring n last geometry member at seen can before after → is_stop last.ended ≡ false → late_of c last ≡ None
-      → IsWritten (behind c last Running c.stopped (c.written + taken_of c n) (c.fed + taken_of c n), Ok (taken_of c n)) ring geometry member at seen can before after
+  written-whole : IsWriting c ring n last v before after → is_stop last.ended ≡ false → late_of c last ≡ None
+      → IsWritten (behind c last Running c.stopped (c.written + taken_of c n) (c.fed + taken_of c n), Ok (taken_of c n)) ring v before after
   written-whole writing is in_time =
       let m = taken_of c n in
       let all = whole-of last.ended last.frames last.part (count_with c (taken_of c n)) (length c.bindings) (end_of_commit c last) (end_channel c last) writing.commit_is is in_time in
@@ -188,27 +183,27 @@ module _ (c : Plain) (ring : List ℤ) (n : ℕ) (last : Commit) (geometry : Geo
           same_geometry = writing.same_geometry;
           same_member = writing.same_member;
           can = writing.able;
-          behind = λ moves going. OnWhole-of last.ended (IsFrom at (end_of_commit c last) (least_channel c.bindings)) (end_of_commit c last) (end_channel c last) is in_time writing.whole;
+          behind = λ moves going. OnWhole-of last.ended (IsFrom v.marks.cursor (end_of_commit c last) (least_channel c.bindings)) (end_of_commit c last) (end_channel c last) is in_time writing.whole;
           newer = λ moves going. writing.newer;
         };
         told = told-going last.ended before after is writing.told;
         count = omega (arith, few, buffer);
       }
 
-  written-by_late : (late : Option XrunWhy) → late_of c last ≡ late → IsWriting c ring n last geometry member at seen can before after → is_stop last.ended ≡ false
-      → IsWritten (accepted_if (taken_of c n) (settled (committed_by c last) (next_of Running call.Transfer (found_at (record { frame = 0; gone = false }) late)))) ring geometry member at seen can before after
+  written-by_late : (late : Option XrunWhy) → late_of c last ≡ late → IsWriting c ring n last v before after → is_stop last.ended ≡ false
+      → IsWritten (accepted_if (taken_of c n) (settled (committed_by c last) (next_of Running call.Transfer (found_at (record { frame = 0; gone = false }) late)))) ring v before after
   written-by_late (Some late) is writing going = written-late late writing going
   written-by_late None is writing going = written-whole writing going is
 
-  written-by_stop : (stop : Bool) → is_stop last.ended ≡ stop → IsWriting c ring n last geometry member at seen can before after
-      → IsWritten (if stop then stopped_in (committed_by c last) else accepted_if (taken_of c n) (settled (committed_by c last) (next_of Running call.Transfer (found_at (record { frame = 0; gone = false }) (late_of c last))))) ring geometry member at seen can before after
+  written-by_stop : (stop : Bool) → is_stop last.ended ≡ stop → IsWriting c ring n last v before after
+      → IsWritten (if stop then stopped_in (committed_by c last) else accepted_if (taken_of c n) (settled (committed_by c last) (next_of Running call.Transfer (found_at (record { frame = 0; gone = false }) (late_of c last))))) ring v before after
   written-by_stop true is writing = written-stopped writing is
   written-by_stop false is writing = written-by_late (late_of c last) refl writing is
 
-  written-by_again : (again : Bool) → (nat_lt 0 n && nat_eq (avail_of c) 0) ≡ again → IsWriting c ring n last geometry member at seen can before after
-      → IsWritten (if again then (c, Err Again) else (if is_stop last.ended then stopped_in (committed_by c last) else accepted_if (taken_of c n) (settled (committed_by c last) (next_of Running call.Transfer (found_at (record { frame = 0; gone = false }) (late_of c last)))))) ring geometry member at seen can before after
+  written-by_again : (again : Bool) → (nat_lt 0 n && nat_eq (avail_of c) 0) ≡ again → IsWriting c ring n last v before after
+      → IsWritten (if again then (c, Err Again) else (if is_stop last.ended then stopped_in (committed_by c last) else accepted_if (taken_of c n) (settled (committed_by c last) (next_of Running call.Transfer (found_at (record { frame = 0; gone = false }) (late_of c last)))))) ring v before after
   written-by_again true is writing = written-again writing (again-of n (avail_of c) is)
   written-by_again false is writing = written-by_stop (is_stop last.ended) refl writing
 
-  pub IsWritten-after : IsWriting c ring n last geometry member at seen can before after → IsWritten (written_after c n last) ring geometry member at seen can before after
+  pub IsWritten-after : IsWriting c ring n last v before after → IsWritten (written_after c n last) ring v before after
   IsWritten-after writing = written-by_again (nat_lt 0 n && nat_eq (avail_of c) 0) refl writing

@@ -23,11 +23,11 @@ use Rattle.pcm_states.specs.declared.calls.Facts.{Facts}
 use Rattle.pcm_states.specs.declared.calls.Outcome.{Outcome}
 use Rattle.pcm_states.specs.Table.{next_of}
 use Rattle.dmix_client.specs.declared.commit.Commit.{Commit}
-use Rattle.dmix_client.specs.declared.commit.Ended.{Ended}
-use Rattle.dmix_client.specs.declared.commit.Ended.TheVariants as ended
+use Rattle.mix_core.specs.declared.port.Ended.{Ended}
+use Rattle.mix_core.specs.declared.port.Ended.TheVariants as ended
 use Rattle.dmix_client.specs.declared.plain.Plain.{Plain}
 use Rattle.dmix_client.specs.Expansion.{run_entries}
-use Rattle.dmix_client.specs.View.{avail_of, held, is_moving, queued_of}
+use Rattle.dmix_client.specs.View.{avail_of, held, queued_of}
 
 -- a client and the answer of a call
 abbrev pub Answered : Type 0 → Type 0
@@ -244,19 +244,6 @@ started c state cursor (Some position) commit =
     else going_on done state (next_of Prepared call.Start (found_at position (late_of from commit)))
     )
 
--- the calls that take steps, where the client isn't refused before
-
--- `start`
-abbrev pub start_of : Plain → Cursor → Option Position → Commit → Answered (Unit {0})
-start_of c cursor load commit =
-    if nat_eq c.written 0
-    then settled c (next_of c.state call.Start (record nothing_found { queued = 0 }))
-    else started c Running cursor load commit
-
--- `sync`
-abbrev pub sync_of : Plain → Option Position → Commit → Answered (Unit {0})
-sync_of c load commit = if is_moving c.state then synced c call.Sync load commit else (c, Ok tt)
-
 -- an answer's number, where there is one
 abbrev pub with_number : (Plain → ℕ) → Answered (Unit {0}) → Answered ℕ
 with_number number (c, Ok done) = (c, Ok (number c))
@@ -287,18 +274,6 @@ draining c = record c { state = Draining }
 abbrev pub has_frames : Plain → Bool
 has_frames c = is_prepared c.state && nat_lt 0 c.written
 
--- a drain that started goes on with its sync
-abbrev pub drained_on : Answered (Unit {0}) → Option Position → Commit → Answered (Unit {0})
-drained_on (c, Ok done) later last = synced c call.Drain later last
-drained_on (c, Err e) later last = (c, Err e)
-
--- `drain`
-abbrev pub drain_of : Plain → Cursor → Option Position → Commit → Option Position → Commit → Answered (Unit {0})
-drain_of c cursor load commit later last =
-    if is_moving c.state
-    then synced (draining c) call.Drain load commit
-    else (if has_frames c then drained_on (started c Draining cursor load commit) later last else (dropped c, Ok tt))
-
 -- how many frames a write of n takes
 abbrev pub taken_of : Plain → ℕ → ℕ
 taken_of c n = min n (min (avail_of c) c.config.buffer_size)
@@ -326,15 +301,3 @@ written_after c n commit =
 abbrev pub written_on : Answered (Unit {0}) → ℕ → Commit → Answered ℕ
 written_on (c, Ok done) n commit = written_after c n commit
 written_on (c, Err e) n commit = (c, Err e)
-
--- a write of n frames into a prepared stream, which starts it at its threshold
-abbrev pub filled : Plain → ℕ → Cursor → Option Position → Commit → Answered ℕ
-filled c n cursor load commit =
-    if nat_le c.params.start_threshold (c.written + taken_of c n)
-    then accepted_if (taken_of c n) (started c Running cursor load commit)
-    else (accepted c (taken_of c n), Ok (taken_of c n))
-
--- `writei` of n frames
-abbrev pub writei_of : Plain → ℕ → Cursor → Option Position → Commit → Commit → Answered ℕ
-writei_of c n cursor load commit last =
-    if is_running c.state then written_on (synced c call.Transfer load commit) n last else filled c n cursor load commit

@@ -1,20 +1,24 @@
 -- Why a call that took steps answered an error: by the position that it loaded, and by where its commit ended.
-use Rattle.std.specs.Prelude.{◌≡◌, ℕ, ◌+◌, ◌≤◌, ◌↔◌, ◌<◌, ℤ, false, true, List, slice_index, Option, None, Some, IfErr, IfNone, Result, Ok, Err, ⊤}
-use Rattle.std.specs.Option.{option_to_list}
+use Rattle.std.specs.Prelude.{◌≡◌, ℕ, ◌+◌, ◌≤◌, ◌↔◌, ◌<◌, ℤ, false, true, List, length, slice_index, Option, None, Some, IfErr, IfNone, Result, Ok, Err, ⊤}
 use Rattle.snd_base.specs.declared.errors.PcmError.{PcmError}
 use Rattle.snd_base.specs.declared.errors.PcmError.TheVariants.{Again, LapEnd, NoDevice, Stopped, Xrun}
 use Rattle.snd_base.specs.declared.errors.XrunWhy.TheVariants.{Avail, Late}
-use Rattle.snd_base.specs.declared.geometry.Geometry.{Geometry}
-use Rattle.mix_core.specs.declared.port.Entry.{Entry}
+use Rattle.mix_core.specs.declared.gate.Gate as gates
+use Rattle.mix_core.specs.declared.port.MixPort as mixport
+use Rattle.course.specs.AtPort.{TakesAt}
+use Rattle.dmix_client.specs.declared.commit.Commit.{Commit}
+use Rattle.dmix_client.specs.Calls.{sync_count}
 use Rattle.mix_core.specs.declared.port.Position.{Position}
-use Rattle.mix_core.specs.Port.{IsPast}
+use Rattle.mix_core.specs.Port.{IsPast, PortView}
 use Rattle.bindings.specs.Bound.{rising}
 use Rattle.pcm_states.specs.declared.states.State.TheVariants.{Running}
 use Rattle.pcm_states.specs.declared.calls.Call.TheVariants as call
 use Rattle.dmix_client.specs.declared.plain.Plain.{Plain}
 use Rattle.dmix_client.specs.Calls.{Answered, seen_at, synced}
-use Rattle.dmix_client.specs.View.{avail_of}
-use Rattle.dmix_client.specs.Writes.{TakesWrite}
+use Rattle.dmix_client.specs.View.{ClientView, avail_of}
+use Rattle.dmix_client.specs.Course.{write_on}
+use Rattle.dmix_client.specs.Port.{TakesStep}
+use Rattle.dmix_client.specs.Writes.{ring_with, taken_after}
 
 -- a position was loaded, and it says that the card is gone
 abbrev pub IsGone : Option Position → Type 0
@@ -29,10 +33,10 @@ Reaches c (Some position) avail frame =
     × (avail ≡ avail_of (seen_at c position)) × (frame ≡ position.frame)
 
 -- a frame and channel are the first of a client's segment in which nothing is laid, and the port shows that they were taken
-pub record IsMissed {S : Type 0} (geometry : S → Geometry) (shows : S → ℕ → ℕ → Option ℕ) (q : S) (d : Plain) (frame channel word : ℕ) : Type 0 where
+pub record IsMissed {S : Type 0} (view : S → PortView) (shows : S → ℕ → ℕ → Option ℕ) (q : S) (d : Plain) (frame channel word : ℕ) : Type 0 where
   pub frame_is : frame ≡ d.card + d.committed
   pub channel_is : channel ≡ slice_index d.bindings (slice_index (rising d.bindings) d.part)
-  pub past : IsPast geometry shows q frame channel word
+  pub past : IsPast view shows q frame channel word
 
 -- the errors that a call can find in its steps, once it was admitted
 abbrev pub IsOfSteps : PcmError → Type 0
@@ -43,20 +47,28 @@ IsOfSteps (Xrun (Avail avail seen)) = ⊤
 IsOfSteps (Xrun (Late frame channel seen)) = ⊤
 IsOfSteps other = ⊥
 
--- why a call of a client `c`, which left it as `d`, answered so: it loaded a position, unless the gate stopped it before
-pub record IsCaused {S T : Type 0} (loaded : S → S → List Position → Type 0) (geometry : S → Geometry) (shows : S → ℕ → ℕ → Option ℕ) (p q : S) (c d : Plain) (answer : Result T PcmError) : Type 0 where
-  pub load : Option Position
-  pub loaded_it : loaded p q (option_to_list load)
+-- why a call of a client `c`, which loaded a position unless the gate stopped it before and left the client as `d`, answered so
+pub record IsCaused {S X : Type 0} (view : S → PortView) (shows : S → ℕ → ℕ → Option ℕ) (q : S) (c d : Plain) (load : Option Position) (answer : Result X PcmError) : Type 0 where
   pub unless_stopped : IfNone load (answer ≡ Err Stopped)
   pub of_steps : IfErr answer IsOfSteps
   pub no_device : (answer ≡ Err NoDevice) ↔ IsGone load
   pub reached : (avail frame : ℕ) → (answer ≡ Err (Xrun (Avail avail frame))) ↔ Reaches c load avail frame
-  pub late : (frame channel word : ℕ) → answer ≡ Err (Xrun (Late frame channel word)) → IsMissed geometry shows q d frame channel word
+  pub late : (frame channel word : ℕ) → answer ≡ Err (Xrun (Late frame channel word)) → IsMissed view shows q d frame channel word
   pub never_lap_end : answer ≡ Err LapEnd → ⊥
 
--- a write of n frames into a stream that runs is to be made again exactly where its sync went well, there are frames to
--- write, and none can be taken after the sync
-pub record IsAgain {S : Type 0} (laid : S → S → List Entry → Type 0) (loaded : S → S → List Position → Type 0) (geometry : S → Geometry) (shows : S → ℕ → ℕ → Option ℕ) (p q : S)
-    (c : Plain) (ring new_ring samples : List ℤ) (n : ℕ) (done : Answered ℕ) : Type 0 where
-  pub writes : TakesWrite laid loaded geometry shows p q c ring new_ring samples n done
-  pub again : (done.1 ≡ Err Again) ↔ (((synced c call.Transfer writes.load writes.commit).1 ≡ Ok tt) × (0 < n) × (avail_of (synced c call.Transfer writes.load writes.commit).0 ≡ 0))
+-- what the step of a call did, and why it answered so by the position that this step loaded
+pub record Explains {S T X : Type 0} (P : mixport.Ghosts S) (G : gates.Ghosts T) (s t : S × T) (c : ClientView) (at : Position → Plain) (count : Position → ℕ)
+    (call : Option Position → Commit → Answered X) (done : Answered X) : Type 0 where
+  pub step : TakesStep P G s t c.ring at count (length c.plain.bindings) call done
+  pub why : IsCaused P.view P.shows t.0 c.plain done.0 step.load done.1
+
+-- a write of n frames into a stream that runs: its sync, and what followed it; why it answered so by the position that the sync
+-- loaded; and that it is to be made again exactly where the sync went well, there are frames to write, and none can be taken
+pub record ExplainsWrite {S T : Type 0} (P : mixport.Ghosts S) (G : gates.Ghosts T) (s t : S × T) (c : Plain) (ring new_ring samples : List ℤ) (n : ℕ) (done : Answered ℕ) : Type 0 where
+  pub between : S × T
+  pub middle : Answered (Unit {0})
+  pub first : TakesStep P G s between ring (λ position. c) (sync_count c) (length c.bindings) (synced c call.Transfer) middle
+  pub rest : TakesAt P G between (write_on ring samples n middle) t done
+  pub ring_is : new_ring ≡ ring_with middle.0 ring samples (taken_after middle n)
+  pub why : IsCaused P.view P.shows t.0 c done.0 first.load done.1
+  pub again : (done.1 ≡ Err Again) ↔ ((middle.1 ≡ Ok tt) × (0 < n) × (avail_of middle.0 ≡ 0))

@@ -1,4 +1,5 @@
 -- What a segment stands for: the entries that the client laid.
+use Rattle.mix_core.specs.declared.port.Kind.TheVariants.{Added}
 use Rattle.std.specs.Prelude.{ℕ, ◌+◌, ◌*◌, ℤ, pos, List, ◌++◌, length, map, slice_index, slice_index_or, take}
 use Rattle.std.specs.List.{flat_map, range_with_len}
 use Rattle.snd_base.specs.declared.places.Segment.{Segment}
@@ -13,7 +14,7 @@ sample_at samples channels frame channel = slice_index_or samples (frame * chann
 abbrev pub frame_entries : ℕ → List ℕ → (ℕ → ℤ) → ℕ → ℕ → List Entry
 frame_entries member bindings sample_of channels card =
     map
-    (λ q. record { member = member; frame = card; channel = slice_index bindings q; sample = sample_of q })
+    (λ q. record { member = member; frame = card; channel = slice_index bindings q; sample = sample_of q; kind = Added })
     (take channels (rising bindings))
 
 -- the entries of whole frames and then of so many channels of one more, where frame j stands at the card's frame

@@ -1,4 +1,5 @@
 -- How the entries of a segment grow by what a commit lays.
+use Rattle.mix_core.specs.declared.port.Kind.TheVariants.{Added}
 use Rattle.std.specs.Prelude.{◌≡◌, ℕ, ◌+◌, ◌<◌, ◌≤◌, nat_lt, if◌then◌else◌, ℤ, List, [], ◌∷◌, ◌++◌, length, map, slice_index, take}
 use Rattle.std.specs.List.{flat_map, range_with_len}
 use Rattle.std.proofs.Common.{suc, zero, ◌∙◌, ap, sym, refl, subst, arith, get_or, zero-add, append_assoc}
@@ -49,13 +50,13 @@ map-same f g (x ∷ xs) same = cc (same 0 (omega arith), map-same f g xs (λ k h
 pub frame_entries-same : (member : ℕ) (bindings : List ℕ) (s t : ℕ → ℤ) (channels card : ℕ) → AreBindings bindings
     → ((q : ℕ) → q < length bindings → s q ≡ t q) → frame_entries member bindings s channels card ≡ frame_entries member bindings t channels card
 frame_entries-same member bindings s t channels card are same =
-    let entry : (ℕ → ℤ) → ℕ → Entry = λ u q. record { member = member; frame = card; channel = slice_index bindings q; sample = u q } in
+    let entry : (ℕ → ℤ) → ℕ → Entry = λ u q. record { member = member; frame = card; channel = slice_index bindings q; sample = u q; kind = Added } in
     map-same (entry s) (entry t) (take channels (rising bindings)) (λ k within.
     let low : k < channels = omega (arith, length-take channels (rising bindings)) in
     let in_range : k < length bindings = omega (arith, length-take channels (rising bindings), length-rising bindings are) in
     let is : get_or (take channels (rising bindings)) k 0 ≡ get_or (rising bindings) k 0 = get_or-take channels (rising bindings) k 0 low in
     let here : s (get_or (rising bindings) k 0) ≡ t (get_or (rising bindings) k 0) = same (get_or (rising bindings) k 0) (rising-within bindings k are in_range) in
-    let one : entry s (get_or (rising bindings) k 0) ≡ entry t (get_or (rising bindings) k 0) = ap (λ (x : ℤ). let e : Entry = record { member = member; frame = card; channel = slice_index bindings (get_or (rising bindings) k 0); sample = x } in e) here in
+    let one : entry s (get_or (rising bindings) k 0) ≡ entry t (get_or (rising bindings) k 0) = ap (λ (x : ℤ). let e : Entry = record { member = member; frame = card; channel = slice_index bindings (get_or (rising bindings) k 0); sample = x; kind = Added } in e) here in
     subst (λ q. entry s q ≡ entry t q) (sym is) one)
 
 flat_map-same : (f g : ℕ → List Entry) (a n : ℕ) → ((j : ℕ) → a ≤ j → j < a + n → f j ≡ g j) → flat_map f (range_with_len a n) ≡ flat_map g (range_with_len a n)

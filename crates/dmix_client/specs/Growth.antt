@@ -1,10 +1,14 @@
 -- For which accepted frames a client stands, and how its segment grows by what a port laid for it.
-use Rattle.std.specs.Prelude.{◌≡◌, ℕ, ◌+◌, ◌<◌, ◌≤◌, min, ℤ, List, ◌++◌, length}
+use Rattle.std.specs.Prelude.{◌≡◌, ℕ, ◌+◌, ◌<◌, ◌≤◌, false, min, ℤ, List, ◌++◌, length, Result, ⊤}
+use Rattle.snd_base.specs.declared.errors.PcmError.{PcmError}
+use Rattle.mix_core.specs.declared.gate.Gate as gates
 use Rattle.mix_core.specs.declared.port.Entry.{Entry}
+use Rattle.mix_core.specs.declared.port.MixPort as mixport
 use Rattle.dmix_client.specs.declared.plain.Plain.{Plain}
 use Rattle.dmix_client.specs.Calls.{segment_of}
 use Rattle.dmix_client.specs.Expansion.{expand, sample_at}
-use Rattle.dmix_client.specs.View.{held, hw_of}
+use Rattle.dmix_client.specs.Port.{CanUse, CountsStop}
+use Rattle.dmix_client.specs.View.{ClientView, IsSound, held, hw_of}
 
 -- of some samples, interleaved, the frames of a client before one that are not both laid and played stand in its local
 -- ring: frame j since the last prepare is frame `source + j` of the samples
@@ -34,3 +38,23 @@ pub record Grows {S : Type 0} (laid : S → S → List Entry → Type 0) (p q : 
   pub grown : segment_entries d samples ≡ segment_entries c samples ++ entries
   pub same_member : d.member ≡ c.member
   pub same_bindings : d.bindings ≡ c.bindings
+
+-- what every call that takes steps at a port keeps: the client's counts fit each other and its ring, it can use the port again,
+-- the gate's count rose exactly where it answers `Stopped`, and for each list of samples which the client represents, and for which
+-- this fact holds, its segment grew by exactly what was laid, and it represents the list afterwards
+pub record Keeps {S T X : Type 0} (P : mixport.Ghosts S) (G : gates.Ghosts T) (s t : S × T) (c d : ClientView) (answer : Result X PcmError) (For : List ℤ → Type 0) : Type 0 where
+  pub sound : IsSound d.plain d.ring
+  pub port : CanUse d.plain (P.view t.0)
+  pub told : c.plain.stopped ≡ false → CountsStop answer (G.stops s.1) (G.stops t.1)
+  pub grows : (samples : List ℤ) → StandsFor c.plain c.ring samples → For samples → Grows P.laid s.0 t.0 c.plain d.plain samples
+  pub stands : (samples : List ℤ) → StandsFor c.plain c.ring samples → For samples → StandsFor d.plain d.ring samples
+
+-- no list of samples is left out
+abbrev pub AnySamples : List ℤ → Type 0
+AnySamples samples = ⊤
+
+-- the counts of what was accepted are the same
+pub record KeepsAccepted (c d : Plain) : Type 0 where
+  pub written : d.written ≡ c.written
+  pub fed : d.fed ≡ c.fed
+  pub bindings : d.bindings ≡ c.bindings

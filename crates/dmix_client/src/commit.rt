@@ -1,15 +1,21 @@
-//! How a commit ended.
+//! Frames are placed in the card's ring through a port: a commit, alone and behind a load of the position.
+ghost use Rattle.std.specs.Prelude.{◌≡◌, ℕ, ◌+◌, ◌*◌, ◌%◌, ◌^◌, ◌<◌, ◌≤◌, true, false, pos, IfSome, length, slice_index_or, unwrap_or};
+ghost use Rattle.snd_base.specs.Places.{IsFrom, end_frame};
+ghost use Rattle.mix_core.specs.Laid.{an_add};
+ghost use Rattle.course.specs.AtPort.{LaysAt, TakesAt};
+ghost use Rattle.dmix_client.specs.Calls.{start_count, started_in, sync_count, window_end};
+ghost use Rattle.dmix_client.specs.Course.{commits, lay_frame, looks};
+ghost use Rattle.dmix_client.specs.Port.{CanUse, IsFound, IsOnCard, least_channel};
+ghost use Rattle.dmix_client.specs.View.{IsSound, is_moving};
 
-/// Why a commit laid no more: all that it had to lay is laid, the next sample came too late, as the word `seen` shows, or
-/// the gate stopped it.
-#[derive(Clone, Copy, Debug, PartialEq, Eq)]
-pub enum Ended {
-    Whole,
-    Late { seen: u64 },
-    Stopped,
-}
+use crate::plain::Plain;
+use bindings::Bindings;
+use mix_core::{Ended, Gate, MixPort, Position};
+use pcm_states::State;
+use snd_base::Cursor;
 
-/// What a commit laid: whole frames, and then `part` channels of one more, by rising card channel.
+/// What a commit laid: whole frames, and then `part` channels of one more, by rising card channel; and how its last
+/// placement ended.
 #[derive(Clone, Copy, Debug, PartialEq, Eq)]
 pub struct Commit {
     pub frames: u64,
@@ -24,4 +30,197 @@ impl Commit {
         part: 0,
         ended: Ended::Whole,
     };
+}
+
+/// How many channels of a frame were placed, by rising card channel, and why no more were.
+#[derive(Clone, Copy)]
+struct Channels {
+    pub placed: u8,
+    pub ended: Ended,
+}
+
+/// What a load, None where the gate stopped it, and the commit behind it came to.
+#[derive(Clone, Copy)]
+pub(crate) struct Found {
+    pub load: Option<Position>,
+    pub commit: Commit,
+}
+
+impl Found {
+    /// No step was taken.
+    pub const NOTHING: Found = Found {
+        load: None,
+        commit: Commit::NOTHING,
+    };
+}
+
+/// Places one sample, of a frame below the last lap. `Whole` says that it was in time.
+fn place_sample<P: MixPort, G: Gate>(
+    port: &mut P,
+    gate: &mut G,
+    frame: u64,
+    channel: u8,
+    sample: i16,
+) -> Ended
+    requires can_add { (P.view port.old).can_add ≡ true }
+    requires channel { channel < (P.view port.old).geometry.channels }
+    requires from_cursor { IsFrom (P.view port.old).marks.cursor frame channel }
+    requires ahead { frame < (P.view port.old).seen + (P.view port.old).geometry.frames }
+    requires fits { frame < end_frame (P.view port.old).geometry }
+    ensures { LaysAt P.MixPort G.Gate (port.old, gate.old) (an_add (P.view port.old).member frame channel sample) result (port.new, gate.new) }
+{
+    Ended::of(port.place(gate, frame, channel, sample))
+}
+
+/// Places the samples of one frame, one for each client channel, by rising card channel.
+fn place_frame<P: MixPort, G: Gate>(
+    port: &mut P,
+    gate: &mut G,
+    bindings: &Bindings,
+    frame: u64,
+    samples: &[i16],
+) -> Channels
+    requires can_add { (P.view port.old).can_add ≡ true }
+    requires bound { IsOnCard bindings.now (P.view port.old).geometry }
+    requires samples { length samples.now ≡ length bindings.now }
+    requires from_cursor { IsFrom (P.view port.old).marks.cursor frame (least_channel bindings.now) }
+    requires ahead { frame < (P.view port.old).seen + (P.view port.old).geometry.frames }
+    requires fits { frame < end_frame (P.view port.old).geometry }
+    ensures { TakesAt P.MixPort G.Gate (port.old, gate.old)
+        (lay_frame (P.view port.old).member frame bindings.now (λ q. slice_index_or samples.now q (pos 0)))
+        (port.new, gate.new) (result.placed, result.ended) }
+{
+    for place in 0..bindings.len() {
+        let client = bindings.rising(place);
+        let channel = bindings.card_channel(client);
+        match place_sample(port, gate, frame, channel, samples[client as usize]) {
+            Ended::Whole => {}
+            ended => return Channels {
+                placed: place,
+                ended,
+            },
+        }
+    }
+    Channels {
+        placed: bindings.len(),
+        ended: Ended::Whole,
+    }
+}
+
+/// Where the samples of a frame begin in a local ring of `buffer_size` frames.
+pub(crate) fn slot_of(frame: u64, buffer_size: u32, channels: u8) -> usize
+    requires some { 1 ≤ buffer_size }
+    ensures value { result ≡ frame % buffer_size * channels }
+    ensures within { result + channels ≤ buffer_size * channels }
+{
+    (frame % buffer_size as u64) as usize * channels as usize
+}
+
+/// The samples of one frame of a ring.
+fn frame_of(ring: &[i16], slot: usize, channels: u8) -> &[i16]
+    requires { slot + channels ≤ length ring.now }
+    ensures length { length result.now ≡ channels }
+    ensures samples { (q : ℕ) → q < channels → slice_index_or result.now q (pos 0) ≡ slice_index_or ring.now (slot + q) (pos 0) }
+{
+    &ring[slot..slot + channels as usize]
+}
+
+/// Lays `count` frames of the local ring, from the first that is not committed on, up to one that is late or stopped.
+pub(crate) fn lay_frames<P: MixPort, G: Gate>(
+    port: &mut P,
+    gate: &mut G,
+    plain: &Plain,
+    ring: &[i16],
+    count: u64,
+) -> Commit
+    requires can_add { (P.view port.old).can_add ≡ true }
+    requires member { (P.view port.old).member ≡ plain.now.member }
+    requires bound { IsOnCard plain.now.bindings (P.view port.old).geometry }
+    requires buffer { 1 ≤ plain.now.config.buffer_size }
+    requires room { length ring.now ≡ plain.now.config.buffer_size * length plain.now.bindings }
+    requires from_cursor { IsFrom (P.view port.old).marks.cursor (plain.now.card + plain.now.committed) (least_channel plain.now.bindings) }
+    requires ahead { 0 < count → plain.now.card + (plain.now.committed + count) ≤ window_end (P.view port.old).geometry (P.view port.old).seen }
+    ensures { TakesAt P.MixPort G.Gate (port.old, gate.old) (commits plain.now ring.now count) (port.new, gate.new) result }
+{
+    let channels = plain.bindings.len();
+    for frame in 0..count {
+        let number = plain.committed + frame;
+        let slot = slot_of(number, plain.config.buffer_size, channels);
+        let samples = frame_of(ring, slot, channels);
+        let placed = place_frame(port, gate, &plain.bindings, plain.card + number, samples);
+        match placed.ended {
+            Ended::Whole => {}
+            ended => {
+                return Commit {
+                    frames: frame,
+                    part: placed.placed,
+                    ended,
+                };
+            }
+        }
+    }
+    Commit {
+        frames: count,
+        part: 0,
+        ended: Ended::Whole,
+    }
+}
+
+/// Loads the position, for a client that moves frames, and commits what is pending.
+pub(crate) fn look_and_commit<P: MixPort, G: Gate>(
+    plain: &Plain,
+    ring: &[i16],
+    port: &mut P,
+    gate: &mut G,
+) -> Found
+    requires sound { IsSound plain.now ring.now }
+    requires moving { is_moving plain.now.state ≡ true }
+    requires unstopped { plain.now.stopped ≡ false }
+    requires port { CanUse plain.now (P.view port.old) }
+    ensures takes { TakesAt P.MixPort G.Gate (port.old, gate.old) (looks (λ position. plain.now) (sync_count plain.now) ring.now)
+        (port.new, gate.new) (result.load, result.commit) }
+    ensures found { IsFound result.load result.commit (λ position. plain.now) (sync_count plain.now) (length plain.now.bindings) }
+    ensures near { IfSome result.load (λ position. (unwrap_or plain.now.seen 0 ≤ position.frame) × (position.frame ≤ end_frame plain.now.geometry)) }
+{
+    let Ok(position) = port.position(gate) else {
+        return Found::NOTHING;
+    };
+    let count = plain.sync_count(position);
+    let commit = lay_frames(port, gate, plain, ring, count);
+    Found {
+        load: Some(position),
+        commit,
+    }
+}
+
+/// Loads the position, for a client that is prepared, and commits its frames before `upto` from where it starts.
+pub(crate) fn look_and_start<P: MixPort, G: Gate>(
+    plain: &Plain,
+    ring: &[i16],
+    port: &mut P,
+    gate: &mut G,
+    cursor: Cursor,
+    upto: u64,
+) -> Found
+    requires cursor { cursor ≡ (P.view port.old).marks.cursor }
+    requires cursor_most { cursor.frame ≤ end_frame plain.now.geometry }
+    requires sound { IsSound plain.now ring.now }
+    requires prepared { plain.now.state ≡ State.Prepared }
+    requires port { CanUse plain.now (P.view port.old) }
+    ensures takes { TakesAt P.MixPort G.Gate (port.old, gate.old)
+        (looks (λ position. started_in plain.now State.Running position cursor) (λ position. start_count plain.now cursor position upto) ring.now)
+        (port.new, gate.new) (result.load, result.commit) }
+    ensures found { IsFound result.load result.commit (λ position. started_in plain.now State.Running position cursor) (λ position. start_count plain.now cursor position upto) (length plain.now.bindings) }
+    ensures near { IfSome result.load (λ position. position.frame ≤ end_frame plain.now.geometry) }
+{
+    let Ok(position) = port.position(gate) else {
+        return Found::NOTHING;
+    };
+    let count = plain.start_count(cursor, position, upto);
+    let from = plain.started_in(State::Running, position, cursor);
+    let commit = lay_frames(port, gate, &from, ring, count);
+    Found {
+        load: Some(position),
+        commit,
+    }
 }

@@ -1,20 +1,18 @@
 //! The client of a mixed playback: a PCM stream that lays its frames into the card's ring through a port.
 #![tactic(auto)]
 
-mod calls;
 mod client;
 mod commit;
-mod moving;
-mod placing;
+mod control;
 mod plain;
 mod ring;
-mod stepping;
+mod status;
 mod steps;
-mod transfer;
-mod writing;
+mod usable;
+mod write;
 
 pub use client::Client;
-pub use commit::{Commit, Ended};
+pub use commit::Commit;
 pub use plain::Plain;
 
 #[cfg(test)]

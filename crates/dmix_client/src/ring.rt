@@ -2,7 +2,7 @@
 ghost use Rattle.std.specs.Prelude.{◌≡◌, ℕ, ◌+◌, ◌*◌, ◌%◌, ◌^◌, ◌<◌, ◌≤◌, length};
 ghost use Rattle.dmix_client.specs.Ring.{stored, written_over};
 
-use crate::placing::slot_of;
+use crate::commit::slot_of;
 
 /// Writes samples over those of a ring from a place on.
 fn write_over(ring: &mut [i16], place: usize, samples: &[i16])

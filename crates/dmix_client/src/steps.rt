@@ -1,15 +1,15 @@
 //! What a client is after each part of a call, by what the part found.
 ghost use Rattle.std.specs.Prelude.{◌≡◌, ℕ, ◌+◌, ◌*◌, ◌^◌, ◌<◌, ◌≤◌, IfSome, OnOk, length, unwrap_or};
-ghost use Rattle.dmix_client.specs.Calls.{with_params, draining, has_frames, with_number, configured_with, dropped, freed, opened, accepted, accepted_if, filled, written_after, avail_answer, commit_count, committed_by, delay_answer, facts_of, found_at, going_on, is_stop, late_of, over_of, prepared, seen_at, segment_of, settled, start_count, start_frame, started, started_in, stopped_in, sync_count, synced, taken_of, window_end};
-ghost use Rattle.dmix_client.specs.Port.{OnLate};
+ghost use Rattle.dmix_client.specs.Calls.{is_refusal, refusal_of, refused_by, with_params, draining, has_frames, with_number, configured_with, dropped, freed, opened, accepted, accepted_if, written_after, avail_answer, commit_count, committed_by, delay_answer, facts_of, found_at, going_on, is_stop, late_of, over_of, prepared, seen_at, segment_of, settled, start_count, start_frame, started, started_in, stopped_in, sync_count, synced, taken_of, window_end};
+ghost use Rattle.mix_core.specs.Port.{OnLate};
 ghost use Rattle.dmix_client.specs.Writes.{count_with};
-ghost use Rattle.dmix_client.specs.View.{IsReady, IsReadyAt, avail_of, hw_of, queued_of};
+ghost use Rattle.dmix_client.specs.View.{is_moving, IsReady, IsReadyAt, avail_of, hw_of, queued_of};
 
-use crate::commit::{Commit, Ended};
+use crate::commit::Commit;
 use crate::plain::Plain;
 use bindings::Bindings;
 use hw_space::Config;
-use mix_core::Position;
+use mix_core::{Ended, Position};
 use pcm_states::{Call, Facts, Outcome, State, next};
 use ring_pointers::Pointers;
 use snd_base::{Cursor, Geometry, PcmError, Segment, XrunWhy};
@@ -153,15 +153,13 @@ impl Plain {
     }
 }
 
-impl Ended {
-    /// Whether the gate stopped the commit.
-    pub(crate) fn is_stop(self) -> bool
-        ensures { result ≡ is_stop self }
-    {
-        match self {
-            Ended::Stopped => true,
-            _ => false,
-        }
+/// Whether the gate stopped the commit.
+pub(crate) fn is_stop(ended: Ended) -> bool
+    ensures { result ≡ is_stop ended }
+{
+    match ended {
+        Ended::Stopped => true,
+        _ => false,
     }
 }
 
@@ -204,7 +202,7 @@ pub(crate) fn synced(
     };
     let loaded = plain.seen_at(position);
     let done = loaded.committed_by(commit);
-    if commit.ended.is_stop() {
+    if is_stop(commit.ended) {
         return stopped_in(done);
     }
     let facts = Facts {
@@ -359,7 +357,7 @@ pub(crate) fn started(
     }
     let from = plain.started_in(state, position, cursor);
     let done = from.committed_by(commit);
-    if commit.ended.is_stop() {
+    if is_stop(commit.ended) {
         return stopped_in(done);
     }
     let facts = found_at(position, from.late(commit));
@@ -392,7 +390,7 @@ pub(crate) fn written_after(plain: Plain, frames: u64, commit: Commit) -> Answer
         return (plain, Err(PcmError::Again));
     }
     let done = plain.committed_by(commit);
-    if commit.ended.is_stop() {
+    if is_stop(commit.ended) {
         return stopped_in(done);
     }
     let here = Position {
@@ -404,31 +402,6 @@ pub(crate) fn written_after(plain: Plain, frames: u64, commit: Commit) -> Answer
         plain.taken(frames),
         settled(done, next(State::Running, Call::Transfer, facts)),
     )
-}
-
-/// A write of `frames` into a prepared stream, which starts it at its threshold.
-pub(crate) fn filled(
-    plain: Plain,
-    frames: u64,
-    cursor: Cursor,
-    load: Option<Position>,
-    commit: Commit,
-) -> Answered<u64>
-    requires ready { IsReady plain }
-    requires position { IfSome load (λ position. position.frame < 2 ^ 63) }
-    requires cursor { cursor.frame < 2 ^ 63 }
-    requires fits { plain.committed + commit.frames < 2 ^ 62 }
-    requires part { OnLate commit.ended (λ _. commit.part < length plain.bindings) }
-    requires written { plain.written + frames < 2 ^ 64 }
-    requires fed { plain.fed + frames < 2 ^ 64 }
-    ensures { result ≡ filled plain frames cursor load commit }
-{
-    let taken = plain.taken(frames);
-    if plain.params.start_threshold <= plain.written + taken {
-        accepted_if(taken, started(plain, State::Running, cursor, load, commit))
-    } else {
-        (plain.accepted(taken), Ok(taken))
-    }
 }
 
 impl Plain {
@@ -568,5 +541,49 @@ impl Plain {
         ensures { result ≡ with_params self.now params }
     {
         Plain { params, ..*self }
+    }
+}
+
+/// Whether the state table refuses a call by this error whatever the call finds.
+fn is_refusal(error: PcmError) -> bool
+    ensures { result ≡ is_refusal error }
+{
+    match error {
+        PcmError::BadState | PcmError::NoDevice | PcmError::NotSupported => true,
+        PcmError::Xrun(XrunWhy::Already) => true,
+        _ => false,
+    }
+}
+
+impl Plain {
+    /// Tests whether a call may be made: the client is not stopped, and the state table admits the call.
+    pub(crate) fn admit(&self, call: Call) -> Result<(), PcmError>
+        ensures { result ≡ refused_by (refusal_of self.now call) }
+    {
+        if self.stopped {
+            return Err(PcmError::Stopped);
+        }
+        let facts = Facts {
+            capture: false,
+            queued: 1,
+            starts: false,
+            gone: false,
+            over: None,
+            late: None,
+        };
+        match next(self.state, call, facts).answer {
+            Err(error) if is_refusal(error) => Err(error),
+            _ => Ok(()),
+        }
+    }
+
+    /// Whether the client moves frames.
+    pub(crate) fn is_moving(&self) -> bool
+        ensures { result ≡ is_moving self.now.state }
+    {
+        match self.state {
+            State::Running | State::Draining => true,
+            _ => false,
+        }
     }
 }

@@ -1,8 +1,3 @@
-ghost use Rattle.std.specs.Prelude.{◌≡◌, ◌+◌, ◌<◌, ◌≤◌, IsTrue, length, unwrap_or};
-ghost use Rattle.snd_base.specs.Places.{IsFrom};
-ghost use Rattle.dmix_client.specs.Port.{CanUse, least_channel};
-ghost use Rattle.dmix_client.specs.Writes.{IsOffer};
-
 use super::*;
 use bindings::Bindings;
 use hw_space::Config;
@@ -47,55 +42,6 @@ fn opened(alloc: Global) -> Result<(Core, Client), PcmError> {
     Ok((core, client))
 }
 
-/// Whether the port's cursor and its position are where a client that moves frames left them.
-fn is_behind<P: MixPort>(client: &Client, port: &P) -> bool
-    ensures { IsTrue result → IsFrom (P.cursor port.now) (client.now.plain.card + client.now.plain.committed) (least_channel client.now.plain.bindings) × unwrap_or client.now.plain.seen 0 ≤ P.seen port.now }
-{
-    let plain = &client.plain;
-    let _channels = plain.bindings.len();
-    let least = plain.bindings.card_channel(plain.bindings.rising(0));
-    let free = port.cursor().first_free(least);
-    free <= plain.card + plain.committed && plain.seen.unwrap_or(0) <= port.seen()
-}
-
-/// Whether a port has the geometry and the member of a client.
-fn is_own<P: MixPort>(client: &Client, port: &P) -> bool
-    ensures { IsTrue result → (P.geometry port.now ≡ client.now.plain.geometry) × (P.member port.now ≡ client.now.plain.member) }
-{
-    let here = port.geometry();
-    let own = client.plain.geometry;
-    if here.frames != own.frames
-        || here.channels != own.channels
-        || here.first_lap != own.first_lap
-    {
-        return false;
-    }
-    port.member() == client.plain.member
-}
-
-/// Whether a client can use a port that can add.
-fn can_use<P: MixPort>(client: &Client, port: &P) -> bool
-    ensures { IsTrue result → P.can_add port.now → CanUse client.now.plain (P.geometry port.now) (P.member port.now) (P.cursor port.now) (P.seen port.now) (P.can_add port.now) }
-{
-    if !is_own(client, port) {
-        return false;
-    }
-    if client.plain.is_moving() && !client.plain.stopped {
-        return is_behind(client, port);
-    }
-    true
-}
-
-/// Whether samples are whole frames that the client can count.
-fn is_offer(client: &Client, samples: &[i16]) -> bool
-    ensures { IsTrue result → IsOffer client.now.plain samples.now }
-{
-    let channels = client.plain.bindings.len() as usize;
-    samples.len() % channels == 0
-        && samples.len() / channels <= 4194304
-        && client.plain.fed < 9223372036854775808
-}
-
 /// A gate that lets some steps pass, stops the next one, and lets all that follow pass.
 #[derive(Drop)]
 struct StopsOnce {
@@ -104,11 +50,13 @@ struct StopsOnce {
 }
 
 impl Gate for StopsOnce {
-    ghost use Rattle.std.specs.Prelude.{None, if◌then◌else◌};
+    ghost use Rattle.std.specs.Prelude.{⊤, if◌then◌else◌};
 
     ghost stops = { λ g. if g.stopped then 1 else 0 };
 
-    ghost asks = { λ _. None };
+    ghost asked = { λ _ _ _ _. ⊤ };
+
+    ghost asked_composes = { record { none = λ _. tt; joined = λ _ _ _ _ _ _ _ _. tt } };
 
     fn pass(&mut self, _step: StepKind) -> Pass {
         if self.stopped {
@@ -133,8 +81,8 @@ fn write_by<G: Gate>(
 ) -> Result<u32, PcmError> {
     assert!(rt; core.members() > 0);
     let mut turn = core.turn(0);
-    assert!(rt; can_use(client, &turn));
-    assert!(rt; is_offer(client, samples));
+    assert!(rt; client.can_use(&turn));
+    assert!(rt; client.can_offer(samples));
     client.writei(&mut turn, gate, samples)
 }
 
@@ -158,43 +106,43 @@ fn write(
 ) -> Result<u32, PcmError> {
     assert!(rt; core.members() > 0);
     let mut turn = core.turn(0);
-    assert!(rt; can_use(client, &turn));
-    assert!(rt; is_offer(client, samples));
+    assert!(rt; client.can_use(&turn));
+    assert!(rt; client.can_offer(samples));
     client.writei(&mut turn, &mut NeverStops, samples)
 }
 
 fn sync(rt: &impl Abort, core: &mut Core, client: &mut Client) -> Result<(), PcmError> {
     assert!(rt; core.members() > 0);
     let mut turn = core.turn(0);
-    assert!(rt; can_use(client, &turn));
+    assert!(rt; client.can_use(&turn));
     client.sync(&mut turn, &mut NeverStops)
 }
 
 fn start(rt: &impl Abort, core: &mut Core, client: &mut Client) -> Result<(), PcmError> {
     assert!(rt; core.members() > 0);
     let mut turn = core.turn(0);
-    assert!(rt; can_use(client, &turn));
+    assert!(rt; client.can_use(&turn));
     client.start(&mut turn, &mut NeverStops)
 }
 
 fn drain(rt: &impl Abort, core: &mut Core, client: &mut Client) -> Result<(), PcmError> {
     assert!(rt; core.members() > 0);
     let mut turn = core.turn(0);
-    assert!(rt; can_use(client, &turn));
+    assert!(rt; client.can_use(&turn));
     client.drain(&mut turn, &mut NeverStops)
 }
 
 fn avail_update(rt: &impl Abort, core: &mut Core, client: &mut Client) -> Result<u64, PcmError> {
     assert!(rt; core.members() > 0);
     let mut turn = core.turn(0);
-    assert!(rt; can_use(client, &turn));
+    assert!(rt; client.can_use(&turn));
     client.avail_update(&mut turn, &mut NeverStops)
 }
 
 fn delay(rt: &impl Abort, core: &mut Core, client: &mut Client) -> Result<u64, PcmError> {
     assert!(rt; core.members() > 0);
     let mut turn = core.turn(0);
-    assert!(rt; can_use(client, &turn));
+    assert!(rt; client.can_use(&turn));
     client.delay(&mut turn, &mut NeverStops)
 }
 

@@ -18,12 +18,12 @@ use Rattle.pcm_states.specs.declared.calls.Facts.{Facts}
 use Rattle.pcm_states.specs.declared.calls.Outcome.{Outcome}
 use Rattle.pcm_states.specs.Table.{Cell, to, ebadfd, enodev, eio, already, starting, filling, moving, draining, done_in, first_of, if_empty, if_gone, if_late, if_over, if_played, next_of, outcome_of, refused_in, row_of, still_draining}
 use Rattle.dmix_client.specs.declared.commit.Commit.{Commit}
-use Rattle.dmix_client.specs.declared.commit.Ended.TheVariants as ended
+use Rattle.mix_core.specs.declared.port.Ended.TheVariants as ended
 use Rattle.dmix_client.specs.declared.plain.Plain.{Plain}
-use Rattle.dmix_client.specs.Calls.{Answered, accepted, accepted_if, avail_answer, committed_by, delay_answer, dropped, drained_on, facts_of, filled, found_at, going_on, going_on_by, has_frames, is_running, late_of, nothing_found, over_of, prepared, refusal_of, seen_at, settled, start_count, started, started_in, sync_count, synced, taken_of, with_number, written_after, written_on}
+use Rattle.dmix_client.specs.Calls.{Answered, accepted, accepted_if, avail_answer, committed_by, delay_answer, dropped, facts_of, found_at, going_on, going_on_by, has_frames, is_running, late_of, nothing_found, over_of, prepared, refusal_of, seen_at, settled, start_count, started, started_in, sync_count, synced, taken_of, with_number, written_after}
 use Rattle.dmix_client.specs.Calls.{draining as draining_of}
 use Rattle.dmix_client.specs.View.{avail_of, is_moving}
-use Rattle.dmix_client.specs.Writes.{count_after}
+use Rattle.dmix_client.specs.Writes.{count_with, starts_with}
 use Rattle.wav_io.specs.Sound.{Sound}
 use Rattle.lab_script.specs.declared.line.Actor.{Actor}
 use Rattle.lab_script.specs.declared.line.Actor.TheVariants as actor
@@ -36,7 +36,7 @@ use Rattle.lab_report.specs.declared.row.Answer.TheVariants.{Done, Count, Failed
 use Rattle.lab_phase.specs.Lines.{Own, called, counted_of, done_of, ended_after, frames_of, laid_in, refused_or, segments_of, told, unless_refused}
 use Rattle.lab_phase.specs.Meaning.{Stage, client_line, client_row, first_stage, line_by, numbered}
 use Rattle.lab_phase.specs.Opening.{Setup, opened_with}
-use Rattle.lab_phase.specs.Rest.{commit_at, cursor_at, drain_at, resting, start_at, start_commit, sync_at, sync_commit, writei_at}
+use Rattle.lab_phase.specs.Rest.{commit_at, cursor_at, drain_at, drained_at, resting, start_at, start_commit, sync_at, sync_commit, writei_at, written_at}
 use Rattle.dmixlab.proofs.Replies.{if-both}
 use Rattle.dmixlab.specs.Late.{IsLate, LateLaysNothing}
 
@@ -231,9 +231,9 @@ start_at-Stays p c free whole =
     (IsInTime-Stays p c begun (started-IsInTime p c Running free c.written))
 
 -- a drain that started goes on in time
-drained_on-Stays : (p : ℕ) (c : Plain) (after : Answered (Unit {0})) → IsInTime p after
-    → Stays c (drained_on after (Some (resting p)) (sync_commit p after.0))
-drained_on-Stays p c (d, Ok done) is =
+drained_at-Stays : (p : ℕ) (c : Plain) (after : Answered (Unit {0})) → IsInTime p after
+    → Stays c (drained_at p after)
+drained_at-Stays p c (d, Ok done) is =
     by_test (nat_eq n 0 || nat_le p (d.card + d.committed)) (let after : p ≤ d.card = is.at refl in grind (arith, nat_tests))
   where
     n : ℕ
@@ -246,7 +246,7 @@ drained_on-Stays p c (d, Ok done) is =
         let found = facts_of after (resting p) (over_of loaded (resting p)) None in
         settled-Stays c after (next_of d.state call.Drain found) refl (next_of-timely d.state call.Drain found refl)
     by_test false same = absurd (cc)
-drained_on-Stays p c (d, Err e) is = record { whole = is.whole; laid = λ late. absurd (is.not_late late) }
+drained_at-Stays p c (d, Err e) is = record { whole = is.whole; laid = λ late. absurd (is.not_late late) }
 
 -- a client that drains has laid what it had
 draining-Stays : {T : Type 0} (c : Plain) (after : Answered T) → Stays (draining_of c) after → Stays c after
@@ -258,12 +258,10 @@ draining-Stays c after stays = record {
 -- a drain, by whether the stream moves frames
 abbrev drain_by : ℕ → Plain → ℕ → Bool → Answered (Unit {0})
 drain_by p c free moves =
-    let load = Some (resting p) in
-    let first = if moves then sync_commit p (draining_of c) else start_commit p c free c.written in
-    let begun = started c Draining (cursor_at free) load first in
-    if moves
-    then synced (draining_of c) call.Drain load first
-    else (if has_frames c then drained_on begun load (sync_commit p begun.0) else (dropped c, Ok tt))
+    if moves then synced (draining_of c) call.Drain (Some (resting p)) (sync_commit p (draining_of c)) else
+    (if has_frames c
+    then drained_at p (started c Draining (cursor_at free) (Some (resting p)) (start_commit p c free c.written))
+    else (dropped c, Ok tt))
 
 drain_by-Stays : (p : ℕ) (c : Plain) (free : ℕ) (moves : Bool) → c.part ≡ 0 → Stays c (drain_by p c free moves)
 drain_by-Stays p c free true whole =
@@ -272,18 +270,18 @@ drain_by-Stays p c free true whole =
     draining-Stays c after (synced-Stays p (draining_of c) call.Drain (nat_eq n 0 || nat_le p (c.card + c.committed)) n)
 drain_by-Stays p c free false whole =
     let begun = started c Draining (cursor_at free) (Some (resting p)) (start_commit p c free c.written) in
-    if-both (Stays {T = Unit {0}} c) (has_frames c) (drained_on begun (Some (resting p)) (sync_commit p begun.0)) (dropped c, Ok tt)
-    (drained_on-Stays p c begun (started-IsInTime p c Draining free c.written)) (done-Stays c (dropped c) tt whole)
+    if-both (Stays {T = Unit {0}} c) (has_frames c) (drained_at p begun) (dropped c, Ok tt)
+    (drained_at-Stays p c begun (started-IsInTime p c Draining free c.written)) (done-Stays c (dropped c) tt whole)
 
 drain_at-Stays : (p : ℕ) (c : Plain) (free : ℕ) → c.part ≡ 0 → Stays c (drain_at p c free)
 drain_at-Stays p c free whole = drain_by-Stays p c free (is_moving c.state) whole
 
 -- ---- writes
 
-written_on-Stays : (c : Plain) (after : Answered (Unit {0})) (n : ℕ) (last : Commit) → Stays c after → Stays c (written_after after.0 n last)
-    → Stays c (written_on after n last)
-written_on-Stays c (d, Ok done) n last stays more = more
-written_on-Stays c (d, Err e) n last stays more = record { whole = stays.whole; laid = stays.laid }
+written_at-Stays : (p : ℕ) (c : Plain) (after : Answered (Unit {0})) (n : ℕ) → Stays c after
+    → Stays c (written_after after.0 n (commit_at p after.0 (count_with after.0 (taken_of after.0 n)))) → Stays c (written_at p n after)
+written_at-Stays p c (d, Ok done) n stays more = more
+written_at-Stays p c (d, Err e) n stays more = record { whole = stays.whole; laid = stays.laid }
 
 -- the second commit of a write
 written_after-Stays : (c d : Plain) (n : ℕ) (b : Bool) (m : ℕ) → d.part ≡ 0 → d.source ≡ c.source → d.card ≡ c.card
@@ -304,25 +302,30 @@ written_after-Stays c d n false m whole source card committed =
 -- a write into a stream that runs
 abbrev running_write : ℕ → Plain → ℕ → Commit → Answered ℕ
 running_write p c n first =
-    let after = synced c call.Transfer (Some (resting p)) first in written_on after n (commit_at p after.0 (count_after after n))
+    written_at p n (synced c call.Transfer (Some (resting p)) first)
 
 running_write-Stays : (p : ℕ) (c : Plain) (n : ℕ) (b : Bool) (m : ℕ) → b ≡ (nat_eq m 0 || nat_le p (c.card + c.committed))
     → Stays c (running_write p c n (commit_by b m))
 running_write-Stays p c n true m is =
     let after = synced c call.Transfer (Some (resting p)) (all_of m) in
-    let k = count_after after n in
-    written_on-Stays c after n (commit_at p after.0 k) (synced-Stays p c call.Transfer true m)
+    let k = count_with after.0 (taken_of after.0 n) in
+    written_at-Stays p c after n (synced-Stays p c call.Transfer true m)
     (written_after-Stays c after.0 n (nat_eq k 0 || nat_le p (c.card + (c.committed + m))) k refl refl refl (λ late. grind (arith, nat_tests)))
 running_write-Stays p c n false m is =
     let after = synced c call.Transfer (Some (resting p)) late_one in
-    let k = count_after after n in
-    written_on-Stays c after n (commit_at p after.0 k) (synced-Stays p c call.Transfer false m)
+    let k = count_with after.0 (taken_of after.0 n) in
+    written_at-Stays p c after n (synced-Stays p c call.Transfer false m)
     (written_after-Stays c after.0 n (nat_eq k 0 || nat_le p (c.card + (c.committed + 0))) k refl refl refl (λ late. omega arith))
 
 -- a write into a prepared stream
-filled-Stays : (p : ℕ) (c : Plain) (free n : ℕ) → c.part ≡ 0
-    → Stays c (filled c n (cursor_at free) (Some (resting p)) (start_commit p c free (c.written + taken_of c n)))
-filled-Stays p c free n whole =
+abbrev filling_at : ℕ → Plain → ℕ → ℕ → Answered ℕ
+filling_at p c free n = if starts_with c n
+    then accepted_if (taken_of c n) (started c Running (cursor_at free) (Some (resting p)) (start_commit p c free (c.written + taken_of c n)))
+    else (accepted c (taken_of c n), Ok (taken_of c n))
+
+filling-Stays : (p : ℕ) (c : Plain) (free n : ℕ) → c.part ≡ 0
+    → Stays c (filling_at p c free n)
+filling-Stays p c free n whole =
     let begun = started c Running (cursor_at free) (Some (resting p)) (start_commit p c free (c.written + taken_of c n)) in
     if-both (Stays {T = ℕ} c) (nat_le c.params.start_threshold (c.written + taken_of c n)) (accepted_if (taken_of c n) begun) (accepted c (taken_of c n), Ok (taken_of c n))
     (accepted_if-Stays c (taken_of c n) begun (IsInTime-Stays p c begun (started-IsInTime p c Running free (c.written + taken_of c n))))
@@ -331,15 +334,12 @@ filled-Stays p c free n whole =
 -- a write, by whether the stream runs
 abbrev writei_by : ℕ → Plain → ℕ → ℕ → Bool → Answered ℕ
 writei_by p c free n runs =
-    let load = Some (resting p) in
-    let first = if runs then sync_commit p c else start_commit p c free (c.written + taken_of c n) in
-    let after = synced c call.Transfer load first in
-    if runs then written_on after n (commit_at p after.0 (count_after after n)) else filled c n (cursor_at free) load first
+    if runs then running_write p c n (sync_commit p c) else filling_at p c free n
 
 writei_by-Stays : (p : ℕ) (c : Plain) (free n : ℕ) (runs : Bool) → c.part ≡ 0 → Stays c (writei_by p c free n runs)
 writei_by-Stays p c free n true whole =
     let m = sync_count c (resting p) in running_write-Stays p c n (nat_eq m 0 || nat_le p (c.card + c.committed)) m refl
-writei_by-Stays p c free n false whole = filled-Stays p c free n whole
+writei_by-Stays p c free n false whole = filling-Stays p c free n whole
 
 writei_at-Stays : (p : ℕ) (c : Plain) (free n : ℕ) → c.part ≡ 0 → Stays c (writei_at p c free n)
 writei_at-Stays p c free n whole = writei_by-Stays p c free n (is_running c.state) whole

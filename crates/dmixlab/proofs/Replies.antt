@@ -1,6 +1,6 @@
 -- What a client's line is answered can stand in a report: it has words there.
 use Rattle.std.proofs.Common.{ℕ, ◌+◌, ◌-◌}
-use Rattle.std.specs.Prelude.{Bool, true, false, nat_eq, nat_le, nat_lt, ◌&&◌, min, if◌then◌else◌, [], ◌∷◌, Option, Some, None, IfSome, Result, Ok, Err, IfErr}
+use Rattle.std.specs.Prelude.{Bool, true, false, nat_eq, nat_lt, ◌&&◌, min, if◌then◌else◌, [], ◌∷◌, Option, Some, None, IfSome, Result, Ok, Err, IfErr}
 use Rattle.snd_base.specs.declared.errors.PcmError.{PcmError}
 use Rattle.snd_base.specs.declared.errors.PcmError.TheVariants.{BadState, Xrun, Again, NoDevice, Invalid, Busy, NotSupported, LapEnd, Stopped, Memory}
 use Rattle.snd_base.specs.declared.errors.XrunWhy.{XrunWhy}
@@ -17,7 +17,7 @@ use Rattle.pcm_states.specs.declared.calls.Outcome.{Outcome}
 use Rattle.pcm_states.specs.Table.{Cell, to, ebadfd, enodev, eio, already, starting, filling, moving, draining, done_in, first_of, if_empty, if_gone, if_late, if_over, if_played, next_of, outcome_of, refused_in, row_of, still_draining}
 use Rattle.dmix_client.specs.declared.commit.Commit.{Commit}
 use Rattle.dmix_client.specs.declared.plain.Plain.{Plain}
-use Rattle.dmix_client.specs.Calls.{Answered, accepted, accepted_if, avail_answer, committed_by, delay_answer, dropped, drain_of, drained_on, facts_of, filled, found_at, has_frames, going_on, going_on_by, is_refusal, is_running, is_stop, late_of, nothing_found, over_of, prepared, refusal_in, refusal_of, seen_at, settled, start_of, started, started_in, stopped_in, sync_of, synced, taken_of, with_number, writei_of, written_after, written_on}
+use Rattle.dmix_client.specs.Calls.{Answered, accepted, accepted_if, avail_answer, committed_by, delay_answer, dropped, facts_of, found_at, has_frames, going_on, going_on_by, is_refusal, is_running, is_stop, late_of, nothing_found, over_of, prepared, refusal_in, refusal_of, seen_at, settled, started, started_in, stopped_in, synced, taken_of, with_number, written_after}
 use Rattle.dmix_client.specs.Calls.{draining as draining_of}
 use Rattle.dmix_client.specs.View.{avail_of, is_moving}
 use Rattle.wav_io.specs.Sound.{Sound}
@@ -25,7 +25,8 @@ use Rattle.lab_script.specs.declared.line.Op.{Op}
 use Rattle.lab_script.specs.declared.line.Op.TheVariants as op
 use Rattle.lab_report.specs.Text.{HasErrorWords, HasWords}
 use Rattle.lab_phase.specs.Lines.{Own, called, counted_of, done_of, frames_of, refused_or, told, unless_refused}
-use Rattle.lab_phase.specs.Rest.{cursor_at, drain_at, resting, start_at, start_commit, sync_at, sync_commit, writei_at}
+use Rattle.dmix_client.specs.Writes.{count_with, starts_with}
+use Rattle.lab_phase.specs.Rest.{commit_at, cursor_at, drain_at, drained_at, resting, start_at, start_commit, sync_at, sync_commit, writei_at, written_at}
 
 -- an answer's error has words, if it has one
 record Worded {T : Type 0} (r : Result T PcmError) : Type 0 where
@@ -173,26 +174,13 @@ started-Replies c state cursor (Some position) commit =
     (if-both (Replies {T = Unit {0}}) (is_stop commit.ended) (stopped_in done) (going_on done state (next_of Prepared Start found))
     (at_stop done) (going_on-Replies done state found))
 
-start_of-Replies : (c : Plain) (cursor : Cursor) (load : Option Position) (commit : Commit) → Replies (start_of c cursor load commit)
-start_of-Replies c cursor load commit =
-    if-both (Replies {T = Unit {0}}) (nat_eq c.written 0) _ _ (settled-Replies c c.state Start _) (started-Replies c Running cursor load commit)
-
-sync_of-Replies : (c : Plain) (load : Option Position) (commit : Commit) → Replies (sync_of c load commit)
-sync_of-Replies c load commit = if-both (Replies {T = Unit {0}}) _ _ (c, Ok tt) (synced-Replies c Sync load commit) (fine c tt)
-
 with_number-Replies : (number : Plain → ℕ) (answered : Answered (Unit {0})) → Replies answered → Replies (with_number number answered)
 with_number-Replies number (c, Ok done) words = fine _ _
 with_number-Replies number (c, Err e) words = with_error c e words.worded.words
 
-drained_on-Replies : (answered : Answered (Unit {0})) (later : Option Position) (last : Commit) → Replies answered → Replies (drained_on answered later last)
-drained_on-Replies (c, Ok done) later last words = synced-Replies c Drain later last
-drained_on-Replies (c, Err e) later last words = with_error c e words.worded.words
-
-drain_of-Replies : (c : Plain) (cursor : Cursor) (load : Option Position) (commit : Commit) (later : Option Position) (last : Commit)
-    → Replies (drain_of c cursor load commit later last)
-drain_of-Replies c cursor load commit later last =
-    if-both (Replies {T = Unit {0}}) (is_moving c.state) (synced (draining_of c) Drain load commit) _ (synced-Replies (draining_of c) Drain load commit)
-    (if-both (Replies {T = Unit {0}}) (has_frames c) (drained_on (started c Draining cursor load commit) later last) (dropped c, Ok tt) (drained_on-Replies (started c Draining cursor load commit) later last (started-Replies c Draining cursor load commit)) (fine (dropped c) tt))
+drained_at-Replies : (p : ℕ) (answered : Answered (Unit {0})) → Replies answered → Replies (drained_at p answered)
+drained_at-Replies p (c, Ok done) words = synced-Replies c Drain (Some (resting p)) (sync_commit p c)
+drained_at-Replies p (c, Err e) words = with_error c e words.worded.words
 
 accepted_if-Replies : (n : ℕ) (answered : Answered (Unit {0})) → Replies answered → Replies (accepted_if n answered)
 accepted_if-Replies n (c, Ok done) words = fine _ _
@@ -207,22 +195,9 @@ written_after-Replies c n commit =
     (if-both (Replies {T = ℕ}) (is_stop commit.ended) (stopped_in done) (accepted_if (taken_of c n) after)
     (at_stop done) (accepted_if-Replies (taken_of c n) after (settled-Replies done Running Transfer found)))
 
-written_on-Replies : (answered : Answered (Unit {0})) (n : ℕ) (commit : Commit) → Replies answered → Replies (written_on answered n commit)
-written_on-Replies (c, Ok done) n commit words = written_after-Replies c n commit
-written_on-Replies (c, Err e) n commit words = with_error c e words.worded.words
-
-filled-Replies : (c : Plain) (n : ℕ) (cursor : Cursor) (load : Option Position) (commit : Commit) → Replies (filled c n cursor load commit)
-filled-Replies c n cursor load commit =
-    let n_taken = taken_of c n in
-    let begun = started c Running cursor load commit in
-    if-both (Replies {T = ℕ}) (nat_le c.params.start_threshold (c.written + n_taken)) (accepted_if n_taken begun) (accepted c n_taken, Ok n_taken)
-    (accepted_if-Replies n_taken begun (started-Replies c Running cursor load commit)) (fine (accepted c n_taken) n_taken)
-
-writei_of-Replies : (c : Plain) (n : ℕ) (cursor : Cursor) (load : Option Position) (commit last : Commit) → Replies (writei_of c n cursor load commit last)
-writei_of-Replies c n cursor load commit last =
-    let after = synced c Transfer load commit in
-    if-both (Replies {T = ℕ}) (is_running c.state) (written_on after n last) (filled c n cursor load commit)
-    (written_on-Replies after n last (synced-Replies c Transfer load commit)) (filled-Replies c n cursor load commit)
+written_at-Replies : (p n : ℕ) (answered : Answered (Unit {0})) → Replies answered → Replies (written_at p n answered)
+written_at-Replies p n (c, Ok done) words = written_after-Replies c n (commit_at p c (count_with c (taken_of c n)))
+written_at-Replies p n (c, Err e) words = with_error c e words.worded.words
 
 -- ---- refusals
 
@@ -271,16 +246,32 @@ counted_of-HasWords (c, Err e) words = told-words e words.worded.words
 -- ---- calls at a position
 
 sync_at-Replies : (p : ℕ) (c : Plain) → Replies (sync_at p c)
-sync_at-Replies p c = sync_of-Replies c (Some (resting p)) (sync_commit p c)
+sync_at-Replies p c =
+    if-both (Replies {T = Unit {0}}) (is_moving c.state) (synced c Sync (Some (resting p)) (sync_commit p c)) (c, Ok tt) (synced-Replies c Sync (Some (resting p)) (sync_commit p c)) (fine c tt)
 
 start_at-Replies : (p : ℕ) (c : Plain) (free : ℕ) → Replies (start_at p c free)
-start_at-Replies p c free = start_of-Replies c (cursor_at free) (Some (resting p)) (start_commit p c free c.written)
+start_at-Replies p c free =
+    if-both (Replies {T = Unit {0}}) (nat_eq c.written 0) _ _ (settled-Replies c c.state Start _)
+    (started-Replies c Running (cursor_at free) (Some (resting p)) (start_commit p c free c.written))
 
 drain_at-Replies : (p : ℕ) (c : Plain) (free : ℕ) → Replies (drain_at p c free)
-drain_at-Replies p c free = let load = Some (resting p) in drain_of-Replies c (cursor_at free) load _ load _
+drain_at-Replies p c free =
+    let begun = started c Draining (cursor_at free) (Some (resting p)) (start_commit p c free c.written) in
+    let synced_one = synced (draining_of c) Drain (Some (resting p)) (sync_commit p (draining_of c)) in
+    if-both (Replies {T = Unit {0}}) (is_moving c.state) synced_one (if has_frames c then drained_at p begun else (dropped c, Ok tt))
+    (synced-Replies (draining_of c) Drain (Some (resting p)) (sync_commit p (draining_of c)))
+    (if-both (Replies {T = Unit {0}}) (has_frames c) (drained_at p begun) (dropped c, Ok tt)
+    (drained_at-Replies p begun (started-Replies c Draining (cursor_at free) (Some (resting p)) (start_commit p c free c.written))) (fine (dropped c) tt))
 
 writei_at-Replies : (p : ℕ) (c : Plain) (free n : ℕ) → Replies (writei_at p c free n)
-writei_at-Replies p c free n = writei_of-Replies c n (cursor_at free) (Some (resting p)) _ _
+writei_at-Replies p c free n =
+    let taken = taken_of c n in
+    let running = synced c Transfer (Some (resting p)) (sync_commit p c) in
+    let begun = started c Running (cursor_at free) (Some (resting p)) (start_commit p c free (c.written + taken)) in
+    if-both (Replies {T = ℕ}) (is_running c.state) (written_at p n running) (if starts_with c n then accepted_if taken begun else (accepted c taken, Ok taken))
+    (written_at-Replies p n running (synced-Replies c Transfer (Some (resting p)) (sync_commit p c)))
+    (if-both (Replies {T = ℕ}) (starts_with c n) (accepted_if taken begun) (accepted c taken, Ok taken)
+    (accepted_if-Replies taken begun (started-Replies c Running (cursor_at free) (Some (resting p)) (start_commit p c free (c.written + taken)))) (fine (accepted c taken) taken))
 
 -- a call that is done or refused, and one with a number, has an answer with words
 done-HasWords : (c : Plain) (call : Call) (answered : Answered (Unit {0})) → Replies answered → HasWords (done_of (unless_refused c call answered)).1

@@ -230,6 +230,28 @@ fn sixty_four_clients_are_cut_once(rt: HostRuntime) -> Result<(), Fail> {
     Ok(())
 }
 
+#[test]
+fn a_script_has_4096_phases(rt: HostRuntime) -> Result<(), Fail> {
+    let alloc = rt.alloc();
+    let mut lines = String::new(alloc);
+    let mut rows = String::new(alloc);
+    lines.push_str("card channels 1 rate 48000 period 64 ring 256\nclient a a.wav\nopen a\n")?;
+    for number in 1u32..4097 {
+        lines.push_str("phase\ncard play 1\nend\n")?;
+        writeln!(rows, "{number} card play 1 = 1 RUNNING {number}")?;
+    }
+    let files = files_of(alloc, lines.into_bytes(), &[("a.wav", MONO, &[(1, 5)])])?;
+    let left = call(&rt, alloc, &["run", "s", "o"], files, (&[], &[]))?;
+    assert_eq!(rt; left.status, 0);
+    let report = format!(in alloc;
+        "dmixlab 1\n0 a open = ok PREPARED -\n{rows}played 0 4096\nend\n"
+    )?;
+    assert_eq!(rt; text_in(left.out.bytes()), text_in(report.as_bytes()));
+    let file = wav_of(alloc, MONO, &[(4096, 0)])?;
+    assert_eq!(rt; left.shelf.file(b"o.wav").unwrap_or(&[]), file.as_slice());
+    Ok(())
+}
+
 // A call that isn't done: its words, the script, the numbers of the shelf's and the output's calls
 // that fail, the status, and the line on `errors`.
 struct Refusal<'a> {

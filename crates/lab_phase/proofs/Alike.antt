@@ -1,23 +1,24 @@
 -- Calls whose late commits saw different words make the same of a client, and are told alike.
-use Rattle.std.proofs.Common.{◌≡◌, ℕ, ◌+◌, List, [], ◌∷◌, refl, ap, subst}
-use Rattle.std.specs.Prelude.{Bool, true, false, if◌then◌else◌, ◌&&◌, nat_lt, nat_le, nat_eq, Option, None, Some, Result, Ok, Err}
+use Rattle.std.proofs.Common.{◌≡◌, ℕ, List, [], ◌∷◌, refl, ap, subst}
+use Rattle.std.specs.Prelude.{Bool, true, false, if◌then◌else◌, ◌&&◌, nat_lt, nat_eq, Option, None, Some, Result, Ok, Err}
 use Rattle.snd_base.specs.declared.errors.PcmError.{PcmError}
 use Rattle.snd_base.specs.declared.errors.PcmError.TheVariants.{Again}
 use Rattle.snd_base.specs.declared.errors.XrunWhy.TheVariants as why
 use Rattle.snd_base.specs.declared.places.Cursor.{Cursor}
 use Rattle.mix_core.specs.declared.port.Position.{Position}
 use Rattle.pcm_states.specs.declared.states.State.{State}
-use Rattle.pcm_states.specs.declared.states.State.TheVariants.{Draining, Prepared, Running}
+use Rattle.pcm_states.specs.declared.states.State.TheVariants.{Prepared, Running}
 use Rattle.pcm_states.specs.declared.calls.Call.{Call}
 use Rattle.pcm_states.specs.declared.calls.Call.TheVariants as call
 use Rattle.pcm_states.specs.declared.calls.Facts.{Facts}
 use Rattle.pcm_states.specs.declared.calls.Outcome.{Outcome}
 use Rattle.pcm_states.specs.Table.{Cell, to, ebadfd, enodev, eio, already, starting, filling, moving, draining, first_of, if_empty, if_gone, if_over, next_of, outcome_of, row_of, stopped_by}
 use Rattle.dmix_client.specs.declared.commit.Commit.{Commit}
-use Rattle.dmix_client.specs.declared.commit.Ended.TheVariants as ended
+use Rattle.mix_core.specs.declared.port.Ended.TheVariants as ended
 use Rattle.dmix_client.specs.declared.plain.Plain.{Plain}
-use Rattle.dmix_client.specs.View.{avail_of, is_moving}
-use Rattle.dmix_client.specs.Calls.{Answered, accepted, accepted_if, committed_by, drain_of, drained_on, end_channel, end_of_commit, facts_of, found_at, going_on, going_on_by, is_prepared, is_running, over_of, seen_at, settled, start_of, started, started_in, sync_of, synced, taken_of, with_number, writei_of, written_after, written_on}
+use Rattle.dmix_client.specs.View.{avail_of}
+use Rattle.dmix_client.specs.Calls.{Answered, accepted, accepted_if, committed_by, end_channel, end_of_commit, facts_of, found_at, going_on, going_on_by, over_of, seen_at, settled, started, started_in, synced, taken_of, with_number, written_after, written_on}
+use Rattle.lab_phase.proofs.Likes.{IsLike, is_late, is_same}
 use Rattle.lab_phase.specs.Lines.{done_of, counted_of, told}
 
 -- an answer as a report tells it
@@ -131,11 +132,6 @@ counted_of-AreSame (c, Ok x) (d, Err e) same = absurd (let h = same.answer in cc
 counted_of-AreSame (c, Err e) (d, Ok y) same = absurd (let h = same.answer in cc)
 counted_of-AreSame (c, Err e) (d, Err f) same = let h = same.answer in let k = same.client in cc
 
--- a commit is another one, but for the word that a late one saw
-pub data IsLike : Commit → Commit → Type 0 where
-  is_same : (x : Commit) → IsLike x x
-  is_late : (frames part word seen : ℕ) → IsLike (record { frames = frames; part = part; ended = ended.Late word }) (record { frames = frames; part = part; ended = ended.Late seen })
-
 pub synced-AreSame : (c : Plain) (what : Call) (position : Position) (x y : Commit) → IsLike x y
     → AreSame (synced c what (Some position) x) (synced c what (Some position) y)
 synced-AreSame c what position x y (is_same z) = AreSame-refl (synced c what (Some position) z)
@@ -162,7 +158,7 @@ pub started-AreSame : (c : Plain) (s : State) (cursor : Cursor) (position : Posi
 started-AreSame c s cursor position x y (is_same z) = AreSame-refl (started c s cursor (Some position) z)
 started-AreSame c s cursor position x y (is_late frames part word seen) = started_late position.gone c s cursor position.frame frames part word seen
 
-written_after-AreSame : (c : Plain) (n : ℕ) (x y : Commit) → IsLike x y → AreSame (written_after c n x) (written_after c n y)
+pub written_after-AreSame : (c : Plain) (n : ℕ) (x y : Commit) → IsLike x y → AreSame (written_after c n x) (written_after c n y)
 written_after-AreSame c n x y (is_same z) = AreSame-refl (written_after c n z)
 written_after-AreSame c n x y (is_late frames part word seen) = again_or (nat_lt 0 n && nat_eq (avail_of c) 0)
   where
@@ -189,48 +185,3 @@ written_on-AreSame (c, Ok done) (d, Ok other) n x y same like =
 written_on-AreSame (c, Ok done) (d, Err e) n x y same like = absurd (let h = same.answer in cc)
 written_on-AreSame (c, Err e) (d, Ok done) n x y same like = absurd (let h = same.answer in cc)
 written_on-AreSame (c, Err e) (d, Err f) n x y same like = record { client = same.client; answer = let h = same.answer in cc }
-
--- and a drain after starts
-pub drained_on-AreSame : (a b : Answered (Unit {0})) (later : Position) (x y : Commit) → AreSame a b → IsLike x y
-    → AreSame (drained_on a (Some later) x) (drained_on b (Some later) y)
-drained_on-AreSame (c, Ok done) (d, Ok other) later x y same like =
-    subst (λ (e : Plain). AreSame (synced c call.Drain (Some later) x) (synced e call.Drain (Some later) y)) same.client (synced-AreSame c call.Drain later x y like)
-drained_on-AreSame (c, Ok done) (d, Err e) later x y same like = absurd (let h = same.answer in cc)
-drained_on-AreSame (c, Err e) (d, Ok done) later x y same like = absurd (let h = same.answer in cc)
-drained_on-AreSame (c, Err e) (d, Err f) later x y same like = record { client = same.client; answer = let h = same.answer in cc }
-
--- ---- the calls
-
-if-AreSame : {T : Type 0} (test : Bool) (a b c d : Answered T) → (test ≡ true → AreSame a c) → (test ≡ false → AreSame b d)
-    → AreSame (if test then a else b) (if test then c else d)
-if-AreSame true a b c d first second = first refl
-if-AreSame false a b c d first second = second refl
-
-pub sync_of-AreSame : (c : Plain) (position : Position) (x y : Commit) → IsLike x y → AreSame (sync_of c (Some position) x) (sync_of c (Some position) y)
-sync_of-AreSame c position x y like =
-    if-AreSame (is_moving c.state) _ _ _ _ (λ is. synced-AreSame c call.Sync position x y like) (λ other. AreSame-refl _)
-
-pub start_of-AreSame : (c : Plain) (cursor : Cursor) (position : Position) (x y : Commit) → IsLike x y
-    → AreSame (start_of c cursor (Some position) x) (start_of c cursor (Some position) y)
-start_of-AreSame c cursor position x y like =
-    if-AreSame (nat_eq c.written 0) _ _ _ _ (λ is. AreSame-refl _) (λ other. started-AreSame c Running cursor position x y like)
-
-pub writei_of-AreSame : (c : Plain) (n : ℕ) (cursor : Cursor) (position : Position) (x y u v : Commit) → IsLike x y → IsLike u v
-    → AreSame (writei_of c n cursor (Some position) x u) (writei_of c n cursor (Some position) y v)
-writei_of-AreSame c n cursor position x y u v first last =
-    if-AreSame (is_running c.state) _ _ _ _
-    (λ is. written_on-AreSame (synced c call.Transfer (Some position) x) (synced c call.Transfer (Some position) y) n u v
-    (synced-AreSame c call.Transfer position x y first) last)
-    (λ other. if-AreSame (nat_le c.params.start_threshold (c.written + taken_of c n)) _ _ _ _
-    (λ starts. accepted_if-AreSame (taken_of c n) _ _ (started-AreSame c Running cursor position x y first))
-    (λ waits. AreSame-refl _))
-
-pub drain_of-AreSame : (c : Plain) (cursor : Cursor) (position later : Position) (x y u v : Commit) → IsLike x y → IsLike u v
-    → AreSame (drain_of c cursor (Some position) x (Some later) u) (drain_of c cursor (Some position) y (Some later) v)
-drain_of-AreSame c cursor position later x y u v first last =
-    if-AreSame (is_moving c.state) _ _ _ _
-    (λ is. synced-AreSame (record c { state = Draining }) call.Drain position x y first)
-    (λ other. if-AreSame (is_prepared c.state && nat_lt 0 c.written) _ _ _ _
-    (λ starts. drained_on-AreSame (started c Draining cursor (Some position) x) (started c Draining cursor (Some position) y) later u v
-    (started-AreSame c Draining cursor position x y first) last)
-    (λ waits. AreSame-refl _))

@@ -13,7 +13,8 @@ use Rattle.snd_base.specs.Places.{IsFrom, first_free}
 use Rattle.mix_core.specs.declared.port.Entry.{Entry}
 use Rattle.mix_core.specs.Laid.{total}
 use Rattle.mix_core.specs.Turn.{KeepsRest}
-use Rattle.mix_core.specs.View.{View}
+use Rattle.mix_core.specs.View.{View, cursor_at, marks_at}
+use Rattle.mix_core.specs.declared.marks.Marks.{Marks}
 use Rattle.dmix_client.specs.declared.plain.Plain.{Plain}
 use Rattle.dmix_client.specs.Calls.{segment_of}
 use Rattle.dmix_client.specs.Expansion.{expand}
@@ -36,7 +37,7 @@ use Rattle.lab_phase.specs.Meaning.{Stage, bindings_of, card_row, client_line, c
 use Rattle.lab_phase.specs.Mixes.{Mixes, RestsAt}
 use Rattle.lab_phase.specs.Opening.{IsRingOf}
 use Rattle.lab_phase.specs.Seats.{IsOwn, ends_stretch, stretch}
-use Rattle.lab_phase.specs.Stages.{HasCalledAt, HasRun, IsAtSeat, IsSeated, IsSettled, IsSettledAt, LaysAt, TakesLine, TakesOpen, free_at, members_for, own_at, own_of, own_with, owns_from, stage_of, sums_of}
+use Rattle.lab_phase.specs.Stages.{HasCalledAt, HasRun, IsAtSeat, IsSeated, IsSettled, IsSettledAt, LaysAt, TakesLine, TakesOpen, free_at, members_for, no_marks, own_at, own_of, own_with, owns_from, stage_of, sums_of}
 use Rattle.lab_phase.proofs.Owns.{owns_from-get, owns_from-set, set-slice_get, slice_get-within, slice_get-set_other, slice_get-set_same}
 use Rattle.lab_phase.proofs.Steps.{Mixes-laid}
 use Rattle.lab_phase.proofs.Totals.{numbered_segments, own_total, own_total-grows, total-numbered-set}
@@ -75,18 +76,18 @@ OnOk-map (Err e) f h = tt
 
 -- ---- a client's line
 
--- where a member's cursor stands doesn't tell which default is read for those that aren't there
-free_at-within : (v : View) (client : ℕ) → client < length v.cursors → first_free (slice_index_or v.cursors client v.next) 0 ≡ free_at v.cursors client
-free_at-within v client within = ap (λ (x : Cursor). first_free x 0) (get_or_default v.cursors client v.next (record { frame = 0; channel = 0 }) within)
+-- where a member stands doesn't tell which default is read for those that aren't there
+free_at-within : (v : View) (client : ℕ) → client < length v.marks → first_free (cursor_at v client) 0 ≡ free_at v.marks client
+free_at-within v client within = ap (λ (x : Marks). first_free x.cursor 0) (get_or_default v.marks client (record { cursor = v.next; floor = v.next; high = v.next }) no_marks within)
 
 -- the client after its line, by what its call made of it
-own_at-called : (members p client : ℕ) (wav : Sound) (own : Own) (asked : Op) (x : ClientView) (v w : View) (answer : Answer) (seat : Seat) → client < length w.cursors
+own_at-called : (members p client : ℕ) (wav : Sound) (own : Own) (asked : Op) (x : ClientView) (v w : View) (answer : Answer) (seat : Seat) → client < length w.marks
     → HasCalledAt members p client wav own asked x v w answer → seat.ended.items ≡ ended_after own asked answer
-    → own_at w.cursors client seat x ≡ (line_done p wav own asked).0
+    → own_at w.marks client seat x ≡ (line_done p wav own asked).0
 own_at-called members p client wav own asked x v w answer seat within calls ended =
     let is : after_call own asked (x.plain, answer) ≡ line_done p wav own asked = ap (after_call own asked) calls.outcome in
     let there : Own = (after_call own asked (x.plain, answer)).0 in
-    let free : free_at w.cursors client ≡ there.free = sym (free_at-within w client within) ∙ calls.at.free ∙ sym (ap (λ (d : Own × Answer). d.0.free) is) in
+    let free : free_at w.marks client ≡ there.free = sym (free_at-within w client within) ∙ calls.at.free ∙ sym (ap (λ (d : Own × Answer). d.0.free) is) in
     ap (λ (n : ℕ). let o : Own = record { plain = x.plain; free = n; ended = seat.ended.items } in o) free
     ∙ ap (λ (s : List Segment). let o : Own = record { plain = x.plain; free = there.free; ended = s } in o) ended
     ∙ ap (λ (d : Own × Answer). d.0) is
@@ -165,7 +166,7 @@ RestsAt-kept ring members p v w rest rests = record {
 
 -- another client's port stays as it was
 IsSeated-other : (members p client m : ℕ) (wav : Sound) (bound : List ℕ) (v w : View) (es : List Entry) (seat : Seat) (x : ClientView) → LaysAt client v w es → m ≢ client
-    → IsSeated members p m wav bound v (own_at v.cursors m seat x) x → IsSeated members p m wav bound w (own_at w.cursors m seat x) x
+    → IsSeated members p m wav bound v (own_at v.marks m seat x) x → IsSeated members p m wav bound w (own_at w.marks m seat x) x
 IsSeated-other members p client m wav bound v w es seat x laid other seated = record {
   is_own = subst (λ (n : ℕ). IsOwn wav (record { plain = x.plain; free = n; ended = seat.ended.items }) x) (sym free) seated.is_own;
   at = record {
@@ -173,25 +174,27 @@ IsSeated-other members p client m wav bound v w es seat x laid other seated = re
     usable = record {
       same_geometry = laid.rest.geometry ∙ seated.at.usable.same_geometry;
       same_member = seated.at.usable.same_member;
-      can = tt;
-      behind = λ moving going. subst (λ (k : Cursor). IsFrom k (x.plain.card + x.plain.committed) (least_channel x.plain.bindings)) (sym cursor) (seated.at.usable.behind moving going);
+      can = refl;
+      behind = λ moving going. subst (λ (k : Marks). IsFrom k.cursor (x.plain.card + x.plain.committed) (least_channel x.plain.bindings)) (sym marks) (seated.at.usable.behind moving going);
       newer = λ moving going. omega (arith, seated.at.usable.newer moving going, laid.rest.position);
     };
-    free = ap (λ (k : Cursor). first_free k 0) cursor ∙ seated.at.free ∙ sym free;
+    free = ap (λ (k : Marks). first_free k.cursor 0) marks ∙ seated.at.free ∙ sym free;
   };
   bindings = seated.bindings;
 }
   where
-    cursor : slice_index_or w.cursors m w.next ≡ slice_index_or v.cursors m v.next
-    cursor = ap (λ (d : Cursor). slice_index_or w.cursors m d) laid.rest.next ∙ laid.others m v.next other
+    marks : marks_at w m ≡ marks_at v m
+    marks =
+        ap (λ (next : Cursor). slice_index_or w.marks m (record { cursor = next; floor = next; high = next })) laid.rest.next
+        ∙ laid.others m (record { cursor = v.next; floor = v.next; high = v.next }) other
 
-    free : free_at w.cursors m ≡ free_at v.cursors m
-    free = ap (λ (k : Cursor). first_free k 0) (laid.others m (record { frame = 0; channel = 0 }) other)
+    free : free_at w.marks m ≡ free_at v.marks m
+    free = ap (λ (k : Marks). first_free k.cursor 0) (laid.others m no_marks other)
 
 -- the clients after one of them made its call
 IsSettledAt-called : (script : Script) (wavs : List Sound) (v w : View) (p phase client : ℕ) (seats : List Seat) (played : List ℤ) (old new : Seat) (x : ClientView) (wav : Sound)
     (asked : Op) (row : Row) → IsSettledAt script wavs v p seats played → slice_get seats client ≡ Some old → old.client ≡ Some x → slice_get wavs client ≡ Some wav
-    → client < length script.clients → TakesOpen (members_for (length script.clients)) p phase client wav (own_at v.cursors client old x) asked v w new row
+    → client < length script.clients → TakesOpen (members_for (length script.clients)) p phase client wav (own_at v.marks client old x) asked v w new row
     → IsSettledAt script wavs w p (set seats client new) played
 IsSettledAt-called script wavs v w p phase client seats played old new x wav asked row settled here is_open_one file within takes = record {
   ring = subst (λ (g : Geometry). IsRingOf script.card g) (sym laid.rest.geometry) settled.ring;
@@ -202,15 +205,15 @@ IsSettledAt-called script wavs v w p phase client seats played old new x wav ask
         let is_new : seat ≡ new = (let a = ap (λ (n : ℕ). slice_get (set seats client new) n) (sym same) ∙ is_seat in let b = slice_get-set_same seats client old new here in cc) in
         let is_view : takes.new ≡ y = (let a = takes.is in let b = ap (λ (s : Seat). s.client) (sym is_new) ∙ is_open in cc) in
         let is_wav : wav ≡ sound = (let a = ap (λ (n : ℕ). slice_get wavs n) (sym same) ∙ is_file in cc) in
-        subst (λ (n : ℕ). IsSeated members p n sound (slice_index_or (bindings_of script wavs) n []) w (own_at w.cursors n seat y) y) (sym same)
-        (subst (λ (s : Seat). IsSeated members p client sound bound w (own_at w.cursors client s y) y) (sym is_new)
-        (subst (λ (z : ClientView). IsSeated members p client sound bound w (own_at w.cursors client new z) z) is_view
+        subst (λ (n : ℕ). IsSeated members p n sound (slice_index_or (bindings_of script wavs) n []) w (own_at w.marks n seat y) y) (sym same)
+        (subst (λ (s : Seat). IsSeated members p client sound bound w (own_at w.marks client s y) y) (sym is_new)
+        (subst (λ (z : ClientView). IsSeated members p client sound bound w (own_at w.marks client new z) z) is_view
         (subst (λ (s : Sound). IsSeated members p client s bound w new_own takes.new) is_wav seated)))
     | inr other ↦
         IsSeated-other members p client m sound (slice_index_or (bindings_of script wavs) m []) v w calls.entries seat y laid other
         (settled.each m seat y sound (sym (slice_get-set_other seats client m new other) ∙ is_seat) is_open is_file)
   ];
-  mixes = Mixes-laid v w (sums_of script wavs (owns_from v.cursors 0 seats)) (sums_of script wavs (owns_from w.cursors 0 (set seats client new))) played calls.entries laid.stands adds settled.mixes;
+  mixes = Mixes-laid v w (sums_of script wavs (owns_from v.marks 0 seats)) (sums_of script wavs (owns_from w.marks 0 (set seats client new))) played calls.entries laid.stands adds settled.mixes;
 }
   where
     members : ℕ
@@ -219,25 +222,25 @@ IsSettledAt-called script wavs v w p phase client seats played old new x wav ask
     bound : List ℕ
     bound = slice_index_or (bindings_of script wavs) client []
 
-    calls : HasCalledAt members p client wav (own_at v.cursors client old x) asked takes.new v w takes.answer
+    calls : HasCalledAt members p client wav (own_at v.marks client old x) asked takes.new v w takes.answer
     calls = takes.calls
 
     laid : LaysAt client v w takes.calls.entries
     laid = takes.calls.laid
 
     own : Own
-    own = own_at v.cursors client old x
+    own = own_at v.marks client old x
 
     new_own : Own
-    new_own = own_at w.cursors client new takes.new
+    new_own = own_at w.marks client new takes.new
 
-    in_range : client < length w.cursors
+    in_range : client < length w.marks
     in_range = omega (arith, within, laid.rest.members, settled.rests.members_are)
 
     new_is : new_own ≡ (line_done p wav own asked).0
     new_is = own_at-called members p client wav own asked takes.new v w takes.answer new in_range calls takes.ended
 
-    before : IsSeated members p client wav bound v (own_at v.cursors client old x) x
+    before : IsSeated members p client wav bound v (own_at v.marks client old x) x
     before = settled.each client old x wav here is_open_one file
 
     seated : IsSeated members p client wav bound w new_own takes.new
@@ -248,34 +251,34 @@ IsSettledAt-called script wavs v w p phase client seats played old new x wav ask
     }
 
     owns : List (Option Own)
-    owns = owns_from v.cursors 0 seats
+    owns = owns_from v.marks 0 seats
 
     is_own : slice_get owns client ≡ Some (Some own)
-    is_own = owns_from-get v.cursors 0 client seats old here ∙ ap (λ (n : ℕ). Some (own_of v.cursors n old)) (zero-add client)
-        ∙ ap (λ (o : Option ClientView). Some (own_with (free_at v.cursors client) old.ended.items o)) is_open_one
+    is_own = owns_from-get v.marks 0 client seats old here ∙ ap (λ (n : ℕ). Some (own_of v.marks n old)) (zero-add client)
+        ∙ ap (λ (o : Option ClientView). Some (own_with (free_at v.marks client) old.ended.items o)) is_open_one
 
-    owns_are : owns_from w.cursors 0 (set seats client new) ≡ set owns client (Some new_own)
+    owns_are : owns_from w.marks 0 (set seats client new) ≡ set owns client (Some new_own)
     owns_are =
-        owns_from-set v.cursors w.cursors 0 client seats new (λ m other. ap (λ (k : Cursor). first_free k 0) (laid.others m (record { frame = 0; channel = 0 }) (λ e. other (e ∙ sym (zero-add client)))))
-        ∙ ap (λ (n : ℕ). set owns client (own_of w.cursors n new)) (zero-add client)
-        ∙ ap (λ (o : Option ClientView). set owns client (own_with (free_at w.cursors client) new.ended.items o)) takes.is
+        owns_from-set v.marks w.marks 0 client seats new (λ m other. ap (λ (k : Marks). first_free k.cursor 0) (laid.others m no_marks (λ e. other (e ∙ sym (zero-add client)))))
+        ∙ ap (λ (n : ℕ). set owns client (own_of w.marks n new)) (zero-add client)
+        ∙ ap (λ (o : Option ClientView). set owns client (own_with (free_at w.marks client) new.ended.items o)) takes.is
 
-    adds : (f c : ℕ) → sums_of script wavs owns f c +ℤ total calls.entries f c ≡ sums_of script wavs (owns_from w.cursors 0 (set seats client new)) f c
+    adds : (f c : ℕ) → sums_of script wavs owns f c +ℤ total calls.entries f c ≡ sums_of script wavs (owns_from w.marks 0 (set seats client new)) f c
     adds f c =
         let all = bindings_of script wavs in
         let exchanged = total-numbered-set wavs all 0 client owns own new_own f c is_own in
         let at : (o : Own) → own_total wavs all (0 + client) o f c ≡ own_total wavs all client o f c = λ o. ap (λ (n : ℕ). own_total wavs all n o f c) (zero-add client) in
         let more = own_total-called wavs all client wav own new_own asked takes.answer calls.entries f c file (sym before.at.usable.same_member) (sym seated.at.usable.same_member) before.bindings seated.bindings takes.ended calls.grown calls.ending in
-        let same : sums_of script wavs (owns_from w.cursors 0 (set seats client new)) f c ≡ sums_of script wavs (set owns client (Some new_own)) f c = ap (λ (os : List (Option Own)). sums_of script wavs os f c) owns_are in
+        let same : sums_of script wavs (owns_from w.marks 0 (set seats client new)) f c ≡ sums_of script wavs (set owns client (Some new_own)) f c = ap (λ (os : List (Option Own)). sums_of script wavs os f c) owns_are in
         omega (arith, ints, exchanged, at own, at new_own, more, same)
 
 -- a run after a line of a client, by the client after it and the row
 HasRun-client_line : (script : Script) (wavs : List Sound) (phase client : ℕ) (line : Line) (asked : Op) (before after : Body) (old new : Seat) (wav : Sound) (row : Row)
     → line.op ≡ asked → line.actor ≡ Client client → played_by asked ≡ 0
     → slice_get before.seats.items client ≡ Some old → slice_get wavs client ≡ Some wav
-    → ((m : ℕ) → m ≢ client → free_at after.core.cursors m ≡ free_at before.core.cursors m)
-    → own_of after.core.cursors client new ≡ (client_line before.position (Some wav) asked (own_of before.core.cursors client old)).0
-    → row ≡ client_row phase client asked (own_of after.core.cursors client new) (client_line before.position (Some wav) asked (own_of before.core.cursors client old)).1
+    → ((m : ℕ) → m ≢ client → free_at after.core.marks m ≡ free_at before.core.marks m)
+    → own_of after.core.marks client new ≡ (client_line before.position (Some wav) asked (own_of before.core.marks client old)).0
+    → row ≡ client_row phase client asked (own_of after.core.marks client new) (client_line before.position (Some wav) asked (own_of before.core.marks client old)).1
     → after.seats.items ≡ set before.seats.items client new
     → after.rows.items ≡ before.rows.items ++ row ∷ [] → after.position ≡ before.position
     → IsSettled script wavs after → HasRun script wavs ((phase, line) ∷ []) before after
@@ -290,16 +293,16 @@ HasRun-client_line script wavs phase client line asked before after old new wav 
 }
   where
     own : Option Own
-    own = own_of before.core.cursors client old
+    own = own_of before.core.marks client old
 
     owns : List (Option Own)
-    owns = owns_from before.core.cursors 0 before.seats.items
+    owns = owns_from before.core.marks 0 before.seats.items
 
     done : Option Own × Answer
     done = client_line before.position (Some wav) asked own
 
     there : get_or owns client None ≡ own
-    there = get_or_from_slice_get owns client own None (owns_from-get before.core.cursors 0 client before.seats.items old here ∙ ap (λ (n : ℕ). Some (own_of before.core.cursors n old)) (zero-add client))
+    there = get_or_from_slice_get owns client own None (owns_from-get before.core.marks 0 client before.seats.items old here ∙ ap (λ (n : ℕ). Some (own_of before.core.marks n old)) (zero-add client))
 
     done_by : (Option Own × Answer) → Stage × Row
     done_by d = (record { position = before.position; clients = set owns client d.0 }, client_row phase client asked d.0 d.1)
@@ -313,11 +316,11 @@ HasRun-client_line script wavs phase client line asked before after old new wav 
 
     stage_is : stage_of after ≡ (done_by done).0
     stage_is =
-        ap (λ (n : ℕ). let s : Stage = record { position = n; clients = owns_from after.core.cursors 0 after.seats.items } in s) position
+        ap (λ (n : ℕ). let s : Stage = record { position = n; clients = owns_from after.core.marks 0 after.seats.items } in s) position
         ∙ ap (λ (os : List (Option Own)). let s : Stage = record { position = before.position; clients = os } in s)
-        (ap (owns_from after.core.cursors 0) seats
-        ∙ owns_from-set before.core.cursors after.core.cursors 0 client before.seats.items new (λ m other. others m (λ e. other (e ∙ sym (zero-add client))))
-        ∙ ap (λ (n : ℕ). set owns client (own_of after.core.cursors n new)) (zero-add client)
+        (ap (owns_from after.core.marks 0) seats
+        ∙ owns_from-set before.core.marks after.core.marks 0 client before.seats.items new (λ m other. others m (λ e. other (e ∙ sym (zero-add client))))
+        ∙ ap (λ (n : ℕ). set owns client (own_of after.core.marks n new)) (zero-add client)
         ∙ ap (set owns client) own_is)
 
 -- a run after a line of a client
@@ -336,15 +339,15 @@ HasRun-client script wavs phase client line asked before after old new wav row i
         let stays = takes.at_closed closed in
         let same_seat : new ≡ old = stays.0 in
         let same_core : after.core ≡ before.core = stays.1 in
-        let is_none : own_of before.core.cursors client old ≡ None = ap (own_with (free_at before.core.cursors client) old.ended.items) closed in
-        let still_none : own_of after.core.cursors client new ≡ None = ap (own_with (free_at after.core.cursors client) new.ended.items) (ap (λ (s : Seat). s.client) same_seat ∙ closed) in
+        let is_none : own_of before.core.marks client old ≡ None = ap (own_with (free_at before.core.marks client) old.ended.items) closed in
+        let still_none : own_of after.core.marks client new ≡ None = ap (own_with (free_at after.core.marks client) new.ended.items) (ap (λ (s : Seat). s.client) same_seat ∙ closed) in
         let same_seats : after.seats.items ≡ before.seats.items = seats ∙ ap (set before.seats.items client) same_seat ∙ set-slice_get before.seats.items client old here in
-        let line_is : client_line before.position (Some wav) asked (own_of before.core.cursors client old) ≡ (None, closed_answer) = ap (client_line before.position (Some wav) asked) is_none in
+        let line_is : client_line before.position (Some wav) asked (own_of before.core.marks client old) ≡ (None, closed_answer) = ap (client_line before.position (Some wav) asked) is_none in
         HasRun-client_line script wavs phase client line asked before after old new wav row is_op is_actor no_frame here file
-        (λ m other. ap (λ (v : View). free_at v.cursors m) same_core)
+        (λ m other. ap (λ (v : View). free_at v.marks m) same_core)
         (still_none ∙ sym (ap (λ (d : Option Own × Answer). d.0) line_is))
         (stays.2 ∙ ap (λ (o : Option Own). client_row phase client asked o closed_answer) (sym still_none)
-        ∙ ap (client_row phase client asked (own_of after.core.cursors client new)) (sym (ap (λ (d : Option Own × Answer). d.1) line_is)))
+        ∙ ap (client_row phase client asked (own_of after.core.marks client new)) (sym (ap (λ (d : Option Own × Answer). d.1) line_is)))
         seats rows position
         (subst (λ (v : View). IsSettledAt script wavs v after.position after.seats.items after.played.items) (sym same_core)
         (subst (λ (n : ℕ). IsSettledAt script wavs before.core n after.seats.items after.played.items) (sym position)
@@ -353,21 +356,21 @@ HasRun-client script wavs phase client line asked before after old new wav row i
     by_client (Some x) is_open_one =
         let is = settled.each client old x wav here is_open_one file in
         let takes_open = takes.at_open (members_for (length script.clients)) before.position x settled.mixes.history is_open_one settled.mixes.stands is.is_own is.at in
-        let own : Own = own_at before.core.cursors client old x in
+        let own : Own = own_at before.core.marks client old x in
         let calls = takes_open.calls in
-        let is_some : own_of before.core.cursors client old ≡ Some own = ap (own_with (free_at before.core.cursors client) old.ended.items) is_open_one in
-        let new_some : own_of after.core.cursors client new ≡ Some (own_at after.core.cursors client new takes_open.new) = ap (own_with (free_at after.core.cursors client) new.ended.items) takes_open.is in
+        let is_some : own_of before.core.marks client old ≡ Some own = ap (own_with (free_at before.core.marks client) old.ended.items) is_open_one in
+        let new_some : own_of after.core.marks client new ≡ Some (own_at after.core.marks client new takes_open.new) = ap (own_with (free_at after.core.marks client) new.ended.items) takes_open.is in
         let few : client < length script.clients = omega (arith, within, settled.seats_are) in
-        let in_range : client < length after.core.cursors = omega (arith, few, calls.laid.rest.members, settled.rests.members_are) in
-        let new_is : own_at after.core.cursors client new takes_open.new ≡ (line_done before.position wav own asked).0 = own_at-called (members_for (length script.clients)) before.position client wav own asked takes_open.new before.core after.core takes_open.answer new in_range calls takes_open.ended in
+        let in_range : client < length after.core.marks = omega (arith, few, calls.laid.rest.members, settled.rests.members_are) in
+        let new_is : own_at after.core.marks client new takes_open.new ≡ (line_done before.position wav own asked).0 = own_at-called (members_for (length script.clients)) before.position client wav own asked takes_open.new before.core after.core takes_open.answer new in_range calls takes_open.ended in
         let answer_is : takes_open.answer ≡ (line_done before.position wav own asked).1 = ap (λ (d : Plain × Answer). (after_call own asked d).1) calls.outcome in
-        let line_is : client_line before.position (Some wav) asked (own_of before.core.cursors client old) ≡ (Some (line_done before.position wav own asked).0, (line_done before.position wav own asked).1)
+        let line_is : client_line before.position (Some wav) asked (own_of before.core.marks client old) ≡ (Some (line_done before.position wav own asked).0, (line_done before.position wav own asked).1)
         = ap (client_line before.position (Some wav) asked) is_some in
         HasRun-client_line script wavs phase client line asked before after old new wav row is_op is_actor no_frame here file
-        (λ m other. ap (λ (k : Cursor). first_free k 0) (calls.laid.others m (record { frame = 0; channel = 0 }) other))
+        (λ m other. ap (λ (k : Marks). first_free k.cursor 0) (calls.laid.others m no_marks other))
         (new_some ∙ ap Some new_is ∙ sym (ap (λ (d : Option Own × Answer). d.0) line_is))
         (takes_open.row_is ∙ ap (λ (o : Option Own). client_row phase client asked o takes_open.answer) (sym new_some)
-        ∙ ap (client_row phase client asked (own_of after.core.cursors client new)) (answer_is ∙ sym (ap (λ (d : Option Own × Answer). d.1) line_is)))
+        ∙ ap (client_row phase client asked (own_of after.core.marks client new)) (answer_is ∙ sym (ap (λ (d : Option Own × Answer). d.1) line_is)))
         seats rows position
         (subst (λ (n : ℕ). IsSettledAt script wavs after.core n after.seats.items after.played.items) (sym position)
         (subst (λ (s : List Seat). IsSettledAt script wavs after.core before.position s after.played.items) (sym seats)
@@ -377,8 +380,8 @@ HasRun-client script wavs phase client line asked before after old new wav row i
 -- ---- a line of the card
 
 IsSeated-played : (members p frames client : ℕ) (wav : Sound) (bound : List ℕ) (v w : View) (seat : Seat) (x : ClientView)
-    → ((ring : Geometry) (members p : ℕ) → RestsAt ring members p v → RestsAt ring members (p + frames) w) → w.cursors ≡ v.cursors → client < length v.cursors
-    → IsSeated members p client wav bound v (own_at v.cursors client seat x) x → IsSeated members (p + frames) client wav bound w (own_at w.cursors client seat x) x
+    → ((ring : Geometry) (members p : ℕ) → RestsAt ring members p v → RestsAt ring members (p + frames) w) → w.marks ≡ v.marks → client < length v.marks
+    → IsSeated members p client wav bound v (own_at v.marks client seat x) x → IsSeated members (p + frames) client wav bound w (own_at w.marks client seat x) x
 IsSeated-played members p frames client wav bound v w seat x rests same within seated = record {
   is_own = subst (λ (n : ℕ). IsOwn wav (record { plain = x.plain; free = n; ended = seat.ended.items }) x) (sym free) seated.is_own;
   at = record {
@@ -386,11 +389,11 @@ IsSeated-played members p frames client wav bound v w seat x rests same within s
     usable = record {
       same_geometry = now.geometry;
       same_member = seated.at.usable.same_member;
-      can = tt;
-      behind = λ moving going. subst (λ (k : Cursor). IsFrom k (x.plain.card + x.plain.committed) (least_channel x.plain.bindings)) (sym cursor) (seated.at.usable.behind moving going);
+      can = refl;
+      behind = λ moving going. subst (λ (k : Marks). IsFrom k.cursor (x.plain.card + x.plain.committed) (least_channel x.plain.bindings)) (sym marks) (seated.at.usable.behind moving going);
       newer = λ moving going. omega (arith, seated.at.usable.newer moving going, seated.at.rests.published, now.published);
     };
-    free = ap (λ (k : Cursor). first_free k 0) cursor ∙ seated.at.free ∙ sym free;
+    free = ap (λ (k : Marks). first_free k.cursor 0) marks ∙ seated.at.free ∙ sym free;
   };
   bindings = seated.bindings;
 }
@@ -398,17 +401,19 @@ IsSeated-played members p frames client wav bound v w seat x rests same within s
     now : RestsAt x.plain.geometry members (p + frames) w
     now = rests x.plain.geometry members p seated.at.rests
 
-    cursor : slice_index_or w.cursors client w.next ≡ slice_index_or v.cursors client v.next
-    cursor = ap (λ (cs : List Cursor). slice_index_or cs client w.next) same ∙ get_or_default v.cursors client w.next v.next within
+    marks : marks_at w client ≡ marks_at v client
+    marks =
+        ap (λ (ms : List Marks). slice_index_or ms client (record { cursor = w.next; floor = w.next; high = w.next })) same
+        ∙ get_or_default v.marks client (record { cursor = w.next; floor = w.next; high = w.next }) (record { cursor = v.next; floor = v.next; high = v.next }) within
 
-    free : free_at w.cursors client ≡ free_at v.cursors client
-    free = ap (λ (cs : List Cursor). free_at cs client) same
+    free : free_at w.marks client ≡ free_at v.marks client
+    free = ap (λ (cs : List Marks). free_at cs client) same
 
 -- a run after a line of the card
 pub HasRun-card : (script : Script) (wavs : List Sound) (phase frames : ℕ) (line : Line) (before after : Body)
     → line.op ≡ op.Play frames → line.actor ≡ Card → IsSettled script wavs before
     → ((ring : Geometry) (members p : ℕ) → RestsAt ring members p before.core → RestsAt ring members (p + frames) after.core)
-    → after.core.cursors ≡ before.core.cursors
+    → after.core.marks ≡ before.core.marks
     → ((sums : ℕ → ℕ → ℤ) → Mixes before.core sums before.played.items → Mixes after.core sums after.played.items)
     → after.seats ≡ before.seats → after.position ≡ before.position + frames
     → after.rows.items ≡ before.rows.items ++ card_row phase before.position (op.Play frames) ∷ []
@@ -440,18 +445,18 @@ HasRun-card script wavs phase frames line before after is_op is_actor settled re
           IsSeated-played members before.position frames m sound (slice_index_or (bindings_of script wavs) m []) before.core after.core seat x rests cursors
           (let h : m < length before.seats.items = slice_get-within before.seats.items m seat is_seat in omega (arith, h, settled.seats_are, settled.rests.members_are))
           (settled.each m seat x sound is_seat is_open is_file);
-      mixes = subst (λ (cs : List Cursor). Mixes after.core (sums_of script wavs (owns_from cs 0 before.seats.items)) after.played.items) (sym cursors)
-          (mixes (sums_of script wavs (owns_from before.core.cursors 0 before.seats.items)) settled.mixes);
+      mixes = subst (λ (cs : List Marks). Mixes after.core (sums_of script wavs (owns_from cs 0 before.seats.items)) after.played.items) (sym cursors)
+          (mixes (sums_of script wavs (owns_from before.core.marks 0 before.seats.items)) settled.mixes);
     }
 
     stage_by : Stage × Row
-    stage_by = (record { position = before.position + frames; clients = owns_from before.core.cursors 0 before.seats.items }, card_row phase before.position (op.Play frames))
+    stage_by = (record { position = before.position + frames; clients = owns_from before.core.marks 0 before.seats.items }, card_row phase before.position (op.Play frames))
 
     is_line : line_by wavs (stage_of before) phase line.op line.actor ≡ stage_by
     is_line = ap (λ (o : Op). line_by wavs (stage_of before) phase o line.actor) is_op ∙ ap (line_by wavs (stage_of before) phase (op.Play frames)) is_actor
 
     stage_is : stage_of after ≡ stage_by.0
     stage_is =
-        ap (λ (n : ℕ). let s : Stage = record { position = n; clients = owns_from after.core.cursors 0 after.seats.items } in s) position
-        ∙ ap (λ (cs : List Cursor). let s : Stage = record { position = before.position + frames; clients = owns_from cs 0 after.seats.items } in s) cursors
-        ∙ ap (λ (xs : List Seat). let s : Stage = record { position = before.position + frames; clients = owns_from before.core.cursors 0 xs } in s) same_seats
+        ap (λ (n : ℕ). let s : Stage = record { position = n; clients = owns_from after.core.marks 0 after.seats.items } in s) position
+        ∙ ap (λ (cs : List Marks). let s : Stage = record { position = before.position + frames; clients = owns_from cs 0 after.seats.items } in s) cursors
+        ∙ ap (λ (xs : List Seat). let s : Stage = record { position = before.position + frames; clients = owns_from before.core.marks 0 xs } in s) same_seats

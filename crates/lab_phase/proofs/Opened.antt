@@ -11,7 +11,8 @@ use Rattle.snd_base.specs.declared.places.Segment.{Segment}
 use Rattle.snd_base.specs.Places.{first_frame, first_free}
 use Rattle.mix_core.specs.Calls.{IsNew}
 use Rattle.mix_core.specs.Laid.{total}
-use Rattle.mix_core.specs.View.{View}
+use Rattle.mix_core.specs.View.{View, cursor_at}
+use Rattle.mix_core.specs.declared.marks.Marks.{Marks}
 use Rattle.dmix_client.specs.declared.plain.Plain.{Plain}
 use Rattle.dmix_client.specs.Calls.{configured_with, opened}
 use Rattle.dmix_client.specs.View.{ClientView}
@@ -27,7 +28,7 @@ use Rattle.lab_phase.specs.Lines.{Own, segments_of}
 use Rattle.lab_phase.specs.Meaning.{AreFiles, Stage, bindings_of, client_row, entries_of, numbered, open_row}
 use Rattle.lab_phase.specs.Mixes.{RestsAt}
 use Rattle.lab_phase.specs.Opening.{IsOpening, IsRingOf, Setup, bound_by, open_answer, opened_with}
-use Rattle.lab_phase.specs.Stages.{AddsSeat, HasOpened, IsClientOf, IsOpenedAs, IsOpeningRow, IsSeated, IsSettledAt, free_at, members_for, own_at, own_of, own_with, owns_from, stage_of}
+use Rattle.lab_phase.specs.Stages.{AddsSeat, HasOpened, IsClientOf, IsOpenedAs, IsOpeningRow, IsSeated, IsSettledAt, free_at, members_for, no_marks, own_at, own_of, own_with, owns_from, stage_of}
 use Rattle.lab_phase.proofs.Owns.{owns_from-get, owns_from-length, slice_get-within}
 
 -- ---- lists by their places
@@ -180,16 +181,16 @@ numbered-nothing first (Some own ∷ owns) none =
     ∙ numbered-nothing (first + 1) owns (λ k o is. none (suc k) o is)
 
 seated-opened : (script : Script) (members k : ℕ) (line : ClientLine) (wav : Sound) (bound : List ℕ) (core : View) (seat : Seat) (v : ClientView) (setup : Option Setup)
-    → RestsAt core.geometry members 0 core → first_free (slice_index_or core.cursors k core.next) 0 ≡ 0 → free_at core.cursors k ≡ 0
+    → RestsAt core.geometry members 0 core → first_free (cursor_at core k) 0 ≡ 0 → free_at core.marks k ≡ 0
     → IsOpening script.card line wav setup → IsClientOf wav (opened_with script.card core.geometry k setup) (Some v) → seat.ended.items ≡ [] → bound ≡ bound_by line wav
-    → IsSeated members 0 k wav bound core (own_at core.cursors k seat v) v
+    → IsSeated members 0 k wav bound core (own_at core.marks k seat v) v
 seated-opened script members k line wav bound core seat v None rests cursor free opening is none is_bound = absurd is
 seated-opened script members k line wav bound core seat v (Some setup) rests cursor free opening is none is_bound =
     subst (λ (o : Own). IsSeated members 0 k wav bound core o v) (sym own_is) (record {
       is_own = is;
       at = record {
         rests = rests;
-        usable = record { same_geometry = refl; same_member = refl; can = tt; behind = λ moving going. absurd (cc); newer = λ moving going. absurd (cc) };
+        usable = record { same_geometry = refl; same_member = refl; can = refl; behind = λ moving going. absurd (cc); newer = λ moving going. absurd (cc) };
         free = cursor;
       };
       bindings = opening.1 ∙ sym is_bound;
@@ -198,9 +199,9 @@ seated-opened script members k line wav bound core seat v (Some setup) rests cur
     first : Plain
     first = configured_with (opened core.geometry k script.card.period) setup.config setup.bindings
 
-    own_is : own_at core.cursors k seat v ≡ (let o : Own = record { plain = first; free = 0; ended = [] } in o)
+    own_is : own_at core.marks k seat v ≡ (let o : Own = record { plain = first; free = 0; ended = [] } in o)
     own_is =
-        ap (λ (c : Plain). let o : Own = record { plain = c; free = free_at core.cursors k; ended = seat.ended.items } in o) is.same
+        ap (λ (c : Plain). let o : Own = record { plain = c; free = free_at core.marks k; ended = seat.ended.items } in o) is.same
         ∙ ap (λ (n : ℕ). let o : Own = record { plain = first; free = n; ended = seat.ended.items } in o) free
         ∙ ap (λ (s : List Segment). let o : Own = record { plain = first; free = 0; ended = s } in o) none
 
@@ -283,27 +284,28 @@ HasOpened-seated script wavs body begun g members files begins same_core is_ring
       plugged = new.gone;
     }
 
-    cursor_at_start : (k : ℕ) (d : Cursor) → k < n → first_free (slice_index_or core.cursors k d) 0 ≡ 0
-    cursor_at_start k d within = ap (λ (c : Cursor). first_free c 0) (new.cursors k d (omega (arith, within, members_is)) ∙ ap at starts)
+    marks_at_start : (k : ℕ) (d : Marks) → k < n → first_free (slice_index_or core.marks k d).cursor 0 ≡ 0
+    marks_at_start k d within =
+        ap (λ (m : Marks). first_free m.cursor 0) (new.marks k d (omega (arith, within, members_is))) ∙ ap (λ (c : Cursor). first_free c 0) (ap at starts)
 
     owns : List (Option Own)
-    owns = owns_from core.cursors 0 body.seats.items
+    owns = owns_from core.marks 0 body.seats.items
 
     own_at_place : (k : ℕ) (within : k < n) → slice_get owns k ≡ Some (opened_with script.card core.geometry k (get_or chosen.setups k None))
     own_at_place k within =
         let here = place k within in
-        owns_from-get core.cursors 0 k body.seats.items here.seat here.is_seat
-        ∙ ap (λ (m : ℕ). Some (own_of core.cursors m here.seat)) (zero-add k)
-        ∙ ap Some (opened_own script.card core.geometry k here.wav (get_or chosen.setups k None) here.seat.client (free_at core.cursors k) here.seat.ended.items here.client_is (cursor_at_start k (at 0) within) here.none_ended)
+        owns_from-get core.marks 0 k body.seats.items here.seat here.is_seat
+        ∙ ap (λ (m : ℕ). Some (own_of core.marks m here.seat)) (zero-add k)
+        ∙ ap Some (opened_own script.card core.geometry k here.wav (get_or chosen.setups k None) here.seat.client (free_at core.marks k) here.seat.ended.items here.client_is (marks_at_start k no_marks within) here.none_ended)
 
     owns_are : owns ≡ map (λ client. opened_with script.card core.geometry client (slice_index_or chosen.setups client None)) (range_with_len 0 (length chosen.setups))
     owns_are = fill_by_all (λ client. opened_with script.card core.geometry client (slice_index_or chosen.setups client None)) owns (length chosen.setups) None
-        (owns_from-length core.cursors 0 body.seats.items ∙ seated.seats_are ∙ sym chosen.count)
+        (owns_from-length core.marks 0 body.seats.items ∙ seated.seats_are ∙ sym chosen.count)
         (λ k within. get_or_from_slice_get owns k (opened_with script.card core.geometry k (slice_index_or chosen.setups k None)) None (own_at_place k (omega (arith, within, chosen.count))))
 
     no_segments : numbered 0 owns ≡ []
     no_segments = numbered-nothing 0 owns (λ k own is.
-        let within : k < n = omega (arith, slice_get-within owns k (Some own) is, owns_from-length core.cursors 0 body.seats.items, seated.seats_are) in
+        let within : k < n = omega (arith, slice_get-within owns k (Some own) is, owns_from-length core.marks 0 body.seats.items, seated.seats_are) in
         let same : opened_with script.card core.geometry k (get_or chosen.setups k None) ≡ Some own = (let a = own_at_place k within in cc) in
         opened_segments script.card core.geometry k (get_or chosen.setups k None) own same)
 
@@ -313,12 +315,12 @@ HasOpened-seated script wavs body begun g members files begins same_core is_ring
     row_is : (k : ℕ) → k < n → get_or body.rows.items k no_row ≡ open_row (stage_of body) k
     row_is k within =
         let here = place k within in
-        let free = free_at core.cursors k in
+        let free = free_at core.marks k in
         get_or_from_slice_get body.rows.items k here.row no_row here.is_row
         ∙ opened_row k here.seat.client here.row free here.seat.ended.items here.row_is
         ∙ ap (λ (o : Option Own). client_row 0 k op.Opens o (open_answer o))
-        (sym (get_or_from_slice_get owns k (own_of core.cursors k here.seat) None
-        (owns_from-get core.cursors 0 k body.seats.items here.seat here.is_seat ∙ ap (λ (m : ℕ). Some (own_of core.cursors m here.seat)) (zero-add k))))
+        (sym (get_or_from_slice_get owns k (own_of core.marks k here.seat) None
+        (owns_from-get core.marks 0 k body.seats.items here.seat here.is_seat ∙ ap (λ (m : ℕ). Some (own_of core.marks m here.seat)) (zero-add k))))
 
     bound_is : (k : ℕ) (line : ClientLine) (wav : Sound) → slice_get script.clients k ≡ Some line → slice_get wavs k ≡ Some wav → slice_index_or (bindings_of script wavs) k [] ≡ bound_by line wav
     bound_is k line wav is_line is_wav =
@@ -328,7 +330,7 @@ HasOpened-seated script wavs body begun g members files begins same_core is_ring
         ∙ ap (λ (pair : ClientLine × Sound). bound_by pair.0 pair.1) (get_or_from_slice_get (zip script.clients wavs) k (line, wav) (line, wav) there)
 
     each_seated : (k : ℕ) (seat : Seat) (v : ClientView) (wav : Sound) → slice_get body.seats.items k ≡ Some seat → seat.client ≡ Some v → slice_get wavs k ≡ Some wav
-        → IsSeated (members_for n) 0 k wav (slice_index_or (bindings_of script wavs) k []) core (own_at core.cursors k seat v) v
+        → IsSeated (members_for n) 0 k wav (slice_index_or (bindings_of script wavs) k []) core (own_at core.marks k seat v) v
     each_seated k seat v wav is_seat is_open is_wav =
         let within : k < n = omega (arith, slice_get-within body.seats.items k seat is_seat, seated.seats_are) in
         let here = place k within in
@@ -336,9 +338,9 @@ HasOpened-seated script wavs body begun g members files begins same_core is_ring
         let same_wav : here.wav ≡ wav = (let a = here.is_wav in cc) in
         let client : IsClientOf here.wav (opened_with script.card core.geometry k (get_or chosen.setups k None)) (Some v) =
         subst (λ (c : Option ClientView). IsClientOf here.wav (opened_with script.card core.geometry k (get_or chosen.setups k None)) c) (ap (λ (s : Seat). s.client) same_seat ∙ is_open) here.client_is in
-        subst (λ (w : Sound). IsSeated (members_for n) 0 k w (slice_index_or (bindings_of script wavs) k []) core (own_at core.cursors k seat v) v) same_wav
+        subst (λ (w : Sound). IsSeated (members_for n) 0 k w (slice_index_or (bindings_of script wavs) k []) core (own_at core.marks k seat v) v) same_wav
         (seated-opened script (members_for n) k here.line here.wav (slice_index_or (bindings_of script wavs) k []) core seat v (get_or chosen.setups k None) rests
-        (cursor_at_start k core.next within) (cursor_at_start k (at 0) within) here.opening client (ap (λ (s : Seat). s.ended.items) (sym same_seat) ∙ here.none_ended)
+        (marks_at_start k (record { cursor = core.next; floor = core.next; high = core.next }) within) (marks_at_start k no_marks within) here.opening client (ap (λ (s : Seat). s.ended.items) (sym same_seat) ∙ here.none_ended)
         (bound_is k here.line here.wav here.is_line here.is_wav))
 
     Triple : Type 0

@@ -84,7 +84,7 @@ IsOwn-opened wav g client lead config bindings v same sound channels =
       whole = refl;
       going = refl;
       channels = channels;
-      pending = λ j q low high within. absurd (omega (arith, high));
+      stands = λ j q low high within. absurd (omega (arith, high));
       behind = λ some. absurd (omega (arith, some));
       on_card = subst (λ (c : Plain). IsOnCard c.bindings c.geometry) same (record { bound = set_up.bound; below = set_up.on_card });
       prepared = λ waits. refl;

@@ -1,7 +1,7 @@
 -- The clients of a run as a report has them, one by one.
 use Rattle.std.proofs.Common.{◌≡◌, ◌≢◌, ℕ, zero, suc, ◌<◌, ◌≤◌, ◌+◌, List, [], ◌∷◌, refl, sym, ◌∙◌, ap, arith, length, set, add-zero}
 use Rattle.std.specs.Prelude.{Option, Some, slice_get}
-use Rattle.snd_base.specs.declared.places.Cursor.{Cursor}
+use Rattle.mix_core.specs.declared.marks.Marks.{Marks}
 use Rattle.lab_phase.specs.declared.seat.Seat.{Seat}
 use Rattle.lab_phase.specs.Lines.{Own}
 use Rattle.lab_phase.specs.Stages.{free_at, own_of, own_with, owns_from}
@@ -24,44 +24,44 @@ slice_get-set_other (z ∷ xs) zero (suc j) y other = refl
 slice_get-set_other (z ∷ xs) (suc i) zero y other = refl
 slice_get-set_other (z ∷ xs) (suc i) (suc j) y other = slice_get-set_other xs i j y (λ e. other (ap suc e))
 
-pub owns_from-length : (cursors : List Cursor) (first : ℕ) (seats : List Seat) → length (owns_from cursors first seats) ≡ length seats
-owns_from-length cursors first [] = refl
-owns_from-length cursors first (seat ∷ seats) = ap suc (owns_from-length cursors (first + 1) seats)
+pub owns_from-length : (marks : List Marks) (first : ℕ) (seats : List Seat) → length (owns_from marks first seats) ≡ length seats
+owns_from-length marks first [] = refl
+owns_from-length marks first (seat ∷ seats) = ap suc (owns_from-length marks (first + 1) seats)
 
 -- the client of a seat
-pub owns_from-get : (cursors : List Cursor) (first client : ℕ) (seats : List Seat) (seat : Seat) → slice_get seats client ≡ Some seat
-    → slice_get (owns_from cursors first seats) client ≡ Some (own_of cursors (first + client) seat)
-owns_from-get cursors first client [] seat is = absurd (cc)
-owns_from-get cursors first zero (s ∷ seats) seat is =
+pub owns_from-get : (marks : List Marks) (first client : ℕ) (seats : List Seat) (seat : Seat) → slice_get seats client ≡ Some seat
+    → slice_get (owns_from marks first seats) client ≡ Some (own_of marks (first + client) seat)
+owns_from-get marks first client [] seat is = absurd (cc)
+owns_from-get marks first zero (s ∷ seats) seat is =
     let same : s ≡ seat = cc in
-    ap (λ (x : Seat). Some (own_of cursors first x)) same ∙ ap (λ (n : ℕ). Some (own_of cursors n seat)) (sym (add-zero first))
-owns_from-get cursors first (suc client) (s ∷ seats) seat is =
+    ap (λ (x : Seat). Some (own_of marks first x)) same ∙ ap (λ (n : ℕ). Some (own_of marks n seat)) (sym (add-zero first))
+owns_from-get marks first (suc client) (s ∷ seats) seat is =
     let place : first + 1 + client ≡ first + suc client = omega arith in
-    owns_from-get cursors (first + 1) client seats seat is ∙ ap (λ (n : ℕ). Some (own_of cursors n seat)) place
+    owns_from-get marks (first + 1) client seats seat is ∙ ap (λ (n : ℕ). Some (own_of marks n seat)) place
 
--- where the cursors of some clients stay, so do they
-pub owns_from-same : (cursors others : List Cursor) (first : ℕ) (seats : List Seat) → ((m : ℕ) → first ≤ m → free_at others m ≡ free_at cursors m)
-    → owns_from others first seats ≡ owns_from cursors first seats
-owns_from-same cursors others first [] same = refl
-owns_from-same cursors others first (seat ∷ seats) same =
-    let here : own_of others first seat ≡ own_of cursors first seat = ap (λ (n : ℕ). own_with n seat.ended.items seat.client) (same first (omega arith)) in
+-- where the marks of some clients stay, so do they
+pub owns_from-same : (marks others : List Marks) (first : ℕ) (seats : List Seat) → ((m : ℕ) → first ≤ m → free_at others m ≡ free_at marks m)
+    → owns_from others first seats ≡ owns_from marks first seats
+owns_from-same marks others first [] same = refl
+owns_from-same marks others first (seat ∷ seats) same =
+    let here : own_of others first seat ≡ own_of marks first seat = ap (λ (n : ℕ). own_with n seat.ended.items seat.client) (same first (omega arith)) in
     ap (λ (o : Option Own). o ∷ owns_from others (first + 1) seats) here
-    ∙ ap (λ (os : List (Option Own)). own_of cursors first seat ∷ os) (owns_from-same cursors others (first + 1) seats (λ m h. same m (omega (arith, h))))
+    ∙ ap (λ (os : List (Option Own)). own_of marks first seat ∷ os) (owns_from-same marks others (first + 1) seats (λ m h. same m (omega (arith, h))))
 
--- a seat that is exchanged, where the cursors of the others stay
-pub owns_from-set : (cursors others : List Cursor) (first client : ℕ) (seats : List Seat) (new : Seat) → ((m : ℕ) → m ≢ first + client → free_at others m ≡ free_at cursors m)
-    → owns_from others first (set seats client new) ≡ set (owns_from cursors first seats) client (own_of others (first + client) new)
-owns_from-set cursors others first client [] new same = refl
-owns_from-set cursors others first zero (seat ∷ seats) new same =
+-- a seat that is exchanged, where the marks of the others stay
+pub owns_from-set : (marks others : List Marks) (first client : ℕ) (seats : List Seat) (new : Seat) → ((m : ℕ) → m ≢ first + client → free_at others m ≡ free_at marks m)
+    → owns_from others first (set seats client new) ≡ set (owns_from marks first seats) client (own_of others (first + client) new)
+owns_from-set marks others first client [] new same = refl
+owns_from-set marks others first zero (seat ∷ seats) new same =
     ap (λ (n : ℕ). own_of others n new ∷ owns_from others (first + 1) seats) (sym (add-zero first))
-    ∙ ap (λ (os : List (Option Own)). own_of others (first + 0) new ∷ os) (owns_from-same cursors others (first + 1) seats (λ m h. same m (λ e. absurd (omega (arith, h, e)))))
-owns_from-set cursors others first (suc client) (seat ∷ seats) new same =
+    ∙ ap (λ (os : List (Option Own)). own_of others (first + 0) new ∷ os) (owns_from-same marks others (first + 1) seats (λ m h. same m (λ e. absurd (omega (arith, h, e)))))
+owns_from-set marks others first (suc client) (seat ∷ seats) new same =
     let place : first + 1 + client ≡ first + suc client = omega arith in
-    let here : own_of others first seat ≡ own_of cursors first seat = ap (λ (n : ℕ). own_with n seat.ended.items seat.client) (same first (λ e. absurd (omega (arith, e)))) in
+    let here : own_of others first seat ≡ own_of marks first seat = ap (λ (n : ℕ). own_with n seat.ended.items seat.client) (same first (λ e. absurd (omega (arith, e)))) in
     ap (λ (o : Option Own). o ∷ owns_from others (first + 1) (set seats client new)) here
-    ∙ ap (λ (os : List (Option Own)). own_of cursors first seat ∷ os)
-    (owns_from-set cursors others (first + 1) client seats new (λ m other. same m (λ e. other (e ∙ sym place)))
-    ∙ ap (λ (n : ℕ). set (owns_from cursors (first + 1) seats) client (own_of others n new)) place)
+    ∙ ap (λ (os : List (Option Own)). own_of marks first seat ∷ os)
+    (owns_from-set marks others (first + 1) client seats new (λ m other. same m (λ e. other (e ∙ sym place)))
+    ∙ ap (λ (n : ℕ). set (owns_from marks (first + 1) seats) client (own_of others n new)) place)
 
 pub slice_get-within : {X : Type 0} (xs : List X) (i : ℕ) (x : X) → slice_get xs i ≡ Some x → i < length xs
 slice_get-within [] i x is = absurd (cc)

@@ -1,152 +1,145 @@
--- What a load and the commit behind it come to over a turn whose core rests at a position.
-use Rattle.std.proofs.Common.{◌≡◌, ℕ, ◌<◌, ◌+◌, List, [], ◌∷◌, ◌++◌, refl, sym, ◌∙◌, ap, subst, arith, map, length}
+-- What a course takes over a turn whose core rests at a position: every load gives this position, and an entry is late exactly
+-- where its frame is before it.
+use Rattle.std.proofs.Common.{◌≡◌, ℕ, ◌<◌, ◌≤◌, ◌+◌, List, [], ◌∷◌, refl, sym, ◌∙◌, ap, subst, arith}
 use Rattle.std.proofs.lemmas.Bool.Decides.{nat_tests}
-use Rattle.std.proofs.lemmas.List.Elements.{All-get_or, All-head}
-use Rattle.std.specs.Prelude.{ℤ, Bool, Option, None, Some, IfSome, false, slice_index}
-use Rattle.std.specs.Option.{option_to_list}
+use Rattle.std.proofs.lemmas.List.Elements.{All-head}
+use Rattle.std.specs.Prelude.{Bool, false, Option, None, Some}
 use Rattle.snd_base.specs.declared.geometry.Geometry.{Geometry}
 use Rattle.snd_base.specs.declared.places.Cursor.{Cursor}
-use Rattle.snd_base.specs.Places.{first_free}
+use Rattle.snd_base.specs.Places.{behind, first_free}
+use Rattle.mix_core.specs.declared.gate.Gate as gates
+use Rattle.mix_core.specs.declared.marks.Marks.{Marks}
+use Rattle.mix_core.specs.declared.port.Ended.{Ended}
+use Rattle.mix_core.specs.declared.port.Ended.TheVariants.{Whole, Late, Stopped}
 use Rattle.mix_core.specs.declared.port.Entry.{Entry}
+use Rattle.mix_core.specs.declared.port.Kind.{Kind}
+use Rattle.mix_core.specs.declared.port.Kind.TheVariants.{Added, Withdrawn}
+use Rattle.mix_core.specs.declared.port.MixPort as mixport
 use Rattle.mix_core.specs.declared.port.Position.{Position}
 use Rattle.mix_core.specs.declared.turn.Turn.{Turn}
-use Rattle.mix_core.specs.History.{Row, row_of}
-use Rattle.mix_core.specs.Port.{IsPast}
-use Rattle.mix_core.specs.Stands.{Stands}
-use Rattle.mix_core.specs.TakenLaws.{taken-late}
-use Rattle.mix_core.specs.Turn.{TurnLaid, TurnLoaded, core_of}
-use Rattle.mix_core.specs.View.{word_at}
-use Rattle.bindings.specs.Bound.{rising}
-use Rattle.bindings.specs.RisingLaws.{rising-within}
-use Rattle.dmix_client.specs.declared.commit.Commit.{Commit}
-use Rattle.dmix_client.specs.declared.commit.Ended.{Ended}
-use Rattle.dmix_client.specs.declared.commit.Ended.TheVariants.{Whole, Late, Stopped}
-use Rattle.dmix_client.specs.declared.plain.Plain.{Plain}
-use Rattle.dmix_client.specs.Calls.{Answered, commit_entries, end_channel, end_of_commit}
-use Rattle.dmix_client.specs.Port.{IsCommit, IsFound, IsOnCard, OnLate, StoppedBy, TakesStep, ToldBy, entries_at}
+use Rattle.mix_core.specs.Laid.{marked}
+use Rattle.mix_core.specs.Turn.{KeepsRest, TurnFinds, TurnLaid, TurnLoaded, core_of, cursor_of_turn, marks_of_turn}
+use Rattle.mix_core.specs.View.{View}
+use Rattle.course.specs.declared.capture.Got.{Got}
+use Rattle.course.specs.AtPort.{LaysAt, LoadsAt, NoGet, TakesAt}
+use Rattle.course.specs.Course.{Course, Takes}
+use Rattle.course.specs.CourseLaws.{Takes-follow}
 use Rattle.lab_phase.specs.Mixes.{RestsAt}
-use Rattle.lab_phase.specs.Rest.{commit_at, resting}
-use Rattle.lab_phase.proofs.Alike.{IsLike}
-use Rattle.lab_phase.proofs.Commits.{commit_rests}
+use Rattle.lab_phase.specs.Rest.{resting}
 
--- what a turn shows
-abbrev pub geometry_of_turn : Turn → Geometry
-geometry_of_turn t = (core_of t).geometry
+-- ---- a port by its first frame that it may still lay into whole, while the card rests
 
-abbrev pub shown_by : Turn → ℕ → ℕ → Option ℕ
-shown_by t f c = Some (word_at (core_of t) f c)
+-- this frame behind an entry
+abbrev pub free_behind : Kind → ℕ → ℕ → ℕ
+free_behind Added frame channel = frame + 1
+free_behind Withdrawn frame channel = first_free (record { frame = frame; channel = channel }) 0
 
--- a late frame at a turn whose core rests was played: it stands before the position
-pub late_before : (ring : Geometry) (members p : ℕ) (t u : Turn) (es : List Entry) (h : List Row) (f c word : ℕ) → Stands (core_of t) h → TurnLaid t u es
-    → RestsAt ring members p (core_of t) → c < ring.channels → f < p + ring.frames
-    → IsPast geometry_of_turn shown_by u f c word → f < p
-late_before ring members p t u es h f c word stands laid rests in_range ahead late =
-    let g : (core_of u).geometry ≡ ring = laid.rest.geometry ∙ rests.geometry in
-    let at : (core_of u).position ≡ p = laid.rest.position ∙ rests.published in
-    let next : (core_of u).next ≡ record { frame = p; channel = 0 } = laid.rest.next ∙ rests.next in
-    let here : c < (core_of u).geometry.channels = subst (λ (x : Geometry). c < x.channels) (sym g) in_range in
-    let near : f < (core_of u).position + (core_of u).geometry.frames =
-    subst (λ (x : Geometry). f < (core_of u).position + x.frames) (sym g) (omega arith) in
-    let taken : f < first_free (core_of u).next c = taken-late u (h ++ map row_of es) f c word (laid.stands h stands) here near late in
-    let free : first_free (core_of u).next c ≡ p = ap (λ (x : Cursor). first_free x c) next ∙ grind (arith, nat_tests) in
-    omega (arith, taken, free)
+abbrev pub LoadsRest : ℕ → ℕ → Option Position → ℕ → Type 0
+LoadsRest p free load after = (load ≡ Some (resting p)) × (after ≡ free)
 
--- what a call with one load and one commit found while the card rests
-pub record Rested {T : Type 0} (p : ℕ) (t u : Turn) (ring : List ℤ) (at : Position → Plain) (count : Position → ℕ) (channels : ℕ) (call : Option Position → Commit → Answered T) (done : Answered T) : Type 0 where
-  pub commit : Commit
-  pub like : IsLike commit (commit_at p (at (resting p)) (count (resting p)))
-  pub is_commit : IsCommit commit.ended commit.frames commit.part (count (resting p)) channels
-  pub outcome : call (Some (resting p)) commit ≡ done
-  pub laid : TurnLaid t u (commit_entries (at (resting p)) ring commit)
+abbrev pub lays_rest : Ended → ℕ → ℕ → Entry → ℕ → Type 0
+lays_rest Whole p free e after = (p ≤ e.frame) × (after ≡ free_behind e.kind e.frame e.channel)
+lays_rest (Late word) p free e after = (e.frame < p) × (after ≡ free)
+lays_rest Stopped p free e after = ⊥
 
-not_stopped : (e : Ended) → ToldBy e 0 0 → (e ≡ Stopped → ⊥)
-not_stopped Whole told is = absurd (cc)
-not_stopped (Late word) told is = absurd (cc)
-not_stopped Stopped told is = absurd (omega (arith, told))
+abbrev pub LaysRest : ℕ → ℕ → Entry → Ended → ℕ → Type 0
+LaysRest p free e ended after = lays_rest ended p free e after
 
-pub late_at_rest : (e : Ended) (P Q : ℕ → Type 0) → ((word : ℕ) → e ≡ Late word → P word → Q word) → OnLate e P → OnLate e Q
-late_at_rest Whole P Q follows late = tt
-late_at_rest (Late word) P Q follows late = follows word refl late
-late_at_rest Stopped P Q follows late = tt
+abbrev pub NeverGets : ℕ → ℕ → Got → ℕ → Type 0
+NeverGets free frame got after = ⊥
 
--- a position that was loaded is the core's
-pub loaded_position : (ring : Geometry) (members p : ℕ) (t u : Turn) (position : Position) → RestsAt ring members p (core_of t)
-    → TurnLoaded t u (position ∷ []) → position ≡ resting p
-loaded_position ring members p t u position rests loaded =
-    let each = All-head (λ (x : Position). (x.frame ≡ (core_of t).position) × (x.gone ≡ (core_of t).gone)) position [] loaded.each in
-    let frame : position.frame ≡ p = each.0 ∙ rests.published in
-    let gone : position.gone ≡ false = each.1 ∙ rests.plugged in
-    ap (λ (f : ℕ). let x : Position = record { frame = f; gone = position.gone } in x) frame
-    ∙ ap (λ (b : Bool). let x : Position = record { frame = p; gone = b } in x) gone
+-- a course is taken so while the card rests at a position
+abbrev pub TakesRest : {X : Type 0} → ℕ → ℕ → Course X → ℕ → X → Type 0
+TakesRest p free course after result = Takes (LoadsRest p) (LaysRest p) NeverGets free course after result
 
--- the card channel at which a commit of bound channels ended is one of the card's
-pub end_channel-within : (ring : Geometry) (c : Plain) (x : Commit) → IsOnCard c.bindings ring → x.part < length c.bindings → end_channel c x < ring.channels
-end_channel-within ring c x on_card within =
-    All-get_or (λ (k : ℕ). k < ring.channels) c.bindings (slice_index (rising c.bindings) x.part) 0 (rising-within c.bindings x.part on_card.bound within) on_card.below
+-- ---- a turn
 
--- a commit that ended late ended before its end
-pub late_within : (e : Ended) (frames part count channels word : ℕ) → e ≡ Late word → IsCommit e frames part count channels → (frames < count) × (part < channels)
-late_within Whole frames part count channels word is commit = absurd (cc)
-late_within (Late other) frames part count channels word is commit = commit
-late_within Stopped frames part count channels word is commit = absurd (cc)
+-- a turn at rest, and the first frame that it may still lay into whole
+pub record IsAtRest (ring : Geometry) (members p : ℕ) (t : Turn) (free : ℕ) : Type 0 where
+  pub rests : RestsAt ring members p (core_of t)
+  pub free_is : first_free (cursor_of_turn t) 0 ≡ free
 
--- a commit at rest is the one that is late exactly where its first frame was played
-pub rested_like : (ring : Geometry) (members p : ℕ) (t u : Turn) (h : List Row) (samples : List ℤ) (at : Position → Plain) (count : Position → ℕ)
-    (x : Commit) → IsFound (Some (resting p)) x at count (length (at (resting p)).bindings)
-    → TurnLaid t u (commit_entries (at (resting p)) samples x)
-    → OnLate x.ended (λ word. IsPast geometry_of_turn shown_by u (end_of_commit (at (resting p)) x) (end_channel (at (resting p)) x) word)
-    → ToldBy x.ended 0 0 → Stands (core_of t) h → RestsAt ring members p (core_of t) → IsOnCard (at (resting p)).bindings ring
-    → ((n : ℕ) → n < count (resting p) → (at (resting p)).card + ((at (resting p)).committed + n) < p + ring.frames)
-    → IsLike x (commit_at p (at (resting p)) (count (resting p)))
-rested_like ring members p t u h samples at count x found laid shown told stands rests on_card ahead =
-    let c : Plain = at (resting p) in
-    let late : OnLate x.ended (λ word. c.card + (c.committed + x.frames) < p) =
-    late_at_rest x.ended (λ word. IsPast geometry_of_turn shown_by u (end_of_commit c x) (end_channel c x) word) (λ word. c.card + (c.committed + x.frames) < p)
-    (λ word is past.
-    let within = late_within x.ended x.frames x.part (count (resting p)) (length c.bindings) word is found.commit_is in
-    late_before ring members p t u (commit_entries c samples x) h (end_of_commit c x) (end_channel c x) word stands laid rests
-    (end_channel-within ring c x on_card within.1) (ahead x.frames within.0) past)
-    shown in
-    commit_rests p (count (resting p)) (length c.bindings) c x found.commit_is found.in_time late (not_stopped x.ended told)
-
--- what a load of the position and the commit behind it found
-rested_at : {T : Type 0} (ring : Geometry) (members p : ℕ) (t u : Turn) (h : List Row) (samples : List ℤ) (at : Position → Plain) (count : Position → ℕ) (call : Option Position → Commit → Answered T) (done : Answered T)
-    (x : Commit) → IsFound (Some (resting p)) x at count (length (at (resting p)).bindings) → call (Some (resting p)) x ≡ done
-    → TurnLaid t u (commit_entries (at (resting p)) samples x)
-    → OnLate x.ended (λ word. IsPast geometry_of_turn shown_by u (end_of_commit (at (resting p)) x) (end_channel (at (resting p)) x) word)
-    → ToldBy x.ended 0 0 → Stands (core_of t) h → RestsAt ring members p (core_of t) → IsOnCard (at (resting p)).bindings ring
-    → ((n : ℕ) → n < count (resting p) → (at (resting p)).card + ((at (resting p)).committed + n) < p + ring.frames)
-    → Rested p t u samples at count (length (at (resting p)).bindings) call done
-rested_at ring members p t u h samples at count call done x found outcome laid shown told stands rests on_card ahead = record {
-  commit = x;
-  like = rested_like ring members p t u h samples at count x found laid shown told stands rests on_card ahead;
-  is_commit = found.commit_is;
-  outcome = outcome;
-  laid = laid;
+pub RestsAt-kept : (ring : Geometry) (members p : ℕ) (v w : View) → KeepsRest v w → RestsAt ring members p v → RestsAt ring members p w
+RestsAt-kept ring members p v w rest rests = record {
+  geometry = rest.geometry ∙ rests.geometry;
+  members_are = rest.members ∙ rests.members_are;
+  next = rest.next ∙ rests.next;
+  published = rest.position ∙ rests.published;
+  plugged = rest.gone ∙ rests.plugged;
 }
 
--- so it is told what a call with one load and one commit found
-pub rested : {T : Type 0} (ring : Geometry) (members p : ℕ) (t u : Turn) (h : List Row) (samples : List ℤ) (at : Position → Plain) (count : Position → ℕ) (call : Option Position → Commit → Answered T) (done : Answered T)
-    → TakesStep TurnLaid TurnLoaded geometry_of_turn shown_by t u 0 0 samples at count (length (at (resting p)).bindings) call done
-    → Stands (core_of t) h → RestsAt ring members p (core_of t) → IsOnCard (at (resting p)).bindings ring
-    → ((n : ℕ) → n < count (resting p) → (at (resting p)).card + ((at (resting p)).committed + n) < p + ring.frames)
-    → Rested p t u samples at count (length (at (resting p)).bindings) call done
-rested ring members p t u h samples at count call done step stands rests on_card ahead =
-    rested_by ring members p t u h samples at count call done step.load step.commit step.found step.outcome step.loaded_them step.laid_them step.shown step.told stands rests on_card ahead
-  where
-    rested_by : {T : Type 0} (ring : Geometry) (members p : ℕ) (t u : Turn) (h : List Row) (samples : List ℤ) (at : Position → Plain) (count : Position → ℕ) (call : Option Position → Commit → Answered T) (done : Answered T)
-        (load : Option Position) (x : Commit) → IsFound load x at count (length (at (resting p)).bindings) → call load x ≡ done
-        → TurnLoaded t u (option_to_list load) → TurnLaid t u (entries_at load at samples x)
-        → IfSome load (λ position. OnLate x.ended (λ word. IsPast geometry_of_turn shown_by u (end_of_commit (at position) x) (end_channel (at position) x) word))
-        → StoppedBy load x.ended 0 0 → Stands (core_of t) h → RestsAt ring members p (core_of t) → IsOnCard (at (resting p)).bindings ring
-        → ((n : ℕ) → n < count (resting p) → (at (resting p)).card + ((at (resting p)).committed + n) < p + ring.frames)
-        → Rested p t u samples at count (length (at (resting p)).bindings) call done
-    rested_by ring members p t u h samples at count call done None x found outcome loaded laid shown told stands rests on_card ahead = absurd (omega (arith, told))
-    rested_by ring members p t u h samples at count call done (Some position) x found outcome loaded laid shown told stands rests on_card ahead =
-        let is : position ≡ resting p = loaded_position ring members p t u position rests loaded in
-        rested_at ring members p t u h samples at count call done x
-        (subst (λ (y : Position). IsFound (Some y) x at count (length (at (resting p)).bindings)) is found)
-        (subst (λ (y : Position). call (Some y) x ≡ done) is outcome)
-        (subst (λ (y : Position). TurnLaid t u (commit_entries (at y) samples x)) is laid)
-        (subst (λ (y : Position). OnLate x.ended (λ word. IsPast geometry_of_turn shown_by u (end_of_commit (at y) x) (end_channel (at y) x) word)) is shown)
-        told stands rests on_card ahead
+behind-free : (g : Geometry) (f c : ℕ) → first_free (behind g f c) 0 ≡ f + 1
+behind-free g f c = grind (arith, nat_tests)
+
+marked-free : (k : Kind) (g : Geometry) (m : Marks) (f c : ℕ) → first_free (marked k g m f c).cursor 0 ≡ free_behind k f c
+marked-free Added g m f c = behind-free g f c
+marked-free Withdrawn g m f c = refl
+
+-- the frame that is taken next, at any channel
+next-free : (next : Cursor) (p c : ℕ) → next ≡ record { frame = p; channel = 0 } → first_free next c ≡ p
+next-free next p c is = ap (λ (at : Cursor). first_free at c) is ∙ grind (arith, nat_tests)
+
+-- what is told of a port over a turn and of a gate that never stops
+pub record IsTurn {T : Type 0} (P : mixport.Ghosts Turn) (G : gates.Ghosts T) : Type 0 where
+  pub laid : (t u : Turn) (es : List Entry) → P.laid t u es → TurnLaid t u es
+  pub loaded : (t u : Turn) (ps : List Position) → P.loaded t u ps → TurnLoaded t u ps
+  pub finds : (t u : Turn) (e : Entry) (ended : Ended) (words : List ℕ) → P.finds t u e ended words → TurnFinds t u e ended words
+  pub stops : (g : T) → G.stops g ≡ 0
+
+module _ {T : Type 0} (P : mixport.Ghosts Turn) (G : gates.Ghosts T) (is : IsTurn P G) (ring : Geometry) (members p : ℕ) where
+  abbrev At : Turn × T → ℕ → Type 0
+  At s free = IsAtRest ring members p s.0 free
+
+  loads-rest : (s t : Turn × T) (free : ℕ) (load : Option Position) → At s free → LoadsAt P G s load t → (after : ℕ) × LoadsRest p free load after × At t after
+  loads-rest s t free None at step = absurd (omega (arith, step.stopped, is.stops s.1, is.stops t.1))
+  loads-rest s t free (Some position) at step =
+      let loaded = is.loaded s.0 t.0 (position ∷ []) step.loaded_it in
+      let laid = is.laid s.0 t.0 [] step.laid_nothing in
+      let each = All-head (λ (x : Position). (x.frame ≡ (core_of s.0).position) × (x.gone ≡ (core_of s.0).gone)) position [] loaded.each in
+      let frame : position.frame ≡ p = each.0 ∙ at.rests.published in
+      let gone : position.gone ≡ false = each.1 ∙ at.rests.plugged in
+      let found : position ≡ resting p =
+      ap (λ (f : ℕ). let x : Position = record { frame = f; gone = position.gone } in x) frame
+      ∙ ap (λ (b : Bool). let x : Position = record { frame = p; gone = b } in x) gone in (
+        free,
+        (ap Some found, refl),
+        record {
+          rests = RestsAt-kept ring members p (core_of s.0) (core_of t.0) laid.rest at.rests;
+          free_is = ap (λ (m : Marks). first_free m.cursor 0) laid.marks ∙ at.free_is;
+        },
+      )
+
+  lays-rest : (s t : Turn × T) (free : ℕ) (e : Entry) (ended : Ended) → At s free → LaysAt P G s e ended t → (after : ℕ) × LaysRest p free e ended after × At t after
+  lays-rest s t free e Whole at step =
+      let laid = is.laid s.0 t.0 (e ∷ []) step.laid_it in
+      let found = is.finds s.0 t.0 e Whole step.words step.found in
+      let next = next-free (core_of s.0).next p e.channel at.rests.next in
+      let in_time = found.in_time in (
+        free_behind e.kind e.frame e.channel,
+        (omega (arith, next, in_time), refl),
+        record {
+          rests = RestsAt-kept ring members p (core_of s.0) (core_of t.0) laid.rest at.rests;
+          free_is = ap (λ (m : Marks). first_free m.cursor 0) laid.marks ∙ marked-free e.kind (core_of s.0).geometry (marks_of_turn s.0) e.frame e.channel;
+        },
+      )
+  lays-rest s t free e (Late word) at step =
+      let laid = is.laid s.0 t.0 [] step.laid_it in
+      let found = is.finds s.0 t.0 e (Late word) step.words step.found in
+      let next = next-free (core_of s.0).next p e.channel at.rests.next in
+      let late = found.late in (
+        free,
+        (omega (arith, next, late), refl),
+        record {
+          rests = RestsAt-kept ring members p (core_of s.0) (core_of t.0) laid.rest at.rests;
+          free_is = ap (λ (m : Marks). first_free m.cursor 0) laid.marks ∙ at.free_is;
+        },
+      )
+  lays-rest s t free e Stopped at step = absurd (omega (arith, step.stopped, is.stops s.1, is.stops t.1))
+
+  -- over a turn at rest a course takes what it takes at rest, and the turn is at rest behind it
+  pub TakesAt-rests : {X : Type 0} (s t : Turn × T) (m : Course X) (y : X) → RestsAt ring members p (core_of s.0) → TakesAt P G s m t y
+      → TakesRest p (first_free (cursor_of_turn s.0) 0) m (first_free (cursor_of_turn t.0) 0) y × RestsAt ring members p (core_of t.0)
+  TakesAt-rests s t m y rests takes =
+      let done = Takes-follow (LoadsAt P G) (LaysAt P G) NoGet (LoadsRest p) (LaysRest p) NeverGets At loads-rest lays-rest
+      (λ a b w frame got at step. absurd step) s t (first_free (cursor_of_turn s.0) 0) m y (record { rests = rests; free_is = refl }) takes in
+      (subst (λ (free : ℕ). TakesRest p (first_free (cursor_of_turn s.0) 0) m free y) (sym done.2.free_is) done.1, done.2.rests)

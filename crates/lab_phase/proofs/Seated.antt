@@ -1,5 +1,5 @@
 -- What a client's line does at its seat.
-use Rattle.std.proofs.Common.{◌≡◌, ℕ, List, refl, sym, ◌∙◌, ap, subst}
+use Rattle.std.proofs.Common.{◌≡◌, ℕ, List, refl, sym, ◌∙◌, ap, subst, length}
 use Rattle.std.specs.Prelude.{Some}
 use Rattle.snd_base.specs.declared.places.Segment.{Segment}
 use Rattle.mix_core.specs.History.{Row as Event}
@@ -17,6 +17,7 @@ use Rattle.lab_phase.specs.declared.seat.Seat.{Seat}
 use Rattle.lab_phase.specs.Lines.{Own, ended_after, line_done}
 use Rattle.lab_phase.specs.Meaning.{client_row}
 use Rattle.lab_phase.specs.Seats.{HasCalled, IsAtPort, IsOwn}
+use Rattle.lab_phase.proofs.Adds.{adds-continue}
 use Rattle.lab_phase.specs.Stages.{HasCalledAt, IsAtSeat, TakesLine, free_at, own_at}
 
 -- a call through a turn, over the core that the turn holds
@@ -24,7 +25,7 @@ HasCalledAt-turn : (members p : ℕ) (wav : Sound) (own : Own) (asked : Op) (x :
     → HasCalled members p wav own asked x t u answer → HasCalledAt members p (member_of t) wav own asked x (core_of t) (core_of u) answer
 HasCalledAt-turn members p wav own asked x t u answer calls = record {
   entries = calls.entries;
-  laid = record { rest = calls.laid.rest; others = calls.laid.others; stands = calls.laid.stands };
+  laid = record { rest = calls.laid.rest; others = calls.laid.others; stands = λ h s. calls.laid.stands h s (adds-continue (core_of t).geometry (length (core_of t).marks) h calls.entries calls.adds) };
   outcome = calls.outcome;
   bindings = calls.bindings;
   grown = calls.grown;
@@ -62,13 +63,13 @@ TakesLine-open phase client wav asked v w before after row old new answer segmen
   at_closed = λ closed. absurd (let a = sym was ∙ closed in cc);
   at_open = λ members p x h is_x stands own at.
       let same : old ≡ x = (let a = sym was ∙ is_x in cc) in
-      let mine : Own = own_at v.cursors client before x in
+      let mine : Own = own_at v.marks client before x in
       record {
         new = new;
         answer = answer;
         is = is;
         ended = ended mine (laid ∙ ap (λ (y : ClientView). segment_of y.plain) same) refl;
         calls = call members p mine h (subst (λ (y : ClientView). IsOwn wav mine y) (sym same) own) at stands;
-        row_is = told (free_at w.cursors client) after.ended.items;
+        row_is = told (free_at w.marks client) after.ended.items;
       };
 }

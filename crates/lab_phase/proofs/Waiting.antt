@@ -2,128 +2,105 @@
 use Rattle.std.proofs.Common.{◌≡◌, ◌⊎◌, ℕ, ◌<◌, ◌+◌, List, [], refl, sym, ◌∙◌, ap, subst, arith, inl, inr}
 use Rattle.std.proofs.lemmas.Bool.Decides.{nat_tests}
 use Rattle.std.proofs.lemmas.List.{append-nil}
-use Rattle.std.specs.Prelude.{ℤ, true, false, Option, None, Some, Result, Ok, Err, ⊤}
+use Rattle.std.specs.Prelude.{ℤ, true, false, Option, None, Some, Result, Ok, Err}
 use Rattle.snd_base.specs.declared.errors.PcmError.{PcmError}
 use Rattle.snd_base.specs.declared.errors.PcmError.TheVariants as error
 use Rattle.mix_core.specs.declared.turn.Turn.{Turn}
-use Rattle.mix_core.specs.History.{Row}
-use Rattle.mix_core.specs.Stands.{Stands}
-use Rattle.mix_core.specs.Turn.{core_of, cursor_of_turn, member_of}
 use Rattle.mix_core.specs.TurnLaws.{TurnLaid-composes}
+use Rattle.pcm_states.specs.declared.states.State.{State}
+use Rattle.pcm_states.specs.declared.states.State.TheVariants.{Prepared, Setup}
 use Rattle.pcm_states.specs.declared.calls.Call.TheVariants as call
 use Rattle.dmix_client.specs.declared.plain.Plain.{Plain}
 use Rattle.dmix_client.specs.Calls.{dropped, prepared, refusal_of}
-use Rattle.dmix_client.specs.Port.{CanUse}
-use Rattle.dmix_client.specs.View.{ClientView, IsSound, is_moving}
+use Rattle.dmix_client.specs.Growth.{StandsFor}
+use Rattle.dmix_client.specs.View.{ClientView, is_moving}
 use Rattle.wav_io.specs.Sound.{Sound}
 use Rattle.lab_script.specs.declared.line.Op.{Op}
 use Rattle.lab_script.specs.declared.line.Op.TheVariants as op
 use Rattle.lab_report.specs.declared.row.Answer.{Answer}
 use Rattle.lab_report.specs.declared.row.Answer.TheVariants.{Done, Failed}
 use Rattle.lab_phase.specs.Lines.{Own, after_call, called, done_answer, free_after, refused_or, told}
-use Rattle.lab_phase.specs.Seats.{HasCalled, IsAtPort, IsOwn, IsPending, ends_stretch, stretch}
-use Rattle.lab_phase.proofs.Advances.{AdvancesUnwritten}
-use Rattle.lab_phase.proofs.Calling.{HasCalled-still, Unmoved-same, nothing_laid}
-use Rattle.lab_phase.proofs.Syncing.{refusal-cases, tell}
+use Rattle.lab_phase.specs.Seats.{HasCalled, IsAtPort, IsOwn, ends_stretch, stretch}
+use Rattle.lab_phase.proofs.Called.{tell}
 
--- a port that a client can use, another can that is like it and moves no frames
-pub usable-still : (own d : Plain) (t : Turn) → d.geometry ≡ own.geometry → d.member ≡ own.member → (is_moving d.state ≡ true → ⊥)
-    → CanUse own (core_of t).geometry (member_of t) (cursor_of_turn t) (core_of t).position ⊤
-    → CanUse d (core_of t).geometry (member_of t) (cursor_of_turn t) (core_of t).position ⊤
-usable-still own d t geometry member rests usable = record {
-  same_geometry = usable.same_geometry ∙ sym geometry;
-  same_member = usable.same_member ∙ sym member;
-  can = usable.can;
-  behind = λ moves. absurd (rests moves);
-  newer = λ moves. absurd (rests moves);
-}
-
-usable-same : (own d : Plain) (t : Turn) → d ≡ own → CanUse own (core_of t).geometry (member_of t) (cursor_of_turn t) (core_of t).position ⊤
-    → CanUse d (core_of t).geometry (member_of t) (cursor_of_turn t) (core_of t).position ⊤
-usable-same own d t same usable = subst (λ (c : Plain). CanUse c (core_of t).geometry (member_of t) (cursor_of_turn t) (core_of t).position ⊤) (sym same) usable
-
-pub pause-line : (members p : ℕ) (wav : Sound) (own : Own) (h : List Row) (v w : ClientView) (t : Turn) (result : Result (Unit {0}) PcmError)
-    → IsOwn wav own v → IsAtPort members p own t → Stands (core_of t) h → result ≡ Err error.NotSupported → w ≡ v → IsSound w.plain w.ring
-    → HasCalled members p wav own op.Pause w t t (done_answer result)
-pause-line members p wav own h v w t result is at stands refused same sound =
-    let w_is : w.plain ≡ own.plain = ap (λ (x : ClientView). x.plain) same ∙ is.same in
-    let is_call : called p wav own op.Pause ≡ (w.plain, done_answer result) =
-    ap (λ (c : Plain). tell {T = Unit {0}} done_answer (c, Err error.NotSupported)) (sym w_is) ∙ ap (λ (x : Result (Unit {0}) PcmError). tell done_answer (w.plain, x)) (sym refused) in
-    HasCalled-still members p wav own op.Pause v w t t (done_answer result) h is at stands refl (Unmoved-same own.plain w.plain is.whole w_is)
-    (ap (λ (x : ClientView). x.ring) same) sound (usable-same own.plain w.plain t w_is at.usable) is_call refl
-
--- a client that dropped what was pending is as it was, but for its state
-pub dropped-unmoved : (c : Plain) → c.part ≡ 0 → AdvancesUnwritten c (dropped c) nothing_laid
-dropped-unmoved c whole = record {
-  advances = record { geometry = refl; member = refl; bindings = refl; config = refl; source = refl; card = refl; stopped = refl; committed = omega arith; part = whole };
-  written = refl;
-  fed = refl;
-}
-
-pub drop-line : (members p : ℕ) (wav : Sound) (own : Own) (h : List Row) (v w : ClientView) (t : Turn) (result : Result (Unit {0}) PcmError)
-    → IsOwn wav own v → IsAtPort members p own t → Stands (core_of t) h
-    → ((e : PcmError) → refusal_of v.plain call.Drop ≡ Some e → (result ≡ Err e) × (w ≡ v))
-    → (refusal_of v.plain call.Drop ≡ None → (result ≡ Ok tt) × (w ≡ record { plain = dropped v.plain; ring = v.ring }))
-    → IsSound w.plain w.ring → HasCalled members p wav own op.Drop w t t (done_answer result)
-drop-line members p wav own h v w t result is at stands refused drops sound = elim (refusal-cases (refusal_of own.plain call.Drop)) [
-  | inr found ↦
-      let r = refused found.0 (ap (λ (c : Plain). refusal_of c call.Drop) is.same ∙ found.1) in
-      let w_is : w.plain ≡ own.plain = ap (λ (x : ClientView). x.plain) r.1 ∙ is.same in
-      let is_call : called p wav own op.Drop ≡ (w.plain, done_answer result) =
-      ap (λ (o : Option PcmError). tell done_answer (refused_or o own.plain (dropped own.plain, Ok tt))) found.1
-      ∙ ap (λ (c : Plain). tell {T = Unit {0}} done_answer (c, Err found.0)) (sym w_is) ∙ ap (λ (x : Result (Unit {0}) PcmError). tell done_answer (w.plain, x)) (sym r.0) in
-      HasCalled-still members p wav own op.Drop v w t t (done_answer result) h is at stands refl (Unmoved-same own.plain w.plain is.whole w_is)
-      (ap (λ (x : ClientView). x.ring) r.1) sound (usable-same own.plain w.plain t w_is at.usable) is_call refl
-  | inl admitted ↦
-      let r = drops (ap (λ (c : Plain). refusal_of c call.Drop) is.same ∙ admitted) in
-      let w_is : w.plain ≡ dropped own.plain = ap (λ (x : ClientView). x.plain) r.1 ∙ ap dropped is.same in
-      let is_call : called p wav own op.Drop ≡ (w.plain, done_answer result) =
-      ap (λ (o : Option PcmError). tell done_answer (refused_or o own.plain (dropped own.plain, Ok tt))) admitted
-      ∙ ap (λ (c : Plain). tell {T = Unit {0}} done_answer (c, Ok tt)) (sym w_is) ∙ ap (λ (x : Result (Unit {0}) PcmError). tell done_answer (w.plain, x)) (sym r.0) in
-      HasCalled-still members p wav own op.Drop v w t t (done_answer result) h is at stands refl
-      (subst (λ (d : Plain). AdvancesUnwritten own.plain d nothing_laid) (sym w_is) (dropped-unmoved own.plain is.whole))
-      (ap (λ (x : ClientView). x.ring) r.1) sound
-      (subst (λ (d : Plain). CanUse d (core_of t).geometry (member_of t) (cursor_of_turn t) (core_of t).position ⊤) (sym w_is)
-      (usable-still own.plain (dropped own.plain) t refl refl (λ moves. absurd (cc)) at.usable)) is_call refl
-]
+-- a refusal, or none
+pub refusal-cases : (o : Option PcmError) → (o ≡ None) ⊎ ((e : PcmError) × (o ≡ Some e))
+refusal-cases None = inl refl
+refusal-cases (Some e) = inr (e, refl)
 
 -- what is free before a call that lays nothing is free after it
 free_after-same : (free : ℕ) (c : Plain) → c.part ≡ 0 → (0 < c.committed → free ≡ c.card + c.committed) → free_after free c ≡ free
 free_after-same free c whole behind = grind (arith, nat_tests, behind)
 
--- a call that leaves its client and its port
-HasCalled-same : (members p : ℕ) (wav : Sound) (own : Own) (asked : Op) (v w : ClientView) (t : Turn) (answer : Answer) → IsOwn wav own v → IsAtPort members p own t
-    → w ≡ v → called p wav own asked ≡ (own.plain, answer) → ends_stretch asked answer ≡ false → HasCalled members p wav own asked w t t answer
-HasCalled-same members p wav own asked v w t answer is at same is_call goes_on = record {
+abbrev in_state : Plain → State → Plain
+in_state c s = record c { state = s }
+
+-- a call that changes the state of its client at most
+HasCalled-state : (members p : ℕ) (wav : Sound) (own : Own) (asked : Op) (v w : ClientView) (t : Turn) (answer : Answer) (s : State) → IsOwn wav own v → IsAtPort members p own t
+    → w.plain ≡ in_state own.plain s → w.ring ≡ v.ring → (is_moving s ≡ true → is_moving own.plain.state ≡ true) → (s ≡ Prepared → own.plain.state ≡ Prepared)
+    → called p wav own asked ≡ (in_state own.plain s, answer) → ends_stretch asked answer ≡ false → HasCalled members p wav own asked w t t answer
+HasCalled-state members p wav own asked v w t answer s is at w_is ring_is moves waits is_call goes_on = record {
   entries = [];
   laid = TurnLaid-composes.none t;
+  adds = tt;
   outcome = ap (λ (c : Plain). let done : Plain × Answer = (c, answer) in done) w_is ∙ sym is_call;
   bindings = ap (λ (c : Plain). c.bindings) w_is;
   grown = λ _. ap (λ (c : Plain). stretch c wav.samples) w_is ∙ sym (append-nil (stretch own.plain wav.samples));
   ending = λ ends. absurd (let h = goes_on in cc);
-  own_after = subst (λ (done : Plain × Answer). IsOwn wav (after_call own asked done).0 w) (sym is_call) own_after;
+  own_after = subst (λ (done : Plain × Answer). IsOwn wav (after_call own asked done).0 w) (sym is_call) (record {
+    same = w_is;
+    whole = is.whole;
+    going = is.going;
+    channels = is.channels;
+    stands = subst (λ (r : List ℤ). StandsFor (in_state own.plain s) r wav.samples) (sym ring_is) is.stands;
+    behind = λ some. free_after-same own.free own.plain is.whole is.behind ∙ is.behind some;
+    on_card = is.on_card;
+    prepared = λ is_prepared. is.prepared (waits is_prepared);
+    fed = is.fed;
+  });
   port_after = subst (λ (done : Plain × Answer). IsAtPort members p (after_call own asked done).0 t) (sym is_call) (record {
     rests = at.rests;
-    usable = at.usable;
+    usable = record {
+      same_geometry = at.usable.same_geometry;
+      same_member = at.usable.same_member;
+      can = at.usable.can;
+      behind = λ moving unstopped. at.usable.behind (moves moving) unstopped;
+      newer = λ moving unstopped. at.usable.newer (moves moving) unstopped;
+    };
     free = at.free ∙ sym (free_after-same own.free own.plain is.whole is.behind);
   });
 }
-  where
-    w_is : w.plain ≡ own.plain
-    w_is = ap (λ (x : ClientView). x.plain) same ∙ is.same
 
-    own_after : IsOwn wav (after_call own asked (own.plain, answer)).0 w
-    own_after = record {
-      same = w_is;
-      whole = is.whole;
-      going = is.going;
-      channels = is.channels;
-      pending = subst (λ (r : List ℤ). IsPending wav own.plain r) (sym (ap (λ (x : ClientView). x.ring) same)) is.pending;
-      behind = λ some. free_after-same own.free own.plain is.whole is.behind ∙ is.behind some;
-      on_card = is.on_card;
-      prepared = is.prepared;
-      fed = is.fed;
-    }
+-- a call that leaves its client
+pub HasCalled-same : (members p : ℕ) (wav : Sound) (own : Own) (asked : Op) (v w : ClientView) (t : Turn) (answer : Answer) → IsOwn wav own v → IsAtPort members p own t
+    → w ≡ v → called p wav own asked ≡ (own.plain, answer) → ends_stretch asked answer ≡ false → HasCalled members p wav own asked w t t answer
+HasCalled-same members p wav own asked v w t answer is at same is_call goes_on =
+    HasCalled-state members p wav own asked v w t answer own.plain.state is at (ap (λ (x : ClientView). x.plain) same ∙ is.same) (ap (λ (x : ClientView). x.ring) same) (λ moving. moving) (λ waits. waits) is_call goes_on
+
+pub pause-line : (members p : ℕ) (wav : Sound) (own : Own) (v w : ClientView) (t : Turn) (result : Result (Unit {0}) PcmError)
+    → IsOwn wav own v → IsAtPort members p own t → result ≡ Err error.NotSupported → w ≡ v → HasCalled members p wav own op.Pause w t t (done_answer result)
+pause-line members p wav own v w t result is at refused same =
+    HasCalled-same members p wav own op.Pause v w t (done_answer result) is at same
+    (ap (λ (x : Result (Unit {0}) PcmError). tell done_answer (own.plain, x)) (sym refused)) refl
+
+pub drop-line : (members p : ℕ) (wav : Sound) (own : Own) (v w : ClientView) (t : Turn) (result : Result (Unit {0}) PcmError)
+    → IsOwn wav own v → IsAtPort members p own t
+    → ((e : PcmError) → refusal_of v.plain call.Drop ≡ Some e → (result ≡ Err e) × (w ≡ v))
+    → (refusal_of v.plain call.Drop ≡ None → (result ≡ Ok tt) × (w ≡ record { plain = dropped v.plain; ring = v.ring }))
+    → HasCalled members p wav own op.Drop w t t (done_answer result)
+drop-line members p wav own v w t result is at refused drops = elim (refusal-cases (refusal_of own.plain call.Drop)) [
+  | inr found ↦
+      let r = refused found.0 (ap (λ (c : Plain). refusal_of c call.Drop) is.same ∙ found.1) in
+      HasCalled-same members p wav own op.Drop v w t (done_answer result) is at r.1
+      (ap (λ (o : Option PcmError). tell done_answer (refused_or o own.plain (dropped own.plain, Ok tt))) found.1
+      ∙ ap (λ (x : Result (Unit {0}) PcmError). tell done_answer (own.plain, x)) (sym r.0)) refl
+  | inl admitted ↦
+      let r = drops (ap (λ (c : Plain). refusal_of c call.Drop) is.same ∙ admitted) in
+      HasCalled-state members p wav own op.Drop v w t (done_answer result) Setup is at
+      (ap (λ (x : ClientView). x.plain) r.1 ∙ ap dropped is.same) (ap (λ (x : ClientView). x.ring) r.1) (λ moving. absurd (cc)) (λ waits. absurd (cc))
+      (ap (λ (o : Option PcmError). tell done_answer (refused_or o own.plain (dropped own.plain, Ok tt))) admitted
+      ∙ ap (λ (x : Result (Unit {0}) PcmError). tell done_answer (dropped own.plain, x)) (sym r.0)) refl
+]
 
 -- a line that names no call of a client
 pub no_call-line : (members p : ℕ) (wav : Sound) (own : Own) (asked : Op) (v : ClientView) (t : Turn) → IsOwn wav own v → IsAtPort members p own t
@@ -146,7 +123,8 @@ prepared-HasCalled members p wav own v w t is at is_prepared is_call =
     record {
       entries = [];
       laid = TurnLaid-composes.none t;
-      outcome = ap (λ (c : Plain). tell {T = Unit {0}} done_answer (c, Ok tt)) w_is ∙ sym is_call;
+      adds = tt;
+      outcome = ap (λ (c : Plain). tell {X = Unit {0}} done_answer (c, Ok tt)) w_is ∙ sym is_call;
       bindings = ap (λ (c : Plain). c.bindings) w_is;
       grown = λ goes_on. absurd (cc);
       ending = λ ends. (refl, ap (λ (c : Plain). c.committed) w_is, ap (λ (c : Plain). c.part) w_is);
@@ -155,7 +133,7 @@ prepared-HasCalled members p wav own v w t is at is_prepared is_call =
         whole = refl;
         going = is.going;
         channels = is.channels;
-        pending = λ j q low high within. absurd (omega (arith, high));
+        stands = λ j q low high within. absurd (omega (arith, high));
         behind = λ some. absurd (omega (arith, some));
         on_card = is.on_card;
         prepared = λ waits. refl;
@@ -163,7 +141,13 @@ prepared-HasCalled members p wav own v w t is at is_prepared is_call =
       });
       port_after = subst (λ (done : Plain × Answer). IsAtPort members p (after_call own op.Prepare done).0 t) (sym is_call) (record {
         rests = at.rests;
-        usable = usable-still own.plain (prepared own.plain) t refl refl (λ moves. absurd (cc)) at.usable;
+        usable = record {
+          same_geometry = at.usable.same_geometry;
+          same_member = at.usable.same_member;
+          can = at.usable.can;
+          behind = λ moving unstopped. absurd (cc);
+          newer = λ moving unstopped. absurd (cc);
+        };
         free = at.free;
       });
     }

@@ -21,7 +21,7 @@ pub record Mixes (v : View) (sums : ℕ → ℕ → ℤ) (played : List ℤ) : T
 -- a core of a ring, with members, rests at a position: it has taken and published all frames before it, and none from it on
 pub record RestsAt (ring : Geometry) (members position : ℕ) (v : View) : Type 0 where
   pub geometry : v.geometry ≡ ring
-  pub members_are : length v.cursors ≡ members
+  pub members_are : length v.marks ≡ members
   pub next : v.next ≡ record { frame = position; channel = 0 }
   pub published : v.position ≡ position
   pub plugged : v.gone ≡ false
@@ -29,7 +29,7 @@ pub record RestsAt (ring : Geometry) (members position : ℕ) (v : View) : Type 
 -- one frame more was taken
 pub record TakesFrame (v w : View) : Type 0 where
   pub geometry : w.geometry ≡ v.geometry
-  pub cursors : w.cursors ≡ v.cursors
+  pub marks : w.marks ≡ v.marks
   pub position : w.position ≡ v.position
   pub gone : w.gone ≡ v.gone
   pub next : w.next ≡ record { frame = v.next.frame + 1; channel = 0 }

@@ -1,15 +1,17 @@
 -- A client of a run at its turn: its stream, its port and its file.
-use Rattle.std.specs.Prelude.{◌≡◌, ℕ, ◌+◌, ◌<◌, ◌≤◌, Bool, true, false, ℤ, List, [], ◌++◌, length, ⊤}
+use Rattle.std.specs.Prelude.{◌≡◌, ℕ, ◌+◌, ◌<◌, ◌≤◌, Bool, true, false, ℤ, List, [], ◌++◌, length}
 use Rattle.snd_base.specs.Places.{first_free}
 use Rattle.mix_core.specs.declared.port.Entry.{Entry}
 use Rattle.mix_core.specs.declared.turn.Turn.{Turn}
-use Rattle.mix_core.specs.Turn.{TurnLaid, core_of, cursor_of_turn, member_of}
+use Rattle.mix_core.specs.Laid.{AreAdds}
+use Rattle.mix_core.specs.Turn.{TurnLaid, core_of, cursor_of_turn, view_of_turn}
 use Rattle.pcm_states.specs.declared.states.State.TheVariants.{Prepared}
 use Rattle.dmix_client.specs.declared.plain.Plain.{Plain}
 use Rattle.dmix_client.specs.Calls.{segment_of}
-use Rattle.dmix_client.specs.Expansion.{expand, sample_at}
+use Rattle.dmix_client.specs.Expansion.{expand}
+use Rattle.dmix_client.specs.Growth.{StandsFor}
 use Rattle.dmix_client.specs.Port.{CanUse, IsOnCard}
-use Rattle.dmix_client.specs.View.{ClientView, held}
+use Rattle.dmix_client.specs.View.{ClientView}
 use Rattle.wav_io.specs.Sound.{Sound}
 use Rattle.lab_script.specs.declared.line.Op.{Op}
 use Rattle.lab_script.specs.declared.line.Op.TheVariants as op
@@ -18,19 +20,13 @@ use Rattle.lab_report.specs.declared.row.Answer.TheVariants.{Done}
 use Rattle.lab_phase.specs.Lines.{Own, called, frames_of, line_done}
 use Rattle.lab_phase.specs.Mixes.{RestsAt}
 
--- the frames that a client accepted and has not laid whole stand in its local ring, as they stand in its file
-abbrev pub IsPending : Sound → Plain → List ℤ → Type 0
-IsPending wav c ring =
-    (j q : ℕ) → c.committed ≤ j → j < c.written → q < length c.bindings
-    → held c ring j q ≡ sample_at wav.samples (length c.bindings) (c.source + j) q
-
 -- a client as a report has it, and its stream
 pub record IsOwn (wav : Sound) (own : Own) (v : ClientView) : Type 0 where
   pub same : v.plain ≡ own.plain
   pub whole : own.plain.part ≡ 0
   pub going : own.plain.stopped ≡ false
   pub channels : length own.plain.bindings ≡ wav.channels
-  pub pending : IsPending wav own.plain v.ring
+  pub stands : StandsFor own.plain v.ring wav.samples
   pub behind : 0 < own.plain.committed → own.free ≡ own.plain.card + own.plain.committed
   pub on_card : IsOnCard own.plain.bindings own.plain.geometry
   pub prepared : own.plain.state ≡ Prepared → own.plain.committed ≡ 0
@@ -39,7 +35,7 @@ pub record IsOwn (wav : Sound) (own : Own) (v : ClientView) : Type 0 where
 -- a client's port, while the card rests at a position
 pub record IsAtPort (members p : ℕ) (own : Own) (t : Turn) : Type 0 where
   pub rests : RestsAt own.plain.geometry members p (core_of t)
-  pub usable : CanUse own.plain (core_of t).geometry (member_of t) (cursor_of_turn t) (core_of t).position ⊤
+  pub usable : CanUse own.plain (view_of_turn t)
   pub free : first_free (cursor_of_turn t) 0 ≡ own.free
 
 -- the entries of a client's stretch so far, by its file
@@ -56,6 +52,7 @@ ends_stretch other answer = false
 pub record HasCalled (members p : ℕ) (wav : Sound) (own : Own) (asked : Op) (w : ClientView) (t u : Turn) (answer : Answer) : Type 0 where
   pub entries : List Entry
   pub laid : TurnLaid t u entries
+  pub adds : AreAdds entries
   pub outcome : (w.plain, answer) ≡ called p wav own asked
   pub bindings : w.plain.bindings ≡ own.plain.bindings
   pub grown : ends_stretch asked answer ≡ false → stretch w.plain wav.samples ≡ stretch own.plain wav.samples ++ entries

@@ -10,7 +10,9 @@ use Rattle.mix_core.specs.History.{Row as Event, row_of}
 use Rattle.mix_core.specs.Laid.{total}
 use Rattle.mix_core.specs.Stands.{Stands}
 use Rattle.mix_core.specs.Turn.{KeepsRest}
-use Rattle.mix_core.specs.View.{View}
+use Rattle.mix_core.specs.View.{View, cursor_at, marks_at}
+use Rattle.mix_core.specs.Port.{PortView}
+use Rattle.mix_core.specs.declared.marks.Marks.{Marks}
 use Rattle.dmix_client.specs.Port.{CanUse}
 use Rattle.dmix_client.specs.View.{ClientView}
 use Rattle.wav_io.specs.Sound.{Sound}
@@ -37,36 +39,46 @@ use Rattle.lab_phase.specs.Seats.{IsOwn, ends_stretch, stretch}
 abbrev pub laid_of : Segment → List Segment
 laid_of s = if nat_eq s.whole 0 && nat_eq s.part 0 then [] else s ∷ []
 
+abbrev pub no_cursor : Cursor
+no_cursor = record { frame = 0; channel = 0 }
+
 -- the first frame that a member may still lay into whole
-abbrev pub free_at : List Cursor → ℕ → ℕ
-free_at cursors client = first_free (slice_index_or cursors client (record { frame = 0; channel = 0 })) 0
+abbrev pub no_marks : Marks
+no_marks = record { cursor = no_cursor; floor = no_cursor; high = no_cursor }
+
+abbrev pub free_at : List Marks → ℕ → ℕ
+free_at marks client = first_free (slice_index_or marks client no_marks).cursor 0
 
 -- a client as a report has it, where it is open
 abbrev pub own_with : ℕ → List Segment → Option ClientView → Option Own
 own_with free ended None = None
 own_with free ended (Some v) = Some (record { plain = v.plain; free = free; ended = ended })
 
-abbrev pub own_of : List Cursor → ℕ → Seat → Option Own
-own_of cursors client seat = own_with (free_at cursors client) seat.ended.items seat.client
+abbrev pub own_of : List Marks → ℕ → Seat → Option Own
+own_of marks client seat = own_with (free_at marks client) seat.ended.items seat.client
 
 -- the clients, the first of which has a number
-abbrev pub owns_from : List Cursor → ℕ → List Seat → List (Option Own)
-owns_from cursors client [] = []
-owns_from cursors client (seat ∷ seats) = own_of cursors client seat ∷ owns_from cursors (client + 1) seats
+abbrev pub owns_from : List Marks → ℕ → List Seat → List (Option Own)
+owns_from marks client [] = []
+owns_from marks client (seat ∷ seats) = own_of marks client seat ∷ owns_from marks (client + 1) seats
 
 -- the stage at which a run stands
 abbrev pub stage_of : Body → Stage
-stage_of body = record { position = body.position; clients = owns_from body.core.cursors 0 body.seats.items }
+stage_of body = record { position = body.position; clients = owns_from body.core.marks 0 body.seats.items }
 
 -- how many members a core has for so many clients
 abbrev pub members_for : ℕ → ℕ
 members_for clients = max 1 clients
 
+-- what is plain of the port of a client's number over a core
+abbrev pub port_view : View → ℕ → PortView
+port_view v client = record { geometry = v.geometry; member = client; can_add = true; marks = marks_at v client; seen = v.position }
+
 -- the port of a client's number over a core that rests at a position
 pub record IsAtSeat (members p client : ℕ) (own : Own) (v : View) : Type 0 where
   pub rests : RestsAt own.plain.geometry members p v
-  pub usable : CanUse own.plain v.geometry client (slice_index_or v.cursors client v.next) v.position ⊤
-  pub free : first_free (slice_index_or v.cursors client v.next) 0 ≡ own.free
+  pub usable : CanUse own.plain (port_view v client)
+  pub free : first_free (cursor_at v client) 0 ≡ own.free
 
 -- a client that is open, at its port: with the bindings that its line gives it
 pub record IsSeated (members p client : ℕ) (wav : Sound) (bound : List ℕ) (core : View) (own : Own) (v : ClientView) : Type 0 where
@@ -75,8 +87,8 @@ pub record IsSeated (members p client : ℕ) (wav : Sound) (bound : List ℕ) (c
   pub bindings : own.plain.bindings ≡ bound
 
 -- the client of a seat that is open
-abbrev pub own_at : List Cursor → ℕ → Seat → ClientView → Own
-own_at cursors client seat v = record { plain = v.plain; free = free_at cursors client; ended = seat.ended.items }
+abbrev pub own_at : List Marks → ℕ → Seat → ClientView → Own
+own_at marks client seat v = record { plain = v.plain; free = free_at marks client; ended = seat.ended.items }
 
 -- what the clients of a run laid, in all
 abbrev pub sums_of : Script → List Sound → List (Option Own) → ℕ → ℕ → ℤ
@@ -88,8 +100,8 @@ pub record IsSettledAt (script : Script) (wavs : List Sound) (core : View) (posi
   pub rests : RestsAt core.geometry (members_for (length script.clients)) position core
   pub seats_are : length seats ≡ length script.clients
   pub each : (client : ℕ) (seat : Seat) (v : ClientView) (wav : Sound) → slice_get seats client ≡ Some seat → seat.client ≡ Some v → slice_get wavs client ≡ Some wav
-      → IsSeated (members_for (length script.clients)) position client wav (slice_index_or (bindings_of script wavs) client []) core (own_at core.cursors client seat v) v
-  pub mixes : Mixes core (sums_of script wavs (owns_from core.cursors 0 seats)) played
+      → IsSeated (members_for (length script.clients)) position client wav (slice_index_or (bindings_of script wavs) client []) core (own_at core.marks client seat v) v
+  pub mixes : Mixes core (sums_of script wavs (owns_from core.marks 0 seats)) played
 
 abbrev pub IsSettled : Script → List Sound → Body → Type 0
 IsSettled script wavs body = IsSettledAt script wavs body.core body.position body.seats.items body.played.items
@@ -116,8 +128,8 @@ pub record HasOpened (script : Script) (wavs : List Sound) (body : Body) : Type 
 
 -- a client's port can be used, where it is open, and its stream takes no more than its file has
 pub record IsOpenPort (core : View) (client : ℕ) (wav : Sound) (seat : Seat) : Type 0 where
-  pub member : client < length core.cursors
-  pub usable : (v : ClientView) → seat.client ≡ Some v → CanUse v.plain core.geometry client (slice_index_or core.cursors client core.next) core.position ⊤
+  pub member : client < length core.marks
+  pub usable : (v : ClientView) → seat.client ≡ Some v → CanUse v.plain (port_view core client)
   pub channels : (v : ClientView) → seat.client ≡ Some v → length v.plain.bindings ≡ wav.channels
   pub fed : (v : ClientView) → seat.client ≡ Some v → v.plain.fed ≤ frames_of wav
 
@@ -135,10 +147,10 @@ CanTake wavs body (Client client) asked =
     × ((seat : Seat) (wav : Sound) → slice_get body.seats.items client ≡ Some seat → slice_get wavs client ≡ Some wav → IsOpenPort body.core client wav seat)
     × IsAsked asked
 
--- what a call of a client did to the core: it laid entries of the client, and left the rest and the other cursors alone
+-- what a call of a client did to the core: it laid entries of the client, and left the rest and the other members' marks alone
 pub record LaysAt (client : ℕ) (v w : View) (entries : List Entry) : Type 0 where
   pub rest : KeepsRest v w
-  pub others : (m : ℕ) (d : Cursor) → m ≢ client → slice_index_or w.cursors m d ≡ slice_index_or v.cursors m d
+  pub others : (m : ℕ) (d : Marks) → m ≢ client → slice_index_or w.marks m d ≡ slice_index_or v.marks m d
   pub stands : (h : List Event) → Stands v h → Stands w (h ++ map row_of entries)
 
 -- a client made the call of a line, over the core
@@ -159,14 +171,14 @@ pub record TakesOpen (members p phase client : ℕ) (wav : Sound) (own : Own) (a
   pub is : after.client ≡ Some new
   pub ended : after.ended.items ≡ ended_after own asked answer
   pub calls : HasCalledAt members p client wav own asked new v w answer
-  pub row_is : row ≡ client_row phase client asked (Some (own_at w.cursors client after new)) answer
+  pub row_is : row ≡ client_row phase client asked (Some (own_at w.marks client after new)) answer
 
 -- a client's line was done at its seat: one that isn't open stays so, and one that is makes its call
 pub record TakesLine (phase client : ℕ) (wav : Sound) (asked : Op) (v w : View) (before after : Seat) (row : Row) : Type 0 where
   pub at_closed : before.client ≡ None → (after ≡ before) × (w ≡ v) × (row ≡ client_row phase client asked None closed_answer)
   pub at_open : (members p : ℕ) (old : ClientView) (h : List Event) → before.client ≡ Some old → Stands v h
-      → IsOwn wav (own_at v.cursors client before old) old → IsAtSeat members p client (own_at v.cursors client before old) v
-      → TakesOpen members p phase client wav (own_at v.cursors client before old) asked v w after row
+      → IsOwn wav (own_at v.marks client before old) old → IsAtSeat members p client (own_at v.marks client before old) v
+      → TakesOpen members p phase client wav (own_at v.marks client before old) asked v w after row
 
 -- a client as it was opened, or that its opening was refused
 abbrev pub IsClientOf : Sound → Option Own → Option ClientView → Type 0

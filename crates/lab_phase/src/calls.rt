@@ -1,9 +1,9 @@
 //! The calls of a client that its lines name, while the card rests.
-ghost use Rattle.std.specs.Prelude.{◌≡◌, ℕ, ◌-◌, ◌*◌, ◌^◌, ◌<◌, ◌≤◌, drop, List, length, min, take, ⊤};
+ghost use Rattle.std.specs.Prelude.{◌≡◌, ℕ, ◌-◌, ◌*◌, ◌^◌, ◌<◌, ◌≤◌, drop, List, length, min, take};
 ghost use Rattle.mix_core.specs.declared.turn.Turn.{Turn};
 ghost use Rattle.mix_core.specs.History.{Row};
 ghost use Rattle.mix_core.specs.Stands.{Stands};
-ghost use Rattle.mix_core.specs.Turn.{core_of, cursor_of_turn, member_of};
+ghost use Rattle.mix_core.specs.Turn.{core_of, view_of_turn};
 ghost use Rattle.dmix_client.specs.Port.{CanUse};
 ghost use Rattle.wav_io.specs.Sound.{Sound};
 ghost use Rattle.lab_phase.specs.Lines.{Own, count_answer, done_answer, frames_of, told};
@@ -57,7 +57,7 @@ fn counted(end: Result<u64, PcmError>) -> Answer
 
 /// The client syncs.
 fn sync_line(client: &mut Client, port: &mut Turn<'_>) -> Answer
-    requires { CanUse client.old.plain (core_of port.old).geometry (member_of port.old) (cursor_of_turn port.old) (core_of port.old).position ⊤ }
+    requires { CanUse client.old.plain (view_of_turn port.old) }
     ensures { (members p : ℕ) (wav : Sound) (own : Own) (h : List Row) → IsOwn wav own client.old → IsAtPort members p own port.old → Stands (core_of port.old) h
         → HasCalled members p wav own Op.Sync client.new port.old port.new result }
 {
@@ -68,7 +68,7 @@ fn sync_line(client: &mut Client, port: &mut Turn<'_>) -> Answer
 
 /// The client syncs, and answers the frames that a write can take.
 fn avail_line(client: &mut Client, port: &mut Turn<'_>) -> Answer
-    requires { CanUse client.old.plain (core_of port.old).geometry (member_of port.old) (cursor_of_turn port.old) (core_of port.old).position ⊤ }
+    requires { CanUse client.old.plain (view_of_turn port.old) }
     ensures { (members p : ℕ) (wav : Sound) (own : Own) (h : List Row) → IsOwn wav own client.old → IsAtPort members p own port.old → Stands (core_of port.old) h
         → HasCalled members p wav own Op.Avail client.new port.old port.new result }
 {
@@ -79,7 +79,7 @@ fn avail_line(client: &mut Client, port: &mut Turn<'_>) -> Answer
 
 /// The client syncs, and answers the frames that are left to play.
 fn delay_line(client: &mut Client, port: &mut Turn<'_>) -> Answer
-    requires { CanUse client.old.plain (core_of port.old).geometry (member_of port.old) (cursor_of_turn port.old) (core_of port.old).position ⊤ }
+    requires { CanUse client.old.plain (view_of_turn port.old) }
     ensures { (members p : ℕ) (wav : Sound) (own : Own) (h : List Row) → IsOwn wav own client.old → IsAtPort members p own port.old → Stands (core_of port.old) h
         → HasCalled members p wav own Op.Delay client.new port.old port.new result }
 {
@@ -90,7 +90,7 @@ fn delay_line(client: &mut Client, port: &mut Turn<'_>) -> Answer
 
 /// The client starts.
 fn start_line(client: &mut Client, port: &mut Turn<'_>) -> Answer
-    requires { CanUse client.old.plain (core_of port.old).geometry (member_of port.old) (cursor_of_turn port.old) (core_of port.old).position ⊤ }
+    requires { CanUse client.old.plain (view_of_turn port.old) }
     ensures { (members p : ℕ) (wav : Sound) (own : Own) (h : List Row) → IsOwn wav own client.old → IsAtPort members p own port.old → Stands (core_of port.old) h
         → HasCalled members p wav own Op.Start client.new port.old port.new result }
 {
@@ -101,7 +101,7 @@ fn start_line(client: &mut Client, port: &mut Turn<'_>) -> Answer
 
 /// The client plays what is written, and then stops.
 fn drain_line(client: &mut Client, port: &mut Turn<'_>) -> Answer
-    requires { CanUse client.old.plain (core_of port.old).geometry (member_of port.old) (cursor_of_turn port.old) (core_of port.old).position ⊤ }
+    requires { CanUse client.old.plain (view_of_turn port.old) }
     ensures { (members p : ℕ) (wav : Sound) (own : Own) (h : List Row) → IsOwn wav own client.old → IsAtPort members p own port.old → Stands (core_of port.old) h
         → HasCalled members p wav own Op.Drain client.new port.old port.new result }
 {
@@ -166,7 +166,7 @@ fn next_frames(wav: &Wav, fed: u64, frames: u32) -> &[i16]
 /// The client writes the next `frames` frames of its file, or those that are left of it.
 fn write_line(client: &mut Client, port: &mut Turn<'_>, wav: &Wav, frames: u32) -> Answer
     requires few { frames ≤ 4194304 }
-    requires usable { CanUse client.old.plain (core_of port.old).geometry (member_of port.old) (cursor_of_turn port.old) (core_of port.old).position ⊤ }
+    requires usable { CanUse client.old.plain (view_of_turn port.old) }
     requires channels { length client.old.plain.bindings ≡ wav.now.channels }
     requires fed { client.old.plain.fed ≤ frames_of wav.now }
     ensures { (members p : ℕ) (own : Own) (h : List Row) → IsOwn wav.now own client.old → IsAtPort members p own port.old → Stands (core_of port.old) h
@@ -182,7 +182,7 @@ fn write_line(client: &mut Client, port: &mut Turn<'_>, wav: &Wav, frames: u32) 
 /// The call that a line names. A write offers the next frames of the client's file, or those that are left of it.
 pub(crate) fn call_line(client: &mut Client, port: &mut Turn<'_>, wav: &Wav, asked: Op) -> Answer
     requires asked { IsAsked asked }
-    requires usable { CanUse client.old.plain (core_of port.old).geometry (member_of port.old) (cursor_of_turn port.old) (core_of port.old).position ⊤ }
+    requires usable { CanUse client.old.plain (view_of_turn port.old) }
     requires channels { length client.old.plain.bindings ≡ wav.now.channels }
     requires fed { client.old.plain.fed ≤ frames_of wav.now }
     ensures { (members p : ℕ) (own : Own) (h : List Row) → IsOwn wav.now own client.old → IsAtPort members p own port.old → Stands (core_of port.old) h

@@ -1,6 +1,6 @@
 //! What a run gives when its lines are all done.
 ghost use Rattle.std.specs.Prelude.{◌≡◌, ◌≤◌, ◌+◌, ◌++◌, ◌∷◌, ℕ, List, Option, IfOk, IfErr, OnOk, length, map};
-ghost use Rattle.snd_base.specs.declared.places.Cursor.{Cursor};
+ghost use Rattle.mix_core.specs.declared.marks.Marks.{Marks};
 ghost use Rattle.lab_phase.specs.Lines.{Own};
 ghost use Rattle.lab_phase.specs.Meaning.{numbered};
 ghost use Rattle.lab_phase.specs.Stages.{laid_of, own_of, owns_from, stage_of};
@@ -46,8 +46,8 @@ fn push_segments(
 
 /// Appends the segments of a seat's client, if it is open.
 fn push_seat(all: &mut Vec<(u32, Segment)>, client: u32, seat: &Seat) -> Result<(), PcmError>
-    ensures ok { OnOk result ((cursors : List Cursor) (rest : List (Option Own))
-        → all.new.items ++ numbered (client + 1) rest ≡ all.old.items ++ numbered client (own_of cursors client seat.now ∷ rest)) }
+    ensures ok { OnOk result ((marks : List Marks) (rest : List (Option Own))
+        → all.new.items ++ numbered (client + 1) rest ≡ all.old.items ++ numbered client (own_of marks client seat.now ∷ rest)) }
     ensures only { IfErr result (λ e. e ≡ PcmError.Memory) }
 {
     match &seat.client {
@@ -59,7 +59,7 @@ fn push_seat(all: &mut Vec<(u32, Segment)>, client: u32, seat: &Seat) -> Result<
 /// The segments of all clients, each with its client's number.
 fn numbered(alloc: Global, seats: &[Seat]) -> Result<Vec<(u32, Segment)>, PcmError>
     requires { length seats.now ≤ 64 }
-    ensures ok { IfOk result (λ all. (cursors : List Cursor) → all.items ≡ numbered 0 (owns_from cursors 0 seats.now)) }
+    ensures ok { IfOk result (λ all. (marks : List Marks) → all.items ≡ numbered 0 (owns_from marks 0 seats.now)) }
     ensures only { IfErr result (λ e. e ≡ PcmError.Memory) }
 {
     let mut all = Vec::new(alloc);

@@ -10,7 +10,7 @@ ghost use Rattle.lab_phase.specs.Lines.{Own, closed_answer, ended_after, frames_
 ghost use Rattle.lab_phase.specs.Meaning.{card_row, client_row};
 ghost use Rattle.lab_phase.specs.Mixes.{RestsAt};
 ghost use Rattle.lab_phase.specs.Seats.{IsOwn, ends_stretch};
-ghost use Rattle.lab_phase.specs.Stages.{CanTake, HasCalledAt, HasRun, IsAsked, IsAtSeat, IsOpenPort, IsSettled, TakesLine, laid_of};
+ghost use Rattle.lab_phase.specs.Stages.{CanTake, HasCalledAt, HasRun, IsAsked, IsAtSeat, IsOpenPort, IsSettled, TakesLine, laid_of, port_view};
 
 use crate::body::Body;
 use crate::calls::call_line;
@@ -65,8 +65,8 @@ fn keep_ended(
 
 /// An open client makes the call of a line at its turn.
 fn open_line(core: &mut Core, client: &mut Client, number: u32, wav: &Wav, asked: Op) -> Answer
-    requires member { number < length core.old.cursors }
-    requires usable { CanUse client.old.plain core.old.geometry number (slice_index_or core.old.cursors number core.old.next) core.old.position ⊤ }
+    requires member { number < length core.old.marks }
+    requires usable { CanUse client.old.plain (port_view core.old number) }
     requires channels { length client.old.plain.bindings ≡ wav.now.channels }
     requires fed { client.old.plain.fed ≤ frames_of wav.now }
     requires asked { IsAsked asked }

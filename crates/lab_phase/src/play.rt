@@ -28,7 +28,7 @@ pub(crate) fn play(core: &mut Core, played: &mut Vec<i16>, frames: u32) -> Resul
     requires whole { core.old.next.channel ≡ 0 }
     requires fits { core.old.next.frame + frames ≤ end_frame core.old.geometry }
     ensures rests { OnOk result ((ring : Geometry) (members position : ℕ) → RestsAt ring members position core.old → RestsAt ring members (position + frames) core.new) }
-    ensures cursors { OnOk result (core.new.cursors ≡ core.old.cursors) }
+    ensures marks { OnOk result (core.new.marks ≡ core.old.marks) }
     ensures mixes { OnOk result ((sums : ℕ → ℕ → ℤ) → Mixes core.old sums played.old.items → Mixes core.new sums played.new.items) }
     ensures only { IfErr result (λ e. e ≡ PcmError.Memory) }
 {

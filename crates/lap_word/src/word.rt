@@ -1,5 +1,5 @@
 //! Making, reading and changing a word.
-ghost use Rattle.std.specs.Prelude.{◌≡◌, ◌+◌, ◌<◌, pos, negsuc, ◌+ℤ◌, ◌≤ℤ◌};
+ghost use Rattle.std.specs.Prelude.{◌≡◌, ◌+◌, ◌<◌, pos, negsuc, ◌+ℤ◌, ◌≤ℤ◌, ◌-ℤ◌};
 ghost use Rattle.lap_word.specs.Word.{StandsFor, lap_of, count_of, sum_of};
 
 /// What one count is worth in a word: 2 to the power 24.
@@ -54,6 +54,18 @@ pub fn add(word: u64, sample: i16) -> u64
     pack(lap(word), count(word) + 1, sum(word) + sample as i32)
 }
 
+/// The word after one sample was withdrawn: its count is one higher, as after each change, and its
+/// sum has lost the sample. The caller has a count below 255 and a sum that stays from -8388608 to
+/// 8388607.
+pub fn withdraw(word: u64, sample: i16) -> u64
+    requires room { count_of word < 255 }
+    requires sum_low { negsuc 8388607 ≤ℤ (sum_of word -ℤ sample) }
+    requires sum_high { (sum_of word -ℤ sample) ≤ℤ pos 8388607 }
+    ensures stands { StandsFor result (lap_of word) (count_of word + 1) (sum_of word -ℤ sample) }
+{
+    pack(lap(word), count(word) + 1, sum(word) - sample as i32)
+}
+
 /// The word after the player took it: the next lap, with nothing added. The caller has a lap
 /// below 4294967295.
 pub fn taken(word: u64) -> u64
@@ -81,6 +93,14 @@ mod tests {
         let next = taken(word);
         assert_eq!(rt; next, 4303355904);
         assert_eq!(rt; lap(next), 1);
+    }
+
+    #[test]
+    fn a_withdrawn_sample_counts_twice(rt: HostRuntime) {
+        let word = withdraw(add(pack(0, 0, 0), 5), 5);
+        assert_eq!(rt; word, 41943040);
+        assert_eq!(rt; count(word), 2);
+        assert_eq!(rt; sum(word), 0);
     }
 
     #[test]

@@ -15,19 +15,21 @@ use Rattle.lap_word.specs.Word.{StandsFor, StandsFor-fields, count_of, lap_of, s
 use Rattle.mix_core.specs.declared.port.Entry.{Entry}
 use Rattle.mix_core.specs.declared.event.Taken.{Taken}
 use Rattle.mix_core.specs.History.{AreInOrder, is_taken, place_of}
-use Rattle.mix_core.specs.Laid.{at, cursor_of, total}
+use Rattle.mix_core.specs.Laid.{at, marks_after, marks_of, total, value_of}
+use Rattle.mix_core.specs.declared.marks.Marks.{Marks}
+use Rattle.mix_core.specs.OwnLaws.{marks_of-other, marks_of-own}
 use Rattle.mix_core.specs.Sound.{IsNow, IsSound}
 use Rattle.mix_core.specs.Stands.{Agrees}
-use Rattle.mix_core.specs.View.{View, word_at}
-use Rattle.mix_core.proofs.Lists.{at-more_elsewhere, at-more_here, cases_eq, cursor_of-more_other, cursor_of-more_own, is_taken-more, total-more_elsewhere, total-more_here}
+use Rattle.mix_core.specs.View.{View, marks_at, word_at}
+use Rattle.mix_core.proofs.Lists.{at-more_elsewhere, at-more_here, cases_eq, is_taken-more, total-more_elsewhere, total-more_here}
 use Rattle.mix_core.proofs.Words.{words-taken, words-written}
 
--- a core after the next word was taken, and after an entry was added, with a new word there
+-- a core after the next word was taken, and after an entry was laid, with a new word there
 abbrev pub taken_view : View → ℕ → View
 taken_view v word = record v { words = set v.words (word_index v.geometry v.next.frame v.next.channel) word; next = behind v.geometry v.next.frame v.next.channel }
 
-abbrev pub added_view : View → Entry → ℕ → View
-added_view v e word = record v { words = set v.words (word_index v.geometry e.frame e.channel) word; cursors = set v.cursors e.member (behind v.geometry e.frame e.channel) }
+abbrev pub laid_view : View → Entry → ℕ → View
+laid_view v e word = record v { words = set v.words (word_index v.geometry e.frame e.channel) word; marks = set v.marks e.member (marks_after v.geometry (marks_at v e.member) e) }
 
 -- what the next word takes
 abbrev pub taking : View → List Entry → Taken
@@ -37,7 +39,7 @@ taking v es = record { frame = v.next.frame; channel = v.next.channel; value = c
 pub Agrees-published : (v : View) (es : List Entry) (ts : List Taken) (position : ℕ) → v.position ≤ position → Agrees v es ts → Agrees (record v { position = position }) es ts
 Agrees-published v es ts position later a = record {
   next = a.next;
-  cursors = a.cursors;
+  marks = a.marks;
   taken = a.taken;
   ahead = λ f c far. a.ahead f c (omega (arith, far));
   words = a.words;
@@ -49,7 +51,7 @@ Agrees-published v es ts position later a = record {
 pub Agrees-unplugged : (v : View) (es : List Entry) (ts : List Taken) (gone : Bool) → Agrees v es ts → Agrees (record v { gone = gone }) es ts
 Agrees-unplugged v es ts gone a = record {
   next = a.next;
-  cursors = a.cursors;
+  marks = a.marks;
   taken = a.taken;
   ahead = a.ahead;
   words = a.words;
@@ -92,7 +94,7 @@ Agrees-taken v es ts word s stands a =
     let here : P word (nf + g.frames) nc = rw (far, next_lap, ← lap_is) stands in
     record {
       next = ap (λ x. behind g x.frame x.channel) a.next ∙ (sym (next_word-suc g (length ts)) ∙ ap (next_word g) (sym (length-append ts (taking v es ∷ []))));
-      cursors = a.cursors;
+      marks = a.marks;
       taken = λ f c in_range least.
           is_taken-more ts (taking v es) f c
           ∙ (ap (λ b. b || ((nf == f) && (nc == c))) (a.taken f c in_range least)
@@ -111,12 +113,12 @@ is_taken-none ts f c k d none within same =
     let found : is_taken ts f c ≡ true = list_any_at (λ (x : Taken). (x.frame == f) && (x.channel == c)) ts k d within here in
     cc
 
--- an entry was added where nothing was taken
-pub Agrees-added : (v : View) (e : Entry) (es : List Entry) (ts : List Taken) (word : ℕ)
-    → IsSound v → e.member < length v.cursors → IsNow v.geometry v.next e.frame e.channel → e.frame < v.position + v.geometry.frames
-    → StandsFor word (lap_of (word_at v e.frame e.channel)) (count_of (word_at v e.frame e.channel) + 1) (sum_of (word_at v e.frame e.channel) +ℤ e.sample)
-    → Agrees v es ts → Agrees (added_view v e word) (es ++ e ∷ []) ts
-Agrees-added v e es ts word s member now ahead stands a =
+-- an entry was laid where nothing was taken
+pub Agrees-laid : (v : View) (e : Entry) (es : List Entry) (ts : List Taken) (word : ℕ)
+    → IsSound v → e.member < length v.marks → IsNow v.geometry v.next e.frame e.channel → e.frame < v.position + v.geometry.frames
+    → StandsFor word (lap_of (word_at v e.frame e.channel)) (count_of (word_at v e.frame e.channel) + 1) (sum_of (word_at v e.frame e.channel) +ℤ value_of e)
+    → Agrees v es ts → Agrees (laid_view v e word) (es ++ e ∷ []) ts
+Agrees-laid v e es ts word s member now ahead stands a =
     let g : Geometry = v.geometry in
     let f : ℕ = e.frame in
     let c : ℕ = e.channel in
@@ -124,7 +126,7 @@ Agrees-added v e es ts word s member now ahead stands a =
     let Q : ℕ → ℕ → ℕ → Type 0 = λ w k d. StandsFor w (lap g k) (length (at (es ++ e ∷ []) k d)) (total (es ++ e ∷ []) k d) in
     let old : StandsFor (word_at v f c) (lap g f) (length (at es f c)) (total es f c) = a.words f c now in
     let fields : (lap_of (word_at v f c) ≡ lap g f) × (count_of (word_at v f c) ≡ length (at es f c)) × (sum_of (word_at v f c) ≡ total es f c) = StandsFor-fields _ _ _ _ old in
-    let one_more : length (at (es ++ e ∷ []) f c) ≡ length (at es f c) + 1 = ap length (at-more_here es e) ∙ length-append (at es f c) (e.sample ∷ []) in
+    let one_more : length (at (es ++ e ∷ []) f c) ≡ length (at es f c) + 1 = ap length (at-more_here es e) ∙ length-append (at es f c) (value_of e ∷ []) in
     let here : Q word f c = rw (one_more, total-more_here es e, ← fields.0, ← fields.1, ← fields.2) stands in
     let others : (w k d : ℕ) → ¬ ((f ≡ k) × (c ≡ d)) → P w k d → Q w k d = λ w k d elsewhere p. rw (at-more_elsewhere es e k d elsewhere) p in
     let least : first_frame g ≤ f = grind (arith, nat_tests, now.low, s.next_least) in
@@ -132,14 +134,15 @@ Agrees-added v e es ts word s member now ahead stands a =
     let none : is_taken ts f c ≡ false = a.taken f c now.channel least ∙ untaken in
     record {
       next = a.next;
-      cursors = λ m d within.
+      marks = λ m d within.
+          let moved : Marks = marks_after g (marks_at v e.member) e in
           elim (cases_eq m e.member) [
-            | inl own ↦ subst (λ x. get_or (set v.cursors e.member (behind g f c)) x d ≡ cursor_of g x (es ++ e ∷ [])) (sym own)
-                (get_or-set_same v.cursors e.member (behind g f c) d member ∙ sym (cursor_of-more_own g es e))
+            | inl own ↦ subst (λ x. get_or (set v.marks e.member moved) x d ≡ marks_of g x (es ++ e ∷ [])) (sym own)
+                (get_or-set_same v.marks e.member moved d member ∙ (ap (λ y. marks_after g y e) (a.marks e.member _ member) ∙ sym (marks_of-own g e.member es e refl)))
             | inr other ↦
-                get_or-set_other v.cursors e.member m (behind g f c) d other
-                ∙ (a.cursors m d (subst (λ n. m < n) (length-set v.cursors e.member (behind g f c)) within)
-                ∙ sym (cursor_of-more_other g es e m (λ same. other (sym same))))
+                get_or-set_other v.marks e.member m moved d other
+                ∙ (a.marks m d (subst (λ n. m < n) (length-set v.marks e.member moved) within)
+                ∙ sym (marks_of-other g m es e (λ same. other (sym same))))
           ];
       taken = a.taken;
       ahead = λ k d far.

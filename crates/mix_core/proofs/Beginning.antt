@@ -7,11 +7,13 @@ use Rattle.std.proofs.lemmas.List.Elements.{All-replicate}
 use Rattle.std.proofs.lemmas.Nat.{div-mul-add}
 use Rattle.snd_base.specs.declared.geometry.Geometry.{Geometry}
 use Rattle.snd_base.specs.declared.places.Cursor.{Cursor}
-use Rattle.snd_base.specs.Places.{IsWithin, first_frame, first_free, lap, word_index}
+use Rattle.snd_base.specs.Places.{first_frame, first_free, lap, word_index}
 use Rattle.lap_word.specs.Word.{StandsFor}
 use Rattle.mix_core.specs.Calls.{IsNew}
 use Rattle.mix_core.specs.LegalLaws.{first_frame-le}
-use Rattle.mix_core.specs.Sound.{IsNow, IsSound}
+use Rattle.mix_core.specs.Sound.{AreWithin, IsNow, IsSound}
+use Rattle.mix_core.specs.declared.marks.Marks.{Marks}
+use Rattle.mix_core.specs.Marks.{start_marks}
 use Rattle.mix_core.specs.Stands.{Stands}
 use Rattle.mix_core.specs.View.{View, word_at}
 use Rattle.mix_core.proofs.Soundness.{HoldsAtMost-empty}
@@ -26,7 +28,7 @@ abbrev pub new_view : Geometry → ℕ → ℕ → View
 new_view g members word = record {
   geometry = g;
   words = replicate (g.frames * g.channels) word;
-  cursors = replicate members (start g);
+  marks = replicate members (start_marks g);
   next = start g;
   position = first_frame g;
   gone = false;
@@ -48,13 +50,19 @@ word_at-new g members word f c in_range = get_or-replicate (g.frames * g.channel
 pub IsSound-new : (g : Geometry) (members word : ℕ) → members ≤ 64 → StandsFor word g.first_lap 0 (pos 0) → IsSound (new_view g members word)
 IsSound-new g members word few stands = record {
   room = length-replicate (g.frames * g.channels) word;
-  members = omega (arith, length-replicate members (start g));
+  members = omega (arith, length-replicate members (start_marks g));
   next_channel = omega (arith, g.channels_least);
   next_least = omega arith;
   next_most = first_frame-le g;
   position_least = omega arith;
   position_most = omega arith;
-  cursors_within = All-replicate (λ (a : Cursor). IsWithin g a.frame) members (start g) (record { least = omega arith; most = first_frame-le g });
+  marks_within = All-replicate (λ (m : Marks). AreWithin g m) members (start_marks g) (record {
+    cursor = record { least = omega arith; most = first_frame-le g };
+    floor = record { least = omega arith; most = first_frame-le g };
+    high = record { least = omega arith; most = first_frame-le g };
+    cursor_high = λ c. omega arith;
+    floor_high = λ c. omega arith;
+  });
   words_now = λ f c now. rw (word_at-new g members word f c now.channel, lap-first g f c now) (HoldsAtMost-empty word g.first_lap _ stands);
 }
 
@@ -64,7 +72,7 @@ Stands-new g members word stands = record {
   position = refl;
   agrees = record {
     next = grind arith;
-    cursors = λ m d within. get_or-replicate members m (start g) d (subst (λ n. m < n) (length-replicate members (start g)) within);
+    marks = λ m d within. get_or-replicate members m (start_marks g) d (subst (λ n. m < n) (length-replicate members (start_marks g)) within);
     taken = λ f c in_range least. grind (arith, nat_tests, least);
     ahead = λ f c far. refl;
     words = λ f c now. rw (word_at-new g members word f c now.channel, lap-first g f c now) stands;
@@ -76,8 +84,8 @@ Stands-new g members word stands = record {
 pub IsNew-of : (g : Geometry) (members word : ℕ) → StandsFor word g.first_lap 0 (pos 0) → IsNew (new_view g members word) g members
 IsNew-of g members word stands = record {
   geometry = refl;
-  members_is = length-replicate members (start g);
-  cursors = λ m d within. get_or-replicate members m (start g) d within;
+  members_is = length-replicate members (start_marks g);
+  marks = λ m d within. get_or-replicate members m (start_marks g) d within;
   next = refl;
   position = refl;
   gone = refl;

@@ -1,36 +1,39 @@
 -- What a core does at an event is a reply to it after every history that the core stands for.
-use Rattle.std.proofs.Common.{◌≡◌, ◌+◌, ◌<◌, true, List, [], ◌∷◌, ◌++◌, length, subst, sym, refl, ap, ◌∙◌, append_assoc, arith}
+use Rattle.std.proofs.Common.{◌≡◌, ℕ, ◌+◌, ◌<◌, true, List, [], ◌∷◌, ◌++◌, length, subst, sym, refl, ap, ◌∙◌, append_assoc, arith}
 use Rattle.std.specs.List.{zip}
 use Rattle.std.proofs.lemmas.List.{append-nil, length-append}
 use Rattle.std.proofs.lemmas.List.Elements.{filter-append}
-use Rattle.snd_base.specs.Places.{first_free}
+use Rattle.snd_base.specs.Places.{IsFrom, first_free}
 use Rattle.mix_core.specs.declared.event.Event.{Event}
-use Rattle.mix_core.specs.declared.event.Event.TheVariants.{Add, Take}
+use Rattle.mix_core.specs.declared.event.Event.TheVariants.{Add, Publish, Take}
 use Rattle.mix_core.specs.declared.event.Reply.{Reply}
-use Rattle.mix_core.specs.declared.event.Reply.TheVariants.{Late, Took}
+use Rattle.mix_core.specs.declared.event.Reply.TheVariants.{In, Late, Outside, Published, Took}
 use Rattle.mix_core.specs.declared.event.Taken.{Taken}
 use Rattle.mix_core.specs.declared.port.Entry.{Entry}
-use Rattle.mix_core.specs.Calls.{IsTaken}
-use Rattle.mix_core.specs.History.{AreReplies, IsReply, Row}
-use Rattle.mix_core.specs.KeptLaws.{AreAlike-kept, IsReply-alike, kept_rows-kept}
-use Rattle.mix_core.specs.LegalLaws.{AreReplies-last, AreReplies-more}
-use Rattle.mix_core.specs.Run.{IsAnswered, IsRun, is_kept, kept_rows}
+use Rattle.mix_core.specs.Calls.{IsLaidBy, IsPublished, IsTaken}
+use Rattle.mix_core.specs.History.{IsInside, IsReply, Row, event_by, row_of}
+use Rattle.mix_core.specs.declared.marks.Marks.{Marks}
+use Rattle.mix_core.specs.declared.port.Kind.TheVariants.{Added}
+use Rattle.mix_core.specs.KeptLaws.{kept_rows-kept}
+use Rattle.mix_core.specs.LegalLaws.{AreReplies-last}
+use Rattle.snd_base.specs.declared.geometry.Geometry.{Geometry}
+use Rattle.mix_core.specs.Run.{AreRepliesSince, IsAnswered, IsReplied, IsReplySince, IsRun, Keeps, is_kept, kept_rows}
 use Rattle.mix_core.specs.Stands.{Stands}
-use Rattle.mix_core.specs.TurnLaws.{CanMiss, Stands-late}
+use Rattle.mix_core.specs.TurnLaws.{CanMiss, Stands-missed}
 use Rattle.mix_core.specs.View.{MayAdd, View}
 
 -- a row that stands at the end of a core's history is a reply after what stands before it
-pub IsReply-last : (v w : View) (h : List Row) (r : Row) → w.geometry ≡ v.geometry → length w.cursors ≡ length v.cursors
-    → Stands w (h ++ r ∷ []) → IsReply v.geometry (length v.cursors) h r
+pub IsReply-last : (v w : View) (h : List Row) (r : Row) → w.geometry ≡ v.geometry → length w.marks ≡ length v.marks
+    → Stands w (h ++ r ∷ []) → IsReply v.geometry (length v.marks) h r
 IsReply-last v w h r geometry members s =
     subst (λ n. IsReply v.geometry n h r) members
-    (subst (λ g. IsReply g (length w.cursors) h r) geometry (AreReplies-last w.geometry (length w.cursors) [] h r s.legal))
+    (subst (λ g. IsReply g (length w.marks) h r) geometry (AreReplies-last w.geometry (length w.marks) [] h r s.legal))
 
 -- an event whose row is kept is answered where each history goes on with this row
-pub IsAnswered-kept : (v w : View) (e : Event) (r : Reply) → is_kept (e, r) ≡ true
-    → w.geometry ≡ v.geometry → length w.cursors ≡ length v.cursors → w.gone ≡ v.gone
-    → ((h : List Row) → Stands v h → Stands w (h ++ (e, r) ∷ [])) → IsAnswered v w e r
-IsAnswered-kept v w e r kept geometry members gone stands = record {
+pub IsReplied-kept : (v w : View) (e : Event) (r : Reply) → is_kept (e, r) ≡ true
+    → w.geometry ≡ v.geometry → length w.marks ≡ length v.marks → w.gone ≡ v.gone
+    → ((h : List Row) → Stands v h → Stands w (h ++ (e, r) ∷ [])) → IsReplied v w e r
+IsReplied-kept v w e r kept geometry members gone stands = record {
   geometry = geometry;
   members = members;
   gone = gone;
@@ -39,21 +42,59 @@ IsAnswered-kept v w e r kept geometry members gone stands = record {
 }
 
 -- an add whose frame and channel were taken
-pub IsAnswered-late : (v : View) (e : Entry) → MayAdd v e → e.frame < first_free v.next e.channel
-    → IsAnswered v v (Add e.member e.frame e.channel e.sample) Late
-IsAnswered-late v e may taken =
+pub IsReplied-late : (v : View) (e : Entry) → e.kind ≡ Added → MayAdd v e → e.frame < first_free v.next e.channel
+    → IsReplied v v (Add e.member e.frame e.channel e.sample) Late
+IsReplied-late v e kind may taken =
     let can : CanMiss v e = record {
+      kind = kind;
       member = may.member_in_range;
       channel = may.channel_in_range;
       from_cursor = may.from_cursor;
       ahead = may.ahead;
       taken = taken;
     } in
-    IsAnswered-kept v v _ Late refl refl refl refl (λ h s. Stands-late v h e can s)
+    IsReplied-kept v v _ Late refl refl refl refl (λ h s. subst (λ k. Stands v (h ++ (event_by k e.member e.frame e.channel e.sample, Late) ∷ [])) kind (Stands-missed v h e can s))
+
+-- an add that its member may not make
+pub IsReplied-outside : (v : View) (e : Entry) → ¬ (MayAdd v e) → IsReplied v v (Add e.member e.frame e.channel e.sample) Outside
+IsReplied-outside v e not_may = record {
+  geometry = refl;
+  members = refl;
+  gone = refl;
+  reply = λ h s inside. not_may (record {
+    member_in_range = inside.member_in_range;
+    channel_in_range = inside.channel_in_range;
+    from_cursor = subst (λ (m : Marks). IsFrom m.cursor e.frame e.channel) (sym (s.agrees.marks e.member _ inside.member_in_range)) inside.from_cursor;
+    lap_fits = inside.lap_fits;
+    ahead = subst (λ p. e.frame < p + v.geometry.frames) (sym s.position) inside.ahead;
+  });
+  stands = λ h s. subst (Stands v) (sym (append-nil h)) s;
+}
+
+-- an add that was made
+pub IsReplied-added : (v w : View) (e : Entry) → e.kind ≡ Added → MayAdd v e → IsLaidBy v w e → IsReplied v w (Add e.member e.frame e.channel e.sample) In
+IsReplied-added v w e kind may laid =
+    IsReplied-kept v w _ In refl laid.geometry laid.members laid.gone
+    (λ h s.
+    let row : row_of e ≡ (Add e.member e.frame e.channel e.sample, In) = ap (λ k. (event_by k e.member e.frame e.channel e.sample, In)) kind in
+    let inside : IsInside v.geometry (length v.marks) h e.member e.frame e.channel = record {
+      member_in_range = may.member_in_range;
+      channel_in_range = may.channel_in_range;
+      from_cursor = subst (λ (m : Marks). IsFrom m.cursor e.frame e.channel) (s.agrees.marks e.member _ may.member_in_range) may.from_cursor;
+      lap_fits = may.lap_fits;
+      ahead = subst (λ p. e.frame < p + v.geometry.frames) s.position may.ahead;
+    } in
+    subst (λ r. Stands w (h ++ r ∷ [])) row (laid.stands h s (subst (IsReply v.geometry (length v.marks) h) (sym row) (inside, laid.untaken h s))))
 
 -- a take
-pub IsAnswered-took : (v w : View) (t : Taken) → IsTaken v w t → IsAnswered v w Take (Took t.frame t.channel t.value)
-IsAnswered-took v w t taken = IsAnswered-kept v w Take _ refl taken.geometry (ap length taken.cursors) taken.gone taken.stands
+pub IsReplied-took : (v w : View) (t : Taken) → IsTaken v w t → IsReplied v w Take (Took t.frame t.channel t.value)
+IsReplied-took v w t taken = IsReplied-kept v w Take _ refl taken.geometry (ap length taken.marks) taken.gone taken.stands
+
+-- a publication
+pub IsReplied-published : (v w : View) (frame : ℕ) → IsPublished v w → frame ≡ w.position → IsReplied v w Publish (Published frame)
+IsReplied-published v w frame published is =
+    IsReplied-kept v w Publish (Published frame) refl (ap (λ (x : View). x.geometry) published.changed) (ap (λ (x : View). length x.marks) published.changed) (ap (λ (x : View). x.gone) published.changed)
+    (λ h s. subst (λ n. Stands w (h ++ (Publish, Published n) ∷ [])) (sym (is ∙ ap (λ (x : View). x.position) published.changed)) (published.stands h s))
 
 -- rows with one more event and its reply
 pub zip-more : {A B : Type 0} (xs : List A) (ys : List B) (x : A) (y : B) → length ys ≡ length xs → zip (xs ++ x ∷ []) (ys ++ y ∷ []) ≡ zip xs ys ++ (x, y) ∷ []
@@ -61,6 +102,13 @@ zip-more [] [] x y same = refl
 zip-more [] (b ∷ ys) x y same = absurd (omega arith)
 zip-more (a ∷ xs) [] x y same = absurd (omega arith)
 zip-more (a ∷ xs) (b ∷ ys) x y same = ap (λ zs. (a, b) ∷ zs) (zip-more xs ys x y (omega arith))
+
+-- one more reply of a run
+AreRepliesSince-more : (g : Geometry) (members : ℕ) (h rows rs : List Row) (r : Row)
+    → AreRepliesSince g members h rows rs → IsReplySince g members h (rows ++ rs) r → AreRepliesSince g members h rows (rs ++ r ∷ [])
+AreRepliesSince-more g members h rows [] r are is = (subst (λ x. IsReplySince g members h x r) (append-nil rows) is, tt)
+AreRepliesSince-more g members h rows (x ∷ xs) r are is =
+    (are.0, AreRepliesSince-more g members h (rows ++ x ∷ []) xs r are.1 (subst (λ y. IsReplySince g members h y r) (sym (append_assoc rows (x ∷ []) xs)) is))
 
 -- no event yet
 pub IsRun-none : (v : View) → IsRun v v [] []
@@ -74,23 +122,23 @@ IsRun-none v = record {
 }
 
 -- one more event
-pub IsRun-more : (u v w : View) (es : List Event) (rs : List Reply) (e : Event) (r : Reply) → IsRun u v es rs → IsAnswered v w e r → IsRun u w (es ++ e ∷ []) (rs ++ r ∷ [])
-IsRun-more u v w es rs e r run one =
+pub IsRun-more : (u v w : View) (st su : List Entry) (es : List Event) (rs : List Reply) (e : Event) (r : Reply)
+    → Keeps st (zip es rs) → IsRun u v es rs → IsAnswered v w st su e r → IsRun u w (es ++ e ∷ []) (rs ++ r ∷ [])
+IsRun-more u v w st su es rs e r keeps run one =
     let rows : List Row = zip es rs in
     let more : zip (es ++ e ∷ []) (rs ++ r ∷ []) ≡ rows ++ (e, r) ∷ [] = zip-more es rs e r run.one_each in
-    let reply : (h : List Row) → Stands u h → IsReply u.geometry (length u.cursors) (h ++ rows) (e, r) = λ h s.
-    IsReply-alike u.geometry (length u.cursors) (h ++ kept_rows rows) (h ++ rows) (e, r) (AreAlike-kept u.geometry h rows)
-    (subst (λ n. IsReply u.geometry n (h ++ kept_rows rows) (e, r)) run.members
-    (subst (λ g. IsReply g (length v.cursors) (h ++ kept_rows rows) (e, r)) run.geometry (one.reply (h ++ kept_rows rows) (run.stands h s)))) in
+    let reply : (h : List Row) → Stands u h → IsReplySince u.geometry (length u.marks) h rows (e, r) = λ h s.
+    subst (λ n. IsReplySince u.geometry n h rows (e, r)) run.members
+    (subst (λ g. IsReplySince g (length v.marks) h rows (e, r)) run.geometry (one.reply h rows keeps (run.stands h s))) in
     let kept : kept_rows (rows ++ (e, r) ∷ []) ≡ kept_rows rows ++ kept_rows ((e, r) ∷ []) = filter-append is_kept rows ((e, r) ∷ []) in
     record {
       geometry = one.geometry ∙ run.geometry;
       members = one.members ∙ run.members;
       gone = one.gone ∙ run.gone;
       one_each = length-append rs (r ∷ []) ∙ (ap (λ n. n + 1) run.one_each ∙ sym (length-append es (e ∷ [])));
-      replies = λ h s. subst (AreReplies u.geometry (length u.cursors) h) (sym more)
-          (AreReplies-more u.geometry (length u.cursors) h rows (e, r) (run.replies h s) (reply h s));
+      replies = λ h s. subst (AreRepliesSince u.geometry (length u.marks) h []) (sym more)
+          (AreRepliesSince-more u.geometry (length u.marks) h [] rows (e, r) (run.replies h s) (reply h s));
       stands = λ h s. subst (λ x. Stands w (h ++ kept_rows x)) (sym more)
           (subst (λ x. Stands w (h ++ x)) (sym kept)
-          (subst (Stands w) (append_assoc h (kept_rows rows) (kept_rows ((e, r) ∷ []))) (one.stands (h ++ kept_rows rows) (run.stands h s))));
+          (subst (Stands w) (append_assoc h (kept_rows rows) (kept_rows ((e, r) ∷ []))) (one.stands h rows keeps (run.stands h s))));
     }

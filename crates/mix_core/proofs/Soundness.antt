@@ -1,65 +1,114 @@
 -- What each event keeps true of every core.
-use Rattle.std.proofs.Common.{◌≡◌, ℕ, ◌+◌, ◌*◌, ◌<◌, ◌≤◌, true, false, List, length, get_or, set, ℤ, pos, negsuc, ◌+ℤ◌, ◌≤ℤ◌, arith, ◌∙◌, nat_lt, cond}
+use Rattle.std.proofs.Common.{◌≡◌, ℕ, ◌+◌, ◌*◌, ◌<◌, ◌≤◌, List, length, get_or, set, ℤ, pos, negsuc, ◌+ℤ◌, ◌≤ℤ◌, inl, inr, arith, ◌∙◌}
 use Rattle.std.proofs.Math.Nat.{add-div_right, div-lt_iff_lt-mul}
 use Rattle.std.proofs.lemmas.Bool.Decides.{nat_tests}
 use Rattle.std.proofs.lemmas.Int.{ints}
 use Rattle.std.proofs.lemmas.List.{length-set}
 use Rattle.std.proofs.lemmas.List.Elements.{All-set}
-use Rattle.std.proofs.lemmas.List.Sums.{count_by-le-length, sum_by-set}
+use Rattle.std.proofs.lemmas.List.Sums.{sum_by-le, sum_by-set}
+use Rattle.std.proofs.lemmas.Bool.{cases_Bool}
 use Rattle.snd_base.specs.declared.geometry.Geometry.{Geometry}
-use Rattle.snd_base.specs.declared.places.Cursor.{Cursor}
 use Rattle.snd_base.specs.PlaceLaws.{first_free-behind_grows, first_free-behind_low}
-use Rattle.snd_base.specs.Places.{IsFrom, IsWithin, behind, end_frame, first_frame, first_free, lap, word_index}
+use Rattle.snd_base.specs.Places.{IsFrom, behind, end_frame, first_frame, first_free, lap, word_index}
 use Rattle.lap_word.specs.Word.{StandsFor, StandsFor-fields, count_of, lap_of, sum_of}
 use Rattle.mix_core.specs.declared.port.Entry.{Entry}
-use Rattle.mix_core.specs.Sound.{HoldsAtMost, IsNow, IsSound, past}
-use Rattle.mix_core.specs.View.{View, word_at}
-use Rattle.mix_core.proofs.Agreement.{IsNow-next, added_view, taken_view}
+use Rattle.mix_core.specs.Sound.{AreWithin, HoldsAtMost, IsNow, IsSound, all_hold, hold_at, may_hold}
+use Rattle.mix_core.specs.declared.marks.Marks.{Marks}
+use Rattle.mix_core.specs.Laid.{marks_after, value_of}
+use Rattle.mix_core.specs.Marks.{added_at, is_before, later_of, withdrawn_at}
+use Rattle.mix_core.specs.MarkLaws.{later_up_to, place_up_to, up_to, up_to_later, up_to_place}
+use Rattle.mix_core.specs.View.{View, marks_at, word_at}
+use Rattle.mix_core.proofs.Agreement.{IsNow-next, laid_view, taken_view}
 use Rattle.mix_core.proofs.Words.{words-taken, words-written}
 
--- one cursor moves
-pub past-set : (cursors : List Cursor) (m : ℕ) (at d : Cursor) (f c : ℕ) → m < length cursors
-    → past (set cursors m at) f c + cond (nat_lt f (first_free (get_or cursors m d) c)) 1 0 ≡ past cursors f c + cond (nat_lt f (first_free at c)) 1 0
-past-set cursors m at d f c within = sum_by-set (λ (a : Cursor). cond (nat_lt f (first_free a c)) 1 0) cursors m at d within
+-- one member's marks move
+pub all_hold-set : (ms : List Marks) (m : ℕ) (at d : Marks) (f c : ℕ) → m < length ms → all_hold (set ms m at) f c + may_hold (get_or ms m d) f c ≡ all_hold ms f c + may_hold at f c
+all_hold-set ms m at d f c within = sum_by-set (λ (x : Marks). may_hold x f c) ms m at d within
 
--- a cursor that is not past a place moves behind it: one more is past it
-pub past-more : (g : Geometry) (cursors : List Cursor) (m : ℕ) (d : Cursor) (f c : ℕ) → m < length cursors → c < g.channels → IsFrom (get_or cursors m d) f c
-    → past (set cursors m (behind g f c)) f c ≡ past cursors f c + 1
-past-more g cursors m d f c within in_range from =
-    let before : nat_lt f (first_free (get_or cursors m d) c) ≡ false = grind (arith, nat_tests) in
-    let behind_it : first_free (behind g f c) c ≡ f + 1 = first_free-behind_low g f c c in_range (omega arith) in
-    let after : nat_lt f (first_free (behind g f c) c) ≡ true = grind (arith, nat_tests) in
-    let moved : past (set cursors m (behind g f c)) f c + 0 ≡ past cursors f c + 1 = rw (before, after) at (past-set cursors m (behind g f c) d f c within) in
-    omega arith
+-- no member holds more than three anywhere
+pub all_hold-most : (ms : List Marks) (f c : ℕ) → all_hold ms f c ≤ length ms * 3
+all_hold-most ms f c = sum_by-le (λ (x : Marks). may_hold x f c) 3 ms (λ i d within. most f (first_free (get_or ms i d).floor c) (first_free (get_or ms i d).cursor c) (first_free (get_or ms i d).high c)) where
+  most : (f a b c : ℕ) → hold_at f a b c ≤ 3
+  most f a b c = grind (arith, nat_tests)
 
--- a greater bound is passed by no fewer
-pub test_grows : (k a b : ℕ) → a ≤ b → cond (nat_lt k a) 1 0 ≤ cond (nat_lt k b) 1 0
-test_grows k a b up = grind (arith, nat_tests)
+-- what a member may hold when its marks move: one more at the place, and no less elsewhere
+pub record HoldsMoreAt (g : Geometry) (a b : Marks) (f c : ℕ) : Type 0 where
+  pub own : may_hold a f c + 1 ≤ may_hold b f c
+  pub others : (k d : ℕ) → d < g.channels → may_hold a k d ≤ may_hold b k d
 
--- and no fewer are past any other
-pub past-grows : (g : Geometry) (cursors : List Cursor) (m : ℕ) (d : Cursor) (f c k e : ℕ) → m < length cursors → e < g.channels → IsFrom (get_or cursors m d) f c
-    → past cursors k e ≤ past (set cursors m (behind g f c)) k e
-past-grows g cursors m d f c k e within in_range from =
-    let grows : first_free (get_or cursors m d) e ≤ first_free (behind g f c) e = first_free-behind_grows g (get_or cursors m d) f c e from in_range in
-    let moved : past (set cursors m (behind g f c)) k e + cond (nat_lt k (first_free (get_or cursors m d) e)) 1 0 ≡ past cursors k e + cond (nat_lt k (first_free (behind g f c) e)) 1 0 = past-set cursors m (behind g f c) d k e within in
-    let tests : cond (nat_lt k (first_free (get_or cursors m d) e)) 1 0 ≤ cond (nat_lt k (first_free (behind g f c) e)) 1 0 = test_grows k _ _ grows in
-    omega arith
+hold-true : (f a b c x y : ℕ) → b ≤ x → c ≤ y → x ≤ y → b ≤ c → hold_at f a b c ≤ hold_at f c x y
+hold-true f a b c x y bx cy xy bc = grind (arith, nat_tests)
 
--- a member that is not past a place is not counted there, so that fewer are past it than there are members
-pub past-lt : (g : Geometry) (cursors : List Cursor) (m : ℕ) (d : Cursor) (f c : ℕ) → m < length cursors → c < g.channels → IsFrom (get_or cursors m d) f c
-    → past cursors f c < length cursors
-past-lt g cursors m d f c within in_range from =
-    let more : past (set cursors m (behind g f c)) f c ≡ past cursors f c + 1 = past-more g cursors m d f c within in_range from in
-    let most : past (set cursors m (behind g f c)) f c ≤ length (set cursors m (behind g f c)) = count_by-le-length (λ (a : Cursor). nat_lt f (first_free a c)) (set cursors m (behind g f c)) in
-    omega (arith, length-set cursors m (behind g f c))
+hold-false : (f a b c x y : ℕ) → b ≤ x → c ≤ y → c ≤ b → a ≤ c → hold_at f a b c ≤ hold_at f a x y
+hold-false f a b c x y bx cy cb ac = grind (arith, nat_tests)
 
--- a word with fewer than 64 samples has room for one more
+own-true : (f a b c x y : ℕ) → b ≤ f → x ≡ f + 1 → x ≤ y → hold_at f a b c + 1 ≤ hold_at f c x y
+own-true f a b c x y bf xf xy = grind (arith, nat_tests)
+
+own-false : (f a b c x y : ℕ) → b ≤ f → c ≤ b → a ≤ c → x ≡ f + 1 → x ≤ y → hold_at f a b c + 1 ≤ hold_at f a x y
+own-false f a b c x y bf cb ac xf xy = grind (arith, nat_tests)
+
+hold-back : (f a b c x : ℕ) → x ≤ b → a ≤ x → b ≤ c → hold_at f a b c ≤ hold_at f a x c
+hold-back f a b c x xb ax bc = grind (arith, nat_tests)
+
+own-back : (f a b c x : ℕ) → a ≤ f → f < b → b ≤ c → x ≡ f → hold_at f a b c + 1 ≤ hold_at f a x c
+own-back f a b c x af fb bc xf = grind (arith, nat_tests)
+
+pub holds-added : (g : Geometry) (m : Marks) (f c : ℕ) → AreWithin g m → c < g.channels → IsFrom m.cursor f c → HoldsMoreAt g m (added_at g m f c) f c
+holds-added g m f c x channel from =
+    let here : first_free (behind g f c) c ≡ f + 1 = first_free-behind_low g f c c channel (omega arith) in
+    elim (cases_Bool (is_before m.cursor m.high)) [
+      | inl before ↦ rw before (record {
+        own = own-true f (first_free m.floor c) (first_free m.cursor c) (first_free m.high c) (first_free (behind g f c) c) (first_free (later_of m.high (behind g f c)) c) from here (later_up_to m.high (behind g f c) c);
+        others = λ k d d_in. hold-true k (first_free m.floor d) (first_free m.cursor d) (first_free m.high d) (first_free (behind g f c) d) (first_free (later_of m.high (behind g f c)) d)
+            (first_free-behind_grows g m.cursor f c d from d_in) (up_to_later m.high (behind g f c) d) (later_up_to m.high (behind g f c) d) (x.cursor_high d);
+      })
+      | inr level ↦ rw level (record {
+        own = own-false f (first_free m.floor c) (first_free m.cursor c) (first_free m.high c) (first_free (behind g f c) c) (first_free (later_of m.high (behind g f c)) c)
+            from (up_to m.high m.cursor c level) (x.floor_high c) here (later_up_to m.high (behind g f c) c);
+        others = λ k d d_in. hold-false k (first_free m.floor d) (first_free m.cursor d) (first_free m.high d) (first_free (behind g f c) d) (first_free (later_of m.high (behind g f c)) d)
+            (first_free-behind_grows g m.cursor f c d from d_in) (up_to_later m.high (behind g f c) d) (up_to m.high m.cursor d level) (x.floor_high d);
+      })
+    ]
+
+pub holds-withdrawn : (g : Geometry) (m : Marks) (f c : ℕ) → AreWithin g m → c < g.channels → IsFrom m.floor f c → f < first_free m.cursor c → HoldsMoreAt g m (withdrawn_at m f c) f c
+holds-withdrawn g m f c x channel from near =
+    let here : first_free (record { frame = f; channel = c }) c ≡ f = grind (arith, nat_tests) in
+    record {
+      own = own-back f (first_free m.floor c) (first_free m.cursor c) (first_free m.high c) (first_free (record { frame = f; channel = c }) c) from near (x.cursor_high c) here;
+      others = λ k d d_in. hold-back k (first_free m.floor d) (first_free m.cursor d) (first_free m.high d) (first_free (record { frame = f; channel = c }) d)
+          (place_up_to m.cursor f c d near) (up_to_place m.floor f c d from) (x.cursor_high d);
+    }
+
+-- the marks stay within the ring's frames
+pub AreWithin-added : (g : Geometry) (m : Marks) (f c : ℕ) → AreWithin g m → first_frame g ≤ f → f + 1 ≤ end_frame g → AreWithin g (added_at g m f c)
+AreWithin-added g m f c x least end = record {
+  cursor = record { least = grind (arith, nat_tests); most = grind (arith, nat_tests) };
+  floor = record { least = grind (arith, nat_tests, x.floor.least, x.high.least); most = grind (arith, nat_tests, x.floor.most, x.high.most) };
+  high = record { least = grind (arith, nat_tests, x.high.least); most = grind (arith, nat_tests, x.high.most, end) };
+  cursor_high = λ d. later_up_to m.high (behind g f c) d;
+  floor_high = λ d. elim (cases_Bool (is_before m.cursor m.high)) [
+    | inl before ↦ rw before (up_to_later m.high (behind g f c) d)
+    | inr level ↦ rw level (omega (arith, x.floor_high d, up_to_later m.high (behind g f c) d))
+  ];
+}
+
+pub AreWithin-withdrawn : (g : Geometry) (m : Marks) (f c : ℕ) → AreWithin g m → first_frame g ≤ f → f < first_free m.cursor c → AreWithin g (withdrawn_at m f c)
+AreWithin-withdrawn g m f c x least near = record {
+  cursor = record { least = least; most = grind (arith, nat_tests, x.cursor.most, near) };
+  floor = x.floor;
+  high = x.high;
+  cursor_high = λ d. omega (arith, place_up_to m.cursor f c d near, x.cursor_high d);
+  floor_high = x.floor_high;
+}
+
+-- a word with fewer than 192 entries has room for one more
 pub record HasRoom (w : ℕ) (sample : ℤ) : Type 0 where
   pub count : count_of w < 255
   pub low : negsuc 8388607 ≤ℤ (sum_of w +ℤ sample)
   pub high : (sum_of w +ℤ sample) ≤ℤ pos 8388607
 
-pub HasRoom-of : (w l most : ℕ) (sample : ℤ) → HoldsAtMost w l most → most < 64 → negsuc 32767 ≤ℤ sample → sample ≤ℤ pos 32767 → HasRoom w sample
+pub HasRoom-of : (w l most : ℕ) (sample : ℤ) → HoldsAtMost w l most → most < 192 → negsuc 32767 ≤ℤ sample → sample ≤ℤ pos 32768 → HasRoom w sample
 HasRoom-of w l most sample holds few low high = record {
   count = omega (arith, holds.count);
   low = omega (arith, ints, holds.count, holds.low, holds.high);
@@ -67,7 +116,7 @@ HasRoom-of w l most sample holds few low high = record {
 }
 
 -- a word with one more sample
-pub HoldsAtMost-more : (w word l most : ℕ) (sample : ℤ) → HoldsAtMost w l most → negsuc 32767 ≤ℤ sample → sample ≤ℤ pos 32767
+pub HoldsAtMost-more : (w word l most : ℕ) (sample : ℤ) → HoldsAtMost w l most → negsuc 32767 ≤ℤ sample → sample ≤ℤ pos 32768
     → StandsFor word (lap_of w) (count_of w + 1) (sum_of w +ℤ sample) → HoldsAtMost word l (most + 1)
 HoldsAtMost-more w word l most sample holds low high stands =
     let fields : (lap_of word ≡ lap_of w) × (count_of word ≡ count_of w + 1) × (sum_of word ≡ sum_of w +ℤ sample) = StandsFor-fields _ _ _ _ stands in
@@ -107,7 +156,7 @@ IsSound-published v s = record {
   next_most = s.next_most;
   position_least = s.next_least;
   position_most = omega arith;
-  cursors_within = s.cursors_within;
+  marks_within = s.marks_within;
   words_now = s.words_now;
 }
 
@@ -128,8 +177,8 @@ IsSound-taken v word s fits stands =
     let lap_is : lap_of (word_at v nf nc) ≡ lap g nf = (s.words_now nf nc (IsNow-next v s)).of_lap in
     let some : 0 < g.frames = omega (arith, g.frames_least) in
     let next_lap : lap g (nf + g.frames) ≡ lap g nf + 1 = add-div_right nf some in
-    let P : ℕ → ℕ → ℕ → Type 0 = λ w f c. HoldsAtMost w (lap g f) (past v.cursors f c) in
-    let here : P word (nf + g.frames) nc = HoldsAtMost-empty word (lap g (nf + g.frames)) (past v.cursors (nf + g.frames) nc) (rw (next_lap, ← lap_is) stands) in
+    let P : ℕ → ℕ → ℕ → Type 0 = λ w f c. HoldsAtMost w (lap g f) (all_hold v.marks f c) in
+    let here : P word (nf + g.frames) nc = HoldsAtMost-empty word (lap g (nf + g.frames)) (all_hold v.marks (nf + g.frames) nc) (rw (next_lap, ← lap_is) stands) in
     let end : nf + 1 ≤ end_frame g = suc-le-end_frame g nf fits in
     record {
       room = length-set v.words (word_index g nf nc) word ∙ s.room;
@@ -139,35 +188,50 @@ IsSound-taken v word s fits stands =
       next_most = grind (arith, nat_tests, s.next_most, end);
       position_least = s.position_least;
       position_most = grind (arith, nat_tests, s.position_most);
-      cursors_within = s.cursors_within;
+      marks_within = s.marks_within;
       words_now = words-taken P g v.next v.words word s.room s.next_channel here s.words_now;
     }
 
--- an entry was added
-pub IsSound-added : (v : View) (e : Entry) (d : Cursor) (word : ℕ)
-    → IsSound v → e.member < length v.cursors → IsFrom (get_or v.cursors e.member d) e.frame e.channel → IsNow v.geometry v.next e.frame e.channel → lap v.geometry e.frame < 4294967295
-    → negsuc 32767 ≤ℤ e.sample → e.sample ≤ℤ pos 32767
-    → StandsFor word (lap_of (word_at v e.frame e.channel)) (count_of (word_at v e.frame e.channel) + 1) (sum_of (word_at v e.frame e.channel) +ℤ e.sample)
-    → IsSound (added_view v e word)
-IsSound-added v e d word s member from now fits low high stands =
+-- an entry was laid
+pub IsSound-laid : (v : View) (e : Entry) (word : ℕ)
+    → IsSound v → e.member < length v.marks → IsNow v.geometry v.next e.frame e.channel
+    → HoldsMoreAt v.geometry (marks_at v e.member) (marks_after v.geometry (marks_at v e.member) e) e.frame e.channel
+    → AreWithin v.geometry (marks_after v.geometry (marks_at v e.member) e)
+    → negsuc 32767 ≤ℤ value_of e → value_of e ≤ℤ pos 32768
+    → StandsFor word (lap_of (word_at v e.frame e.channel)) (count_of (word_at v e.frame e.channel) + 1) (sum_of (word_at v e.frame e.channel) +ℤ value_of e)
+    → IsSound (laid_view v e word)
+IsSound-laid v e word s member now more within low high stands =
     let g : Geometry = v.geometry in
     let f : ℕ = e.frame in
     let c : ℕ = e.channel in
-    let P : ℕ → ℕ → ℕ → Type 0 = λ w k x. (x < g.channels) × HoldsAtMost w (lap g k) (past v.cursors k x) in
-    let Q : ℕ → ℕ → ℕ → Type 0 = λ w k x. HoldsAtMost w (lap g k) (past (set v.cursors e.member (behind g f c)) k x) in
-    let here : Q word f c = rw (past-more g v.cursors e.member d f c member now.channel from) (HoldsAtMost-more (word_at v f c) word (lap g f) (past v.cursors f c) e.sample (s.words_now f c now) low high stands) in
-    let others : (w k x : ℕ) → ¬ ((f ≡ k) × (c ≡ x)) → P w k x → Q w k x = λ w k x elsewhere p. HoldsAtMost-mono w (lap g k) _ _ (past-grows g v.cursors e.member d f c k x member p.0 from) p.1 in
-    let end : f + 1 ≤ end_frame g = suc-le-end_frame g f fits in
-    let least : first_frame g ≤ f = grind (arith, nat_tests, now.low, s.next_least) in
-    let within : IsWithin g (behind g f c).frame = record { least = grind (arith, nat_tests); most = grind (arith, nat_tests) } in
+    let moved : Marks = marks_after g (marks_at v e.member) e in
+    let new : List Marks = set v.marks e.member moved in
+    let P : ℕ → ℕ → ℕ → Type 0 = λ w k x. (x < g.channels) × HoldsAtMost w (lap g k) (all_hold v.marks k x) in
+    let Q : ℕ → ℕ → ℕ → Type 0 = λ w k x. HoldsAtMost w (lap g k) (all_hold new k x) in
+    let up : all_hold v.marks f c + 1 ≤ all_hold new f c = omega (arith, all_hold-set v.marks e.member moved (record { cursor = v.next; floor = v.next; high = v.next }) f c member, more.own) in
+    let here : Q word f c = HoldsAtMost-mono word (lap g f) (all_hold v.marks f c + 1) (all_hold new f c) up (HoldsAtMost-more (word_at v f c) word (lap g f) (all_hold v.marks f c) (value_of e) (s.words_now f c now) low high stands) in
+    let others : (w k x : ℕ) → ¬ ((f ≡ k) × (c ≡ x)) → P w k x → Q w k x = λ w k x elsewhere p.
+    HoldsAtMost-mono w (lap g k) (all_hold v.marks k x) (all_hold new k x) (omega (arith, all_hold-set v.marks e.member moved (record { cursor = v.next; floor = v.next; high = v.next }) k x member, more.others k x p.0)) p.1 in
     record {
       room = length-set v.words (word_index g f c) word ∙ s.room;
-      members = omega (arith, length-set v.cursors e.member (behind g f c), s.members);
+      members = omega (arith, length-set v.marks e.member moved, s.members);
       next_channel = s.next_channel;
       next_least = s.next_least;
       next_most = s.next_most;
       position_least = s.position_least;
       position_most = s.position_most;
-      cursors_within = All-set (λ (a : Cursor). IsWithin g a.frame) v.cursors e.member (behind g f c) within s.cursors_within;
+      marks_within = All-set (λ (m : Marks). AreWithin g m) v.marks e.member moved within s.marks_within;
       words_now = words-written P Q g v.next v.words f c word s.room now here others (λ k x asked. (asked.channel, s.words_now k x asked));
     }
+
+-- so there is room for the entry
+pub room-laid : (v : View) (e : Entry) → IsSound v → e.member < length v.marks → IsNow v.geometry v.next e.frame e.channel
+    → HoldsMoreAt v.geometry (marks_at v e.member) (marks_after v.geometry (marks_at v e.member) e) e.frame e.channel
+    → negsuc 32767 ≤ℤ value_of e → value_of e ≤ℤ pos 32768 → HasRoom (word_at v e.frame e.channel) (value_of e)
+room-laid v e s member now more low high =
+    let moved : Marks = marks_after v.geometry (marks_at v e.member) e in
+    let new : List Marks = set v.marks e.member moved in
+    let up : all_hold v.marks e.frame e.channel + 1 ≤ all_hold new e.frame e.channel = omega (arith, all_hold-set v.marks e.member moved (record { cursor = v.next; floor = v.next; high = v.next }) e.frame e.channel member, more.own) in
+    let most : all_hold new e.frame e.channel ≤ length new * 3 = all_hold-most new e.frame e.channel in
+    HasRoom-of (word_at v e.frame e.channel) (lap v.geometry e.frame) (all_hold v.marks e.frame e.channel) (value_of e) (s.words_now e.frame e.channel now)
+    (omega (arith, up, most, length-set v.marks e.member moved, s.members)) low high

@@ -1,43 +1,49 @@
 -- What each call of a core does to it, and to every history that it stands for.
-use Rattle.std.specs.Prelude.{◌≡◌, ◌≢◌, ℕ, ◌<◌, true, false, List, [], ◌∷◌, ◌++◌, length, slice_index_or}
+use Rattle.std.specs.Prelude.{◌≡◌, ◌≢◌, ℕ, ◌<◌, true, false, List, [], ◌∷◌, ◌++◌, length, slice_index, slice_index_or}
 use Rattle.snd_base.specs.declared.geometry.Geometry.{Geometry}
-use Rattle.snd_base.specs.declared.places.Cursor.{Cursor}
 use Rattle.snd_base.specs.Places.{behind, first_frame}
 use Rattle.lap_word.specs.Clamp.{clamp_of}
 use Rattle.mix_core.specs.declared.port.Entry.{Entry}
 use Rattle.mix_core.specs.declared.event.Event.TheVariants.{Publish, Take}
 use Rattle.mix_core.specs.declared.event.Reply.TheVariants.{LapEnd, Published, Took}
 use Rattle.mix_core.specs.declared.event.Taken.{Taken}
-use Rattle.mix_core.specs.History.{Row, laid_of, row_of}
-use Rattle.mix_core.specs.Laid.{total}
+use Rattle.mix_core.specs.History.{IsReply, Row, is_taken, laid_of, row_of, taken_of}
+use Rattle.mix_core.specs.Laid.{marks_after, total}
+use Rattle.mix_core.specs.Marks.{start_marks}
+use Rattle.mix_core.specs.Port.{IsNotBefore}
+use Rattle.mix_core.specs.declared.marks.Marks.{Marks}
 use Rattle.mix_core.specs.Stands.{Stands}
-use Rattle.mix_core.specs.View.{View}
+use Rattle.mix_core.specs.View.{View, marks_at}
 
 -- a core of a geometry and a number of members, to which nothing has happened
 pub record IsNew (v : View) (g : Geometry) (members : ℕ) : Type 0 where
   pub geometry : v.geometry ≡ g
-  pub members_is : length v.cursors ≡ members
-  pub cursors : (m : ℕ) (d : Cursor) → m < members → slice_index_or v.cursors m d ≡ record { frame = first_frame g; channel = 0 }
+  pub members_is : length v.marks ≡ members
+  pub marks : (m : ℕ) (d : Marks) → m < members → slice_index_or v.marks m d ≡ start_marks g
   pub next : v.next ≡ record { frame = first_frame g; channel = 0 }
   pub position : v.position ≡ first_frame g
   pub gone : v.gone ≡ false
   pub stands : Stands v []
 
--- an entry was added: its member's cursor stands behind it, and each history has it at its end
-pub record IsAdded (v w : View) (e : Entry) : Type 0 where
+-- an entry was laid, an add or a withdrawal: its member's marks move, and each history that it legally continues has it at its
+-- end
+pub record IsLaidBy (v w : View) (e : Entry) : Type 0 where
   pub geometry : w.geometry ≡ v.geometry
-  pub members : length w.cursors ≡ length v.cursors
-  pub own : (d : Cursor) → slice_index_or w.cursors e.member d ≡ behind v.geometry e.frame e.channel
-  pub others : (m : ℕ) (d : Cursor) → m ≢ e.member → slice_index_or w.cursors m d ≡ slice_index_or v.cursors m d
+  -- no word falls, by its lap and then its count
+  pub words : (i : ℕ) → IsNotBefore (slice_index v.words i) (slice_index w.words i)
+  pub members : length w.marks ≡ length v.marks
+  pub own : (d : Marks) → slice_index_or w.marks e.member d ≡ marks_after v.geometry (marks_at v e.member) e
+  pub others : (m : ℕ) (d : Marks) → m ≢ e.member → slice_index_or w.marks m d ≡ slice_index_or v.marks m d
   pub next : w.next ≡ v.next
   pub position : w.position ≡ v.position
   pub gone : w.gone ≡ v.gone
-  pub stands : (h : List Row) → Stands v h → Stands w (h ++ row_of e ∷ [])
+  pub untaken : (h : List Row) → Stands v h → is_taken (taken_of h) e.frame e.channel ≡ false
+  pub stands : (h : List Row) → Stands v h → IsReply v.geometry (length v.marks) h (row_of e) → Stands w (h ++ row_of e ∷ [])
 
 -- the next word was taken: its value is the total there, cut to a sample, and each history has the take at its end
 pub record IsTaken (v w : View) (t : Taken) : Type 0 where
   pub geometry : w.geometry ≡ v.geometry
-  pub cursors : w.cursors ≡ v.cursors
+  pub marks : w.marks ≡ v.marks
   pub position : w.position ≡ v.position
   pub gone : w.gone ≡ v.gone
   pub frame : t.frame ≡ v.next.frame

@@ -1,31 +1,28 @@
--- What a gate's answers mean for its count of stops and its count of asks.
-use Rattle.std.specs.Prelude.{◌≡◌, ℕ, ◌+◌, ◌<◌, Option, None, Some, Result, Ok, Err, ⊤}
+-- What a gate's answers mean for its count of stops, and how its asks follow each other.
+use Rattle.std.specs.Prelude.{ℕ, zero, suc, ◌+◌, List, [], ◌∷◌, ◌++◌, replicate, Result, Ok, Err}
 use Rattle.snd_base.specs.declared.errors.PcmError.{PcmError}
-use Rattle.snd_base.specs.declared.errors.PcmError.TheVariants.{Stopped}
 use Rattle.mix_core.specs.declared.gate.StepKind.{StepKind}
-use Rattle.mix_core.specs.declared.gate.StepKind.TheVariants.{Position, Look, Exchange, Again}
+use Rattle.mix_core.specs.declared.gate.StepKind.TheVariants.{Look, Exchange, Again}
 use Rattle.mix_core.specs.declared.gate.Pass.{Pass}
 use Rattle.mix_core.specs.declared.gate.Pass.TheVariants.{Go, Stop}
 
--- the count of stops stays at each `Go` and rises at each `Stop`
-abbrev pub Answers : Pass → ℕ → ℕ → Type 0
-Answers Go before after = after ≡ before
-Answers Stop before after = before < after
+-- the count of stops after an answer: it stays at each `Go` and rises by one at each `Stop`
+abbrev pub stops_after : Pass → ℕ → ℕ
+stops_after Go n = n
+stops_after Stop n = n + 1
 
--- how much an ask for a step counts: a further exchange counts nothing
-abbrev pub counted : StepKind → ℕ
-counted Position = 1
-counted Look = 1
-counted Exchange = 1
-counted Again = 0
+-- the answer that an ask got, by what it was made into
+abbrev pub pass_of : {X : Type 0} → Result X PcmError → Pass
+pass_of (Ok x) = Go
+pass_of (Err e) = Stop
 
--- where the number of asks is told after an ask, it was told before it, and rose by this ask
-abbrev pub Counts : StepKind → Option ℕ → Option ℕ → Type 0
-Counts step before None = ⊤
-Counts step before (Some n) = (m : ℕ) × (before ≡ Some m) × (n ≡ m + counted step)
+-- no ask between a state and itself, and asks after asks of which the last was passed
+pub record AsksCompose {T : Type 0} (asked : T → T → List StepKind → Pass → Type 0) : Type 0 where
+  pub none : (g : T) → asked g g [] Go
+  pub joined : (g h k : T) (xs ys : List StepKind) (last : Pass) → asked g h xs Go → asked h k ys last → asked g k (xs ++ ys) last
 
--- the count of stops rose exactly where the answer is `Stopped`, and else it stayed
-abbrev pub Told : {T : Type 0} → Result T PcmError → ℕ → ℕ → Type 0
-Told (Ok x) before after = after ≡ before
-Told (Err Stopped) before after = before < after
-Told (Err e) before after = after ≡ before
+-- the first n asks of a placement or withdrawal: a look, an exchange, and then one `Again` for each further exchange
+abbrev pub placing : ℕ → List StepKind
+placing zero = []
+placing (suc zero) = Look ∷ []
+placing (suc (suc n)) = Look ∷ Exchange ∷ replicate n Again

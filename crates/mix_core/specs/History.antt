@@ -1,5 +1,5 @@
 -- Legal histories: lists of events with their replies, each of which the events before it determine.
-use Rattle.std.specs.Prelude.{◌≡◌, ◌≢◌, ℕ, ◌+◌, ◌<◌, Bool, ◌==◌, ◌&&◌, true, false, Option, None, Some, List, [], ◌∷◌, ◌++◌, length, fold, ⊤, All}
+use Rattle.std.specs.Prelude.{◌≡◌, ◌≢◌, ℕ, ◌+◌, ◌<◌, Bool, ◌==◌, ◌&&◌, true, false, Option, None, Some, List, [], ◌∷◌, ◌++◌, length, fold, ⊤, All, ℤ}
 use Rattle.std.specs.List.{filter_map, list_any, slice_index_or}
 use Rattle.snd_base.specs.declared.geometry.Geometry.{Geometry}
 use Rattle.snd_base.specs.declared.places.Cursor.{Cursor}
@@ -7,27 +7,38 @@ use Rattle.snd_base.specs.Places.{IsFrom, first_frame, lap, next_word}
 use Rattle.lap_word.specs.Clamp.{clamp_of}
 use Rattle.mix_core.specs.declared.port.Entry.{Entry}
 use Rattle.mix_core.specs.declared.event.Event.{Event}
-use Rattle.mix_core.specs.declared.event.Event.TheVariants.{Add, Take, Publish}
+use Rattle.mix_core.specs.declared.event.Event.TheVariants.{Add, Withdraw, Take, Publish}
 use Rattle.mix_core.specs.declared.event.Reply.{Reply}
 use Rattle.mix_core.specs.declared.event.Reply.TheVariants.{In, Late, Outside, Took, Published, LapEnd}
 use Rattle.mix_core.specs.declared.event.Taken.{Taken}
-use Rattle.mix_core.specs.Laid.{cursor_of, total}
+use Rattle.mix_core.specs.declared.port.Kind.{Kind}
+use Rattle.mix_core.specs.declared.port.Kind.TheVariants.{Added, Withdrawn}
+use Rattle.mix_core.specs.Laid.{a_withdrawal, an_add, cursor_of, last_entry, marks_of, standing_of, total}
 
 -- an event and its reply
 abbrev pub Row : Type 0
 Row = Event × Reply
 
--- the row of an entry: an add that was in time
+-- the event of an entry
+abbrev pub event_by : Kind → ℕ → ℕ → ℕ → ℤ → Event
+event_by Added m f c s = Add m f c s
+event_by Withdrawn m f c s = Withdraw m f c s
+
+abbrev pub event_of : Entry → Event
+event_of e = event_by e.kind e.member e.frame e.channel e.sample
+
+-- the row of an entry: an add or a withdrawal that was in time
 abbrev pub row_of : Entry → Row
-row_of e = (Add e.member e.frame e.channel e.sample, In)
+row_of e = (event_of e, In)
 
--- the row of an entry that was late: its frame and channel were taken before the add
+-- the row of an entry that was late: its frame and channel were taken before
 abbrev pub late_row : Entry → Row
-late_row e = (Add e.member e.frame e.channel e.sample, Late)
+late_row e = (event_of e, Late)
 
--- the entry that a row laid: that of an add with the reply `In`
+-- the entry that a row laid: that of an add or a withdrawal with the reply `In`
 abbrev pub entry_of : Row → Option Entry
-entry_of (Add m f c s, In) = Some (record { member = m; frame = f; channel = c; sample = s })
+entry_of (Add m f c s, In) = Some (an_add m f c s)
+entry_of (Withdraw m f c s, In) = Some (a_withdrawal m f c s)
 entry_of (e, r) = None
 
 -- the entries that a history laid, in order
@@ -69,6 +80,19 @@ pub record IsInside (g : Geometry) (members : ℕ) (h : List Row) (m f c : ℕ) 
   pub lap_fits : lap g f < 4294967295
   pub ahead : f < position_of g h + g.frames
 
+-- some entry is this sample at a frame and channel
+abbrev pub IsSample : Option Entry → ℕ → ℕ → ℤ → Type 0
+IsSample None f c s = ⊥
+IsSample (Some e) f c s = (e.frame ≡ f) × (e.channel ≡ c) × (e.sample ≡ s)
+
+-- a member may withdraw a sample at a frame and channel: both it and the channel are in range, its last standing add is
+-- this sample there, and its floor is not past them
+pub record IsHeld (g : Geometry) (members : ℕ) (h : List Row) (m f c : ℕ) (s : ℤ) : Type 0 where
+  pub member_in_range : m < members
+  pub channel_in_range : c < g.channels
+  pub last : IsSample (last_entry (standing_of m (laid_of h))) f c s
+  pub from_floor : IsFrom (marks_of g m (laid_of h)).floor f c
+
 -- the reply to an event is the one that the history before it determines:
 -- an add is outside exactly where the member may not add there; any other add is late exactly where its frame and
 -- channel were taken, and in time otherwise; a take is refused exactly where the lap of the next word's frame is
@@ -78,6 +102,9 @@ abbrev pub IsReply : Geometry → ℕ → List Row → Row → Type 0
 IsReply g members h (Add m f c s, Outside) = ¬ (IsInside g members h m f c)
 IsReply g members h (Add m f c s, Late) = IsInside g members h m f c × (is_taken (taken_of h) f c ≡ true)
 IsReply g members h (Add m f c s, In) = IsInside g members h m f c × (is_taken (taken_of h) f c ≡ false)
+IsReply g members h (Withdraw m f c s, Outside) = ¬ (IsHeld g members h m f c s)
+IsReply g members h (Withdraw m f c s, Late) = IsHeld g members h m f c s × (is_taken (taken_of h) f c ≡ true)
+IsReply g members h (Withdraw m f c s, In) = IsHeld g members h m f c s × (is_taken (taken_of h) f c ≡ false)
 IsReply g members h (Take, LapEnd) = lap g (next_of g h).frame ≡ 4294967295
 IsReply g members h (Take, Took f c v) =
     (lap g (next_of g h).frame ≢ 4294967295) × (f ≡ (next_of g h).frame) × (c ≡ (next_of g h).channel)

@@ -1,23 +1,51 @@
 -- What histories that were joined laid and took, and the sums of lists of entries that were joined.
-use Rattle.std.specs.Prelude.{◌≡◌, ℕ, List, [], ◌∷◌, ◌++◌, ℤ, pos, ◌+ℤ◌, filter, fold, map}
+use Rattle.std.specs.Prelude.{◌≡◌, ℕ, None, Some, List, [], ◌∷◌, ◌++◌, ℤ, pos, ◌+ℤ◌, filter, fold, map}
 use Rattle.std.proofs.Common.{refl, ap, ◌∙◌, arith}
 use Rattle.std.proofs.lemmas.Int.{ints}
 use Rattle.std.proofs.lemmas.List.{append-nil, map-append}
 use Rattle.std.proofs.lemmas.List.Elements.{filter-append, filter_map-append}
 use Rattle.mix_core.specs.declared.event.Event.TheVariants.{Publish, Take}
-use Rattle.mix_core.specs.declared.event.Reply.TheVariants.{LapEnd, Published, Took}
+use Rattle.mix_core.specs.declared.event.Reply.TheVariants.{In, Late, LapEnd, Published, Took}
+use Rattle.mix_core.specs.declared.event.Reply.{Reply}
+use Rattle.mix_core.specs.declared.port.Kind.{Kind}
+use Rattle.mix_core.specs.declared.port.Kind.TheVariants.{Added, Withdrawn}
 use Rattle.mix_core.specs.declared.port.Entry.{Entry}
-use Rattle.mix_core.specs.History.{Row, entry_of, laid_of, row_of, taken_of, taking_of}
-use Rattle.mix_core.specs.Laid.{at, is_at, sum_of_samples, total}
+use Rattle.mix_core.specs.History.{Row, entry_of, event_by, event_of, laid_of, late_row, position_after, row_of, taken_of, taking_of}
+use Rattle.mix_core.specs.Laid.{at, is_at, sum_of_samples, total, value_of}
+
+-- the row of an entry laid it, and took nothing
+pub entry_of-row : (e : Entry) → entry_of (row_of e) ≡ Some e
+entry_of-row e = by_kind e.kind e.member e.frame e.channel e.sample where
+  by_kind : (k : Kind) (m f c : ℕ) (s : ℤ) → entry_of (event_by k m f c s, In) ≡ Some (record { member = m; frame = f; channel = c; sample = s; kind = k })
+  by_kind Added m f c s = refl
+  by_kind Withdrawn m f c s = refl
+
+pub entry_of-late : (e : Entry) → entry_of (late_row e) ≡ None
+entry_of-late e = by_kind e.kind e.member e.frame e.channel e.sample where
+  by_kind : (k : Kind) (m f c : ℕ) (s : ℤ) → entry_of (event_by k m f c s, Late) ≡ None
+  by_kind Added m f c s = refl
+  by_kind Withdrawn m f c s = refl
+
+pub taking_of-row : (e : Entry) (r : Reply) → taking_of (event_of e, r) ≡ None
+taking_of-row e r = by_kind e.kind e.member e.frame e.channel e.sample where
+  by_kind : (k : Kind) (m f c : ℕ) (s : ℤ) → taking_of (event_by k m f c s, r) ≡ None
+  by_kind Added m f c s = refl
+  by_kind Withdrawn m f c s = refl
+
+pub position_after-row : (p : ℕ) (e : Entry) (r : Reply) → position_after p (event_of e, r) ≡ p
+position_after-row p e r = by_kind e.kind e.member e.frame e.channel e.sample where
+  by_kind : (k : Kind) (m f c : ℕ) (s : ℤ) → position_after p (event_by k m f c s, r) ≡ p
+  by_kind Added m f c s = refl
+  by_kind Withdrawn m f c s = refl
 
 -- the rows of entries laid these, and took nothing
 pub laid_of-rows : (es : List Entry) → laid_of (map row_of es) ≡ es
 laid_of-rows [] = refl
-laid_of-rows (e ∷ es) = ap (λ xs. e ∷ xs) (laid_of-rows es)
+laid_of-rows (e ∷ es) = rw (entry_of-row e) (ap (λ xs. e ∷ xs) (laid_of-rows es))
 
 pub taken_of-rows : (es : List Entry) → taken_of (map row_of es) ≡ []
 taken_of-rows [] = refl
-taken_of-rows (e ∷ es) = taken_of-rows es
+taken_of-rows (e ∷ es) = rw (taking_of-row e In) (taken_of-rows es)
 
 -- a history that goes on with the rows of entries
 pub laid_of-append_rows : (h : List Row) (es : List Entry) → laid_of (h ++ map row_of es) ≡ laid_of h ++ es
@@ -50,8 +78,8 @@ taken_of-append_published h frame = filter_map-append taking_of h ((Publish, Pub
 -- the samples at a frame and channel, and their sum, of joined lists
 pub at-append : (xs ys : List Entry) (f c : ℕ) → at (xs ++ ys) f c ≡ at xs f c ++ at ys f c
 at-append xs ys f c =
-    ap (map (λ (e : Entry). e.sample)) (filter-append (is_at f c) xs ys)
-    ∙ map-append (λ (e : Entry). e.sample) (filter (is_at f c) xs) (filter (is_at f c) ys)
+    ap (map value_of) (filter-append (is_at f c) xs ys)
+    ∙ map-append value_of (filter (is_at f c) xs) (filter (is_at f c) ys)
 
 pub fold-from : (a : ℤ) (xs : List ℤ) → fold (λ a s. a +ℤ s) a xs ≡ a +ℤ sum_of_samples xs
 fold-from a [] = omega (arith, ints)

@@ -1,6 +1,6 @@
 -- Rows with the reply `Outside` may be left out of a history: what it laid and took and its position stay the same, and
 -- so do the replies that it determines.
-use Rattle.std.specs.Prelude.{◌↔◌, ◌≡◌, ◌≢◌, ℕ, ◌+◌, ◌<◌, Bool, length, true, false, Option, None, List, [], ◌∷◌, ◌++◌, fold, filter}
+use Rattle.std.specs.Prelude.{◌↔◌, ◌≡◌, ◌≢◌, ℕ, ◌+◌, ◌<◌, Bool, length, true, false, Option, None, List, [], ◌∷◌, ◌++◌, fold, filter, ℤ}
 use Rattle.std.specs.List.{filter_map}
 use Rattle.std.proofs.Common.{refl, sym, subst, ap, inl, inr}
 use Rattle.std.proofs.lemmas.Bool.{cases_Bool}
@@ -10,10 +10,10 @@ use Rattle.std.proofs.lemmas.List.Sums.{fold-append}
 use Rattle.snd_base.specs.declared.geometry.Geometry.{Geometry}
 use Rattle.snd_base.specs.Places.{IsFrom, first_frame, lap, next_word}
 use Rattle.lap_word.specs.Clamp.{clamp_of}
-use Rattle.mix_core.specs.declared.event.Event.TheVariants.{Add, Take, Publish}
+use Rattle.mix_core.specs.declared.event.Event.TheVariants.{Add, Withdraw, Take, Publish}
 use Rattle.mix_core.specs.declared.event.Reply.TheVariants.{In, Late, Outside, Took, Published, LapEnd}
-use Rattle.mix_core.specs.History.{AreReplies, IsInside, IsLegal, IsReply, Row, entry_of, is_taken, laid_of, position_after, position_of, taken_of, taking_of}
-use Rattle.mix_core.specs.Laid.{cursor_of, total}
+use Rattle.mix_core.specs.History.{AreReplies, IsHeld, IsInside, IsSample, IsLegal, IsReply, Row, entry_of, is_taken, laid_of, position_after, position_of, taken_of, taking_of}
+use Rattle.mix_core.specs.Laid.{cursor_of, last_entry, marks_of, standing_of, total}
 use Rattle.mix_core.specs.Run.{is_kept, kept_rows}
 
 -- items that give nothing may be left out
@@ -37,6 +37,7 @@ fold-filter f p same y (x ∷ xs) = elim (cases_Bool (p x)) [
 -- a row that is left out lays nothing, takes nothing and leaves the position alone
 entry_of-outside : (r : Row) → is_kept r ≡ false → entry_of r ≡ None
 entry_of-outside (Add m f c s, In) out = cc
+entry_of-outside (Withdraw m f c s, In) out = cc
 entry_of-outside (e, r) out = refl
 
 taking_of-outside : (r : Row) → is_kept r ≡ false → taking_of r ≡ None
@@ -92,6 +93,14 @@ IsInside-alike g members h k m f c alike inside = record {
   ahead = subst (λ p. f < p + g.frames) alike.position inside.ahead;
 }
 
+IsHeld-alike : (g : Geometry) (members : ℕ) (h k : List Row) (m f c : ℕ) (s : ℤ) → AreAlike g h k → IsHeld g members h m f c s → IsHeld g members k m f c s
+IsHeld-alike g members h k m f c s alike held = record {
+  member_in_range = held.member_in_range;
+  channel_in_range = held.channel_in_range;
+  last = subst (λ es. IsSample (last_entry (standing_of m es)) f c s) alike.laid held.last;
+  from_floor = subst (λ es. IsFrom (marks_of g m es).floor f c) alike.laid held.from_floor;
+}
+
 -- histories that are alike determine the same replies
 pub IsReply-alike : (g : Geometry) (members : ℕ) (h k : List Row) (r : Row) → AreAlike g h k → IsReply g members h r → IsReply g members k r
 IsReply-alike g members h k (Add m f c s, Outside) alike is = λ inside. is (IsInside-alike g members k h m f c (AreAlike-sym g h k alike) inside)
@@ -99,6 +108,11 @@ IsReply-alike g members h k (Add m f c s, Late) alike is =
     (IsInside-alike g members h k m f c alike is.0, subst (λ ts. is_taken ts f c ≡ true) alike.taken is.1)
 IsReply-alike g members h k (Add m f c s, In) alike is =
     (IsInside-alike g members h k m f c alike is.0, subst (λ ts. is_taken ts f c ≡ false) alike.taken is.1)
+IsReply-alike g members h k (Withdraw m f c s, Outside) alike is = λ held. is (IsHeld-alike g members k h m f c s (AreAlike-sym g h k alike) held)
+IsReply-alike g members h k (Withdraw m f c s, Late) alike is =
+    (IsHeld-alike g members h k m f c s alike is.0, subst (λ ts. is_taken ts f c ≡ true) alike.taken is.1)
+IsReply-alike g members h k (Withdraw m f c s, In) alike is =
+    (IsHeld-alike g members h k m f c s alike is.0, subst (λ ts. is_taken ts f c ≡ false) alike.taken is.1)
 IsReply-alike g members h k (Take, LapEnd) alike is = subst (λ ts. lap g (next_word g (length ts)).frame ≡ 4294967295) alike.taken is
 IsReply-alike g members h k (Take, Took f c v) alike is = (
   subst (λ ts. lap g (next_word g (length ts)).frame ≢ 4294967295) alike.taken is.0,

@@ -1,21 +1,25 @@
 -- What is true of every legal history: how it goes on, and where its cursors and its next word stand.
-use Rattle.std.specs.Prelude.{◌≡◌, ◌≢◌, ◌⊎◌, ℕ, ◌*◌, ◌<◌, ◌≤◌, None, Some, List, [], ◌∷◌, ◌++◌, length}
+use Rattle.std.specs.Prelude.{◌≡◌, ◌≢◌, ◌⊎◌, ℕ, ◌*◌, ◌<◌, ◌≤◌, None, Some, List, [], ◌∷◌, ◌++◌, length, ℤ}
 use Rattle.std.proofs.Common.{refl, sym, subst, ap, ◌∙◌, append_assoc, arith, inl, inr}
 use Rattle.std.proofs.Math.Nat.{div-lt_iff_lt-mul}
+use Rattle.std.proofs.lemmas.Bool.{cases_eq}
 use Rattle.std.proofs.lemmas.Bool.Decides.{nat_tests}
 use Rattle.std.proofs.lemmas.List.{append-nil, length-append}
 use Rattle.std.proofs.lemmas.List.Elements.{filter_map-append}
-use Rattle.std.proofs.lemmas.List.Sums.{fold_push}
 use Rattle.snd_base.specs.declared.geometry.Geometry.{Geometry}
 use Rattle.snd_base.specs.declared.places.Cursor.{Cursor}
 use Rattle.snd_base.specs.PlaceLaws.{next_word-suc}
-use Rattle.snd_base.specs.Places.{IsFrom, behind, end_frame, first_frame, first_free, lap, next_word}
+use Rattle.snd_base.specs.Places.{behind, end_frame, first_frame, first_free, lap, next_word}
 use Rattle.mix_core.specs.declared.port.Entry.{Entry}
-use Rattle.mix_core.specs.declared.event.Event.TheVariants.{Add, Take, Publish}
+use Rattle.mix_core.specs.declared.event.Event.TheVariants.{Add, Withdraw, Take, Publish}
 use Rattle.mix_core.specs.declared.event.Reply.TheVariants.{In, Late, Outside, Took, Published, LapEnd}
 use Rattle.mix_core.specs.declared.event.Taken.{Taken}
-use Rattle.mix_core.specs.History.{AreReplies, IsInside, IsLegal, IsReply, Row, entry_of, laid_of, next_of, taken_of, taking_of}
-use Rattle.mix_core.specs.Laid.{cursor_after, cursor_of}
+use Rattle.mix_core.specs.History.{AreReplies, IsHeld, IsInside, IsLegal, IsReply, Row, entry_of, laid_of, next_of, taken_of, taking_of}
+use Rattle.mix_core.specs.declared.marks.Marks.{Marks}
+use Rattle.mix_core.specs.declared.port.Kind.{Kind}
+use Rattle.mix_core.specs.declared.port.Kind.TheVariants.{Added, Withdrawn}
+use Rattle.mix_core.specs.Laid.{a_withdrawal, an_add, cursor_of, marked, marks_of}
+use Rattle.mix_core.specs.OwnLaws.{marks_of-other, marks_of-own}
 
 -- one more row at the end
 pub AreReplies-more : (g : Geometry) (members : ℕ) (h rs : List Row) (r : Row)
@@ -41,15 +45,29 @@ AreReplies-keep g members P step h [] holds are = subst P (sym (append-nil h)) h
 AreReplies-keep g members P step h (r ∷ rs) holds are =
     subst P (append_assoc h (r ∷ []) rs) (AreReplies-keep g members P step (h ++ r ∷ []) rs (step h r are.0 holds) are.1)
 
--- a row lays nothing, or one entry where its member may add
+-- the member of an entry may add or withdraw it
+abbrev pub may_lay : Kind → Geometry → ℕ → List Row → ℕ → ℕ → ℕ → ℤ → Type 0
+may_lay Added g members h m f c s = IsInside g members h m f c
+may_lay Withdrawn g members h m f c s = IsHeld g members h m f c s
+
+abbrev pub MayLay : Geometry → ℕ → List Row → Entry → Type 0
+MayLay g members h e = may_lay e.kind g members h e.member e.frame e.channel e.sample
+
+-- a row lays nothing, or one entry where its member may
 pub entry_of-cases : (g : Geometry) (members : ℕ) (h : List Row) (r : Row) → IsReply g members h r
-    → (entry_of r ≡ None) ⊎ ((e : Entry) × ((entry_of r ≡ Some e) × IsInside g members h e.member e.frame e.channel))
-entry_of-cases g members h (Add m f c s, In) is = inr (record { member = m; frame = f; channel = c; sample = s }, (refl, is.0))
+    → (entry_of r ≡ None) ⊎ ((e : Entry) × ((entry_of r ≡ Some e) × MayLay g members h e))
+entry_of-cases g members h (Add m f c s, In) is = inr (an_add m f c s, (refl, is.0))
 entry_of-cases g members h (Add m f c s, Late) is = inl refl
 entry_of-cases g members h (Add m f c s, Outside) is = inl refl
 entry_of-cases g members h (Add m f c s, Took k d v) is = inl refl
 entry_of-cases g members h (Add m f c s, Published k) is = inl refl
 entry_of-cases g members h (Add m f c s, LapEnd) is = inl refl
+entry_of-cases g members h (Withdraw m f c s, In) is = inr (a_withdrawal m f c s, (refl, is.0))
+entry_of-cases g members h (Withdraw m f c s, Late) is = inl refl
+entry_of-cases g members h (Withdraw m f c s, Outside) is = inl refl
+entry_of-cases g members h (Withdraw m f c s, Took k d v) is = inl refl
+entry_of-cases g members h (Withdraw m f c s, Published k) is = inl refl
+entry_of-cases g members h (Withdraw m f c s, LapEnd) is = inl refl
 entry_of-cases g members h (Take, r) is = inl refl
 entry_of-cases g members h (Publish, r) is = inl refl
 
@@ -57,6 +75,7 @@ entry_of-cases g members h (Publish, r) is = inl refl
 pub taking_of-cases : (g : Geometry) (members : ℕ) (h : List Row) (r : Row) → IsReply g members h r
     → (taking_of r ≡ None) ⊎ ((t : Taken) × ((taking_of r ≡ Some t) × (lap g (next_of g h).frame ≢ 4294967295)))
 taking_of-cases g members h (Add m f c s, r) is = inl refl
+taking_of-cases g members h (Withdraw m f c s, r) is = inl refl
 taking_of-cases g members h (Publish, r) is = inl refl
 taking_of-cases g members h (Take, In) is = inl refl
 taking_of-cases g members h (Take, Late) is = inl refl
@@ -65,23 +84,45 @@ taking_of-cases g members h (Take, Took k d v) is = inr (record { frame = k; cha
 taking_of-cases g members h (Take, Published k) is = inl refl
 taking_of-cases g members h (Take, LapEnd) is = inl refl
 
--- a cursor behind an entry is not before the cursor that it was laid from
-cursor_after-grows : (g : Geometry) (m : ℕ) (at own : Cursor) (e : Entry)
-    → first_frame g ≤ at.frame → first_frame g ≤ own.frame → IsFrom own e.frame e.channel → first_frame g ≤ (cursor_after g m at e).frame
-cursor_after-grows g m at own e least from_first from = grind (arith, nat_tests)
+-- no mark is before the first frame
+pub record AreLeast (g : Geometry) (m : Marks) : Type 0 where
+  pub cursor : first_frame g ≤ m.cursor.frame
+  pub floor : first_frame g ≤ m.floor.frame
+  pub high : first_frame g ≤ m.high.frame
 
--- no cursor is before the first frame
-pub cursor_of-least : (g : Geometry) (members : ℕ) (h : List Row) (m : ℕ) → IsLegal g members h → first_frame g ≤ (cursor_of g m (laid_of h)).frame
-cursor_of-least g members h m legal =
-    let P : List Row → Type 0 = λ x. (k : ℕ) → first_frame g ≤ (cursor_of g k (laid_of x)).frame in
+AreLeast-marked : (g : Geometry) (k : Kind) (m : Marks) (f c : ℕ) → first_frame g ≤ f → AreLeast g m → AreLeast g (marked k g m f c)
+AreLeast-marked g Added m f c least l = record {
+  cursor = grind (arith, nat_tests);
+  floor = grind (arith, nat_tests, l.floor, l.high);
+  high = grind (arith, nat_tests, l.high);
+}
+AreLeast-marked g Withdrawn m f c least l = record { cursor = least; floor = l.floor; high = l.high }
+
+-- the frame of an entry that its member may lay is not before the first
+laid-least : (g : Geometry) (members : ℕ) (h : List Row) (k : Kind) (m f c : ℕ) (s : ℤ) → AreLeast g (marks_of g m (laid_of h)) → may_lay k g members h m f c s → first_frame g ≤ f
+laid-least g members h Added m f c s l may = grind (arith, nat_tests, l.cursor, may.from_cursor)
+laid-least g members h Withdrawn m f c s l may = grind (arith, nat_tests, l.floor, may.from_floor)
+
+pub marks_of-least : (g : Geometry) (members : ℕ) (h : List Row) (m : ℕ) → IsLegal g members h → AreLeast g (marks_of g m (laid_of h))
+marks_of-least g members h m legal =
+    let P : List Row → Type 0 = λ x. (k : ℕ) → AreLeast g (marks_of g k (laid_of x)) in
     AreReplies-keep g members P (
     λ x r is holds k. elim (entry_of-cases g members x r is) [
       | inl none ↦ rw (filter_map-append entry_of x (r ∷ []), none, append-nil (laid_of x)) (holds k)
       | inr one ↦
-          rw (filter_map-append entry_of x (r ∷ []), one.1.0, fold_push (cursor_after g k) (record { frame = first_frame g; channel = 0 }) (laid_of x) one.0)
-          (cursor_after-grows g k (cursor_of g k (laid_of x)) (cursor_of g one.0.member (laid_of x)) one.0 (holds k) (holds one.0.member) one.1.1.from_cursor)
+          let e : Entry = one.0 in
+          rw (filter_map-append entry_of x (r ∷ []), one.1.0)
+          (elim (cases_eq e.member k) [
+            | inl same ↦ subst (AreLeast g) (sym (marks_of-own g k (laid_of x) e same))
+                (AreLeast-marked g e.kind (marks_of g k (laid_of x)) e.frame e.channel (laid-least g members x e.kind e.member e.frame e.channel e.sample (holds e.member) one.1.1) (holds k))
+            | inr other ↦ subst (AreLeast g) (sym (marks_of-other g k (laid_of x) e other)) (holds k)
+          ])
     ]
-    ) [] h (λ k. omega arith) legal m
+    ) [] h (λ k. record { cursor = omega arith; floor = omega arith; high = omega arith }) legal m
+
+-- no cursor is before the first frame
+pub cursor_of-least : (g : Geometry) (members : ℕ) (h : List Row) (m : ℕ) → IsLegal g members h → first_frame g ≤ (cursor_of g m (laid_of h)).frame
+cursor_of-least g members h m legal = (marks_of-least g members h m legal).cursor
 
 -- the first frame is not past the end
 pub first_frame-le : (g : Geometry) → first_frame g ≤ end_frame g

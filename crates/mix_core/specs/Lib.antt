@@ -1,11 +1,16 @@
 pub mod Calls
 pub mod Gate
+pub mod HeldLaws
 pub mod History
 pub mod HistoryLaws
 pub mod KeptLaws
 pub mod Laid
 pub mod LegalLaws
+pub mod MarkLaws
+pub mod Marks
+pub mod OwnLaws
 pub mod Port
+pub mod PortLaws
 pub mod ReplyLaws
 pub mod Run
 pub mod Sound

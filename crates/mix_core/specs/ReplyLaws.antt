@@ -1,17 +1,19 @@
 -- Each event has exactly one reply after a history.
-use Rattle.std.specs.Prelude.{◌≡◌, ◌⊎◌, ℕ, ◌+◌, List, [], ◌∷◌, ◌++◌, length}
+use Rattle.std.specs.Prelude.{◌≡◌, ◌⊎◌, ℕ, ◌+◌, ℤ, pos, negsuc, Option, None, Some, List, [], ◌∷◌, ◌++◌, length}
 use Rattle.std.specs.List.{zip}
 use Rattle.std.proofs.Common.{refl, sym, subst, ap, ◌∙◌, inl, inr, arith}
 use Rattle.std.proofs.lemmas.Bool.{cases_Bool, cases_eq, cases_lt}
+use Rattle.std.proofs.lemmas.Int.{ints}
+use Rattle.mix_core.specs.declared.port.Entry.{Entry}
 use Rattle.snd_base.specs.declared.geometry.Geometry.{Geometry}
 use Rattle.snd_base.specs.Places.{first_free, lap}
 use Rattle.lap_word.specs.Clamp.{clamp_of}
 use Rattle.mix_core.specs.declared.event.Event.{Event}
-use Rattle.mix_core.specs.declared.event.Event.TheVariants.{Add, Take, Publish}
+use Rattle.mix_core.specs.declared.event.Event.TheVariants.{Add, Withdraw, Take, Publish}
 use Rattle.mix_core.specs.declared.event.Reply.{Reply}
 use Rattle.mix_core.specs.declared.event.Reply.TheVariants.{In, Late, Outside, Took, Published, LapEnd}
-use Rattle.mix_core.specs.History.{AreReplies, IsInside, IsReply, Row, is_taken, laid_of, next_of, position_of, taken_of}
-use Rattle.mix_core.specs.Laid.{cursor_of, total}
+use Rattle.mix_core.specs.History.{AreReplies, IsHeld, IsInside, IsReply, IsSample, Row, is_taken, laid_of, next_of, position_of, taken_of}
+use Rattle.mix_core.specs.Laid.{cursor_of, last_entry, marks_of, standing_of, total}
 
 -- a member may add at a frame and channel after a history, or not
 IsInside-decided : (g : Geometry) (members : ℕ) (h : List Row) (m f c : ℕ) → IsInside g members h m f c ⊎ (¬ (IsInside g members h m f c))
@@ -33,12 +35,52 @@ IsInside-decided g members h m f c =
       ]
     ]
 
+cases_eq_int : (a b : ℤ) → (a ≡ b) ⊎ (¬ (a ≡ b))
+cases_eq_int (pos a) (pos b) = elim (cases_eq a b) [ inl same ↦ inl (ap pos same) | inr other ↦ inr (λ is. other (omega (arith, ints, is))) ]
+cases_eq_int (pos a) (negsuc b) = inr (λ is. absurd (omega (arith, ints, is)))
+cases_eq_int (negsuc a) (pos b) = inr (λ is. absurd (omega (arith, ints, is)))
+cases_eq_int (negsuc a) (negsuc b) = elim (cases_eq a b) [ inl same ↦ inl (ap negsuc same) | inr other ↦ inr (λ is. other (omega (arith, ints, is))) ]
+
+-- a sample is that of some entry, or not
+IsSample-decided : (o : Option Entry) (f c : ℕ) (s : ℤ) → IsSample o f c s ⊎ (¬ (IsSample o f c s))
+IsSample-decided None f c s = inr (λ is. is)
+IsSample-decided (Some e) f c s =
+    elim (cases_eq e.frame f) [
+      | inr other ↦ inr (λ is. other is.0)
+      | inl frame ↦ elim (cases_eq e.channel c) [
+        | inr other ↦ inr (λ is. other is.1)
+        | inl channel ↦ elim (cases_eq_int e.sample s) [ inr other ↦ inr (λ is. other is.2) | inl sample ↦ inl (frame, channel, sample) ]
+      ]
+    ]
+
+-- a member may withdraw a sample after a history, or not
+IsHeld-decided : (g : Geometry) (members : ℕ) (h : List Row) (m f c : ℕ) (s : ℤ) → IsHeld g members h m f c s ⊎ (¬ (IsHeld g members h m f c s))
+IsHeld-decided g members h m f c s =
+    elim (cases_lt m members) [
+      | inr past ↦ inr (λ (i : IsHeld g members h m f c s). absurd (omega (arith, i.member_in_range)))
+      | inl member ↦ elim (cases_lt c g.channels) [
+        | inr past ↦ inr (λ (i : IsHeld g members h m f c s). absurd (omega (arith, i.channel_in_range)))
+        | inl channel ↦ elim (cases_lt f (first_free (marks_of g m (laid_of h)).floor c)) [
+          | inl before ↦ inr (λ (i : IsHeld g members h m f c s). absurd (omega (arith, i.from_floor)))
+          | inr from ↦ elim (IsSample-decided (last_entry (standing_of m (laid_of h))) f c s) [
+            | inr other ↦ inr (λ (i : IsHeld g members h m f c s). other i.last)
+            | inl last ↦ inl (record { member_in_range = member; channel_in_range = channel; last = last; from_floor = from })
+          ]
+        ]
+      ]
+    ]
+
 -- some reply
 pub IsReply-some : (g : Geometry) (members : ℕ) (h : List Row) (e : Event) → (r : Reply) × IsReply g members h (e, r)
 IsReply-some g members h (Add m f c s) =
     elim (IsInside-decided g members h m f c) [
       | inr outside ↦ (Outside, outside)
       | inl inside ↦ elim (cases_Bool (is_taken (taken_of h) f c)) [ inl taken ↦ (Late, (inside, taken)) | inr untaken ↦ (In, (inside, untaken)) ]
+    ]
+IsReply-some g members h (Withdraw m f c s) =
+    elim (IsHeld-decided g members h m f c s) [
+      | inr outside ↦ (Outside, outside)
+      | inl held ↦ elim (cases_Bool (is_taken (taken_of h) f c)) [ inl taken ↦ (Late, (held, taken)) | inr untaken ↦ (In, (held, untaken)) ]
     ]
 IsReply-some g members h Take =
     elim (cases_eq (lap g (next_of g h).frame) 4294967295) [
@@ -63,6 +105,19 @@ IsReply-one g members h (Add m f c s) (Took k d v) q is also = absurd is
 IsReply-one g members h (Add m f c s) (Published k) q is also = absurd is
 IsReply-one g members h (Add m f c s) LapEnd q is also = absurd is
 IsReply-one g members h (Add m f c s) r q is also = absurd also
+IsReply-one g members h (Withdraw m f c s) In In is also = refl
+IsReply-one g members h (Withdraw m f c s) In Late is also = let test = is.1 in let other = also.1 in cc
+IsReply-one g members h (Withdraw m f c s) In Outside is also = absurd (also is.0)
+IsReply-one g members h (Withdraw m f c s) Late In is also = let test = is.1 in let other = also.1 in cc
+IsReply-one g members h (Withdraw m f c s) Late Late is also = refl
+IsReply-one g members h (Withdraw m f c s) Late Outside is also = absurd (also is.0)
+IsReply-one g members h (Withdraw m f c s) Outside In is also = absurd (is also.0)
+IsReply-one g members h (Withdraw m f c s) Outside Late is also = absurd (is also.0)
+IsReply-one g members h (Withdraw m f c s) Outside Outside is also = refl
+IsReply-one g members h (Withdraw m f c s) (Took k d v) q is also = absurd is
+IsReply-one g members h (Withdraw m f c s) (Published k) q is also = absurd is
+IsReply-one g members h (Withdraw m f c s) LapEnd q is also = absurd is
+IsReply-one g members h (Withdraw m f c s) r q is also = absurd also
 IsReply-one g members h Take (Took f c v) (Took k d w) is also =
     let frame : f ≡ k = is.1 ∙ sym also.1 in
     let channel : c ≡ d = is.2 ∙ sym also.2 in

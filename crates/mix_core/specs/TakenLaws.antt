@@ -1,5 +1,5 @@
 -- What a core's position and the words that it shows say of what was taken, whatever history it stands for.
-use Rattle.std.specs.Prelude.{◌≡◌, ◌⊎◌, ◌↔◌, ℕ, ◌+◌, ◌<◌, ◌≤◌, Some, List, [], ◌∷◌, ◌++◌, length}
+use Rattle.std.specs.Prelude.{◌≡◌, ◌⊎◌, ◌↔◌, ℕ, ◌+◌, ◌<◌, ◌≤◌, List, [], ◌∷◌, ◌++◌, length}
 use Rattle.std.proofs.Common.{refl, sym, subst, ap, arith, inl, inr}
 use Rattle.std.proofs.lemmas.Bool.{cases_lt}
 use Rattle.std.proofs.lemmas.Bool.Decides.{nat_tests}
@@ -8,7 +8,7 @@ use Rattle.snd_base.specs.declared.geometry.Geometry.{Geometry}
 use Rattle.snd_base.specs.declared.places.Cursor.{Cursor}
 use Rattle.snd_base.specs.Places.{behind, first_frame, first_free, lap, next_word}
 use Rattle.lap_word.specs.Word.{StandsFor-fields, lap_of}
-use Rattle.mix_core.specs.declared.event.Event.TheVariants.{Add, Take, Publish}
+use Rattle.mix_core.specs.declared.event.Event.TheVariants.{Add, Withdraw, Take, Publish}
 use Rattle.mix_core.specs.declared.event.Reply.TheVariants.{In, Late, Outside, Took, Published, LapEnd}
 use Rattle.mix_core.specs.declared.turn.Turn.{Turn}
 use Rattle.mix_core.specs.History.{IsLegal, IsReply, Row, next_of, position_after, position_of}
@@ -16,7 +16,7 @@ use Rattle.mix_core.specs.LegalLaws.{AreReplies-keep, next_of-kept, next_of-took
 use Rattle.mix_core.specs.Port.{IsPast}
 use Rattle.mix_core.specs.Sound.{IsNow}
 use Rattle.mix_core.specs.Stands.{Stands}
-use Rattle.mix_core.specs.Turn.{core_of}
+use Rattle.mix_core.specs.Turn.{core_of, shown, view_of_turn}
 use Rattle.mix_core.specs.View.{View, word_at}
 
 -- the cursor behind a frame and channel is of no earlier frame
@@ -36,6 +36,7 @@ next_of-grows g members h r is =
 pub position_after-cases : (g : Geometry) (members : ℕ) (h : List Row) (p : ℕ) (r : Row) → IsReply g members h r
     → (position_after p r ≡ p) ⊎ (position_after p r ≡ (next_of g h).frame)
 position_after-cases g members h p (Add m f c s, r) is = inl refl
+position_after-cases g members h p (Withdraw m f c s, r) is = inl refl
 position_after-cases g members h p (Take, r) is = inl refl
 position_after-cases g members h p (Publish, In) is = inl refl
 position_after-cases g members h p (Publish, Late) is = inl refl
@@ -63,7 +64,7 @@ position_of-most g members h legal =
 pub taken-published : (v : View) (h : List Row) (f c : ℕ) → Stands v h → f < v.position → f < first_free v.next c
 taken-published v h f c s before =
     let most : v.position ≤ v.next.frame = subst (λ (x : Cursor). v.position ≤ x.frame) (sym s.agrees.next)
-    (subst (λ p. p ≤ (next_of v.geometry h).frame) (sym s.position) (position_of-most v.geometry (length v.cursors) h s.legal)) in
+    (subst (λ p. p ≤ (next_of v.geometry h).frame) (sym s.position) (position_of-most v.geometry (length v.marks) h s.legal)) in
     grind (arith, nat_tests)
 
 -- and so is a frame and channel where it shows a word of a later lap
@@ -74,7 +75,7 @@ taken-shown v h f c word s in_range ahead shown later =
       | inl before ↦ before
       | inr from ↦
           let most : v.position ≤ v.next.frame = subst (λ (x : Cursor). v.position ≤ x.frame) (sym s.agrees.next)
-          (subst (λ p. p ≤ (next_of v.geometry h).frame) (sym s.position) (position_of-most v.geometry (length v.cursors) h s.legal)) in
+          (subst (λ p. p ≤ (next_of v.geometry h).frame) (sym s.position) (position_of-most v.geometry (length v.marks) h s.legal)) in
           let now : IsNow v.geometry v.next f c = record { channel = in_range; low = from; high = grind (arith, nat_tests) } in
           let same : lap_of (word_at v f c) ≡ lap v.geometry f = (StandsFor-fields _ _ _ _ (s.agrees.words f c now)).0 in
           absurd (omega (arith, later, same, ap lap_of shown))
@@ -83,7 +84,7 @@ taken-shown v h f c word s in_range ahead shown later =
 -- so the word that a turn shows for an add that was late says that its frame and channel were taken
 pub taken-late : (t : Turn) (h : List Row) (f c word : ℕ) → Stands (core_of t) h → c < (core_of t).geometry.channels
     → f < (core_of t).position + (core_of t).geometry.frames
-    → IsPast (λ (x : Turn). (core_of x).geometry) (λ x k d. Some (word_at (core_of x) k d)) t f c word
+    → IsPast view_of_turn shown t f c word
     → f < first_free (core_of t).next c
 taken-late t h f c word s in_range ahead late =
     let shown : word_at (core_of t) f c ≡ word = cc late.shown in

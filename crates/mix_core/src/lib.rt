@@ -4,6 +4,7 @@
 
 mod event;
 mod gate;
+mod marks;
 mod port;
 mod ring;
 mod run;
@@ -11,7 +12,8 @@ mod turn;
 
 pub use event::{Event, Reply, Taken};
 pub use gate::{Gate, NeverStops, Pass, StepKind, ask};
-pub use port::{Entry, MixPort, Placed, Position};
+pub use marks::{Marks, is_before, later};
+pub use port::{Ended, Entry, Kind, MixPort, Placed, Position};
 pub use ring::Core;
 pub use turn::Turn;
 

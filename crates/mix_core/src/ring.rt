@@ -1,10 +1,12 @@
 //! A ring with one owner: the core.
-ghost use Rattle.std.specs.Prelude.{◌≡◌, ◌+◌, ◌<◌, ◌≤◌, ◌↔◌, length, slice_index_or, IfOk, IfErr, OnErr, IsErrOf, MatchOption};
+ghost use Rattle.std.specs.Prelude.{◌≡◌, ◌+◌, ◌<◌, ◌≤◌, ◌↔◌, length, IfOk, IfErr, OnErr, IsErrOf, MatchOption};
 ghost use Rattle.snd_base.specs.Places.{IsFrom, IsWithin, first_free, lap};
-ghost use Rattle.mix_core.specs.Calls.{IsAdded, IsNew, IsPublished, IsRefused, IsTaken, IsUnplugged};
-ghost use Rattle.mix_core.specs.View.{IsLateWord, IsUntaken};
+ghost use Rattle.mix_core.specs.declared.port.Kind.TheVariants.{Added, Withdrawn};
+ghost use Rattle.mix_core.specs.Calls.{IsLaidBy, IsNew, IsPublished, IsRefused, IsTaken, IsUnplugged};
+ghost use Rattle.mix_core.specs.View.{IsLateWord, IsUntaken, cursor_at, marks_at};
 
 use crate::event::Taken;
+use crate::marks::Marks;
 use crate::port::{Entry, Position};
 use snd_base::{Cursor, Geometry, PcmError};
 use std::alloc::Global;
@@ -20,18 +22,18 @@ use std::marker::Model;
 ///
 /// - after `take` a take with the frame, channel and value that were taken, or one that was refused with `LapEnd`;
 /// - after `publish` a publication of the position;
-/// - after a placement through a `Turn` that answers `In` an add of the member that was in time, and after one that
-///   answers `Late` an add that was late;
-/// - after `run` its events, each with its reply, but for the adds with the reply `Outside`;
+/// - after a placement or withdrawal through a `Turn` that answers `In` the member's add or withdrawal, in time, and after
+///   one that answers `Late` the same, late (a withdrawal where the history holds its sample last);
+/// - after `run` its events, each with its reply, except those with the reply `Outside`;
 /// - after `unplug` and every other call nothing. So it is after a placement that ends with `LapEnd`, since it could only
 ///   be an add with the reply `Outside`, and those are left out, and after one that ends with `Stopped`, since it is none.
 ///
-/// An add that was late changes nothing, so the core stands for the history without it too.
+/// An add or withdrawal that was late changes nothing, so the core stands for the history without it too.
 #[derive(Drop)]
 pub struct Core {
     geometry: Geometry,
     words: Vec<u64>,
-    cursors: Vec<Cursor>,
+    marks: Vec<Marks>,
     next: Cursor,
     position: u64,
     gone: bool,
@@ -44,9 +46,9 @@ impl Model for Core {
 
     ghost use Rattle.mix_core.specs.Sound.{IsSound};
 
-    ghost view = { λ a. record { geometry = a.geometry; words = a.words.items; cursors = a.cursors.items; next = a.next; position = a.position; gone = a.gone } };
+    ghost view = { λ a. record { geometry = a.geometry; words = a.words.items; marks = a.marks.items; next = a.next; position = a.position; gone = a.gone } };
 
-    ghost invariant = { λ a. IsSound (record { geometry = a.geometry; words = a.words.items; cursors = a.cursors.items; next = a.next; position = a.position; gone = a.gone }) };
+    ghost invariant = { λ a. IsSound (record { geometry = a.geometry; words = a.words.items; marks = a.marks.items; next = a.next; position = a.position; gone = a.gone }) };
 }
 
 impl Core {
@@ -65,11 +67,11 @@ impl Core {
             channel: 0,
         };
         let words = vec![in alloc; silent; room]?;
-        let cursors = vec![in alloc; first; members as usize]?;
+        let marks = vec![in alloc; Marks::start(&geometry); members as usize]?;
         Ok(Core {
             geometry,
             words,
-            cursors,
+            marks,
             next: first,
             position: first.frame,
             gone: false,
@@ -123,9 +125,9 @@ impl Core {
 
     /// How many members the core has, 1 to 64.
     pub fn members(&self) -> u32
-        ensures { result ≡ length self.now.cursors }
+        ensures { result ≡ length self.now.marks }
     {
-        self.cursors.len() as u32
+        self.marks.len() as u32
     }
 
     /// The next word to be taken: its frame and channel.
@@ -149,11 +151,20 @@ impl Core {
 
     /// The first frame and channel that a member may still add to.
     pub fn cursor(&self, member: u32) -> Cursor
-        requires { member < length self.now.cursors }
-        ensures value { result ≡ slice_index_or self.now.cursors member self.now.next }
+        requires { member < length self.now.marks }
+        ensures value { result ≡ cursor_at self.now member }
         ensures within { IsWithin self.now.geometry result.frame }
     {
-        self.cursors[member as usize]
+        self.marks[member as usize].cursor
+    }
+
+    /// The first frame and channel that a member may still withdraw from.
+    pub fn floor(&self, member: u32) -> Cursor
+        requires { member < length self.now.marks }
+        ensures value { result ≡ (marks_at self.now member).floor }
+        ensures within { IsWithin self.now.geometry result.frame }
+    {
+        self.marks[member as usize].floor
     }
 
     /// The word of a frame and channel that was taken, and None where they are not taken yet.
@@ -173,21 +184,38 @@ impl Core {
     /// Adds the entry's sample to the word of its frame and channel, which are not taken yet, and moves its member's
     /// cursor behind them.
     pub(crate) fn add(&mut self, entry: Entry)
-        requires member { entry.member < length self.old.cursors }
+        requires kind { entry.kind ≡ Added }
+        requires member { entry.member < length self.old.marks }
         requires channel { entry.channel < self.old.geometry.channels }
-        requires from_cursor { IsFrom (slice_index_or self.old.cursors entry.member self.old.next) entry.frame entry.channel }
+        requires from_cursor { IsFrom (cursor_at self.old entry.member) entry.frame entry.channel }
         requires untaken { first_free self.old.next entry.channel ≤ entry.frame }
         requires ahead { entry.frame < self.old.position + self.old.geometry.frames }
         requires lap_fits { lap self.old.geometry entry.frame < 4294967295 }
-        ensures { IsAdded self.old self.new entry }
+        ensures { IsLaidBy self.old self.new entry }
     {
         let at = self.geometry.word_index(entry.frame, entry.channel);
         let word = self.words[at];
         self.words[at] = lap_word::add(word, entry.sample);
-        self.cursors[entry.member as usize] = Cursor::behind(
-            &self.geometry,
-            entry.frame,
-            entry.channel,
-        );
+        let member = entry.member as usize;
+        self.marks[member] = self.marks[member].added(&self.geometry, entry.frame, entry.channel);
+    }
+
+    /// Takes the entry's sample off the word of its frame and channel, which are not taken yet, and moves its member's cursor
+    /// back to them.
+    pub(crate) fn withdraw(&mut self, entry: Entry)
+        requires kind { entry.kind ≡ Withdrawn }
+        requires member { entry.member < length self.old.marks }
+        requires channel { entry.channel < self.old.geometry.channels }
+        requires from_floor { IsFrom (marks_at self.old entry.member).floor entry.frame entry.channel }
+        requires before_cursor { entry.frame < first_free (cursor_at self.old entry.member) entry.channel }
+        requires untaken { first_free self.old.next entry.channel ≤ entry.frame }
+        requires ahead { entry.frame < self.old.position + self.old.geometry.frames }
+        ensures { IsLaidBy self.old self.new entry }
+    {
+        let at = self.geometry.word_index(entry.frame, entry.channel);
+        let word = self.words[at];
+        self.words[at] = lap_word::withdraw(word, entry.sample);
+        let member = entry.member as usize;
+        self.marks[member] = self.marks[member].withdrawn(entry.frame, entry.channel);
     }
 }

@@ -1,9 +1,9 @@
-ghost use Rattle.std.specs.Prelude.{◌≡◌, ◌<◌, ◌≤◌, ◌+◌, ◌∷◌, ◌++◌, [], List, length, slice_index_or, IfErr};
-ghost use Rattle.snd_base.specs.Places.{IsFrom, first_free};
-ghost use Rattle.mix_core.specs.History.{Row, late_row, row_of};
-ghost use Rattle.mix_core.specs.Port.{IfLate, OnIn};
-ghost use Rattle.mix_core.specs.Stands.{Stands};
-ghost use Rattle.mix_core.specs.Turn.{KeepsRest};
+ghost use Rattle.std.specs.Prelude.{◌≡◌, ◌<◌, ◌≤◌, ◌+◌, true, length};
+ghost use Rattle.snd_base.specs.Places.{IsFrom, first_free, lap};
+ghost use Rattle.mix_core.specs.Laid.{an_add};
+ghost use Rattle.mix_core.specs.Marks.{added_at};
+ghost use Rattle.mix_core.specs.Port.{Lays, OnLate, OnWhole, ended_of};
+ghost use Rattle.mix_core.specs.View.{cursor_at, marks_at};
 
 use super::*;
 use snd_base::{Geometry, PcmError};
@@ -17,15 +17,13 @@ fn place_once<P: MixPort, G: Gate>(
     channel: u8,
     sample: i16,
 ) -> Result<Placed, PcmError>
-    requires can_add { P.can_add port.old }
-    requires channel { channel < (P.geometry port.old).channels }
-    requires from_cursor { IsFrom (P.cursor port.old) frame channel }
-    requires ahead { frame < P.seen port.old + (P.geometry port.old).frames }
-    ensures in_time { OnIn result (P.laid port.old port.new (record { member = P.member port.old; frame = frame; channel = channel; sample = sample } ∷ [])) }
-    ensures late { IfLate result (λ _. P.laid port.old port.new [] × P.can_be_late port.old frame channel) }
-    ensures missed { IfLate result (λ _. P.missed port.old port.new (record { member = P.member port.old; frame = frame; channel = channel; sample = sample })) }
-    ensures err { IfErr result (λ e. P.laid port.old port.new []) }
-    ensures only { G.stops gate.new ≡ G.stops gate.old → IfErr result (λ e. e ≡ PcmError.LapEnd) }
+    requires can_add { (P.view port.old).can_add ≡ true }
+    requires channel { channel < (P.view port.old).geometry.channels }
+    requires from_cursor { IsFrom (P.view port.old).marks.cursor frame channel }
+    requires ahead { frame < (P.view port.old).seen + (P.view port.old).geometry.frames }
+    requires fits { lap (P.view port.old).geometry frame < 4294967295 }
+    ensures step { Lays P.view P.laid P.loaded P.shows P.finds G.stops G.asked port.old gate.old
+        (an_add (P.view port.old).member frame channel sample) (ended_of result) port.new gate.new }
 {
     port.place(gate, frame, channel, sample)
 }
@@ -38,15 +36,16 @@ fn lay(
     channel: u8,
     sample: i16,
 ) -> Result<Placed, PcmError>
-    requires member { member < length core.old.cursors }
+    requires member { member < length core.old.marks }
     requires channel { channel < core.old.geometry.channels }
-    requires from_cursor { IsFrom (slice_index_or core.old.cursors member core.old.next) frame channel }
+    requires from_cursor { IsFrom (cursor_at core.old member) frame channel }
     requires ahead { frame < core.old.position + core.old.geometry.frames }
-    ensures in_time { OnIn result ((h : List Row) → Stands core.old h → Stands core.new (h ++ row_of (record { member = member; frame = frame; channel = channel; sample = sample }) ∷ [])) }
-    ensures late { IfLate result (λ _. frame < first_free core.old.next channel) }
-    ensures missed { IfLate result (λ _. (h : List Row) → Stands core.old h → Stands core.new (h ++ late_row (record { member = member; frame = frame; channel = channel; sample = sample }) ∷ [])) }
-    ensures only { IfErr result (λ e. e ≡ PcmError.LapEnd) }
-    ensures rest { KeepsRest core.old core.new }
+    requires fits { lap core.old.geometry frame < 4294967295 }
+    ensures late { OnLate (ended_of result) (λ _. frame < first_free core.old.next channel) }
+    ensures in_time { OnWhole (ended_of result) (first_free core.old.next channel ≤ frame) }
+    ensures marks { OnWhole (ended_of result)
+        (marks_at core.new member ≡ added_at core.old.geometry (marks_at core.old member) frame channel) }
+    ensures members { length core.new.marks ≡ length core.old.marks }
 {
     let mut turn = core.turn(member);
     place_once(&mut turn, &mut NeverStops, frame, channel, sample)
@@ -60,14 +59,17 @@ fn try_lay(
     channel: u8,
     sample: i16,
 ) -> Result<Placed, Fail>
-    ensures members { length core.new.cursors ≡ length core.old.cursors }
+    ensures members { length core.new.marks ≡ length core.old.marks }
 {
     let geometry = core.geometry();
     if member >= core.members() || channel >= geometry.channels {
         return Err("out of range".into());
     }
     let ahead = core.position().frame + geometry.frames as u64;
-    if frame < core.cursor(member).first_free(channel) || frame >= ahead {
+    if frame < core.cursor(member).first_free(channel)
+        || frame >= ahead
+        || geometry.lap(frame) >= 4294967295
+    {
         return Err("outside".into());
     }
     Ok(lay(core, member, frame, channel, sample)?)
@@ -249,5 +251,73 @@ fn an_add_past_the_last_lap_is_outside(rt: HostRuntime) -> Result<(), Fail> {
     let replies = core.run(rt.alloc(), &events)?;
     let wanted = [Reply::Published(1099511627266), Reply::Outside, Reply::In];
     assert_eq!(rt; replies.as_slice(), wanted.as_slice());
+    Ok(())
+}
+
+fn withdraw(channel: u8, sample: i16) -> Event {
+    Event::Withdraw {
+        member: 0,
+        frame: 64,
+        channel,
+        sample,
+    }
+}
+
+// The last standing add is withdrawn, and then the one before it, which was taken; what was withdrawn isn't there any more.
+#[test]
+fn a_withdrawal_is_in_time_then_late_then_outside(rt: HostRuntime) -> Result<(), Fail> {
+    let mut core = stereo_core(&rt, 0)?;
+    let mut events = vec![in rt.alloc(); Event::Take; 131]?;
+    events[0] = Event::Add {
+        member: 0,
+        frame: 64,
+        channel: 0,
+        sample: 5,
+    };
+    events[1] = Event::Add {
+        member: 0,
+        frame: 64,
+        channel: 1,
+        sample: 6,
+    };
+    for event in [withdraw(1, 6), withdraw(0, 5), Event::Take, withdraw(1, 6)] {
+        events.push(event)?;
+    }
+    let replies = core.run(rt.alloc(), &events)?;
+    let silent = Reply::Took {
+        frame: 64,
+        channel: 1,
+        value: 0,
+    };
+    let wanted = [Reply::In, Reply::Late, silent, Reply::Outside];
+    assert_eq!(rt; replies.get(131..), Some(wanted.as_slice()));
+    Ok(())
+}
+
+// A withdrawal of another sample, of another member's, and of what was added in another call.
+#[test]
+fn a_withdrawal_is_outside(rt: HostRuntime) -> Result<(), Fail> {
+    let mut core = stereo_core(&rt, 0)?;
+    let first = [
+        Event::Add {
+            member: 1,
+            frame: 64,
+            channel: 1,
+            sample: 6,
+        },
+        withdraw(1, 6),
+        Event::Add {
+            member: 0,
+            frame: 64,
+            channel: 1,
+            sample: 7,
+        },
+        withdraw(1, 6),
+    ];
+    let replies = core.run(rt.alloc(), &first)?;
+    let wanted = [Reply::In, Reply::Outside, Reply::In, Reply::Outside];
+    assert_eq!(rt; replies.as_slice(), wanted.as_slice());
+    let later = core.run(rt.alloc(), &[withdraw(1, 7)])?;
+    assert_eq!(rt; later.as_slice(), [Reply::Outside].as_slice());
     Ok(())
 }

@@ -2,22 +2,23 @@
 ghost use Rattle.std.specs.Prelude.{◌≡◌, ◌<◌, length};
 
 use crate::gate::{Gate, StepKind, ask};
-use crate::port::{Entry, MixPort, Placed, Position};
+use crate::port::{Entry, Kind, MixPort, Placed, Position};
 use crate::ring::Core;
 use snd_base::{Cursor, Geometry, PcmError};
 
 /// The port of one member over a core, which it borrows as long as it lasts.
 ///
-/// For every history that the core stood for before a placement, it stands afterwards for that history with the add of
-/// this member at its end: with the reply `In` where it was laid (the relation `laid`, which joins the adds of several
-/// calls), and with the reply `Late` where it came too late (the relation `missed`). A placement that ends with `LapEnd`
-/// or `Stopped` appends nothing, nor does a load of the position. The positions that it loads are the core's. Over a turn
-/// a placement is late exactly where its frame and channel were taken.
+/// For every history that the core stood for before a placement or withdrawal, it stands afterwards for that history with
+/// this member's add or withdrawal at its end: with the reply `In` where it was laid (the relation `laid`, which joins those
+/// of several calls), and with the reply `Late` where it came too late (in `finds`); a withdrawal legally continues only a
+/// history in which the member's last standing add is its sample. One that ends with `LapEnd` or `Stopped` appends nothing,
+/// nor does a load of the position. The positions that it loads are the core's. Over a turn a placement or withdrawal is late
+/// exactly where its frame and channel were taken, and it looks at one word and exchanges once.
 #[derive(Drop)]
 pub struct Turn<'a> {
     core: &'a mut Core,
     member: u32,
-    ghost in_range: { member < length core.now.cursors },
+    ghost in_range: { member < length core.now.marks },
 }
 
 impl Core {
@@ -26,7 +27,7 @@ impl Core {
 
     /// The port of one member over this core.
     pub fn turn(&mut self, member: u32) -> Turn<'_>
-        requires { member < length self.old.cursors }
+        requires { member < length self.old.marks }
         ensures same_core { HoldsCore result self.entry }
         ensures value { core_of result ≡ self.old }
         ensures member { member_of result ≡ member }
@@ -36,34 +37,38 @@ impl Core {
 }
 
 impl MixPort for Turn<'_> {
-    ghost use Rattle.std.specs.Prelude.{Some, slice_index_or, ◌<◌, ◌≤◌, ⊤};
-    ghost use Rattle.snd_base.specs.Places.{first_free};
     ghost use Rattle.snd_base.specs.Relations.{Composes-none_after, Composes-none_before};
-    ghost use Rattle.mix_core.specs.Turn.{TurnLaid, TurnLoaded, TurnMissed, core_of, cursor_of_turn, member_of};
-    ghost use Rattle.mix_core.specs.TurnLaws.{TurnLaid-composes, TurnLoaded-composes};
-    ghost use Rattle.mix_core.specs.View.{word_at};
+    ghost use Rattle.mix_core.specs.HeldLaws.{TurnEndsIn-back};
+    ghost use Rattle.mix_core.specs.Turn.{TurnEndsIn, TurnFinds, TurnLaid, TurnLoaded, shown, view_of_turn};
+    ghost use Rattle.mix_core.specs.TurnLaws.{TurnEndsIn-laid, TurnEndsIn-nothing, TurnEndsIn-part, TurnLaid-composes, TurnLaid-shown, TurnLoaded-composes, TurnLoaded-last, TurnLoaded-rising};
 
-    ghost geometry = { λ t. (core_of t).geometry };
+    ghost view = { view_of_turn };
 
-    ghost member = { member_of };
+    ghost shows = { shown };
 
-    ghost cursor = { cursor_of_turn };
-
-    ghost seen = { λ t. (core_of t).position };
-
-    ghost can_add = { λ _. ⊤ };
+    ghost ends_in = { TurnEndsIn };
 
     ghost laid = { TurnLaid };
 
     ghost loaded = { TurnLoaded };
 
-    ghost shows = { λ t f c. Some (word_at (core_of t) f c) };
+    ghost finds = { TurnFinds };
 
-    ghost can_be_in = { λ t f c. first_free (core_of t).next c ≤ f };
+    ghost laid_marks = { λ p q es laid. laid.marks };
 
-    ghost can_be_late = { λ t f c. f < first_free (core_of t).next c };
+    ghost shown_laid = { TurnLaid-shown };
 
-    ghost missed = { TurnMissed };
+    ghost loaded_rising = { TurnLoaded-rising };
+
+    ghost loaded_last = { TurnLoaded-last };
+
+    ghost ends_in_part = { TurnEndsIn-part };
+
+    ghost held_laid = { TurnEndsIn-laid };
+
+    ghost held_nothing = { TurnEndsIn-nothing };
+
+    ghost held_back = { TurnEndsIn-back };
 
     ghost laid_composes = { TurnLaid-composes };
 
@@ -85,8 +90,16 @@ impl MixPort for Turn<'_> {
         self.member
     }
 
+    fn can_add(&self) -> bool {
+        true
+    }
+
     fn cursor(&self) -> Cursor {
         self.core.cursor(self.member)
+    }
+
+    fn floor(&self) -> Cursor {
+        self.core.floor(self.member)
     }
 
     fn seen(&self) -> u64 {
@@ -118,6 +131,29 @@ impl MixPort for Turn<'_> {
             frame,
             channel,
             sample,
+            kind: Kind::Added,
+        });
+        Ok(Placed::In)
+    }
+
+    fn withdraw<G: Gate>(
+        &mut self,
+        gate: &mut G,
+        frame: u64,
+        channel: u8,
+        sample: i16,
+    ) -> Result<Placed, PcmError> {
+        ask(gate, StepKind::Look)?;
+        if let Some(word) = self.core.late_word(frame, channel) {
+            return Ok(Placed::Late { seen: word });
+        }
+        ask(gate, StepKind::Exchange)?;
+        self.core.withdraw(Entry {
+            member: self.member,
+            frame,
+            channel,
+            sample,
+            kind: Kind::Withdrawn,
         });
         Ok(Placed::In)
     }

@@ -68,7 +68,7 @@ fn try_place(seat: &mut MixSeat<'_>, frame: u64, channel: u8) -> bool
     ensures { Goes seat.old seat.new }
 {
     let geometry = seat.geometry();
-    if seat.places() == 0 || channel >= geometry.channels {
+    if !seat.can_add() || channel >= geometry.channels {
         return false;
     }
     let ahead = seat.seen() + geometry.frames as u64;

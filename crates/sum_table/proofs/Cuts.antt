@@ -1,29 +1,28 @@
 -- Splits and joins keep the rule, and what the rule tells a seat of its view.
-use Rattle.std.proofs.Common.{◌≡◌, ◌≢◌, ◌⊎◌, ℕ, zero, suc, ◌+◌, ◌≤◌, ◌||◌, Bool, true, false, Option, None, Some, List, [], ◌∷◌, ◌++◌, map, length, get_or, set, ℤ, pos, inl, inr, arith, subst, sym, refl, ap, ◌∙◌, nat_lt, cond}
+use Rattle.std.proofs.Common.{◌≡◌, ◌≢◌, ◌⊎◌, ℕ, zero, suc, ◌+◌, ◌*◌, ◌≤◌, ◌||◌, Bool, true, false, Option, None, Some, List, [], ◌∷◌, ◌++◌, map, length, get_or, set, ℤ, pos, inl, inr, arith, subst, sym, refl, ap, ◌∙◌, nat_lt, cond}
 use mathlib.Core.Option.{some, none, some-ne-none}
 use lib.ListN.{get_elem?}
 use Rattle.std.proofs.lemmas.Bool.{false≢true}
-use Rattle.std.proofs.lemmas.Bool.Decides.{nat_tests}
 use Rattle.std.proofs.lemmas.Int.{ints}
 use Rattle.std.proofs.lemmas.List.{length-append, length-set}
 use Rattle.atomic_table.specs.Table.{Allows, Joins, Me, Splits, keeps, step}
 use Rattle.atomic_table.proofs.Lists.{at_set}
 use Rattle.snd_base.specs.declared.geometry.Geometry.{Geometry}
-use Rattle.snd_base.specs.declared.places.Cursor.{Cursor}
-use Rattle.snd_base.specs.Places.{first_free, lap}
+use Rattle.snd_base.specs.Places.{lap}
 use Rattle.lap_word.specs.Word.{StandsFor-fields, lap_of}
 use Rattle.mix_core.specs.declared.port.Entry.{Entry}
 use Rattle.mix_core.specs.History.{Row, laid_of}
 use Rattle.mix_core.specs.HistoryLaws.{total-append}
-use Rattle.mix_core.specs.Laid.{at, cursor_of, sum_of_samples, total}
+use Rattle.mix_core.specs.Laid.{at, sum_of_samples, total}
 use Rattle.sum_table.specs.declared.view.Key.{Key}
 use Rattle.sum_table.specs.declared.view.Track.{Track}
 use Rattle.sum_table.specs.declared.view.View.{View}
-use Rattle.sum_table.specs.Cuts.{both_of, either_track, later_note, later_notes, later_of, part_of, spent_view, with_places}
-use Rattle.sum_table.specs.Exact.{Exact, IsHistory, IsView, start_of}
+use Rattle.sum_table.specs.Cuts.{start_marks, both_of, either_track, later_note, later_notes, part_of, spent_view, with_places}
+use Rattle.sum_table.specs.Exact.{Exact, IsHistory, IsView}
 use Rattle.sum_table.specs.Laid.{SameSums, all_laid, by_member, count, own, places_of}
 use Rattle.sum_table.specs.Steps.{Knows, learned, with_history}
 use Rattle.sum_table.specs.Words.{NotPast, index_of, rank}
+use Rattle.sum_table.proofs.Kept.{kept_join, kept_none, kept_places}
 use Rattle.sum_table.proofs.Keeps.{Holds, idle, loaded, none_made}
 use Rattle.sum_table.proofs.Lists.{at_append, at_more}
 use Rattle.sum_table.proofs.Rings.{IsRing-same}
@@ -39,7 +38,7 @@ no_track t same = false≢true (ap is_some same)
 
 -- places move to a new seat
 pub splits : (k : Key) (id : ℕ) (v : View) (left right : ℕ) → v.key ≡ k → left + right ≡ v.places
-    → ((f c : ℕ) → count v.laid f c ≤ v.places → count v.laid f c ≤ left)
+    → (v.laid ≡ []) ⊎ (left ≡ v.places)
     → Splits (Exact k) id v (with_places v left) (part_of v right)
 splits k id v left right of_ring all few s x here =
     let g : Geometry = k.geometry in
@@ -51,8 +50,7 @@ splits k id v left right of_ring all few s x here =
     let views : List View = mid ++ p ∷ [] in
     let mine : IsView k s.words t h v = x.4.each id v here in
     let left_ok : IsView k s.words t h l = record {
-      laid = mine.laid;
-      few = λ f c. few f c (mine.few f c);
+      kept = kept_places g v.places left v.laid v.mine v.free v.marks v.seen v.ended few mine.kept;
       seen_high = mine.seen_high;
       positions = mine.positions;
       gone = mine.gone;
@@ -61,8 +59,7 @@ splits k id v left right of_ring all few s x here =
       heard = mine.heard;
     } in
     let right_ok : IsView k s.words t h p = record {
-      laid = λ i e there. absurd (some-ne-none e (sym there));
-      few = λ f c. omega arith;
+      kept = kept_none g right (start_marks v.key.geometry) v.seen false (λ c. omega arith) (λ c. omega arith) (λ lasts. ap (λ (z : Key). start_marks z.geometry) of_ring);
       seen_high = mine.seen_high;
       positions = mine.positions;
       gone = mine.gone;
@@ -117,30 +114,9 @@ splits k id v left right of_ring all few s x here =
             | inr new ↦ x.5.no_more i (omega (arith, new.0)) ∙ ap (λ (z : View). map (by_member i) z.mine) new.1
           ]
         ];
-        cursors = λ i u there lasts c in_range. elim (parts i u there) [
-          | inl this ↦
-              let was : v.ended ≡ false = ap (λ (z : View). z.ended) this.1 ∙ lasts in
-              subst (λ n. first_free (cursor_of g n (laid_of h)) c ≤ first_free u.cursor c) (sym this.0)
-              (subst (λ (z : View). first_free (cursor_of g id (laid_of h)) c ≤ first_free z.cursor c) this.1 (x.5.cursors id v here was c in_range))
-          | inr rest ↦ elim rest [
-            | inl other ↦ x.5.cursors i u other.1 lasts c in_range
-            | inr new ↦
-                let start : cursor_of g i (laid_of h) ≡ start_of v.key.geometry = x.5.no_cursor i (omega (arith, new.0)) ∙ ap (λ (z : Key). start_of z.geometry) (sym of_ring) in
-                let at_start : cursor_of g i (laid_of h) ≡ u.cursor = start ∙ ap (λ (z : View). z.cursor) new.1 in
-                subst (λ (y : Cursor). first_free (cursor_of g i (laid_of h)) c ≤ first_free y c) at_start (omega arith)
-          ]
-        ];
         no_more = λ i up. x.5.no_more i (omega (arith, more));
-        no_cursor = λ i up. x.5.no_cursor i (omega (arith, more));
       },
     )
-
--- the later one of two cursors is past whatever either is past
-later_of-left : (a b : Cursor) (c : ℕ) → first_free a c ≤ first_free (later_of a b) c
-later_of-left a b c = grind (arith, nat_tests)
-
-later_of-right : (a b : Cursor) (c : ℕ) → first_free b c ≤ first_free (later_of a b) c
-later_of-right a b c = grind (arith, nat_tests)
 
 -- what is noted in two views together, one of them noted
 later_note-one : (n o : Option ℕ) (m : ℕ) → later_note n o ≡ Some m → (n ≡ Some m) ⊎ (o ≡ Some m)
@@ -183,15 +159,7 @@ or_true false b is = inr is
 -- what two seats know together
 both_ok : (k : Key) (words : List ℕ) (t : Track) (h : List Row) (v w : View) → IsView k words t h v → IsView k words t h w → IsView k words t h (both_of v w)
 both_ok k words t h v w a b = record {
-  laid = λ i e there. elim (at_append v.laid w.laid e i there) [
-    | inl first ↦
-        let l = a.laid i e first in
-        record { channel = l.channel; low = l.low; before = omega (arith, l.before, later_of-left v.cursor w.cursor e.channel); in_ring = l.in_ring }
-    | inr second ↦
-        let l = b.laid second.0 e second.1 in
-        record { channel = l.channel; low = l.low; before = omega (arith, l.before, later_of-right v.cursor w.cursor e.channel); in_ring = l.in_ring }
-  ];
-  few = λ f c. omega (arith, count-append v.laid w.laid f c, a.few f c, b.few f c);
+  kept = kept_join k.geometry v.places w.places v.laid w.laid v.mine w.mine v.free w.free v.marks w.marks v.seen w.seen v.ended w.ended a.kept b.kept;
   seen_high = omega (arith, a.seen_high, b.seen_high);
   positions = λ i p there. elim (at_append v.positions w.positions p i there) [
     | inl first ↦ a.positions i p first
@@ -215,8 +183,8 @@ no_note n same = false≢true (ap is_noted same)
 
 spent_ok : (k : Key) (words : List ℕ) (t : Track) (h : List Row) → IsView k words t h spent_view
 spent_ok k words t h = record {
-  laid = λ i e there. absurd (some-ne-none e (sym there));
-  few = λ f c. omega arith;
+  kept = kept_none k.geometry 0 (record { cursor = record { frame = 0; channel = 0 }; floor = record { frame = 0; channel = 0 }; high = record { frame = 0; channel = 0 } }) 0 true
+      (λ c. omega arith) (λ c. omega arith) (λ lasts. absurd (false≢true (sym lasts)));
   seen_high = omega arith;
   positions = λ i p there. absurd (some-ne-none p (sym there));
   gone = λ is. absurd (false≢true is);
@@ -267,19 +235,7 @@ joins k id v other w s x here apart there =
           | inr else_one ↦ x.5.owns i u else_one.2 lasts
         ]
       ];
-      cursors = λ i u is lasts c in_range. elim (parts i u is) [
-        | inl ended ↦ absurd (false≢true (sym (ap (λ (z : View). z.ended) ended.1 ∙ lasts)))
-        | inr rest ↦ elim rest [
-          | inl this ↦
-              let was : v.ended ≡ false = ap (λ (z : View). z.ended) this.1 ∙ lasts in
-              let low : first_free (cursor_of g id (laid_of h)) c ≤ first_free b.cursor c = omega (arith, x.5.cursors id v here was c in_range, later_of-left v.cursor w.cursor c) in
-              subst (λ n. first_free (cursor_of g n (laid_of h)) c ≤ first_free u.cursor c) (sym this.0)
-              (subst (λ (z : View). first_free (cursor_of g id (laid_of h)) c ≤ first_free z.cursor c) this.1 low)
-          | inr else_one ↦ x.5.cursors i u else_one.2 lasts c in_range
-        ]
-      ];
       no_more = λ i up. x.5.no_more i (omega (arith, number));
-      no_cursor = λ i up. x.5.no_cursor i (omega (arith, number));
     } in
     elim (track_cases w.track) [
       | inl untracked ↦ (
@@ -336,7 +292,7 @@ total_none es f c silent = ap sum_of_samples (empty (at es f c) silent) where
   empty [] is = refl
   empty (x ∷ xs) is = absurd (omega arith)
 
-all_none : (views : List View) (f c : ℕ) → ((i : ℕ) (u : View) → get_elem? views i ≡ some u → count u.laid f c ≤ u.places) → places_of views ≡ 0
+all_none : (views : List View) (f c : ℕ) → ((i : ℕ) (u : View) → get_elem? views i ≡ some u → count u.laid f c ≤ 3 * u.places) → places_of views ≡ 0
     → (count (all_laid views) f c ≡ 0) × (total (all_laid views) f c ≡ pos 0)
 all_none views f c few no_places =
     let count_is : count (all_laid views) f c ≡ 0 = omega (arith, count_few views f c few) in
@@ -344,7 +300,7 @@ all_none views f c few no_places =
 
 -- a view with all places laid everything
 alone : (views : List View) (id : ℕ) (v : View) (f c : ℕ) → get_elem? views id ≡ some v
-    → ((i : ℕ) (u : View) → get_elem? views i ≡ some u → count u.laid f c ≤ u.places) → places_of views ≡ v.places
+    → ((i : ℕ) (u : View) → get_elem? views i ≡ some u → count u.laid f c ≤ 3 * u.places) → places_of views ≡ v.places
     → (count (all_laid views) f c ≡ count v.laid f c) × (total (all_laid views) f c ≡ total v.laid f c)
 alone [] id v f c here few all = absurd (some-ne-none v (sym here))
 alone (x ∷ xs) zero v f c here few all =
@@ -362,7 +318,7 @@ alone (x ∷ xs) (suc id) v f c here few all =
     )
 
 alone_sums : (views : List View) (id : ℕ) (v : View) → get_elem? views id ≡ some v
-    → ((f c : ℕ) (i : ℕ) (u : View) → get_elem? views i ≡ some u → count u.laid f c ≤ u.places) → places_of views ≡ v.places
+    → ((f c : ℕ) (i : ℕ) (u : View) → get_elem? views i ≡ some u → count u.laid f c ≤ 3 * u.places) → places_of views ≡ v.places
     → SameSums (all_laid views) v.laid
 alone_sums views id v here few all = record {
   counts = λ f c. (alone views id v f c here (few f c) all).0;
@@ -382,7 +338,7 @@ knows words views at t u h id v x here tracks =
     let g : Geometry = v.key.geometry in
     let own_one : IsView v.key words t h v = x.views_ok.each id v here in
     let same : t ≡ u = sym (x.views_ok.player id v u here tracks).1 in
-    let few : (f c i : ℕ) (y : View) → get_elem? views i ≡ some y → count y.laid f c ≤ y.places = λ f c i y there. (x.views_ok.each i y there).few f c in
+    let few : (f c i : ℕ) (y : View) → get_elem? views i ≡ some y → count y.laid f c ≤ 3 * y.places = λ f c i y there. (x.views_ok.each i y there).kept.few f c in
     let at_t : Knows (with_history v h) t = record {
       seen = own_one.seen_high;
       positions = own_one.positions;
@@ -413,8 +369,7 @@ learns slots id m lasts s x homes here fits =
     let all : Holds k s.words s.views x.0 t h = record { ring = x.3; views_ok = x.4; history = x.5 } in
     let own_one : IsView k s.words t h v = x.4.each id v here in
     let after : IsView k s.words t h w = record {
-      laid = own_one.laid;
-      few = own_one.few;
+      kept = own_one.kept;
       seen_high = own_one.seen_high;
       positions = own_one.positions;
       gone = own_one.gone;
@@ -422,7 +377,7 @@ learns slots id m lasts s x homes here fits =
       begins = BeginsWith-same h;
       heard = own_one.heard;
     } in
-    let y : Holds k s.words (set s.views id w) x.0 t h = idle k s.words s.views x.0 t h id v w all here (record { places = refl; laid = refl; mine = refl; cursor = refl; ended = refl; track = refl }) after in (
+    let y : Holds k s.words (set s.views id w) x.0 t h = idle k s.words s.views x.0 t h id v w all here (record { places = refl; laid = refl; mine = refl; ended = refl; track = refl }) after in (
       w,
       keeps,
       tt,

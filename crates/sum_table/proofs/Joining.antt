@@ -1,6 +1,6 @@
 -- Splits, joins, notes and the close of a ring, said of the fields of the seats.
 use Rattle.std.proofs.Common.{◌≡◌, ℕ, zero, suc, ◌+◌, ◌-◌, ◌≤◌, ◌||◌, Bool, true, false, Option, None, Some, List, [], ◌∷◌, ◌++◌, get_or, max, cond, nat_lt, inl, inr, arith, subst, sym, refl, ap, ◌∙◌}
-use mathlib.Core.Option.{none, some}
+use mathlib.Core.Option.{none, some, some-ne-none}
 use lib.ListN.{get_elem?}
 use Rattle.std.proofs.lemmas.Bool.{false≢true}
 use Rattle.std.proofs.lemmas.Bool.Decides.{nat_tests}
@@ -10,28 +10,31 @@ use Rattle.snd_base.specs.declared.geometry.Geometry.{Geometry}
 use Rattle.snd_base.specs.declared.places.Cursor.{Cursor}
 use Rattle.snd_base.specs.Places.{IsWithin, first_frame, lap}
 use Rattle.lap_word.specs.Word.{lap_of}
+use Rattle.mix_core.specs.declared.marks.Marks.{Marks}
 use Rattle.mix_core.specs.declared.port.Entry.{Entry}
 use Rattle.mix_core.specs.LegalLaws.{first_frame-le}
 use Rattle.mix_core.specs.History.{AreExact, AreInOrder, IsLegal, Row, laid_of}
 use Rattle.mix_core.specs.Sound.{IsNow}
-use Rattle.sum_table.specs.declared.mix.MixSeat.{MixSeat}
-use Rattle.sum_table.specs.declared.note.SeatNote.{SeatNote}
-use Rattle.sum_table.specs.declared.player.PlayerSeat.{PlayerSeat}
+use Rattle.sum_table.specs.declared.seats.mix.MixSeat.{MixSeat}
+use Rattle.sum_table.specs.declared.seats.note.SeatNote.{SeatNote}
+use Rattle.sum_table.specs.declared.seats.player.PlayerSeat.{PlayerSeat}
 use Rattle.sum_table.specs.declared.view.Key.{Key}
 use Rattle.sum_table.specs.declared.view.Track.{Track}
 use Rattle.sum_table.specs.declared.view.View.{View}
-use Rattle.sum_table.specs.Cuts.{is_before, both_of, either_track, later_note, later_notes, later_of, part_of, without}
-use Rattle.sum_table.specs.Exact.{BeginsWith, Exact, IsPublished, is_tracked, next_at, position_at, start_of, the_track}
+use Rattle.sum_table.specs.Cuts.{joined_marks, both_of, either_track, later_note, later_notes, later_of, part_of, without}
+use Rattle.sum_table.specs.Exact.{start_marks, BeginsWith, Exact, IsPublished, is_tracked, next_at, position_at, the_track}
 use Rattle.sum_table.specs.Joins.{HasClosed, HasHeard, HasJoined, HasMet, HasPlayerNote, note_view}
 use Rattle.sum_table.specs.Known.{IsKnown, IsNoted, IsPlayer, greater, has_all, last_frame}
-use Rattle.sum_table.specs.Laid.{SameSums, count}
+use Rattle.sum_table.specs.Laid.{SameSums}
 use Rattle.sum_table.specs.Players.{player_view, track_of}
 use Rattle.sum_table.specs.Seats.{view_of}
 use Rattle.sum_table.specs.Steps.{IsStep, Knows, Makes, learned, with_history}
 use Rattle.sum_table.specs.Words.{index_of, rank}
+use Rattle.sum_table.proofs.Kept.{IsLaid-later}
+use Rattle.sum_table.proofs.Lists.{at_append}
 use Rattle.sum_table.proofs.Cuts.{joins, later_notes-length, later_notes-one, learns, splits}
 use Rattle.sum_table.proofs.Playing.{has_all-more, has_each}
-use Rattle.sum_table.proofs.Seated.{last_frame-append, step_begins}
+use Rattle.sum_table.proofs.Seated.{MarksWithin, last_frame-append, step_begins}
 
 -- a load that notes nothing, at the ring's key
 pub learns_at : (k : Key) (slots id : ℕ) (m : Me Entry View) → m.0.key ≡ k → m.0.ended ≡ false
@@ -43,47 +46,52 @@ pub may_cut : (s : MixSeat) (amount n : ℕ) → amount ≡ n → n ≤ s.places
     → Splits (Exact s.ring.now.key) s.seat.id (view_of s) (without (view_of s) amount) (part_of (view_of s) amount)
 may_cut s amount n is has nothing =
     let v : View = view_of s in
-    let few : (f c : ℕ) → count v.laid f c ≤ v.places → count v.laid f c ≤ v.places - amount = λ f c up. subst (λ es. count es f c ≤ v.places - amount) (sym nothing) (omega arith) in
-    splits s.ring.now.key s.seat.id v (v.places - amount) amount (s.known.same_key ∙ s.same_ring.1) (omega (arith, is, has, s.known.same_places)) few
+    splits s.ring.now.key s.seat.id v (v.places - amount) amount (s.known.same_key ∙ s.same_ring.1) (omega (arith, is, has, s.known.same_places)) (inl nothing)
 
 -- a note can always be given
 pub may_note : (k : Key) (id : ℕ) (v : View) → v.key ≡ k → Splits (Exact k) id v v (part_of v 0)
-may_note k id v same = splits k id v v.places 0 same (omega arith) (λ f c up. up)
+may_note k id v same = splits k id v v.places 0 same (omega arith) (inr refl)
 
 pub start_within : (g : Geometry) → IsWithin g (first_frame g)
 start_within g = record { least = omega arith; most = first_frame-le g }
 
 -- the fields of the two seats after a split
-pub known_without : (k : Key) (places : ℕ) (cursor : Cursor) (seen : ℕ) (last : Option ℕ) (v : View) (amount n : ℕ)
-    → IsKnown v k places cursor seen last → amount ≡ n → n ≤ places → IsKnown (without v amount) k (places - n) cursor seen last
-known_without k places cursor seen last v amount n is same has = record {
+pub known_without : (k : Key) (places : ℕ) (marks : Marks) (seen : ℕ) (last : Option ℕ) (v : View) (amount n : ℕ)
+    → IsKnown v k places marks seen last → amount ≡ n → n ≤ places → v.laid ≡ [] → IsKnown (without v amount) k (places - n) marks seen last
+known_without k places marks seen last v amount n is same has nothing = record {
   same_key = is.same_key;
   same_places = omega (arith, is.same_places, same);
-  same_cursor = is.same_cursor;
+  same_marks = is.same_marks;
   same_seen = is.same_seen;
   same_last = is.same_last;
   lasts = is.lasts;
   untracked = is.untracked;
   noted = record { room = is.noted.room; words = is.noted.words };
   cursor_within = is.cursor_within;
+  floor_within = is.floor_within;
+  high_within = is.high_within;
   seen_within = is.seen_within;
   places_most = omega (arith, is.places_most);
+  laid = is.laid;
 }
 
 pub known_part : (k : Key) (v : View) (amount n seen : ℕ) → v.key ≡ k → v.seen ≡ seen → IsNoted v k → IsWithin k.geometry seen → amount ≡ n → n ≤ k.places
-    → IsKnown (part_of v amount) k n (start_of k.geometry) seen None
+    → IsKnown (part_of v amount) k n (start_marks k.geometry) seen None
 known_part k v amount n seen same_key same_seen noted seen_within same most = record {
   same_key = same_key;
   same_places = same;
-  same_cursor = ap (λ (x : Key). start_of x.geometry) same_key;
+  same_marks = ap (λ (x : Key). start_marks x.geometry) same_key;
   same_seen = same_seen;
   same_last = refl;
   lasts = refl;
   untracked = refl;
   noted = record { room = noted.room; words = noted.words };
   cursor_within = start_within k.geometry;
+  floor_within = start_within k.geometry;
+  high_within = start_within k.geometry;
   seen_within = seen_within;
   places_most = most;
+  laid = λ i e there. absurd (some-ne-none e (sym there));
 }
 
 -- what two views noted is noted in both
@@ -96,30 +104,46 @@ IsNoted-both k v w a b = record {
 later_within : (g : Geometry) (a b : Cursor) → IsWithin g a.frame → IsWithin g b.frame → IsWithin g (later_of a b).frame
 later_within g a b first second = record { least = grind (arith, nat_tests, first.least, second.least); most = grind (arith, nat_tests, first.most, second.most) }
 
+-- the marks after a join
+joined_within : (g : Geometry) (a b : Marks) (n : ℕ) → MarksWithin g a → MarksWithin g b → MarksWithin g (joined_marks a b n)
+joined_within g a b zero first second = first
+joined_within g a b (suc n) first second =
+    let high : IsWithin g (later_of a.high b.high).frame = later_within g a.high b.high first.high second.high in
+    record { cursor = high; floor = high; high = high }
+
 -- the fields after a join
-pub known_joined : (k : Key) (p q : ℕ) (a b : Cursor) (s t : ℕ) (l m : Option ℕ) (v w : View) (slots n : ℕ) (x r : Me Entry View)
+pub known_joined : (k : Key) (p q : ℕ) (a b : Marks) (s t : ℕ) (l m : Option ℕ) (v w : View) (slots n : ℕ) (x r : Me Entry View)
     → IsKnown v k p a s l → IsKnown w k q b t m → x.0 ≡ both_of v w → learned (step slots 0 0 0 none) x n r
-    → IsKnown r.0 k (p + q) (later_of a b) (max s t) (greater l m)
+    → IsKnown r.0 k (p + q) (joined_marks a b q) (max s t) (greater l m)
 known_joined k p q a b s t l m v w slots n x r first second both told =
     let h : List Row = told.0 in
     let few : x.0.places ≤ x.0.key.places = told.2 in
     let places : x.0.places ≡ p + q = ap (λ (y : View). y.places) both ∙ omega (arith, first.same_places, second.same_places) in
     let key_places : x.0.key.places ≡ k.places = ap (λ (y : View). y.key.places) both ∙ ap (λ (y : Key). y.places) first.same_key in
     let noted : IsNoted (both_of v w) k = IsNoted-both k v w first.noted second.noted in
-    let known : IsKnown (with_history (both_of v w) h) k (p + q) (later_of a b) (max s t) (greater l m) = record {
+    let within : MarksWithin k.geometry (joined_marks a b q) = joined_within k.geometry a b q
+    (record { cursor = first.cursor_within; floor = first.floor_within; high = first.high_within })
+    (record { cursor = second.cursor_within; floor = second.floor_within; high = second.high_within }) in
+    let known : IsKnown (with_history (both_of v w) h) k (p + q) (joined_marks a b q) (max s t) (greater l m) = record {
       same_key = first.same_key;
       same_places = omega (arith, first.same_places, second.same_places);
-      same_cursor = ap (λ (y : Cursor). later_of y w.cursor) first.same_cursor ∙ ap (later_of a) second.same_cursor;
+      same_marks = ap (λ y. joined_marks y w.marks w.places) first.same_marks ∙ (ap (λ y. joined_marks a y w.places) second.same_marks ∙ ap (joined_marks a b) second.same_places);
       same_seen = omega (arith, first.same_seen, second.same_seen);
       same_last = last_frame-append v.laid w.laid ∙ (ap (λ y. greater y (last_frame w.laid)) first.same_last ∙ ap (greater l) second.same_last);
       lasts = first.lasts;
       untracked = ap (λ y. either_track y w.track) first.untracked ∙ second.untracked;
       noted = record { room = noted.room; words = noted.words };
-      cursor_within = later_within k.geometry a b first.cursor_within second.cursor_within;
+      cursor_within = within.cursor;
+      floor_within = within.floor;
+      high_within = within.high;
       seen_within = record { least = omega (arith, first.seen_within.least); most = omega (arith, first.seen_within.most, second.seen_within.most) };
       places_most = omega (arith, few, places, key_places);
+      laid = λ i e there. elim (at_append v.laid w.laid e i there) [
+        | inl one ↦ IsLaid-later k.geometry v.seen (max v.seen w.seen) (omega arith) e (first.laid i e one)
+        | inr one ↦ IsLaid-later k.geometry w.seen (max v.seen w.seen) (omega arith) e (second.laid one.0 e one.1)
+      ];
     } in
-    subst (λ (y : Me Entry View). IsKnown y.0 k (p + q) (later_of a b) (max s t) (greater l m)) (sym (told.1 ∙ ap (λ y. (with_history y h, x.1)) both)) known
+    subst (λ (y : Me Entry View). IsKnown y.0 k (p + q) (joined_marks a b q) (max s t) (greater l m)) (sym (told.1 ∙ ap (λ y. (with_history y h, x.1)) both)) known
 
 or_same : (a b : Bool) → (a || b ≡ true → a ≡ true) → (a || b) ≡ a
 or_same true b is = refl
@@ -138,7 +162,7 @@ tracked_some None is = absurd (false≢true is)
 tracked_some (Some t) is = refl
 
 -- the player's fields after it met a note
-pub known_heard : (k : Key) (next : Cursor) (position : ℕ) (gone : Bool) (q : ℕ) (b : Cursor) (t : ℕ) (l : Option ℕ) (v w : View) (slots n : ℕ) (x r : Me Entry View)
+pub known_heard : (k : Key) (next : Cursor) (position : ℕ) (gone : Bool) (q : ℕ) (b : Marks) (t : ℕ) (l : Option ℕ) (v w : View) (slots n : ℕ) (x r : Me Entry View)
     → IsPlayer v k next position gone → IsKnown w k q b t l → q ≡ 0 → w.laid ≡ [] → x.0 ≡ both_of v w → learned (step slots 0 0 0 none) x n r
     → IsPlayer r.0 k next position gone
 known_heard k next position gone q b t l v w slots n x r is met none_left nothing both told =
@@ -272,15 +296,9 @@ has_closed s p slots found x r all one both told =
       );
     }
 
--- the same where the new seat's cursor is a frame that was computed
-pub known_part_at : (k : Key) (v : View) (amount n seen frame : ℕ) → v.key ≡ k → v.seen ≡ seen → IsNoted v k → IsWithin k.geometry seen → amount ≡ n → n ≤ k.places → frame ≡ first_frame k.geometry
-    → IsKnown (part_of v amount) k n (record { frame = frame; channel = 0 }) seen None
-known_part_at k v amount n seen frame same_key same_seen noted seen_within same most first =
-    subst (λ f. IsKnown (part_of v amount) k n (record { frame = f; channel = 0 }) seen None) (sym first) (known_part k v amount n seen same_key same_seen noted seen_within same most)
-
 -- a view that is known, in a seat
-pub known_as : (k : Key) (places : ℕ) (cursor : Cursor) (seen : ℕ) (last : Option ℕ) (v : Me Entry View) (m : Me Entry View) → m ≡ v → IsKnown v.0 k places cursor seen last → IsKnown m.0 k places cursor seen last
-known_as k places cursor seen last v m same is = subst (λ (x : Me Entry View). IsKnown x.0 k places cursor seen last) (sym same) is
+pub known_as : (k : Key) (places : ℕ) (marks : Marks) (seen : ℕ) (last : Option ℕ) (v : Me Entry View) (m : Me Entry View) → m ≡ v → IsKnown v.0 k places marks seen last → IsKnown m.0 k places marks seen last
+known_as k places marks seen last v m same is = subst (λ (x : Me Entry View). IsKnown x.0 k places marks seen last) (sym same) is
 
 -- a load that notes nothing takes no slot
 pub learned_kept : (slots n : ℕ) (m r : Me Entry View) → learned (step slots 0 0 0 none) m n r → r.1 ≡ m.1
@@ -305,12 +323,6 @@ has_player_note p q n ring key same next position gone note_at note_of view seen
   gone = ap (λ (v : View). v.seen_gone) view ∙ (p.known.same_gone ∙ p.known.gone_is);
 }
 
--- no cursor is before the start
-stays_later : (g : Geometry) (a : Cursor) → first_frame g ≤ a.frame → later_of a (start_of g) ≡ a
-stays_later g a least =
-    let test : is_before a (start_of g) ≡ false = grind (arith, nat_tests, least) in
-    rw test refl
-
 greater_none : (o : Option ℕ) → greater o None ≡ o
 greater_none None = refl
 greater_none (Some n) = refl
@@ -318,7 +330,6 @@ greater_none (Some n) = refl
 -- a mix seat that was joined with a note's
 pub has_met : (s t : MixSeat) (n : SeatNote) → n.seat.key ≡ s.key → HasJoined s t n.seat → HasMet s t n
 has_met s t n one joined =
-    let start : n.seat.cursor ≡ start_of s.key.geometry = n.starts ∙ ap (λ (k : Key). start_of k.geometry) one in
     let no_last : n.seat.last ≡ None = sym n.seat.known.same_last ∙ ap last_frame n.laid_nothing in
     record {
       ring = joined.ring;
@@ -327,7 +338,7 @@ has_met s t n one joined =
       view = joined.view;
       places = omega (arith, joined.places, n.no_places);
       laid = ap (λ (v : View). v.laid) joined.view ∙ (ap (λ es. (view_of s).laid ++ es) n.laid_nothing ∙ append-nil (view_of s).laid);
-      cursor = joined.cursor ∙ (ap (later_of s.cursor) start ∙ stays_later s.key.geometry s.cursor s.known.cursor_within.least);
+      marks = joined.marks ∙ ap (joined_marks s.marks n.seat.marks) n.no_places;
       last = joined.last ∙ (ap (greater s.last) no_last ∙ greater_none s.last);
       seen = joined.seen;
       gone = ap (λ (v : View). v.seen_gone) joined.view;

@@ -1,5 +1,5 @@
 -- Loads and the exchange keep the rule, and tell what they tell.
-use Rattle.std.proofs.Common.{◌≡◌, ℕ, ◌+◌, ◌<◌, ◌≤◌, true, false, List, [], ◌∷◌, ◌++◌, length, get_or, set, ℤ, pos, negsuc, ◌+ℤ◌, ◌≤ℤ◌, inl, inr, arith, subst, sym, refl, ap, ◌∙◌, nat_lt, ◌==◌}
+use Rattle.std.proofs.Common.{◌≡◌, ℕ, ◌+◌, ◌<◌, ◌≤◌, true, false, List, [], ◌∷◌, ◌++◌, length, get_or, set, ℤ, pos, negsuc, ◌+ℤ◌, ◌≤ℤ◌, inl, inr, arith, subst, sym, refl, ap, ◌∙◌, nat_lt, ◌==◌, ◌%◌}
 use mathlib.Core.Option.{some, none}
 use lib.ListN.{get_elem?}
 use prog.Atomic.{either}
@@ -9,30 +9,35 @@ use Rattle.atomic_table.specs.Table.{Act, Allows, Me, State, keeps, step}
 use Rattle.atomic_table.proofs.Lists.{at_snoc, exchanged as by_exchange}
 use Rattle.snd_base.specs.declared.geometry.Geometry.{Geometry}
 use Rattle.snd_base.specs.declared.places.Cursor.{Cursor}
-use Rattle.snd_base.specs.PlaceLaws.{first_free-behind_grows, first_free-behind_low}
+use Rattle.std.proofs.lemmas.Bool.{cases_lt}
+use Rattle.snd_base.specs.PlaceLaws.{div-lt_same}
 use Rattle.snd_base.specs.Places.{IsFrom, first_frame, first_free, lap}
 use Rattle.lap_word.specs.Word.{StandsFor, StandsFor-fields, count_of, lap_of, sum_of}
 use Rattle.mix_core.specs.declared.port.Entry.{Entry}
-use Rattle.mix_core.specs.declared.event.Event.TheVariants.{Add}
-use Rattle.mix_core.specs.declared.event.Reply.TheVariants.{Late}
+use Rattle.mix_core.specs.declared.event.Event.TheVariants.{Add, Withdraw}
+use Rattle.mix_core.specs.declared.event.Reply.TheVariants.{In, Late}
 use Rattle.mix_core.specs.declared.event.Taken.{Taken}
-use Rattle.mix_core.specs.History.{IsReply, Row, is_taken, laid_of, next_of}
-use Rattle.mix_core.specs.Laid.{cursor_of, total}
+use Rattle.mix_core.specs.History.{IsReply, Row, event_by, is_taken, laid_of, next_of}
+use Rattle.mix_core.specs.Laid.{cursor_of, marks_after, total, value_of}
+use Rattle.mix_core.specs.declared.marks.Marks.{Marks}
+use Rattle.mix_core.specs.declared.port.Kind.{Kind}
+use Rattle.mix_core.specs.declared.port.Kind.TheVariants.{Added, Withdrawn}
 use Rattle.mix_core.specs.LegalLaws.{cursor_of-least, lap-taken}
 use Rattle.mix_core.specs.Sound.{IsNow}
 use Rattle.sum_table.specs.declared.view.Key.{Key}
 use Rattle.sum_table.specs.declared.view.Track.{Track}
 use Rattle.sum_table.specs.declared.view.View.{View}
-use Rattle.sum_table.specs.Exact.{AreViews, BeginsWith, Exact, IsHistory, IsLaid, IsRing, IsView, next_at, position_at}
+use Rattle.sum_table.specs.Exact.{AreViews, BeginsWith, Exact, IsHistory, IsKept, IsOwn, IsRing, IsView, next_at, position_at}
 use Rattle.sum_table.specs.Laid.{all_laid, count}
-use Rattle.sum_table.specs.Steps.{Finds, IsLateAt, IsStep, MakesLook, exchanged, in_row, located, looked, with_entry, with_note, with_position}
+use Rattle.sum_table.specs.Steps.{Finds, HoldsLast, IsLateAt, IsLateHeld, IsStep, IsSumOf, freed, MakesLook, exchanged, in_row, located, looked, with_entry, with_note, with_position}
 use Rattle.sum_table.specs.Words.{index_of, rank}
-use Rattle.sum_table.proofs.Lists.{IsPublished-last, at-more_elsewhere, at-more_here, at_place, noted_set, place_cases, set_read}
-use Rattle.sum_table.proofs.Places.{index_of-lt}
+use Rattle.sum_table.proofs.Lists.{IsPublished-last, noted_set, set_read}
+use Rattle.sum_table.proofs.Places.{index_of-lt, now_of}
 use Rattle.sum_table.proofs.Rings.{IsRing-put, IsRing-same, not_taken}
-use Rattle.sum_table.proofs.Rows.{BeginsWith-more, BeginsWith-same, history_put, history_same, inside, step_of}
+use Rattle.sum_table.proofs.Rows.{BeginsWith-more, BeginsWith-same, history_put, history_same, inside, is_held, own_marks, step_of}
 use Rattle.sum_table.proofs.Sums.{SameSums-put, SameSums-set}
-use Rattle.sum_table.proofs.Views.{ByLap, Later, Later-same, NotPast-set, by_lap, finds, none_from, rank-of, view_later, views_set}
+use Rattle.sum_table.proofs.Views.{ByLap, Later, Later-same, NotPast-set, by_lap, finds, rank-of, view_later, views_set}
+use Rattle.sum_table.proofs.Kept.{HeldFacts, IsHeldAt, held_facts, held_of, kept_add, kept_later, kept_withdraw}
 
 -- what the rule says of some words and views, with the player's track and the history
 pub record Holds (k : Key) (words : List ℕ) (views : List View) (at : ℕ) (t : Track) (h : List Row) : Type 0 where
@@ -45,7 +50,6 @@ pub record Same (v w : View) : Type 0 where
   pub places : w.places ≡ v.places
   pub laid : w.laid ≡ v.laid
   pub mine : w.mine ≡ v.mine
-  pub cursor : w.cursor ≡ v.cursor
   pub ended : w.ended ≡ v.ended
   pub track : w.track ≡ v.track
 
@@ -57,7 +61,7 @@ idle k words views at t h id v w x here same own = record {
   ring = IsRing-same k.geometry words (all_laid views) (all_laid (set views id w)) t (SameSums-set views id v w here same.laid) x.ring;
   views_ok = views_set k words words views at t t h h id v w x.views_ok (Later-same k.geometry words t h h (λ early b. b)) here same.places own
       (λ u tracks. x.views_ok.player id v u here (sym same.track ∙ tracks)) (inl refl);
-  history = history_same k.geometry views t h id v w x.history here same.laid same.mine same.cursor same.ended;
+  history = history_same k.geometry views t h id v w x.history here same.laid same.mine same.ended;
 }
 
 -- the rule after a load, of which the word stays
@@ -86,8 +90,7 @@ locates slots id m lasts s e homes here fits =
     let p : ℕ = position_at k.geometry t in
     let w : View = with_position v h p t.gone in
     let after : IsView k s.words t h w = record {
-      laid = own.laid;
-      few = own.few;
+      kept = kept_later k.geometry v.places v.laid v.mine v.free v.marks v.seen p v.ended own.seen_high own.kept;
       seen_high = omega arith;
       positions = λ i q there. elim (at_snoc v.positions p q i there) [
         | inl old ↦ own.positions i q old
@@ -98,7 +101,7 @@ locates slots id m lasts s e homes here fits =
       begins = BeginsWith-same h;
       heard = own.heard;
     } in
-    let y : Holds k s.words (set s.views id w) e.0 t h = idle k s.words s.views e.0 t h id v w x here (record { places = refl; laid = refl; mine = refl; cursor = refl; ended = refl; track = refl }) after in (
+    let y : Holds k s.words (set s.views id w) e.0 t h = idle k s.words s.views e.0 t h id v w x here (record { places = refl; laid = refl; mine = refl; ended = refl; track = refl }) after in (
       w,
       keeps,
       tt,
@@ -131,18 +134,57 @@ late_reply words views at t h id v i f c sample x here lasts late =
     let legal = x.history.legal (length views) (omega arith) in
     let fits : lap g f < 4294967295 = lap-taken g (length views) h f c legal (subst (λ (y : Cursor). f < first_free y c) (sym next_is) before) in
     let first : first_frame g ≤ (cursor_of g id (laid_of h)).frame = cursor_of-least g (length views) h id legal in
-    let moved : first_free (cursor_of g id (laid_of h)) c ≤ first_free v.cursor c = x.history.cursors id v here lasts c late.channel in
+    let moved : first_free (cursor_of g id (laid_of h)) c ≤ first_free v.marks.cursor c =
+    subst (λ (m : Marks). first_free m.cursor c ≤ first_free v.marks.cursor c) (sym (own_marks g views t h id v x.history here lasts)) ((own.kept.own lasts).within.cursor c) in
     let start : (cursor_of g id (laid_of h)).frame ≤ first_free (cursor_of g id (laid_of h)) c = grind (arith, nat_tests) in
     let least : first_frame g ≤ f = omega (arith, first, moved, start, late.from_cursor) in
     let test : nat_lt f (first_free (next_at g t) c) ≡ true = grind (arith, nat_tests, before) in (
-      inside g views t h id (length views) v f c x.history here lasts (omega arith) late.channel late.from_cursor fits ahead,
+      inside g views t h id (length views) v f c x.history here lasts (own.kept.own lasts) (omega arith) late.channel late.from_cursor fits ahead,
       ap (λ ts. is_taken ts f c) x.history.taken ∙ (x.ring.took f c late.channel least ∙ test),
     )
+
+-- and so is one where the seat's last standing add is
+pub late_held : (words : List ℕ) (views : List View) (at : ℕ) (t : Track) (h : List Row) (id : ℕ) (v : View) (i f c : ℕ) (sample : ℤ)
+    → Holds v.key words views at t h → get_elem? views id ≡ some v → v.ended ≡ false → IsLateHeld v i (get_or words i 0) f c sample
+    → IsReply v.key.geometry (length views) h (Withdraw id f c sample, Late)
+late_held words views at t h id v i f c sample x here lasts late =
+    let g : Geometry = v.key.geometry in
+    let own : IsView v.key words t h v = x.views_ok.each id v here in
+    let held : IsHeldAt g v.laid v.marks f c sample = held_of v f c sample late.holds in
+    let facts : HeldFacts g v.marks v.seen f c = held_facts g v.places v.laid v.mine v.free v.marks v.seen v.ended f c sample own.kept held in
+    let ahead : f < position_at g t + g.frames = omega (arith, facts.ahead, own.seen_high) in
+    let laps : ByLap g (next_at g t) (get_or words (index_of g f c) 0) f c = by_lap g words (all_laid views) t f c x.ring facts.channel ahead in
+    let past : lap g f < lap_of (get_or words (index_of g f c) 0) = subst (λ j. lap g f < lap_of (get_or words j 0)) (sym late.index) late.past in
+    let before : f < first_free (next_at g t) c = laps.taken past in
+    let test : nat_lt f (first_free (next_at g t) c) ≡ true = grind (arith, nat_tests, before) in (
+      is_held g views t h id (length views) v v.seen f c sample x.history here lasts own.kept (omega arith) held,
+      ap (λ ts. is_taken ts f c) x.history.taken ∙ (x.ring.took f c facts.channel facts.low ∙ test),
+    )
+
+-- a word of a frame's own lap is the sum of what the history laid there
+sum_there : (words : List ℕ) (views : List View) (at : ℕ) (t : Track) (h : List Row) (k : Key) (f c : ℕ) → Holds k words views at t h → c < k.geometry.channels
+    → IsSumOf k.geometry h f c (get_or words (index_of k.geometry f c) 0)
+sum_there words views at t h k f c x in_range of_lap =
+    let g : Geometry = k.geometry in
+    let next = next_at g t in
+    let found : (j : ℕ) × IsNow g next j c × (j % g.frames ≡ f % g.frames) × (index_of g j c ≡ index_of g f c) = now_of g next f c in_range in
+    let j : ℕ = found.0 in
+    let word : ℕ = get_or words (index_of g f c) 0 in
+    let stands : StandsFor word (lap g j) (count (all_laid views) j c) (total (all_laid views) j c) =
+    subst (λ i. StandsFor (get_or words i 0) (lap g j) (count (all_laid views) j c) (total (all_laid views) j c)) found.3 (x.ring.sums j c found.1) in
+    let laps : lap g j ≡ lap g f = sym (StandsFor-fields _ _ _ _ stands).0 ∙ of_lap in
+    let same : j ≡ f = elim (cases_lt j f) [
+      | inl before ↦ absurd (omega (arith, laps, div-lt_same g.frames j f found.2 before))
+      | inr from ↦ elim (cases_lt f j) [ inl after ↦ absurd (omega (arith, laps, div-lt_same g.frames f j (sym found.2) after)) | inr up ↦ omega (arith, from, up) ]
+    ] in
+    let here : StandsFor word (lap g f) (count (all_laid views) f c) (total (all_laid views) f c) = subst (λ i. StandsFor word (lap g i) (count (all_laid views) i c) (total (all_laid views) i c)) same stands in
+    rw (x.history.sums.counts f c, x.history.sums.totals f c) here
 
 -- a word was found and noted
 pub notes : (slots id : ℕ) (m : Me Entry View) (i : ℕ) (s : State Entry View) (at : ℕ) (t : Track) (h : List Row)
     → m.0.ended ≡ false → Holds m.0.key s.words s.views at t h → get_elem? s.views id ≡ some m.0
     → Holds m.0.key s.words (set s.views id (with_note m.0 h i (get_or s.words i 0))) at t h × MakesLook m.0 (with_note m.0 h i (get_or s.words i 0)) i (get_or s.words i 0)
+    × ((f c : ℕ) → index_of m.0.key.geometry f c ≡ i → c < m.0.key.geometry.channels → IsSumOf m.0.key.geometry h f c (get_or s.words i 0))
 notes slots id m i s at t h lasts x here =
     let v : View = m.0 in
     let k : Key = v.key in
@@ -150,8 +192,7 @@ notes slots id m i s at t h lasts x here =
     let own : IsView k s.words t h v = x.views_ok.each id v here in
     let w : View = with_note v h i n in
     let after : IsView k s.words t h w = record {
-      laid = own.laid;
-      few = own.few;
+      kept = own.kept;
       seen_high = own.seen_high;
       positions = own.positions;
       gone = own.gone;
@@ -162,7 +203,7 @@ notes slots id m i s at t h lasts x here =
       begins = BeginsWith-same h;
       heard = own.heard;
     } in
-    let y : Holds k s.words (set s.views id w) at t h = idle k s.words s.views at t h id v w x here (record { places = refl; laid = refl; mine = refl; cursor = refl; ended = refl; track = refl }) after in (
+    let y : Holds k s.words (set s.views id w) at t h = idle k s.words s.views at t h id v w x here (record { places = refl; laid = refl; mine = refl; ended = refl; track = refl }) after in (
       y,
       (
         id,
@@ -170,7 +211,9 @@ notes slots id m i s at t h lasts x here =
         own.begins.0,
         none_made k.geometry s.views t h id v w y.history here lasts refl refl own.begins,
         (λ f c sample late. late_reply s.words s.views at t h id v i f c sample x here lasts late),
+        (λ f c sample late. late_held s.words s.views at t h id v i f c sample x here lasts late),
       ),
+      (λ f c index in_range. subst (λ j. IsSumOf k.geometry h f c (get_or s.words j 0)) index (sum_there s.words s.views at t h k f c x in_range)),
     )
 
 -- a load of the word of a frame and channel
@@ -189,21 +232,69 @@ looks slots id m f c lasts in_range s e homes here fits =
       keeps,
       tt,
       loaded k s.words (set s.views id w) e.0 t h i s.homes noted.0,
-      (finds s.words s.views e.0 t h id v f c e.3 e.4 here in_range fits, (h, refl, noted.1)),
+      (finds s.words s.views e.0 t h id v f c e.3 e.4 here in_range fits, (h, refl, noted.1, noted.2)),
     )
+
+-- what a seat knows of an entry that it adds, and of one that it withdraws
+abbrev pub may_put : Kind → View → ℕ → ℕ → ℤ → Type 0
+may_put Added v f c s =
+    (c < v.key.geometry.channels) × IsFrom v.marks.cursor f c × (f < v.seen + v.key.geometry.frames) × (0 < v.places) × (lap v.key.geometry f < 4294967295)
+may_put Withdrawn v f c s = HoldsLast v f c s
 
 -- what a seat knows before an exchange that lays an entry
 pub record MayPut (v : View) (e : Entry) (old new : ℕ) : Type 0 where
   pub lasts : v.ended ≡ false
+  pub may : may_put e.kind v e.frame e.channel e.sample
   pub channel : e.channel < v.key.geometry.channels
-  pub from_cursor : IsFrom v.cursor e.frame e.channel
-  pub ahead : e.frame < v.seen + v.key.geometry.frames
-  pub places : 0 < v.places
-  pub low : negsuc 32767 ≤ℤ e.sample
-  pub high : e.sample ≤ℤ pos 32767
+  pub low : negsuc 32767 ≤ℤ value_of e
+  pub high : value_of e ≤ℤ pos 32768
   pub of_lap : lap_of old ≡ lap v.key.geometry e.frame
-  pub fits : lap v.key.geometry e.frame < 4294967295
-  pub stands : StandsFor new (lap_of old) (count_of old + 1) (sum_of old +ℤ e.sample)
+  pub stands : StandsFor new (lap_of old) (count_of old + 1) (sum_of old +ℤ value_of e)
+
+-- what the entry then is: it is in the ring, the seat's list stays in order, and the history replies that it is in time
+pub record Puts (words : List ℕ) (views : List View) (t : Track) (h : List Row) (id : ℕ) (v : View) (e : Entry) : Type 0 where
+  pub ahead : e.frame < v.seen + v.key.geometry.frames
+  pub kept : IsKept v.key.geometry v.places (v.laid ++ e ∷ []) (v.mine ++ e ∷ []) (freed e.kind v.marks v.free e) (marks_after v.key.geometry v.marks e) v.seen v.ended
+  pub reply : is_taken t.taken e.frame e.channel ≡ false → (members : ℕ) → length views ≤ members → IsReply v.key.geometry members h (in_row id e)
+
+put_cases : (words : List ℕ) (views : List View) (at : ℕ) (t : Track) (h : List Row) (id : ℕ) (v : View) (e : Entry)
+    → Holds v.key words views at t h → get_elem? views id ≡ some v → v.ended ≡ false → may_put e.kind v e.frame e.channel e.sample
+    → Puts words views t h id v e
+put_cases words views at t h id v e x here lasts may = by_kind e.kind refl (subst (λ k. may_put k v e.frame e.channel e.sample) refl may) where
+  by_kind : (k : Kind) → e.kind ≡ k → may_put k v e.frame e.channel e.sample → Puts words views t h id v e
+  by_kind Added kind may =
+      let g : Geometry = v.key.geometry in
+      let own : IsView v.key words t h v = x.views_ok.each id v here in
+      let o : IsOwn g v.mine v.free v.marks = own.kept.own lasts in
+      let legal = x.history.legal (length views) (omega arith) in
+      let first : first_frame g ≤ (cursor_of g id (laid_of h)).frame = cursor_of-least g (length views) h id legal in
+      let moved : first_free (cursor_of g id (laid_of h)) e.channel ≤ first_free v.marks.cursor e.channel =
+      subst (λ (m : Marks). first_free m.cursor e.channel ≤ first_free v.marks.cursor e.channel) (sym (own_marks g views t h id v x.history here lasts)) (o.within.cursor e.channel) in
+      let start : (cursor_of g id (laid_of h)).frame ≤ first_free (cursor_of g id (laid_of h)) e.channel = grind (arith, nat_tests) in
+      let least : first_frame g ≤ e.frame = omega (arith, first, moved, start, may.1) in
+      record {
+        ahead = may.2;
+        kept = kept_add g v.places v.laid v.mine v.free v.marks v.seen v.ended e own.kept kind (record { channel = may.0; low = least; ahead = may.2; fits = may.4 }) may.1 may.3;
+        reply = λ untaken members up.
+            subst (λ k. IsReply g members h (event_by k id e.frame e.channel e.sample, In)) (sym kind) (
+              inside g views t h id members v e.frame e.channel x.history here lasts o up may.0 may.1 may.4 (omega (arith, may.2, own.seen_high)),
+              ap (λ ts. is_taken ts e.frame e.channel) x.history.taken ∙ untaken,
+            );
+      }
+  by_kind Withdrawn kind may =
+      let g : Geometry = v.key.geometry in
+      let own : IsView v.key words t h v = x.views_ok.each id v here in
+      let held : IsHeldAt g v.laid v.marks e.frame e.channel e.sample = held_of v e.frame e.channel e.sample may in
+      let facts : HeldFacts g v.marks v.seen e.frame e.channel = held_facts g v.places v.laid v.mine v.free v.marks v.seen v.ended e.frame e.channel e.sample own.kept held in
+      record {
+        ahead = facts.ahead;
+        kept = kept_withdraw g v.places v.laid v.mine v.free v.marks v.seen v.ended e own.kept kind held;
+        reply = λ untaken members up.
+            subst (λ k. IsReply g members h (event_by k id e.frame e.channel e.sample, In)) (sym kind) (
+              is_held g views t h id members v v.seen e.frame e.channel e.sample x.history here lasts own.kept up held,
+              ap (λ ts. is_taken ts e.frame e.channel) x.history.taken ∙ untaken,
+            );
+      }
 
 -- the entry is laid where the word is still the old one
 pub puts : (words : List ℕ) (views : List View) (at : ℕ) (t : Track) (h : List Row) (id : ℕ) (v : View) (e : Entry) (old new : ℕ)
@@ -219,13 +310,14 @@ puts words views at t h id v e old new x here may is =
     let late : List Row = h ++ in_row id e ∷ [] in
     let w : View = with_entry v late e in
     let own : IsView k words t h v = x.views_ok.each id v here in
-    let ahead : f < position_at g t + g.frames = omega (arith, may.ahead, own.seen_high) in
+    let one : Puts words views t h id v e = put_cases words views at t h id v e x here may.lasts may.may in
+    let ahead : f < position_at g t + g.frames = omega (arith, one.ahead, own.seen_high) in
     let laps : ByLap g (next_at g t) old f c = subst (λ n. ByLap g (next_at g t) n f c) is (by_lap g words (all_laid views) t f c x.ring may.channel ahead) in
     let now : IsNow g (next_at g t) f c = laps.now may.of_lap in
     let stood : StandsFor old (lap g f) (count (all_laid views) f c) (total (all_laid views) f c) =
     subst (λ n. StandsFor n (lap g f) (count (all_laid views) f c) (total (all_laid views) f c)) is (x.ring.sums f c now) in
     let fields : (lap_of old ≡ lap g f) × (count_of old ≡ count (all_laid views) f c) × (sum_of old ≡ total (all_laid views) f c) = StandsFor-fields _ _ _ _ stood in
-    let stands : StandsFor new (lap g f) (count (all_laid views) f c + 1) (total (all_laid views) f c +ℤ e.sample) = rw (← fields.0, ← fields.1, ← fields.2) may.stands in
+    let stands : StandsFor new (lap g f) (count (all_laid views) f c + 1) (total (all_laid views) f c +ℤ value_of e) = rw (← fields.0, ← fields.1, ← fields.2) may.stands in
     let ring : IsRing g (set words i new) (all_laid views ++ e ∷ []) t = IsRing-put g words (all_laid views) t e new x.ring now may.low may.high stands in
     let up : rank old < rank new = omega (arith, rank-of old _ _ _ stood, rank-of new _ _ _ stands) in
     let in_words : i < length words = omega (arith, index_of-lt g f c may.channel, x.ring.room) in
@@ -237,28 +329,9 @@ puts words views at t h id v e old new x here may is =
       words = λ j n positive past. NotPast-set words i new j n in_words (subst (λ q. rank q < rank new) (sym is) up) past;
       history = λ early b. BeginsWith-more h early (in_row id e ∷ []) b;
     } in
-    let none : count v.laid f c ≡ 0 = none_from k words t h v own f c may.from_cursor in
     let moved : IsView k (set words i new) t late v = view_later k words (set words i new) t t h late v later own in
-    let first_low : first_frame g ≤ (next_at g t).frame = omega arith in
-    let least : first_frame g ≤ f = grind (arith, nat_tests, now.low, first_low) in
-    let grows : (d : ℕ) → d < g.channels → first_free v.cursor d ≤ first_free w.cursor d = λ d d_in. first_free-behind_grows g v.cursor f c d may.from_cursor d_in in
     let after : IsView k (set words i new) t late w = record {
-      laid = λ j a there. elim (at_snoc v.laid e a j there) [
-        | inl was ↦
-            let l : IsLaid g (next_at g t) v.cursor a = own.laid j a was in
-            record { channel = l.channel; low = l.low; before = omega (arith, l.before, grows a.channel l.channel); in_ring = l.in_ring }
-        | inr new_one ↦ subst (IsLaid g (next_at g t) w.cursor) new_one (record {
-          channel = may.channel;
-          low = least;
-          before = omega (arith, first_free-behind_low g f c c may.channel (omega arith));
-          in_ring = now.high;
-        })
-      ];
-      few = λ j d. elim (place_cases f c j d) [
-        | inl same ↦ at_place (λ a b. count (v.laid ++ e ∷ []) a b ≤ v.places) f c j d same
-            (omega (arith, none, may.places, ap length (at-more_here v.laid e), Rattle.std.proofs.lemmas.List.length-append (Rattle.mix_core.specs.Laid.at v.laid f c) (e.sample ∷ [])))
-        | inr elsewhere ↦ omega (arith, own.few j d, ap length (at-more_elsewhere v.laid e j d elsewhere))
-      ];
+      kept = one.kept;
       seen_high = moved.seen_high;
       positions = moved.positions;
       gone = moved.gone;
@@ -270,7 +343,7 @@ puts words views at t h id v e old new x here may is =
       ring = IsRing-same g (set words i new) (all_laid views ++ e ∷ []) (all_laid (set views id w)) t (SameSums-put views id v w e here refl) ring;
       views_ok = views_set k words (set words i new) views at t t h late id v w x.views_ok later here refl after
           (λ u tracks. x.views_ok.player id v u here tracks) (inl refl);
-      history = history_put g views t h id v w e x.history here may.lasts refl refl refl may.channel may.from_cursor may.fits ahead (not_taken g words (all_laid views) t f c x.ring now);
+      history = history_put g views t h id v w e x.history here may.lasts refl refl (one.reply (not_taken g words (all_laid views) t f c x.ring now));
     }
 
 -- a compare-exchange that lays an entry where the word is the expected one, and else notes the word found
@@ -313,5 +386,5 @@ exchanges slots id m e old new may s x homes here fits =
       keeps,
       tt,
       loaded k s.words (set s.views id w) x.0 t h i s.homes noted.0,
-      (found, (λ same. absurd (lost same)), (λ other. (h, refl, noted.1))),
+      (found, (λ same. absurd (lost same)), (λ other. (h, refl, noted.1, noted.2))),
     ))

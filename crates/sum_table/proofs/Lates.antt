@@ -1,5 +1,5 @@
 -- What an add that is late leaves alone: the replies to all events after it.
-use Rattle.std.proofs.Common.{◌≡◌, ℕ, ◌+◌, ◌<◌, List, [], ◌∷◌, ◌++◌, length, sym, subst, ap, ◌∙◌, append_assoc}
+use Rattle.std.proofs.Common.{◌≡◌, ℕ, ◌+◌, ◌<◌, List, [], ◌∷◌, ◌++◌, length, ℤ, sym, subst, ap, ◌∙◌, append_assoc}
 use Rattle.std.proofs.lemmas.List.{append-nil}
 use Rattle.std.proofs.lemmas.List.Elements.{filter_map-append}
 use Rattle.std.proofs.lemmas.List.Sums.{fold_push}
@@ -7,10 +7,11 @@ use Rattle.snd_base.specs.declared.geometry.Geometry.{Geometry}
 use Rattle.snd_base.specs.Places.{IsFrom, first_frame, lap, next_word}
 use Rattle.lap_word.specs.Clamp.{clamp_of}
 use Rattle.mix_core.specs.declared.port.Entry.{Entry}
-use Rattle.mix_core.specs.declared.event.Event.TheVariants.{Add, Take, Publish}
+use Rattle.mix_core.specs.declared.event.Event.TheVariants.{Add, Withdraw, Take, Publish}
 use Rattle.mix_core.specs.declared.event.Reply.TheVariants.{In, Late, Outside, Took, Published, LapEnd}
-use Rattle.mix_core.specs.History.{AreReplies, IsInside, IsLegal, IsReply, Row, entry_of, is_taken, laid_of, late_row, position_after, position_of, taken_of, taking_of}
-use Rattle.mix_core.specs.Laid.{cursor_of, total}
+use Rattle.mix_core.specs.History.{AreReplies, IsHeld, IsInside, IsSample, IsLegal, IsReply, Row, entry_of, is_taken, laid_of, late_row, position_after, position_of, taken_of, taking_of}
+use Rattle.mix_core.specs.HistoryLaws.{entry_of-late, position_after-row, taking_of-row}
+use Rattle.mix_core.specs.Laid.{cursor_of, last_entry, marks_of, standing_of, total}
 
 -- two histories that laid, took and published the same
 record SameSoFar (g : Geometry) (h j : List Row) : Type 0 where
@@ -30,6 +31,14 @@ inside_same g members h j m f c same is = record {
   ahead = subst (λ p. f < p + g.frames) same.position is.ahead;
 }
 
+held_same : (g : Geometry) (members : ℕ) (h j : List Row) (m f c : ℕ) (s : ℤ) → SameSoFar g h j → IsHeld g members h m f c s → IsHeld g members j m f c s
+held_same g members h j m f c s same is = record {
+  member_in_range = is.member_in_range;
+  channel_in_range = is.channel_in_range;
+  last = subst (λ es. IsSample (last_entry (standing_of m es)) f c s) same.laid is.last;
+  from_floor = subst (λ es. IsFrom (marks_of g m es).floor f c) same.laid is.from_floor;
+}
+
 reply_same : (g : Geometry) (members : ℕ) (h j : List Row) (r : Row) → SameSoFar g h j → IsReply g members h r → IsReply g members j r
 reply_same g members h j (Add m f c s, Outside) same is = λ inside. is (inside_same g members j h m f c (turned g h j same) inside)
 reply_same g members h j (Add m f c s, Late) same is = (inside_same g members h j m f c same is.0, ap (λ ts. is_taken ts f c) (sym same.taken) ∙ is.1)
@@ -37,6 +46,12 @@ reply_same g members h j (Add m f c s, In) same is = (inside_same g members h j 
 reply_same g members h j (Add m f c s, Took k d v) same is = is
 reply_same g members h j (Add m f c s, Published k) same is = is
 reply_same g members h j (Add m f c s, LapEnd) same is = is
+reply_same g members h j (Withdraw m f c s, Outside) same is = λ held. is (held_same g members j h m f c s (turned g h j same) held)
+reply_same g members h j (Withdraw m f c s, Late) same is = (held_same g members h j m f c s same is.0, ap (λ ts. is_taken ts f c) (sym same.taken) ∙ is.1)
+reply_same g members h j (Withdraw m f c s, In) same is = (held_same g members h j m f c s same is.0, ap (λ ts. is_taken ts f c) (sym same.taken) ∙ is.1)
+reply_same g members h j (Withdraw m f c s, Took k d v) same is = is
+reply_same g members h j (Withdraw m f c s, Published k) same is = is
+reply_same g members h j (Withdraw m f c s, LapEnd) same is = is
 reply_same g members h j (Take, LapEnd) same is = subst (λ ts. lap g (next_word g (length ts)).frame ≡ 4294967295) same.taken is
 reply_same g members h j (Take, Took f c v) same is = (
   subst (λ ts. ¬ (lap g (next_word g (length ts)).frame ≡ 4294967295)) same.taken is.0,
@@ -68,9 +83,9 @@ replies_same g members h j (r ∷ rs) same are = (reply_same g members h j r sam
 
 late_same : (g : Geometry) (h : List Row) (e : Entry) → SameSoFar g h (h ++ late_row e ∷ [])
 late_same g h e = record {
-  laid = sym (filter_map-append entry_of h (late_row e ∷ []) ∙ append-nil (laid_of h));
-  taken = sym (filter_map-append taking_of h (late_row e ∷ []) ∙ append-nil (taken_of h));
-  position = sym (fold_push position_after (first_frame g) h (late_row e));
+  laid = sym (filter_map-append entry_of h (late_row e ∷ []) ∙ rw (entry_of-late e) (append-nil (laid_of h)));
+  taken = sym (filter_map-append taking_of h (late_row e ∷ []) ∙ rw (taking_of-row e Late) (append-nil (taken_of h)));
+  position = sym (fold_push position_after (first_frame g) h (late_row e) ∙ position_after-row (position_of g h) e Late);
 }
 
 -- a history is cut in two, and put together

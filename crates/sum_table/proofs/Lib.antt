@@ -1,8 +1,12 @@
+pub mod Below
 pub mod Cuts
+pub mod Going
 pub mod Joining
+pub mod Kept
 pub mod Keeps
 pub mod Lates
 pub mod Lists
+pub mod Loading
 pub mod Opens
 pub mod Places
 pub mod Placing

@@ -10,10 +10,10 @@ use Rattle.std.proofs.lemmas.List.Sums.{fold_push}
 use Rattle.std.proofs.lemmas.Bool.{cases_lt}
 use Rattle.std.proofs.lemmas.Bool.Decides.{nat_tests}
 use Rattle.snd_base.specs.declared.geometry.Geometry.{Geometry}
-use Rattle.snd_base.specs.Places.{behind, first_frame}
+use Rattle.snd_base.specs.Places.{first_frame}
 use Rattle.mix_core.specs.declared.port.Entry.{Entry}
 use Rattle.mix_core.specs.declared.event.Taken.{Taken}
-use Rattle.mix_core.specs.Laid.{at, cursor_after, cursor_of, is_at, total}
+use Rattle.mix_core.specs.Laid.{at, is_at, total, value_of}
 use Rattle.mix_core.specs.History.{is_taken}
 use Rattle.sum_table.specs.declared.view.Track.{Track}
 use Rattle.sum_table.specs.Exact.{IsPublished, Rising, last_of, position_at}
@@ -26,32 +26,21 @@ cases_eq a b = elim (cases_lt a b) [
 ]
 
 -- one more entry at its own frame and channel, and at another one
-pub at-more_here : (es : List Entry) (e : Entry) → at (es ++ e ∷ []) e.frame e.channel ≡ at es e.frame e.channel ++ e.sample ∷ []
+pub at-more_here : (es : List Entry) (e : Entry) → at (es ++ e ∷ []) e.frame e.channel ≡ at es e.frame e.channel ++ value_of e ∷ []
 at-more_here es e =
     let here : is_at e.frame e.channel e ≡ true = grind (arith, nat_tests) in
-    rw (filter-append (is_at e.frame e.channel) es (e ∷ []), here) (map-append (λ (x : Entry). x.sample) (filter (is_at e.frame e.channel) es) (e ∷ []))
+    rw (filter-append (is_at e.frame e.channel) es (e ∷ []), here) (map-append value_of (filter (is_at e.frame e.channel) es) (e ∷ []))
 
 pub at-more_elsewhere : (es : List Entry) (e : Entry) (f c : ℕ) → ¬ ((e.frame ≡ f) × (e.channel ≡ c)) → at (es ++ e ∷ []) f c ≡ at es f c
 at-more_elsewhere es e f c elsewhere =
     let test : is_at f c e ≡ false = grind (arith, nat_tests) in
-    rw (filter-append (is_at f c) es (e ∷ []), test) (ap (map (λ (x : Entry). x.sample)) (append-nil (filter (is_at f c) es)))
+    rw (filter-append (is_at f c) es (e ∷ []), test) (ap (map value_of) (append-nil (filter (is_at f c) es)))
 
-pub total-more_here : (es : List Entry) (e : Entry) → total (es ++ e ∷ []) e.frame e.channel ≡ total es e.frame e.channel +ℤ e.sample
-total-more_here es e = rw (at-more_here es e) (fold_push _ _ (at es e.frame e.channel) e.sample)
+pub total-more_here : (es : List Entry) (e : Entry) → total (es ++ e ∷ []) e.frame e.channel ≡ total es e.frame e.channel +ℤ value_of e
+total-more_here es e = rw (at-more_here es e) (fold_push _ _ (at es e.frame e.channel) (value_of e))
 
 pub total-more_elsewhere : (es : List Entry) (e : Entry) (f c : ℕ) → ¬ ((e.frame ≡ f) × (e.channel ≡ c)) → total (es ++ e ∷ []) f c ≡ total es f c
 total-more_elsewhere es e f c elsewhere = rw (at-more_elsewhere es e f c elsewhere) refl
-
--- one more entry moves its member's cursor, and no other
-pub cursor_of-more_own : (g : Geometry) (es : List Entry) (e : Entry) → cursor_of g e.member (es ++ e ∷ []) ≡ behind g e.frame e.channel
-cursor_of-more_own g es e =
-    let own : (e.member == e.member) ≡ true = grind (arith, nat_tests) in
-    rw (fold_push (cursor_after g e.member) _ es e, own) refl
-
-pub cursor_of-more_other : (g : Geometry) (es : List Entry) (e : Entry) (m : ℕ) → e.member ≢ m → cursor_of g m (es ++ e ∷ []) ≡ cursor_of g m es
-cursor_of-more_other g es e m other =
-    let test : (e.member == m) ≡ false = grind (arith, nat_tests) in
-    rw (fold_push (cursor_after g m) _ es e, test) refl
 
 -- one more take
 pub is_taken-more : (ts : List Taken) (t : Taken) (f c : ℕ) → is_taken (ts ++ t ∷ []) f c ≡ (is_taken ts f c || ((t.frame == f) && (t.channel == c)))

@@ -18,9 +18,10 @@ use Rattle.mix_core.specs.Sound.{IsNow}
 use Rattle.mix_core.specs.declared.port.Entry.{Entry}
 use Rattle.sum_table.specs.declared.view.Key.{Key}
 use Rattle.sum_table.specs.declared.view.View.{View}
-use Rattle.sum_table.specs.Exact.{Exact, IsRing, IsView, first_track, first_view, next_at, start_of}
+use Rattle.sum_table.specs.Exact.{start_marks, Exact, IsRing, IsView, first_track, first_view, next_at, start_of}
 use Rattle.sum_table.specs.Laid.{by_member}
 use Rattle.sum_table.specs.Words.{index_of, words_of}
+use Rattle.sum_table.proofs.Kept.{kept_none}
 use Rattle.sum_table.proofs.Cuts.{no_note}
 use Rattle.sum_table.proofs.Takes.{track_or}
 use Rattle.sum_table.proofs.Places.{index_of-lt}
@@ -80,8 +81,7 @@ opens k silent stands =
     let g : Geometry = k.geometry in
     let v : View = first_view k in
     let own : IsView k (new_words g silent) first_track [] v = record {
-      laid = λ i e there. absurd (some-ne-none e (sym there));
-      few = λ f c. omega arith;
+      kept = kept_none g k.places (start_marks g) (first_frame g) false (λ c. omega arith) (λ c. omega arith) (λ lasts. refl);
       seen_high = omega arith;
       positions = λ i p there. absurd (some-ne-none p (sym there));
       gone = λ is. is;
@@ -106,9 +106,7 @@ opens k silent stands =
         position = refl;
         sums = record { counts = λ f c. refl; totals = λ f c. refl };
         owns = λ i u there lasts. ap (λ (x : View). map (by_member i) x.mine) (parts i u there).1;
-        cursors = λ i u there lasts c in_range. subst (λ (x : View). first_free (start_of g) c ≤ first_free x.cursor c) (parts i u there).1 (omega arith);
         no_more = λ i up. refl;
-        no_cursor = λ i up. refl;
       },
     )
 

@@ -18,7 +18,7 @@ use Rattle.lap_word.specs.Word.{StandsFor}
 use Rattle.mix_core.specs.declared.port.Entry.{Entry}
 use Rattle.mix_core.specs.declared.event.Taken.{Taken}
 use Rattle.mix_core.specs.History.{AreInOrder, is_taken, place_of}
-use Rattle.mix_core.specs.Laid.{at, total}
+use Rattle.mix_core.specs.Laid.{at, total, value_of}
 use Rattle.mix_core.specs.Sound.{IsNow}
 use Rattle.sum_table.specs.declared.view.Track.{Track}
 use Rattle.sum_table.specs.Exact.{IsRing, next_at, position_at}
@@ -69,16 +69,16 @@ not_taken g words es t f c r now =
 -- an entry was laid
 pub IsRing-put : (g : Geometry) (words : List ℕ) (es : List Entry) (t : Track) (e : Entry) (word : ℕ)
     → IsRing g words es t → IsNow g (next_at g t) e.frame e.channel
-    → negsuc 32767 ≤ℤ e.sample → e.sample ≤ℤ pos 32767
-    → StandsFor word (lap g e.frame) (count es e.frame e.channel + 1) (total es e.frame e.channel +ℤ e.sample)
+    → negsuc 32767 ≤ℤ value_of e → value_of e ≤ℤ pos 32768
+    → StandsFor word (lap g e.frame) (count es e.frame e.channel + 1) (total es e.frame e.channel +ℤ value_of e)
     → IsRing g (set words (index_of g e.frame e.channel) word) (es ++ e ∷ []) t
 IsRing-put g words es t e word r now low high stands =
     let f : ℕ = e.frame in
     let c : ℕ = e.channel in
     let P : ℕ → ℕ → ℕ → Type 0 = λ w k d. StandsFor w (lap g k) (count es k d) (total es k d) in
     let Q : ℕ → ℕ → ℕ → Type 0 = λ w k d. StandsFor w (lap g k) (count (es ++ e ∷ []) k d) (total (es ++ e ∷ []) k d) in
-    let one_more : count (es ++ e ∷ []) f c ≡ count es f c + 1 = ap length (at-more_here es e) ∙ length-append (at es f c) (e.sample ∷ []) in
-    let sum_more : total (es ++ e ∷ []) f c ≡ total es f c +ℤ e.sample = total-more_here es e in
+    let one_more : count (es ++ e ∷ []) f c ≡ count es f c + 1 = ap length (at-more_here es e) ∙ length-append (at es f c) (value_of e ∷ []) in
+    let sum_more : total (es ++ e ∷ []) f c ≡ total es f c +ℤ value_of e = total-more_here es e in
     let same_count : (k d : ℕ) → ¬ ((f ≡ k) × (c ≡ d)) → count (es ++ e ∷ []) k d ≡ count es k d = λ k d elsewhere. ap length (at-more_elsewhere es e k d elsewhere) in
     let same_total : (k d : ℕ) → ¬ ((f ≡ k) × (c ≡ d)) → total (es ++ e ∷ []) k d ≡ total es k d = λ k d elsewhere. total-more_elsewhere es e k d elsewhere in
     let here : Q word f c = rw (one_more, sum_more) stands in
@@ -95,7 +95,7 @@ IsRing-put g words es t e word r now low high stands =
         | inr elsewhere ↦ omega (arith, ints, same_count k d elsewhere, same_total k d elsewhere, r.low k d)
       ];
       high = λ k d. elim (place_cases f c k d) [
-        | inl same ↦ at_place (λ x y. total (es ++ e ∷ []) x y ≤ℤ pos (32767 * count (es ++ e ∷ []) x y)) f c k d same (omega (arith, ints, one_more, sum_more, high, r.high f c))
+        | inl same ↦ at_place (λ x y. total (es ++ e ∷ []) x y ≤ℤ pos (32768 * count (es ++ e ∷ []) x y)) f c k d same (omega (arith, ints, one_more, sum_more, high, r.high f c))
         | inr elsewhere ↦ omega (arith, ints, same_count k d elsewhere, same_total k d elsewhere, r.high k d)
       ];
       in_order = r.in_order;

@@ -1,5 +1,5 @@
 -- The ring's history: how it goes on at each kind of step, and whose step that is.
-use Rattle.std.proofs.Common.{◌≡◌, ◌≢◌, ℕ, zero, suc, ◌+◌, ◌<◌, ◌≤◌, true, false, ◌==◌, List, [], ◌∷◌, ◌++◌, map, length, set, ℤ, refl, sym, subst, ap, ◌∙◌, inl, inr, arith, append_assoc}
+use Rattle.std.proofs.Common.{◌≡◌, ◌≢◌, ℕ, zero, suc, ◌+◌, ◌<◌, ◌≤◌, true, false, ◌==◌, Some, List, [], ◌∷◌, ◌++◌, map, length, set, ℤ, refl, sym, subst, ap, ◌∙◌, inl, inr, arith, append_assoc}
 use mathlib.Core.Option.{some, some-ne-none}
 use lib.ListN.{get_elem?}
 use Rattle.std.proofs.lemmas.Bool.Decides.{nat_tests}
@@ -9,22 +9,26 @@ use Rattle.std.proofs.lemmas.List.Sums.{fold_push}
 use Rattle.atomic_table.proofs.Lists.{at_set, set_here}
 use Rattle.snd_base.specs.declared.geometry.Geometry.{Geometry}
 use Rattle.snd_base.specs.declared.places.Cursor.{Cursor}
-use Rattle.snd_base.specs.Places.{IsFrom, behind, first_frame, first_free, lap}
+use Rattle.snd_base.specs.Places.{IsFrom, first_frame, lap}
 use Rattle.lap_word.specs.Clamp.{clamp_of}
 use Rattle.mix_core.specs.declared.port.Entry.{Entry}
 use Rattle.mix_core.specs.declared.event.Taken.{Taken}
 use Rattle.mix_core.specs.declared.event.Event.TheVariants.{Take, Publish}
-use Rattle.mix_core.specs.declared.event.Reply.TheVariants.{Took, Published}
-use Rattle.mix_core.specs.History.{IsInside, IsLegal, Row, is_taken, laid_of, next_of, position_after}
-use Rattle.mix_core.specs.HistoryLaws.{laid_of-append_rows, laid_of-append_published, laid_of-append_took, taken_of-append_published, taken_of-append_rows, taken_of-append_took}
-use Rattle.mix_core.specs.Laid.{cursor_of, total}
+use Rattle.mix_core.specs.declared.event.Reply.TheVariants.{In, Took, Published}
+use Rattle.mix_core.specs.History.{IsHeld, IsInside, IsLegal, IsReply, IsSample, Row, laid_of, next_of, position_after, position_of}
+use Rattle.mix_core.specs.HistoryLaws.{position_after-row, laid_of-append_rows, laid_of-append_published, laid_of-append_took, taken_of-append_published, taken_of-append_rows, taken_of-append_took}
+use Rattle.mix_core.specs.declared.marks.Marks.{Marks}
+use Rattle.mix_core.specs.Laid.{last_entry, marks_by, marks_of, standing, standing_of, total, without_last}
+use Rattle.mix_core.specs.MarkLaws.{IsHolding, IsHolding-last}
+use Rattle.mix_core.specs.OwnLaws.{last_entry-more}
 use Rattle.mix_core.specs.LegalLaws.{IsLegal-more}
 use Rattle.sum_table.specs.declared.view.Track.{Track}
 use Rattle.sum_table.specs.declared.view.View.{View}
-use Rattle.sum_table.specs.Exact.{BeginsWith, IsHistory, next_at, position_at}
+use Rattle.sum_table.specs.Exact.{BeginsWith, IsHistory, IsKept, IsOwn, next_at, position_at}
 use Rattle.sum_table.specs.Laid.{SameSums, all_laid, by_member, own}
 use Rattle.sum_table.specs.Steps.{IsStep, in_row, taking, track_gone, track_published, track_taken}
-use Rattle.sum_table.proofs.Lists.{cursor_of-more_other, cursor_of-more_own, last_of-more}
+use Rattle.sum_table.proofs.Kept.{HeldFacts, IsHeldAt, held_facts, marks_by-member, standing-member}
+use Rattle.sum_table.proofs.Lists.{last_of-more}
 use Rattle.sum_table.proofs.Sums.{SameSums-append, SameSums-append_right, SameSums-by_member, SameSums-joined, SameSums-put, SameSums-set}
 
 pub within : {A : Type 0} (l : List A) (i : ℕ) (a : A) → get_elem? l i ≡ some a → i < length l
@@ -52,9 +56,9 @@ own-more_other m n es e other =
 -- a step of no event
 pub history_same : (g : Geometry) (views : List View) (t : Track) (h : List Row) (id : ℕ) (v w : View)
     → IsHistory g views t h → get_elem? views id ≡ some v
-    → w.laid ≡ v.laid → w.mine ≡ v.mine → w.cursor ≡ v.cursor → w.ended ≡ v.ended
+    → w.laid ≡ v.laid → w.mine ≡ v.mine → w.ended ≡ v.ended
     → IsHistory g (set views id w) t h
-history_same g views t h id v w y here laid mine cursor ended = record {
+history_same g views t h id v w y here laid mine ended = record {
   legal = λ members up. y.legal members (omega (arith, length-set views id w));
   taken = y.taken;
   position = y.position;
@@ -66,16 +70,7 @@ history_same g views t h id v w y here laid mine cursor ended = record {
         (y.owns id v here was ∙ ap (map (by_member id)) (sym mine ∙ ap (λ (x : View). x.mine) own_one.1))
     | inr other ↦ y.owns i u other.1 lasts
   ];
-  cursors = λ i u there lasts c in_range. elim (at_set views id i w u there) [
-    | inl own_one ↦
-        let was : v.ended ≡ false = sym ended ∙ (ap (λ (x : View). x.ended) own_one.1 ∙ lasts) in
-        let same : v.cursor ≡ u.cursor = sym cursor ∙ ap (λ (x : View). x.cursor) own_one.1 in
-        subst (λ n. first_free (cursor_of g n (laid_of h)) c ≤ first_free u.cursor c) (sym own_one.0)
-        (subst (λ at. first_free (cursor_of g id (laid_of h)) c ≤ first_free at c) same (y.cursors id v here was c in_range))
-    | inr other ↦ y.cursors i u other.1 lasts c in_range
-  ];
   no_more = λ i up. y.no_more i (omega (arith, length-set views id w));
-  no_cursor = λ i up. y.no_cursor i (omega (arith, length-set views id w));
 }
 
 -- the same ring's history, for a player that unplugged the card
@@ -86,9 +81,7 @@ history_gone g views t h y = record {
   position = y.position;
   sums = y.sums;
   owns = y.owns;
-  cursors = y.cursors;
   no_more = y.no_more;
-  no_cursor = y.no_cursor;
 }
 
 -- the next word was taken
@@ -113,9 +106,7 @@ history_take g views t h z y fits value =
       position = fold_push position_after (first_frame g) h r ∙ y.position;
       sums = subst (λ es. SameSums es (all_laid views)) (sym laid) y.sums;
       owns = λ i u there lasts. ap (own i) laid ∙ y.owns i u there lasts;
-      cursors = λ i u there lasts d in_range. subst (λ es. first_free (cursor_of g i es) d ≤ first_free u.cursor d) (sym laid) (y.cursors i u there lasts d in_range);
       no_more = λ i up. ap (own i) laid ∙ y.no_more i up;
-      no_cursor = λ i up. ap (cursor_of g i) laid ∙ y.no_cursor i up;
     }
 
 -- a position was published
@@ -133,32 +124,63 @@ history_publish g views t h y =
       position = fold_push position_after (first_frame g) h r ∙ sym (last_of-more (first_frame g) t.published f);
       sums = subst (λ es. SameSums es (all_laid views)) (sym laid) y.sums;
       owns = λ i u there lasts. ap (own i) laid ∙ y.owns i u there lasts;
-      cursors = λ i u there lasts d in_range. subst (λ es. first_free (cursor_of g i es) d ≤ first_free u.cursor d) (sym laid) (y.cursors i u there lasts d in_range);
       no_more = λ i up. ap (own i) laid ∙ y.no_more i up;
-      no_cursor = λ i up. ap (cursor_of g i) laid ∙ y.no_cursor i up;
     }
+
+-- a member's marks in the history are those behind the entries that its seat laid itself
+pub own_marks : (g : Geometry) (views : List View) (t : Track) (h : List Row) (id : ℕ) (v : View)
+    → IsHistory g views t h → get_elem? views id ≡ some v → v.ended ≡ false → marks_of g id (laid_of h) ≡ marks_by g v.mine
+own_marks g views t h id v y here lasts = ap (marks_by g) (y.owns id v here lasts) ∙ marks_by-member g id v.mine
+
+-- and its standing adds are those
+pub own_standing : (g : Geometry) (views : List View) (t : Track) (h : List Row) (id : ℕ) (v : View)
+    → IsHistory g views t h → get_elem? views id ≡ some v → v.ended ≡ false → standing_of id (laid_of h) ≡ map (by_member id) (standing v.mine)
+own_standing g views t h id v y here lasts = ap standing (y.owns id v here lasts) ∙ standing-member id v.mine
 
 -- a member may add at a frame and channel
 pub inside : (g : Geometry) (views : List View) (t : Track) (h : List Row) (id members : ℕ) (v : View) (f c : ℕ)
-    → IsHistory g views t h → get_elem? views id ≡ some v → v.ended ≡ false → length views ≤ members
-    → c < g.channels → IsFrom v.cursor f c → lap g f < 4294967295 → f < position_at g t + g.frames
+    → IsHistory g views t h → get_elem? views id ≡ some v → v.ended ≡ false → IsOwn g v.mine v.free v.marks → length views ≤ members
+    → c < g.channels → IsFrom v.marks.cursor f c → lap g f < 4294967295 → f < position_at g t + g.frames
     → IsInside g members h id f c
-inside g views t h id members v f c y here lasts up channel from fits ahead = record {
+inside g views t h id members v f c y here lasts o up channel from fits ahead = record {
   member_in_range = omega (arith, within views id v here);
   channel_in_range = channel;
-  from_cursor = omega (arith, y.cursors id v here lasts c channel, from);
+  from_cursor = subst (λ (m : Marks). IsFrom m.cursor f c) (sym (own_marks g views t h id v y here lasts)) (omega (arith, o.within.cursor c, from));
   lap_fits = fits;
   ahead = subst (λ p. f < p + g.frames) (sym y.position) ahead;
 }
 
+-- a member may withdraw its last standing add
+pub is_held : (g : Geometry) (views : List View) (t : Track) (h : List Row) (id members : ℕ) (v : View) (seen f c : ℕ) (s : ℤ)
+    → IsHistory g views t h → get_elem? views id ≡ some v → v.ended ≡ false → IsKept g v.places v.laid v.mine v.free v.marks seen v.ended → length views ≤ members
+    → IsHeldAt g v.laid v.marks f c s
+    → IsHeld g members h id f c s
+is_held g views t h id members v seen f c s y here lasts x up held =
+    let o : IsOwn g v.mine v.free v.marks = x.own lasts in
+    let facts : HeldFacts g v.marks seen f c = held_facts g v.places v.laid v.mine v.free v.marks seen v.ended f c s x held in
+    let from_last : IsFrom v.marks.floor held.last.frame held.last.channel =
+    subst (λ d. IsFrom v.marks.floor held.last.frame d) (sym held.channel) (subst (λ k. IsFrom v.marks.floor k c) (sym held.frame) held.from_floor) in
+    let last : v.free ≡ without_last v.free ++ held.last ∷ [] =
+    IsHolding-last g v.marks held.early v.free held.last (subst (λ zs. IsHolding g v.marks zs v.free) held.ends x.holding) from_last in
+    let mine : standing v.mine ≡ (o.ends.0 ++ without_last v.free) ++ held.last ∷ [] =
+    o.ends.1 ∙ (ap (λ zs. o.ends.0 ++ zs) last ∙ sym (append_assoc o.ends.0 (without_last v.free) (held.last ∷ []))) in
+    let one : last_entry (standing_of id (laid_of h)) ≡ Some (by_member id held.last) =
+    ap last_entry (own_standing g views t h id v y here lasts ∙ (ap (map (by_member id)) mine ∙ map-append (by_member id) (o.ends.0 ++ without_last v.free) (held.last ∷ [])))
+    ∙ last_entry-more (map (by_member id) (o.ends.0 ++ without_last v.free)) (by_member id held.last) in
+    record {
+      member_in_range = omega (arith, within views id v here);
+      channel_in_range = facts.channel;
+      last = subst (λ o. IsSample o f c s) (sym one) (held.frame, held.channel, held.sample);
+      from_floor = subst (λ (m : Marks). IsFrom m.floor f c) (sym (own_marks g views t h id v y here lasts)) (omega (arith, o.within.floor c, held.from_floor));
+    }
+
 -- an entry was laid
 pub history_put : (g : Geometry) (views : List View) (t : Track) (h : List Row) (id : ℕ) (v w : View) (e : Entry)
     → IsHistory g views t h → get_elem? views id ≡ some v → v.ended ≡ false
-    → w.laid ≡ v.laid ++ e ∷ [] → w.mine ≡ v.mine ++ e ∷ [] → w.cursor ≡ behind g e.frame e.channel
-    → e.channel < g.channels → IsFrom v.cursor e.frame e.channel → lap g e.frame < 4294967295 → e.frame < position_at g t + g.frames
-    → is_taken t.taken e.frame e.channel ≡ false
+    → w.laid ≡ v.laid ++ e ∷ [] → w.mine ≡ v.mine ++ e ∷ []
+    → ((members : ℕ) → length views ≤ members → IsReply g members h (in_row id e))
     → IsHistory g (set views id w) t (h ++ in_row id e ∷ [])
-history_put g views t h id v w e y here lasts laid mine cursor channel from fits ahead untaken =
+history_put g views t h id v w e y here lasts laid mine reply =
     let m : Entry = by_member id e in
     let r : Row = in_row id e in
     let more : laid_of (h ++ r ∷ []) ≡ laid_of h ++ m ∷ [] = laid_of-append_rows h (m ∷ []) in
@@ -170,12 +192,9 @@ history_put g views t h id v w e y here lasts laid mine cursor channel from fits
     (SameSums-append_right (all_laid views) (m ∷ []) (e ∷ []) (SameSums-by_member id e)))
     (SameSums-put views id v w e here laid) in
     record {
-      legal = λ members up. IsLegal-more g members h r (y.legal members (omega (arith, same_count))) (
-        inside g views t h id members v e.frame e.channel y here lasts (omega (arith, same_count)) channel from fits ahead,
-        ap (λ ts. is_taken ts e.frame e.channel) y.taken ∙ untaken,
-      );
+      legal = λ members up. IsLegal-more g members h r (y.legal members (omega (arith, same_count))) (reply members (omega (arith, same_count)));
       taken = taken_of-append_rows h (m ∷ []) ∙ y.taken;
-      position = fold_push position_after (first_frame g) h r ∙ y.position;
+      position = fold_push position_after (first_frame g) h r ∙ (position_after-row (position_of g h) m In ∙ y.position);
       sums = subst (λ es. SameSums es (all_laid (set views id w))) (sym more) sums_more;
       owns = λ i u there stays. ap (own i) more ∙ elim (at_set views id i w u there) [
         | inl own_one ↦
@@ -186,22 +205,9 @@ history_put g views t h id v w e y here lasts laid mine cursor channel from fits
             ∙ ap (map (by_member id)) (sym mine ∙ ap (λ (x : View). x.mine) own_one.1))))
         | inr other ↦ own-more_other id i (laid_of h) e other.0 ∙ y.owns i u other.1 stays
       ];
-      cursors = λ i u there stays c in_range. elim (at_set views id i w u there) [
-        | inl own_one ↦
-            let same : behind g e.frame e.channel ≡ u.cursor = sym cursor ∙ ap (λ (x : View). x.cursor) own_one.1 in
-            let moved : cursor_of g id (laid_of (h ++ r ∷ [])) ≡ behind g e.frame e.channel = ap (cursor_of g id) more ∙ cursor_of-more_own g (laid_of h) m in
-            subst (λ n. first_free (cursor_of g n (laid_of (h ++ r ∷ []))) c ≤ first_free u.cursor c) (sym own_one.0)
-            (subst (λ at. first_free at c ≤ first_free u.cursor c) (sym moved) (subst (λ at. first_free (behind g e.frame e.channel) c ≤ first_free at c) same (omega arith)))
-        | inr other ↦
-            let stayed : cursor_of g i (laid_of (h ++ r ∷ [])) ≡ cursor_of g i (laid_of h) = ap (cursor_of g i) more ∙ cursor_of-more_other g (laid_of h) m i (λ same. other.0 (sym same)) in
-            subst (λ at. first_free at c ≤ first_free u.cursor c) (sym stayed) (y.cursors i u other.1 stays c in_range)
-      ];
       no_more = λ i up.
           let apart : i ≢ id = λ same. omega (arith, within views id v here, same_count) in
           ap (own i) more ∙ (own-more_other id i (laid_of h) e apart ∙ y.no_more i (omega (arith, same_count)));
-      no_cursor = λ i up.
-          let apart : id ≢ i = λ same. omega (arith, within views id v here, same_count) in
-          ap (cursor_of g i) more ∙ (cursor_of-more_other g (laid_of h) m i apart ∙ y.no_cursor i (omega (arith, same_count)));
     }
 
 -- what a seat is told of its step

@@ -1,29 +1,37 @@
 -- What a seat's steps may do and do, said of the seat's fields.
 use Rattle.std.proofs.Common.{◌≡◌, ◌≢◌, ℕ, ◌+◌, ◌<◌, ◌≤◌, ◌==◌, Bool, false, Option, None, Some, List, [], ◌∷◌, ◌++◌, length, get_or, set, ℤ, pos, negsuc, ◌+ℤ◌, ◌≤ℤ◌, inl, inr, arith, subst, sym, refl, ap, ◌∙◌, to_z, of_z}
 use mathlib.Core.Option.{some, none}
+use lib.ListN.{get_elem?}
 use prog.Atomic.{either}
 use Rattle.std.proofs.lemmas.Int.{ints, to_z-of_z}
 use mir.Syntax.{w16}
 use mir.Val.{SFits}
-use Rattle.std.proofs.lemmas.List.{get_or-set_same, length-set}
+use Rattle.std.proofs.lemmas.List.{get_or-set_other, get_or-set_same, length-set}
+use Rattle.std.proofs.lemmas.Bool.{cases_eq}
 use Rattle.std.proofs.Common.{append_assoc}
 use Rattle.atomic_table.specs.Table.{Allows, Me, step}
 use Rattle.snd_base.specs.declared.geometry.Geometry.{Geometry}
-use Rattle.snd_base.specs.declared.places.Cursor.{Cursor}
-use Rattle.snd_base.specs.Places.{IsFrom, behind, end_frame, first_frame, first_free, lap}
-use Rattle.lap_word.specs.Position.{position_in, word_of-fields}
+use Rattle.snd_base.specs.Places.{IsFrom, IsWithin, end_frame, first_frame, first_free, lap}
+use Rattle.lap_word.specs.Position.{gone_in, position_in, word_of-fields}
 use Rattle.lap_word.specs.Word.{StandsFor, count_of, lap_of, sum_of}
+use Rattle.mix_core.specs.declared.marks.Marks.{Marks}
 use Rattle.mix_core.specs.declared.port.Entry.{Entry}
+use Rattle.mix_core.specs.declared.port.Kind.{Kind}
+use Rattle.mix_core.specs.declared.port.Position.{Position}
+use Rattle.mix_core.specs.declared.port.Kind.TheVariants.{Added, Withdrawn}
+use Rattle.mix_core.specs.Laid.{EndsIn, an_add, marked, marks_after, signed, standing}
+use Rattle.mix_core.specs.Marks.{added_at, withdrawn_at}
 use Rattle.mix_core.specs.History.{Row}
-use Rattle.sum_table.specs.declared.mix.MixSeat.{MixSeat}
+use Rattle.sum_table.specs.declared.seats.mix.MixSeat.{MixSeat}
 use Rattle.sum_table.specs.declared.view.Key.{Key}
 use Rattle.sum_table.specs.declared.view.View.{View}
-use Rattle.sum_table.specs.Exact.{BeginsWith, Exact}
+use Rattle.sum_table.specs.Exact.{BeginsWith, Exact, IsLaid}
 use Rattle.sum_table.specs.Known.{IsKnown, IsNoted, greater, last_frame}
-use Rattle.sum_table.specs.Seats.{HasLaid, HasLost, HasNoted, view_of}
-use Rattle.sum_table.specs.Steps.{Finds, IsStep, IsWord, Lays, Makes, MakesLook, Notes, exchanged, in_row, located, looked, with_entry, with_note, with_position}
-use Rattle.sum_table.specs.Words.{index_of}
-use Rattle.sum_table.proofs.Keeps.{MayPut, exchanges, locates, looks}
+use Rattle.sum_table.specs.Seats.{HasLaid, HasLocated, HasLost, HasNoted, MayLay, NotesRise, NotesRise-same, entry_by, view_of}
+use Rattle.sum_table.specs.Steps.{Finds, HoldsLast, IsStep, IsSumOf, IsWord, Lays, Makes, MakesLook, Notes, exchanged, in_row, located, looked, with_entry, with_note, with_position}
+use Rattle.sum_table.specs.Words.{NotPast, index_of}
+use Rattle.sum_table.proofs.Keeps.{MayPut, exchanges, locates, looks, may_put}
+use Rattle.sum_table.proofs.Kept.{IsHeldAt, IsLaid-later, held_laid, laid_more}
 use Rattle.sum_table.proofs.Lists.{noted_set}
 use Rattle.std.proofs.lemmas.Bool.Decides.{nat_tests}
 use Rattle.sum_table.proofs.Places.{index_of-lt}
@@ -60,52 +68,58 @@ IsNoted-more v w k i n is noted word = record {
   ];
 }
 
-pub known_noted : (k : Key) (places : ℕ) (cursor : Cursor) (seen : ℕ) (last : Option ℕ) (v : View) (h : List Row) (i n : ℕ)
-    → IsKnown v k places cursor seen last → IsWord n v.key.places → IsKnown (with_note v h i n) k places cursor seen last
-known_noted k places cursor seen last v h i n is word = record {
+pub known_noted : (k : Key) (places : ℕ) (marks : Marks) (seen : ℕ) (last : Option ℕ) (v : View) (h : List Row) (i n : ℕ)
+    → IsKnown v k places marks seen last → IsWord n v.key.places → IsKnown (with_note v h i n) k places marks seen last
+known_noted k places marks seen last v h i n is word = record {
   same_key = is.same_key;
   same_places = is.same_places;
-  same_cursor = is.same_cursor;
+  same_marks = is.same_marks;
   same_seen = is.same_seen;
   same_last = is.same_last;
   lasts = is.lasts;
   untracked = is.untracked;
   noted = IsNoted-more v (with_note v h i n) k i n refl is.noted (subst (λ (x : Key). IsWord n x.places) is.same_key word);
   cursor_within = is.cursor_within;
+  floor_within = is.floor_within;
+  high_within = is.high_within;
   seen_within = is.seen_within;
   places_most = is.places_most;
+  laid = is.laid;
 }
 
 -- the fields after a load of the position
-pub known_located : (k : Key) (places : ℕ) (cursor : Cursor) (seen : ℕ) (last : Option ℕ) (slots n : ℕ) (m r : Me Entry View)
-    → IsKnown m.0 k places cursor seen last → located (step slots 0 0 0 none) m n r → IsKnown r.0 k places cursor (position_in n) last
-known_located k places cursor seen last slots n m r is told =
+pub known_located : (k : Key) (places : ℕ) (marks : Marks) (seen : ℕ) (last : Option ℕ) (slots n : ℕ) (m r : Me Entry View)
+    → IsKnown m.0 k places marks seen last → located (step slots 0 0 0 none) m n r → IsKnown r.0 k places marks (position_in n) last
+known_located k places marks seen last slots n m r is told =
     let p : ℕ = told.1 in
     let gone : Bool = told.2 in
     let most : p ≤ end_frame k.geometry = subst (λ (x : Key). p ≤ end_frame x.geometry) is.same_key told.6 in
     let frame : position_in n ≡ p = ap position_in told.4 ∙ (word_of-fields p gone (position_fits k.geometry p most)).0 in
     let up : seen ≤ p = subst (λ x. x ≤ p) is.same_seen told.5 in
     let w : View = with_position m.0 told.0 p gone in
-    let known : IsKnown w k places cursor (position_in n) last = record {
+    let known : IsKnown w k places marks (position_in n) last = record {
       same_key = is.same_key;
       same_places = is.same_places;
-      same_cursor = is.same_cursor;
+      same_marks = is.same_marks;
       same_seen = sym frame;
       same_last = is.same_last;
       lasts = is.lasts;
       untracked = is.untracked;
       noted = record { room = is.noted.room; words = is.noted.words };
       cursor_within = is.cursor_within;
+      floor_within = is.floor_within;
+      high_within = is.high_within;
       seen_within = record { least = omega (arith, frame, up, is.seen_within.least); most = omega (arith, frame, most) };
       places_most = is.places_most;
+      laid = λ i e there. IsLaid-later k.geometry m.0.seen p told.5 e (is.laid i e there);
     } in
-    subst (λ (x : Me Entry View). IsKnown x.0 k places cursor (position_in n) last) (sym told.3) known
+    subst (λ (x : Me Entry View). IsKnown x.0 k places marks (position_in n) last) (sym told.3) known
 
 -- the fields after a load of a word
-pub known_looked : (k : Key) (places : ℕ) (cursor : Cursor) (seen : ℕ) (last : Option ℕ) (slots i n : ℕ) (m r : Me Entry View)
-    → IsKnown m.0 k places cursor seen last → looked (step slots i 0 0 none) m n r → IsKnown r.0 k places cursor seen last
-known_looked k places cursor seen last slots i n m r is told =
-    subst (λ (x : Me Entry View). IsKnown x.0 k places cursor seen last) (sym told.1.1) (known_noted k places cursor seen last m.0 told.1.0 i n is told.0.word)
+pub known_looked : (k : Key) (places : ℕ) (marks : Marks) (seen : ℕ) (last : Option ℕ) (slots i n : ℕ) (m r : Me Entry View)
+    → IsKnown m.0 k places marks seen last → looked (step slots i 0 0 none) m n r → IsKnown r.0 k places marks seen last
+known_looked k places marks seen last slots i n m r is told =
+    subst (λ (x : Me Entry View). IsKnown x.0 k places marks seen last) (sym told.1.1) (known_noted k places marks seen last m.0 told.1.0 i n is told.0.word)
 
 -- a seat whose fields, but for its view, are another's
 pub record SameFields (s t : MixSeat) : Type 0 where
@@ -115,18 +129,30 @@ pub record SameFields (s t : MixSeat) : Type 0 where
   pub places : t.places ≡ s.places
   pub seen : t.seen ≡ s.seen
 
+-- no note falls where one word more is noted
+notes_more : (v w : View) (i n : ℕ) → w.noted ≡ set v.noted i (Some n) → i < length v.noted → ((o : ℕ) → get_or v.noted i None ≡ Some o → NotPast o n) → NotesRise v w
+notes_more v w i n is inside past j o there = elim (cases_eq j i) [
+  | inl same ↦ (
+    n,
+    ap (λ l. get_or l j None) is ∙ (ap (λ x. get_or (set v.noted i (Some n)) x None) same ∙ get_or-set_same v.noted i (Some n) None inside),
+    past o (ap (λ x. get_or v.noted x None) (sym same) ∙ there),
+  )
+  | inr other ↦ (o, ap (λ l. get_or l j None) is ∙ (get_or-set_other v.noted i j (Some n) None other ∙ there), inl refl)
+]
+
 -- a seat that noted a word
-pub has_noted : (s t : MixSeat) (f c n : ℕ) → SameFields s t → t.cursor ≡ s.cursor → t.last ≡ s.last → c < s.key.geometry.channels
+pub has_noted : (s t : MixSeat) (f c n : ℕ) → SameFields s t → t.marks ≡ s.marks → t.last ≡ s.last → c < s.key.geometry.channels
     → Finds (view_of s) (index_of s.key.geometry f c) n
     → Notes s.seat.me.0 s.seat.me.1 (index_of s.key.geometry f c) n t.seat.me
     → HasNoted s t f c n
-has_noted s t f c n same cursor last in_range found told =
+has_noted s t f c n same marks last in_range found told =
     let i : ℕ = index_of s.key.geometry f c in
     let h : List Row = told.0 in
     let w : View = with_note (view_of s) h i n in
     let view : view_of t ≡ w = ap (λ (x : Me Entry View). x.0) told.1 in
     let history : h ≡ (view_of t).history = sym (ap (λ (x : View). x.history) view) in
     let look : MakesLook (view_of s) (view_of t) i n = subst (λ x. MakesLook (view_of s) x i n) (sym view) told.2 in
+    let own : (view_of s).key ≡ s.key = s.known.same_key in
     let in_notes : i < length (view_of s).noted = omega (arith, s.known.noted.room, index_of-lt s.key.geometry f c in_range) in
     record {
       goes = record {
@@ -135,14 +161,18 @@ has_noted s t f c n same cursor last in_range found told =
         member = same.member;
         places = same.places;
         history = step_begins (view_of s) (view_of t) look.0 look.1 look.2 [] look.3;
+        heard = ap (λ (x : View). x.heard) view;
+        notes = notes_more (view_of s) (view_of t) i n (ap (λ (x : View). x.noted) view) in_notes found.noted;
       };
       view = view ∙ ap (λ x. with_note (view_of s) x i n) history;
-      cursor = cursor;
+      marks = marks;
       seen = same.seen;
       last = last;
       shows = ap (λ (k : Key). get_or (view_of t).noted (index_of k.geometry f c) None) same.key
           ∙ (ap (λ (x : View). get_or x.noted i None) view ∙ get_or-set_same (view_of s).noted i (Some n) None in_notes);
       found = found;
+      sum = subst (λ (k : Key). IsSumOf k.geometry (view_of t).history f c n) own
+          (subst (λ x. IsSumOf (view_of s).key.geometry x f c n) history (told.3 f c (ap (λ (k : Key). index_of k.geometry f c) own) (subst (λ (k : Key). c < k.geometry.channels) (sym own) in_range)));
       event = look;
     }
 
@@ -159,74 +189,117 @@ pub record HasRoom (w : ℕ) (sample : ℤ) : Type 0 where
   pub low : negsuc 8388607 ≤ℤ (sum_of w +ℤ sample)
   pub high : (sum_of w +ℤ sample) ≤ℤ pos 8388607
 
-pub HasRoom-of : (w most : ℕ) (sample : ℤ) → IsWord w most → most ≤ 64 → negsuc 32767 ≤ℤ sample → sample ≤ℤ pos 32767 → HasRoom w sample
-HasRoom-of w most sample word few low high = record {
+pub HasRoom-of : (w most : ℕ) (value : ℤ) → IsWord w most → most ≤ 64 → negsuc 32767 ≤ℤ value → value ≤ℤ pos 32768 → HasRoom w value
+HasRoom-of w most value word few low high = record {
   count = omega (arith, word.few);
   low = omega (arith, ints, word.few, word.low, word.high);
   high = omega (arith, ints, word.few, word.low, word.high);
 }
 
--- what a seat shows before an exchange
-pub record MayExchange (s : MixSeat) (f c old : ℕ) (sample : ℤ) : Type 0 where
-  pub can_add : 0 < s.places
+-- what a seat shows before an exchange that adds a sample, or withdraws it
+pub record MayExchange (s : MixSeat) (k : Kind) (f c old : ℕ) (sample : ℤ) : Type 0 where
+  pub may : may_put k (view_of s) f c sample
   pub channel : c < s.key.geometry.channels
   pub noted : get_or (view_of s).noted (index_of s.key.geometry f c) None ≡ Some old
   pub of_lap : lap_of old ≡ lap s.key.geometry f
-  pub from_cursor : IsFrom s.cursor f c
-  pub ahead : f < s.seen + s.key.geometry.frames
-  pub fits : lap s.key.geometry f < 4294967295
-  pub low : negsuc 32767 ≤ℤ sample
-  pub high : sample ≤ℤ pos 32767
+  pub low : negsuc 32767 ≤ℤ signed k sample
+  pub high : signed k sample ≤ℤ pos 32768
 
-pub may_of : (s : MixSeat) (f c old : ℕ) (sample : ℤ) → SFits w16 sample
-    → 0 < s.places → c < s.key.geometry.channels → get_or (view_of s).noted (index_of s.key.geometry f c) None ≡ Some old
-    → lap_of old ≡ lap s.key.geometry f → IsFrom s.cursor f c → f < s.seen + s.key.geometry.frames → lap s.key.geometry f < 4294967295
-    → MayExchange s f c old (to_z w16 (of_z w16 sample))
-may_of s f c old sample in_range can_add channel noted of_lap from_cursor ahead fits =
+-- a seat's last standing add is a sample at a frame and channel that are not before its floor, at its fields
+pub holds_of : (s : MixSeat) (f c : ℕ) (sample : ℤ) → EndsIn (standing (view_of s).laid) (an_add s.member f c sample ∷ []) → IsFrom s.marks.floor f c → HoldsLast (view_of s) f c sample
+holds_of s f c sample ends from = record {
+  early = ends.0;
+  last = an_add s.member f c sample;
+  ends = ends.1;
+  frame = refl;
+  channel = refl;
+  sample = refl;
+  from_floor = subst (λ (m : Marks). IsFrom m.floor f c) (sym s.known.same_marks) from;
+}
+
+-- what a seat knows of it
+pub record HoldsFacts (s : MixSeat) (f c : ℕ) : Type 0 where
+  pub channel : c < s.key.geometry.channels
+  pub low : first_frame s.key.geometry ≤ f
+  pub ahead : f < (view_of s).seen + s.key.geometry.frames
+  pub fits : lap s.key.geometry f < 4294967295
+
+pub holds_facts : (s : MixSeat) (f c : ℕ) (sample : ℤ) → HoldsLast (view_of s) f c sample → HoldsFacts s f c
+holds_facts s f c sample holds =
+    let v : View = view_of s in
+    let l : IsLaid s.key.geometry v.seen holds.last = held_laid s.key.geometry v.laid v.marks v.seen f c sample s.known.laid
+    (record { early = holds.early; last = holds.last; ends = holds.ends; frame = holds.frame; channel = holds.channel; sample = holds.sample; from_floor = holds.from_floor }) in
+    record {
+      channel = subst (λ d. d < s.key.geometry.channels) holds.channel l.channel;
+      low = subst (λ k. first_frame s.key.geometry ≤ k) holds.frame l.low;
+      ahead = subst (λ k. k < v.seen + s.key.geometry.frames) holds.frame l.ahead;
+      fits = subst (λ k. lap s.key.geometry k < 4294967295) holds.frame l.fits;
+    }
+
+pub may_lay : (s : MixSeat) (k : Kind) (f c old : ℕ) (sample : ℤ) → SFits w16 sample → MayLay k s f c sample
+    → get_or (view_of s).noted (index_of s.key.geometry f c) None ≡ Some old → lap_of old ≡ lap s.key.geometry f
+    → MayExchange s k f c old (to_z w16 (of_z w16 sample))
+may_lay s Added f c old sample in_range lay noted of_lap =
     let same : to_z w16 (of_z w16 sample) ≡ sample = to_z-of_z w16 sample in_range in
-    let may : MayExchange s f c old sample = record {
-      can_add = can_add;
-      channel = channel;
+    let key : s.key ≡ (view_of s).key = sym s.known.same_key in
+    let may : MayExchange s Added f c old sample = record {
+      may = (
+        subst (λ (k : Key). c < k.geometry.channels) key lay.1,
+        subst (λ (m : Marks). IsFrom m.cursor f c) (sym s.known.same_marks) lay.2,
+        subst (λ (k : Key). f < (view_of s).seen + k.geometry.frames) key (subst (λ p. f < p + s.key.geometry.frames) (sym s.known.same_seen) lay.3),
+        omega (arith, s.known.same_places, lay.0),
+        subst (λ (k : Key). lap k.geometry f < 4294967295) key lay.4,
+      );
+      channel = lay.1;
       noted = noted;
       of_lap = of_lap;
-      from_cursor = from_cursor;
-      ahead = ahead;
-      fits = fits;
       low = omega (arith, ints, in_range);
       high = omega (arith, ints, in_range);
     } in
-    subst (MayExchange s f c old) (sym same) may
+    subst (MayExchange s Added f c old) (sym same) may
+may_lay s Withdrawn f c old sample in_range lay noted of_lap =
+    let same : to_z w16 (of_z w16 sample) ≡ sample = to_z-of_z w16 sample in_range in
+    let holds : HoldsLast (view_of s) f c sample = holds_of s f c sample lay.0 lay.1 in
+    let may : MayExchange s Withdrawn f c old sample = record {
+      may = holds;
+      channel = (holds_facts s f c sample holds).channel;
+      noted = noted;
+      of_lap = of_lap;
+      low = omega (arith, ints, in_range);
+      high = omega (arith, ints, in_range);
+    } in
+    subst (MayExchange s Withdrawn f c old) (sym same) may
 
-pub room_there : (s : MixSeat) (f c old : ℕ) (sample : ℤ) → MayExchange s f c old sample → HasRoom old sample
-room_there s f c old sample may = HasRoom-of old s.key.places sample (s.known.noted.words (index_of s.key.geometry f c) old may.noted) s.key.most may.low may.high
+-- where a seat may lay
+pub lay_facts : (s : MixSeat) (k : Kind) (f c : ℕ) (sample : ℤ) → MayLay k s f c sample → HoldsFacts s f c
+lay_facts s Added f c sample lay =
+    let start : s.marks.cursor.frame ≤ first_free s.marks.cursor c = grind (arith, nat_tests) in
+    record { channel = lay.1; low = omega (arith, s.known.cursor_within.least, start, lay.2); ahead = omega (arith, s.known.same_seen, lay.3); fits = lay.4 }
+lay_facts s Withdrawn f c sample lay = holds_facts s f c sample (holds_of s f c sample lay.0 lay.1)
 
--- the entry that a seat lays
-abbrev pub entry_by : MixSeat → ℕ → ℕ → ℤ → Entry
-entry_by s f c sample = record { member = s.member; frame = f; channel = c; sample = sample }
+pub room_there : (s : MixSeat) (k : Kind) (f c old : ℕ) (sample : ℤ) → MayExchange s k f c old sample → HasRoom old (signed k sample)
+room_there s k f c old sample may = HasRoom-of old s.key.places (signed k sample) (s.known.noted.words (index_of s.key.geometry f c) old may.noted) s.key.most may.low may.high
 
-pub may_put : (s : MixSeat) (f c old new : ℕ) (sample : ℤ) → MayExchange s f c old sample → StandsFor new (lap_of old) (count_of old + 1) (sum_of old +ℤ sample)
-    → MayPut (view_of s) (entry_by s f c sample) old new
-may_put s f c old new sample may stands =
+pub to_put : (s : MixSeat) (k : Kind) (f c old new : ℕ) (sample : ℤ) → MayExchange s k f c old sample → StandsFor new (lap_of old) (count_of old + 1) (sum_of old +ℤ signed k sample)
+    → MayPut (view_of s) (entry_by s k f c sample) old new
+to_put s k f c old new sample may stands =
     let same : s.key ≡ (view_of s).key = sym s.known.same_key in
     record {
       lasts = s.known.lasts;
+      may = may.may;
       channel = subst (λ (k : Key). c < k.geometry.channels) same may.channel;
-      from_cursor = subst (λ (at : Cursor). IsFrom at f c) (sym s.known.same_cursor) may.from_cursor;
-      ahead = subst (λ (k : Key). f < (view_of s).seen + k.geometry.frames) same (subst (λ p. f < p + s.key.geometry.frames) (sym s.known.same_seen) may.ahead);
-      places = omega (arith, s.known.same_places, may.can_add);
       low = may.low;
       high = may.high;
       of_lap = subst (λ (k : Key). lap_of old ≡ lap k.geometry f) same may.of_lap;
-      fits = subst (λ (k : Key). lap k.geometry f < 4294967295) same may.fits;
       stands = stands;
     }
 
-pub may_exchange : (s : MixSeat) (slots i f c old new : ℕ) (sample : ℤ) → MayExchange s f c old sample → StandsFor new (lap_of old) (count_of old + 1) (sum_of old +ℤ sample)
+pub may_exchange : (s : MixSeat) (kind : Kind) (slots i f c old new : ℕ) (sample : ℤ) → MayExchange s kind f c old sample → StandsFor new (lap_of old) (count_of old + 1) (sum_of old +ℤ signed kind sample)
     → i ≡ index_of s.key.geometry f c
-    → Allows (Exact s.ring.now.key) slots s.seat.id s.seat.me i (λ n. either (n == old) new n) (exchanged (step slots i old new (some (entry_by s f c sample))) s.seat.me)
-may_exchange s slots i f c old new sample may stands index =
-    let Goes : Key → ℕ → Type 0 = λ k j. Allows (Exact k) slots s.seat.id s.seat.me j (λ n. either (n == old) new n) (exchanged (step slots j old new (some (entry_by s f c sample))) s.seat.me) in
-    let at_own : Goes (view_of s).key (index_of (view_of s).key.geometry f c) = exchanges slots s.seat.id s.seat.me (entry_by s f c sample) old new (may_put s f c old new sample may stands) in
+    → Allows (Exact s.ring.now.key) slots s.seat.id s.seat.me i (λ n. either (n == old) new n) (exchanged (step slots i old new (some (entry_by s kind f c sample))) s.seat.me)
+may_exchange s kind slots i f c old new sample may stands index =
+    let Goes : Key → ℕ → Type 0 = λ k j. Allows (Exact k) slots s.seat.id s.seat.me j (λ n. either (n == old) new n) (exchanged (step slots j old new (some (entry_by s kind f c sample))) s.seat.me) in
+    let at_own : Goes (view_of s).key (index_of (view_of s).key.geometry f c) = exchanges slots s.seat.id s.seat.me (entry_by s kind f c sample) old new (to_put s kind f c old new sample may stands) in
     let at_key : Goes s.key (index_of s.key.geometry f c) = subst (λ (k : Key). Goes k (index_of k.geometry f c)) s.known.same_key at_own in
     subst (λ k. Goes k i) s.same_ring.1 (subst (Goes s.key) (sym index) at_key)
 
@@ -241,32 +314,92 @@ pub last_frame-append : (xs ys : List Entry) → last_frame (xs ++ ys) ≡ great
 last_frame-append [] ys = refl
 last_frame-append (x ∷ xs) ys = ap (greater (Some x.frame)) (last_frame-append xs ys) ∙ sym (greater-assoc (Some x.frame) (last_frame xs) (last_frame ys))
 
+-- the marks after an entry stay within the ring's frames
+pub record MarksWithin (g : Geometry) (m : Marks) : Type 0 where
+  pub cursor : IsWithin g m.cursor.frame
+  pub floor : IsWithin g m.floor.frame
+  pub high : IsWithin g m.high.frame
+
+within_added : (g : Geometry) (m : Marks) (f c : ℕ) → MarksWithin g m → IsFrom m.cursor f c → lap g f < 4294967295 → MarksWithin g (added_at g m f c)
+within_added g m f c x from fits =
+    let end : f + 1 ≤ end_frame g = suc-le-end_frame g f fits in
+    let start : m.cursor.frame ≤ first_free m.cursor c = grind (arith, nat_tests) in
+    let least : first_frame g ≤ f = omega (arith, x.cursor.least, start, from) in
+    record {
+      cursor = record { least = grind (arith, nat_tests); most = grind (arith, nat_tests) };
+      floor = record { least = grind (arith, nat_tests, x.floor.least, x.high.least); most = grind (arith, nat_tests, x.floor.most, x.high.most) };
+      high = record { least = grind (arith, nat_tests, x.high.least); most = grind (arith, nat_tests, x.high.most, end) };
+    }
+
+within_withdrawn : (g : Geometry) (m : Marks) (f c : ℕ) → MarksWithin g m → first_frame g ≤ f → lap g f < 4294967295 → MarksWithin g (withdrawn_at m f c)
+within_withdrawn g m f c x least fits = record {
+  cursor = record { least = least; most = omega (arith, suc-le-end_frame g f fits) };
+  floor = x.floor;
+  high = x.high;
+}
+
+-- what an entry leaves, by its kind
+pub record Leaves (k : Key) (v : View) (e : Entry) : Type 0 where
+  pub within : MarksWithin k.geometry (marks_after k.geometry v.marks e)
+  pub laid : IsLaid k.geometry v.seen e
+
+leaves : (k : Key) (v : View) (e : Entry) → v.key ≡ k → MarksWithin k.geometry v.marks → ((i : ℕ) (a : Entry) → get_elem? v.laid i ≡ some a → IsLaid k.geometry v.seen a)
+    → may_put e.kind v e.frame e.channel e.sample → Leaves k v e
+leaves k v e key within laid may = by_kind e.kind refl may where
+  by_kind : (kind : Kind) → e.kind ≡ kind → may_put kind v e.frame e.channel e.sample → Leaves k v e
+  by_kind Added kind may =
+      let fits : lap k.geometry e.frame < 4294967295 = subst (λ (x : Key). lap x.geometry e.frame < 4294967295) key may.4 in
+      let start : v.marks.cursor.frame ≤ first_free v.marks.cursor e.channel = grind (arith, nat_tests) in
+      record {
+        within = subst (λ x. MarksWithin k.geometry (marked x k.geometry v.marks e.frame e.channel)) (sym kind) (within_added k.geometry v.marks e.frame e.channel within may.1 fits);
+        laid = record {
+          channel = subst (λ (x : Key). e.channel < x.geometry.channels) key may.0;
+          low = omega (arith, within.cursor.least, start, may.1);
+          ahead = subst (λ (x : Key). e.frame < v.seen + x.geometry.frames) key may.2;
+          fits = fits;
+        };
+      }
+  by_kind Withdrawn kind may =
+      let held : IsHeldAt k.geometry v.laid v.marks e.frame e.channel e.sample = record { early = may.early; last = may.last; ends = may.ends; frame = may.frame; channel = may.channel; sample = may.sample; from_floor = may.from_floor } in
+      let l : IsLaid k.geometry v.seen may.last = held_laid k.geometry v.laid v.marks v.seen e.frame e.channel e.sample laid held in
+      let low : first_frame k.geometry ≤ e.frame = subst (λ f. first_frame k.geometry ≤ f) may.frame l.low in
+      let fits : lap k.geometry e.frame < 4294967295 = subst (λ f. lap k.geometry f < 4294967295) may.frame l.fits in
+      record {
+        within = subst (λ x. MarksWithin k.geometry (marked x k.geometry v.marks e.frame e.channel)) (sym kind) (within_withdrawn k.geometry v.marks e.frame e.channel within low fits);
+        laid = record { channel = subst (λ d. d < k.geometry.channels) may.channel l.channel; low = low; ahead = subst (λ f. f < v.seen + k.geometry.frames) may.frame l.ahead; fits = fits };
+      }
+
 -- the fields after an entry was laid
-pub known_laid : (k : Key) (places : ℕ) (cursor : Cursor) (seen : ℕ) (last : Option ℕ) (v : View) (h : List Row) (e : Entry)
-    → IsKnown v k places cursor seen last → IsFrom cursor e.frame e.channel → lap k.geometry e.frame < 4294967295
-    → IsKnown (with_entry v h e) k places (behind k.geometry e.frame e.channel) seen (greater last (Some e.frame))
-known_laid k places cursor seen last v h e is from fits =
-    let end : e.frame + 1 ≤ end_frame k.geometry = suc-le-end_frame k.geometry e.frame fits in
-    let start : cursor.frame ≤ first_free cursor e.channel = grind (arith, nat_tests) in
-    let least : first_frame k.geometry ≤ e.frame = omega (arith, is.cursor_within.least, start, from) in
+pub known_laid : (k : Key) (places : ℕ) (marks : Marks) (seen : ℕ) (last : Option ℕ) (v : View) (h : List Row) (e : Entry)
+    → IsKnown v k places marks seen last → may_put e.kind v e.frame e.channel e.sample
+    → IsKnown (with_entry v h e) k places (marks_after k.geometry marks e) seen (greater last (Some e.frame))
+known_laid k places marks seen last v h e is may =
+    let within : MarksWithin k.geometry v.marks = subst (MarksWithin k.geometry) (sym is.same_marks) (record { cursor = is.cursor_within; floor = is.floor_within; high = is.high_within }) in
+    let left : Leaves k v e = leaves k v e is.same_key within is.laid may in
+    let same : marks_after v.key.geometry v.marks e ≡ marks_after k.geometry marks e =
+    ap (λ (x : Key). marks_after x.geometry v.marks e) is.same_key ∙ ap (λ m. marks_after k.geometry m e) is.same_marks in
+    let own : MarksWithin k.geometry (marks_after k.geometry marks e) = subst (λ m. MarksWithin k.geometry (marks_after k.geometry m e)) is.same_marks left.within in
     record {
       same_key = is.same_key;
       same_places = is.same_places;
-      same_cursor = ap (λ (x : Key). behind x.geometry e.frame e.channel) is.same_key;
+      same_marks = same;
       same_seen = is.same_seen;
       same_last = last_frame-append v.laid (e ∷ []) ∙ ap (λ x. greater x (Some e.frame)) is.same_last;
       lasts = is.lasts;
       untracked = is.untracked;
       noted = record { room = is.noted.room; words = is.noted.words };
-      cursor_within = record { least = grind (arith, nat_tests); most = grind (arith, nat_tests) };
+      cursor_within = own.cursor;
+      floor_within = own.floor;
+      high_within = own.high;
       seen_within = is.seen_within;
       places_most = is.places_most;
+      laid = laid_more k.geometry v.laid v.seen e is.laid left.laid;
     }
 
 -- a seat that laid an entry
-pub has_laid : (s t : MixSeat) (e : Entry) → SameFields s t → t.cursor ≡ behind s.key.geometry e.frame e.channel → t.last ≡ greater s.last (Some e.frame)
+pub has_laid : (s t : MixSeat) (e : Entry) → SameFields s t → t.marks ≡ marks_after s.key.geometry s.marks e → t.last ≡ greater s.last (Some e.frame)
     → Lays s.seat.me.0 s.seat.me.1 e t.seat.me → HasLaid s t e
-has_laid s t e same cursor last told =
+has_laid s t e same marks last told =
     let h : List Row = told.0 in
     let w : View = with_entry (view_of s) h e in
     let view : view_of t ≡ w = ap (λ (x : Me Entry View). x.0) told.1 in
@@ -279,9 +412,11 @@ has_laid s t e same cursor last told =
         member = same.member;
         places = same.places;
         history = step_begins (view_of s) (view_of t) made.0 made.1 made.2 (in_row made.0 e ∷ []) made.3;
+        heard = ap (λ (x : View). x.heard) view;
+        notes = NotesRise-same (view_of s) (view_of t) (ap (λ (x : View). x.noted) view);
       };
       view = view ∙ ap (λ x. with_entry (view_of s) x e) history;
-      cursor = cursor;
+      marks = marks;
       seen = same.seen;
       last = last;
       event = made;
@@ -291,20 +426,20 @@ has_laid s t e same cursor last told =
 pub lost_notes : (slots i old new n : ℕ) (e : Entry) (m r : Me Entry View) → n ≢ old → exchanged (step slots i old new (some e)) m n r → Finds m.0 i n × Notes m.0 m.1 i n r
 lost_notes slots i old new n e m r other told = (told.0, told.2 other)
 
-pub known_lost : (k : Key) (places : ℕ) (cursor : Cursor) (seen : ℕ) (last : Option ℕ) (slots i old new n : ℕ) (e : Entry) (m r : Me Entry View)
-    → IsKnown m.0 k places cursor seen last → n ≢ old → exchanged (step slots i old new (some e)) m n r → IsKnown r.0 k places cursor seen last
-known_lost k places cursor seen last slots i old new n e m r is other told =
-    known_looked k places cursor seen last slots i n m r is (lost_notes slots i old new n e m r other told)
+pub known_lost : (k : Key) (places : ℕ) (marks : Marks) (seen : ℕ) (last : Option ℕ) (slots i old new n : ℕ) (e : Entry) (m r : Me Entry View)
+    → IsKnown m.0 k places marks seen last → n ≢ old → exchanged (step slots i old new (some e)) m n r → IsKnown r.0 k places marks seen last
+known_lost k places marks seen last slots i old new n e m r is other told =
+    known_looked k places marks seen last slots i n m r is (lost_notes slots i old new n e m r other told)
 
-pub has_lost : (s t : MixSeat) (slots i f c old new n : ℕ) (e : Entry) → SameFields s t → t.cursor ≡ s.cursor → t.last ≡ s.last → c < s.key.geometry.channels
+pub has_lost : (s t : MixSeat) (slots i f c old new n : ℕ) (e : Entry) → SameFields s t → t.marks ≡ s.marks → t.last ≡ s.last → c < s.key.geometry.channels
     → get_or (view_of s).noted (index_of s.key.geometry f c) None ≡ Some old → i ≡ index_of s.key.geometry f c
     → n ≢ old → exchanged (step slots i old new (some e)) s.seat.me n t.seat.me → HasLost s t f c old n
-has_lost s t slots i f c old new n e same cursor last in_range noted index other told =
+has_lost s t slots i f c old new n e same marks last in_range noted index other told =
     let j : ℕ = index_of s.key.geometry f c in
     let told_at : exchanged (step slots j old new (some e)) s.seat.me n t.seat.me = subst (λ x. exchanged (step slots x old new (some e)) s.seat.me n t.seat.me) index told in
     let found : Finds (view_of s) j n = told_at.0 in
     record {
-      noted = has_noted s t f c n same cursor last in_range found (told_at.2 other);
+      noted = has_noted s t f c n same marks last in_range found (told_at.2 other);
       past = elim (found.noted old noted) [ inl one ↦ absurd (other (sym one)) | inr below ↦ below ];
     }
 
@@ -319,14 +454,48 @@ won_lays slots i old new n e m r same told =
     let lays = told.1 same in
     subst (λ x. Lays m.0 m.1 x r) (sym (ap (entry_or e) lays.1)) lays.2
 
-pub known_won : (k : Key) (places : ℕ) (cursor : Cursor) (seen : ℕ) (last : Option ℕ) (slots i old new n : ℕ) (e : Entry) (m r : Me Entry View)
-    → IsKnown m.0 k places cursor seen last → IsFrom cursor e.frame e.channel → lap k.geometry e.frame < 4294967295
-    → n ≡ old → exchanged (step slots i old new (some e)) m n r → IsKnown r.0 k places (behind k.geometry e.frame e.channel) seen (greater last (Some e.frame))
-known_won k places cursor seen last slots i old new n e m r is from fits same told =
+pub known_won : (k : Key) (places : ℕ) (marks : Marks) (seen : ℕ) (last : Option ℕ) (slots i old new n : ℕ) (e : Entry) (m r : Me Entry View)
+    → IsKnown m.0 k places marks seen last → may_put e.kind m.0 e.frame e.channel e.sample
+    → n ≡ old → exchanged (step slots i old new (some e)) m n r → IsKnown r.0 k places (marks_after k.geometry marks e) seen (greater last (Some e.frame))
+known_won k places marks seen last slots i old new n e m r is may same told =
     let lays : Lays m.0 m.1 e r = won_lays slots i old new n e m r same told in
-    subst (λ (x : Me Entry View). IsKnown x.0 k places (behind k.geometry e.frame e.channel) seen (greater last (Some e.frame))) (sym lays.1) (known_laid k places cursor seen last m.0 lays.0 e is from fits)
+    subst (λ (x : Me Entry View). IsKnown x.0 k places (marks_after k.geometry marks e) seen (greater last (Some e.frame))) (sym lays.1) (known_laid k places marks seen last m.0 lays.0 e is may)
 
--- the sample that was added is the one that was handed in
-pub has_laid_as : (s t : MixSeat) (f c : ℕ) (z x : ℤ) → z ≡ x → SameFields s t → t.cursor ≡ behind s.key.geometry f c → t.last ≡ greater s.last (Some f)
-    → Lays s.seat.me.0 s.seat.me.1 (entry_by s f c z) t.seat.me → HasLaid s t (entry_by s f c x)
-has_laid_as s t f c z x is same cursor last told = subst (λ y. HasLaid s t (entry_by s f c y)) is (has_laid s t (entry_by s f c z) same cursor last told)
+-- the sample is the one that was handed in
+pub has_laid_as : (s t : MixSeat) (k : Kind) (f c : ℕ) (z x : ℤ) → z ≡ x → SameFields s t → t.marks ≡ marked k s.key.geometry s.marks f c → t.last ≡ greater s.last (Some f)
+    → Lays s.seat.me.0 s.seat.me.1 (entry_by s k f c z) t.seat.me → HasLaid s t (entry_by s k f c x)
+has_laid_as s t k f c z x is same marks last told = subst (λ y. HasLaid s t (entry_by s k f c y)) is (has_laid s t (entry_by s k f c z) same marks last told)
+
+-- a seat that loaded the position
+pub has_located : (s t : MixSeat) (slots n : ℕ) (p : Position) → t.seat.table_id ≡ s.seat.table_id → t.key ≡ s.key → t.member ≡ s.member → t.places ≡ s.places
+    → t.marks ≡ s.marks → t.last ≡ s.last → t.seen ≡ p.frame → p.frame ≡ position_in n → p.gone ≡ gone_in n
+    → located (step slots 0 0 0 none) s.seat.me n t.seat.me → HasLocated s t p
+has_located s t slots n p ring key member places marks last seen frame gone told =
+    let most : told.1 ≤ end_frame s.key.geometry = subst (λ (x : Key). told.1 ≤ end_frame x.geometry) s.known.same_key told.6 in
+    let fields = word_of-fields told.1 told.2 (position_fits s.key.geometry told.1 most) in
+    let at : told.1 ≡ p.frame = sym (frame ∙ (ap position_in told.4 ∙ fields.0)) in
+    let is_gone : told.2 ≡ p.gone = sym (gone ∙ (ap gone_in told.4 ∙ fields.1)) in
+    let view : view_of t ≡ with_position (view_of s) told.0 told.1 told.2 = ap (λ (x : Me Entry View). x.0) told.3 in
+    let history : told.0 ≡ (view_of t).history = sym (ap (λ (x : View). x.history) view) in
+    let made : Makes (view_of s) (view_of t) (λ _. []) = subst (λ x. Makes (view_of s) x (λ _. [])) (sym view) told.8 in
+    record {
+      goes = record {
+        ring = ring;
+        key = key;
+        member = member;
+        places = places;
+        history = step_begins (view_of s) (view_of t) made.0 made.1 made.2 [] made.3;
+        heard = ap (λ (x : View). x.heard) view;
+        notes = NotesRise-same (view_of s) (view_of t) (ap (λ (x : View). x.noted) view);
+      };
+      view = view
+          ∙ (ap (λ x. with_position (view_of s) x told.1 told.2) history
+          ∙ (ap (λ x. with_position (view_of s) (view_of t).history x told.2) at ∙ ap (with_position (view_of s) (view_of t).history p.frame) is_gone));
+      marks = marks;
+      seen = seen;
+      last = last;
+      not_before = subst (λ x. x ≤ p.frame) s.known.same_seen (subst (λ x. (view_of s).seen ≤ x) at told.5);
+      within = record { least = omega (arith, s.known.seen_within.least, s.known.same_seen, told.5, at); most = omega (arith, most, at) };
+      gone = λ is. sym is_gone ∙ told.7 is;
+      event = made;
+    }

@@ -1,17 +1,15 @@
 -- Counts, sums and places of all views together, when one view changes or one more comes.
-use Rattle.std.proofs.Common.{◌≡◌, ◌⊎◌, inl, inr, Bool, true, false, ℕ, zero, suc, ◌+◌, ◌≤◌, List, [], ◌∷◌, ◌++◌, length, set, ◌+ℤ◌, refl, sym, subst, ap, ◌∙◌, arith, append_assoc}
+use Rattle.std.proofs.Common.{◌≡◌, ◌⊎◌, inl, inr, Bool, true, false, ℕ, zero, suc, ◌+◌, ◌*◌, ◌≤◌, List, [], ◌∷◌, ◌++◌, set, ◌+ℤ◌, refl, sym, subst, ap, ◌∙◌, arith, append_assoc}
 use mathlib.Core.Option.{some, some-injective, some-ne-none}
 use lib.ListN.{get_elem?}
 use Rattle.std.proofs.lemmas.Int.{ints}
-use Rattle.std.proofs.lemmas.List.{append-nil, length-append}
+use Rattle.std.proofs.lemmas.List.{append-nil}
 use Rattle.mix_core.specs.declared.port.Entry.{Entry}
-use Rattle.mix_core.specs.HistoryLaws.{at-append, total-append}
-use Rattle.mix_core.specs.Laid.{at, is_at, total}
+use Rattle.mix_core.specs.HistoryLaws.{total-append}
+pub use Rattle.mix_core.specs.MarkLaws.{count-append}
+use Rattle.mix_core.specs.Laid.{is_at, total}
 use Rattle.sum_table.specs.declared.view.View.{View}
 use Rattle.sum_table.specs.Laid.{SameSums, all_laid, by_member, count, places_of}
-
-pub count-append : (xs ys : List Entry) (f c : ℕ) → count (xs ++ ys) f c ≡ count xs f c + count ys f c
-count-append xs ys f c = ap length (at-append xs ys f c) ∙ length-append (at xs f c) (at ys f c)
 
 -- one view changes
 pub count_set : (views : List View) (id : ℕ) (v w : View) (f c : ℕ) → get_elem? views id ≡ some v
@@ -61,22 +59,22 @@ places_within [] id v here = absurd (some-ne-none v (sym here))
 places_within (x ∷ xs) zero v here = let same : x.places ≡ v.places = ap (λ (y : View). y.places) (some-injective x v here) in omega (arith, same)
 places_within (x ∷ xs) (suc id) v here = omega (arith, places_within xs id v here)
 
--- where no view has more samples at a frame and channel than places, all together have no more than all places
-pub count_few : (views : List View) (f c : ℕ) → ((i : ℕ) (u : View) → get_elem? views i ≡ some u → count u.laid f c ≤ u.places) → count (all_laid views) f c ≤ places_of views
+-- where no view has more than three entries at a frame and channel for each place, all together have no more
+pub count_few : (views : List View) (f c : ℕ) → ((i : ℕ) (u : View) → get_elem? views i ≡ some u → count u.laid f c ≤ 3 * u.places) → count (all_laid views) f c ≤ 3 * places_of views
 count_few [] f c few = omega arith
 count_few (x ∷ xs) f c few = omega (arith, few 0 x refl, count_few xs f c (λ i u there. few (suc i) u there), count-append x.laid (all_laid xs) f c)
 
--- and where one view has none there, the others leave room for its places
+-- and where one view has fewer there, the others leave room for its places
 pub count_room : (views : List View) (id : ℕ) (v : View) (f c : ℕ) → get_elem? views id ≡ some v
-    → ((i : ℕ) (u : View) → get_elem? views i ≡ some u → count u.laid f c ≤ u.places)
-    → count v.laid f c ≡ 0 → count (all_laid views) f c + v.places ≤ places_of views
-count_room [] id v f c here few none = absurd (some-ne-none v (sym here))
-count_room (x ∷ xs) zero v f c here few none =
+    → ((i : ℕ) (u : View) → get_elem? views i ≡ some u → count u.laid f c ≤ 3 * u.places)
+    → count (all_laid views) f c + 3 * v.places ≤ 3 * places_of views + count v.laid f c
+count_room [] id v f c here few = absurd (some-ne-none v (sym here))
+count_room (x ∷ xs) zero v f c here few =
     let same : count x.laid f c ≡ count v.laid f c = ap (λ (y : View). count y.laid f c) (some-injective x v here) in
     let same_places : x.places ≡ v.places = ap (λ (y : View). y.places) (some-injective x v here) in
-    omega (arith, same, same_places, none, count_few xs f c (λ i u there. few (suc i) u there), count-append x.laid (all_laid xs) f c)
-count_room (x ∷ xs) (suc id) v f c here few none =
-    omega (arith, few 0 x refl, count_room xs id v f c here (λ i u there. few (suc i) u there) none, count-append x.laid (all_laid xs) f c)
+    omega (arith, same, same_places, count_few xs f c (λ i u there. few (suc i) u there), count-append x.laid (all_laid xs) f c)
+count_room (x ∷ xs) (suc id) v f c here few =
+    omega (arith, few 0 x refl, count_room xs id v f c here (λ i u there. few (suc i) u there), count-append x.laid (all_laid xs) f c)
 
 -- views of equal laid lists and places
 pub SameSums-set : (views : List View) (id : ℕ) (v w : View) → get_elem? views id ≡ some v → w.laid ≡ v.laid → SameSums (all_laid views) (all_laid (set views id w))

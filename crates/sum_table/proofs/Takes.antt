@@ -25,6 +25,7 @@ use Rattle.sum_table.specs.Exact.{Exact, is_tracked, IsHistory, IsPublished, IsV
 use Rattle.sum_table.specs.Laid.{all_laid, count}
 use Rattle.sum_table.specs.Steps.{published, taken, taking, track_gone, track_published, track_taken, unplugged, with_gone, with_published, with_taken}
 use Rattle.sum_table.specs.Words.{NotPast, index_of, rank}
+use Rattle.sum_table.proofs.Kept.{kept_later}
 use Rattle.sum_table.proofs.Keeps.{Holds, none_made}
 use Rattle.sum_table.proofs.Lists.{IsPublished-last, last_of-more}
 use Rattle.sum_table.proofs.Places.{IsNow-next, index_of-lt, next_word-channel}
@@ -91,8 +92,7 @@ took s slots id m at t h word lasts tracks player x here fits stands =
     } in
     let moved : IsView k (set s.words i word) u late v = view_later k s.words (set s.words i word) t u h late v later own in
     let after : IsView k (set s.words i word) u late w = record {
-      laid = moved.laid;
-      few = moved.few;
+      kept = moved.kept;
       seen_high = moved.seen_high;
       positions = moved.positions;
       gone = moved.gone;
@@ -100,11 +100,11 @@ took s slots id m at t h word lasts tracks player x here fits stands =
       begins = BeginsWith-same late;
       heard = moved.heard;
     } in
-    let ring = IsRing-take g s.words (all_laid s.views) t z word x.ring fits (none_far k s.words s.views at t h x.views_ok) stands value in
+    let ring = IsRing-take g s.words (all_laid s.views) t z word x.ring fits (none_far k s.words s.views at t h x.views_ok x.ring.not_ahead) stands value in
     let views = views_set k s.words (set s.words i word) s.views at t u h late id v w x.views_ok later here refl after
     (λ y is. (player, sym (ap (λ (o : Option Track). track_or u o) is))) (inr player) in
     let seated : IsHistory g (set s.views id w) u late =
-    history_same g s.views u late id v w (history_take g s.views t h z x.history (λ same. omega (arith, fits, same)) value) here refl refl refl refl in (
+    history_same g s.views u late id v w (history_take g s.views t h z x.history (λ same. omega (arith, fits, same)) value) here refl refl refl in (
       w,
       keeps,
       tt,
@@ -172,8 +172,7 @@ publishes slots id m next gone lasts is next_is gone_is s x homes here small =
     } in
     let moved : IsView k words u late v = view_later k s.words words t u h late v later own in
     let after : IsView k words u late w = record {
-      laid = moved.laid;
-      few = moved.few;
+      kept = kept_later g v.places v.laid v.mine v.free v.marks v.seen p v.ended (omega (arith, own.seen_high, x.3.not_ahead)) moved.kept;
       seen_high = omega (arith, last);
       positions = λ i q there. elim (at_snoc v.positions p q i there) [
         | inl old ↦ moved.positions i q old
@@ -187,7 +186,7 @@ publishes slots id m next gone lasts is next_is gone_is s x homes here small =
     let ring = IsRing-publish g s.words (all_laid s.views) t x.3 in
     let views = views_set k s.words words s.views x.0 t u h late id v w x.4 later here refl after
     (λ y one. (mine.0, sym (ap (λ (o : Option Track). track_or u o) one))) (inr mine.0) in
-    let seated : IsHistory g (set s.views id w) u late = history_same g s.views u late id v w (history_publish g s.views t h x.5) here refl refl refl refl in (
+    let seated : IsHistory g (set s.views id w) u late = history_same g s.views u late id v w (history_publish g s.views t h x.5) here refl refl refl in (
       w,
       keeps,
       tt,
@@ -224,8 +223,7 @@ unplugs slots id m position lasts is position_is s x homes here small =
     } in
     let moved : IsView k words u h v = view_later k s.words words t u h h v later own in
     let after : IsView k words u h w = record {
-      laid = moved.laid;
-      few = moved.few;
+      kept = moved.kept;
       seen_high = moved.seen_high;
       positions = moved.positions;
       gone = λ seen. refl;
@@ -236,7 +234,7 @@ unplugs slots id m position lasts is position_is s x homes here small =
     let ring = IsRing-gone g s.words (all_laid s.views) t x.3 in
     let views = views_set k s.words words s.views x.0 t u h h id v w x.4 later here refl after
     (λ y one. (mine.0, sym (ap (λ (o : Option Track). track_or u o) one))) (inr mine.0) in
-    let seated : IsHistory g (set s.views id w) u h = history_same g s.views u h id v w (history_gone g s.views t h x.5) here refl refl refl refl in (
+    let seated : IsHistory g (set s.views id w) u h = history_same g s.views u h id v w (history_gone g s.views t h x.5) here refl refl refl in (
       w,
       keeps,
       tt,

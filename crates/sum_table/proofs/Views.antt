@@ -10,7 +10,7 @@ use Rattle.atomic_table.proofs.Lists.{at_set}
 use Rattle.snd_base.specs.declared.geometry.Geometry.{Geometry}
 use Rattle.snd_base.specs.declared.places.Cursor.{Cursor}
 use Rattle.snd_base.specs.PlaceLaws.{div-lt_same, mod-same}
-use Rattle.snd_base.specs.Places.{IsFrom, first_free, lap}
+use Rattle.snd_base.specs.Places.{first_free, lap}
 use Rattle.lap_word.specs.Word.{StandsFor, StandsFor-fields, count_of, lap_of, sum_of}
 use Rattle.mix_core.specs.declared.port.Entry.{Entry}
 use Rattle.mix_core.specs.History.{Row}
@@ -19,11 +19,12 @@ use Rattle.mix_core.specs.Sound.{IsNow}
 use Rattle.sum_table.specs.declared.view.Key.{Key}
 use Rattle.sum_table.specs.declared.view.Track.{Track}
 use Rattle.sum_table.specs.declared.view.View.{View}
-use Rattle.sum_table.specs.Exact.{AreViews, BeginsWith, IsLaid, IsPublished, IsRing, IsView, next_at, position_at}
+use Rattle.sum_table.specs.Exact.{AreViews, BeginsWith, IsPublished, IsRing, IsView, next_at, position_at}
 use Rattle.sum_table.specs.Laid.{all_laid, count, places_of}
 use Rattle.sum_table.specs.Steps.{Finds, IsWord, Tells}
 use Rattle.sum_table.specs.Words.{NotPast, index_of, rank}
 use Rattle.sum_table.proofs.Lists.{cases_eq}
+use Rattle.sum_table.proofs.Kept.{held_of, held_once, held_place}
 use Rattle.sum_table.proofs.Places.{now_of}
 use Rattle.sum_table.proofs.Sums.{count-append, count_few, count_room, places_set}
 
@@ -36,19 +37,10 @@ pub record Later (g : Geometry) (before after : List ℕ) (t u : Track) (early l
   pub words : (i n : ℕ) → 0 < i → NotPast n (get_or before i 0) → NotPast n (get_or after i 0)
   pub history : (h : List Row) → BeginsWith early h → BeginsWith late h
 
-pub IsLaid-later : (g : Geometry) (next after cursor : Cursor) (e : Entry) → first_free next e.channel ≤ first_free after e.channel → IsLaid g next cursor e → IsLaid g after cursor e
-IsLaid-later g next after cursor e up l = record {
-  channel = l.channel;
-  low = l.low;
-  before = l.before;
-  in_ring = omega (arith, l.in_ring, up);
-}
-
 pub view_later : (k : Key) (before after : List ℕ) (t u : Track) (early late : List Row) (v : View)
     → Later k.geometry before after t u early late → IsView k before t early v → IsView k after u late v
 view_later k before after t u early late v l x = record {
-  laid = λ i e there. IsLaid-later k.geometry (next_at k.geometry t) (next_at k.geometry u) v.cursor e (l.next e.channel) (x.laid i e there);
-  few = x.few;
+  kept = x.kept;
   seen_high = omega (arith, x.seen_high, l.position);
   positions = λ i p there. l.published p (x.positions i p there);
   gone = λ seen. l.gone (x.gone seen);
@@ -126,20 +118,12 @@ count_all_none (x ∷ xs) f c none = omega (arith, count-append x.laid (all_laid
 
 -- nothing is laid past the ring's window
 pub none_far : (k : Key) (words : List ℕ) (views : List View) (at : ℕ) (t : Track) (h : List Row) → AreViews k words views at t h
+    → position_at k.geometry t ≤ (next_at k.geometry t).frame
     → (f c : ℕ) → first_free (next_at k.geometry t) c + k.geometry.frames ≤ f → count (all_laid views) f c ≡ 0
-none_far k words views at t h a f c far =
+none_far k words views at t h a not_ahead f c far =
+    let start : (next_at k.geometry t).frame ≤ first_free (next_at k.geometry t) c = grind (arith, nat_tests) in
     count_all_none views f c (λ i v there. count_none v.laid f c (λ j e is same.
-    let near : e.frame < first_free (next_at k.geometry t) e.channel + k.geometry.frames = ((a.each i v there).laid j e is).in_ring in
-    let near_c : e.frame < first_free (next_at k.geometry t) c + k.geometry.frames = subst (λ x. e.frame < first_free (next_at k.geometry t) x + k.geometry.frames) same.1 near in
-    omega (arith, near_c, far, same.0)))
-
--- a seat laid nothing from its cursor on
-pub none_from : (k : Key) (words : List ℕ) (t : Track) (h : List Row) (v : View) → IsView k words t h v → (f c : ℕ) → IsFrom v.cursor f c → count v.laid f c ≡ 0
-none_from k words t h v x f c from =
-    count_none v.laid f c (λ j e is same.
-    let before : e.frame < first_free v.cursor e.channel = (x.laid j e is).before in
-    let before_c : e.frame < first_free v.cursor c = subst (λ y. e.frame < first_free v.cursor y) same.1 before in
-    omega (arith, before_c, from, same.0))
+    omega (arith, ((a.each i v there).kept.laid j e is).ahead, (a.each i v there).seen_high, not_ahead, start, far, same.0)))
 
 -- what the lap of the word of a frame and channel says, for a frame less than the ring's length past the position
 pub record ByLap (g : Geometry) (next : Cursor) (word f c : ℕ) : Type 0 where
@@ -192,7 +176,7 @@ word_ok k words views at t h f c r a in_range fits =
     let stands : StandsFor word (lap g j) (count (all_laid views) j c) (total (all_laid views) j c) =
     subst (λ i. StandsFor (get_or words i 0) (lap g j) (count (all_laid views) j c) (total (all_laid views) j c)) found.3 (r.sums j c found.1) in
     let fields : (lap_of word ≡ lap g j) × (count_of word ≡ count (all_laid views) j c) × (sum_of word ≡ total (all_laid views) j c) = StandsFor-fields _ _ _ _ stands in
-    let few : count (all_laid views) j c ≤ places_of views = count_few views j c (λ i u there. (a.each i u there).few j c) in
+    let few : count (all_laid views) j c ≤ 3 * places_of views = count_few views j c (λ i u there. (a.each i u there).kept.few j c) in
     record {
       fits = fits;
       few = omega (arith, fields.1, few, a.places);
@@ -220,12 +204,17 @@ finds words views at t h id v f c r a here in_range fits =
           record {
             not_before = laps.not_before;
             late = λ seen. laps.past (omega (arith, x.seen_high, r.not_ahead, start));
-            room = λ is from.
+            room = λ is may.
                 let now : IsNow g (next_at g t) e d = laps.now is in
                 let counted : count_of (get_or words (index_of g e d) 0) ≡ count (all_laid views) e d = (StandsFor-fields _ _ _ _ (r.sums e d now)).1 in
-                let some : count (all_laid views) e d + v.places ≤ places_of views =
-                count_room views id v e d here (λ i u there. (a.each i u there).few e d) (none_from k words t h v x e d from) in
-                omega (arith, counted, some, a.places);
+                let some : count (all_laid views) e d + 3 * v.places ≤ 3 * places_of views + count v.laid e d =
+                count_room views id v e d here (λ i u there. (a.each i u there).kept.few e d) in
+                elim may [
+                  | inl from ↦ omega (arith, counted, some, x.kept.marked.past_cursor e d d_in from.1, from.0, a.places)
+                  | inr one ↦
+                      let held = held_of v e d one.0 one.1 in
+                      omega (arith, counted, some, a.places, held_once g v.places v.laid v.mine v.free v.marks v.seen v.ended e d one.0 x.kept held, held_place g v.places v.laid v.mine v.free v.marks v.seen v.ended e d one.0 x.kept held)
+                ];
           } in
           subst (λ i. Tells v (get_or words i 0) e d) same told;
     }

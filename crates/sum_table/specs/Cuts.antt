@@ -1,11 +1,12 @@
 -- How a view is cut in two, and how two views are made one.
-use Rattle.std.specs.Prelude.{ℕ, ◌+◌, ◌-◌, ◌≤◌, ◌==◌, ◌&&◌, ◌||◌, Bool, true, false, Option, None, Some, List, [], ◌∷◌, ◌++◌, max, nat_lt, if◌then◌else◌}
+use Rattle.std.specs.Prelude.{ℕ, zero, suc, ◌+◌, ◌-◌, ◌≤◌, ◌||◌, true, false, Option, None, Some, List, [], ◌∷◌, ◌++◌, max, nat_lt, if◌then◌else◌}
 use Rattle.std.proofs.Common.{arith}
-use Rattle.snd_base.specs.declared.places.Cursor.{Cursor}
+use Rattle.mix_core.specs.declared.marks.Marks.{Marks}
+use Rattle.mix_core.specs.declared.port.Entry.{Entry}
+pub use Rattle.mix_core.specs.Marks.{is_before, later_of, start_marks}
 use Rattle.sum_table.specs.declared.view.Key.{Key}
 use Rattle.sum_table.specs.declared.view.Track.{Track}
 use Rattle.sum_table.specs.declared.view.View.{View}
-use Rattle.sum_table.specs.Exact.{start_of}
 use Rattle.sum_table.specs.Words.{rank}
 
 -- a view with other places
@@ -23,10 +24,12 @@ part_of v n = record {
   places = n;
   laid = [];
   mine = [];
-  cursor = start_of v.key.geometry;
+  marks = start_marks v.key.geometry;
+  free = [];
   positions = v.positions;
   seen = v.seen;
   seen_gone = v.seen_gone;
+  sightings = [];
   noted = v.noted;
   history = v.history;
   heard = [];
@@ -34,13 +37,16 @@ part_of v n = record {
   ended = false;
 }
 
--- a cursor is before another, by frame and then by channel
-abbrev pub is_before : Cursor → Cursor → Bool
-is_before a b = nat_lt a.frame b.frame || ((a.frame == b.frame) && nat_lt a.channel b.channel)
+-- the marks of two views that are joined: all stand at the later high. Where the view that is joined away has no places, it
+-- laid nothing, and the marks stay
+abbrev pub joined_marks : Marks → Marks → ℕ → Marks
+joined_marks a b zero = a
+joined_marks a b (suc n) = record { cursor = later_of a.high b.high; floor = later_of a.high b.high; high = later_of a.high b.high }
 
--- the later one of two cursors
-abbrev pub later_of : Cursor → Cursor → Cursor
-later_of a b = if is_before a b then b else a
+-- and what may still be withdrawn
+abbrev pub joined_free : List Entry → ℕ → List Entry
+joined_free free zero = free
+joined_free free (suc n) = []
 
 -- the later one of two notes
 abbrev pub later_note : Option ℕ → Option ℕ → Option ℕ
@@ -66,10 +72,12 @@ both_of v w = record {
   places = v.places + w.places;
   laid = v.laid ++ w.laid;
   mine = v.mine;
-  cursor = later_of v.cursor w.cursor;
+  marks = joined_marks v.marks w.marks w.places;
+  free = joined_free v.free w.places;
   positions = v.positions ++ w.positions;
   seen = max v.seen w.seen;
   seen_gone = v.seen_gone || w.seen_gone;
+  sightings = v.sightings;
   noted = later_notes v.noted w.noted;
   history = v.history;
   heard = w.history;
@@ -119,10 +127,12 @@ spent_view = record {
   places = 0;
   laid = [];
   mine = [];
-  cursor = record { frame = 0; channel = 0 };
+  marks = record { cursor = record { frame = 0; channel = 0 }; floor = record { frame = 0; channel = 0 }; high = record { frame = 0; channel = 0 } };
+  free = [];
   positions = [];
   seen = 0;
   seen_gone = false;
+  sightings = [];
   noted = [];
   history = [];
   heard = [];

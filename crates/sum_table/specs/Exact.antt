@@ -1,6 +1,6 @@
 -- What holds between any two steps: the words stand for the sums of exactly what was laid, and there is one legal history
 -- of all adds, takes and publications.
-use Rattle.std.specs.Prelude.{◌≡◌, ℕ, ◌+◌, ◌*◌, ◌<◌, ◌≤◌, ◌⊎◌, Bool, true, false, Option, None, Some, List, [], ◌∷◌, ◌++◌, map, length, slice_index, nat_lt, pos, ◌+ℤ◌, ◌≤ℤ◌, ⊤, replicate}
+use Rattle.std.specs.Prelude.{◌≡◌, ℕ, ◌+◌, ◌*◌, ◌<◌, ◌≤◌, ◌⊎◌, Bool, true, false, Option, None, Some, List, [], ◌∷◌, ◌++◌, map, length, fold, slice_index, nat_lt, pos, ◌+ℤ◌, ◌≤ℤ◌, ⊤, replicate}
 use Rattle.std.specs.List.{slice_index_or}
 use mathlib.Core.Option.{some}
 use lib.ListN.{get_elem?}
@@ -13,17 +13,16 @@ use Rattle.lap_word.specs.Position.{word_of}
 use Rattle.lap_word.specs.Word.{StandsFor}
 use Rattle.mix_core.specs.declared.port.Entry.{Entry}
 use Rattle.mix_core.specs.History.{AreExact, AreInOrder, IsLegal, Row, is_taken, laid_of, position_of, taken_of}
-use Rattle.mix_core.specs.Laid.{cursor_of, total}
+use Rattle.mix_core.specs.declared.marks.Marks.{Marks}
+use Rattle.mix_core.specs.Laid.{EndsIn, marks_by, stand_after, standing, total}
+use Rattle.mix_core.specs.MarkLaws.{IsHolding, IsMarked}
+pub use Rattle.mix_core.specs.Marks.{start_marks, start_of}
 use Rattle.mix_core.specs.Sound.{IsNow}
 use Rattle.sum_table.specs.declared.view.Key.{Key}
 use Rattle.sum_table.specs.declared.view.Track.{Track}
 use Rattle.sum_table.specs.declared.view.View.{View}
 use Rattle.sum_table.specs.Laid.{SameSums, all_laid, by_member, count, own, places_of}
 use Rattle.sum_table.specs.Words.{NotPast, index_of, words_of}
-
--- where everybody begins
-abbrev pub start_of : Geometry → Cursor
-start_of g = record { frame = first_frame g; channel = 0 }
 
 -- the next word to be taken
 abbrev pub next_at : Geometry → Track → Cursor
@@ -63,25 +62,58 @@ pub record IsRing (g : Geometry) (words : List ℕ) (es : List Entry) (t : Track
   pub within : (next_at g t).frame ≤ end_frame g
   pub sums : (f c : ℕ) → IsNow g (next_at g t) f c → StandsFor (slice_index words (index_of g f c)) (lap g f) (count es f c) (total es f c)
   pub low : (f c : ℕ) → pos 0 ≤ℤ (total es f c +ℤ pos (32768 * count es f c))
-  pub high : (f c : ℕ) → total es f c ≤ℤ pos (32767 * count es f c)
+  pub high : (f c : ℕ) → total es f c ≤ℤ pos (32768 * count es f c)
   pub in_order : AreInOrder g t.taken
   pub exact : AreExact es t.taken
   pub took : (f c : ℕ) → c < g.channels → first_frame g ≤ f → is_taken t.taken f c ≡ nat_lt f (first_free (next_at g t) c)
 
--- an entry was taken, or its frame is the first one of its slot and channel that is not taken; and it is before a cursor
-pub record IsLaid (g : Geometry) (next cursor : Cursor) (e : Entry) : Type 0 where
+-- an entry is in the ring: it is less than the ring's length past the position that its seat saw, so that it was taken, or
+-- its frame is the first one of its slot and channel that is not taken
+pub record IsLaid (g : Geometry) (seen : ℕ) (e : Entry) : Type 0 where
   pub channel : e.channel < g.channels
   pub low : first_frame g ≤ e.frame
-  pub before : e.frame < first_free cursor e.channel
-  pub in_ring : e.frame < first_free next e.channel + g.frames
+  pub ahead : e.frame < seen + g.frames
+  pub fits : lap g e.frame < 4294967295
+
+-- the marks behind a seat's own entries and its marks: the same but for the floor, or, after a join, all of the seat's marks
+-- stand at its high, and no own mark is past them
+pub record SameTops (a b : Marks) : Type 0 where
+  pub cursor : a.cursor ≡ b.cursor
+  pub high : a.high ≡ b.high
+
+pub record IsLevel (a b : Marks) : Type 0 where
+  pub high : (c : ℕ) → first_free a.high c ≤ first_free b.high c
+  pub cursor_is : b.cursor ≡ b.high
+  pub floor_is : b.floor ≡ b.high
+
+pub record AreWithinMarks (a b : Marks) : Type 0 where
+  pub floor : (c : ℕ) → first_free a.floor c ≤ first_free b.floor c
+  pub cursor : (c : ℕ) → first_free a.cursor c ≤ first_free b.cursor c
+  pub tops : SameTops a b ⊎ IsLevel a b
+
+-- a seat that has not ended: what it may still withdraw ends its own standing adds as well, and its own marks are within its marks
+pub record IsOwn (g : Geometry) (mine free : List Entry) (marks : Marks) : Type 0 where
+  pub ends : EndsIn (standing mine) free
+  pub within : AreWithinMarks (marks_by g mine) marks
+
+-- what a seat laid: its entries are in the ring; at each frame and channel there are at most three for each place, and where
+-- its marks say so fewer; of these at most one for each place stands; none stands from its cursor on; and those from its floor
+-- on rise and end the standing ones
+pub record IsKept (g : Geometry) (places : ℕ) (es mine free : List Entry) (marks : Marks) (seen : ℕ) (ended : Bool) : Type 0 where
+  pub laid : (i : ℕ) (e : Entry) → get_elem? es i ≡ some e → IsLaid g seen e
+  pub few : (f c : ℕ) → count es f c ≤ 3 * places
+  pub marked : IsMarked g marks es
+  pub holding : IsHolding g marks (standing es) free
+  pub backed : (before : List Entry) → fold stand_after before es ≡ before ++ standing es
+  pub few_held : (f c : ℕ) → count (standing es) f c ≤ places
+  pub own : ended ≡ false → IsOwn g mine free marks
 
 -- what a seat knows is so: its entries are in the ring, before its cursor, and at each frame and channel at most as many as
 -- it has places; it saw positions that were published, and the card gone only where it is; each word that it noted is not
 -- past the word that stands there now; and the ring's history begins with what it has seen of it, and with what a seat that
 -- was joined into it had seen
 pub record IsView (k : Key) (words : List ℕ) (t : Track) (h : List Row) (v : View) : Type 0 where
-  pub laid : (i : ℕ) (e : Entry) → get_elem? v.laid i ≡ some e → IsLaid k.geometry (next_at k.geometry t) v.cursor e
-  pub few : (f c : ℕ) → count v.laid f c ≤ v.places
+  pub kept : IsKept k.geometry v.places v.laid v.mine v.free v.marks v.seen v.ended
   pub seen_high : v.seen ≤ position_at k.geometry t
   pub positions : (i p : ℕ) → get_elem? v.positions i ≡ some p → IsPublished k.geometry t p
   pub gone : v.seen_gone ≡ true → t.gone ≡ true
@@ -104,9 +136,7 @@ pub record IsHistory (g : Geometry) (views : List View) (t : Track) (h : List Ro
   pub position : position_of g h ≡ position_at g t
   pub sums : SameSums (laid_of h) (all_laid views)
   pub owns : (i : ℕ) (v : View) → get_elem? views i ≡ some v → v.ended ≡ false → own i (laid_of h) ≡ map (by_member i) v.mine
-  pub cursors : (i : ℕ) (v : View) → get_elem? views i ≡ some v → v.ended ≡ false → (c : ℕ) → c < g.channels → first_free (cursor_of g i (laid_of h)) c ≤ first_free v.cursor c
   pub no_more : (i : ℕ) → length views ≤ i → own i (laid_of h) ≡ []
-  pub no_cursor : (i : ℕ) → length views ≤ i → cursor_of g i (laid_of h) ≡ start_of g
 
 -- the rule: there is a player's track and a legal history for which all this holds
 abbrev pub Exact : Key → State Entry View → Type 0
@@ -137,10 +167,12 @@ first_view k = record {
   places = k.places;
   laid = [];
   mine = [];
-  cursor = start_of k.geometry;
+  marks = start_marks k.geometry;
+  free = [];
   positions = [];
   seen = first_frame k.geometry;
   seen_gone = false;
+  sightings = [];
   noted = replicate (words_of k.geometry) None;
   history = [];
   heard = [];

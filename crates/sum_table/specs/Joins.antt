@@ -8,14 +8,14 @@ use Rattle.snd_base.specs.Places.{lap}
 use Rattle.lap_word.specs.Word.{lap_of}
 use Rattle.mix_core.specs.History.{AreExact, AreInOrder, IsLegal, Row, laid_of, taken_of}
 use Rattle.mix_core.specs.Sound.{IsNow}
-use Rattle.sum_table.specs.declared.join.Closed.{Closed}
-use Rattle.sum_table.specs.declared.mix.MixSeat.{MixSeat}
-use Rattle.sum_table.specs.declared.note.SeatNote.{SeatNote}
-use Rattle.sum_table.specs.declared.player.PlayerSeat.{PlayerSeat}
+use Rattle.sum_table.specs.declared.seats.join.Closed.{Closed}
+use Rattle.sum_table.specs.declared.seats.mix.MixSeat.{MixSeat}
+use Rattle.sum_table.specs.declared.seats.note.SeatNote.{SeatNote}
+use Rattle.sum_table.specs.declared.seats.player.PlayerSeat.{PlayerSeat}
 use Rattle.sum_table.specs.declared.view.Key.{Key}
 use Rattle.sum_table.specs.declared.view.View.{View}
-use Rattle.sum_table.specs.Cuts.{both_of, later_of, part_of, without}
-use Rattle.sum_table.specs.Exact.{BeginsWith, IsPublished, next_at, position_at, start_of}
+use Rattle.sum_table.specs.Cuts.{both_of, joined_marks, part_of, without}
+use Rattle.sum_table.specs.Exact.{BeginsWith, IsPublished, next_at, position_at, start_marks}
 use Rattle.sum_table.specs.Known.{greater}
 use Rattle.sum_table.specs.Laid.{SameSums}
 use Rattle.sum_table.specs.Players.{PlayerGoes, player_key, player_ring, player_view, track_of}
@@ -45,7 +45,7 @@ pub record Stays (s t : MixSeat) : Type 0 where
   pub ring : ring_of t ≡ ring_of s
   pub key : t.key ≡ s.key
   pub member : t.member ≡ s.member
-  pub cursor : t.cursor ≡ s.cursor
+  pub marks : t.marks ≡ s.marks
   pub seen : t.seen ≡ s.seen
   pub last : t.last ≡ s.last
 
@@ -59,7 +59,7 @@ pub record HasSplit (s t new : MixSeat) (n m : ℕ) : Type 0 where
   pub new_view : view_of new ≡ part_of (view_of s) n
   pub new_member : new.member ≡ m
   pub new_places : new.places ≡ n
-  pub new_cursor : new.cursor ≡ start_of s.key.geometry
+  pub new_marks : new.marks ≡ start_marks s.key.geometry
   pub new_seen : new.seen ≡ s.seen
   pub new_last : new.last ≡ None
 
@@ -71,7 +71,7 @@ pub record HasJoined (s t other : MixSeat) : Type 0 where
   pub member : t.member ≡ s.member
   pub view : view_of t ≡ with_history (both_of (view_of s) (view_of other)) (view_of t).history
   pub places : t.places ≡ s.places + other.places
-  pub cursor : t.cursor ≡ later_of s.cursor other.cursor
+  pub marks : t.marks ≡ joined_marks s.marks other.marks other.places
   pub seen : t.seen ≡ max s.seen other.seen
   pub last : t.last ≡ greater s.last other.last
   pub history : BeginsWith (view_of t).history (view_of s).history
@@ -97,7 +97,7 @@ pub record HasMet (s t : MixSeat) (n : SeatNote) : Type 0 where
   pub view : view_of t ≡ with_history (both_of (view_of s) (note_view n)) (view_of t).history
   pub places : t.places ≡ s.places
   pub laid : (view_of t).laid ≡ (view_of s).laid
-  pub cursor : t.cursor ≡ s.cursor
+  pub marks : t.marks ≡ s.marks
   pub last : t.last ≡ s.last
   pub seen : t.seen ≡ max s.seen (note_seen n)
   pub gone : (view_of t).seen_gone ≡ ((view_of s).seen_gone || (note_view n).seen_gone)

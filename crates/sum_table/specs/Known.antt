@@ -1,13 +1,16 @@
 -- What the fields of a seat say of its view.
 use Rattle.std.specs.Prelude.{◌≡◌, ℕ, ◌<◌, ◌≤◌, Bool, true, false, Option, None, Some, List, [], ◌∷◌, ◌==◌, ◌&&◌, length, max}
 use Rattle.std.specs.List.{list_any, slice_index_or}
+use mathlib.Core.Option.{some}
+use lib.ListN.{get_elem?}
 use Rattle.atomic_table.specs.Seated.{TableId}
 use Rattle.snd_base.specs.declared.places.Cursor.{Cursor}
 use Rattle.snd_base.specs.Places.{IsWithin}
+use Rattle.mix_core.specs.declared.marks.Marks.{Marks}
 use Rattle.mix_core.specs.declared.port.Entry.{Entry}
 use Rattle.sum_table.specs.declared.view.Key.{Key}
 use Rattle.sum_table.specs.declared.view.View.{View}
-use Rattle.sum_table.specs.Exact.{is_tracked, next_at, position_at, the_track}
+use Rattle.sum_table.specs.Exact.{IsLaid, is_tracked, next_at, position_at, the_track}
 use Rattle.sum_table.specs.Steps.{IsWord}
 use Rattle.sum_table.specs.Words.{words_of}
 
@@ -32,18 +35,21 @@ pub record IsNoted (v : View) (k : Key) : Type 0 where
   pub words : (i n : ℕ) → slice_index_or v.noted i None ≡ Some n → IsWord n k.places
 
 -- a mix seat's fields are those of its view
-pub record IsKnown (v : View) (k : Key) (places : ℕ) (cursor : Cursor) (seen : ℕ) (last : Option ℕ) : Type 0 where
+pub record IsKnown (v : View) (k : Key) (places : ℕ) (marks : Marks) (seen : ℕ) (last : Option ℕ) : Type 0 where
   pub same_key : v.key ≡ k
   pub same_places : v.places ≡ places
-  pub same_cursor : v.cursor ≡ cursor
+  pub same_marks : v.marks ≡ marks
   pub same_seen : v.seen ≡ seen
   pub same_last : last_frame v.laid ≡ last
   pub lasts : v.ended ≡ false
   pub untracked : v.track ≡ None
   pub noted : IsNoted v k
-  pub cursor_within : IsWithin k.geometry cursor.frame
+  pub cursor_within : IsWithin k.geometry marks.cursor.frame
+  pub floor_within : IsWithin k.geometry marks.floor.frame
+  pub high_within : IsWithin k.geometry marks.high.frame
   pub seen_within : IsWithin k.geometry seen
   pub places_most : places ≤ k.places
+  pub laid : (i : ℕ) (e : Entry) → get_elem? v.laid i ≡ some e → IsLaid k.geometry v.seen e
 
 -- whether each number of a list stands in another
 abbrev pub has_all : List ℕ → List ℕ → Bool

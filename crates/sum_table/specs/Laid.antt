@@ -1,12 +1,8 @@
 -- What all seats laid, what one member laid, and which places the seats have.
-use Rattle.std.specs.Prelude.{◌≡◌, ℕ, ◌+◌, ◌==◌, List, [], ◌∷◌, ◌++◌, length, filter}
+use Rattle.std.specs.Prelude.{◌≡◌, ℕ, ◌+◌, List, [], ◌∷◌, ◌++◌}
 use Rattle.mix_core.specs.declared.port.Entry.{Entry}
-use Rattle.mix_core.specs.Laid.{at, total}
+pub use Rattle.mix_core.specs.Laid.{count, own, total}
 use Rattle.sum_table.specs.declared.view.View.{View}
-
--- how many samples were laid at a frame and channel
-abbrev pub count : List Entry → ℕ → ℕ → ℕ
-count es f c = length (at es f c)
 
 -- two lists have equally many samples, of one sum, at each frame and channel
 pub record SameSums (xs ys : List Entry) : Type 0 where
@@ -25,8 +21,4 @@ places_of (v ∷ vs) = v.places + places_of vs
 
 -- the entry as that of a member
 abbrev pub by_member : ℕ → Entry → Entry
-by_member m e = record { member = m; frame = e.frame; channel = e.channel; sample = e.sample }
-
--- the entries of one member
-abbrev pub own : ℕ → List Entry → List Entry
-own m es = filter (λ (e : Entry). e.member == m) es
+by_member m e = record { member = m; frame = e.frame; channel = e.channel; sample = e.sample; kind = e.kind }

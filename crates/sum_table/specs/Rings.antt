@@ -2,12 +2,12 @@
 use Rattle.std.specs.Prelude.{◌≡◌, ℕ, Bool, true, false, Option, None, Some}
 use Rattle.snd_base.specs.declared.geometry.Geometry.{Geometry}
 use Rattle.snd_base.specs.Places.{first_frame}
-use Rattle.sum_table.specs.declared.mix.MixSeat.{MixSeat}
-use Rattle.sum_table.specs.declared.player.PlayerSeat.{PlayerSeat}
+use Rattle.sum_table.specs.declared.seats.mix.MixSeat.{MixSeat}
+use Rattle.sum_table.specs.declared.seats.player.PlayerSeat.{PlayerSeat}
 use Rattle.sum_table.specs.declared.ring.SumRing.{SumRing}
 use Rattle.sum_table.specs.declared.view.Key.{Key}
 use Rattle.sum_table.specs.Cuts.{part_of, with_places}
-use Rattle.sum_table.specs.Exact.{first_view, start_of}
+use Rattle.sum_table.specs.Exact.{first_view, start_marks, start_of}
 use Rattle.sum_table.specs.Players.{player_ring, player_view}
 use Rattle.sum_table.specs.Seats.{ring_of, view_of}
 
@@ -41,6 +41,6 @@ pub record HasSeats (k : Key) (p : PlayerSeat) (m : MixSeat) : Type 0 where
   pub gone : p.gone ≡ false
   pub member : m.member ≡ 0
   pub places : m.places ≡ k.places
-  pub cursor : m.cursor ≡ start_of k.geometry
+  pub marks : m.marks ≡ start_marks k.geometry
   pub seen : m.seen ≡ first_frame k.geometry
   pub last : m.last ≡ None

@@ -1,42 +1,58 @@
 -- What each kind of step does to the view of the seat that makes it, and what it tells.
-use Rattle.std.specs.Prelude.{◌≡◌, ◌≢◌, ℕ, ◌+◌, ◌*◌, ◌<◌, ◌≤◌, Bool, true, None, Some, List, [], ◌∷◌, ◌++◌, map, slice_set, ℤ, pos, ◌+ℤ◌, ◌≤ℤ◌, ◌^◌}
+use Rattle.std.specs.Prelude.{◌≡◌, ◌≢◌, ◌⊎◌, ℕ, ◌+◌, ◌*◌, ◌<◌, ◌≤◌, Bool, true, None, Some, List, [], ◌∷◌, ◌++◌, map, slice_set, ℤ, pos, ◌+ℤ◌, ◌≤ℤ◌, ◌^◌}
 use Rattle.std.specs.List.{slice_index_or}
 use mathlib.Core.Option.{some}
 use lib.ListN.{get_elem?}
 use Rattle.atomic_table.specs.Table.{Me, Step}
 use Rattle.snd_base.specs.declared.geometry.Geometry.{Geometry}
-use Rattle.snd_base.specs.Places.{IsFrom, behind, end_frame, first_frame, lap}
+use Rattle.snd_base.specs.Places.{IsFrom, end_frame, first_frame, lap}
 use Rattle.lap_word.specs.Clamp.{clamp_of}
 use Rattle.lap_word.specs.Position.{word_of}
-use Rattle.lap_word.specs.Word.{count_of, lap_of, sum_of}
-use Rattle.mix_core.specs.declared.event.Event.TheVariants.{Add, Take, Publish}
+use Rattle.lap_word.specs.Word.{StandsFor, count_of, lap_of, sum_of}
+use Rattle.mix_core.specs.declared.event.Event.TheVariants.{Add, Withdraw, Take, Publish}
 use Rattle.mix_core.specs.declared.event.Reply.TheVariants.{Late, Took, Published}
 use Rattle.mix_core.specs.declared.event.Taken.{Taken}
+use Rattle.mix_core.specs.declared.marks.Marks.{Marks}
 use Rattle.mix_core.specs.declared.port.Entry.{Entry}
+use Rattle.mix_core.specs.declared.port.Kind.{Kind}
+use Rattle.mix_core.specs.declared.port.Kind.TheVariants.{Added, Withdrawn}
+use Rattle.mix_core.specs.MarkLaws.{free_after}
+use Rattle.mix_core.specs.Marks.{is_before}
 use Rattle.mix_core.specs.History.{AreExact, AreInOrder, IsLegal, IsReply, Row, laid_of, row_of, taken_of}
-use Rattle.mix_core.specs.Laid.{total}
+use Rattle.mix_core.specs.Laid.{marks_after, standing, total, without_last}
 use Rattle.mix_core.specs.Sound.{IsNow}
+use Rattle.sum_table.specs.declared.view.Sighting.{Sighting}
 use Rattle.sum_table.specs.declared.view.Track.{Track}
 use Rattle.sum_table.specs.declared.view.View.{View}
 use Rattle.sum_table.specs.Exact.{BeginsWith, IsPublished, next_at, position_at}
-use Rattle.sum_table.specs.Laid.{SameSums, by_member, own}
+use Rattle.sum_table.specs.Laid.{SameSums, by_member, count, own}
 use Rattle.sum_table.specs.Words.{NotPast, index_of}
 
 -- a seat saw the history so far
 abbrev pub with_history : View → List Row → View
 with_history v h = record v { history = h }
 
--- it noted a word
-abbrev pub with_note : View → List Row → ℕ → ℕ → View
-with_note v h i n = record v { history = h; noted = slice_set v.noted i (Some n) }
+-- a word that was found at an index
+abbrev pub sighting : ℕ → ℕ → Sighting
+sighting i n = record { index = i; word = n }
 
--- it laid an entry
+-- it found a word, and noted it
+abbrev pub with_note : View → List Row → ℕ → ℕ → View
+with_note v h i n = record v { history = h; sightings = v.sightings ++ sighting i n ∷ []; noted = slice_set v.noted i (Some n) }
+
+-- what may still be withdrawn after one more entry
+abbrev pub freed : Kind → Marks → List Entry → Entry → List Entry
+freed Added m free e = free_after (is_before m.cursor m.high) free e
+freed Withdrawn m free e = without_last free
+
+-- it laid an entry: it added a sample, or withdrew it
 abbrev pub with_entry : View → List Row → Entry → View
 with_entry v h e = record v {
   history = h;
   laid = v.laid ++ e ∷ [];
   mine = v.mine ++ e ∷ [];
-  cursor = behind v.key.geometry e.frame e.channel;
+  marks = marks_after v.key.geometry v.marks e;
+  free = freed e.kind v.marks v.free e;
 }
 
 -- it saw a position
@@ -84,35 +100,57 @@ pub record IsStep (v w : View) (by members : ℕ) (between rows : List Row) : Ty
 abbrev pub Makes : View → View → (ℕ → List Row) → Type 0
 Makes v w rows = (by : ℕ) × (members : ℕ) × (between : List Row) × IsStep v w by members between (rows by)
 
+-- a seat's last standing add is a sample at a frame and channel that are not before its floor
+pub record HoldsLast (v : View) (f c : ℕ) (s : ℤ) : Type 0 where
+  pub early : List Entry
+  pub last : Entry
+  pub ends : standing v.laid ≡ early ++ last ∷ []
+  pub frame : last.frame ≡ f
+  pub channel : last.channel ≡ c
+  pub sample : last.sample ≡ s
+  pub from_floor : IsFrom v.marks.floor f c
+
+-- a seat may add there, or withdraw
+abbrev pub MayStand : View → ℕ → ℕ → Type 0
+MayStand v f c = ((0 < v.places) × IsFrom v.marks.cursor f c) ⊎ ((s : ℤ) × HoldsLast v f c s)
+
 -- a word of a later lap stands where a seat could still have added, as far as it knows
 pub record IsLateAt (v : View) (i n f c : ℕ) : Type 0 where
   pub index : index_of v.key.geometry f c ≡ i
   pub channel : c < v.key.geometry.channels
-  pub from_cursor : IsFrom v.cursor f c
+  pub from_cursor : IsFrom v.marks.cursor f c
   pub ahead : f < v.seen + v.key.geometry.frames
   pub past : lap v.key.geometry f < lap_of n
 
+-- or where it could still have withdrawn a sample
+pub record IsLateHeld (v : View) (i n f c : ℕ) (s : ℤ) : Type 0 where
+  pub index : index_of v.key.geometry f c ≡ i
+  pub holds : HoldsLast v f c s
+  pub past : lap v.key.geometry f < lap_of n
+
 -- a step that finds a word: where the word's lap is past the frame's, it is an add with the reply `Late`, whatever the
--- sample; else it is no event. An add that is late changes nothing, and isn't kept in the history
+-- sample, or a withdrawal of the seat's last standing add; else it is no event. What is late changes nothing, and isn't kept
+-- in the history
 abbrev pub MakesLook : View → View → ℕ → ℕ → Type 0
 MakesLook v w i n =
     (by : ℕ) × (members : ℕ) × (between : List Row)
     × IsStep v w by members between []
     × ((f c : ℕ) (x : ℤ) → IsLateAt v i n f c → IsReply v.key.geometry members w.history (Add by f c x, Late))
+    × ((f c : ℕ) (x : ℤ) → IsLateHeld v i n f c x → IsReply v.key.geometry members w.history (Withdraw by f c x, Late))
 
 -- a word has a count up to a number, and no greater sum than so many samples give
 pub record IsWord (w most : ℕ) : Type 0 where
   pub fits : w < 2 ^ 64
-  pub few : count_of w ≤ most
+  pub few : count_of w ≤ 3 * most
   pub low : pos 0 ≤ℤ (sum_of w +ℤ pos (32768 * count_of w))
-  pub high : sum_of w ≤ℤ pos (32767 * count_of w)
+  pub high : sum_of w ≤ℤ pos (32768 * count_of w)
 
 -- what a word that was found tells of a frame and channel: the lap isn't behind the frame's, below the position seen it is
 -- past it, and at the frame's own lap there is room for all places of a seat that hasn't added there
 pub record Tells (v : View) (n f c : ℕ) : Type 0 where
   pub not_before : lap v.key.geometry f ≤ lap_of n
   pub late : f < v.seen → lap v.key.geometry f < lap_of n
-  pub room : lap_of n ≡ lap v.key.geometry f → IsFrom v.cursor f c → count_of n + v.places ≤ v.key.places
+  pub room : lap_of n ≡ lap v.key.geometry f → MayStand v f c → count_of n < 3 * v.key.places
 
 -- what a word that was found is
 pub record Finds (v : View) (i n : ℕ) : Type 0 where
@@ -131,12 +169,18 @@ located s m n r =
     × (m.0.seen_gone ≡ true → gone ≡ true)
     × Makes m.0 (with_position m.0 h p gone) (λ _. [])
 
+-- a word stands for what a history laid at a frame and channel, where it has the frame's lap: the number of the samples there
+-- and their sum
+abbrev pub IsSumOf : Geometry → List Row → ℕ → ℕ → ℕ → Type 0
+IsSumOf g h f c n = lap_of n ≡ lap g f → StandsFor n (lap g f) (count (laid_of h) f c) (total (laid_of h) f c)
+
 -- a word was found, and nothing else happened
 abbrev pub Notes : View → List (ℕ × Entry) → ℕ → ℕ → Me Entry View → Type 0
 Notes v c i n r =
     (h : List Row)
     × (r ≡ (with_note v h i n, c))
     × MakesLook v (with_note v h i n) i n
+    × ((f c : ℕ) → index_of v.key.geometry f c ≡ i → c < v.key.geometry.channels → IsSumOf v.key.geometry h f c n)
 
 abbrev pub looked : Step Entry → Me Entry View → ℕ → Me Entry View → Type 0
 looked s m n r = Finds m.0 s.word n × Notes m.0 m.1 s.word n r

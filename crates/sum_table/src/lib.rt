@@ -2,27 +2,20 @@
 //! a rule that holds between any two atomic steps.
 #![tactic(auto)]
 
-mod join;
 mod laws;
-mod mix;
-mod note;
-mod parts;
 mod place;
-mod player;
-mod plays;
 mod port;
 mod ring;
 mod rule;
+mod seats;
 mod view;
+mod withdraw;
 
-pub use join::Closed;
 pub use laws::late_adds_change_nothing;
-pub use mix::MixSeat;
-pub use note::SeatNote;
-pub use player::PlayerSeat;
 pub use ring::SumRing;
 pub use rule::Exactly;
-pub use view::{Key, Track, View};
+pub use seats::{Closed, MixSeat, PlayerSeat, SeatNote};
+pub use view::{Key, Sighting, Track, View};
 
 #[cfg(test)]
 mod tests;

@@ -1,5 +1,5 @@
 //! A mix seat is a port.
-use crate::mix::MixSeat;
+use crate::seats::MixSeat;
 use mix_core::{Gate, MixPort, Placed, Position, StepKind, ask};
 use snd_base::{Cursor, Geometry, PcmError};
 use std::marker::Brand;
@@ -7,25 +7,35 @@ use std::sync::ledger::Blank;
 
 impl MixPort for MixSeat<'_> {
     ghost use Rattle.snd_base.specs.Relations.{Composes-none_after, Composes-none_before};
-    ghost use Rattle.sum_table.specs.Seats.{CanAdd, MakesLate, SeatLaid, SeatLaid-composes, SeatLoaded, SeatLoaded-composes, cursor_of_seat, geometry_of, member_of, seen_of, shown};
+    ghost use Rattle.sum_table.specs.Seats.{SeatEndsIn, SeatEndsIn-back, SeatEndsIn-laid, SeatEndsIn-nothing, SeatEndsIn-part, SeatFinds, SeatLaid, SeatLaid-composes, SeatLaid-shows, SeatLoaded, SeatLoaded-composes, seat_view, shown};
 
-    ghost geometry = { geometry_of };
+    ghost view = { seat_view };
 
-    ghost member = { member_of };
+    ghost shows = { shown };
 
-    ghost cursor = { cursor_of_seat };
-
-    ghost seen = { seen_of };
-
-    ghost can_add = { CanAdd };
+    ghost ends_in = { SeatEndsIn };
 
     ghost laid = { SeatLaid };
 
     ghost loaded = { SeatLoaded };
 
-    ghost shows = { shown };
+    ghost finds = { SeatFinds };
 
-    ghost missed = { MakesLate };
+    ghost laid_marks = { λ p q es laid. laid.marks };
+
+    ghost shown_laid = { SeatLaid-shows };
+
+    ghost loaded_rising = { λ p q ps loaded. loaded.rising };
+
+    ghost loaded_last = { λ p q ps loaded. loaded.last };
+
+    ghost ends_in_part = { SeatEndsIn-part };
+
+    ghost held_laid = { SeatEndsIn-laid };
+
+    ghost held_nothing = { SeatEndsIn-nothing };
+
+    ghost held_back = { SeatEndsIn-back };
 
     ghost laid_composes = { SeatLaid-composes };
 
@@ -47,8 +57,16 @@ impl MixPort for MixSeat<'_> {
         self.member
     }
 
+    fn can_add(&self) -> bool {
+        self.places > 0
+    }
+
     fn cursor(&self) -> Cursor {
-        self.cursor
+        self.marks.cursor
+    }
+
+    fn floor(&self) -> Cursor {
+        self.marks.floor
     }
 
     fn seen(&self) -> u64 {
@@ -68,5 +86,15 @@ impl MixPort for MixSeat<'_> {
         sample: i16,
     ) -> Result<Placed, PcmError> {
         self.place_at::<G, Brand>(gate, frame, channel, sample, Blank::new(1))
+    }
+
+    fn withdraw<G: Gate>(
+        &mut self,
+        gate: &mut G,
+        frame: u64,
+        channel: u8,
+        sample: i16,
+    ) -> Result<Placed, PcmError> {
+        self.withdraw_at::<G, Brand>(gate, frame, channel, sample, Blank::new(1))
     }
 }

@@ -4,14 +4,12 @@ ghost use Rattle.std.specs.Option.{ForSome};
 ghost use Rattle.sum_table.specs.Exact.{IsFirst};
 ghost use Rattle.sum_table.specs.Words.{words_of};
 
-use crate::mix::MixSeat;
-use crate::parts::Deal;
-use crate::player::PlayerSeat;
 use crate::rule::{Exactly, Seat};
+use crate::seats::{MixSeat, PlayerSeat, deal};
 use crate::view::{Key, View};
 use atomic_table::Table;
 use mix_core::Entry;
-use snd_base::{Cursor, Geometry, PcmError};
+use snd_base::{Geometry, PcmError};
 use std::alloc::Global;
 
 /// The ring in which the samples of all clients are summed, between threads, as ALSA's dmix plugin sums them (alsa-lib,
@@ -60,34 +58,10 @@ impl SumRing {
         requires { GaveNone self.old }
         ensures { HasSeats (key_of_ring self.old) result.0 result.1 }
     {
-        let Some(mut seat) = self.first.take() else {
+        let Some(first) = self.first.take() else {
             unreachable!()
         };
         let key = self.key;
-        let first = Cursor {
-            frame: key.geometry.first_frame(),
-            channel: 0,
-        };
-        let ring = &self.table.shared;
-        let mix = ring.split_seat::<Deal>(&mut seat);
-        let player = PlayerSeat {
-            ring,
-            seat,
-            key,
-            next: first,
-            position: first.frame,
-            gone: false,
-        };
-        let mix = MixSeat {
-            ring,
-            seat: mix,
-            key,
-            member: 0,
-            places: key.places,
-            cursor: first,
-            seen: first.frame,
-            last: None,
-        };
-        (player, mix)
+        deal(&self.table.shared, first, key)
     }
 }

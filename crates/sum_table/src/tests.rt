@@ -1,6 +1,9 @@
 ghost use Rattle.std.specs.Prelude.{◌≡◌, ◌+◌, ◌<◌, ◌≤◌, Some, IfOk, IfErr};
 ghost use Rattle.sum_table.specs.Rings.{GaveNone, key_of_ring};
-ghost use Rattle.sum_table.specs.Seats.{CanAdd, Goes, shown};
+ghost use Rattle.std.specs.Prelude.{[], ◌∷◌, Ok};
+ghost use Rattle.mix_core.specs.Laid.{an_add};
+ghost use Rattle.mix_core.specs.Port.{OnWhole, ended_of};
+ghost use Rattle.sum_table.specs.Seats.{CanAdd, Goes, SeatLaid, member_of, shown};
 
 mod threads;
 
@@ -31,11 +34,13 @@ fn new_ring(alloc: Global, channels: u8, places: u32) -> Result<SumRing, Fail>
 }
 
 // Places a sample where the seat may, as seen at run time.
+#[tactic(auto, using(crate::proofs::Going::stays))]
 fn try_place(seat: &mut MixSeat<'_>, frame: u64, channel: u8, sample: i16) -> Result<Placed, Fail>
     ensures goes { Goes seat.old seat.new }
+    ensures laid { IfOk result (λ placed. OnWhole (ended_of (Ok placed)) (SeatLaid seat.old seat.new (an_add (member_of seat.old) frame channel sample ∷ []))) }
 {
     let geometry = seat.geometry();
-    if seat.places() == 0 || channel >= geometry.channels {
+    if !seat.can_add() || channel >= geometry.channels || geometry.lap(frame) >= 4294967295 {
         return Err("no place".into());
     }
     let ahead = seat.seen() + geometry.frames as u64;
@@ -43,6 +48,17 @@ fn try_place(seat: &mut MixSeat<'_>, frame: u64, channel: u8, sample: i16) -> Re
         return Err("outside".into());
     }
     Ok(seat.place(&mut NeverStops, frame, channel, sample)?)
+}
+
+// Places a sample and withdraws it again, where the seat may, as seen at run time.
+fn place_and_withdraw(seat: &mut MixSeat<'_>, frame: u64, sample: i16) -> Result<Placed, Fail> {
+    let Placed::In = try_place(seat, frame, 0, sample)? else {
+        return Err("late".into());
+    };
+    if frame < seat.floor().first_free(0) {
+        return Err("before the floor".into());
+    }
+    Ok(seat.withdraw(&mut NeverStops, frame, 0, sample)?)
 }
 
 // Exchanges a word that the seat noted, where it may, as seen at run time.
@@ -118,6 +134,43 @@ fn a_place_at_a_taken_frame_is_late(rt: HostRuntime) -> Result<(), Fail> {
     assert_eq!(rt; a.last(), None);
     player.unplug();
     assert!(rt; a.position(&mut NeverStops)?.gone);
+    Ok(())
+}
+
+fn lay_anew<L: Ledger, A: Abort>(rt: &A, alloc: Global, blank: Blank) -> Result<(), Fail>
+    requires name { blank.name ≡ L.name }
+    requires parts { blank.parts ≡ L.parts }
+    requires some { 0 < blank.parts }
+{
+    let mut steps: Steps<L> = Steps::open(blank);
+    let mut ring = new_ring(alloc, 1, 1)?;
+    let (mut player, mut a) = ring.seats();
+    assert_eq!(rt; place_and_withdraw(&mut a, 0, 30000)?, Placed::In);
+    assert_eq!(rt; try_place(&mut a, 0, 0, 7)?, Placed::In);
+    assert_eq!(rt; a.load_word(0, 0, &mut steps), 58720263);
+    assert_eq!(rt; player.take_word()?.value, 7);
+    Ok(())
+}
+
+// A sample that is placed, withdrawn and placed anew is three changes of one word, and the last sample is played.
+#[test]
+fn a_withdrawn_sample_is_placed_anew(rt: HostRuntime) -> Result<(), Fail> {
+    lay_anew::<Brand, _>(&rt, rt.alloc(), Blank::new(1))
+}
+
+// The largest ring is made where there is memory for it, and its last word is laid.
+#[test]
+fn the_largest_ring_is_made(rt: HostRuntime) -> Result<(), Fail> {
+    let geometry = Geometry {
+        frames: 16384,
+        channels: 8,
+        first_lap: 0,
+    };
+    let mut ring = SumRing::new(rt.alloc(), geometry, 64)?;
+    let (mut player, mut seat) = ring.seats();
+    assert_eq!(rt; seat.places(), 64);
+    assert_eq!(rt; try_place(&mut seat, 16383, 7, 5)?, Placed::In);
+    assert_eq!(rt; player.take_word()?.value, 0);
     Ok(())
 }
 

@@ -28,6 +28,9 @@ pub(super) const STEREO: &[u8] =
 const THREE: &[u8] =
     b"WAVEfmt \x10\x00\x00\x00\x01\x00\x03\x00\x80\xbb\x00\x00\x00\x65\x04\x00\x06\x00\x10\x00";
 
+const EIGHT: &[u8] =
+    b"WAVEfmt \x10\x00\x00\x00\x01\x00\x08\x00\x80\xbb\x00\x00\x00\xb8\x0b\x00\x10\x00\x10\x00";
+
 // one channel behind a LIST chunk of three bytes and its pad byte,
 const LISTED: &[u8] =
     b"WAVELIST\x03\x00\x00\x00abc\x00fmt \x10\x00\x00\x00\x01\x00\x01\x00\x80\xbb\x00\x00\x00\x77\x01\x00\x02\x00\x10\x00";
@@ -44,7 +47,48 @@ const WIDE: &str = "card channels 3 rate 48000 period 64 ring 256";
 
 const OPENED: &str = "ok PREPARED -";
 
-pub(super) const SESSIONS: [Session<'static>; 20] = [
+pub(super) const SESSIONS: [Session<'static>; 21] = [
+    // Eight channels, each bound to the card's of the opposite number, in a ring of 16,384 frames.
+    Session {
+        name: "eight channels",
+        card: "card channels 8 rate 48000 period 64 ring 16384",
+        clients: &[("a", "a.wav bindings 7,6,5,4,3,2,1,0", OPENED)],
+        phases: &[
+            &[("a write 2", "2 RUNNING 0")],
+            &[("card play 128", "128 RUNNING 128")],
+        ],
+        tail: &["segment a 0 64 2 0", "played 0 128"],
+        wavs: &[(
+            "a.wav",
+            EIGHT,
+            &[
+                (1, 1),
+                (1, 2),
+                (1, 3),
+                (1, 4),
+                (1, 5),
+                (1, 6),
+                (1, 7),
+                (1, 8),
+                (8, -9),
+            ],
+        )],
+        head: EIGHT,
+        played: &[
+            (512, 0),
+            (1, 8),
+            (1, 7),
+            (1, 6),
+            (1, 5),
+            (1, 4),
+            (1, 3),
+            (1, 2),
+            (1, 1),
+            (8, -9),
+            (496, 0),
+        ],
+    },
+
     // One client, whose frames stand one period behind the position at which it began.
     Session {
         name: "one write",

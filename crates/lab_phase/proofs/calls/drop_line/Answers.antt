@@ -9,4 +9,4 @@ pub returns : goal.returns
 returns c = λ members p wav own h t is at stands.
     let call = c.drop_pending-answer.ensures in
     subst (λ (x : Answer). HasCalled members p wav own op.Drop c.drop_pending-answer.new.self t t x) (let e = c.done.ensures in cc)
-    (drop-line members p wav own h c.args.client.now c.drop_pending-answer.new.self t c.drop_pending-answer.result is at stands call.refused call.dropped c.counts_are_sound.ensures)
+    (drop-line members p wav own c.args.client.now c.drop_pending-answer.new.self t c.drop_pending-answer.result is at call.refused call.dropped)

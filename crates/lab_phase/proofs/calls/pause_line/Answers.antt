@@ -9,4 +9,4 @@ pub returns : goal.returns
 returns c = λ members p wav own h t is at stands.
     let call = c.pause-answer.ensures in
     subst (λ (x : Answer). HasCalled members p wav own op.Pause c.pause-answer.new.self t t x) (let e = c.done.ensures in cc)
-    (pause-line members p wav own h c.args.client.now c.pause-answer.new.self t c.pause-answer.result is at stands call.answer call.unchanged c.counts_are_sound.ensures)
+    (pause-line members p wav own c.args.client.now c.pause-answer.new.self t c.pause-answer.result is at call.answer call.unchanged)

@@ -1,4 +1,4 @@
-use Rattle.std.proofs.Common.{◌≡◌, ℕ, ◌≤◌, ◌*◌, List, ap, arith, drop, length, subst, sym, take, ◌∙◌}
+use Rattle.std.proofs.Common.{◌≡◌, ℕ, ◌≤◌, ◌*◌, List, refl, ap, arith, drop, length, subst, sym, take, ◌∙◌}
 use Rattle.std.proofs.lemmas.Bool.Decides.{nat_tests}
 use Rattle.std.specs.Prelude.{ℤ, ◌-◌, min}
 use Rattle.dmix_client.specs.declared.plain.Plain.{Plain}
@@ -9,7 +9,7 @@ use Rattle.lab_script.specs.declared.line.Op.TheVariants as op
 use Rattle.lab_phase.specs.Lines.{frames_of}
 use Rattle.lab_phase.specs.Seats.{HasCalled}
 use Rattle.lab_phase.proofs.Offering.{Offers, Offers-IsOffer, slice-Offers}
-use Rattle.lab_phase.proofs.WriteLine.{write-line}
+use Rattle.lab_phase.proofs.CallLines.{write-called}
 use Rattle.lab_phase.proofs.calls.write_line.Goals as goal
 
 -- the frames that are offered, of the client's own count of frames
@@ -36,6 +36,6 @@ returns c = λ members p own h is at stands.
     (sym (offered wav plain c.next_frames-offer.result.now c.fed.result c.args.frames c.fed.ensures c.next_frames-offer.ensures.frames))
     (slice-Offers wav plain n some c.requires.channels (let fed = c.requires.fed in grind (arith, nat_tests))) in
     subst (λ (x : Answer). HasCalled members p wav own (op.Write c.args.frames) c.writei-answer.new.self c.args.port.now c.writei-answer.new.port x) (let e = c.accepted.ensures in cc)
-    (write-line members p wav own h c.args.client.now c.writei-answer.new.self c.args.port.now c.writei-answer.new.port c.writei-answer.result c.args.frames c.next_frames-offer.result.now
-    is at stands offers c.counts_are_sound.ensures call.refused
-    (record { stores = call.stores; fills = call.fills; starts = call.starts; steps = call.steps; told = λ admitted _. call.told admitted }) c.counts_are_sound-2.ensures call.port)
+    (write-called _ _ (record { laid = λ t u es laid. laid; loaded = λ t u ps loaded. loaded; finds = λ t u e ended words found. found; stops = λ g. refl }) (λ t. refl)
+    members p wav own c.args.client.now c.writei-answer.new.self c.args.port.now c.writei-answer.new.port _ _ is at
+    c.args.frames c.next_frames-offer.result.now c.writei-answer.result offers c.counts_are_sound.ensures.fed call.takes call.keeps)

@@ -8,4 +8,4 @@ overflow_add-body c = omega (arith, c.requires.can.0)
 pub returns-clause-ok : goal.returns-clause-ok
 returns-clause-ok c = λ script wavs line is_op is_actor settled.
     HasRun-card script wavs c.args.phase c.args.frames line _ _ is_op is_actor settled
-    c.in_ok-play.ensures.rests c.in_ok-play.ensures.cursors c.in_ok-play.ensures.mixes refl refl c.in_ok-push.ensures.items
+    c.in_ok-play.ensures.rests c.in_ok-play.ensures.marks c.in_ok-play.ensures.mixes refl refl c.in_ok-push.ensures.items

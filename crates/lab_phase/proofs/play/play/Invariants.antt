@@ -6,7 +6,7 @@ use Rattle.lab_phase.proofs.play.play.Given as goal
 abbrev pub invariant-loop-frame : goal.invariant-loop-frame
 invariant-loop-frame l = record {
   geometry : l.core.geometry ≡ l.fn.core.geometry;
-  cursors : l.core.cursors ≡ l.fn.core.cursors;
+  marks : l.core.marks ≡ l.fn.core.marks;
   position : l.core.position ≡ l.fn.core.position;
   gone : l.core.gone ≡ l.fn.core.gone;
   next : l.core.next ≡ record { frame = l.fn.core.next.frame + l._frame; channel = 0 };

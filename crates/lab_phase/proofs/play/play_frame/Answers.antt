@@ -17,7 +17,7 @@ loop-channel-preserved c =
     let items : c.push.new.self.items ≡ c.loop-channel.played.items ++ c.in_ok-taken.taken.value ∷ [] = c.in_ok-push.ensures.items ∙ ap (λ (v : ℤ). c.loop-channel.played.items ++ v ∷ []) (to_z-of_z fits) in
     record {
       geometry = step.geometry ∙ before.geometry;
-      cursors = step.cursors ∙ before.cursors;
+      marks = step.marks ∙ before.marks;
       position = step.position ∙ before.position;
       gone = step.gone ∙ before.gone;
       next = step.next ∙ behind-channel core.geometry core.next c.args.core.now.next.frame c.loop-channel._channel c.args.core.now.geometry.channels channels within before.next;

@@ -6,7 +6,7 @@ use Rattle.lab_phase.proofs.play.play_frame.Given as goal
 abbrev pub invariant-loop-channel : goal.invariant-loop-channel
 invariant-loop-channel l = record {
   geometry : l.core.geometry ≡ l.fn.core.geometry;
-  cursors : l.core.cursors ≡ l.fn.core.cursors;
+  marks : l.core.marks ≡ l.fn.core.marks;
   position : l.core.position ≡ l.fn.core.position;
   gone : l.core.gone ≡ l.fn.core.gone;
   next : l.core.next ≡ (if nat_lt l._channel l.fn.core.geometry.channels then record { frame = l.fn.core.next.frame; channel = l._channel } else record { frame = l.fn.core.next.frame + 1; channel = 0 });

@@ -1,55 +1,31 @@
-use Rattle.dmix_client.proofs.CausedBy.{IsCaused-synced, step-sync, caused-number}
-use Rattle.dmix_client.specs.Causes.{IsCaused}
-use Rattle.dmix_client.proofs.Growth.{Grows-none}
-use Rattle.dmix_client.specs.Growth.{StandsFor}
-use Rattle.std.proofs.Common.{◌∙◌, ℕ, List, ap, length, subst, sym, refl}
-use Rattle.std.specs.Prelude.{ℤ}
+use Rattle.std.proofs.Common.{rules, subst}
+use Rattle.std.specs.Prelude.{List, ℤ}
 use Rattle.pcm_states.specs.declared.calls.Call.TheVariants as call
-use Rattle.dmix_client.specs.Calls.{delay_answer, sync_count, synced, with_number, Answered}
-use Rattle.dmix_client.specs.Port.{TakesStep, entries_at}
+use Rattle.course.specs.AtPort.{TakesAt}
+use Rattle.dmix_client.specs.Calls.{delay_answer, sync_count, synced, with_number}
+use Rattle.dmix_client.specs.Causes.{Explains}
+use Rattle.dmix_client.specs.Course.{admitted, number_course, syncs}
 use Rattle.dmix_client.specs.View.{ClientView}
+use Rattle.dmix_client.proofs.CausedBy.{step-sync}
+use Rattle.dmix_client.proofs.Grown.{configured-moving}
+use Rattle.dmix_client.proofs.Keeping.{Explains-number, client, syncs-explained}
+use Rattle.dmix_client.proofs.Looking.{admitted-ok, number-moving}
 use Rattle.dmix_client.proofs.client.Client.delay.Goals as goal
 
-pub returns-clause-steps : goal.returns-clause-steps
-returns-clause-steps g c admitted moves =
-    let port = g.P.MixPort in
-    let now = c.sync_call-stepped.ensures in
-    let found = c.sync_call-stepped.result.found in
+pub returns-clause-takes : goal.returns-clause-takes
+returns-clause-takes g c =
     let plain = c.self.inside.plain in
-    let before = c.args.port.now in
-    let after = c.sync_call-stepped.new.port in
     let ring : List ℤ = c.self.inside.ring.items in
-    let stops = g.G.Gate.stops c.args.gate.now in
-    let stops_after = g.G.Gate.stops c.sync_call-stepped.new.gate in
-    let laid : port.laid before after (entries_at found.load (λ position. plain) ring found.commit) =
-    subst (λ (samples : List ℤ). port.laid before after (entries_at found.load (λ position. plain) samples found.commit)) c.as_slice-ring.ensures.value now.laid in
-    subst
-    (λ (v : ClientView). TakesStep {T = ℕ} port.laid port.loaded port.geometry port.shows before after stops stops_after v.ring (λ position. v.plain) (sync_count v.plain) (length v.plain.bindings) (λ load commit. with_number delay_answer (synced v.plain call.Sync load commit)) (c.sync_call-stepped.new.plain, c.with_delay.result))
-    c.self.view_is
-    (record { load = found.load; commit = found.commit; found = now.found; outcome = ap (with_number delay_answer) now.outcome ∙ c.with_delay.ensures; loaded_them = now.loaded; laid_them = laid; shown = now.shown; told = now.told })
-
-pub returns-in_err-admit-clause-grows : goal.returns-in_err-admit-clause-grows
-returns-in_err-admit-clause-grows g c samples stands =
-    Grows-none g.P.MixPort.laid g.met.P.MixPort.laid_composes c.args.port.now c.args.port.now c.args.self.now.plain c.args.self.now.plain samples refl refl refl refl
-
-pub returns-then-not-is_moving-clause-grows : goal.returns-then-not-is_moving-clause-grows
-returns-then-not-is_moving-clause-grows g c samples stands =
-    Grows-none g.P.MixPort.laid g.met.P.MixPort.laid_composes c.args.port.now c.args.port.now c.args.self.now.plain c.args.self.now.plain samples refl refl refl refl
-
-pub returns-clause-stands : goal.returns-clause-stands
-returns-clause-stands g c samples stands =
-    let plain = c.self.inside.plain in
-    let before : StandsFor plain c.self.inside.ring.items samples = subst (λ (v : ClientView). StandsFor v.plain v.ring samples) (sym c.self.view_is) stands in
-    let here = subst (λ (ring : List ℤ). StandsFor plain ring samples) (sym c.as_slice-ring.ensures.value) before in
-    subst (λ (ring : List ℤ). StandsFor c.sync_call-stepped.new.plain ring samples) c.as_slice-ring.ensures.value (c.sync_call-stepped.ensures.stands samples here)
+    subst (λ (v : ClientView). TakesAt g.P.MixPort g.G.Gate (c.args.port.now, c.args.gate.now) (admitted v.plain call.Sync (number_course delay_answer v.plain v.ring)) (c.sync_call-answer.new.port, c.sync_call-answer.new.gate) (c.sync_call-answer.new.plain, c.with_delay.result)) c.self.view_is
+    (admitted-ok g.P.MixPort g.G.Gate (c.args.port.now, c.args.gate.now) (c.sync_call-answer.new.port, c.sync_call-answer.new.gate) plain call.Sync (number_course delay_answer plain ring) (c.sync_call-answer.new.plain, c.with_delay.result) c.admit.result c.admit.ensures c.in_ok-admit.was
+    (number-moving g.P.MixPort g.G.Gate (c.args.port.now, c.args.gate.now) (c.sync_call-answer.new.port, c.sync_call-answer.new.gate) delay_answer plain ring (c.sync_call-answer.new.plain, c.sync_call-answer.result) (c.sync_call-answer.new.plain, c.with_delay.result) (search rules)
+    (subst (λ (r : List ℤ). TakesAt g.P.MixPort g.G.Gate (c.args.port.now, c.args.gate.now) (syncs plain call.Sync r) (c.sync_call-answer.new.port, c.sync_call-answer.new.gate) (c.sync_call-answer.new.plain, c.sync_call-answer.result)) c.as_slice-ring.ensures.value c.sync_call-answer.ensures.takes) c.with_delay.ensures))
 
 pub returns-clause-causes : goal.returns-clause-causes
 returns-clause-causes g c admitted moves =
-    let port = g.P.MixPort in
-    let before = c.args.port.now in
-    let after = c.sync_call-stepped.new.port in
-    let plain = c.args.self.now.plain in
-    let takes = returns-clause-steps g c admitted moves in
-    let why = IsCaused-synced port.loaded port.geometry port.shows before after plain call.Sync takes.load takes.commit (step-sync c.args.self.now.plain.state moves) takes.found takes.loaded_them takes.shown in
-    subst (λ (a : Answered ℕ). IsCaused {T = ℕ} port.loaded port.geometry port.shows before after plain a.0 a.1) takes.outcome
-    (caused-number port.loaded port.geometry port.shows before after plain delay_answer (synced plain call.Sync takes.load takes.commit) why)
+    let plain = c.self.inside.plain in
+    subst (λ (v : ClientView). Explains g.P.MixPort g.G.Gate (c.args.port.now, c.args.gate.now) (c.sync_call-answer.new.port, c.sync_call-answer.new.gate) v (λ position. v.plain) (sync_count v.plain) (λ load commit. with_number delay_answer (synced v.plain call.Sync load commit)) (c.sync_call-answer.new.plain, c.with_delay.result)) c.self.view_is
+    (subst (λ (r : List ℤ). Explains g.P.MixPort g.G.Gate (c.args.port.now, c.args.gate.now) (c.sync_call-answer.new.port, c.sync_call-answer.new.gate) (client plain r) (λ position. plain) (sync_count plain) (λ load commit. with_number delay_answer (synced plain call.Sync load commit)) (c.sync_call-answer.new.plain, c.with_delay.result)) c.as_slice-ring.ensures.value
+    (Explains-number g.P.MixPort g.G.Gate g.met.P.MixPort.laid_composes g.met.P.MixPort.loaded_composes (c.args.port.now, c.args.gate.now) (c.sync_call-answer.new.port, c.sync_call-answer.new.gate) (client plain c.as_slice-ring.result.now) (λ position. plain) (sync_count plain) (synced plain call.Sync) delay_answer (c.sync_call-answer.new.plain, c.sync_call-answer.result) (c.sync_call-answer.new.plain, c.with_delay.result) c.with_delay.ensures
+    (syncs-explained g.P.MixPort g.G.Gate g.met.P.MixPort.laid_composes g.met.P.MixPort.loaded_composes (c.args.port.now, c.args.gate.now) (c.sync_call-answer.new.port, c.sync_call-answer.new.gate) plain c.as_slice-ring.result.now call.Sync (c.sync_call-answer.new.plain, c.sync_call-answer.result)
+    (configured-moving plain c.self.inside.ring.items c.self.invariant (search rules)).bound (step-sync plain.state (search rules)) c.sync_call-answer.ensures.takes)))

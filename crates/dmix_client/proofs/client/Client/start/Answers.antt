@@ -1,47 +1,35 @@
-use Rattle.dmix_client.proofs.CausedStart.{IsCaused-started, start-prepared}
-use Rattle.dmix_client.specs.Causes.{IsCaused}
-use Rattle.dmix_client.proofs.Growth.{Grows-none}
-use Rattle.std.proofs.Common.{List, length, subst, refl}
-use Rattle.std.specs.Prelude.{ℤ}
-use Rattle.pcm_states.specs.declared.states.State.TheVariants.{Running}
-use Rattle.dmix_client.specs.Calls.{start_count, started, started_in, Answered}
-use Rattle.dmix_client.specs.Port.{TakesStep, entries_at}
+use Rattle.std.proofs.Common.{rules, ◌≡◌, refl, subst, sym}
+use Rattle.std.specs.Prelude.{List, ℤ}
+use Rattle.pcm_states.specs.declared.states.State.TheVariants.{Prepared, Running}
+use Rattle.course.specs.AtPort.{TakesAt}
+use Rattle.dmix_client.specs.Calls.{start_count, started, started_in}
+use Rattle.dmix_client.specs.Causes.{Explains}
+use Rattle.dmix_client.specs.Course.{starts}
+use Rattle.dmix_client.specs.Port.{CanUse}
 use Rattle.dmix_client.specs.View.{ClientView}
+use Rattle.dmix_client.proofs.Grown.{configured-prepared}
+use Rattle.dmix_client.proofs.Keeping.{start-kept, starts-explained}
 use Rattle.dmix_client.proofs.client.Client.start.Goals as goal
 
-pub returns-clause-steps : goal.returns-clause-steps
-returns-clause-steps g c admitted some =
-    let port = g.P.MixPort in
-    let now = c.begin.ensures in
-    let found = c.begin.result.found in
+pub returns-clause-keeps : goal.returns-clause-keeps
+returns-clause-keeps g c =
     let plain = c.self.inside.plain in
-    let before = c.args.port.now in
-    let cursor = port.cursor before in
-    let after = c.begin.new.port in
     let ring : List ℤ = c.self.inside.ring.items in
-    let stops = g.G.Gate.stops c.args.gate.now in
-    let stops_after = g.G.Gate.stops c.begin.new.gate in
-    let laid : port.laid before after (entries_at found.load (λ position. started_in plain Running position cursor) ring found.commit) =
-    subst (λ (samples : List ℤ). port.laid before after (entries_at found.load (λ position. started_in plain Running position cursor) samples found.commit)) c.as_slice-ring.ensures.value now.laid in
-    subst
-    (λ (v : ClientView). TakesStep {T = Unit {0}} port.laid port.loaded port.geometry port.shows before after stops stops_after v.ring (λ position. started_in v.plain Running position cursor) (λ position. start_count v.plain cursor position v.plain.written) (length v.plain.bindings) (started v.plain Running cursor) (c.begin.new.plain, c.begin.result.answer))
-    c.self.view_is
-    (record { load = found.load; commit = found.commit; found = now.found; outcome = now.outcome; loaded_them = now.loaded; laid_them = laid; shown = now.shown; told = now.told })
+    let waits : plain.state ≡ Prepared = search rules in
+    rw (← c.self.view_is) (start-kept g.P.MixPort g.G.Gate g.met.P.MixPort.laid_composes g.met.P.MixPort.loaded_composes (c.args.port.now, c.args.gate.now) (c.begin-begun.new.port, c.begin-begun.new.gate)
+    plain ring Running c.begin-begun.result c.self.invariant waits refl c.begin-begun.ensures.near (subst (λ (v : ClientView). CanUse v.plain (g.P.MixPort.view c.args.port.now)) (sym c.self.view_is) c.requires)
+    (subst (λ (r : List ℤ). TakesAt g.P.MixPort g.G.Gate (c.args.port.now, c.args.gate.now) (starts plain Running (g.P.MixPort.view c.args.port.now).marks.cursor plain.written r) (c.begin-begun.new.port, c.begin-begun.new.gate) c.begin-begun.result) c.as_slice-ring.ensures.value c.begin-begun.ensures.takes))
 
-pub returns-in_err-admit-clause-grows : goal.returns-in_err-admit-clause-grows
-returns-in_err-admit-clause-grows g c samples stands =
-    Grows-none g.P.MixPort.laid g.met.P.MixPort.laid_composes c.args.port.now c.args.port.now c.args.self.now.plain c.args.self.now.plain samples refl refl refl refl
-
-pub returns-then-self-eq0-clause-grows : goal.returns-then-self-eq0-clause-grows
-returns-then-self-eq0-clause-grows g c samples stands =
-    Grows-none g.P.MixPort.laid g.met.P.MixPort.laid_composes c.args.port.now c.args.port.now c.args.self.now.plain c.args.self.now.plain samples refl refl refl refl
+pub invariant_of-self : goal.invariant_of-self
+invariant_of-self g c = (returns-clause-keeps g c).sound
 
 pub returns-clause-causes : goal.returns-clause-causes
 returns-clause-causes g c admitted some =
-    let port = g.P.MixPort in
-    let before = c.args.port.now in
-    let after = c.begin.new.port in
-    let plain = c.args.self.now.plain in
-    let takes = returns-clause-steps g c admitted some in
-    let why = IsCaused-started port.loaded port.geometry port.shows before after plain Running (port.cursor before) takes.load takes.commit (start-prepared plain admitted) takes.loaded_them takes.shown in
-    subst (λ (a : Answered (Unit {0})). IsCaused {T = Unit {0}} port.loaded port.geometry port.shows before after plain a.0 a.1) takes.outcome why
+    let plain = c.self.inside.plain in
+    let ring : List ℤ = c.self.inside.ring.items in
+    let waits : plain.state ≡ Prepared = search rules in
+    subst (λ (v : ClientView). Explains g.P.MixPort g.G.Gate (c.args.port.now, c.args.gate.now) (c.begin-begun.new.port, c.begin-begun.new.gate) v (λ position. started_in v.plain Running position (g.P.MixPort.view c.args.port.now).marks.cursor)
+    (λ position. start_count v.plain (g.P.MixPort.view c.args.port.now).marks.cursor position v.plain.written) (started v.plain Running (g.P.MixPort.view c.args.port.now).marks.cursor) c.begin-begun.result) c.self.view_is
+    (starts-explained g.P.MixPort g.G.Gate g.met.P.MixPort.laid_composes g.met.P.MixPort.loaded_composes (c.args.port.now, c.args.gate.now) (c.begin-begun.new.port, c.begin-begun.new.gate) plain ring Running (g.P.MixPort.view c.args.port.now).marks.cursor plain.written c.begin-begun.result
+    (configured-prepared plain ring c.self.invariant waits).bound waits
+    (subst (λ (r : List ℤ). TakesAt g.P.MixPort g.G.Gate (c.args.port.now, c.args.gate.now) (starts plain Running (g.P.MixPort.view c.args.port.now).marks.cursor plain.written r) (c.begin-begun.new.port, c.begin-begun.new.gate) c.begin-begun.result) c.as_slice-ring.ensures.value c.begin-begun.ensures.takes))

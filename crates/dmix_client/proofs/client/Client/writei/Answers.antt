@@ -1,131 +1,129 @@
-use Rattle.pcm_states.specs.declared.calls.Call.TheVariants as call
-use Rattle.dmix_client.proofs.CausedWrite.{synced-not_again, written_on-again}
-use Rattle.snd_base.specs.declared.errors.PcmError.TheVariants.{Again}
-use Rattle.dmix_client.specs.Causes.{IsCaused}
-use Rattle.pcm_states.specs.declared.states.State.TheVariants.{Prepared}
-use Rattle.dmix_client.proofs.CausedWritten.{IsCaused-filled, IsCaused-written}
-use Rattle.dmix_client.specs.Calls.{Answered, synced}
-use Rattle.dmix_client.proofs.Growth.{Grows-none}
-use Rattle.dmix_client.specs.Growth.{Grows, StandsFor, Follows}
-use Rattle.std.proofs.Common.{◌≡◌, ◌/◌, ◌∙◌, ℕ, List, length, ap, arith, subst, sym, take, drop, ◌++◌, refl}
-use Rattle.std.specs.Prelude.{ℤ, ◌<◌, ◌↔◌, Result, Ok, Err, true}
+use denote.Enum.Bare.{same_true}
+use Rattle.pcm_states.specs.contracts.states.State.{the_type}
+use Rattle.std.proofs.Common.{rules, ◌≡◌, ◌/◌, ◌∙◌, ◌+◌, ◌++◌, ℕ, List, ap, arith, drop, length, subst, sym, take}
+use Rattle.std.specs.Prelude.{ℤ, Err, IsErrAnd, Ok, Result, false, true}
 use Rattle.snd_base.specs.declared.errors.PcmError.{PcmError}
-use Rattle.dmix_client.specs.View.{ClientView, avail_of}
-use Rattle.dmix_client.specs.Writes.{TakesWrite, frames_in, starts_with}
+use Rattle.pcm_states.specs.declared.states.State.TheVariants.{Prepared, Running}
+use Rattle.pcm_states.specs.declared.calls.Call.TheVariants as call
+use Rattle.course.specs.AtPort.{TakesAt}
+use Rattle.dmix_client.specs.Calls.{accepted_if, is_running, start_count, started, started_in, taken_of}
+use Rattle.dmix_client.specs.Causes.{Explains, ExplainsWrite}
+use Rattle.dmix_client.specs.Course.{admitted, fills, write_course, writes_on}
+use Rattle.dmix_client.specs.Growth.{Follows, Keeps}
+use Rattle.mix_core.specs.declared.gate.Pass.TheVariants.{Go}
+use Rattle.dmix_client.specs.Port.{pass_by, pass_in}
+use Rattle.dmix_client.specs.View.{ClientView, IsSound}
+use Rattle.dmix_client.specs.Writes.{frames_in, starts_with}
+use Rattle.dmix_client.proofs.Going.{refused-go}
+use Rattle.dmix_client.proofs.Keeping.{Keeps-none, client}
+use Rattle.dmix_client.proofs.Looking.{admitted-ok, write-prepared, write-running}
 use Rattle.dmix_client.proofs.Rings.{take-written}
 use Rattle.dmix_client.proofs.client.Client.writei.Goals as goal
 
-pub returns-then-eq-clause-steps : goal.returns-then-eq-clause-steps
-returns-then-eq-clause-steps g c admitted running =
-    let port = g.P.MixPort in
-    let writes = c.write_running-answer.ensures.writes in
+err-go : (r : Result ℕ PcmError) (e : PcmError) → pass_in e ≡ Go → IsErrAnd r (λ f. f ≡ e) → pass_by r ≡ Go
+err-go (Ok n) e went is = absurd is
+err-go (Err f) e went is = subst (λ x. pass_in x ≡ Go) (sym is) went
+
+pub returns-in_err-admit-clause-keeps : goal.returns-in_err-admit-clause-keeps
+returns-in_err-admit-clause-keeps g c =
+    let plain = c.self.inside.plain in
+    let went : plain.stopped ≡ false → pass_by (let r : Result ℕ PcmError = Err c.in_err-admit.field-0.0 in r) ≡ Go =
+    λ unstopped. subst (λ (r : Result (Unit {0}) PcmError). pass_by r ≡ Go) (sym c.admit.ensures ∙ c.in_err-admit.was) (refused-go plain call.Transfer unstopped) in
+    Keeps-none g.P.MixPort g.G.Gate g.met.P.MixPort.laid_composes g.met.P.MixPort.loaded_composes (c.args.port.now, c.args.gate.now) c.args.self.now c.from_residual.result _
+    (subst (λ (v : ClientView). IsSound v.plain v.ring) c.self.view_is c.self.invariant) c.requires.port
+    (λ unstopped. err-go c.from_residual.result c.in_err-admit.field-0.0 (went (subst (λ (v : ClientView). v.plain.stopped ≡ false) (sym c.self.view_is) unstopped)) c.from_residual.ensures.1)
+
+pub returns-clause-takes : goal.returns-clause-takes
+returns-clause-takes g c =
     let plain = c.self.inside.plain in
     let samples = c.args.samples.now in
-    let new_ring : List ℤ = c.write_running-answer.new.ring in
-    let before = c.args.port.now in
-    let after = c.write_running-answer.new.port in
-    let new_plain = c.write_running-answer.new.plain in
+    let ring : List ℤ = c.self.inside.ring.items in
+    let cursor = (g.P.MixPort.view c.args.port.now).marks.cursor in
+    let waits : plain.state ≡ Prepared = search rules in
     let frames : c.whole_frames-frames.result ≡ frames_in plain samples = c.whole_frames-frames.ensures.value ∙ ap (λ (n : ℕ). length samples / n) c.len.ensures.value in
-    let whole : c.self.inside.ring.len ≡ length new_ring = omega (arith, c.as_mut_slice-ring.ensures.len) in
-    let back : new_ring ≡ take c.self.inside.ring.len (new_ring ++ drop (length new_ring) c.self.inside.ring.items) = sym (take-written c.self.inside.ring.len new_ring c.self.inside.ring.items whole) in
-    let by_ring = subst (λ (ring : List ℤ). TakesWrite port.laid port.loaded port.geometry port.shows before after plain ring new_ring samples c.whole_frames-frames.result (new_plain, c.write_running-answer.result)) c.as_mut_slice-ring.ensures.value writes in
-    let by_frames = subst (λ (n : ℕ). TakesWrite port.laid port.loaded port.geometry port.shows before after plain c.self.inside.ring.items new_ring samples n (new_plain, c.write_running-answer.result)) frames by_ring in
-    let by_answer = subst (λ (r : Result ℕ PcmError). TakesWrite port.laid port.loaded port.geometry port.shows before after plain c.self.inside.ring.items new_ring samples (frames_in plain samples) (new_plain, r)) (sym c.few_frames.ensures) by_frames in
-    let by_back = subst (λ (ring : List ℤ). TakesWrite port.laid port.loaded port.geometry port.shows before after plain c.self.inside.ring.items ring samples (frames_in plain samples) (new_plain, c.few_frames.result)) back by_answer in
-    subst (λ (v : ClientView). TakesWrite port.laid port.loaded port.geometry port.shows before after v.plain v.ring (take c.self.inside.ring.len (new_ring ++ drop (length new_ring) c.self.inside.ring.items)) samples (frames_in v.plain samples) (new_plain, c.few_frames.result)) c.self.view_is by_back
+    subst (λ (v : ClientView). TakesAt g.P.MixPort g.G.Gate (c.args.port.now, c.args.gate.now) (admitted v.plain call.Transfer (write_course v.plain v.ring samples cursor)) (c.write_prepared-answer.new.port, c.write_prepared-answer.new.gate) (c.write_prepared-answer.new.plain, c.few_frames-2.result)) c.self.view_is
+    (subst (λ (r : Result ℕ PcmError). TakesAt g.P.MixPort g.G.Gate (c.args.port.now, c.args.gate.now) (admitted plain call.Transfer (write_course plain ring samples cursor)) (c.write_prepared-answer.new.port, c.write_prepared-answer.new.gate) (c.write_prepared-answer.new.plain, r)) (sym c.few_frames-2.ensures)
+    (admitted-ok g.P.MixPort g.G.Gate (c.args.port.now, c.args.gate.now) (c.write_prepared-answer.new.port, c.write_prepared-answer.new.gate) plain call.Transfer (write_course plain ring samples cursor) (c.write_prepared-answer.new.plain, c.write_prepared-answer.result) c.admit.result c.admit.ensures c.in_ok-admit.was
+    (write-prepared g.P.MixPort g.G.Gate (c.args.port.now, c.args.gate.now) (c.write_prepared-answer.new.port, c.write_prepared-answer.new.gate) plain ring samples cursor c.whole_frames-frames.result (c.write_prepared-answer.new.plain, c.write_prepared-answer.result) (ap is_running waits) frames
+    (subst (λ (r : List ℤ). TakesAt g.P.MixPort g.G.Gate (c.args.port.now, c.args.gate.now) (fills plain r samples cursor c.whole_frames-frames.result) (c.write_prepared-answer.new.port, c.write_prepared-answer.new.gate) (c.write_prepared-answer.new.plain, c.write_prepared-answer.result)) c.as_mut_slice-ring.ensures.value c.write_prepared-answer.ensures.takes))))
 
-pub returns-in_err-admit-clause-grows : goal.returns-in_err-admit-clause-grows
-returns-in_err-admit-clause-grows g c all stands follows =
-    Grows-none g.P.MixPort.laid g.met.P.MixPort.laid_composes c.args.port.now c.args.port.now c.args.self.now.plain c.args.self.now.plain all refl refl refl refl
-
-pub returns-then-eq-clause-grows : goal.returns-then-eq-clause-grows
-returns-then-eq-clause-grows g c all stands follows =
-    let laid = g.P.MixPort.laid in
+pub returns-then-eq-clause-takes : goal.returns-then-eq-clause-takes
+returns-then-eq-clause-takes g c =
     let plain = c.self.inside.plain in
-    let offered : List ℤ = c.args.samples.now in
-    let frames : c.whole_frames-frames.result ≡ frames_in plain offered = c.whole_frames-frames.ensures.value ∙ ap (λ (n : ℕ). length offered / n) c.len.ensures.value in
-    let here : StandsFor plain c.as_mut_slice-ring.result.now all =
-    subst (λ (ring : List ℤ). StandsFor plain ring all) (sym c.as_mut_slice-ring.ensures.value) (subst (λ (v : ClientView). StandsFor v.plain v.ring all) (sym c.self.view_is) stands) in
-    let behind : Follows plain all offered c.whole_frames-frames.result =
-    subst (λ (n : ℕ). Follows plain all offered n) (sym frames) (subst (λ (v : ClientView). Follows v.plain all offered (frames_in v.plain offered)) (sym c.self.view_is) follows) in
-    subst (λ (v : ClientView). Grows laid c.args.port.now c.write_running-answer.new.port v.plain c.write_running-answer.new.plain all) c.self.view_is (c.write_running-answer.ensures.grows all here behind)
+    let samples = c.args.samples.now in
+    let ring : List ℤ = c.self.inside.ring.items in
+    let cursor = (g.P.MixPort.view c.args.port.now).marks.cursor in
+    let state : plain.state ≡ Running = same_true the_type (search rules) _ _ (sym c.if-eq.ensures) in
+    let frames : c.whole_frames-frames.result ≡ frames_in plain samples = c.whole_frames-frames.ensures.value ∙ ap (λ (n : ℕ). length samples / n) c.len.ensures.value in
+    subst (λ (v : ClientView). TakesAt g.P.MixPort g.G.Gate (c.args.port.now, c.args.gate.now) (admitted v.plain call.Transfer (write_course v.plain v.ring samples cursor)) (c.write_running-answer.new.port, c.write_running-answer.new.gate) (c.write_running-answer.new.plain, c.few_frames.result)) c.self.view_is
+    (subst (λ (r : Result ℕ PcmError). TakesAt g.P.MixPort g.G.Gate (c.args.port.now, c.args.gate.now) (admitted plain call.Transfer (write_course plain ring samples cursor)) (c.write_running-answer.new.port, c.write_running-answer.new.gate) (c.write_running-answer.new.plain, r)) (sym c.few_frames.ensures)
+    (admitted-ok g.P.MixPort g.G.Gate (c.args.port.now, c.args.gate.now) (c.write_running-answer.new.port, c.write_running-answer.new.gate) plain call.Transfer (write_course plain ring samples cursor) (c.write_running-answer.new.plain, c.write_running-answer.result) c.admit.result c.admit.ensures c.in_ok-admit.was
+    (write-running g.P.MixPort g.G.Gate (c.args.port.now, c.args.gate.now) (c.write_running-answer.new.port, c.write_running-answer.new.gate) plain ring samples cursor c.whole_frames-frames.result (c.write_running-answer.new.plain, c.write_running-answer.result) (ap is_running state) frames
+    (subst (λ (r : List ℤ). TakesAt g.P.MixPort g.G.Gate (c.args.port.now, c.args.gate.now) (writes_on plain r samples c.whole_frames-frames.result) (c.write_running-answer.new.port, c.write_running-answer.new.gate) (c.write_running-answer.new.plain, c.write_running-answer.result)) c.as_mut_slice-ring.ensures.value c.write_running-answer.ensures.takes))))
 
-pub returns-then-eq-clause-stands : goal.returns-then-eq-clause-stands
-returns-then-eq-clause-stands g c all stands follows =
-    let laid = g.P.MixPort.laid in
+pub returns-then-eq-clause-keeps : goal.returns-then-eq-clause-keeps
+returns-then-eq-clause-keeps g c =
     let plain = c.self.inside.plain in
-    let offered : List ℤ = c.args.samples.now in
-    let frames : c.whole_frames-frames.result ≡ frames_in plain offered = c.whole_frames-frames.ensures.value ∙ ap (λ (n : ℕ). length offered / n) c.len.ensures.value in
-    let here : StandsFor plain c.as_mut_slice-ring.result.now all =
-    subst (λ (ring : List ℤ). StandsFor plain ring all) (sym c.as_mut_slice-ring.ensures.value) (subst (λ (v : ClientView). StandsFor v.plain v.ring all) (sym c.self.view_is) stands) in
-    let behind : Follows plain all offered c.whole_frames-frames.result =
-    subst (λ (n : ℕ). Follows plain all offered n) (sym frames) (subst (λ (v : ClientView). Follows v.plain all offered (frames_in v.plain offered)) (sym c.self.view_is) follows) in
-    let new_ring : List ℤ = c.write_running-answer.new.ring in
-    let whole : c.self.inside.ring.len ≡ length new_ring = omega (arith, c.as_mut_slice-ring.ensures.len) in
-    let back : new_ring ≡ take c.self.inside.ring.len (new_ring ++ drop (length new_ring) c.self.inside.ring.items) = sym (take-written c.self.inside.ring.len new_ring c.self.inside.ring.items whole) in
-    subst (λ (ring : List ℤ). StandsFor c.write_running-answer.new.plain ring all) back (c.write_running-answer.ensures.stands all here behind)
-
-pub returns-clause-grows : goal.returns-clause-grows
-returns-clause-grows g c all stands follows =
-    let laid = g.P.MixPort.laid in
-    let plain = c.self.inside.plain in
-    let offered : List ℤ = c.args.samples.now in
-    let frames : c.whole_frames-frames.result ≡ frames_in plain offered = c.whole_frames-frames.ensures.value ∙ ap (λ (n : ℕ). length offered / n) c.len.ensures.value in
-    let here : StandsFor plain c.as_mut_slice-ring.result.now all =
-    subst (λ (ring : List ℤ). StandsFor plain ring all) (sym c.as_mut_slice-ring.ensures.value) (subst (λ (v : ClientView). StandsFor v.plain v.ring all) (sym c.self.view_is) stands) in
-    let behind : Follows plain all offered c.whole_frames-frames.result =
-    subst (λ (n : ℕ). Follows plain all offered n) (sym frames) (subst (λ (v : ClientView). Follows v.plain all offered (frames_in v.plain offered)) (sym c.self.view_is) follows) in
-    subst (λ (v : ClientView). Grows laid c.args.port.now c.write_prepared-filled.new.port v.plain c.write_prepared-filled.new.plain all) c.self.view_is (c.write_prepared-filled.ensures.grows all here behind)
-
-pub returns-clause-stands : goal.returns-clause-stands
-returns-clause-stands g c all stands follows =
-    let laid = g.P.MixPort.laid in
-    let plain = c.self.inside.plain in
-    let offered : List ℤ = c.args.samples.now in
-    let frames : c.whole_frames-frames.result ≡ frames_in plain offered = c.whole_frames-frames.ensures.value ∙ ap (λ (n : ℕ). length offered / n) c.len.ensures.value in
-    let here : StandsFor plain c.as_mut_slice-ring.result.now all =
-    subst (λ (ring : List ℤ). StandsFor plain ring all) (sym c.as_mut_slice-ring.ensures.value) (subst (λ (v : ClientView). StandsFor v.plain v.ring all) (sym c.self.view_is) stands) in
-    let behind : Follows plain all offered c.whole_frames-frames.result =
-    subst (λ (n : ℕ). Follows plain all offered n) (sym frames) (subst (λ (v : ClientView). Follows v.plain all offered (frames_in v.plain offered)) (sym c.self.view_is) follows) in
-    let new_ring : List ℤ = c.write_prepared-filled.new.ring in
-    let whole : c.self.inside.ring.len ≡ length new_ring = omega (arith, c.as_mut_slice-ring.ensures.len) in
-    let back : new_ring ≡ take c.self.inside.ring.len (new_ring ++ drop (length new_ring) c.self.inside.ring.items) = sym (take-written c.self.inside.ring.len new_ring c.self.inside.ring.items whole) in
-    subst (λ (ring : List ℤ). StandsFor c.write_prepared-filled.new.plain ring all) back (c.write_prepared-filled.ensures.stands all here behind)
+    let samples = c.args.samples.now in
+    let old : List ℤ = c.self.inside.ring.items in
+    let new : List ℤ = c.write_running-answer.new.ring in
+    let frames : c.whole_frames-frames.result ≡ frames_in plain samples = c.whole_frames-frames.ensures.value ∙ ap (λ (n : ℕ). length samples / n) c.len.ensures.value in
+    let whole : c.self.inside.ring.len ≡ length new = omega (arith, c.as_mut_slice-ring.ensures.len) in
+    let back : new ≡ take c.self.inside.ring.len (new ++ drop (length new) old) = sym (take-written c.self.inside.ring.len new old whole) in
+    subst (λ (v : ClientView). Keeps g.P.MixPort g.G.Gate (c.args.port.now, c.args.gate.now) (c.write_running-answer.new.port, c.write_running-answer.new.gate) v (client c.write_running-answer.new.plain (take c.self.inside.ring.len (new ++ drop (length new) old))) c.few_frames.result (λ all. Follows v.plain all samples (frames_in v.plain samples))) c.self.view_is
+    (subst (λ (r : List ℤ). Keeps g.P.MixPort g.G.Gate (c.args.port.now, c.args.gate.now) (c.write_running-answer.new.port, c.write_running-answer.new.gate) (client plain old) (client c.write_running-answer.new.plain r) c.few_frames.result (λ all. Follows plain all samples (frames_in plain samples))) back
+    (subst (λ (a : Result ℕ PcmError). Keeps g.P.MixPort g.G.Gate (c.args.port.now, c.args.gate.now) (c.write_running-answer.new.port, c.write_running-answer.new.gate) (client plain old) (client c.write_running-answer.new.plain new) a (λ all. Follows plain all samples (frames_in plain samples))) (sym c.few_frames.ensures)
+    (subst (λ (n : ℕ). Keeps g.P.MixPort g.G.Gate (c.args.port.now, c.args.gate.now) (c.write_running-answer.new.port, c.write_running-answer.new.gate) (client plain old) (client c.write_running-answer.new.plain new) c.write_running-answer.result (λ all. Follows plain all samples n)) frames
+    (subst (λ (r : List ℤ). Keeps g.P.MixPort g.G.Gate (c.args.port.now, c.args.gate.now) (c.write_running-answer.new.port, c.write_running-answer.new.gate) (client plain r) (client c.write_running-answer.new.plain new) c.write_running-answer.result (λ all. Follows plain all samples c.whole_frames-frames.result)) c.as_mut_slice-ring.ensures.value c.write_running-answer.ensures.keeps))))
 
 pub returns-then-eq-clause-again : goal.returns-then-eq-clause-again
 returns-then-eq-clause-again g c admitted running =
-    let plain = c.args.self.now.plain in
-    let n : ℕ = frames_in plain c.args.samples.now in
-    let writes = returns-then-eq-clause-steps g c admitted running in
-    let exactly = written_on-again (synced plain call.Transfer writes.load writes.commit) n writes.last (synced-not_again plain writes.load writes.commit running) in
-    let told = subst (λ (a : Answered ℕ). (a.1 ≡ Err Again) ↔ (((synced plain call.Transfer writes.load writes.commit).1 ≡ Ok tt) × (0 < n) × (avail_of (synced plain call.Transfer writes.load writes.commit).0 ≡ 0))) writes.outcome exactly in
-    record { writes = writes; again = told }
-
-pub returns-then-eq-clause-causes : goal.returns-then-eq-clause-causes
-returns-then-eq-clause-causes g c admitted running =
-    let port = g.P.MixPort in
-    let before = c.args.port.now in
-    let after = c.write_running-answer.new.port in
-    let plain = c.args.self.now.plain in
-    let n : ℕ = frames_in plain c.args.samples.now in
-    let writes = returns-then-eq-clause-steps g c admitted running in
-    let why = IsCaused-written port.loaded port.geometry port.shows before after plain n writes.load writes.commit writes.last running writes.found writes.loaded_them writes.shown_first writes.shown in
-    subst (λ (a : Answered ℕ). IsCaused {T = ℕ} port.loaded port.geometry port.shows before after plain a.0 a.1) writes.outcome why
-
-pub returns-clause-starts_causes : goal.returns-clause-starts_causes
-returns-clause-starts_causes g c admitted waits starts =
-    let port = g.P.MixPort in
-    let before = c.args.port.now in
-    let after = c.write_prepared-filled.new.port in
     let plain = c.self.inside.plain in
-    let done = c.write_prepared-filled.new.plain in
-    let n : ℕ = c.whole_frames-frames.result in
-    let frames : n ≡ frames_in plain c.args.samples.now = c.whole_frames-frames.ensures.value ∙ ap (λ (k : ℕ). length c.args.samples.now / k) c.len.ensures.value in
-    let prepared : plain.state ≡ Prepared = subst (λ (v : ClientView). v.plain.state ≡ Prepared) (sym c.self.view_is) waits in
-    let begins : starts_with plain n ≡ true =
-    subst (λ (k : ℕ). starts_with plain k ≡ true) (sym frames) (subst (λ (v : ClientView). starts_with v.plain (frames_in v.plain c.args.samples.now) ≡ true) (sym c.self.view_is) starts) in
-    let takes = c.write_prepared-filled.ensures.starts begins in
-    let why = subst (λ (a : Answered ℕ). IsCaused {T = ℕ} port.loaded port.geometry port.shows before after plain a.0 a.1) takes.outcome
-    (IsCaused-filled port.loaded port.geometry port.shows before after plain n (port.cursor before) takes.load takes.commit begins prepared takes.loaded_them takes.shown) in
-    let told = subst (λ (r : Result ℕ PcmError). IsCaused {T = ℕ} port.loaded port.geometry port.shows before after plain done r) (sym c.few_frames-2.ensures) why in
-    subst (λ (v : ClientView). IsCaused {T = ℕ} port.loaded port.geometry port.shows before after v.plain done c.few_frames-2.result) c.self.view_is told
+    let samples = c.args.samples.now in
+    let old : List ℤ = c.self.inside.ring.items in
+    let new : List ℤ = c.write_running-answer.new.ring in
+    let frames : c.whole_frames-frames.result ≡ frames_in plain samples = c.whole_frames-frames.ensures.value ∙ ap (λ (n : ℕ). length samples / n) c.len.ensures.value in
+    let whole : c.self.inside.ring.len ≡ length new = omega (arith, c.as_mut_slice-ring.ensures.len) in
+    let back : new ≡ take c.self.inside.ring.len (new ++ drop (length new) old) = sym (take-written c.self.inside.ring.len new old whole) in
+    subst (λ (v : ClientView). ExplainsWrite g.P.MixPort g.G.Gate (c.args.port.now, c.args.gate.now) (c.write_running-answer.new.port, c.write_running-answer.new.gate) v.plain v.ring (take c.self.inside.ring.len (new ++ drop (length new) old)) samples (frames_in v.plain samples) (c.write_running-answer.new.plain, c.few_frames.result)) c.self.view_is
+    (subst (λ (r : List ℤ). ExplainsWrite g.P.MixPort g.G.Gate (c.args.port.now, c.args.gate.now) (c.write_running-answer.new.port, c.write_running-answer.new.gate) plain old r samples (frames_in plain samples) (c.write_running-answer.new.plain, c.few_frames.result)) back
+    (subst (λ (a : Result ℕ PcmError). ExplainsWrite g.P.MixPort g.G.Gate (c.args.port.now, c.args.gate.now) (c.write_running-answer.new.port, c.write_running-answer.new.gate) plain old new samples (frames_in plain samples) (c.write_running-answer.new.plain, a)) (sym c.few_frames.ensures)
+    (subst (λ (n : ℕ). ExplainsWrite g.P.MixPort g.G.Gate (c.args.port.now, c.args.gate.now) (c.write_running-answer.new.port, c.write_running-answer.new.gate) plain old new samples n (c.write_running-answer.new.plain, c.write_running-answer.result)) frames
+    (subst (λ (r : List ℤ). ExplainsWrite g.P.MixPort g.G.Gate (c.args.port.now, c.args.gate.now) (c.write_running-answer.new.port, c.write_running-answer.new.gate) plain r new samples c.whole_frames-frames.result (c.write_running-answer.new.plain, c.write_running-answer.result)) c.as_mut_slice-ring.ensures.value c.write_running-answer.ensures.explains))))
+
+pub returns-clause-keeps : goal.returns-clause-keeps
+returns-clause-keeps g c =
+    let plain = c.self.inside.plain in
+    let samples = c.args.samples.now in
+    let old : List ℤ = c.self.inside.ring.items in
+    let new : List ℤ = c.write_prepared-answer.new.ring in
+    let frames : c.whole_frames-frames.result ≡ frames_in plain samples = c.whole_frames-frames.ensures.value ∙ ap (λ (n : ℕ). length samples / n) c.len.ensures.value in
+    let whole : c.self.inside.ring.len ≡ length new = omega (arith, c.as_mut_slice-ring.ensures.len) in
+    let back : new ≡ take c.self.inside.ring.len (new ++ drop (length new) old) = sym (take-written c.self.inside.ring.len new old whole) in
+    subst (λ (v : ClientView). Keeps g.P.MixPort g.G.Gate (c.args.port.now, c.args.gate.now) (c.write_prepared-answer.new.port, c.write_prepared-answer.new.gate) v (client c.write_prepared-answer.new.plain (take c.self.inside.ring.len (new ++ drop (length new) old))) c.few_frames-2.result (λ all. Follows v.plain all samples (frames_in v.plain samples))) c.self.view_is
+    (subst (λ (r : List ℤ). Keeps g.P.MixPort g.G.Gate (c.args.port.now, c.args.gate.now) (c.write_prepared-answer.new.port, c.write_prepared-answer.new.gate) (client plain old) (client c.write_prepared-answer.new.plain r) c.few_frames-2.result (λ all. Follows plain all samples (frames_in plain samples))) back
+    (subst (λ (a : Result ℕ PcmError). Keeps g.P.MixPort g.G.Gate (c.args.port.now, c.args.gate.now) (c.write_prepared-answer.new.port, c.write_prepared-answer.new.gate) (client plain old) (client c.write_prepared-answer.new.plain new) a (λ all. Follows plain all samples (frames_in plain samples))) (sym c.few_frames-2.ensures)
+    (subst (λ (n : ℕ). Keeps g.P.MixPort g.G.Gate (c.args.port.now, c.args.gate.now) (c.write_prepared-answer.new.port, c.write_prepared-answer.new.gate) (client plain old) (client c.write_prepared-answer.new.plain new) c.write_prepared-answer.result (λ all. Follows plain all samples n)) frames
+    (subst (λ (r : List ℤ). Keeps g.P.MixPort g.G.Gate (c.args.port.now, c.args.gate.now) (c.write_prepared-answer.new.port, c.write_prepared-answer.new.gate) (client plain r) (client c.write_prepared-answer.new.plain new) c.write_prepared-answer.result (λ all. Follows plain all samples c.whole_frames-frames.result)) c.as_mut_slice-ring.ensures.value c.write_prepared-answer.ensures.keeps))))
+
+pub returns-clause-starts : goal.returns-clause-starts
+returns-clause-starts g c admitted waits starts =
+    let plain = c.self.inside.plain in
+    let samples = c.args.samples.now in
+    let old : List ℤ = c.self.inside.ring.items in
+    let new : List ℤ = c.write_prepared-answer.new.ring in
+    let cursor = (g.P.MixPort.view c.args.port.now).marks.cursor in
+    let frames : c.whole_frames-frames.result ≡ frames_in plain samples = c.whole_frames-frames.ensures.value ∙ ap (λ (n : ℕ). length samples / n) c.len.ensures.value in
+    let whole : c.self.inside.ring.len ≡ length new = omega (arith, c.as_mut_slice-ring.ensures.len) in
+    let back : new ≡ take c.self.inside.ring.len (new ++ drop (length new) old) = sym (take-written c.self.inside.ring.len new old whole) in
+    let begins : starts_with plain c.whole_frames-frames.result ≡ true =
+    subst (λ (k : ℕ). starts_with plain k ≡ true) (sym frames) (subst (λ (v : ClientView). starts_with v.plain (frames_in v.plain samples) ≡ true) (sym c.self.view_is) starts) in
+    subst (λ (v : ClientView). Explains g.P.MixPort g.G.Gate (c.args.port.now, c.args.gate.now) (c.write_prepared-answer.new.port, c.write_prepared-answer.new.gate) (client v.plain (take c.self.inside.ring.len (new ++ drop (length new) old))) (λ position. started_in v.plain Running position cursor)
+    (λ position. start_count v.plain cursor position (v.plain.written + taken_of v.plain (frames_in v.plain samples))) (λ load commit. accepted_if (taken_of v.plain (frames_in v.plain samples)) (started v.plain Running cursor load commit)) (c.write_prepared-answer.new.plain, c.few_frames-2.result)) c.self.view_is
+    (subst (λ (r : List ℤ). Explains g.P.MixPort g.G.Gate (c.args.port.now, c.args.gate.now) (c.write_prepared-answer.new.port, c.write_prepared-answer.new.gate) (client plain r) (λ position. started_in plain Running position cursor)
+    (λ position. start_count plain cursor position (plain.written + taken_of plain (frames_in plain samples))) (λ load commit. accepted_if (taken_of plain (frames_in plain samples)) (started plain Running cursor load commit)) (c.write_prepared-answer.new.plain, c.few_frames-2.result)) back
+    (subst (λ (a : Result ℕ PcmError). Explains g.P.MixPort g.G.Gate (c.args.port.now, c.args.gate.now) (c.write_prepared-answer.new.port, c.write_prepared-answer.new.gate) (client plain new) (λ position. started_in plain Running position cursor)
+    (λ position. start_count plain cursor position (plain.written + taken_of plain (frames_in plain samples))) (λ load commit. accepted_if (taken_of plain (frames_in plain samples)) (started plain Running cursor load commit)) (c.write_prepared-answer.new.plain, a)) (sym c.few_frames-2.ensures)
+    (subst (λ (n : ℕ). Explains g.P.MixPort g.G.Gate (c.args.port.now, c.args.gate.now) (c.write_prepared-answer.new.port, c.write_prepared-answer.new.gate) (client plain new) (λ position. started_in plain Running position cursor)
+    (λ position. start_count plain cursor position (plain.written + taken_of plain n)) (λ load commit. accepted_if (taken_of plain n) (started plain Running cursor load commit)) (c.write_prepared-answer.new.plain, c.write_prepared-answer.result)) frames
+    (c.write_prepared-answer.ensures.explains begins))))

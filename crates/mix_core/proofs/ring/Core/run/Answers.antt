@@ -1,22 +1,34 @@
-use Rattle.std.proofs.Common.{ℕ, ◌+◌, ◌<◌, List, length, take, set, get_or, ◌∙◌, arith}
+use Rattle.std.proofs.Common.{ℕ, ◌+◌, ◌<◌, List, length, take, set, get_or, subst, sym, ◌∙◌, arith}
+use Rattle.std.specs.List.{zip}
 use Rattle.std.proofs.lemmas.List.{length-set, take_more, take_more_set}
 use Rattle.mix_core.specs.declared.event.Event.{Event}
 use Rattle.mix_core.specs.declared.event.Reply.{Reply}
-use Rattle.mix_core.specs.Run.{IsAnswered, IsRun}
+use Rattle.mix_core.specs.declared.port.Entry.{Entry}
+use Rattle.mix_core.specs.Run.{IsAnswered, IsRun, Keeps}
 use Rattle.mix_core.specs.View.{View}
-use Rattle.mix_core.proofs.Replies.{IsRun-more}
+use Rattle.mix_core.proofs.Replies.{IsRun-more, zip-more}
 use Rattle.mix_core.proofs.ring.Core.run.Goals as goal
 
 -- one more event of a list got its reply
-next_event : (u v w : View) (es : List Event) (rs : List Reply) (i : ℕ) (d : Event) (r : Reply) → i < length es → i < length rs
-    → IsRun u v (take i es) (take i rs) → IsAnswered v w (get_or es i d) r → IsRun u w (take (i + 1) es) (take (i + 1) (set rs i r))
-next_event u v w es rs i d r within room run one =
-    rw (take_more es i d within, take_more_set rs i r room) (IsRun-more u v w (take i es) (take i rs) (get_or es i d) r run one)
+next_event : (u v w : View) (st su : List Entry) (es : List Event) (rs : List Reply) (i : ℕ) (d : Event) (r : Reply) → i < length es → i < length rs
+    → Keeps st (zip (take i es) (take i rs)) → IsRun u v (take i es) (take i rs) → IsAnswered v w st su (get_or es i d) r → IsRun u w (take (i + 1) es) (take (i + 1) (set rs i r))
+next_event u v w st su es rs i d r within room keeps run one =
+    rw (take_more es i d within, take_more_set rs i r room) (IsRun-more u v w st su (take i es) (take i rs) (get_or es i d) r keeps run one)
+
+next_keeps : (u v w : View) (st su : List Entry) (es : List Event) (rs : List Reply) (i : ℕ) (d : Event) (r : Reply) → i < length es → i < length rs
+    → Keeps st (zip (take i es) (take i rs)) → IsRun u v (take i es) (take i rs) → IsAnswered v w st su (get_or es i d) r → Keeps su (zip (take (i + 1) es) (take (i + 1) (set rs i r)))
+next_keeps u v w st su es rs i d r within room keeps run one =
+    rw (take_more es i d within, take_more_set rs i r room)
+    (subst (Keeps su) (sym (zip-more (take i es) (take i rs) (get_or es i d) r run.one_each)) (one.keeps (zip (take i es) (take i rs)) keeps))
 
 pub loop-i-preserved : goal.loop-i-preserved
 loop-i-preserved c =
-    let room : c.loop-i.i < length c.loop-i.replies.items = omega (arith, c.loop-i.invariant.room) in
+    let before = c.loop-i.invariant in
+    let room : c.loop-i.i < length c.loop-i.replies.items = omega (arith, before.room) in
     record {
-      room = length-set c.loop-i.replies.items c.loop-i.i c.reply.result ∙ c.loop-i.invariant.room;
-      so_far = next_event _ _ _ _ _ _ _ _ c.loop-i-test.true room c.loop-i.invariant.so_far c.reply.ensures;
+      room = length-set c.loop-i.replies.items c.loop-i.i c.reply.result ∙ before.room;
+      stood = omega (arith, before.stood, c.reply.ensures.len);
+      space = omega (arith, before.space, c.reply.ensures.capacity);
+      so_far = next_event _ _ _ _ _ _ _ _ _ _ c.loop-i-test.true room before.keeps before.so_far c.reply.ensures.answer;
+      keeps = next_keeps _ _ _ _ _ _ _ _ _ _ c.loop-i-test.true room before.keeps before.so_far c.reply.ensures.answer;
     }

@@ -40,7 +40,7 @@ taken v word value s more stands value_is =
     λ h st. value_is ∙ ap clamp_of (StandsFor-fields _ _ _ _ (st.agrees.words v.next.frame v.next.channel (IsNow-next v s))).2 in
     record {
       geometry = refl;
-      cursors = refl;
+      marks = refl;
       position = refl;
       gone = refl;
       frame = refl;

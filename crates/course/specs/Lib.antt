@@ -1,0 +1,3 @@
+pub mod AtPort
+pub mod Course
+pub mod CourseLaws

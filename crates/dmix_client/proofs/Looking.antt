@@ -1,0 +1,108 @@
+-- The calls take their courses, by what their parts took.
+use Rattle.std.proofs.Common.{◌≡◌, ℕ, ◌+◌, refl, sym, subst, List}
+use Rattle.std.specs.Prelude.{ℤ, Ok, Err, Result, ⊤, false, true, Option, None, Some}
+use Rattle.snd_base.specs.declared.errors.PcmError.{PcmError}
+use Rattle.snd_base.specs.declared.places.Cursor.{Cursor}
+use Rattle.mix_core.specs.declared.gate.Gate as gates
+use Rattle.mix_core.specs.declared.port.MixPort as mixport
+use Rattle.mix_core.specs.declared.port.Position.{Position}
+use Rattle.course.specs.AtPort.{LaysAt, LoadsAt, NoGet, TakesAt}
+use Rattle.course.specs.Course.{◌>>=◌, Course}
+use Rattle.course.specs.CourseLaws.{Takes-map, Takes-then}
+use Rattle.pcm_states.specs.declared.states.State.{State}
+use Rattle.pcm_states.specs.declared.states.State.TheVariants.{Draining, Running}
+use Rattle.pcm_states.specs.declared.calls.Call.{Call}
+use Rattle.pcm_states.specs.declared.calls.Call.TheVariants as call
+use Rattle.dmix_client.specs.declared.commit.Commit.{Commit}
+use Rattle.dmix_client.specs.declared.plain.Plain.{Plain}
+use Rattle.dmix_client.specs.Calls.{Answered, accepted_if, is_running, refusal_of, refused_by, start_count, started, started_in, sync_count, synced, taken_of, with_number, written_after}
+use Rattle.dmix_client.specs.Course.{admitted, admitted_by, commits, drain_on, drains, fills, looks, nothing, number_course, numbered, starts, starts_taking, syncs, takes_more, write_course, write_on, writes_on}
+use Rattle.dmix_client.specs.View.{is_moving}
+use Rattle.dmix_client.specs.Writes.{count_with, frames_in, ring_with}
+
+-- an answer is good
+abbrev IsGood : Result (Unit {0}) PcmError → Type 0
+IsGood (Ok done) = ⊤
+IsGood (Err e) = ⊥
+
+module _ {S T : Type 0} (P : mixport.Ghosts S) (G : gates.Ghosts T) where
+  -- no position was loaded
+  pub looks-none : (s t : S × T) (at : Position → Plain) (count : Position → ℕ) (ring : List ℤ) → LoadsAt P G s None t → TakesAt P G s (looks at count ring) t (None, nothing)
+  unfolding looks ◌>>=◌
+  looks-none s t at count ring step = (None, t, step, record { there = refl; result = refl })
+
+  -- a position was loaded, and so many frames committed
+  pub looks-some : (s m t : S × T) (at : Position → Plain) (count : Position → ℕ) (ring : List ℤ) (position : Position) (c : Plain) (n : ℕ) (x : Commit)
+      → c ≡ at position → n ≡ count position → LoadsAt P G s (Some position) m → TakesAt P G m (commits c ring n) t x → TakesAt P G s (looks at count ring) t (Some position, x)
+  unfolding looks
+  looks-some s m t at count ring position c n x is_client is_count step then = (
+    Some position,
+    m,
+    step,
+    Takes-map (LoadsAt P G) (LaysAt P G) NoGet m t (commits (at position) ring (count position)) (λ commit. let found : Option Position × Commit = (Some position, commit) in found) x (Some position, x)
+        (subst (λ k. TakesAt P G m (commits (at position) ring k) t x) is_count (subst (λ d. TakesAt P G m (commits d ring n) t x) is_client then)) refl,
+  )
+
+  -- the sync of a client, and its start, by a load and the commit behind it
+  pub syncs-by : (s t : S × T) (c : Plain) (call : Call) (ring : List ℤ) (load : Option Position) (commit : Commit) (done : Answered (Unit {0}))
+      → TakesAt P G s (looks (λ position. c) (sync_count c) ring) t (load, commit) → synced c call load commit ≡ done → TakesAt P G s (syncs c call ring) t done
+  unfolding syncs
+  syncs-by s t c call ring load commit done takes is =
+      Takes-map (LoadsAt P G) (LaysAt P G) NoGet s t (looks (λ position. c) (sync_count c) ring) (λ found. synced c call found.0 found.1) (load, commit) done takes is
+
+  pub starts-by : (s t : S × T) (c : Plain) (state : State) (cursor : Cursor) (upto : ℕ) (ring : List ℤ) (load : Option Position) (commit : Commit) (done : Answered (Unit {0}))
+      → TakesAt P G s (looks (λ position. started_in c Running position cursor) (λ position. start_count c cursor position upto) ring) t (load, commit)
+      → started c state cursor load commit ≡ done → TakesAt P G s (starts c state cursor upto ring) t done
+  unfolding starts
+  starts-by s t c state cursor upto ring load commit done takes is =
+      Takes-map (LoadsAt P G) (LaysAt P G) NoGet s t (looks (λ position. started_in c Running position cursor) (λ position. start_count c cursor position upto) ring) (λ found. started c state cursor found.0 found.1) (load, commit) done takes is
+
+  -- the drain of a client that is prepared, by its start and what follows
+  pub drains-by : (s t u : S × T) (c : Plain) (ring : List ℤ) (cursor : Cursor) (begun done : Answered (Unit {0}))
+      → TakesAt P G s (starts c Draining cursor c.written ring) t begun → TakesAt P G t (drain_on ring begun) u done → TakesAt P G s (drains c ring cursor) u done
+  unfolding drains
+  drains-by s t u c ring cursor begun done one two = Takes-then (LoadsAt P G) (LaysAt P G) NoGet s t u (starts c Draining cursor c.written ring) (drain_on ring) begun done one two
+
+  admitted_by-ok : {X : Type 0} (s t : S × T) (o : Option PcmError) (c : Plain) (m : Course (Answered X)) (done : Answered X) → IsGood (refused_by o) → TakesAt P G s m t done → TakesAt P G s (admitted_by o c m) t done
+  admitted_by-ok s t None c m done good takes = takes
+  admitted_by-ok s t (Some e) c m done good takes = absurd good
+
+  -- a call that is admitted
+  pub admitted-ok : {X : Type 0} (s t : S × T) (c : Plain) (call : Call) (m : Course (Answered X)) (done : Answered X) (r : Result (Unit {0}) PcmError)
+      → r ≡ refused_by (refusal_of c call) → r ≡ Ok tt → TakesAt P G s m t done → TakesAt P G s (admitted c call m) t done
+  admitted-ok s t c call m done r is ok takes = admitted_by-ok s t (refusal_of c call) c m done (subst IsGood is (subst IsGood (sym ok) tt)) takes
+
+  -- the number of a client that moves frames
+  pub number-moving : (s t : S × T) (number : Plain → ℕ) (c : Plain) (ring : List ℤ) (done : Answered (Unit {0})) (x : Answered ℕ) → is_moving c.state ≡ true
+      → TakesAt P G s (syncs c call.Sync ring) t done → with_number number done ≡ x → TakesAt P G s (number_course number c ring) t x
+  unfolding numbered
+  number-moving s t number c ring done x moves takes is = rw moves (Takes-map (LoadsAt P G) (LaysAt P G) NoGet s t (syncs c call.Sync ring) (λ z. with_number number z) done x takes is)
+
+  -- the parts of a write
+  pub takes_more-by : (s t : S × T) (c : Plain) (ring samples stored : List ℤ) (n taken : ℕ) (last : Commit) (done : Answered ℕ) → taken ≡ taken_of c n → stored ≡ ring_with c ring samples taken
+      → TakesAt P G s (commits c stored (count_with c taken)) t last → written_after c n last ≡ done → TakesAt P G s (takes_more c ring samples n) t done
+  unfolding takes_more
+  takes_more-by s t c ring samples stored n taken last done is_taken is_stored takes is =
+      Takes-map (LoadsAt P G) (LaysAt P G) NoGet s t (commits c (ring_with c ring samples (taken_of c n)) (count_with c (taken_of c n))) (λ last. written_after c n last) last done
+      (subst (λ k. TakesAt P G s (commits c (ring_with c ring samples k) (count_with c k)) t last) is_taken (subst (λ r. TakesAt P G s (commits c r (count_with c taken)) t last) is_stored takes)) is
+
+  pub writes_on-by : (s t u : S × T) (c : Plain) (ring samples : List ℤ) (n : ℕ) (synced : Answered (Unit {0})) (done : Answered ℕ)
+      → TakesAt P G s (syncs c call.Transfer ring) t synced → TakesAt P G t (write_on ring samples n synced) u done → TakesAt P G s (writes_on c ring samples n) u done
+  unfolding writes_on
+  writes_on-by s t u c ring samples n synced done one two = Takes-then (LoadsAt P G) (LaysAt P G) NoGet s t u (syncs c call.Transfer ring) (write_on ring samples n) synced done one two
+
+  pub starts_taking-by : (s t : S × T) (c : Plain) (ring : List ℤ) (cursor : Cursor) (taken : ℕ) (begun : Answered (Unit {0})) (done : Answered ℕ)
+      → TakesAt P G s (starts c Running cursor (c.written + taken) ring) t begun → accepted_if taken begun ≡ done → TakesAt P G s (starts_taking c ring cursor taken) t done
+  unfolding starts_taking
+  starts_taking-by s t c ring cursor taken begun done takes is =
+      Takes-map (LoadsAt P G) (LaysAt P G) NoGet s t (starts c Running cursor (c.written + taken) ring) (λ done. accepted_if taken done) begun done takes is
+
+  -- the write of a client that runs
+  pub write-running : (s t : S × T) (c : Plain) (ring samples : List ℤ) (cursor : Cursor) (n : ℕ) (done : Answered ℕ) → is_running c.state ≡ true → n ≡ frames_in c samples
+      → TakesAt P G s (writes_on c ring samples n) t done → TakesAt P G s (write_course c ring samples cursor) t done
+  write-running s t c ring samples cursor n done runs is takes = rw runs (subst (λ k. TakesAt P G s (writes_on c ring samples k) t done) is takes)
+
+  -- the write of a client that is prepared
+  pub write-prepared : (s t : S × T) (c : Plain) (ring samples : List ℤ) (cursor : Cursor) (n : ℕ) (done : Answered ℕ) → is_running c.state ≡ false → n ≡ frames_in c samples
+      → TakesAt P G s (fills c ring samples cursor n) t done → TakesAt P G s (write_course c ring samples cursor) t done
+  write-prepared s t c ring samples cursor n done waits is takes = rw waits (subst (λ k. TakesAt P G s (fills c ring samples cursor k) t done) is takes)

@@ -1,0 +1,10 @@
+use Rattle.std.proofs.Common.{◌≡◌, ◌∙◌, arith, sym}
+use Rattle.std.proofs.lemmas.Bool.Decides.{nat_tests}
+use Rattle.dmix_client.proofs.Same.{same_geometry}
+use Rattle.dmix_client.proofs.usable.is_own.Goals as goal
+
+pub returns : goal.returns
+returns g c holds =
+    let geometry = same_geometry c.geometry-here.result c.args.plain.now.geometry c.if-here-own.false c.if-here-own-2.false c.if-here-own-3.false in
+    let member : c.member.result ≡ c.args.plain.now.member = grind (arith, nat_tests, holds) in
+    (sym c.geometry-here.ensures ∙ geometry, sym c.member.ensures ∙ member)

@@ -1,0 +1,78 @@
+use Rattle.std.proofs.Common.{◌≡◌, ℕ, ◌*◌, ◌^◌, ◌<◌, ◌≤◌, List, length, refl, subst, sym}
+use Rattle.std.specs.Prelude.{Result, Err, true}
+use Rattle.snd_base.specs.declared.errors.PcmError.{PcmError}
+use Rattle.mix_core.specs.declared.port.Ended.TheVariants.{Whole}
+use Rattle.pcm_states.specs.declared.states.State.{State}
+use Rattle.pcm_states.specs.declared.calls.Call.TheVariants as call
+use Rattle.course.specs.AtPort.{TakesAt}
+use Rattle.dmix_client.specs.Course.{syncs}
+use Rattle.dmix_client.specs.Growth.{AnySamples, Keeps}
+use Rattle.dmix_client.specs.View.{is_moving}
+use Rattle.dmix_client.proofs.Going.{ok-of}
+use Rattle.dmix_client.proofs.Grown.{configured-moving}
+use Rattle.dmix_client.proofs.Keeping.{client, syncs-runs, writes-explained, writes-kept}
+use Rattle.dmix_client.proofs.Looking.{writes_on-by}
+use Rattle.dmix_client.proofs.write.write_running.Goals as goal
+
+pub returns-in-Err-clause-takes : goal.returns-in-Err-clause-takes
+returns-in-Err-clause-takes g c =
+    writes_on-by g.P.MixPort g.G.Gate (c.args.port.now, c.args.gate.now) (c.sync_call-synced.new.port, c.sync_call-synced.new.gate) (c.sync_call-synced.new.port, c.sync_call-synced.new.gate)
+    c.args.plain.now c.args.ring.now c.args.samples.now c.args.frames (c.sync_call-synced.new.plain, c.sync_call-synced.result) _
+    c.sync_call-synced.ensures.takes (rw c.in-Err.is (record { there = refl; result = refl }))
+
+pub returns-in-Err-clause-keeps : goal.returns-in-Err-clause-keeps
+returns-in-Err-clause-keeps g c =
+    let k = subst (λ (r : Result (Unit {0}) PcmError). Keeps g.P.MixPort g.G.Gate (c.args.port.now, c.args.gate.now) (c.sync_call-synced.new.port, c.sync_call-synced.new.gate) (client c.args.plain.now c.args.ring.now) (client c.sync_call-synced.new.plain c.args.ring.now) r AnySamples) c.in-Err.is c.sync_call-synced.ensures.keeps in
+    record { sound = k.sound; port = k.port; told = k.told; grows = λ samples stands for. k.grows samples stands tt; stands = λ samples stands for. k.stands samples stands tt }
+
+pub returns-in-Err-clause-explains : goal.returns-in-Err-clause-explains
+returns-in-Err-clause-explains g c =
+    let plain = c.args.plain.now in
+    writes-explained g.P.MixPort g.G.Gate g.met.P.MixPort.laid_composes g.met.P.MixPort.loaded_composes (c.args.port.now, c.args.gate.now) (c.sync_call-synced.new.port, c.sync_call-synced.new.gate) (c.sync_call-synced.new.port, c.sync_call-synced.new.gate)
+    plain c.args.ring.now c.args.ring.now c.args.samples.now c.args.frames (c.sync_call-synced.new.plain, Err c.in-Err.error) (c.sync_call-synced.new.plain, Err c.in-Err.error)
+    (configured-moving plain c.args.ring.now c.requires.sound (subst (λ (s : State). is_moving s ≡ true) (sym c.requires.running) refl)).bound c.requires.running
+    (subst (λ (r : Result (Unit {0}) PcmError). TakesAt g.P.MixPort g.G.Gate (c.args.port.now, c.args.gate.now) (syncs plain call.Transfer c.args.ring.now) (c.sync_call-synced.new.port, c.sync_call-synced.new.gate) (c.sync_call-synced.new.plain, r)) c.in-Err.is c.sync_call-synced.ensures.takes)
+    (record { there = refl; result = refl }) refl (record { frames = 0; part = 0; ended = Whole }) refl tt (λ e is. refl)
+
+pub write_taken-requires-clause-moving : goal.write_taken-requires-clause-moving
+write_taken-requires-clause-moving g c =
+    let plain = c.args.plain.now in
+    subst (λ (s : State). is_moving s ≡ true) (sym (syncs-runs g.P.MixPort g.G.Gate g.met.P.MixPort.laid_composes g.met.P.MixPort.loaded_composes (c.args.port.now, c.args.gate.now) (c.sync_call-synced.new.port, c.sync_call-synced.new.gate)
+    plain c.args.ring.now (c.sync_call-synced.new.plain, c.sync_call-synced.result)
+    (configured-moving plain c.args.ring.now c.requires.sound (subst (λ (s : State). is_moving s ≡ true) (sym c.requires.running) refl)).bound c.requires.running (ok-of c.sync_call-synced.result c.in_default.not-Err) c.sync_call-synced.ensures.takes)) refl
+
+pub write_taken-requires-clause-held : goal.write_taken-requires-clause-held
+write_taken-requires-clause-held g c = subst (λ (bs : List ℕ). c.args.frames * length bs ≤ length c.args.samples.now) (sym c.sync_call-synced.ensures.same.bindings) c.requires.held
+
+pub write_taken-requires-clause-fed : goal.write_taken-requires-clause-fed
+write_taken-requires-clause-fed g c = subst (λ (n : ℕ). n < 2 ^ 63) (sym c.sync_call-synced.ensures.same.fed) c.requires.fed
+
+pub returns-clause-takes : goal.returns-clause-takes
+returns-clause-takes g c =
+    writes_on-by g.P.MixPort g.G.Gate (c.args.port.now, c.args.gate.now) (c.sync_call-synced.new.port, c.sync_call-synced.new.gate) (c.write_taken.new.port, c.write_taken.new.gate)
+    c.args.plain.now c.args.ring.now c.args.samples.now c.args.frames (c.sync_call-synced.new.plain, c.sync_call-synced.result) (c.write_taken.new.plain, c.write_taken.result)
+    c.sync_call-synced.ensures.takes (rw (ok-of c.sync_call-synced.result c.in_default.not-Err) c.write_taken.ensures.takes)
+
+pub returns-clause-keeps : goal.returns-clause-keeps
+returns-clause-keeps g c =
+    (writes-kept g.P.MixPort g.G.Gate g.met.P.MixPort.laid_composes g.met.P.MixPort.loaded_composes (c.args.port.now, c.args.gate.now) (c.sync_call-synced.new.port, c.sync_call-synced.new.gate) (c.write_taken.new.port, c.write_taken.new.gate)
+    c.args.plain.now c.sync_call-synced.new.plain c.args.ring.now c.write_taken.new.ring c.args.samples.now c.args.frames (c.write_taken.new.plain, c.write_taken.result) c.write_taken.ensures.ring c.requires.sound c.requires.running c.requires.unstopped c.requires.held c.requires.port
+    (subst (λ (r : Result (Unit {0}) PcmError). TakesAt g.P.MixPort g.G.Gate (c.args.port.now, c.args.gate.now) (syncs c.args.plain.now call.Transfer c.args.ring.now) (c.sync_call-synced.new.port, c.sync_call-synced.new.gate) (c.sync_call-synced.new.plain, r)) (ok-of c.sync_call-synced.result c.in_default.not-Err) c.sync_call-synced.ensures.takes)
+    c.write_taken.ensures.takes).keeps
+
+pub returns-clause-sound : goal.returns-clause-sound
+returns-clause-sound g c = (returns-clause-keeps g c).sound
+
+pub returns-clause-count : goal.returns-clause-count
+returns-clause-count g c =
+    (writes-kept g.P.MixPort g.G.Gate g.met.P.MixPort.laid_composes g.met.P.MixPort.loaded_composes (c.args.port.now, c.args.gate.now) (c.sync_call-synced.new.port, c.sync_call-synced.new.gate) (c.write_taken.new.port, c.write_taken.new.gate)
+    c.args.plain.now c.sync_call-synced.new.plain c.args.ring.now c.write_taken.new.ring c.args.samples.now c.args.frames (c.write_taken.new.plain, c.write_taken.result) c.write_taken.ensures.ring c.requires.sound c.requires.running c.requires.unstopped c.requires.held c.requires.port
+    (subst (λ (r : Result (Unit {0}) PcmError). TakesAt g.P.MixPort g.G.Gate (c.args.port.now, c.args.gate.now) (syncs c.args.plain.now call.Transfer c.args.ring.now) (c.sync_call-synced.new.port, c.sync_call-synced.new.gate) (c.sync_call-synced.new.plain, r)) (ok-of c.sync_call-synced.result c.in_default.not-Err) c.sync_call-synced.ensures.takes)
+    c.write_taken.ensures.takes).count
+
+pub returns-clause-explains : goal.returns-clause-explains
+returns-clause-explains g c =
+    (writes-kept g.P.MixPort g.G.Gate g.met.P.MixPort.laid_composes g.met.P.MixPort.loaded_composes (c.args.port.now, c.args.gate.now) (c.sync_call-synced.new.port, c.sync_call-synced.new.gate) (c.write_taken.new.port, c.write_taken.new.gate)
+    c.args.plain.now c.sync_call-synced.new.plain c.args.ring.now c.write_taken.new.ring c.args.samples.now c.args.frames (c.write_taken.new.plain, c.write_taken.result) c.write_taken.ensures.ring c.requires.sound c.requires.running c.requires.unstopped c.requires.held c.requires.port
+    (subst (λ (r : Result (Unit {0}) PcmError). TakesAt g.P.MixPort g.G.Gate (c.args.port.now, c.args.gate.now) (syncs c.args.plain.now call.Transfer c.args.ring.now) (c.sync_call-synced.new.port, c.sync_call-synced.new.gate) (c.sync_call-synced.new.plain, r)) (ok-of c.sync_call-synced.result c.in_default.not-Err) c.sync_call-synced.ensures.takes)
+    c.write_taken.ensures.takes).explains

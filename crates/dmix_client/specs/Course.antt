@@ -1,0 +1,141 @@
+-- The calls of a client as courses: what each does at its port, step by step.
+use Rattle.std.specs.Prelude.{ℕ, zero, suc, ◌+◌, ℤ, List, [], ◌∷◌, Option, None, Some, slice_index, nat_eq, if◌then◌else◌, Ok, Err}
+use Rattle.snd_base.specs.declared.errors.PcmError.{PcmError}
+use Rattle.snd_base.specs.declared.places.Cursor.{Cursor}
+use Rattle.mix_core.specs.declared.port.Ended.{Ended}
+use Rattle.mix_core.specs.declared.port.Ended.TheVariants.{Whole, Late, Stopped}
+use Rattle.mix_core.specs.declared.port.Position.{Position}
+use Rattle.mix_core.specs.Laid.{an_add}
+use Rattle.course.specs.Course.{◌>>=◌, Course, ends, lays, loads}
+use Rattle.bindings.specs.Bound.{rising}
+use Rattle.pcm_states.specs.declared.states.State.{State}
+use Rattle.pcm_states.specs.declared.states.State.TheVariants.{Draining, Running}
+use Rattle.pcm_states.specs.Table.{next_of}
+use Rattle.pcm_states.specs.declared.calls.Call.{Call}
+use Rattle.pcm_states.specs.declared.calls.Call.TheVariants as call
+use Rattle.dmix_client.specs.declared.commit.Commit.{Commit}
+use Rattle.dmix_client.specs.declared.plain.Plain.{Plain}
+use Rattle.dmix_client.specs.Calls.{Answered, accepted, accepted_if, draining, dropped, has_frames, is_running, nothing_found, refusal_of, settled, start_count, started, started_in, sync_count, synced, taken_of, with_number, written_after}
+use Rattle.dmix_client.specs.View.{held, is_moving}
+use Rattle.dmix_client.specs.Writes.{count_with, frames_in, ring_with, starts_with}
+
+-- the samples of a frame are laid one after the other, by client channels, up to the first that isn't: how many were, and how
+-- it ended
+abbrev pub one_more : ℕ × Ended → ℕ × Ended
+one_more (done, ended) = (done + 1, ended)
+
+abbrev pub lay_on : Ended → Course (ℕ × Ended) → Course (ℕ × Ended)
+lay_on Whole rest = rest >>= λ end. ends (one_more end)
+lay_on (Late word) rest = ends (0, Late word)
+lay_on Stopped rest = ends (0, Stopped)
+
+unfoldable pub lay_each : ℕ → ℕ → List ℕ → (ℕ → ℤ) → List ℕ → Course (ℕ × Ended)
+lay_each member frame bindings sample_of [] = ends (0, Whole)
+lay_each member frame bindings sample_of (q ∷ qs) =
+    lays (an_add member frame (slice_index bindings q) (sample_of q)) (λ ended. lay_on ended (lay_each member frame bindings sample_of qs))
+
+abbrev pub lay_frame : ℕ → ℕ → List ℕ → (ℕ → ℤ) → Course (ℕ × Ended)
+lay_frame member frame bindings sample_of = lay_each member frame bindings sample_of (rising bindings)
+
+-- so many frames are laid, from a first one on, up to the first sample that isn't
+abbrev pub one_frame_more : Commit → Commit
+one_frame_more commit = record commit { frames = commit.frames + 1 }
+
+abbrev pub go_on : ℕ × Ended → Course Commit → Course Commit
+go_on (done, Whole) rest = rest >>= λ commit. ends (one_frame_more commit)
+go_on (done, Late word) rest = ends (record { frames = 0; part = done; ended = Late word })
+go_on (done, Stopped) rest = ends (record { frames = 0; part = done; ended = Stopped })
+
+abbrev pub nothing : Commit
+nothing = record { frames = 0; part = 0; ended = Whole }
+
+unfoldable pub lay_frames : ℕ → ℕ → List ℕ → (ℕ → ℕ → ℤ) → ℕ → ℕ → Course Commit
+lay_frames member card bindings samples zero first = ends nothing
+lay_frames member card bindings samples (suc count) first =
+    lay_frame member (card + first) bindings (samples first) >>= λ end. go_on end (lay_frames member card bindings samples count (first + 1))
+
+-- the commit of so many frames
+abbrev pub commits : Plain → List ℤ → ℕ → Course Commit
+commits c ring count = lay_frames c.member c.card c.bindings (held c ring) count c.committed
+
+-- a commit behind a load, of a client as it is then
+abbrev pub commit_at : (Position → Plain) → (Position → ℕ) → List ℤ → Option Position → Course Commit
+commit_at at count ring None = ends nothing
+commit_at at count ring (Some position) = commits (at position) ring (count position)
+
+-- a load, and the commit behind it
+unfoldable pub looks : (Position → Plain) → (Position → ℕ) → List ℤ → Course (Option Position × Commit)
+looks at count ring = loads (λ load. commit_at at count ring load >>= λ commit. ends (load, commit))
+
+-- the sync of a client that moves frames: the load, and the commit
+unfoldable pub syncs : Plain → Call → List ℤ → Course (Answered (Unit {0}))
+syncs c call ring = looks (λ position. c) (sync_count c) ring >>= λ found. ends (synced c call found.0 found.1)
+
+-- the start of a client that has frames: the load, and the commit of those before one
+unfoldable pub starts : Plain → State → Cursor → ℕ → List ℤ → Course (Answered (Unit {0}))
+starts c state cursor upto ring =
+    looks (λ position. started_in c Running position cursor) (λ position. start_count c cursor position upto) ring
+    >>= λ found. ends (started c state cursor found.0 found.1)
+
+-- the calls, each of a client that isn't refused before
+
+abbrev pub sync_course : Plain → List ℤ → Course (Answered (Unit {0}))
+sync_course c ring = if is_moving c.state then syncs c call.Sync ring else ends (c, Ok tt)
+
+abbrev pub start_course : Plain → List ℤ → Cursor → Course (Answered (Unit {0}))
+start_course c ring cursor = if nat_eq c.written 0
+    then ends (settled c (next_of c.state call.Start (record nothing_found { queued = 0 })))
+    else starts c Running cursor c.written ring
+
+abbrev pub drain_on : List ℤ → Answered (Unit {0}) → Course (Answered (Unit {0}))
+drain_on ring (c, Ok done) = syncs c call.Drain ring
+drain_on ring (c, Err e) = ends (c, Err e)
+
+-- the start of a drain, and its sync
+unfoldable pub drains : Plain → List ℤ → Cursor → Course (Answered (Unit {0}))
+drains c ring cursor = starts c Draining cursor c.written ring >>= drain_on ring
+
+abbrev pub drain_course : Plain → List ℤ → Cursor → Course (Answered (Unit {0}))
+drain_course c ring cursor =
+    if is_moving c.state then syncs (draining c) call.Drain ring else
+    (if has_frames c then drains c ring cursor else ends (dropped c, Ok tt))
+
+-- a call, unless it is refused before it does anything
+abbrev pub admitted_by : {X : Type 0} → Option PcmError → Plain → Course (Answered X) → Course (Answered X)
+admitted_by None c course = course
+admitted_by (Some e) c course = ends (c, Err e)
+
+abbrev pub admitted : {X : Type 0} → Plain → Call → Course (Answered X) → Course (Answered X)
+admitted c call course = admitted_by (refusal_of c call) c course
+
+-- a call's answer with a number
+unfoldable pub numbered : (Plain → ℕ) → Course (Answered (Unit {0})) → Course (Answered ℕ)
+numbered number course = course >>= λ done. ends (with_number number done)
+
+abbrev pub number_course : (Plain → ℕ) → Plain → List ℤ → Course (Answered ℕ)
+number_course number c ring = if is_moving c.state then numbered number (syncs c call.Sync ring) else ends (c, Ok (number c))
+
+-- a write behind its sync: frames are taken, stored and committed
+unfoldable pub takes_more : Plain → List ℤ → List ℤ → ℕ → Course (Answered ℕ)
+takes_more c ring samples n =
+    commits c (ring_with c ring samples (taken_of c n)) (count_with c (taken_of c n)) >>= λ last. ends (written_after c n last)
+
+abbrev pub write_on : List ℤ → List ℤ → ℕ → Answered (Unit {0}) → Course (Answered ℕ)
+write_on ring samples n (c, Ok done) = takes_more c ring samples n
+write_on ring samples n (c, Err e) = ends (c, Err e)
+
+unfoldable pub writes_on : Plain → List ℤ → List ℤ → ℕ → Course (Answered ℕ)
+writes_on c ring samples n = syncs c call.Transfer ring >>= write_on ring samples n
+
+-- a write that starts the stream with frames that are stored
+unfoldable pub starts_taking : Plain → List ℤ → Cursor → ℕ → Course (Answered ℕ)
+starts_taking c ring cursor taken = starts c Running cursor (c.written + taken) ring >>= λ done. ends (accepted_if taken done)
+
+abbrev pub fills : Plain → List ℤ → List ℤ → Cursor → ℕ → Course (Answered ℕ)
+fills c ring samples cursor n = if starts_with c n
+    then starts_taking c (ring_with c ring samples (taken_of c n)) cursor (taken_of c n)
+    else ends (accepted c (taken_of c n), Ok (taken_of c n))
+
+abbrev pub write_course : Plain → List ℤ → List ℤ → Cursor → Course (Answered ℕ)
+write_course c ring samples cursor =
+    if is_running c.state then writes_on c ring samples (frames_in c samples) else fills c ring samples cursor (frames_in c samples)

@@ -1,0 +1,128 @@
+//! The calls that start a stream and end it, as alsa-lib groups them.
+ghost use Rattle.std.specs.Prelude.{◌≡◌, ◌↔◌, ℕ, ◌<◌, ◌≤◌, true, false, Option};
+ghost use Rattle.pcm_states.specs.declared.calls.Call.TheVariants as call;
+ghost use Rattle.snd_base.specs.Places.{end_frame};
+ghost use Rattle.course.specs.AtPort.{TakesAt};
+ghost use Rattle.dmix_client.specs.Calls.{draining, refusal_of, start_count, started, started_in, sync_count, synced};
+ghost use Rattle.dmix_client.specs.Causes.{Explains};
+ghost use Rattle.dmix_client.specs.Course.{admitted, drain_course, drains, start_course, starts};
+ghost use Rattle.dmix_client.specs.Growth.{AnySamples, Keeps, KeepsAccepted};
+ghost use Rattle.dmix_client.specs.Port.{CanUse};
+ghost use Rattle.dmix_client.specs.View.{IsSound, is_moving};
+
+use crate::client::Client;
+use crate::commit::look_and_start;
+use crate::plain::Plain;
+use crate::status::sync_call;
+use crate::steps::started;
+use mix_core::{Gate, MixPort};
+use pcm_states::{Call, State};
+use snd_base::{Cursor, PcmError, XrunWhy};
+
+/// The start, to `state`, of a client that is prepared and has frames, those before `upto`, from the port's cursor on.
+pub(crate) fn begin<P: MixPort, G: Gate>(
+    plain: &Plain,
+    ring: &[i16],
+    port: &mut P,
+    gate: &mut G,
+    state: State,
+    upto: u64,
+) -> (Plain, Result<(), PcmError>)
+    requires sound { IsSound plain.now ring.now }
+    requires prepared { plain.now.state ≡ State.Prepared }
+    requires fits { upto ≤ plain.now.config.buffer_size }
+    requires port { CanUse plain.now (P.view port.old) }
+    ensures takes { TakesAt P.MixPort G.Gate (port.old, gate.old) (starts plain.now state (P.view port.old).marks.cursor upto ring.now) (port.new, gate.new) result }
+    ensures near { (P.view port.old).marks.cursor.frame ≤ end_frame plain.now.geometry }
+    ensures same { KeepsAccepted plain.now result.0 }
+{
+    let cursor = port.cursor();
+    let found = look_and_start(plain, ring, port, gate, cursor, upto);
+    started(*plain, state, cursor, found.load, found.commit)
+}
+
+/// The start of a client that is prepared and has frames, and, where it went well, the sync of its drain.
+pub(crate) fn start_and_drain<P: MixPort, G: Gate>(
+    plain: &mut Plain,
+    ring: &[i16],
+    port: &mut P,
+    gate: &mut G,
+) -> Result<(), PcmError>
+    requires sound { IsSound plain.old ring.now }
+    requires prepared { plain.old.state ≡ State.Prepared }
+    requires unstopped { plain.old.stopped ≡ false }
+    requires port { CanUse plain.old (P.view port.old) }
+    ensures takes { TakesAt P.MixPort G.Gate (port.old, gate.old) (drains plain.old ring.now (P.view port.old).marks.cursor) (port.new, gate.new) (plain.new, result) }
+    ensures sound { IsSound plain.new ring.now }
+    ensures keeps { Keeps P.MixPort G.Gate (port.old, gate.old) (port.new, gate.new) (record { plain = plain.old; ring = ring.now }) (record { plain = plain.new; ring = ring.now }) result AnySamples }
+    ensures again { (result ≡ Err PcmError.Again) ↔ ((plain.new.state ≡ State.Draining) × (plain.new.stopped ≡ false)) }
+{
+    let (begun, answer) = begin(plain, ring, port, gate, State::Draining, plain.written);
+    *plain = begun;
+    if let Err(error) = answer {
+        return Err(error);
+    }
+    sync_call(plain, ring, port, gate, Call::Drain)
+}
+
+impl Client {
+    /// Starts the stream (`snd_pcm_start`). In ALSA it starts at once; here its first frame stands at the larger of two
+    /// frames: the position loaded plus the lead, and the first frame that the port may still add to. What is written is
+    /// committed there.
+    ///
+    /// From PREPARED it leads to RUNNING. `Xrun(Empty)` comes exactly where nothing is written; then nothing is loaded and
+    /// the state stays. A card that is gone and a frame that is late lead to the states that `sync` tells, and `Stopped`
+    /// comes as there. In every other state it is refused with `BadState`, in DISCONNECTED with `NoDevice`.
+    pub fn start<P: MixPort, G: Gate>(&mut self, port: &mut P, gate: &mut G) -> Result<(), PcmError>
+        requires { CanUse self.old.plain (P.view port.old) }
+        ensures takes { TakesAt P.MixPort G.Gate (port.old, gate.old) (admitted self.old.plain call.Start
+            (start_course self.old.plain self.old.ring (P.view port.old).marks.cursor)) (port.new, gate.new) (self.new.plain, result) }
+        ensures refused { (e : PcmError) → refusal_of self.old.plain call.Start ≡ Some e → (result ≡ Err e) × (self.new ≡ self.old) × (port.new ≡ port.old) × (gate.new ≡ gate.old) }
+        ensures ring { self.new.ring ≡ self.old.ring }
+        ensures keeps { Keeps P.MixPort G.Gate (port.old, gate.old) (port.new, gate.new) self.old self.new result AnySamples }
+        ensures causes { refusal_of self.old.plain call.Start ≡ None → 0 < self.old.plain.written →
+            Explains P.MixPort G.Gate (port.old, gate.old) (port.new, gate.new) self.old (λ position. started_in self.old.plain State.Running position (P.view port.old).marks.cursor)
+            (λ position. start_count self.old.plain (P.view port.old).marks.cursor position self.old.plain.written) (started self.old.plain State.Running (P.view port.old).marks.cursor) (self.new.plain, result) }
+    {
+        self.plain.admit(Call::Start)?;
+        if self.plain.written == 0 {
+            return Err(PcmError::Xrun(XrunWhy::Empty));
+        }
+        let ring = self.ring.as_slice();
+        let written = self.plain.written;
+        let (begun, answer) = begin(&self.plain, ring, port, gate, State::Running, written);
+        self.plain = begun;
+        answer
+    }
+
+    /// Plays what is written, and then stops the stream (`snd_pcm_drain` of a stream that doesn't wait).
+    ///
+    /// In RUNNING it is DRAINING before its load; in PREPARED with frames it makes the start first, so that it loads the
+    /// position twice. Then it makes the sync of a stream in DRAINING, which no stop threshold ends. `Ok` says that all is
+    /// played and the state is SETUP, `Again` that it is still DRAINING. In SETUP, XRUN and PREPARED without frames it is
+    /// `Ok` and leads to SETUP without a load. In OPEN it is refused with `BadState`, in DISCONNECTED with `NoDevice`.
+    pub fn drain<P: MixPort, G: Gate>(&mut self, port: &mut P, gate: &mut G) -> Result<(), PcmError>
+        requires { CanUse self.old.plain (P.view port.old) }
+        ensures takes { TakesAt P.MixPort G.Gate (port.old, gate.old) (admitted self.old.plain call.Drain
+            (drain_course self.old.plain self.old.ring (P.view port.old).marks.cursor)) (port.new, gate.new) (self.new.plain, result) }
+        ensures refused { (e : PcmError) → refusal_of self.old.plain call.Drain ≡ Some e → (result ≡ Err e) × (self.new ≡ self.old) × (port.new ≡ port.old) × (gate.new ≡ gate.old) }
+        ensures ring { self.new.ring ≡ self.old.ring }
+        ensures keeps { Keeps P.MixPort G.Gate (port.old, gate.old) (port.new, gate.new) self.old self.new result AnySamples }
+        ensures again { refusal_of self.old.plain call.Drain ≡ None → (result ≡ Err PcmError.Again) ↔ ((self.new.plain.state ≡ State.Draining) × (self.new.plain.stopped ≡ false)) }
+        ensures causes { refusal_of self.old.plain call.Drain ≡ None → is_moving self.old.plain.state ≡ true →
+            Explains P.MixPort G.Gate (port.old, gate.old) (port.new, gate.new) (record { plain = draining self.old.plain; ring = self.old.ring }) (λ position. draining self.old.plain)
+            (sync_count (draining self.old.plain)) (synced (draining self.old.plain) call.Drain) (self.new.plain, result) }
+    {
+        self.plain.admit(Call::Drain)?;
+        let ring = self.ring.as_slice();
+        if self.plain.is_moving() {
+            self.plain = self.plain.draining();
+            return sync_call(&mut self.plain, ring, port, gate, Call::Drain);
+        }
+        if !self.plain.has_frames() {
+            self.plain = self.plain.dropped();
+            return Ok(());
+        }
+        start_and_drain(&mut self.plain, ring, port, gate)
+    }
+}

@@ -1,0 +1,126 @@
+//! The calls that ask how a stream stands, as alsa-lib groups them: each loads the position and commits what is pending.
+ghost use Rattle.std.specs.Prelude.{◌≡◌, ℕ, true, false, OnOk, Option};
+ghost use Rattle.pcm_states.specs.declared.calls.Call.TheVariants as call;
+ghost use Rattle.course.specs.AtPort.{TakesAt};
+ghost use Rattle.dmix_client.specs.Calls.{avail_answer, delay_answer, refusal_of, sync_count, synced, with_number};
+ghost use Rattle.dmix_client.specs.Causes.{Explains};
+ghost use Rattle.dmix_client.specs.Course.{admitted, number_course, sync_course, syncs};
+ghost use Rattle.dmix_client.specs.Growth.{AnySamples, Keeps, KeepsAccepted};
+ghost use Rattle.dmix_client.specs.Port.{CanUse, IsStep};
+ghost use Rattle.dmix_client.specs.View.{IsGoing, IsSound, is_moving};
+
+use crate::client::Client;
+use crate::commit::look_and_commit;
+use crate::plain::Plain;
+use crate::steps::{synced, with_avail, with_delay};
+use mix_core::{Gate, MixPort};
+use pcm_states::Call;
+use snd_base::PcmError;
+
+/// The sync of a client that moves frames.
+pub(crate) fn sync_call<P: MixPort, G: Gate>(
+    plain: &mut Plain,
+    ring: &[i16],
+    port: &mut P,
+    gate: &mut G,
+    call: Call,
+) -> Result<(), PcmError>
+    requires sound { IsSound plain.old ring.now }
+    requires moving { is_moving plain.old.state ≡ true }
+    requires unstopped { plain.old.stopped ≡ false }
+    requires step { IsStep plain.old.state call }
+    requires port { CanUse plain.old (P.view port.old) }
+    ensures takes { TakesAt P.MixPort G.Gate (port.old, gate.old) (syncs plain.old call ring.now) (port.new, gate.new) (plain.new, result) }
+    ensures keeps { Keeps P.MixPort G.Gate (port.old, gate.old) (port.new, gate.new) (record { plain = plain.old; ring = ring.now }) (record { plain = plain.new; ring = ring.now }) result AnySamples }
+    ensures sound { IsSound plain.new ring.now }
+    ensures port { CanUse plain.new (P.view port.new) }
+    ensures goes { OnOk result (IsGoing plain.new) }
+    ensures same { KeepsAccepted plain.old plain.new }
+{
+    let found = look_and_commit(plain, ring, port, gate);
+    let (after, answer) = synced(*plain, call, found.load, found.commit);
+    *plain = after;
+    answer
+}
+
+impl Client {
+    /// Loads the card's position and commits what is pending (`snd_pcm_hwsync`).
+    ///
+    /// In RUNNING and DRAINING the position is loaded. Where the card is gone the stream is DISCONNECTED, with
+    /// `NoDevice`; where in RUNNING as many frames are available as the stop threshold says, it is XRUN, with `Avail`.
+    /// Then all pending frames that are within the ring of the position are laid, and one that comes too late leads to
+    /// XRUN, with `Late`, whatever the stop threshold. A stream in DRAINING whose frames are played then is SETUP.
+    ///
+    /// In PREPARED it does nothing. In XRUN it is refused with `Already`, in DISCONNECTED with `NoDevice`, in OPEN and
+    /// SETUP with `BadState`. `Stopped` comes exactly where the client was stopped before, or the gate's count of stops
+    /// rose in this call; what was laid stays.
+    pub fn sync<P: MixPort, G: Gate>(&mut self, port: &mut P, gate: &mut G) -> Result<(), PcmError>
+        requires { CanUse self.old.plain (P.view port.old) }
+        ensures takes { TakesAt P.MixPort G.Gate (port.old, gate.old) (admitted self.old.plain call.Sync
+            (sync_course self.old.plain self.old.ring)) (port.new, gate.new) (self.new.plain, result) }
+        ensures refused { (e : PcmError) → refusal_of self.old.plain call.Sync ≡ Some e → (result ≡ Err e) × (self.new ≡ self.old) × (port.new ≡ port.old) × (gate.new ≡ gate.old) }
+        ensures ring { self.new.ring ≡ self.old.ring }
+        ensures keeps { Keeps P.MixPort G.Gate (port.old, gate.old) (port.new, gate.new) self.old self.new result AnySamples }
+        ensures causes { refusal_of self.old.plain call.Sync ≡ None → is_moving self.old.plain.state ≡ true →
+            Explains P.MixPort G.Gate (port.old, gate.old) (port.new, gate.new) self.old (λ position. self.old.plain) (sync_count self.old.plain) (synced self.old.plain call.Sync) (self.new.plain, result) }
+    {
+        self.plain.admit(Call::Sync)?;
+        if !self.plain.is_moving() {
+            return Ok(());
+        }
+        let ring = self.ring.as_slice();
+        sync_call(&mut self.plain, ring, port, gate, Call::Sync)
+    }
+
+    /// Makes a `sync` and answers the frames that a write can take (`snd_pcm_avail`, which syncs as this does, and not
+    /// `snd_pcm_avail_update`): the buffer size, less what is written and not played. It may exceed the buffer size. Where
+    /// the sync ended in SETUP it is the buffer size. It is refused as `sync` is.
+    pub fn avail_update<P: MixPort, G: Gate>(
+        &mut self,
+        port: &mut P,
+        gate: &mut G,
+    ) -> Result<u64, PcmError>
+        requires { CanUse self.old.plain (P.view port.old) }
+        ensures takes { TakesAt P.MixPort G.Gate (port.old, gate.old) (admitted self.old.plain call.Sync
+            (number_course avail_answer self.old.plain self.old.ring)) (port.new, gate.new) (self.new.plain, result) }
+        ensures refused { (e : PcmError) → refusal_of self.old.plain call.Sync ≡ Some e → (result ≡ Err e) × (self.new ≡ self.old) × (port.new ≡ port.old) × (gate.new ≡ gate.old) }
+        ensures ring { self.new.ring ≡ self.old.ring }
+        ensures keeps { Keeps P.MixPort G.Gate (port.old, gate.old) (port.new, gate.new) self.old self.new result AnySamples }
+        ensures causes { refusal_of self.old.plain call.Sync ≡ None → is_moving self.old.plain.state ≡ true →
+            Explains P.MixPort G.Gate (port.old, gate.old) (port.new, gate.new) self.old (λ position. self.old.plain) (sync_count self.old.plain) (λ load commit. with_number avail_answer (synced self.old.plain call.Sync load commit)) (self.new.plain, result) }
+    {
+        self.plain.admit(Call::Sync)?;
+        if !self.plain.is_moving() {
+            return Ok(self.plain.avail_answer());
+        }
+        let ring = self.ring.as_slice();
+        let answer = sync_call(&mut self.plain, ring, port, gate, Call::Sync);
+        with_avail(&self.plain, answer)
+    }
+
+    /// Makes a `sync` and answers how many frames are left from the position seen to the end of what is written
+    /// (`snd_pcm_delay`). In PREPARED these are all that is written; where the sync ended in SETUP there are none. It is
+    /// refused as `sync` is.
+    pub fn delay<P: MixPort, G: Gate>(
+        &mut self,
+        port: &mut P,
+        gate: &mut G,
+    ) -> Result<u64, PcmError>
+        requires { CanUse self.old.plain (P.view port.old) }
+        ensures takes { TakesAt P.MixPort G.Gate (port.old, gate.old) (admitted self.old.plain call.Sync
+            (number_course delay_answer self.old.plain self.old.ring)) (port.new, gate.new) (self.new.plain, result) }
+        ensures refused { (e : PcmError) → refusal_of self.old.plain call.Sync ≡ Some e → (result ≡ Err e) × (self.new ≡ self.old) × (port.new ≡ port.old) × (gate.new ≡ gate.old) }
+        ensures ring { self.new.ring ≡ self.old.ring }
+        ensures keeps { Keeps P.MixPort G.Gate (port.old, gate.old) (port.new, gate.new) self.old self.new result AnySamples }
+        ensures causes { refusal_of self.old.plain call.Sync ≡ None → is_moving self.old.plain.state ≡ true →
+            Explains P.MixPort G.Gate (port.old, gate.old) (port.new, gate.new) self.old (λ position. self.old.plain) (sync_count self.old.plain) (λ load commit. with_number delay_answer (synced self.old.plain call.Sync load commit)) (self.new.plain, result) }
+    {
+        self.plain.admit(Call::Sync)?;
+        if !self.plain.is_moving() {
+            return Ok(self.plain.delay_answer());
+        }
+        let ring = self.ring.as_slice();
+        let answer = sync_call(&mut self.plain, ring, port, gate, Call::Sync);
+        with_delay(&self.plain, answer)
+    }
+}

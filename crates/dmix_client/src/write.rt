@@ -1,0 +1,246 @@
+//! The call that moves frames.
+ghost use Rattle.std.specs.Prelude.{◌≡◌, ℕ, ◌+◌, ◌*◌, ◌/◌, ◌^◌, ◌<◌, ◌≤◌, true, false, IfOk, ℤ, List, length, Option};
+ghost use Rattle.snd_base.specs.Places.{end_frame};
+ghost use Rattle.pcm_states.specs.declared.calls.Call.TheVariants as call;
+ghost use Rattle.course.specs.AtPort.{TakesAt};
+ghost use Rattle.dmix_client.specs.Calls.{accepted_if, refusal_of, start_count, started, started_in, taken_of};
+ghost use Rattle.dmix_client.specs.Causes.{Explains, ExplainsWrite};
+ghost use Rattle.dmix_client.specs.Course.{admitted, commits, fills, starts_taking, takes_more, write_course, writes_on};
+ghost use Rattle.dmix_client.specs.Growth.{Follows, Keeps};
+ghost use Rattle.dmix_client.specs.Port.{CanUse, IsCommit};
+ghost use Rattle.dmix_client.specs.View.{IsSound, is_moving};
+ghost use Rattle.dmix_client.specs.Writes.{IsOffer, count_with, frames_in, ring_with, starts_with};
+
+use crate::client::Client;
+use crate::commit::{Commit, lay_frames};
+use crate::control::begin;
+use crate::plain::Plain;
+use crate::ring::store;
+use crate::status::sync_call;
+use crate::steps::{accepted_if, written_after};
+use mix_core::{Gate, MixPort};
+use pcm_states::{Call, State};
+use snd_base::PcmError;
+
+/// Commits, of a client that moves frames, what it has with `taken` frames behind what is written, at the position that it
+/// has seen.
+fn commit_taken<P: MixPort, G: Gate>(
+    plain: &Plain,
+    ring: &[i16],
+    port: &mut P,
+    gate: &mut G,
+    taken: u64,
+) -> Commit
+    requires sound { IsSound plain.now ring.now }
+    requires moving { is_moving plain.now.state ≡ true }
+    requires unstopped { plain.now.stopped ≡ false }
+    requires few { taken ≤ 16384 }
+    requires port { CanUse plain.now (P.view port.old) }
+    ensures takes { TakesAt P.MixPort G.Gate (port.old, gate.old) (commits plain.now ring.now (count_with plain.now taken)) (port.new, gate.new) result }
+    ensures commit { IsCommit result.ended result.frames result.part (count_with plain.now taken) (length plain.now.bindings) }
+{
+    let count = plain.count_with(taken);
+    lay_frames(port, gate, plain, ring, count)
+}
+
+/// A write of `frames` frames into a stream that runs, after its sync.
+fn write_taken<P: MixPort, G: Gate>(
+    plain: &mut Plain,
+    ring: &mut [i16],
+    port: &mut P,
+    gate: &mut G,
+    samples: &[i16],
+    frames: u64,
+) -> Result<u64, PcmError>
+    requires sound { IsSound plain.old ring.old }
+    requires moving { is_moving plain.old.state ≡ true }
+    requires unstopped { plain.old.stopped ≡ false }
+    requires held { frames * length plain.old.bindings ≤ length samples.now }
+    requires few { frames ≤ 4194304 }
+    requires fed { plain.old.fed < 2 ^ 63 }
+    requires port { CanUse plain.old (P.view port.old) }
+    ensures takes { TakesAt P.MixPort G.Gate (port.old, gate.old) (takes_more plain.old ring.old samples.now frames) (port.new, gate.new) (plain.new, result) }
+    ensures ring { ring.new ≡ ring_with plain.old ring.old samples.now (taken_of plain.old frames) }
+{
+    let taken = plain.taken(frames);
+    store_taken(plain, ring, samples, taken);
+    let last = commit_taken(plain, ring, port, gate, taken);
+    let (after, answer) = written_after(*plain, frames, last);
+    *plain = after;
+    answer
+}
+
+/// Stores the first `taken` frames of some samples behind what is written.
+fn store_taken(plain: &Plain, ring: &mut [i16], samples: &[i16], taken: u64)
+    requires sound { IsSound plain.now ring.old }
+    requires configured { plain.now.configured ≡ true }
+    requires held { taken * length plain.now.bindings ≤ length samples.now }
+    requires fits { plain.now.written + taken < 2 ^ 64 }
+    ensures ring { ring.new ≡ ring_with plain.now ring.old samples.now taken }
+    ensures sound { IsSound plain.now ring.new }
+{
+    store(
+        ring,
+        plain.config.buffer_size,
+        plain.bindings.len(),
+        plain.written,
+        samples,
+        taken,
+    );
+}
+
+/// A write of `frames` frames into a stream that runs.
+fn write_running<P: MixPort, G: Gate>(
+    plain: &mut Plain,
+    ring: &mut [i16],
+    port: &mut P,
+    gate: &mut G,
+    samples: &[i16],
+    frames: u64,
+) -> Result<u64, PcmError>
+    requires sound { IsSound plain.old ring.old }
+    requires running { plain.old.state ≡ State.Running }
+    requires unstopped { plain.old.stopped ≡ false }
+    requires held { frames * length plain.old.bindings ≤ length samples.now }
+    requires few { frames ≤ 4194304 }
+    requires fed { plain.old.fed < 2 ^ 63 }
+    requires port { CanUse plain.old (P.view port.old) }
+    ensures takes { TakesAt P.MixPort G.Gate (port.old, gate.old) (writes_on plain.old ring.old samples.now frames) (port.new, gate.new) (plain.new, result) }
+    ensures sound { IsSound plain.new ring.new }
+    ensures count { IfOk result (λ n. n ≤ 16384) }
+    ensures keeps { Keeps P.MixPort G.Gate (port.old, gate.old) (port.new, gate.new) (record { plain = plain.old; ring = ring.old }) (record { plain = plain.new; ring = ring.new }) result
+        (λ all. Follows plain.old all samples.now frames) }
+    ensures explains { ExplainsWrite P.MixPort G.Gate (port.old, gate.old) (port.new, gate.new) plain.old ring.old ring.new samples.now frames (plain.new, result) }
+{
+    let synced = sync_call(plain, ring, port, gate, Call::Transfer);
+    if let Err(error) = synced {
+        return Err(error);
+    }
+    write_taken(plain, ring, port, gate, samples, frames)
+}
+
+/// The start of a prepared client in whose ring a write stored `taken` frames.
+fn start_write<P: MixPort, G: Gate>(
+    plain: &mut Plain,
+    ring: &[i16],
+    port: &mut P,
+    gate: &mut G,
+    taken: u64,
+) -> Result<u64, PcmError>
+    requires sound { IsSound plain.old ring.now }
+    requires prepared { plain.old.state ≡ State.Prepared }
+    requires fits { plain.old.written + taken ≤ plain.old.config.buffer_size }
+    requires fed { plain.old.fed < 2 ^ 63 }
+    requires port { CanUse plain.old (P.view port.old) }
+    ensures takes { TakesAt P.MixPort G.Gate (port.old, gate.old) (starts_taking plain.old ring.now (P.view port.old).marks.cursor taken) (port.new, gate.new) (plain.new, result) }
+    ensures near { (P.view port.old).marks.cursor.frame ≤ end_frame plain.old.geometry }
+{
+    let upto = plain.written + taken;
+    let begun = begin(plain, ring, port, gate, State::Running, upto);
+    let (after, answer) = accepted_if(taken, begun);
+    *plain = after;
+    answer
+}
+
+/// A write of `frames` frames into a prepared stream.
+fn write_prepared<P: MixPort, G: Gate>(
+    plain: &mut Plain,
+    ring: &mut [i16],
+    port: &mut P,
+    gate: &mut G,
+    samples: &[i16],
+    frames: u64,
+) -> Result<u64, PcmError>
+    requires sound { IsSound plain.old ring.old }
+    requires prepared { plain.old.state ≡ State.Prepared }
+    requires held { frames * length plain.old.bindings ≤ length samples.now }
+    requires few { frames ≤ 4194304 }
+    requires fed { plain.old.fed < 2 ^ 63 }
+    requires port { CanUse plain.old (P.view port.old) }
+    ensures takes { TakesAt P.MixPort G.Gate (port.old, gate.old) (fills plain.old ring.old samples.now (P.view port.old).marks.cursor frames) (port.new, gate.new) (plain.new, result) }
+    ensures ring { ring.new ≡ ring_with plain.old ring.old samples.now (taken_of plain.old frames) }
+    ensures sound { IsSound plain.new ring.new }
+    ensures count { IfOk result (λ n. n ≤ 16384) }
+    ensures keeps { Keeps P.MixPort G.Gate (port.old, gate.old) (port.new, gate.new) (record { plain = plain.old; ring = ring.old }) (record { plain = plain.new; ring = ring.new }) result
+        (λ all. Follows plain.old all samples.now frames) }
+    ensures explains { starts_with plain.old frames ≡ true →
+        Explains P.MixPort G.Gate (port.old, gate.old) (port.new, gate.new) (record { plain = plain.old; ring = ring.new }) (λ position. started_in plain.old State.Running position (P.view port.old).marks.cursor)
+        (λ position. start_count plain.old (P.view port.old).marks.cursor position (plain.old.written + taken_of plain.old frames))
+        (λ load commit. accepted_if (taken_of plain.old frames) (started plain.old State.Running (P.view port.old).marks.cursor load commit)) (plain.new, result) }
+{
+    let taken = plain.taken(frames);
+    store_taken(plain, ring, samples, taken);
+    if plain.params.start_threshold > plain.written + taken {
+        *plain = plain.accepted(taken);
+        return Ok(taken);
+    }
+    start_write(plain, ring, port, gate, taken)
+}
+
+/// A number of frames of at most a buffer.
+fn few_frames(answer: Result<u64, PcmError>) -> Result<u32, PcmError>
+    requires { IfOk answer (λ n. n ≤ 16384) }
+    ensures { result ≡ answer }
+{
+    match answer {
+        Ok(frames) => Ok(frames as u32),
+        Err(error) => Err(error),
+    }
+}
+
+/// How many whole frames of so many channels there are in some samples.
+fn whole_frames(samples: &[i16], channels: u8) -> u64
+    requires { 1 ≤ channels }
+    ensures value { result ≡ length samples.now / channels }
+    ensures held { result * channels ≤ length samples.now }
+{
+    (samples.len() / channels as usize) as u64
+}
+
+impl Client {
+    /// Writes interleaved frames and answers how many were accepted (`snd_pcm_writei` of a stream that doesn't wait).
+    ///
+    /// The caller has whole frames, at most 4,194,304 of them, and less than 2 to the power 63 accepted so far.
+    ///
+    /// - In RUNNING the stream is synced first, and what the `sync` refuses is the answer. `Again` comes exactly where
+    ///   the sync went well, there are frames to write and none can be taken. Otherwise as many frames as can be taken are
+    ///   committed, at the position that was loaded.
+    /// - In PREPARED as many frames as can be taken are stored, and a `start` is made where the start threshold is
+    ///   reached. A full stream takes none.
+    /// - In XRUN it is refused with `Already`, in DISCONNECTED with `NoDevice`, and else with `BadState`.
+    ///
+    /// The frames of a call that answers an error are not accepted. What was laid of them stays in the card's ring, and
+    /// `segment` shows it.
+    pub fn writei<P: MixPort, G: Gate>(
+        &mut self,
+        port: &mut P,
+        gate: &mut G,
+        samples: &[i16],
+    ) -> Result<u32, PcmError>
+        requires offer { self.old.plain.configured ≡ true → IsOffer self.old.plain samples.now }
+        requires port { CanUse self.old.plain (P.view port.old) }
+        ensures takes { TakesAt P.MixPort G.Gate (port.old, gate.old) (admitted self.old.plain call.Transfer
+            (write_course self.old.plain self.old.ring samples.now (P.view port.old).marks.cursor)) (port.new, gate.new) (self.new.plain, result) }
+        ensures refused { (e : PcmError) → refusal_of self.old.plain call.Transfer ≡ Some e → (result ≡ Err e) × (self.new ≡ self.old) × (port.new ≡ port.old) × (gate.new ≡ gate.old) }
+        ensures keeps { Keeps P.MixPort G.Gate (port.old, gate.old) (port.new, gate.new) self.old self.new result
+            (λ all. Follows self.old.plain all samples.now (frames_in self.old.plain samples.now)) }
+        ensures stores { refusal_of self.old.plain call.Transfer ≡ None → self.old.plain.state ≡ State.Prepared →
+            self.new.ring ≡ ring_with self.old.plain self.old.ring samples.now (taken_of self.old.plain (frames_in self.old.plain samples.now)) }
+        ensures starts { refusal_of self.old.plain call.Transfer ≡ None → self.old.plain.state ≡ State.Prepared → starts_with self.old.plain (frames_in self.old.plain samples.now) ≡ true →
+            Explains P.MixPort G.Gate (port.old, gate.old) (port.new, gate.new) (record { plain = self.old.plain; ring = self.new.ring }) (λ position. started_in self.old.plain State.Running position (P.view port.old).marks.cursor)
+            (λ position. start_count self.old.plain (P.view port.old).marks.cursor position (self.old.plain.written + taken_of self.old.plain (frames_in self.old.plain samples.now)))
+            (λ load commit. accepted_if (taken_of self.old.plain (frames_in self.old.plain samples.now)) (started self.old.plain State.Running (P.view port.old).marks.cursor load commit)) (self.new.plain, result) }
+        ensures again { refusal_of self.old.plain call.Transfer ≡ None → self.old.plain.state ≡ State.Running →
+            ExplainsWrite P.MixPort G.Gate (port.old, gate.old) (port.new, gate.new) self.old.plain self.old.ring self.new.ring samples.now (frames_in self.old.plain samples.now) (self.new.plain, result) }
+    {
+        self.plain.admit(Call::Transfer)?;
+        let frames = whole_frames(samples, self.plain.bindings.len());
+        let ring = self.ring.as_mut_slice();
+        if self.plain.state == State::Running {
+            let answer = write_running(&mut self.plain, ring, port, gate, samples, frames);
+            return few_frames(answer);
+        }
+        let answer = write_prepared(&mut self.plain, ring, port, gate, samples, frames);
+        few_frames(answer)
+    }
+}

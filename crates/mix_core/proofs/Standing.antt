@@ -1,0 +1,286 @@
+-- What the standing adds of a run are after one more event, and what a withdrawal replies by them.
+use Rattle.std.proofs.Common.{◌≡◌, ◌≢◌, ℕ, ◌+◌, ◌<◌, ◌≤◌, ◌↔◌, true, false, Option, None, Some, List, [], ◌∷◌, ◌++◌, drop, take, fold, filter, length, get_or, ℤ, inl, inr, refl, sym, subst, ap, ◌∙◌, append_assoc, arith}
+use Rattle.std.specs.Prelude.{slice_index_or, nat_lt, nat_eq, ⊤}
+use Rattle.std.proofs.lemmas.Bool.{cases_eq}
+use Rattle.std.proofs.lemmas.Bool.Decides.{nat_tests}
+use Rattle.std.proofs.lemmas.List.{append-nil}
+use Rattle.std.proofs.lemmas.List.Elements.{filter-append, filter_map-append}
+use Rattle.std.proofs.lemmas.List.Sums.{fold-append, fold_push}
+use Rattle.snd_base.specs.declared.geometry.Geometry.{Geometry}
+use Rattle.snd_base.specs.Places.{IsFrom, first_frame, first_free}
+use Rattle.mix_core.specs.declared.event.Event.{Event}
+use Rattle.mix_core.specs.declared.event.Event.TheVariants.{Add, Publish, Take, Withdraw}
+use Rattle.mix_core.specs.declared.event.Reply.{Reply}
+use Rattle.mix_core.specs.declared.event.Reply.TheVariants.{In, LapEnd, Late, Outside, Published, Took}
+use Rattle.mix_core.specs.declared.marks.Marks.{Marks}
+use Rattle.mix_core.specs.declared.port.Entry.{Entry}
+use Rattle.mix_core.specs.declared.port.Kind.TheVariants.{Added, Withdrawn}
+use Rattle.mix_core.specs.Calls.{IsLaidBy}
+use Rattle.mix_core.specs.History.{IsHeld, IsReply, IsSample, Row, entry_of, is_taken, laid_of}
+use Rattle.mix_core.specs.HeldLaws.{HeldPlace, held-at, last_is, missed-back}
+use Rattle.mix_core.specs.KeptLaws.{AreAlike-kept, IsReply-alike, laid_of-kept}
+use Rattle.mix_core.specs.Laid.{a_withdrawal, last_entry, marks_of, own, stand_after, standing, standing_of, stood, without_last}
+use Rattle.mix_core.specs.LegalLaws.{AreLeast, marks_of-least}
+use Rattle.mix_core.specs.MarkLaws.{without_last-more}
+use Rattle.mix_core.specs.OwnLaws.{last_entry-more, own-more, own-more_other, standing_of-other, standing_of-own}
+use Rattle.mix_core.specs.Run.{IsAnswered, IsHeldSince, IsLastOf, IsReplied, IsReplySince, Keeps, MayWithdraw, kept_rows}
+use Rattle.mix_core.specs.Stands.{Stands}
+use Rattle.mix_core.specs.View.{View}
+
+-- a row that lays nothing
+pub keeps-nothing : (st : List Entry) (rows : List Row) (r : Row) → entry_of r ≡ None → Keeps st rows → Keeps st (rows ++ r ∷ [])
+keeps-nothing st rows r none k =
+    let same : laid_of (rows ++ r ∷ []) ≡ laid_of rows = filter_map-append entry_of rows (r ∷ []) ∙ rw none (append-nil (laid_of rows)) in
+    record {
+      holds = λ m. k.holds m ∙ ap (standing_of m) (sym same);
+      backed = λ m before. subst (λ es. fold stand_after before (own m es) ≡ before ++ standing_of m es) (sym same) (k.backed m before);
+    }
+
+-- a take lays nothing, whatever its reply
+pub keeps-replied : (st : List Entry) (r : Reply) (rows : List Row) → Keeps st rows → Keeps st (rows ++ (Take, r) ∷ [])
+keeps-replied st r rows k = keeps-nothing st rows (Take, r) (none r) k where
+  none : (r : Reply) → entry_of (Take, r) ≡ None
+  none In = refl
+  none Late = refl
+  none Outside = refl
+  none (Took f c v) = refl
+  none (Published f) = refl
+  none LapEnd = refl
+
+-- the standing adds after one more entry of a row
+laid_of-more : (rows : List Row) (r : Row) (e : Entry) → entry_of r ≡ Some e → laid_of (rows ++ r ∷ []) ≡ laid_of rows ++ e ∷ []
+laid_of-more rows r e some = filter_map-append entry_of rows (r ∷ []) ∙ rw some refl
+
+pub keeps-add : (st : List Entry) (rows : List Row) (r : Row) (e : Entry) → entry_of r ≡ Some e → e.kind ≡ Added → Keeps st rows → Keeps (st ++ e ∷ []) (rows ++ r ∷ [])
+keeps-add st rows r e some kind k =
+    let es : List Entry = laid_of rows in
+    let more : laid_of (rows ++ r ∷ []) ≡ es ++ e ∷ [] = laid_of-more rows r e some in
+    let put : (held : List Entry) → stand_after held e ≡ held ++ e ∷ [] = λ held. ap (λ d. stood d held e) kind in
+    record {
+      holds = λ m. subst (λ xs. own m (st ++ e ∷ []) ≡ standing_of m xs) (sym more) (elim (cases_eq e.member m) [
+        | inl same ↦ own-more m st e same ∙ (ap (λ xs. xs ++ e ∷ []) (k.holds m) ∙ sym (standing_of-own m es e same ∙ put (standing_of m es)))
+        | inr other ↦ own-more_other m st e other ∙ (k.holds m ∙ sym (standing_of-other m es e other))
+      ]);
+      backed = λ m before. subst (λ xs. fold stand_after before (own m xs) ≡ before ++ standing_of m xs) (sym more) (elim (cases_eq e.member m) [
+        | inl same ↦
+            ap (fold stand_after before) (own-more m es e same)
+            ∙ (fold_push stand_after before (own m es) e
+            ∙ (put (fold stand_after before (own m es))
+            ∙ (ap (λ xs. xs ++ e ∷ []) (k.backed m before)
+            ∙ (append_assoc before (standing_of m es) (e ∷ []) ∙ ap (λ xs. before ++ xs) (sym (standing_of-own m es e same ∙ put (standing_of m es)))))))
+        | inr other ↦
+            ap (fold stand_after before) (own-more_other m es e other) ∙ (k.backed m before ∙ ap (λ xs. before ++ xs) (sym (standing_of-other m es e other)))
+      ]);
+    }
+
+-- a list, at the last entry of a member
+pub record AtLast (st : List Entry) (m i : ℕ) (x : Entry) : Type 0 where
+  pub early : List Entry
+  pub of_member : x.member ≡ m
+  pub own_is : own m st ≡ early ++ x ∷ []
+  pub own_left : own m (take i st ++ drop (i + 1) st) ≡ early
+  pub own_other : (k : ℕ) → k ≢ m → own k (take i st ++ drop (i + 1) st) ≡ own k st
+
+split_at : (st : List Entry) (i : ℕ) (d : Entry) → i < length st → st ≡ take i st ++ slice_index_or st i d ∷ drop (i + 1) st
+split_at [] i d within = absurd (omega (arith, within))
+split_at (x ∷ xs) Rattle.std.proofs.Common.zero d within = refl
+split_at (x ∷ xs) (Rattle.std.proofs.Common.suc i) d within =
+    let next : Rattle.std.proofs.Common.suc i + 1 ≡ Rattle.std.proofs.Common.suc (i + 1) = omega arith in
+    rw next (ap (λ ys. x ∷ ys) (split_at xs i d (omega (arith, within))))
+
+own-cons : (m : ℕ) (x : Entry) (xs : List Entry) → x.member ≡ m → own m (x ∷ xs) ≡ x ∷ own m xs
+own-cons m x xs same =
+    let test : (nat_eq x.member m) ≡ true = grind (arith, nat_tests) in
+    rw test refl
+
+pub own-cons_other : (m : ℕ) (x : Entry) (xs : List Entry) → x.member ≢ m → own m (x ∷ xs) ≡ own m xs
+own-cons_other m x xs other =
+    let test : (nat_eq x.member m) ≡ false = grind (arith, nat_tests) in
+    rw test refl
+
+own-append : (m : ℕ) (xs ys : List Entry) → own m (xs ++ ys) ≡ own m xs ++ own m ys
+own-append m xs ys = filter-append _ xs ys
+
+pub at_last : (st : List Entry) (m i : ℕ) (d : Entry) → IsLastOf st m i → AtLast st m i (slice_index_or st i d)
+at_last st m i d last =
+    let x : Entry = slice_index_or st i d in
+    let is : st ≡ take i st ++ x ∷ drop (i + 1) st = split_at st i d last.within in
+    record {
+      early = own m (take i st);
+      of_member = last.of_member d;
+      own_is =
+          ap (own m) is
+          ∙ (own-append m (take i st) (x ∷ drop (i + 1) st)
+          ∙ ap (λ xs. own m (take i st) ++ xs) (own-cons m x (drop (i + 1) st) (last.of_member d) ∙ ap (λ xs. x ∷ xs) last.none_later));
+      own_left = own-append m (take i st) (drop (i + 1) st) ∙ (ap (λ xs. own m (take i st) ++ xs) last.none_later ∙ append-nil (own m (take i st)));
+      own_other = λ k other.
+          own-append k (take i st) (drop (i + 1) st)
+          ∙ (ap (λ xs. own k (take i st) ++ xs) (sym (own-cons_other k x (drop (i + 1) st) (λ same. other (sym same ∙ last.of_member d))))
+          ∙ (sym (own-append k (take i st) (x ∷ drop (i + 1) st)) ∙ ap (own k) (sym is)));
+    }
+
+-- a withdrawal takes the last standing add of its member away
+pub keeps-withdrawal : (st : List Entry) (rows : List Row) (r : Row) (e x : Entry) (i : ℕ) → entry_of r ≡ Some e → e.kind ≡ Withdrawn → AtLast st e.member i x
+    → Keeps st rows → Keeps (take i st ++ drop (i + 1) st) (rows ++ r ∷ [])
+keeps-withdrawal st rows r e x i some kind last k =
+    let es : List Entry = laid_of rows in
+    let m : ℕ = e.member in
+    let more : laid_of (rows ++ r ∷ []) ≡ es ++ e ∷ [] = laid_of-more rows r e some in
+    let back : (held : List Entry) → stand_after held e ≡ without_last held = λ held. ap (λ d. stood d held e) kind in
+    let was : standing_of m es ≡ last.early ++ x ∷ [] = sym (k.holds m) ∙ last.own_is in
+    let left : standing_of m (es ++ e ∷ []) ≡ last.early = standing_of-own m es e refl ∙ (back (standing_of m es) ∙ (ap without_last was ∙ without_last-more last.early x)) in
+    record {
+      holds = λ n. subst (λ xs. own n (take i st ++ drop (i + 1) st) ≡ standing_of n xs) (sym more) (elim (cases_eq m n) [
+        | inl same ↦ subst (λ j. own j (take i st ++ drop (i + 1) st) ≡ standing_of j (es ++ e ∷ [])) same (last.own_left ∙ sym left)
+        | inr other ↦ last.own_other n (λ same. other (sym same)) ∙ (k.holds n ∙ sym (standing_of-other n es e other))
+      ]);
+      backed = λ n before. subst (λ xs. fold stand_after before (own n xs) ≡ before ++ standing_of n xs) (sym more) (elim (cases_eq m n) [
+        | inl same ↦ subst (λ j. fold stand_after before (own j (es ++ e ∷ [])) ≡ before ++ standing_of j (es ++ e ∷ [])) same
+            (ap (fold stand_after before) (own-more m es e refl)
+            ∙ (fold_push stand_after before (own m es) e
+            ∙ (back (fold stand_after before (own m es))
+            ∙ (ap without_last (k.backed m before ∙ (ap (λ xs. before ++ xs) was ∙ sym (append_assoc before last.early (x ∷ []))))
+            ∙ (without_last-more (before ++ last.early) x ∙ ap (λ xs. before ++ xs) (sym left))))))
+        | inr other ↦
+            ap (fold stand_after before) (own-more_other n es e other) ∙ (k.backed n before ∙ ap (λ xs. before ++ xs) (sym (standing_of-other n es e other)))
+      ]);
+    }
+
+-- what stands last among the rows of a run stands last in the whole history
+pub last-since : (h rows : List Row) (st : List Entry) (m f c : ℕ) (s : ℤ) → Keeps st rows → IsSample (last_entry (standing_of m (laid_of rows))) f c s
+    → IsSample (last_entry (standing_of m (laid_of (h ++ kept_rows rows)))) f c s
+last-since h rows st m f c s k is =
+    let es : List Entry = laid_of rows in
+    let last = last_is (standing_of m es) f c s is in
+    let laid : laid_of (h ++ kept_rows rows) ≡ laid_of h ++ es = filter_map-append entry_of h (kept_rows rows) ∙ ap (λ xs. laid_of h ++ xs) (laid_of-kept rows) in
+    let whole : standing_of m (laid_of (h ++ kept_rows rows)) ≡ (standing_of m (laid_of h) ++ last.0) ++ last.1 ∷ [] =
+    ap (standing_of m) laid
+    ∙ (ap standing (own-append m (laid_of h) es)
+    ∙ (fold-append stand_after [] (own m (laid_of h)) (own m es)
+    ∙ (k.backed m (standing_of m (laid_of h))
+    ∙ (ap (λ xs. standing_of m (laid_of h) ++ xs) last.2 ∙ sym (append_assoc (standing_of m (laid_of h)) last.0 (last.1 ∷ [])))))) in
+    subst (λ o. IsSample o f c s) (sym (ap last_entry whole ∙ last_entry-more (standing_of m (laid_of h) ++ last.0) last.1)) (last.3, last.4, last.5)
+
+-- so what a run may withdraw, the whole history may
+pub held-since : (g : Geometry) (members : ℕ) (h rows : List Row) (st : List Entry) (m f c : ℕ) (s : ℤ) → Keeps st rows → IsHeldSince g members h rows m f c s
+    → IsHeld g members (h ++ kept_rows rows) m f c s
+held-since g members h rows st m f c s k held = record {
+  member_in_range = held.member_in_range;
+  channel_in_range = held.channel_in_range;
+  last = last-since h rows st m f c s k held.last;
+  from_floor = subst (λ es. IsFrom (marks_of g m es).floor f c) (sym (AreAlike-kept g h rows).laid) held.from_floor;
+}
+
+-- an entry that its member may withdraw, by the standing adds of the run
+pub since-may : (v : View) (h rows : List Row) (st : List Entry) (e x : Entry) (i : ℕ) → Keeps st rows → AtLast st e.member i x → Stands v (h ++ kept_rows rows) → MayWithdraw v e x
+    → IsHeldSince v.geometry (length v.marks) h rows e.member e.frame e.channel e.sample
+since-may v h rows st e x i k last s may = record {
+  member_in_range = may.member_in_range;
+  channel_in_range = may.channel_in_range;
+  last = subst (λ o. IsSample o e.frame e.channel e.sample) (sym (ap last_entry (sym (k.holds e.member) ∙ last.own_is) ∙ last_entry-more last.early x)) (may.frame, may.channel, may.sample);
+  from_floor = subst (λ es. IsFrom (marks_of v.geometry e.member es).floor e.frame e.channel) (AreAlike-kept v.geometry h rows).laid
+      (subst (λ (y : Marks). IsFrom y.floor e.frame e.channel) (s.agrees.marks e.member _ may.member_in_range) may.from_floor);
+}
+
+-- and what the run may withdraw, the core sees that it may
+pub may-since : (v : View) (h rows : List Row) (st : List Entry) (e x : Entry) (i : ℕ) → Keeps st rows → AtLast st e.member i x → Stands v (h ++ kept_rows rows)
+    → IsHeldSince v.geometry (length v.marks) h rows e.member e.frame e.channel e.sample → MayWithdraw v e x
+may-since v h rows st e x i k last s held =
+    let one : IsSample (Some x) e.frame e.channel e.sample = subst (λ o. IsSample o e.frame e.channel e.sample) (ap last_entry (sym (k.holds e.member) ∙ last.own_is) ∙ last_entry-more last.early x) held.last in
+    let place : HeldPlace v e.member e.frame e.channel = held-at v (h ++ kept_rows rows) e.member e.frame e.channel e.sample s held.member_in_range (last-since h rows st e.member e.frame e.channel e.sample k held.last) in
+    record {
+      member_in_range = held.member_in_range;
+      channel_in_range = held.channel_in_range;
+      frame = one.0;
+      channel = one.1;
+      sample = one.2;
+      from_floor = subst (λ (y : Marks). IsFrom y.floor e.frame e.channel) (sym (s.agrees.marks e.member _ held.member_in_range))
+          (subst (λ es. IsFrom (marks_of v.geometry e.member es).floor e.frame e.channel) (sym (AreAlike-kept v.geometry h rows).laid) held.from_floor);
+      before = place.before;
+      ahead = place.ahead;
+    }
+
+-- a withdrawal of a member that has no standing add
+pub answered-none : (v : View) (st : List Entry) (m f c : ℕ) (s : ℤ) → own m st ≡ [] → IsAnswered v v st st (Withdraw m f c s) Outside
+answered-none v st m f c s none = record {
+  geometry = refl;
+  members = refl;
+  gone = refl;
+  reply = λ h rows k stands held. subst (λ o. IsSample o f c s) (ap last_entry (sym (k.holds m) ∙ none)) held.last;
+  stands = λ h rows k stands. subst (Stands v) (sym (append-nil (h ++ kept_rows rows))) stands;
+  keeps = λ rows k. keeps-nothing st rows (Withdraw m f c s, Outside) refl k;
+}
+
+-- one of another sample, or before the floor, or out of range
+pub answered-outside : (v : View) (st : List Entry) (e x : Entry) (i : ℕ) → AtLast st e.member i x → ¬ (MayWithdraw v e x)
+    → IsAnswered v v st st (Withdraw e.member e.frame e.channel e.sample) Outside
+answered-outside v st e x i last not_may = record {
+  geometry = refl;
+  members = refl;
+  gone = refl;
+  reply = λ h rows k stands held. not_may (may-since v h rows st e x i k last stands held);
+  stands = λ h rows k stands. subst (Stands v) (sym (append-nil (h ++ kept_rows rows))) stands;
+  keeps = λ rows k. keeps-nothing st rows (Withdraw e.member e.frame e.channel e.sample, Outside) refl k;
+}
+
+-- one of a frame and channel that were taken
+pub answered-late : (v : View) (st : List Entry) (m f c : ℕ) (s : ℤ) (x : Entry) (i : ℕ) → AtLast st m i x → MayWithdraw v (a_withdrawal m f c s) x → f < first_free v.next c
+    → IsAnswered v v st st (Withdraw m f c s) Late
+answered-late v st m f c s x i last may taken =
+    let held : (h rows : List Row) → Keeps st rows → Stands v (h ++ kept_rows rows) → IsHeldSince v.geometry (length v.marks) h rows m f c s = λ h rows k stands.
+    since-may v h rows st (a_withdrawal m f c s) x i k last stands may in
+    record {
+      geometry = refl;
+      members = refl;
+      gone = refl;
+      reply = λ h rows k stands.
+          let is : IsHeldSince v.geometry (length v.marks) h rows m f c s = held h rows k stands in
+          let least : AreLeast v.geometry (marks_of v.geometry m (laid_of (h ++ kept_rows rows))) = marks_of-least v.geometry (length v.marks) (h ++ kept_rows rows) m stands.legal in
+          let low : first_frame v.geometry ≤ f = grind (arith, nat_tests, least.floor, (held-since v.geometry (length v.marks) h rows st m f c s k is).from_floor) in
+          let before : nat_lt f (first_free v.next c) ≡ true = grind (arith, nat_tests, taken) in
+          (is, subst (λ ts. is_taken ts f c ≡ true) (AreAlike-kept v.geometry h rows).taken (stands.agrees.taken f c may.channel_in_range low ∙ before));
+      stands = λ h rows k stands. missed-back v (h ++ kept_rows rows) m f c s (held-since v.geometry (length v.marks) h rows st m f c s k (held h rows k stands)) taken stands;
+      keeps = λ rows k. keeps-nothing st rows (Withdraw m f c s, Late) refl k;
+    }
+
+-- one that was made
+pub answered-in : (v w : View) (st : List Entry) (m f c : ℕ) (s : ℤ) (x : Entry) (i : ℕ) → AtLast st m i x → MayWithdraw v (a_withdrawal m f c s) x → IsLaidBy v w (a_withdrawal m f c s)
+    → IsAnswered v w st (take i st ++ drop (i + 1) st) (Withdraw m f c s) In
+answered-in v w st m f c s x i last may laid =
+    let held : (h rows : List Row) → Keeps st rows → Stands v (h ++ kept_rows rows) → IsHeldSince v.geometry (length v.marks) h rows m f c s = λ h rows k stands.
+    since-may v h rows st (a_withdrawal m f c s) x i k last stands may in
+    record {
+      geometry = laid.geometry;
+      members = laid.members;
+      gone = laid.gone;
+      reply = λ h rows k stands. (held h rows k stands, subst (λ ts. is_taken ts f c ≡ false) (AreAlike-kept v.geometry h rows).taken (laid.untaken (h ++ kept_rows rows) stands));
+      stands = λ h rows k stands.
+          laid.stands (h ++ kept_rows rows) stands
+          (held-since v.geometry (length v.marks) h rows st m f c s k (held h rows k stands), laid.untaken (h ++ kept_rows rows) stands);
+      keeps = λ rows k. keeps-withdrawal st rows (Withdraw m f c s, In) (a_withdrawal m f c s) x i refl refl last k;
+    }
+
+-- an event that is no withdrawal
+abbrev pub IsOther : Event → Type 0
+IsOther (Withdraw m f c s) = ⊥
+IsOther e = ⊤
+
+-- every other event is answered as after any history
+since-other : (g : Geometry) (members : ℕ) (h rows : List Row) (e : Event) (r : Reply) → IsOther e → IsReply g members (h ++ rows) (e, r) → IsReplySince g members h rows (e, r)
+since-other g members h rows (Add m f c s) r other is = is
+since-other g members h rows (Withdraw m f c s) r other is = absurd other
+since-other g members h rows Take r other is = is
+since-other g members h rows Publish r other is = is
+
+pub answered-other : (v w : View) (st su : List Entry) (e : Event) (r : Reply) → IsOther e → IsReplied v w e r → ((rows : List Row) → Keeps st rows → Keeps su (rows ++ (e, r) ∷ []))
+    → IsAnswered v w st su e r
+answered-other v w st su e r other one keeps = record {
+  geometry = one.geometry;
+  members = one.members;
+  gone = one.gone;
+  reply = λ h rows k stands.
+      since-other v.geometry (length v.marks) h rows e r other
+      (IsReply-alike v.geometry (length v.marks) (h ++ kept_rows rows) (h ++ rows) (e, r) (AreAlike-kept v.geometry h rows) (one.reply (h ++ kept_rows rows) stands));
+  stands = λ h rows k stands. one.stands (h ++ kept_rows rows) stands;
+  keeps = keeps;
+}

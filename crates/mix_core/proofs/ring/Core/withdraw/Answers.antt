@@ -1,0 +1,76 @@
+use Rattle.std.proofs.Common.{◌≡◌, ◌+◌, ◌<◌, length, ◌-ℤ◌, ◌≤ℤ◌, pos, negsuc, subst, sym, ap, ◌∙◌, rules, arith}
+use Rattle.std.proofs.lemmas.Int.{ints, to_z-of_z}
+use Rattle.lap_word.specs.Word.{StandsFor, count_of, lap_of, sum_of}
+use Rattle.mix_core.specs.declared.port.Entry.{Entry}
+use Rattle.mix_core.specs.declared.port.Kind.TheVariants.{Withdrawn}
+use Rattle.mix_core.specs.Laid.{marked, marks_after, value_of}
+use Rattle.mix_core.specs.Marks.{withdrawn_at}
+use Rattle.mix_core.specs.View.{View, marks_at, word_at}
+use Rattle.mix_core.proofs.Laying.{CanLay, can_withdraw, laid, marks_is, stands_back, value_by, word_is}
+use Rattle.mix_core.proofs.Soundness.{HasRoom, IsSound-laid, room-laid}
+use Rattle.mix_core.specs.contracts.ring.Core.{the_view}
+use mir.Syntax.{w16}
+use mir.Val.{SFits}
+use Rattle.mix_core.proofs.ring.Core.withdraw.Goals as goal
+
+pub withdraw-requires-clause-room : goal.withdraw-requires-clause-room
+withdraw-requires-clause-room c =
+    let v : View = the_view c.self.inside in
+    let e : Entry = c.args.entry in
+    let sample : SFits w16 e.sample = search rules in
+    let can : CanLay v e = can_withdraw v c.args.self.now e c.self.view_is c.self.invariant sample c.requires.kind c.requires.member c.requires.channel c.requires.from_floor c.requires.before_cursor c.requires.untaken c.requires.ahead in
+    let within : c.word_index-at.result < length v.words = search rules in
+    let word : c.index-word.result.now ≡ word_at v e.frame e.channel = word_is v _ _ e.frame e.channel c.index-word.ensures c.word_index-at.ensures.value within in
+    subst (λ w. count_of w < 255) (sym word) (room-laid v e c.self.invariant can.member can.now can.more can.low can.high).count
+
+pub withdraw-requires-clause-sum_low : goal.withdraw-requires-clause-sum_low
+withdraw-requires-clause-sum_low c =
+    let v : View = the_view c.self.inside in
+    let e : Entry = c.args.entry in
+    let sample : SFits w16 e.sample = search rules in
+    let can : CanLay v e = can_withdraw v c.args.self.now e c.self.view_is c.self.invariant sample c.requires.kind c.requires.member c.requires.channel c.requires.from_floor c.requires.before_cursor c.requires.untaken c.requires.ahead in
+    let within : c.word_index-at.result < length v.words = search rules in
+    let word : c.index-word.result.now ≡ word_at v e.frame e.channel = word_is v _ _ e.frame e.channel c.index-word.ensures c.word_index-at.ensures.value within in
+    let room : HasRoom (word_at v e.frame e.channel) (value_of e) = room-laid v e c.self.invariant can.member can.now can.more can.low can.high in
+    let low : negsuc 8388607 ≤ℤ (sum_of (word_at v e.frame e.channel) -ℤ e.sample) = omega (arith, ints, room.low, value_by Withdrawn e c.requires.kind) in
+    simp to_z-of_z (subst (λ w. negsuc 8388607 ≤ℤ (sum_of w -ℤ e.sample)) (sym word) low)
+
+pub withdraw-requires-clause-sum_high : goal.withdraw-requires-clause-sum_high
+withdraw-requires-clause-sum_high c =
+    let v : View = the_view c.self.inside in
+    let e : Entry = c.args.entry in
+    let sample : SFits w16 e.sample = search rules in
+    let can : CanLay v e = can_withdraw v c.args.self.now e c.self.view_is c.self.invariant sample c.requires.kind c.requires.member c.requires.channel c.requires.from_floor c.requires.before_cursor c.requires.untaken c.requires.ahead in
+    let within : c.word_index-at.result < length v.words = search rules in
+    let word : c.index-word.result.now ≡ word_at v e.frame e.channel = word_is v _ _ e.frame e.channel c.index-word.ensures c.word_index-at.ensures.value within in
+    let room : HasRoom (word_at v e.frame e.channel) (value_of e) = room-laid v e c.self.invariant can.member can.now can.more can.low can.high in
+    let high : (sum_of (word_at v e.frame e.channel) -ℤ e.sample) ≤ℤ pos 8388607 = omega (arith, ints, room.high, value_by Withdrawn e c.requires.kind) in
+    simp to_z-of_z (subst (λ w. (sum_of w -ℤ e.sample) ≤ℤ pos 8388607) (sym word) high)
+
+pub invariant_of-self : goal.invariant_of-self
+invariant_of-self c =
+    let v : View = the_view c.self.inside in
+    let e : Entry = c.args.entry in
+    let sample : SFits w16 e.sample = search rules in
+    let can : CanLay v e = can_withdraw v c.args.self.now e c.self.view_is c.self.invariant sample c.requires.kind c.requires.member c.requires.channel c.requires.from_floor c.requires.before_cursor c.requires.untaken c.requires.ahead in
+    let within : c.word_index-at.result < length v.words = search rules in
+    let word : c.index-word.result.now ≡ word_at v e.frame e.channel = word_is v _ _ e.frame e.channel c.index-word.ensures c.word_index-at.ensures.value within in
+    let stands : StandsFor c.withdraw.result (lap_of c.index-word.result.now) (count_of c.index-word.result.now + 1) (sum_of c.index-word.result.now -ℤ e.sample) = simp to_z-of_z at c.withdraw.ensures.stands in
+    let stands_there = stands_back e _ _ _ _ c.requires.kind (subst (λ w. StandsFor c.withdraw.result (lap_of w) (count_of w + 1) (sum_of w -ℤ e.sample)) word stands) in
+    let moved : c.withdrawn.result ≡ marks_after v.geometry (marks_at v e.member) e =
+    c.withdrawn.ensures ∙ (ap (λ m. withdrawn_at m e.frame e.channel) (marks_is v e.member c.index.result.now c.index.ensures can.member) ∙ ap (λ k. marked k v.geometry (marks_at v e.member) e.frame e.channel) (sym c.requires.kind)) in
+    rw (c.word_index-at.ensures.value, moved) (IsSound-laid v e c.withdraw.result c.self.invariant can.member can.now can.more can.within can.low can.high stands_there)
+
+pub returns : goal.returns
+returns c =
+    let v : View = the_view c.self.inside in
+    let e : Entry = c.args.entry in
+    let sample : SFits w16 e.sample = search rules in
+    let can : CanLay v e = can_withdraw v c.args.self.now e c.self.view_is c.self.invariant sample c.requires.kind c.requires.member c.requires.channel c.requires.from_floor c.requires.before_cursor c.requires.untaken c.requires.ahead in
+    let within : c.word_index-at.result < length v.words = search rules in
+    let word : c.index-word.result.now ≡ word_at v e.frame e.channel = word_is v _ _ e.frame e.channel c.index-word.ensures c.word_index-at.ensures.value within in
+    let stands : StandsFor c.withdraw.result (lap_of c.index-word.result.now) (count_of c.index-word.result.now + 1) (sum_of c.index-word.result.now -ℤ e.sample) = simp to_z-of_z at c.withdraw.ensures.stands in
+    let stands_there = stands_back e _ _ _ _ c.requires.kind (subst (λ w. StandsFor c.withdraw.result (lap_of w) (count_of w + 1) (sum_of w -ℤ e.sample)) word stands) in
+    let moved : c.withdrawn.result ≡ marks_after v.geometry (marks_at v e.member) e =
+    c.withdrawn.ensures ∙ (ap (λ m. withdrawn_at m e.frame e.channel) (marks_is v e.member c.index.result.now c.index.ensures can.member) ∙ ap (λ k. marked k v.geometry (marks_at v e.member) e.frame e.channel) (sym c.requires.kind)) in
+    rw (← c.self.view_is, c.word_index-at.ensures.value, moved) (laid v e c.withdraw.result c.self.invariant can stands_there)

@@ -1,0 +1,32 @@
+-- Where a member stands: its cursor, its floor and its high, and how they move.
+use Rattle.std.specs.Prelude.{ℕ, Bool, ◌==◌, ◌&&◌, ◌||◌, nat_lt, if◌then◌else◌}
+use Rattle.snd_base.specs.declared.geometry.Geometry.{Geometry}
+use Rattle.snd_base.specs.declared.places.Cursor.{Cursor}
+use Rattle.snd_base.specs.Places.{behind, first_frame}
+use Rattle.mix_core.specs.declared.marks.Marks.{Marks}
+
+-- a cursor is before another, by frame and then by channel
+abbrev pub is_before : Cursor → Cursor → Bool
+is_before a b = nat_lt a.frame b.frame || ((a.frame == b.frame) && nat_lt a.channel b.channel)
+
+-- the later one of two cursors
+abbrev pub later_of : Cursor → Cursor → Cursor
+later_of a b = if is_before a b then b else a
+
+-- where everybody begins
+abbrev pub start_of : Geometry → Cursor
+start_of g = record { frame = first_frame g; channel = 0 }
+
+abbrev pub start_marks : Geometry → Marks
+start_marks g = record { cursor = start_of g; floor = start_of g; high = start_of g }
+
+-- the floor after an add: where the cursor was before the high, nothing before the high is withdrawn any more
+abbrev pub floor_after : Cursor → Cursor → Cursor → Cursor
+floor_after cursor floor high = if is_before cursor high then high else floor
+
+-- the marks after an add at a frame and channel, and after a withdrawal there
+abbrev pub added_at : Geometry → Marks → ℕ → ℕ → Marks
+added_at g m f c = record { cursor = behind g f c; floor = floor_after m.cursor m.floor m.high; high = later_of m.high (behind g f c) }
+
+abbrev pub withdrawn_at : Marks → ℕ → ℕ → Marks
+withdrawn_at m f c = record { cursor = record { frame = f; channel = c }; floor = m.floor; high = m.high }

@@ -1,0 +1,31 @@
+-- What the tests conclude of a seat: it goes on, and its last standing add is the one that it laid.
+use Rattle.std.proofs.Common.{◌≡◌, ℕ, ℤ, Bool, true, false, Ok, [], ◌∷◌, refl, sym, ap, subst}
+use Rattle.std.proofs.lemmas.Bool.{false≢true}
+use Rattle.std.proofs.lemmas.List.{append-nil}
+use Rattle.mix_core.specs.declared.port.Placed.{Placed}
+use Rattle.mix_core.specs.declared.port.Placed.TheVariants.{In, Late}
+use Rattle.mix_core.specs.Port.{OnWhole, ended_of}
+use Rattle.mix_core.specs.Laid.{AreAdds, an_add, standing}
+use Rattle.sum_table.specs.declared.seats.mix.MixSeat.{MixSeat}
+use Rattle.sum_table.specs.Seats.{Goes, Goes-same, SeatEndsIn, SeatEndsIn-laid, SeatLaid, view_of}
+
+pub stays : (s : MixSeat) → Goes s s
+stays s = Goes-same s
+
+one_add : (m f c : ℕ) (x : ℤ) → AreAdds (an_add m f c x ∷ [])
+one_add m f c x = (refl, tt)
+
+-- after an add that was in time the standing ones end in it
+pub ends_in_one : (s t : MixSeat) (placed : Placed) (f c : ℕ) (x : ℤ) → placed ≡ In → OnWhole (ended_of (Ok placed)) (SeatLaid s t (an_add s.member f c x ∷ []))
+    → SeatEndsIn t (an_add t.member f c x ∷ [])
+ends_in_one s t In f c x is laid =
+    let ends : SeatEndsIn t (an_add s.member f c x ∷ []) =
+    SeatEndsIn-laid s t [] (an_add s.member f c x ∷ []) (one_add s.member f c x) laid (standing (view_of s).laid, sym (append-nil (standing (view_of s).laid))) in
+    subst (λ m. SeatEndsIn t (an_add m f c x ∷ [])) (sym laid.goes.member) ends
+ends_in_one s t (Late word) f c x is laid = absurd (other is) where
+  is_in : Placed → Bool
+  is_in In = true
+  is_in (Late word) = false
+
+  other : Late word ≡ In → ⊥
+  other is = false≢true (ap is_in is)

@@ -1,0 +1,18 @@
+use Rattle.std.proofs.Common.{refl, subst, sym}
+use Rattle.std.proofs.lemmas.Int.{to_z-of_z}
+use mir.Syntax.{w16}
+use Rattle.mix_core.specs.declared.port.Kind.TheVariants.{Added}
+use Rattle.mix_core.specs.Port.{Stays}
+use Rattle.sum_table.specs.Seats.{SeatLaid, SeatLaid-composes, SeatLoaded, SeatLoaded-composes, seat_view}
+use Rattle.sum_table.proofs.Placing.{lays_as}
+use Rattle.sum_table.proofs.port.MixSeatMixPort.place.Goals as goal
+
+pub returns-clause-step : goal.returns-clause-step
+returns-clause-step g c =
+    λ fits. lays_as g.G.Gate.stops g.G.Gate.asked c.args.self.now _ _ _ Added c.args.frame c.args.channel _ c.args.sample _ (to_z-of_z w16 c.args.sample c.ranges.sample) (c.place_at.ensures.step fits)
+
+pub returns-clause-unchanged : goal.returns-clause-unchanged
+returns-clause-unchanged g c =
+    λ is.
+    let same = c.place_at.ensures.unchanged is in
+    (subst (λ t. Stays seat_view SeatLaid SeatLoaded c.args.self.now t) (sym same.0) (record { view_is = refl; laid_nothing = SeatLaid-composes.none c.args.self.now; loaded_nothing = SeatLoaded-composes.none c.args.self.now }), same.1)

@@ -1,0 +1,50 @@
+use Rattle.std.proofs.Common.{arith, subst, ap, ◌∙◌, refl}
+use Rattle.atomic_table.specs.Table.{Me}
+use Rattle.mix_core.specs.declared.port.Entry.{Entry}
+use Rattle.sum_table.specs.declared.seats.mix.MixSeat.{MixSeat}
+use Rattle.sum_table.specs.declared.seats.note.SeatNote.{SeatNote}
+use Rattle.sum_table.specs.declared.seats.player.PlayerSeat.{PlayerSeat}
+use Rattle.sum_table.specs.declared.view.Key.{Key}
+use Rattle.sum_table.specs.declared.view.View.{View}
+use Rattle.sum_table.specs.Known.{IsKnown}
+use Rattle.sum_table.proofs.Cuts.{joins}
+use Rattle.sum_table.proofs.Joining.{has_heard, known_heard, learned_kept, learns_at}
+use Rattle.sum_table.proofs.seats.player.PlayerSeat.meet.Goals as goal
+
+pub join_seat-requires : goal.join_seat-requires
+join_seat-requires c =
+    let p : PlayerSeat = c.args.self.now in
+    let o : MixSeat = c.args.note.seat in
+    (p.same_ring.0, c.requires.0 ∙ p.same_ring.0, o.same_ring.2, omega (arith, p.same_ring.3), joins p.ring.now.key p.seat.id p.seat.me.0 o.seat.id o.seat.me.0)
+
+pub load-requires : goal.load-requires
+load-requires c =
+    let p : PlayerSeat = c.args.self.now in
+    let both = ap (λ (m : Me Entry View). m.0) c.join_seat.ensures.2 in (
+      c.join_seat.ensures.0 ∙ p.same_ring.0,
+      omega (arith, p.same_ring.3),
+      learns_at p.ring.now.key p.ring.now.table_id.slots c.join_seat.new.seat.id c.join_seat.new.seat.me
+          (ap (λ (v : View). v.key) both ∙ (p.known.same_key ∙ p.same_ring.1)) (ap (λ (v : View). v.ended) both ∙ p.known.lasts),
+    )
+
+pub invariant_of-self : goal.invariant_of-self
+invariant_of-self c =
+    let p : PlayerSeat = c.args.self.now in
+    let n : SeatNote = c.args.note in
+    let o : MixSeat = n.seat in
+    let both = ap (λ (m : Me Entry View). m.0) c.join_seat.ensures.2 in
+    let met : IsKnown o.seat.me.0 p.key o.places o.marks o.seen o.last = subst (λ (k : Key). IsKnown o.seat.me.0 k o.places o.marks o.seen o.last) c.requires.1 o.known in
+    record {
+      same_ring = (
+        c.load.ensures.0 ∙ (c.join_seat.ensures.0 ∙ p.same_ring.0),
+        p.same_ring.1,
+        learned_kept p.ring.now.table_id.slots c.load.result c.join_seat.new.seat.me c.load.new.seat.me c.load.ensures.2 ∙ (ap (λ (m : Me Entry View). m.1) c.join_seat.ensures.2 ∙ p.same_ring.2),
+        p.same_ring.3,
+      );
+      known = known_heard p.key p.next p.position p.gone o.places o.marks o.seen o.last p.seat.me.0 o.seat.me.0 p.ring.now.table_id.slots c.load.result c.join_seat.new.seat.me c.load.new.seat.me p.known met n.no_places n.laid_nothing both c.load.ensures.2;
+    }
+
+pub returns : goal.returns
+returns c =
+    let p : PlayerSeat = c.args.self.now in
+    has_heard p _ c.args.note p.ring.now.table_id.slots c.load.result c.join_seat.new.seat.me (c.load.ensures.0 ∙ c.join_seat.ensures.0) refl refl refl refl (ap (λ (m : Me Entry View). m.0) c.join_seat.ensures.2) c.load.ensures.2

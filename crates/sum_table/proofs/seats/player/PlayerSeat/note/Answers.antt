@@ -1,0 +1,29 @@
+use Rattle.std.proofs.Common.{None, arith, ap, subst, sym, ◌∙◌, refl}
+use Rattle.atomic_table.specs.Table.{Me}
+use Rattle.mix_core.specs.declared.port.Entry.{Entry}
+use Rattle.sum_table.specs.declared.seats.player.PlayerSeat.{PlayerSeat}
+use Rattle.sum_table.specs.declared.view.View.{View}
+use Rattle.sum_table.specs.Cuts.{part_of}
+use Rattle.sum_table.specs.Known.{IsKnown}
+use Rattle.sum_table.proofs.Joining.{has_player_note, known_as, known_part, may_note}
+use Rattle.sum_table.proofs.seats.player.PlayerSeat.note.Goals as goal
+
+pub split_seat-seat-requires : goal.split_seat-seat-requires
+split_seat-seat-requires c =
+    let p : PlayerSeat = c.args.self.now in
+    (p.same_ring.0, omega (arith, p.same_ring.3), may_note p.ring.now.key p.seat.id p.seat.me.0 (p.known.same_key ∙ p.same_ring.1))
+
+pub invariant_of-result : goal.invariant_of-result
+invariant_of-result c =
+    let p : PlayerSeat = c.args.self.now in
+    let me = c.split_seat-seat.ensures.4 in
+    record {
+      same_ring = (c.split_seat-seat.ensures.3 ∙ p.same_ring.0, p.same_ring.1, ap (λ (m : Me Entry View). m.1) me, p.same_ring.3);
+      known = known_as p.key 0 _ p.position None _ c.split_seat-seat.result.me me
+          (subst (λ m. IsKnown (part_of p.seat.me.0 0) p.key 0 m p.position None) (sym c.start.ensures) (known_part p.key p.seat.me.0 0 0 p.position p.known.same_key p.known.same_seen p.known.noted p.known.position_within refl (omega arith)));
+      words_are = c.of.ensures.words;
+    }
+
+pub returns : goal.returns
+returns c =
+    has_player_note c.args.self.now _ _ c.split_seat-seat.ensures.0 refl (ap (λ (m : Me Entry View). m.0) c.split_seat-seat.ensures.2) refl refl refl c.split_seat-seat.ensures.3 refl (ap (λ (m : Me Entry View). m.0) c.split_seat-seat.ensures.4) refl

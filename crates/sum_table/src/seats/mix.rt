@@ -1,0 +1,224 @@
+//! The seat of a client at the sum ring, and its single steps.
+ghost use Rattle.std.specs.Prelude.{◌≡◌, ◌+◌, ◌<◌, ◌^◌, negsuc, pos, ◌+ℤ◌, ◌≤ℤ◌};
+ghost use Rattle.lap_word.specs.Word.{StandsFor, count_of, lap_of, sum_of};
+ghost use Rattle.mix_core.specs.Laid.{marked, signed};
+ghost use Rattle.sum_table.specs.Known.{IsKnown, SitsAt, greater};
+ghost use Rattle.sum_table.specs.Words.{AreFrameWords};
+
+use super::frame_words::FrameWords;
+use super::plays::{Exchange, Locate, Look};
+use crate::rule::{Seat, Shared};
+use crate::view::Key;
+use mix_core::{Entry, Kind, Marks, Position};
+use snd_base::{Geometry, Steps};
+use std::sync::ledger::Ledger;
+
+/// A client's seat at a sum ring, which it borrows: with it a client lays samples, in any thread.
+///
+/// Its meaning is its view: the places that it has, the entries that it laid, the cursor behind the last of them, the
+/// positions that it saw, the words that it found, and for each word at most one noted word. A place is the right of one client to add once at each
+/// frame and channel. A seat is the port of its member (`MixPort`), and can add where it has at least one place.
+#[derive(Drop)]
+pub struct MixSeat<'a> {
+    pub(super) ring: &'a Shared,
+    pub(super) seat: Seat,
+    pub(crate) key: Key,
+    pub(crate) member: u32,
+    pub(crate) places: u32,
+    pub(crate) marks: Marks,
+    pub(crate) seen: u64,
+    pub(crate) last: Option<u64>,
+    pub(super) words: FrameWords,
+    ghost same_ring: { SitsAt seat.table_id ring.now.table_id key ring.now.key seat.me.1 },
+    ghost known: { IsKnown seat.me.0 key places marks seen last },
+    ghost words_are: { AreFrameWords key.geometry words },
+}
+
+impl MixSeat<'_> {
+    ghost use Rattle.std.specs.Prelude.{◌≡◌, ◌≢◌, ℕ, ◌+◌, ◌<◌, [], ◌∷◌, Option, Some, OnOk, IfErr};
+    ghost use Rattle.snd_base.specs.Places.{IsFrom, lap};
+    ghost use Rattle.lap_word.specs.Word.{lap_of};
+    ghost use Rattle.mix_core.specs.Laid.{a_withdrawal, an_add};
+    ghost use Rattle.sum_table.specs.Known.{last_frame};
+    ghost use Rattle.sum_table.specs.Seats.{CanAdd, HasLaid, HasLocated, HasLost, HasNoted, MayLay, SeatEndsIn, cursor_of_seat, entry_by, geometry_of, history_of, last_of_seat, marks_of_seat, member_of, places_of_seat, seen_of, shown, view_of};
+    ghost use Rattle.sum_table.specs.Steps.{IsSumOf};
+
+    /// How many places the seat has.
+    pub fn places(&self) -> u32
+        ensures value { result ≡ places_of_seat self.now }
+        ensures of_view { result ≡ (view_of self.now).places }
+    {
+        self.places
+    }
+
+    /// The greatest frame that the seat laid in, or took over from a seat that was joined into it.
+    pub fn last(&self) -> Option<u64>
+        ensures value { result ≡ last_of_seat self.now }
+        ensures of_view { result ≡ last_frame (view_of self.now).laid }
+    {
+        self.last
+    }
+
+    // The lap of a frame.
+    pub(crate) fn lap(&self, frame: u64) -> u64
+        ensures { result ≡ lap (geometry_of self.now) frame }
+    {
+        let geometry = self.key.geometry;
+        self.words.at(&geometry, frame).lap
+    }
+
+    // Loads the position, in one step.
+    pub(crate) fn locate(&mut self) -> Position
+        ensures { HasLocated self.old self.new result }
+    {
+        let word = self.ring.load::<Locate>(&mut self.seat, 0);
+        let position = Position {
+            frame: lap_word::position_of(word),
+            gone: lap_word::gone_of(word),
+        };
+        self.seen = position.frame;
+        position
+    }
+
+    /// Loads the word of the frame's slot and a channel, in one step, which `steps` counts, and notes it. Where it has the
+    /// frame's lap, it stands for what was laid there so far.
+    pub fn load_word<L: Ledger>(&mut self, frame: u64, channel: u8, steps: &mut Steps<L>) -> u64
+        requires channel { channel < (geometry_of self.old).channels }
+        ensures noted { HasNoted self.old self.new frame channel result }
+        ensures sum { IsSumOf (geometry_of self.old) (history_of self.new) frame channel result }
+        ensures ticks { steps.new ≡ steps.old + 1 }
+    {
+        steps.tick();
+        let geometry = self.key.geometry;
+        let words = self.words.at(&geometry, frame);
+        let at = words.first + channel as usize;
+        let word = self.ring.load::<Look>(&mut self.seat, at);
+        self.words = words;
+        word
+    }
+
+    /// Adds a sample to the word `old`, which the seat noted at this frame and channel and which has the frame's lap, by
+    /// one compare-exchange, which `steps` counts. `Ok` says that the word was still `old`: the sample is laid, and the
+    /// cursor stands right behind it. `Err` comes exactly where another word was found, which the seat notes: it is past
+    /// `old` by lap and then by count.
+    pub fn exchange_word<L: Ledger>(
+        &mut self,
+        frame: u64,
+        channel: u8,
+        old: u64,
+        sample: i16,
+        steps: &mut Steps<L>,
+    ) -> Result<(), u64>
+        requires can_add { CanAdd self.old }
+        requires channel { channel < (geometry_of self.old).channels }
+        requires noted { shown self.old frame channel ≡ Some old }
+        requires of_lap { lap_of old ≡ lap (geometry_of self.old) frame }
+        requires from_cursor { IsFrom (cursor_of_seat self.old) frame channel }
+        requires ahead { frame < seen_of self.old + (geometry_of self.old).frames }
+        requires lap_fits { lap (geometry_of self.old) frame < 4294967295 }
+        ensures ok { OnOk result (HasLaid self.old self.new (an_add (member_of self.old) frame channel sample)) }
+        ensures err { IfErr result (λ n. HasLost self.old self.new frame channel old n) }
+        ensures ticks { steps.new ≡ steps.old + 1 }
+    {
+        self.exchange(Kind::Added, frame, channel, old, sample, steps)
+    }
+
+    /// Withdraws the sample of the seat's last standing add from the word `old`, which the seat noted at this frame and
+    /// channel and which has the frame's lap, by one compare-exchange, which `steps` counts. `Ok` says that the word was still
+    /// `old`: the sample is withdrawn, and the cursor is this frame and channel. `Err` comes exactly where another word was
+    /// found, which the seat notes: it is past `old` by lap and then by count.
+    pub fn withdraw_word<L: Ledger>(
+        &mut self,
+        frame: u64,
+        channel: u8,
+        old: u64,
+        sample: i16,
+        steps: &mut Steps<L>,
+    ) -> Result<(), u64>
+        requires last { SeatEndsIn self.old (an_add (member_of self.old) frame channel sample ∷ []) }
+        requires noted { shown self.old frame channel ≡ Some old }
+        requires of_lap { lap_of old ≡ lap (geometry_of self.old) frame }
+        requires from_floor { IsFrom (marks_of_seat self.old).floor frame channel }
+        ensures ok { OnOk result (HasLaid self.old self.new (a_withdrawal (member_of self.old) frame channel sample)) }
+        ensures err { IfErr result (λ n. HasLost self.old self.new frame channel old n) }
+        ensures ticks { steps.new ≡ steps.old + 1 }
+    {
+        self.exchange(Kind::Withdrawn, frame, channel, old, sample, steps)
+    }
+
+    // One compare-exchange that lays an entry of this kind, which `steps` counts.
+    pub(crate) fn exchange<L: Ledger>(
+        &mut self,
+        kind: Kind,
+        frame: u64,
+        channel: u8,
+        old: u64,
+        sample: i16,
+        steps: &mut Steps<L>,
+    ) -> Result<(), u64>
+        requires may { MayLay kind self.old frame channel sample }
+        requires noted { shown self.old frame channel ≡ Some old }
+        requires of_lap { lap_of old ≡ lap (geometry_of self.old) frame }
+        ensures ok { OnOk result (HasLaid self.old self.new (entry_by self.old kind frame channel sample)) }
+        ensures err { IfErr result (λ n. HasLost self.old self.new frame channel old n) }
+        ensures ticks { steps.new ≡ steps.old + 1 }
+    {
+        steps.tick();
+        let geometry = self.key.geometry;
+        let entry = Entry {
+            member: self.member,
+            frame,
+            channel,
+            sample,
+            kind,
+        };
+        let words = self.words.at(&geometry, frame);
+        let at = words.first + channel as usize;
+        let new = changed(kind, old, sample);
+        let found = self
+            .ring
+            .compare_exchange_with::<Exchange>(&mut self.seat, at, old, new, &entry);
+        if found != old {
+            return Err(found);
+        }
+        self.marks = moved(kind, self.marks, &geometry, frame, channel);
+        self.last = greater(self.last, Some(frame));
+        Ok(())
+    }
+}
+
+// The word after a sample was added to it, or withdrawn from it.
+fn changed(kind: Kind, word: u64, sample: i16) -> u64
+    requires room { count_of word < 255 }
+    requires low { negsuc 8388607 ≤ℤ (sum_of word +ℤ signed kind sample) }
+    requires high { (sum_of word +ℤ signed kind sample) ≤ℤ pos 8388607 }
+    ensures { StandsFor result (lap_of word) (count_of word + 1) (sum_of word +ℤ signed kind sample) }
+{
+    match kind {
+        Kind::Added => lap_word::add(word, sample),
+        Kind::Withdrawn => lap_word::withdraw(word, sample),
+    }
+}
+
+// The marks after an entry of this kind.
+fn moved(kind: Kind, marks: Marks, geometry: &Geometry, frame: u64, channel: u8) -> Marks
+    requires channel { channel < geometry.now.channels }
+    requires frame { frame + 1 < 2 ^ 64 }
+    ensures { result ≡ marked kind geometry.now marks frame channel }
+{
+    match kind {
+        Kind::Added => marks.added(geometry, frame, channel),
+        Kind::Withdrawn => marks.withdrawn(frame, channel),
+    }
+}
+
+// The greater one of two frames, where there are any.
+pub(crate) fn greater(a: Option<u64>, b: Option<u64>) -> Option<u64>
+    ensures { result ≡ greater a b }
+{
+    match (a, b) {
+        (Some(a), Some(b)) => Some(a.max(b)),
+        (Some(a), None) => Some(a),
+        (None, b) => b,
+    }
+}
