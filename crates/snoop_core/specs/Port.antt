@@ -1,5 +1,5 @@
 -- The single steps of a port, each between two states of port and gate: a load of the position, and the load of a captured frame.
-use Rattle.std.specs.Prelude.{◌≡◌, ℕ, ◌+◌, ◌/◌, ◌<◌, ◌≤◌, List, [], ◌∷◌, length, Option, Some, IfSome, Result, Ok, Err, ℤ, replicate, ⊤}
+use Rattle.std.specs.Prelude.{◌≡◌, ℕ, ◌+◌, ◌<◌, ◌≤◌, List, [], ◌∷◌, length, Option, Some, IfSome, Result, Ok, Err, ℤ, replicate, ⊤}
 use Rattle.std.specs.Option.{option_to_list}
 use Rattle.snd_base.specs.declared.errors.PcmError.{PcmError}
 use Rattle.snd_base.specs.declared.geometry.Geometry.{Geometry}
@@ -16,6 +16,7 @@ use Rattle.snoop_core.specs.declared.port.Got.{Got}
 use Rattle.snoop_core.specs.declared.port.Got.TheVariants.{Whole, Overtaken, Stopped}
 use Rattle.snoop_core.specs.declared.port.Loaded.{Loaded}
 use Rattle.snoop_core.specs.declared.port.Loaded.TheVariants as loaded
+use Rattle.snoop_core.specs.Word.{laps_of}
 
 -- what is plain of a port
 pub record SnoopView : Type 0 where
@@ -55,10 +56,6 @@ abbrev pub pass_of_got : Got → Pass
 pass_of_got Whole = Go
 pass_of_got (Overtaken channel word) = Go
 pass_of_got Stopped = Stop
-
--- the laps that a word of captured samples tells of: one more than the lap of the frame that it holds
-abbrev pub laps_of : ℕ → ℕ
-laps_of word = word / 4294967296
 
 -- a port shows, at a frame and channel, a word whose lap is not before that of a word
 pub record ShowsFrom {S : Type 0} (shows : S → ℕ → ℕ → Option ℕ) (p : S) (f c word : ℕ) : Type 0 where
