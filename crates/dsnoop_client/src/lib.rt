@@ -11,3 +11,6 @@ mod usable;
 
 pub use plain::Plain;
 pub use reader::Reader;
+
+#[cfg(test)]
+mod tests;

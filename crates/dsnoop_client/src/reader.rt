@@ -91,7 +91,7 @@ impl Reader {
     /// Sets the configuration and the bindings, takes the memory for one frame of the card, sets the default software
     /// parameters and prepares the stream (`snd_pcm_hw_params`, which also prepares).
     ///
-    /// The caller has a configuration and bindings that the stream can run with (`can_run_with`). `BadState` comes unless
+    /// The caller has a configuration and bindings that the reader can run with (`can_run_with`). `BadState` comes unless
     /// the state is OPEN, SETUP or PREPARED, and `Memory` where no memory is left. A refused call changes nothing.
     pub fn hw_params(
         &mut self,
