@@ -2,7 +2,6 @@
 ghost use Rattle.std.specs.Prelude.{◌≡◌, ◌+◌, ◌*◌, ◌^◌, ◌<◌, ◌≤◌, All, length};
 ghost use Rattle.snd_base.specs.Places.{first_frame};
 ghost use Rattle.snoop_core.specs.Port.{Gets, OnGot, frame_of};
-ghost use Rattle.bindings.specs.Bound.{AreBindings};
 ghost use Rattle.course.specs.AtSnoopPort.{TakesAtSnoop};
 ghost use Rattle.dsnoop_client.specs.Course.{gets_frames};
 ghost use Rattle.dsnoop_client.specs.Reads.{Fills, through};
@@ -43,7 +42,8 @@ fn load_through<P: SnoopPort, G: Gate>(
     requires part { length part.old ≡ length bindings.now }
     requires least { first_frame (P.view port.old).geometry ≤ number }
     requires captured { number < (P.view port.old).seen }
-    ensures step { Gets P.view P.shows P.loaded P.got P.finds G.stops G.asked port.old gate.old (frame_of number frame.new) result port.new gate.new }
+    ensures step { Gets P.view P.shows P.loaded P.got P.finds G.stops G.asked port.old gate.old
+        (frame_of number frame.new) result port.new gate.new }
     ensures part { OnGot result (part.new ≡ through bindings.now frame.new) }
 {
     match Got::of(port.load_frame(gate, number, frame)) {
@@ -72,9 +72,11 @@ pub(crate) fn load_frames<P: SnoopPort, G: Gate>(
     requires least { first_frame (P.view port.old).geometry ≤ first }
     requires captured { first + count ≤ (P.view port.old).seen }
     requires last { first + count < 2 ^ 63 }
-    ensures takes { TakesAtSnoop P.SnoopPort G.Gate (port.old, gate.old) (gets_frames count first) (port.new, gate.new) (result.frames, result.ended) }
+    ensures takes { TakesAtSnoop P.SnoopPort G.Gate (port.old, gate.old) (gets_frames count first)
+        (port.new, gate.new) (result.frames, result.ended) }
     ensures most { result.frames ≤ count }
-    ensures fills { Fills P.SnoopPort port.old port.new bindings.now first result.frames result.ended out.old out.new }
+    ensures fills { Fills P.SnoopPort port.old port.new bindings.now first
+        result.frames result.ended out.old out.new }
 {
     let channels = bindings.len() as usize;
     for index in 0..count {

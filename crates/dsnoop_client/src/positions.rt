@@ -41,8 +41,10 @@ pub(crate) fn start_call<P: SnoopPort, G: Gate>(
     requires unstopped { plain.old.status.stopped ≡ false }
     requires start { IsStart call }
     requires port { CanUse plain.old (P.view port.old) }
-    ensures takes { TakesAtSnoop P.SnoopPort G.Gate (port.old, gate.old) (starts plain.old call) (port.new, gate.new) (plain.new, result) }
-    ensures keeps { Keeps P.SnoopPort G.Gate (port.old, gate.old) (port.new, gate.new) plain.old plain.new result }
+    ensures takes { TakesAtSnoop P.SnoopPort G.Gate (port.old, gate.old)
+        (starts plain.old call) (port.new, gate.new) (plain.new, result) }
+    ensures keeps { Keeps P.SnoopPort G.Gate (port.old, gate.old) (port.new, gate.new)
+        plain.old plain.new result }
     ensures causes { Explains P.SnoopPort port.old port.new plain.old plain.new result }
     ensures going { OnOk result (IsGoing plain.new (P.view port.new)) }
     ensures got_nothing { P.got port.old port.new [] }
@@ -65,8 +67,10 @@ pub(crate) fn sync_call<P: SnoopPort, G: Gate>(
     requires unstopped { plain.old.status.stopped ≡ false }
     requires sync { IsSync call }
     requires port { CanUse plain.old (P.view port.old) }
-    ensures takes { TakesAtSnoop P.SnoopPort G.Gate (port.old, gate.old) (syncs plain.old call) (port.new, gate.new) (plain.new, result) }
-    ensures keeps { Keeps P.SnoopPort G.Gate (port.old, gate.old) (port.new, gate.new) plain.old plain.new result }
+    ensures takes { TakesAtSnoop P.SnoopPort G.Gate (port.old, gate.old)
+        (syncs plain.old call) (port.new, gate.new) (plain.new, result) }
+    ensures keeps { Keeps P.SnoopPort G.Gate (port.old, gate.old) (port.new, gate.new)
+        plain.old plain.new result }
     ensures causes { Explains P.SnoopPort port.old port.new plain.old plain.new result }
     ensures going { OnOk result (IsGoing plain.new (P.view port.new)) }
     ensures got_nothing { P.got port.old port.new [] }
@@ -92,10 +96,14 @@ impl Reader {
         gate: &mut G,
     ) -> Result<(), PcmError>
         requires { CanUse self.old (P.view port.old) }
-        ensures takes { TakesAtSnoop P.SnoopPort G.Gate (port.old, gate.old) (admitted self.old call.Start (starts self.old call.Start)) (port.new, gate.new) (self.new, result) }
-        ensures refused { (e : PcmError) → refusal_of Direction.Capture self.old.status call.Start ≡ Some e → (result ≡ Err e) × (self.new ≡ self.old) × (port.new ≡ port.old) × (gate.new ≡ gate.old) }
-        ensures keeps { Keeps P.SnoopPort G.Gate (port.old, gate.old) (port.new, gate.new) self.old self.new result }
-        ensures causes { refusal_of Direction.Capture self.old.status call.Start ≡ None → Explains P.SnoopPort port.old port.new self.old self.new result }
+        ensures takes { TakesAtSnoop P.SnoopPort G.Gate (port.old, gate.old)
+            (admitted self.old call.Start (starts self.old call.Start)) (port.new, gate.new) (self.new, result) }
+        ensures refused { (e : PcmError) → refusal_of Direction.Capture self.old.status call.Start ≡ Some e
+            → (result ≡ Err e) × (self.new ≡ self.old) × (port.new ≡ port.old) × (gate.new ≡ gate.old) }
+        ensures keeps { Keeps P.SnoopPort G.Gate (port.old, gate.old) (port.new, gate.new)
+            self.old self.new result }
+        ensures causes { refusal_of Direction.Capture self.old.status call.Start ≡ None
+            → Explains P.SnoopPort port.old port.new self.old self.new result }
     {
         self.plain.status.admit(Direction::Capture, Call::Start)?;
         start_call(&mut self.plain, port, gate, Call::Start)
@@ -113,10 +121,14 @@ impl Reader {
         gate: &mut G,
     ) -> Result<(), PcmError>
         requires { CanUse self.old (P.view port.old) }
-        ensures takes { TakesAtSnoop P.SnoopPort G.Gate (port.old, gate.old) (admitted self.old call.Sync (sync_course self.old)) (port.new, gate.new) (self.new, result) }
-        ensures refused { (e : PcmError) → refusal_of Direction.Capture self.old.status call.Sync ≡ Some e → (result ≡ Err e) × (self.new ≡ self.old) × (port.new ≡ port.old) × (gate.new ≡ gate.old) }
-        ensures keeps { Keeps P.SnoopPort G.Gate (port.old, gate.old) (port.new, gate.new) self.old self.new result }
-        ensures causes { refusal_of Direction.Capture self.old.status call.Sync ≡ None → is_running self.old.status.state ≡ true → Explains P.SnoopPort port.old port.new self.old self.new result }
+        ensures takes { TakesAtSnoop P.SnoopPort G.Gate (port.old, gate.old)
+            (admitted self.old call.Sync (sync_course self.old)) (port.new, gate.new) (self.new, result) }
+        ensures refused { (e : PcmError) → refusal_of Direction.Capture self.old.status call.Sync ≡ Some e
+            → (result ≡ Err e) × (self.new ≡ self.old) × (port.new ≡ port.old) × (gate.new ≡ gate.old) }
+        ensures keeps { Keeps P.SnoopPort G.Gate (port.old, gate.old) (port.new, gate.new)
+            self.old self.new result }
+        ensures causes { refusal_of Direction.Capture self.old.status call.Sync ≡ None
+            → is_running self.old.status.state ≡ true → Explains P.SnoopPort port.old port.new self.old self.new result }
     {
         self.plain.status.admit(Direction::Capture, Call::Sync)?;
         if !self.plain.is_running() {
@@ -133,10 +145,14 @@ impl Reader {
         gate: &mut G,
     ) -> Result<u64, PcmError>
         requires { CanUse self.old (P.view port.old) }
-        ensures takes { TakesAtSnoop P.SnoopPort G.Gate (port.old, gate.old) (admitted self.old call.Sync (avail_course self.old)) (port.new, gate.new) (self.new, result) }
-        ensures refused { (e : PcmError) → refusal_of Direction.Capture self.old.status call.Sync ≡ Some e → (result ≡ Err e) × (self.new ≡ self.old) × (port.new ≡ port.old) × (gate.new ≡ gate.old) }
-        ensures keeps { Keeps P.SnoopPort G.Gate (port.old, gate.old) (port.new, gate.new) self.old self.new result }
-        ensures causes { refusal_of Direction.Capture self.old.status call.Sync ≡ None → is_running self.old.status.state ≡ true → Explains P.SnoopPort port.old port.new self.old self.new result }
+        ensures takes { TakesAtSnoop P.SnoopPort G.Gate (port.old, gate.old)
+            (admitted self.old call.Sync (avail_course self.old)) (port.new, gate.new) (self.new, result) }
+        ensures refused { (e : PcmError) → refusal_of Direction.Capture self.old.status call.Sync ≡ Some e
+            → (result ≡ Err e) × (self.new ≡ self.old) × (port.new ≡ port.old) × (gate.new ≡ gate.old) }
+        ensures keeps { Keeps P.SnoopPort G.Gate (port.old, gate.old) (port.new, gate.new)
+            self.old self.new result }
+        ensures causes { refusal_of Direction.Capture self.old.status call.Sync ≡ None
+            → is_running self.old.status.state ≡ true → Explains P.SnoopPort port.old port.new self.old self.new result }
     {
         self.plain.status.admit(Direction::Capture, Call::Sync)?;
         if !self.plain.is_running() {

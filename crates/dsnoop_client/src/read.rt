@@ -1,5 +1,5 @@
 //! The call that moves frames.
-ghost use Rattle.std.specs.Prelude.{◌≡◌, ◌+◌, ◌*◌, ◌/◌, ◌^◌, ◌<◌, ◌≤◌, ◌⊎◌, true, false, IfOk, length};
+ghost use Rattle.std.specs.Prelude.{◌≡◌, ◌*◌, ◌/◌, ◌≤◌, false, IfOk, length};
 ghost use Rattle.pcm_states.specs.declared.calls.Call.TheVariants as call;
 ghost use Rattle.pcm_stream.specs.Status.{refusal_of};
 ghost use Rattle.pcm_stream.specs.declared.direction.Direction.{Direction};
@@ -35,7 +35,8 @@ fn transfer<P: SnoopPort, G: Gate>(
     requires going { IsGoing plain.old (P.view port.old) }
     requires room { HasRoom plain.old frame.old }
     requires fits { frames * length plain.old.setup.bindings ≤ length out.old }
-    ensures takes { TakesAtSnoop P.SnoopPort G.Gate (port.old, gate.old) (transfers plain.old frames) (port.new, gate.new) (plain.new, result) }
+    ensures takes { TakesAtSnoop P.SnoopPort G.Gate (port.old, gate.old)
+        (transfers plain.old frames) (port.new, gate.new) (plain.new, result) }
     ensures reads { Reads P.SnoopPort port.old port.new plain.old plain.new out.old out.new result }
     ensures few { IfOk result (λ n. n ≤ frames) }
 {
@@ -62,7 +63,8 @@ fn read_running<P: SnoopPort, G: Gate>(
     requires port { CanUse plain.old (P.view port.old) }
     requires room { HasRoom plain.old frame.old }
     requires fits { frames * length plain.old.setup.bindings ≤ length out.old }
-    ensures takes { TakesAtSnoop P.SnoopPort G.Gate (port.old, gate.old) (reads_on plain.old frames) (port.new, gate.new) (plain.new, result) }
+    ensures takes { TakesAtSnoop P.SnoopPort G.Gate (port.old, gate.old)
+        (reads_on plain.old frames) (port.new, gate.new) (plain.new, result) }
     ensures reads { Reads P.SnoopPort port.old port.new plain.old plain.new out.old out.new result }
     ensures few { IfOk result (λ n. n ≤ frames) }
 {
@@ -87,7 +89,8 @@ fn read_starting<P: SnoopPort, G: Gate>(
     requires port { CanUse plain.old (P.view port.old) }
     requires room { HasRoom plain.old frame.old }
     requires fits { frames * length plain.old.setup.bindings ≤ length out.old }
-    ensures takes { TakesAtSnoop P.SnoopPort G.Gate (port.old, gate.old) (reads_first plain.old frames) (port.new, gate.new) (plain.new, result) }
+    ensures takes { TakesAtSnoop P.SnoopPort G.Gate (port.old, gate.old)
+        (reads_first plain.old frames) (port.new, gate.new) (plain.new, result) }
     ensures reads { Reads P.SnoopPort port.old port.new plain.old plain.new out.old out.new result }
     ensures few { IfOk result (λ n. n ≤ frames) }
 {
@@ -118,12 +121,18 @@ fn read_admitted<P: SnoopPort, G: Gate>(
     requires admitted { refusal_of Direction.Capture plain.old.status call.Transfer ≡ None }
     requires port { CanUse plain.old (P.view port.old) }
     requires room { HasRoom plain.old frame.old }
-    ensures takes { TakesAtSnoop P.SnoopPort G.Gate (port.old, gate.old) (read_course plain.old (frames_in plain.old out.old)) (port.new, gate.new) (plain.new, result) }
+    ensures takes { TakesAtSnoop P.SnoopPort G.Gate (port.old, gate.old)
+        (read_course plain.old (frames_in plain.old out.old)) (port.new, gate.new) (plain.new, result) }
     ensures reads { Reads P.SnoopPort port.old port.new plain.old plain.new out.old out.new result }
-    ensures keeps { Keeps P.SnoopPort G.Gate (port.old, gate.old) (port.new, gate.new) plain.old plain.new result }
-    ensures waits { (LoadsFor plain.old (frames_in plain.old out.old) → ⊥) → (result ≡ waits (frames_in plain.old out.old)) × (plain.new ≡ plain.old) × (port.new ≡ port.old) × (gate.new ≡ gate.old) × (out.new ≡ out.old) × (frame.new ≡ frame.old) }
-    ensures causes { LoadsFor plain.old (frames_in plain.old out.old) → ExplainsRead P.SnoopPort port.old port.new plain.old plain.new (frames_in plain.old out.old) result }
-    ensures asks { LoadsFor plain.old (frames_in plain.old out.old) → Asks G.Gate gate.old gate.new plain.new (frames_in plain.old out.old) result }
+    ensures keeps { Keeps P.SnoopPort G.Gate (port.old, gate.old) (port.new, gate.new)
+        plain.old plain.new result }
+    ensures waits { (LoadsFor plain.old (frames_in plain.old out.old) → ⊥)
+        → (result ≡ waits (frames_in plain.old out.old)) × (plain.new ≡ plain.old)
+        × (port.new ≡ port.old) × (gate.new ≡ gate.old) × (out.new ≡ out.old) × (frame.new ≡ frame.old) }
+    ensures causes { LoadsFor plain.old (frames_in plain.old out.old)
+        → ExplainsRead P.SnoopPort port.old port.new plain.old plain.new (frames_in plain.old out.old) result }
+    ensures asks { LoadsFor plain.old (frames_in plain.old out.old)
+        → Asks G.Gate gate.old gate.new plain.new (frames_in plain.old out.old) result }
     ensures few { IfOk result (λ n. n ≤ frames_in plain.old out.old) }
 {
     let frames = whole_frames(out, plain.setup.bindings.len());
@@ -171,15 +180,24 @@ impl Reader {
     ) -> Result<u32, PcmError>
         requires room { CanRead self.old out.old }
         requires port { CanUse self.old (P.view port.old) }
-        ensures takes { TakesAtSnoop P.SnoopPort G.Gate (port.old, gate.old) (admitted self.old call.Transfer (read_course self.old (frames_in self.old out.old))) (port.new, gate.new) (self.new, result) }
-        ensures refused { (e : PcmError) → refusal_of Direction.Capture self.old.status call.Transfer ≡ Some e → (result ≡ Err e) × (self.new ≡ self.old) × (port.new ≡ port.old) × (gate.new ≡ gate.old) × (out.new ≡ out.old) }
+        ensures takes { TakesAtSnoop P.SnoopPort G.Gate (port.old, gate.old)
+            (admitted self.old call.Transfer (read_course self.old (frames_in self.old out.old)))
+            (port.new, gate.new) (self.new, result) }
+        ensures refused { (e : PcmError) → refusal_of Direction.Capture self.old.status call.Transfer ≡ Some e
+            → (result ≡ Err e) × (self.new ≡ self.old)
+            × (port.new ≡ port.old) × (gate.new ≡ gate.old) × (out.new ≡ out.old) }
         ensures reads { Reads P.SnoopPort port.old port.new self.old self.new out.old out.new result }
-        ensures keeps { Keeps P.SnoopPort G.Gate (port.old, gate.old) (port.new, gate.new) self.old self.new result }
-        ensures waits { refusal_of Direction.Capture self.old.status call.Transfer ≡ None → (LoadsFor self.old (frames_in self.old out.old) → ⊥)
-            → (result ≡ waits (frames_in self.old out.old)) × (self.new ≡ self.old) × (port.new ≡ port.old) × (gate.new ≡ gate.old) × (out.new ≡ out.old) }
-        ensures causes { refusal_of Direction.Capture self.old.status call.Transfer ≡ None → LoadsFor self.old (frames_in self.old out.old)
+        ensures keeps { Keeps P.SnoopPort G.Gate (port.old, gate.old) (port.new, gate.new)
+            self.old self.new result }
+        ensures waits { refusal_of Direction.Capture self.old.status call.Transfer ≡ None
+            → (LoadsFor self.old (frames_in self.old out.old) → ⊥)
+            → (result ≡ waits (frames_in self.old out.old)) × (self.new ≡ self.old)
+            × (port.new ≡ port.old) × (gate.new ≡ gate.old) × (out.new ≡ out.old) }
+        ensures causes { refusal_of Direction.Capture self.old.status call.Transfer ≡ None
+            → LoadsFor self.old (frames_in self.old out.old)
             → ExplainsRead P.SnoopPort port.old port.new self.old self.new (frames_in self.old out.old) result }
-        ensures asks { refusal_of Direction.Capture self.old.status call.Transfer ≡ None → LoadsFor self.old (frames_in self.old out.old)
+        ensures asks { refusal_of Direction.Capture self.old.status call.Transfer ≡ None
+            → LoadsFor self.old (frames_in self.old out.old)
             → Asks G.Gate gate.old gate.new self.new (frames_in self.old out.old) result }
     {
         self.plain.status.admit(Direction::Capture, Call::Transfer)?;

@@ -1,5 +1,5 @@
 //! The reader: a PCM stream for capture that shares the card's frames with others.
-ghost use Rattle.std.specs.Prelude.{◌≡◌, ℕ, true, IfErr, OnErr, OnOk, length, ◌⊎◌};
+ghost use Rattle.std.specs.Prelude.{◌≡◌, ℕ, IfErr, OnErr, OnOk, ◌⊎◌};
 ghost use Rattle.pcm_states.specs.declared.calls.Call.TheVariants as call;
 ghost use Rattle.pcm_stream.specs.Setup.{CanRunWith, Checks, config_of};
 ghost use Rattle.pcm_stream.specs.Status.{refusal_of};
@@ -100,10 +100,12 @@ impl Reader {
         bindings: Bindings,
     ) -> Result<(), PcmError>
         requires { CanRunWith self.old.geometry config bindings }
-        ensures refused { (e : PcmError) → refusal_of Direction.Capture self.old.status call.HwParams ≡ Some e → result ≡ Err e }
+        ensures refused { (e : PcmError) → refusal_of Direction.Capture self.old.status call.HwParams ≡ Some e
+            → result ≡ Err e }
         ensures ok { OnOk result (self.new ≡ configured_with self.old config bindings) }
         ensures err { OnErr result (self.new ≡ self.old) }
-        ensures only { IfErr result (λ e. (refusal_of Direction.Capture self.old.status call.HwParams ≡ Some e) ⊎ (e ≡ PcmError.Memory)) }
+        ensures only { IfErr result
+            (λ e. (refusal_of Direction.Capture self.old.status call.HwParams ≡ Some e) ⊎ (e ≡ PcmError.Memory)) }
     {
         self.plain.status.admit(Direction::Capture, Call::HwParams)?;
         let frame = vec![in alloc; 0i16; self.plain.geometry.channels as usize]?;
@@ -114,8 +116,10 @@ impl Reader {
 
     /// Gives the configuration up (`snd_pcm_hw_free`): OPEN, from SETUP or PREPARED. A refused call changes nothing.
     pub fn hw_free(&mut self) -> Result<(), PcmError>
-        ensures refused { (e : PcmError) → refusal_of Direction.Capture self.old.status call.HwFree ≡ Some e → (result ≡ Err e) × (self.new ≡ self.old) }
-        ensures freed { refusal_of Direction.Capture self.old.status call.HwFree ≡ None → (result ≡ Ok tt) × (self.new ≡ freed self.old) }
+        ensures refused { (e : PcmError) → refusal_of Direction.Capture self.old.status call.HwFree ≡ Some e
+            → (result ≡ Err e) × (self.new ≡ self.old) }
+        ensures freed { refusal_of Direction.Capture self.old.status call.HwFree ≡ None
+            → (result ≡ Ok tt) × (self.new ≡ freed self.old) }
     {
         self.plain.status.admit(Direction::Capture, Call::HwFree)?;
         self.plain = self.plain.freed();
@@ -126,8 +130,10 @@ impl Reader {
     /// Sets the software parameters (`snd_pcm_sw_params`), in every state but OPEN and DISCONNECTED. `Invalid` comes
     /// exactly where they have a defect, with the first one. A refused call changes nothing.
     pub fn sw_params(&mut self, params: SwParams) -> Result<(), PcmError>
-        ensures refused { (e : PcmError) → refusal_of Direction.Capture self.old.status call.SwParams ≡ Some e → (result ≡ Err e) × (self.new ≡ self.old) }
-        ensures checked { refusal_of Direction.Capture self.old.status call.SwParams ≡ None → (b : ℕ) × IsBoundary self.old.setup.config.buffer_size b × Checks result params b }
+        ensures refused { (e : PcmError) → refusal_of Direction.Capture self.old.status call.SwParams ≡ Some e
+            → (result ≡ Err e) × (self.new ≡ self.old) }
+        ensures checked { refusal_of Direction.Capture self.old.status call.SwParams ≡ None
+            → (b : ℕ) × IsBoundary self.old.setup.config.buffer_size b × Checks result params b }
         ensures ok { OnOk result (self.new ≡ with_params self.old params) }
         ensures err { OnErr result (self.new ≡ self.old) }
     {
@@ -137,8 +143,10 @@ impl Reader {
 
     /// Prepares the stream (`snd_pcm_prepare`): PREPARED, from SETUP, PREPARED or XRUN. A refused call changes nothing.
     pub fn prepare(&mut self) -> Result<(), PcmError>
-        ensures refused { (e : PcmError) → refusal_of Direction.Capture self.old.status call.Prepare ≡ Some e → (result ≡ Err e) × (self.new ≡ self.old) }
-        ensures prepared { refusal_of Direction.Capture self.old.status call.Prepare ≡ None → (result ≡ Ok tt) × (self.new ≡ in_state self.old State.Prepared) }
+        ensures refused { (e : PcmError) → refusal_of Direction.Capture self.old.status call.Prepare ≡ Some e
+            → (result ≡ Err e) × (self.new ≡ self.old) }
+        ensures prepared { refusal_of Direction.Capture self.old.status call.Prepare ≡ None
+            → (result ≡ Ok tt) × (self.new ≡ in_state self.old State.Prepared) }
     {
         self.plain.status.admit(Direction::Capture, Call::Prepare)?;
         self.plain = self.plain.in_state(State::Prepared);
@@ -148,8 +156,10 @@ impl Reader {
     /// Stops the stream (`snd_pcm_drop`): SETUP, from every state but OPEN and DISCONNECTED. A refused call changes
     /// nothing.
     pub fn drop_pending(&mut self) -> Result<(), PcmError>
-        ensures refused { (e : PcmError) → refusal_of Direction.Capture self.old.status call.Drop ≡ Some e → (result ≡ Err e) × (self.new ≡ self.old) }
-        ensures dropped { refusal_of Direction.Capture self.old.status call.Drop ≡ None → (result ≡ Ok tt) × (self.new ≡ in_state self.old State.Setup) }
+        ensures refused { (e : PcmError) → refusal_of Direction.Capture self.old.status call.Drop ≡ Some e
+            → (result ≡ Err e) × (self.new ≡ self.old) }
+        ensures dropped { refusal_of Direction.Capture self.old.status call.Drop ≡ None
+            → (result ≡ Ok tt) × (self.new ≡ in_state self.old State.Setup) }
     {
         self.plain.status.admit(Direction::Capture, Call::Drop)?;
         self.plain = self.plain.in_state(State::Setup);

@@ -47,7 +47,8 @@ fn capture(rt: &impl Abort, core: &mut SnoopCore, from: i16, frames: i16) -> Res
             first.wrapping_add(6),
             first.wrapping_add(7),
         ];
-        assert!(rt; channels <= samples.len());
+        assert!(rt; channels <= 8);
+        assert_eq!(rt; core.geometry().channels as usize, channels);
         core.store(&samples[..channels])?;
     }
     core.publish();
@@ -117,11 +118,23 @@ fn read(
     read_by(rt, core, reader, &mut NeverStops, out)
 }
 
-/// Whether samples count up from one.
-fn count_up_from(samples: &[i16], first: i16) -> bool {
+/// A read of so many mono frames, at the beginning of a longer room.
+fn read_frames(
+    rt: &impl Abort,
+    core: &mut SnoopCore,
+    reader: &mut Reader,
+    out: &mut [i16],
+    frames: usize,
+) -> Result<u32, PcmError> {
+    assert!(rt; frames <= out.len());
+    read(rt, core, reader, &mut out[..frames])
+}
+
+/// Whether the first so many samples count up from a number.
+fn count_up_from(samples: &[i16], frames: usize, first: i16) -> bool {
     let mut wanted = first;
-    for sample in samples {
-        if *sample != wanted {
+    for (place, sample) in samples.iter().enumerate() {
+        if place < frames && *sample != wanted {
             return false;
         }
         wanted = wanted.wrapping_add(1);
@@ -137,7 +150,7 @@ fn a_reader_that_waits_too_long_is_an_xrun(rt: HostRuntime) -> Result<(), Fail> 
     assert_eq!(rt; start(&rt, &mut core, &mut reader), Ok(()));
     capture(&rt, &mut core, 0, 64)?;
     assert_eq!(rt; read(&rt, &mut core, &mut reader, &mut out), Ok(64));
-    assert!(rt; count_up_from(&out, 0));
+    assert!(rt; count_up_from(&out, 64, 0));
     capture(&rt, &mut core, 64, 320)?;
     let over = XrunWhy::Avail {
         avail: 320,
@@ -156,7 +169,7 @@ fn a_reader_that_waits_too_long_is_an_xrun(rt: HostRuntime) -> Result<(), Fail> 
     assert_eq!(rt; reader.state(), State::Running);
     capture(&rt, &mut core, 384, 64)?;
     assert_eq!(rt; read(&rt, &mut core, &mut reader, &mut out), Ok(64));
-    assert!(rt; count_up_from(&out, 384));
+    assert!(rt; count_up_from(&out, 64, 384));
     assert_eq!(rt; reader.seen(), Some(448));
     Ok(())
 }
@@ -168,19 +181,22 @@ fn a_reader_restarts_at_the_position(rt: HostRuntime) -> Result<(), Fail> {
     let mut out = [0; 64];
     assert_eq!(rt; start(&rt, &mut core, &mut reader), Ok(()));
     capture(&rt, &mut core, 0, 64)?;
-    assert_eq!(rt; read(&rt, &mut core, &mut reader, &mut out[..32]), Ok(32));
+    assert_eq!(rt;
+        read_frames(&rt, &mut core, &mut reader, &mut out, 32),
+        Ok(32)
+    );
     assert_eq!(rt; reader.drop_pending(), Ok(()));
     assert_eq!(rt; reader.state(), State::Setup);
     assert_eq!(rt; reader.prepare(), Ok(()));
     assert_eq!(rt; start(&rt, &mut core, &mut reader), Ok(()));
     assert_eq!(rt;
-        read(&rt, &mut core, &mut reader, &mut out[..1]),
+        read_frames(&rt, &mut core, &mut reader, &mut out, 1),
         Err(PcmError::Again)
     );
     capture(&rt, &mut core, 64, 16)?;
     assert_eq!(rt; avail_update(&rt, &mut core, &mut reader), Ok(16));
     assert_eq!(rt; read(&rt, &mut core, &mut reader, &mut out), Ok(16));
-    assert!(rt; count_up_from(&out[..16], 64));
+    assert!(rt; count_up_from(&out, 16, 64));
     Ok(())
 }
 
@@ -197,7 +213,7 @@ fn a_late_reader_misses_a_frame(rt: HostRuntime) -> Result<(), Fail> {
         let answer = read(&rt, &mut core, &mut reader, &mut out);
         if !missed {
             assert_eq!(rt; answer, Ok(32));
-            assert!(rt; count_up_from(&out, 0));
+            assert!(rt; count_up_from(&out, 32, 0));
             continue;
         }
         let (laps, sample) = if waits > 512 { (3, 512) } else { (2, 256) };
@@ -301,23 +317,29 @@ fn a_read_starts_at_its_threshold(rt: HostRuntime) -> Result<(), Fail> {
     capture(&rt, &mut core, 0, 100)?;
     let mut out = [0; 16];
     assert_eq!(rt;
-        read(&rt, &mut core, &mut reader, &mut out[..7]),
+        read_frames(&rt, &mut core, &mut reader, &mut out, 7),
         Err(PcmError::Again)
     );
-    assert_eq!(rt; read(&rt, &mut core, &mut reader, &mut out[..0]), Ok(0));
+    assert_eq!(rt;
+        read_frames(&rt, &mut core, &mut reader, &mut out, 0),
+        Ok(0)
+    );
     assert_eq!(rt; avail_update(&rt, &mut core, &mut reader), Ok(0));
     assert_eq!(rt; sync(&rt, &mut core, &mut reader), Ok(()));
     assert_eq!(rt; reader.seen(), None);
     assert_eq!(rt;
-        read(&rt, &mut core, &mut reader, &mut out[..8]),
+        read_frames(&rt, &mut core, &mut reader, &mut out, 8),
         Err(PcmError::Again)
     );
     assert_eq!(rt; reader.state(), State::Running);
     assert_eq!(rt; reader.seen(), Some(100));
     capture(&rt, &mut core, 100, 8)?;
-    assert_eq!(rt; read(&rt, &mut core, &mut reader, &mut out[..0]), Ok(0));
+    assert_eq!(rt;
+        read_frames(&rt, &mut core, &mut reader, &mut out, 0),
+        Ok(0)
+    );
     assert_eq!(rt; read(&rt, &mut core, &mut reader, &mut out), Ok(8));
-    assert!(rt; count_up_from(&out[..8], 100));
+    assert!(rt; count_up_from(&out, 8, 100));
     assert_eq!(rt; out[8], 0);
     Ok(())
 }
@@ -363,7 +385,7 @@ fn bindings_leave_channels_out(rt: HostRuntime) -> Result<(), Fail> {
     assert_eq!(rt; start(&rt, &mut core, &mut reader), Ok(()));
     capture(&rt, &mut core, 0, 2)?;
     let mut out = [-1; 6];
-    assert!(rt; !reader.can_read(&out[..5]));
+    assert!(rt; !reader.can_read(&[0; 5]));
     assert_eq!(rt; read(&rt, &mut core, &mut reader, &mut out), Ok(2));
     assert_eq!(rt; out, [2, 0, 12, 10, -1, -1]);
     Ok(())

@@ -1,5 +1,5 @@
 //! Tests for what the calls of a reader ask of their caller.
-ghost use Rattle.std.specs.Prelude.{◌≡◌, ◌↔◌, IsTrue};
+ghost use Rattle.std.specs.Prelude.{◌↔◌, IsTrue};
 ghost use Rattle.pcm_stream.specs.Setup.{CanRunWith};
 ghost use Rattle.dsnoop_client.specs.View.{CanRead, CanUse};
 

@@ -1,5 +1,5 @@
 //! What a stream is set up with: its configuration, its bindings and its software parameters.
-ghost use Rattle.std.specs.Prelude.{◌≡◌, ◌≤◌, ◌<◌, ◌↔◌, ℕ, All, IsTrue, length};
+ghost use Rattle.std.specs.Prelude.{◌≡◌, ◌≤◌, ◌<◌, ◌↔◌, ℕ, All, IsTrue};
 ghost use Rattle.pcm_stream.specs.Setup.{CanRunWith};
 
 use bindings::Bindings;
