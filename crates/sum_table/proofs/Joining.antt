@@ -330,7 +330,7 @@ greater_none (Some n) = refl
 -- a mix seat that was joined with a note's
 pub has_met : (s t : MixSeat) (n : SeatNote) → n.seat.key ≡ s.key → HasJoined s t n.seat → HasMet s t n
 has_met s t n one joined =
-    let no_last : n.seat.last ≡ None = sym n.seat.known.same_last ∙ ap last_frame n.laid_nothing in
+    let no_last : n.seat.reach.last ≡ None = sym n.seat.known.same_last ∙ ap last_frame n.laid_nothing in
     record {
       ring = joined.ring;
       key = joined.key;
@@ -338,8 +338,8 @@ has_met s t n one joined =
       view = joined.view;
       places = omega (arith, joined.places, n.no_places);
       laid = ap (λ (v : View). v.laid) joined.view ∙ (ap (λ es. (view_of s).laid ++ es) n.laid_nothing ∙ append-nil (view_of s).laid);
-      marks = joined.marks ∙ ap (joined_marks s.marks n.seat.marks) n.no_places;
-      last = joined.last ∙ (ap (greater s.last) no_last ∙ greater_none s.last);
+      marks = joined.marks ∙ ap (joined_marks s.reach.marks n.seat.reach.marks) n.no_places;
+      last = joined.last ∙ (ap (greater s.reach.last) no_last ∙ greater_none s.reach.last);
       seen = joined.seen;
       gone = ap (λ (v : View). v.seen_gone) joined.view;
       history = joined.history;

@@ -1,10 +1,12 @@
 pub mod Cuts
 pub mod Exact
+pub mod Extent
 pub mod Joins
 pub mod Known
 pub mod Laid
 pub mod Players
 pub mod Rings
 pub mod Seats
+pub mod Spots
 pub mod Steps
 pub mod Words

@@ -59,17 +59,17 @@ abbrev pub places_of_seat : MixSeat → ℕ
 places_of_seat s = s.places
 
 abbrev pub cursor_of_seat : MixSeat → Cursor
-cursor_of_seat s = s.marks.cursor
+cursor_of_seat s = s.reach.marks.cursor
 
 abbrev pub seen_of : MixSeat → ℕ
 seen_of s = s.seen
 
 abbrev pub last_of_seat : MixSeat → Option ℕ
-last_of_seat s = s.last
+last_of_seat s = s.reach.last
 
 -- the marks of a seat, and the lists in which its standing adds end
 abbrev pub marks_of_seat : MixSeat → Marks
-marks_of_seat s = s.marks
+marks_of_seat s = s.reach.marks
 
 abbrev pub SeatEndsIn : MixSeat → List Entry → Type 0
 SeatEndsIn s es = EndsIn (standing (view_of s).laid) es
@@ -80,7 +80,7 @@ CanAdd s = 0 < s.places
 
 -- what is plain of a seat
 abbrev pub seat_view : MixSeat → PortView
-seat_view s = record { geometry = s.key.geometry; member = s.member; can_add = nat_lt 0 s.places; marks = s.marks; seen = s.seen }
+seat_view s = record { geometry = s.key.geometry; member = s.member; can_add = nat_lt 0 s.places; marks = s.reach.marks; seen = s.seen }
 
 -- the ring's history up to the last step of a seat
 abbrev pub history_of : MixSeat → List Row
@@ -93,8 +93,8 @@ entry_by s k f c x = record { member = s.member; frame = f; channel = c; sample 
 -- a seat may add a sample at a frame and channel, or withdraw it there
 abbrev pub MayLay : Kind → MixSeat → ℕ → ℕ → ℤ → Type 0
 MayLay Added s f c x =
-    CanAdd s × (c < s.key.geometry.channels) × IsFrom s.marks.cursor f c × (f < s.seen + s.key.geometry.frames) × (lap s.key.geometry f < 4294967295)
-MayLay Withdrawn s f c x = SeatEndsIn s (an_add s.member f c x ∷ []) × IsFrom s.marks.floor f c
+    CanAdd s × (c < s.key.geometry.channels) × IsFrom s.reach.marks.cursor f c × (f < s.seen + s.key.geometry.frames) × (lap s.key.geometry f < 4294967295)
+MayLay Withdrawn s f c x = SeatEndsIn s (an_add s.member f c x ∷ []) × IsFrom s.reach.marks.floor f c
 
 -- the word that a seat noted last at a frame and channel
 abbrev pub shown : MixSeat → ℕ → ℕ → Option ℕ
@@ -130,7 +130,7 @@ Adds g h mine (e ∷ es) later =
 -- ring's history as far as the seat has seen it; and its marks went on by them
 pub record SeatLaid (s t : MixSeat) (es : List Entry) : Type 0 where
   pub goes : Goes s t
-  pub marks : t.marks ≡ marks_from s.key.geometry s.marks es
+  pub marks : t.reach.marks ≡ marks_from s.key.geometry s.reach.marks es
   pub laid : (view_of t).laid ≡ (view_of s).laid ++ es
   pub mine : (view_of t).mine ≡ (view_of s).mine ++ es
   pub adds : Adds s.key.geometry (view_of s).history (view_of s).mine es (view_of t).history
@@ -150,9 +150,9 @@ pub record SeatLoaded (s t : MixSeat) (ps : List Position) : Type 0 where
 pub record HasNoted (s t : MixSeat) (f c n : ℕ) : Type 0 where
   pub goes : Goes s t
   pub view : view_of t ≡ with_note (view_of s) (view_of t).history (index_of s.key.geometry f c) n
-  pub marks : t.marks ≡ s.marks
+  pub marks : t.reach.marks ≡ s.reach.marks
   pub seen : t.seen ≡ s.seen
-  pub last : t.last ≡ s.last
+  pub last : t.reach.last ≡ s.reach.last
   pub shows : shown t f c ≡ Some n
   pub found : Finds (view_of s) (index_of s.key.geometry f c) n
   pub sum : IsSumOf s.key.geometry (view_of t).history f c n
@@ -162,9 +162,9 @@ pub record HasNoted (s t : MixSeat) (f c n : ℕ) : Type 0 where
 pub record HasLaid (s t : MixSeat) (e : Entry) : Type 0 where
   pub goes : Goes s t
   pub view : view_of t ≡ with_entry (view_of s) (view_of t).history e
-  pub marks : t.marks ≡ marks_after s.key.geometry s.marks e
+  pub marks : t.reach.marks ≡ marks_after s.key.geometry s.reach.marks e
   pub seen : t.seen ≡ s.seen
-  pub last : t.last ≡ greater s.last (Some e.frame)
+  pub last : t.reach.last ≡ greater s.reach.last (Some e.frame)
   pub event : Makes (view_of s) (view_of t) (λ by. in_row by e ∷ [])
 
 -- another word than the expected one was found, and noted: it is past it by lap and then by count
@@ -176,9 +176,9 @@ pub record HasLost (s t : MixSeat) (f c old n : ℕ) : Type 0 where
 pub record HasLocated (s t : MixSeat) (p : Position) : Type 0 where
   pub goes : Goes s t
   pub view : view_of t ≡ with_position (view_of s) (view_of t).history p.frame p.gone
-  pub marks : t.marks ≡ s.marks
+  pub marks : t.reach.marks ≡ s.reach.marks
   pub seen : t.seen ≡ p.frame
-  pub last : t.last ≡ s.last
+  pub last : t.reach.last ≡ s.reach.last
   pub not_before : s.seen ≤ p.frame
   pub within : IsWithin s.key.geometry p.frame
   pub gone : (view_of s).seen_gone ≡ true → p.gone ≡ true
@@ -301,8 +301,8 @@ SeatLaid-composes = record {
   joined = λ p q r xs ys first then. record {
     goes = Goes-joined p q r first.goes then.goes;
     marks = then.marks
-        ∙ (ap (λ (k : Key). marks_from k.geometry q.marks ys) first.goes.key
-        ∙ (ap (λ m. marks_from p.key.geometry m ys) first.marks ∙ sym (fold-append (marks_after p.key.geometry) p.marks xs ys)));
+        ∙ (ap (λ (k : Key). marks_from k.geometry q.reach.marks ys) first.goes.key
+        ∙ (ap (λ m. marks_from p.key.geometry m ys) first.marks ∙ sym (fold-append (marks_after p.key.geometry) p.reach.marks xs ys)));
     laid = then.laid ∙ (ap (λ es. es ++ ys) first.laid ∙ append_assoc (view_of p).laid xs ys);
     mine = then.mine ∙ (ap (λ es. es ++ ys) first.mine ∙ append_assoc (view_of p).mine xs ys);
     adds = Adds-joined p.key.geometry (view_of p).history (view_of p).mine xs ys (view_of q).history (view_of r).history first.adds
@@ -362,7 +362,7 @@ pub SeatEndsIn-nothing : (p q : MixSeat) (xs : List Entry) → SeatLaid p q [] �
 SeatEndsIn-nothing p q xs laid ends = (ends.0, ap standing (laid.laid ∙ append-nil (view_of p).laid) ∙ ends.1)
 
 -- and after a withdrawal the last of them is gone
-pub SeatEndsIn-back : (p q : MixSeat) (xs : List Entry) (f c : ℕ) (x : ℤ) → IsFrom p.marks.floor f c
+pub SeatEndsIn-back : (p q : MixSeat) (xs : List Entry) (f c : ℕ) (x : ℤ) → IsFrom p.reach.marks.floor f c
     → SeatLaid p q (a_withdrawal p.member f c x ∷ []) → SeatEndsIn p (xs ++ an_add p.member f c x ∷ []) → SeatEndsIn q xs
 SeatEndsIn-back p q xs f c x from laid ends =
     let a : Entry = an_add p.member f c x in

@@ -1,8 +1,7 @@
 -- The words of the sum ring: word 0 is the position's, and behind it stands one for each slot and channel.
 use Rattle.std.specs.Prelude.{◌≡◌, ℕ, ◌+◌, ◌*◌, ◌/◌, ◌<◌, ◌⊎◌}
 use Rattle.snd_base.specs.declared.geometry.Geometry.{Geometry}
-use Rattle.snd_base.specs.Places.{lap, word_index}
-use Rattle.sum_table.specs.declared.seats.frame_words.FrameWords.{FrameWords}
+use Rattle.snd_base.specs.Places.{word_index}
 
 -- how many words a ring has
 abbrev pub words_of : Geometry → ℕ
@@ -19,8 +18,3 @@ rank w = w / 16777216
 -- a word is another one, or comes before it by lap and then by count
 abbrev pub NotPast : ℕ → ℕ → Type 0
 NotPast n w = (n ≡ w) ⊎ (rank n < rank w)
-
--- the words of a frame: the frame's lap, and the index of its first word
-pub record AreFrameWords (g : Geometry) (w : FrameWords) : Type 0 where
-  pub lap_is : w.lap ≡ lap g w.frame
-  pub first_is : w.first ≡ index_of g w.frame 0

@@ -35,7 +35,7 @@ impl MixSeat<'_> {
             → (self.new ≡ self.old) × (gate.new ≡ gate.old) × (steps.new ≡ steps.old) }
         ensures only { IfErr result (λ e. (e ≡ PcmError.LapEnd) ⊎ (e ≡ PcmError.Stopped)) }
     {
-        if self.lap(frame) >= 4294967295 {
+        if self.is_lap_end(frame) {
             return Err(PcmError::LapEnd);
         }
         let ended = self.lay(gate, Kind::Added, frame, channel, sample, steps);
@@ -84,22 +84,22 @@ impl MixSeat<'_> {
         ensures { LaysCounted G.stops G.asked self.old gate.old steps.old
             (entry_by self.old kind frame channel sample) result self.new gate.new steps.new }
     {
-        let its_lap = self.lap(frame);
         let Ok(()) = ask(gate, StepKind::Look) else {
             return Ended::Stopped;
         };
-        let mut word = self.load_word(frame, channel, steps);
-        if lap_word::lap(word) as u64 != its_lap {
+        let (found, spot) = self.look(frame, channel, steps);
+        let mut word = found;
+        if lap_word::lap(word) as u64 != spot.lap {
             return Ended::Late { seen: word };
         }
         let Ok(()) = ask(gate, StepKind::Exchange) else {
             return Ended::Stopped;
         };
         for _ in 0..3 * self.key.places {
-            let Err(found) = self.exchange(kind, frame, channel, word, sample, steps) else {
+            let Err(found) = self.exchange(kind, spot, frame, channel, word, sample, steps) else {
                 return Ended::Whole;
             };
-            if lap_word::lap(found) as u64 != its_lap {
+            if lap_word::lap(found) as u64 != spot.lap {
                 return Ended::Late { seen: found };
             }
             let Ok(()) = ask(gate, StepKind::Again) else {
