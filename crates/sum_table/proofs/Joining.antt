@@ -248,6 +248,10 @@ has_heard p q n slots found x ring key next position gone both told =
       next = next;
       position = position;
       same_gone = gone;
+      seen =
+          let most : max v.seen w.seen ≤ position_at v.key.geometry track = knows.seen in
+          let at : p.position ≡ position_at v.key.geometry track = p.known.position_is ∙ ap (λ (k : Key). position_at k.geometry track) (sym own) in
+          omega (arith, most, at, n.seat.known.same_seen);
       positions = λ i y there.
           let j = at_right v.positions w.positions i y there in
           subst (λ (k : Key). IsPublished k.geometry track y) own (knows.positions j.0 y j.1);

@@ -1,5 +1,5 @@
 -- What a seat's steps may do and do, said of the seat's fields.
-use Rattle.std.proofs.Common.{◌≡◌, ◌≢◌, ℕ, ◌+◌, ◌<◌, ◌≤◌, ◌==◌, Bool, false, Option, None, Some, List, [], ◌∷◌, ◌++◌, length, get_or, set, ℤ, pos, negsuc, ◌+ℤ◌, ◌≤ℤ◌, inl, inr, arith, subst, sym, refl, ap, ◌∙◌, to_z, of_z}
+use Rattle.std.proofs.Common.{◌≡◌, ◌≢◌, ℕ, ◌+◌, ◌<◌, ◌≤◌, ◌==◌, Bool, false, Option, None, Some, IfSome, suc, List, [], ◌∷◌, ◌++◌, length, get_or, set, ℤ, pos, negsuc, ◌+ℤ◌, ◌≤ℤ◌, inl, inr, arith, subst, sym, refl, ap, ◌∙◌, to_z, of_z}
 use mathlib.Core.Option.{some, none}
 use lib.ListN.{get_elem?}
 use prog.Atomic.{either}
@@ -313,6 +313,14 @@ greater-assoc (Some x) (Some y) (Some z) = ap (λ n. Some n) (omega arith)
 pub last_frame-append : (xs ys : List Entry) → last_frame (xs ++ ys) ≡ greater (last_frame xs) (last_frame ys)
 last_frame-append [] ys = refl
 last_frame-append (x ∷ xs) ys = ap (greater (Some x.frame)) (last_frame-append xs ys) ∙ sym (greater-assoc (Some x.frame) (last_frame xs) (last_frame ys))
+
+-- the greatest frame of some entries is below what each of them is below
+pub last_frame-before : (es : List Entry) (end : ℕ) → ((i : ℕ) (e : Entry) → get_elem? es i ≡ some e → e.frame < end) → IfSome (last_frame es) (λ f. f < end)
+last_frame-before [] end each = tt
+last_frame-before (e ∷ es) end each = step (last_frame es) (last_frame-before es end (λ i. each (suc i))) (each 0 e refl) where
+  step : (o : Option ℕ) → IfSome o (λ f. f < end) → e.frame < end → IfSome (greater (Some e.frame) o) (λ f. f < end)
+  step None rest own = own
+  step (Some f) rest own = omega arith
 
 -- the marks after an entry stay within the ring's frames
 pub record MarksWithin (g : Geometry) (m : Marks) : Type 0 where

@@ -121,7 +121,8 @@ pub record HasPlayerNote (p q : PlayerSeat) (n : SeatNote) : Type 0 where
   pub published : (i x : ℕ) → get_elem? (track_of p).published i ≡ some x → (j : ℕ) × (get_elem? (note_view n).positions j ≡ some x)
   pub gone : (note_view n).seen_gone ≡ (track_of p).gone
 
--- the player met a note: each position of it is the first frame or one that this player published, each of its noted words
+-- the player met a note: the greatest position that it has seen is not past the one that this player published last, each
+-- position of it is the first frame or one that this player published, each of its noted words
 -- has at most the lap of the first frame of its slot and channel that this player has not taken, and it has seen the card
 -- gone only where this player is gone
 pub record HasHeard (p q : PlayerSeat) (n : SeatNote) : Type 0 where
@@ -131,6 +132,7 @@ pub record HasHeard (p q : PlayerSeat) (n : SeatNote) : Type 0 where
   pub next : q.next ≡ p.next
   pub position : q.position ≡ p.position
   pub same_gone : q.gone ≡ p.gone
+  pub seen : note_seen n ≤ p.position
   pub positions : (i x : ℕ) → get_elem? (note_view n).positions i ≡ some x → IsPublished (player_key p).geometry (track_of p) x
   pub noted : (f c x : ℕ) → IsNow (player_key p).geometry (next_at (player_key p).geometry (track_of p)) f c
       → slice_index_or (note_view n).noted (index_of (player_key p).geometry f c) None ≡ Some x → lap_of x ≤ lap (player_key p).geometry f

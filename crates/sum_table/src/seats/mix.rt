@@ -36,8 +36,8 @@ pub struct MixSeat<'a> {
 }
 
 impl MixSeat<'_> {
-    ghost use Rattle.std.specs.Prelude.{◌≡◌, ◌≢◌, ℕ, ◌+◌, ◌<◌, ◌≤◌, ◌↔◌, true, [], ◌∷◌, Option, Some, OnOk, IfErr};
-    ghost use Rattle.snd_base.specs.Places.{IsFrom, lap};
+    ghost use Rattle.std.specs.Prelude.{◌≡◌, ◌≢◌, ℕ, ◌+◌, ◌<◌, ◌≤◌, ◌↔◌, true, [], ◌∷◌, Option, Some, OnOk, IfErr, IfSome};
+    ghost use Rattle.snd_base.specs.Places.{IsFrom, end_frame, lap};
     ghost use Rattle.lap_word.specs.Word.{lap_of};
     ghost use Rattle.mix_core.specs.Laid.{a_withdrawal, an_add};
     ghost use Rattle.sum_table.specs.Known.{last_frame};
@@ -57,6 +57,7 @@ impl MixSeat<'_> {
     pub fn last(&self) -> Option<u64>
         ensures value { result ≡ last_of_seat self.now }
         ensures of_view { result ≡ last_frame (view_of self.now).laid }
+        ensures before_end { IfSome result (λ frame. frame < end_frame (geometry_of self.now)) }
     {
         self.reach.last()
     }
