@@ -1,0 +1,113 @@
+-- What a store does to the words of a ring with one owner.
+use Rattle.std.proofs.Common.{◌≡◌, ℕ, ◌+◌, ◌*◌, ◌<◌, ◌≤◌, List, [], ◌∷◌, ◌++◌, length, get_or, set, ℤ, arith, subst, sym, refl, ap, ◌∙◌, append_assoc}
+use Rattle.std.proofs.lemmas.Bool.Decides.{nat_tests}
+use Rattle.std.proofs.lemmas.List.{append-nil, get_or-set_same, get_or-set_other, length-set}
+use Rattle.std.proofs.lemmas.Nat.{mul-add-lt}
+use Rattle.std.proofs.Math.Nat.{div-lt_iff_lt-mul, mod-lt}
+use Rattle.snd_base.specs.declared.geometry.Geometry.{Geometry}
+use Rattle.snd_base.specs.declared.places.Cursor.{Cursor}
+use Rattle.snd_base.specs.PlaceLaws.{word_index-same}
+use Rattle.snd_base.specs.Places.{behind, end_frame, lap, slot, word_index}
+use Rattle.snoop_core.specs.Ring.{ArePartStored, HoldsSamples, IsFrameStored, IsSampleStored, IsSoundRing, RingView, after_samples, word_in}
+use Rattle.snoop_core.specs.Stored.{next_at}
+use Rattle.snoop_core.specs.StoredLaws.{HaveLaps-written, HoldLast-written, IsWritten, next_at-more}
+use Rattle.snoop_core.specs.Word.{HoldsSample}
+
+pub word_index-lt : (g : Geometry) (f c : ℕ) → c < g.channels → word_index g f c < g.frames * g.channels
+word_index-lt g f c in_range =
+    let below : slot g f < g.frames = mod-lt f (omega (arith, g.frames_least)) in
+    let place : slot g f * g.channels + c < g.channels * g.frames = mul-add-lt (slot g f) g.channels c g.frames below in_range in
+    grind arith
+
+pub suc-le-end_frame : (g : Geometry) (f : ℕ) → lap g f < 4294967295 → f + 1 ≤ end_frame g
+suc-le-end_frame g f fits =
+    let some : 0 < g.frames = omega (arith, g.frames_least) in
+    let below : f < 4294967295 * g.frames = (div-lt_iff_lt-mul some).0 fits in
+    omega arith
+
+-- one word of the list was written
+written : (g : Geometry) (next : Cursor) (words : List ℕ) (new : ℕ) → length words ≡ g.frames * g.channels → next.channel < g.channels
+    → IsWritten g next new (word_in g words) (word_in g (set words (word_index g next.frame next.channel) new))
+written g next words new room in_range =
+    let at : ℕ = word_index g next.frame next.channel in
+    let inside : at < length words = omega (arith, room, word_index-lt g next.frame next.channel in_range) in
+    record {
+      here = λ f same.
+          let index : word_index g f next.channel ≡ at = ap (λ s. s * g.channels + next.channel) same in
+          ap (λ i. get_or (set words at new) i 0) index ∙ get_or-set_same words at new 0 inside;
+      elsewhere = λ f c c_in apart.
+          get_or-set_other words at (word_index g f c) new 0 (λ same. apart (word_index-same g f c next.frame next.channel c_in in_range same));
+    }
+
+-- the ring after a sample was stored
+abbrev pub stored_view : RingView → ℕ → RingView
+stored_view v new = record {
+  geometry = v.geometry;
+  words = set v.words (word_index v.geometry v.next.frame v.next.channel) new;
+  next = behind v.geometry v.next.frame v.next.channel;
+}
+
+pub IsSoundRing-stored : (v : RingView) (new : ℕ) (x : ℤ) → IsSoundRing v → lap v.geometry v.next.frame < 4294967295
+    → HoldsSample new (lap v.geometry v.next.frame + 1) x → IsSoundRing (stored_view v new)
+IsSoundRing-stored v new x s fits holds =
+    let g : Geometry = v.geometry in
+    let at : ℕ = word_index g v.next.frame v.next.channel in
+    let end : v.next.frame + 1 ≤ end_frame g = suc-le-end_frame g v.next.frame fits in
+    record {
+      room = length-set v.words at new ∙ s.room;
+      next_channel = grind (arith, nat_tests, s.next_channel, g.channels_least);
+      next_within = record { least = grind (arith, nat_tests, s.next_within.least); most = grind (arith, nat_tests, s.next_within.most, end) };
+      laps = HaveLaps-written g v.next new x (word_in g v.words) (word_in g (set v.words at new)) s.next_channel (written g v.next v.words new s.room s.next_channel) holds s.laps;
+    }
+
+pub IsSampleStored-stored : (v : RingView) (new : ℕ) (x : ℤ) → IsSoundRing v → lap v.geometry v.next.frame < 4294967295
+    → HoldsSample new (lap v.geometry v.next.frame + 1) x → IsSampleStored v (stored_view v new) x
+IsSampleStored-stored v new x s fits holds =
+    let g : Geometry = v.geometry in
+    let at : ℕ = word_index g v.next.frame v.next.channel in
+    record {
+      geometry = refl;
+      next = refl;
+      sound = IsSoundRing-stored v new x s fits holds;
+      holds = λ xs h.
+          let at_next : (y : Cursor) → y ≡ v.next → v.next ≡ next_at g xs → IsWritten g (next_at g xs) new (word_in g v.words) (word_in g (set v.words at new)) =
+          λ y e is. subst (λ (n : Cursor). IsWritten g n new (word_in g v.words) (word_in g (set v.words at new))) is (written g v.next v.words new s.room s.next_channel) in
+          record {
+            next = ap (λ (n : Cursor). behind g n.frame n.channel) h.next ∙ sym (next_at-more g xs x);
+            words = HoldLast-written g new x (word_in g v.words) (word_in g (set v.words at new)) xs (at_next v.next refl h.next)
+                (subst (λ (n : Cursor). HoldsSample new (lap g n.frame + 1) x) h.next holds) h.words;
+          };
+    }
+
+-- nothing, and one sample more
+pub ArePartStored-none : (v : RingView) → IsSoundRing v → v.next.channel ≡ 0 → ArePartStored v v []
+ArePartStored-none v s start = record {
+  geometry = refl;
+  next = grind (arith, nat_tests, v.geometry.channels_least, start);
+  sound = s;
+  holds = λ early h. subst (HoldsSamples v) (sym (append-nil early)) h;
+}
+
+pub ArePartStored-more : (u v w : RingView) (xs : List ℤ) (x : ℤ) → length xs < u.geometry.channels → ArePartStored u v xs → IsSampleStored v w x
+    → ArePartStored u w (xs ++ x ∷ [])
+ArePartStored-more u v w xs x few part one =
+    let g : Geometry = u.geometry in
+    let n : ℕ = length xs in
+    let more : length (xs ++ x ∷ []) ≡ n + 1 = Rattle.std.proofs.lemmas.List.length-append xs (x ∷ []) in
+    let moved : w.next ≡ behind g (after_samples g u.next.frame n).frame (after_samples g u.next.frame n).channel =
+    one.next ∙ (ap (λ (k : Geometry). behind k v.next.frame v.next.channel) part.geometry ∙ ap (λ (y : Cursor). behind g y.frame y.channel) part.next) in
+    let step : behind g (after_samples g u.next.frame n).frame (after_samples g u.next.frame n).channel ≡ after_samples g u.next.frame (n + 1) = grind (arith, nat_tests, few) in
+    record {
+      geometry = one.geometry ∙ part.geometry;
+      next = moved ∙ (step ∙ ap (after_samples g u.next.frame) (sym more));
+      sound = one.sound;
+      holds = λ early h. subst (HoldsSamples w) (append_assoc early xs (x ∷ [])) (one.holds (early ++ xs) (part.holds early h));
+    }
+
+pub IsFrameStored-whole : (u w : RingView) (xs ys : List ℤ) → ys ≡ xs → length xs ≡ u.geometry.channels → ArePartStored u w ys → IsFrameStored u w xs
+IsFrameStored-whole u w xs ys same whole part = record {
+  geometry = part.geometry;
+  next = part.next ∙ (ap (λ zs. after_samples u.geometry u.next.frame (length zs)) same ∙ grind (arith, nat_tests, whole));
+  sound = part.sound;
+  holds = λ early h. subst (λ zs. HoldsSamples w (early ++ zs)) same (part.holds early h);
+}

@@ -1,0 +1,16 @@
+//! The capture core: the port through which a reader loads captured frames, and a ring with one owner that stores them.
+#![tactic(auto)]
+
+mod capture;
+mod port;
+mod ring;
+mod turn;
+mod word;
+
+pub use capture::SnoopCore;
+pub use port::{Frame, Got, Loaded, SnoopPort};
+pub use turn::SnoopTurn;
+pub use word::{laps, sample, snoop_word};
+
+#[cfg(test)]
+mod tests;
