@@ -28,13 +28,13 @@ min_right a b le = omega arith
 both : (xs : List ℕ) (a b : ℕ) → IsLeast xs a → IsLeast (xs ++ b ∷ []) (min a b)
 both xs a b is = elim (cases_lt b a) [
   | inl lower ↦ record {
-      among = subst (Contains (xs ++ b ∷ [])) (sym (min_right a b (omega arith))) (Contains-push xs b);
-      least = All-push (λ y. min a b ≤ y) xs b (below_more xs a b is.least) (omega arith);
-    }
+    among = subst (Contains (xs ++ b ∷ [])) (sym (min_right a b (omega arith))) (Contains-push xs b);
+    least = All-push (λ y. min a b ≤ y) xs b (below_more xs a b is.least) (omega arith);
+  }
   | inr not_lower ↦ record {
-      among = subst (Contains (xs ++ b ∷ [])) (sym (min_left a b (omega arith))) (Contains-append_left xs (b ∷ []) a is.among);
-      least = All-push (λ y. min a b ≤ y) xs b (below_more xs a b is.least) (omega arith);
-    }
+    among = subst (Contains (xs ++ b ∷ [])) (sym (min_left a b (omega arith))) (Contains-append_left xs (b ∷ []) a is.among);
+    least = All-push (λ y. min a b ≤ y) xs b (below_more xs a b is.least) (omega arith);
+  }
 ]
 
 -- one more frame

@@ -83,8 +83,7 @@ pub silent-given : (ring : TableId) (key : Key) (p : ℕ) (seats : List (Option 
     → (member_of s ≡ place) × IsPlace ring key (member_of s) s × IfSome (last_of s) (λ frame. frame < p)
 silent-given ring key p seats place s are is at =
     let here : IsPlace ring key place s = are place s at in
-    let found = silent-found p seats place is in
-    (
+    let found = silent-found p seats place is in (
       here.member,
       subst (λ i. IsPlace ring key i s) (sym here.member) here,
       below p (last_of s) (ap (λ t. is_below p (last_of t)) (same_Some s found.1.0 (sym at ∙ found.1.1)) ∙ found.1.2),

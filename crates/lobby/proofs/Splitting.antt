@@ -54,8 +54,7 @@ IsSplitting-more whole rest after one seats n is split = record {
         let earlier = is.each place before in
         (earlier.0, get_or_append_left seats (Some one ∷ []) None place (subst (λ k. place < k) (sym is.count) before) ∙ earlier.1, earlier.2)
     | inr not_before ↦
-        let here : place ≡ n = omega arith in
-        (
+        let here : place ≡ n = omega arith in (
           one,
           get_or_push seats (Some one) None place (is.count ∙ sym here),
           subst (λ i. IsPart whole i one) (sym here) (record {

@@ -14,7 +14,7 @@ pub record HasLoaded (s t : MixSeat) (p : Position) : Type 0 where
   pub laid_nothing : SeatLaid s t []
 
 -- the player is where it was
-pub record RestsPlayer (p q : PlayerSeat) : Type 0 where
+pub record PlayerStays (p q : PlayerSeat) : Type 0 where
   pub ring : player_ring q ≡ player_ring p
   pub key : player_key q ≡ player_key p
   pub track : track_of q ≡ track_of p

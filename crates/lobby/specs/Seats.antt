@@ -1,5 +1,5 @@
 -- What is said of the seats of a ring's places, each while it is free.
-use Rattle.std.specs.Prelude.{◌≡◌, ℕ, ◌+◌, ◌≤◌, ◌<◌, All, Bool, true, false, Contains, List, Option, None, Some, min, nat_lt}
+use Rattle.std.specs.Prelude.{◌≡◌, ℕ, ◌+◌, ◌≤◌, ◌<◌, All, Bool, true, false, Contains, List, Option, length, None, Some, min, nat_lt}
 use Rattle.std.specs.List.{filter_map, position, slice_index_or}
 use Rattle.std.specs.Option.{is_some, option_and_then}
 use Rattle.snd_base.specs.declared.errors.PcmError.{PcmError}
@@ -19,6 +19,11 @@ pub record IsPlace (ring : TableId) (key : Key) (place : ℕ) (s : MixSeat) : Ty
 -- the seat of a place, while it is free
 abbrev pub seat_at : List (Option MixSeat) → ℕ → Option MixSeat
 seat_at seats place = slice_index_or seats place None
+
+-- there is such a place, and it is not free
+pub record IsOut (seats : List (Option MixSeat)) (place : ℕ) : Type 0 where
+  pub number : place < length seats
+  pub is_none : seat_at seats place ≡ None
 
 -- each free seat is that of its place
 abbrev pub ArePlaces : TableId → Key → List (Option MixSeat) → Type 0

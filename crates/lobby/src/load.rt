@@ -1,6 +1,6 @@
 //! A free seat loads the card's position.
 ghost use Rattle.std.specs.Prelude.{◌≡◌};
-ghost use Rattle.lobby.specs.Loads.{HasLoaded, HasLoadedBeside, RestsPlayer};
+ghost use Rattle.lobby.specs.Loads.{HasLoaded, HasLoadedBeside, PlayerStays};
 ghost use Rattle.sum_table.specs.Joins.{OneRing};
 ghost use Rattle.sum_table.specs.Players.{player_key, player_ring, position_of_player, track_of};
 ghost use Rattle.sum_table.specs.Seats.{key_of, ring_of};
@@ -24,7 +24,7 @@ pub(crate) fn load_beside(seat: &mut MixSeat<'_>, player: &mut PlayerSeat<'_>) -
     ensures load { HasLoadedBeside player.old seat.old player.new seat.new result }
     ensures published_last { result.frame ≡ position_of_player player.old }
     ensures gone { result.gone ≡ (track_of player.old).gone }
-    ensures rests { RestsPlayer player.old player.new }
+    ensures rests { PlayerStays player.old player.new }
 {
     let note = player.note();
     seat.meet(note);

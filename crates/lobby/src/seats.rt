@@ -1,7 +1,7 @@
 //! Which of the free seats is the one that is looked for.
 ghost use Rattle.std.specs.Prelude.{◌≡◌, ◌+◌, ◌<◌, ◌^◌, ◌↔◌, [], None, IsTrue, IsSome, IfSome, MatchOption};
 ghost use Rattle.std.specs.Option.{option_and_then};
-ghost use Rattle.lobby.specs.Seats.{AreFree, IsBusy, IsLeast, earlier, is_silent, last_frames, last_of, lowest_free, lowest_silent};
+ghost use Rattle.lobby.specs.Seats.{AreFree, IsBusy, IsLeast, IsOut, earlier, is_silent, last_frames, last_of, lowest_free, lowest_silent};
 
 use snd_base::PcmError;
 use sum_table::MixSeat;
@@ -18,6 +18,16 @@ pub(crate) fn are_free(seats: &[Option<MixSeat<'_>>]) -> bool
     ensures { IsTrue result ↔ AreFree seats.now }
 {
     seats.iter().all(|seat| seat.is_some())
+}
+
+/// Whether there is a place of this number, and it is not free.
+pub(crate) fn is_out(seats: &[Option<MixSeat<'_>>], place: u32) -> bool
+    ensures { IsTrue result ↔ IsOut seats.now place }
+{
+    match seats.get(place as usize) {
+        Some(seat) => seat.is_none(),
+        None => false,
+    }
 }
 
 /// Whether a place is free, and its seat's last frame, if it has one, is below a position.

@@ -9,14 +9,14 @@ pub invariant_of-self : goal.invariant_of-self
 invariant_of-self c =
     let l : Lobby = c.args.self.now in
     let s : MixSeat = c.args.seat in
-    let inside : c.member-place.result < length l.seats.items = subst (λ i. i < length l.seats.items) (sym c.member-place.ensures) c.requires.number in
+    let inside : c.member-place.result < length l.seats.items = subst (λ i. i < length l.seats.items) (sym c.member-place.ensures) c.requires.out.out.number in
     record {
       no_places = l.no_places;
       laid_nothing = l.laid_nothing;
-      placed = ArePlaces-set (ring_of l.rest) (key_of l.rest) l.seats.items c.member-place.result s inside l.placed (record {
+      placed = ArePlaces-set (ring_of l.base) (key_of l.base) l.seats.items c.member-place.result s inside l.placed (record {
         of_ring = c.requires.one_ring.0;
         of_key = c.requires.one_ring.1;
         member = sym c.member-place.ensures;
-        places = c.requires.one_place;
+        places = c.requires.out.one_place;
       });
     }

@@ -17,8 +17,8 @@ invariant_of-self c =
     record {
       no_places = l.no_places;
       laid_nothing = l.laid_nothing;
-      placed = ArePlaces-set (ring_of l.rest) (key_of l.rest) l.seats.items c.args.place c.load-position.new.seat (lowest-found l.seats.items c.args.place c.requires).0 l.placed
-          (IsPlace-loaded (ring_of l.rest) (key_of l.rest) c.args.place c.in-Some.seat c.load-position.new.seat c.load-position.result c.load-position.ensures (l.placed c.args.place c.in-Some.seat at));
+      placed = ArePlaces-set (ring_of l.base) (key_of l.base) l.seats.items c.args.place c.load-position.new.seat (lowest-found l.seats.items c.args.place c.requires).0 l.placed
+          (IsPlace-loaded (ring_of l.base) (key_of l.base) c.args.place c.in-Some.seat c.load-position.new.seat c.load-position.result c.load-position.ensures (l.placed c.args.place c.in-Some.seat at));
     }
 
 pub returns-clause-loads : goal.returns-clause-loads

@@ -24,8 +24,8 @@ invariant_of-self c =
     record {
       no_places = l.no_places;
       laid_nothing = l.laid_nothing;
-      placed = ArePlaces-set (ring_of l.rest) (key_of l.rest) l.seats.items c.args.place c.load_beside-position.new.seat (lowest-found l.seats.items c.args.place c.requires.free).0 l.placed
-          (IsPlace-loaded_beside (ring_of l.rest) (key_of l.rest) c.args.place c.args.player.now c.in-Some.seat c.load_beside-position.new.player c.load_beside-position.new.seat c.load_beside-position.result
+      placed = ArePlaces-set (ring_of l.base) (key_of l.base) l.seats.items c.args.place c.load_beside-position.new.seat (lowest-found l.seats.items c.args.place c.requires.free).0 l.placed
+          (IsPlace-loaded_beside (ring_of l.base) (key_of l.base) c.args.place c.args.player.now c.in-Some.seat c.load_beside-position.new.player c.load_beside-position.new.seat c.load_beside-position.result
           c.load_beside-position.ensures.load (l.placed c.args.place c.in-Some.seat at));
     }
 

@@ -15,22 +15,22 @@ loop-place-init c = record {
 pub loop-place-preserved : goal.loop-place-preserved
 loop-place-preserved c = record {
   splitting = subst (λ (xs : List (Option MixSeat)). IsSplitting c.args.seat c.split-one.new.self xs (c.loop-place.place + 1)) (sym c.keep.ensures.items)
-      (IsSplitting-more c.args.seat c.loop-place.rest c.split-one.new.self c.split-one.result c.loop-place.seats.items c.loop-place.place c.loop-place.invariant.splitting c.split-one.ensures);
+      (IsSplitting-more c.args.seat c.loop-place.base c.split-one.new.self c.split-one.result c.loop-place.seats.items c.loop-place.place c.loop-place.invariant.splitting c.split-one.ensures);
   room = omega (arith, c.keep.ensures.capacity, c.loop-place.invariant.room);
 }
 
 pub invariant_of-result : goal.invariant_of-result
 invariant_of-result c =
-    let is : IsSplitting c.args.seat c.loop-place.rest c.loop-place.seats.items c.loop-place.place = c.loop-place.invariant.splitting in
+    let is : IsSplitting c.args.seat c.loop-place.base c.loop-place.seats.items c.loop-place.place = c.loop-place.invariant.splitting in
     record {
       no_places = omega (arith, is.places, c.loop-place-test.false, c.places-places.ensures.value);
       laid_nothing = is.laid;
-      placed = ArePlaces-split c.args.seat c.loop-place.rest c.loop-place.seats.items c.loop-place.place is;
+      placed = ArePlaces-split c.args.seat c.loop-place.base c.loop-place.seats.items c.loop-place.place is;
     }
 
 pub returns-clause-ok : goal.returns-clause-ok
 returns-clause-ok c =
-    let is : IsSplitting c.args.seat c.loop-place.rest c.loop-place.seats.items c.loop-place.place = c.loop-place.invariant.splitting in
+    let is : IsSplitting c.args.seat c.loop-place.base c.loop-place.seats.items c.loop-place.place = c.loop-place.invariant.splitting in
     let all : c.loop-place.place ≡ places_of_seat c.args.seat = omega (arith, c.loop-place-test.false, c.loop-place.auto.place-end, c.places-places.ensures.value) in
     record {
       ring = is.ring;
