@@ -1,0 +1,59 @@
+-- What a load leaves of a seat and of the player.
+use Rattle.std.proofs.Common.{◌≡◌, ℕ, ◌||◌, Bool, true, false, arith, ap, refl, sym, ◌∙◌}
+use Rattle.mix_core.specs.declared.port.Position.{Position}
+use Rattle.sum_table.specs.declared.seats.mix.MixSeat.{MixSeat}
+use Rattle.sum_table.specs.declared.seats.player.PlayerSeat.{PlayerSeat}
+use Rattle.sum_table.specs.declared.view.Key.{Key}
+use Rattle.sum_table.specs.declared.view.Track.{Track}
+use Rattle.sum_table.specs.declared.view.View.{View}
+use Rattle.sum_table.specs.Exact.{the_track}
+use Rattle.sum_table.specs.Players.{track_of}
+use Rattle.sum_table.specs.Seats.{Goes, TableId, view_of}
+use Rattle.lobby.specs.Loads.{HasLoaded, HasLoadedBeside}
+use Rattle.lobby.specs.Seats.{IsPlace}
+
+-- a seat that did something is still that of its place
+IsPlace-goes : (ring : TableId) (key : Key) (place : ℕ) (s t : MixSeat) → Goes s t → IsPlace ring key place s → IsPlace ring key place t
+IsPlace-goes ring key place s t goes is = record {
+  of_ring = goes.ring ∙ is.of_ring;
+  of_key = goes.key ∙ is.of_key;
+  member = goes.member ∙ is.member;
+  places = goes.places ∙ is.places;
+}
+
+pub IsPlace-loaded : (ring : TableId) (key : Key) (place : ℕ) (s t : MixSeat) (p : Position) → HasLoaded s t p → IsPlace ring key place s → IsPlace ring key place t
+IsPlace-loaded ring key place s t p load is = IsPlace-goes ring key place s t load.laid_nothing.goes is
+
+pub IsPlace-loaded_beside : (ring : TableId) (key : Key) (place : ℕ) (p : PlayerSeat) (s : MixSeat) (q : PlayerSeat) (t : MixSeat) (x : Position)
+    → HasLoadedBeside p s q t x → IsPlace ring key place s → IsPlace ring key place t
+IsPlace-loaded_beside ring key place p s q t x beside is =
+    let located : IsPlace ring key place beside.located = IsPlace-loaded ring key place beside.fresh beside.located x beside.load (record {
+      of_ring = beside.met.ring ∙ is.of_ring;
+      of_key = beside.met.key ∙ is.of_key;
+      member = beside.met.member ∙ is.member;
+      places = beside.met.places ∙ is.places;
+    }) in
+    record {
+      of_ring = beside.told.stays.ring ∙ located.of_ring;
+      of_key = beside.told.stays.key ∙ located.of_key;
+      member = beside.told.stays.member ∙ located.member;
+      places = beside.told.same_places ∙ located.places;
+    }
+
+or_true : (a b : Bool) → b ≡ true → (a || b) ≡ true
+or_true true b is = refl
+or_true false b is = is
+
+same_test : (a b : Bool) → (b ≡ true → a ≡ true) → (a ≡ true → b ≡ true) → a ≡ b
+same_test true b up down = sym (down refl)
+same_test false true up down = up refl
+same_test false false up down = refl
+
+-- a load beside the player finds the card gone exactly where the player is
+pub gone-beside : (p : PlayerSeat) (s : MixSeat) (q : PlayerSeat) (t : MixSeat) (x : Position) → HasLoadedBeside p s q t x → x.gone ≡ (track_of p).gone
+gone-beside p s q t x beside =
+    let fresh : (view_of beside.fresh).seen_gone ≡ ((view_of s).seen_gone || (track_of p).gone) = beside.met.gone ∙ ap (λ b. (view_of s).seen_gone || b) beside.gave.gone in
+    let track : track_of beside.noted ≡ track_of p = ap (λ (v : View). the_track v.track) beside.gave.same_view in
+    same_test x.gone (track_of p).gone
+    (λ is. beside.load.loaded.after_gone (fresh ∙ or_true (view_of s).seen_gone (track_of p).gone is) 0 x (omega arith))
+    (λ is. ap (λ (u : Track). u.gone) (sym track) ∙ beside.heard.gone (beside.told.gone ∙ (beside.load.loaded.gone ∙ or_true (view_of beside.fresh).seen_gone (x.gone || false) (ap (λ b. b || false) is))))

@@ -1,0 +1,3 @@
+pub mod Lobbies
+pub mod Loads
+pub mod Seats
