@@ -13,6 +13,7 @@ mod Keeping
 mod Laying
 mod Looking
 mod Left
+mod Resuming
 mod Rings
 mod Same
 mod Sound

@@ -4,6 +4,7 @@
 mod client;
 mod commit;
 mod control;
+mod pause;
 mod plain;
 mod ring;
 mod status;

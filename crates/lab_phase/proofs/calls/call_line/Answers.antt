@@ -46,8 +46,8 @@ returns-in-Prepare c = λ members p own h is at stands.
 
 pub returns-in-Pause : goal.returns-in-Pause
 returns-in-Pause c = λ members p own h is at stands.
-    subst (λ (asked : Op). HasCalled members p c.args.wav.now own asked c.pause_line.new.client c.args.port.now c.args.port.now c.pause_line.result) (sym c.in-Pause.is)
-    (c.pause_line.ensures members p c.args.wav.now own h c.args.port.now is at stands)
+    subst (λ (asked : Op). HasCalled members p c.args.wav.now own asked c.pause_line.new.client c.args.port.now c.pause_line.new.port c.pause_line.result) (sym c.in-Pause.is)
+    (c.pause_line.ensures members p c.args.wav.now own h is at stands)
 
 pub returns-in-Play : goal.returns-in-Play
 returns-in-Play c = λ members p own h is at stands. no_call-line members p c.args.wav.now own c.args.asked c.args.client.now c.args.port.now is at c.in-Play.is
