@@ -1,7 +1,7 @@
 -- Exit statuses 2 and 3 come exactly where their causes do, and how a call ends where nothing fails.
 use Rattle.std.proofs.Common.{◌≡◌, ℕ, ap, refl, subst, inl, inr, List, arith}
 use Rattle.std.specs.Prelude.{Option, Some, None, IsSome, Result, Ok, Err}
-use Rattle.lab_script.specs.declared.error.ScriptError.{ScriptError}
+use Rattle.short_script.specs.declared.error.ScriptError.{ScriptError}
 use Rattle.wav_io.specs.declared.error.WavError.{WavError}
 use Rattle.lab_shelf.specs.Files.{Files}
 use Rattle.lab_shelf.specs.Counts.{Rose}

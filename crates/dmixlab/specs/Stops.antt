@@ -1,8 +1,8 @@
 -- Why a command stops, beside the causes that the files give and the faults that are counted.
 use Rattle.std.specs.Prelude.{◌≡◌, ◌⊎◌, ℕ, ◌≤◌, List, Option, Some, None, IsSome, Result, Ok, Err, ⊤}
-use Rattle.lab_script.specs.declared.error.ScriptError.{ScriptError}
-use Rattle.lab_script.specs.declared.error.ScriptWhy.{ScriptWhy}
-use Rattle.lab_script.specs.declared.error.ScriptWhy.TheVariants as script_whys
+use Rattle.short_script.specs.declared.error.ScriptError.{ScriptError}
+use Rattle.short_script.specs.declared.error.ScriptWhy.{ScriptWhy}
+use Rattle.short_script.specs.declared.error.ScriptWhy.TheVariants as script_whys
 use Rattle.wav_io.specs.declared.error.WavError.{WavError}
 use Rattle.wav_io.specs.declared.error.WavError.TheVariants as wav_whys
 use Rattle.lab_shelf.specs.Counts.{Rose}

@@ -1,7 +1,7 @@
 -- What a call of the program leaves and when each exit status comes.
 use Rattle.std.specs.Prelude.{◌≡◌, ◌≢◌, ◌⊎◌, ◌++◌, ℕ, List, Option, Some, None, IsSome, Result, Ok, Err, ⊤}
 use Rattle.std.specs.Option.{ForSome, option_map}
-use Rattle.lab_script.specs.declared.error.ScriptError.{ScriptError}
+use Rattle.short_script.specs.declared.error.ScriptError.{ScriptError}
 use Rattle.wav_io.specs.declared.error.WavError.{WavError}
 use Rattle.lab_shelf.specs.Files.{Files, TookPart}
 use Rattle.dmixlab.specs.declared.stop.Stop.{Stop}

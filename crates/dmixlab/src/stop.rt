@@ -2,8 +2,8 @@
 ghost use Rattle.std.specs.Prelude.{◌≡◌};
 ghost use Rattle.dmixlab.specs.Stops.{IsScriptStop, IsWavStop, status_of};
 
-use lab_script::{ScriptError, ScriptWhy};
 use lab_shelf::Sink;
+use short_script::{ScriptError, ScriptWhy};
 use std::alloc::{AllocError, AllocFailed, Global};
 use std::str;
 use wav_io::WavError;
