@@ -1,0 +1,6 @@
+pub mod Words
+pub mod LineWords
+pub mod Pairs
+pub mod Ranges
+pub mod Kept
+pub mod States

@@ -1,0 +1,10 @@
+pub mod Word
+pub mod Lexing
+pub mod Causes
+pub mod Keys
+pub mod Ops
+pub mod Script
+pub mod Limits
+pub mod Runs
+pub mod Draft
+pub mod Reading
