@@ -12,8 +12,8 @@ use Rattle.std.proofs.lemmas.Str.Parse.{IsNumeralModel, numerals_by_value, tells
 use Rattle.asound_conf.specs.declared.plugin.Device.{Device}
 use Rattle.asound_conf.specs.Device.{IsCard}
 use Rattle.asound_conf.specs.Text.{card_line, device_text}
-use Rattle.lab_script.specs.Script.{IsScript}
-use Rattle.lab_script.specs.Spelling.{IsNumeralOf, line}
+use Rattle.short_script.specs.Script.{IsScript}
+use Rattle.short_script.specs.Spelling.{IsNumeralOf, line}
 use Rattle.lab_shelf.specs.Files.{Files}
 use Rattle.dmixlab.specs.Conf.{Described, IsOnlyDevice, IsScriptText, card_script, device_in}
 

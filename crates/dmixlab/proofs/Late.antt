@@ -25,14 +25,14 @@ use Rattle.dmix_client.specs.Calls.{draining as draining_of}
 use Rattle.dmix_client.specs.View.{avail_of, is_moving}
 use Rattle.dmix_client.specs.Writes.{count_with, starts_with}
 use Rattle.wav_io.specs.Sound.{Sound}
-use Rattle.lab_script.specs.declared.line.Actor.{Actor}
-use Rattle.lab_script.specs.declared.line.Actor.TheVariants as actor
-use Rattle.lab_script.specs.declared.line.Line.{Line}
-use Rattle.lab_script.specs.declared.line.Op.{Op}
-use Rattle.lab_script.specs.declared.line.Op.TheVariants as op
-use Rattle.lab_script.specs.declared.script.Script.{Script}
-use Rattle.lab_report.specs.declared.row.Answer.{Answer}
-use Rattle.lab_report.specs.declared.row.Answer.TheVariants.{Done, Count, Failed}
+use Rattle.short_script.specs.declared.line.Actor.{Actor}
+use Rattle.short_script.specs.declared.line.Actor.TheVariants as actor
+use Rattle.short_script.specs.declared.line.Line.{Line}
+use Rattle.short_script.specs.declared.line.Op.{Op}
+use Rattle.short_script.specs.declared.line.Op.TheVariants as op
+use Rattle.short_script.specs.declared.script.Script.{Script}
+use Rattle.short_report.specs.declared.row.Answer.{Answer}
+use Rattle.short_report.specs.declared.row.Answer.TheVariants.{Done, Count, Failed}
 use Rattle.lab_phase.specs.Lines.{Own, called, counted_of, done_of, ended_after, frames_of, laid_in, refused_or, segments_of, told, unless_refused}
 use Rattle.lab_phase.specs.Meaning.{Stage, client_line, client_row, first_stage, line_by, numbered}
 use Rattle.lab_phase.specs.Opening.{Setup, opened_with}

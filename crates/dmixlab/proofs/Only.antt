@@ -16,13 +16,13 @@ use Rattle.hw_space.specs.Narrowings.{with_value}
 use Rattle.hw_space.specs.Settled.{Leaves}
 use Rattle.hw_space.specs.Widest.{widest}
 use Rattle.snd_base.specs.declared.geometry.Geometry.{Geometry}
-use Rattle.lab_script.specs.declared.script.CardLine.{CardLine}
-use Rattle.lab_script.specs.declared.script.ClientLine.{ClientLine}
-use Rattle.lab_script.specs.declared.script.Script.{Script}
-use Rattle.lab_report.specs.declared.report.Report.{Report}
+use Rattle.short_script.specs.declared.script.CardLine.{CardLine}
+use Rattle.short_script.specs.declared.script.ClientLine.{ClientLine}
+use Rattle.short_script.specs.declared.script.Script.{Script}
+use Rattle.short_report.specs.declared.report.Report.{Report}
 use Rattle.lab_phase.specs.Meaning.{IsRun, bindings_of, entries_of, lines_of, mixed, mixed_at, report_of}
 use Rattle.lab_phase.specs.Opening.{IsChosen, IsOpening, IsRingOf, Setup}
-use Rattle.lab_report.specs.Text.{report_text}
+use Rattle.short_report.specs.Text.{report_text}
 use Rattle.lab_shelf.specs.Files.{Files, with_file}
 use Rattle.lap_word.specs.Clamp.{clamp_of}
 use Rattle.mix_core.specs.Laid.{total}

@@ -21,9 +21,9 @@ use Rattle.dmix_client.specs.Calls.{Answered, accepted, accepted_if, avail_answe
 use Rattle.dmix_client.specs.Calls.{draining as draining_of}
 use Rattle.dmix_client.specs.View.{avail_of, is_moving}
 use Rattle.wav_io.specs.Sound.{Sound}
-use Rattle.lab_script.specs.declared.line.Op.{Op}
-use Rattle.lab_script.specs.declared.line.Op.TheVariants as op
-use Rattle.lab_report.specs.Text.{HasErrorWords, HasWords}
+use Rattle.short_script.specs.declared.line.Op.{Op}
+use Rattle.short_script.specs.declared.line.Op.TheVariants as op
+use Rattle.short_report.specs.Text.{HasErrorWords, HasWords}
 use Rattle.lab_phase.specs.Lines.{Own, called, counted_of, done_of, frames_of, refused_or, told, unless_refused}
 use Rattle.dmix_client.specs.Writes.{count_with, starts_with}
 use Rattle.lab_phase.specs.Rest.{commit_at, cursor_at, drain_at, drained_at, resting, start_at, start_commit, sync_at, sync_commit, writei_at, written_at}

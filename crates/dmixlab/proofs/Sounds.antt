@@ -4,7 +4,7 @@ use Rattle.std.proofs.lemmas.List.{append-nil, drop_all}
 use Rattle.std.proofs.lemmas.List.{length-append}
 use Rattle.std.specs.Prelude.{Option, Some, Result, Ok, Err}
 use Rattle.std.specs.Option.{ForSome}
-use Rattle.lab_script.specs.declared.script.ClientLine.{ClientLine}
+use Rattle.short_script.specs.declared.script.ClientLine.{ClientLine}
 use Rattle.lab_shelf.specs.Files.{Files}
 use Rattle.wav_io.specs.Sound.{Sound}
 use Rattle.dmixlab.specs.declared.stop.Stop.{Stop}

@@ -6,8 +6,8 @@ use Rattle.asound_conf.specs.declared.plugin.Device.{Device}
 use Rattle.asound_conf.specs.Grammar.{conf_of}
 use Rattle.asound_conf.specs.Device.{device_of}
 use Rattle.asound_conf.specs.Text.{card_line, device_text}
-use Rattle.lab_script.specs.declared.script.Script.{Script}
-use Rattle.lab_script.specs.Spelling.{Spells}
+use Rattle.short_script.specs.declared.script.Script.{Script}
+use Rattle.short_script.specs.Spelling.{Spells}
 use Rattle.lab_shelf.specs.Files.{Files, TookPart}
 use Rattle.dmixlab.specs.Input.{Cause, conf_refused, fetched, ◌>>=◌}
 

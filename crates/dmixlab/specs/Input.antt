@@ -1,11 +1,11 @@
 -- What a run reads, or the first cause for which it can't: a function of the files.
 use Rattle.std.specs.Prelude.{◌≡◌, ℕ, ◌+◌, nat_le, if◌then◌else◌, List, [], ◌∷◌, length, Option, Some, None, Result, Ok, Err}
 use Rattle.asound_conf.specs.declared.error.ConfError.{ConfError}
-use Rattle.lab_script.specs.declared.error.ScriptError.{ScriptError}
-use Rattle.lab_script.specs.declared.script.ClientLine.{ClientLine}
-use Rattle.lab_script.specs.declared.script.Script.{Script}
-use Rattle.lab_script.specs.Reading.{script_of}
-use Rattle.lab_script.specs.Spelling.{Spells}
+use Rattle.short_script.specs.declared.error.ScriptError.{ScriptError}
+use Rattle.short_script.specs.declared.script.ClientLine.{ClientLine}
+use Rattle.short_script.specs.declared.script.Script.{Script}
+use Rattle.short_script.specs.Reading.{script_of}
+use Rattle.short_script.specs.Spelling.{Spells}
 use Rattle.wav_io.specs.declared.error.WavError.{WavError}
 use Rattle.wav_io.specs.declared.error.WavError.TheVariants.{TooLong}
 use Rattle.wav_io.specs.Sound.{Sound}

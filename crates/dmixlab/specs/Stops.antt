@@ -3,9 +3,9 @@ use Rattle.std.specs.Prelude.{◌≡◌, ◌⊎◌, ℕ, ◌≤◌, List, Option
 use Rattle.asound_conf.specs.declared.error.ConfError.{ConfError}
 use Rattle.asound_conf.specs.declared.error.ConfWhy.{ConfWhy}
 use Rattle.asound_conf.specs.declared.error.ConfWhy.TheVariants as conf_whys
-use Rattle.lab_script.specs.declared.error.ScriptError.{ScriptError}
-use Rattle.lab_script.specs.declared.error.ScriptWhy.{ScriptWhy}
-use Rattle.lab_script.specs.declared.error.ScriptWhy.TheVariants as script_whys
+use Rattle.short_script.specs.declared.error.ScriptError.{ScriptError}
+use Rattle.short_script.specs.declared.error.ScriptWhy.{ScriptWhy}
+use Rattle.short_script.specs.declared.error.ScriptWhy.TheVariants as script_whys
 use Rattle.wav_io.specs.declared.error.WavError.{WavError}
 use Rattle.wav_io.specs.declared.error.WavError.TheVariants as wav_whys
 use Rattle.lab_shelf.specs.Counts.{Rose}

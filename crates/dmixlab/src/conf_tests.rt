@@ -1,9 +1,9 @@
 // What no clause says of `conf`: its lines byte for byte, the line on the errors' stream for each kind of
 // refusal, and what a fault leaves.
 use crate::top::dmixlab;
-use lab_script::read_script;
 use lab_shelf::{MemoryShelf, MemorySink};
 use mix_core::NeverStops;
+use short_script::read_script;
 use std::alloc::{AllocError, Global};
 use std::test::Fail;
 use std::thread::Threads;
@@ -111,7 +111,10 @@ const REFUSED: [(&str, &str); 8] = [
     ("</etc/a.conf>", "line 1: Include"),
     ("", "line 0: Missing"),
     ("pcm.x {\n type dmix\n", "line 1: Unclosed"),
-    ("pcm.x {\n type dmix\n slave { \"rate }\n", "line 3: Unclosed"),
+    (
+        "pcm.x {\n type dmix\n slave { \"rate }\n",
+        "line 3: Unclosed",
+    ),
     ("pcm.x { type hw }", "line 0: Missing"),
     ("pcm.x { type hw slave { } }", "line 0: PluginType"),
     (

@@ -3,8 +3,8 @@ ghost use Rattle.std.specs.Prelude.{◌≡◌};
 ghost use Rattle.dmixlab.specs.Stops.{IsConfStop, IsScriptStop, IsWavStop, status_of};
 
 use asound_conf::{ConfError, ConfWhy};
-use lab_script::{ScriptError, ScriptWhy};
 use lab_shelf::Sink;
+use short_script::{ScriptError, ScriptWhy};
 use std::alloc::{AllocError, AllocFailed, Global};
 use std::str;
 use wav_io::WavError;

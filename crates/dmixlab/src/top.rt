@@ -39,7 +39,7 @@ use std::thread::Threads;
 /// a fault there changes nothing:
 ///
 /// - 1: the words are none of these;
-/// - 2: the script has more than 1,048,576 bytes, or isn't a script as `lab_script::read_script`
+/// - 2: the script has more than 1,048,576 bytes, or isn't a script as `short_script::read_script`
 ///   reads it; or TEXT has more bytes than that, no line with words, or a line that can't stand in it;
 ///   or FILE is refused by `asound_conf::read_conf`, or its device by `asound_conf::device`;
 /// - 3: a client's file isn't a WAV file of 16-bit PCM, has more than 67,108,864 bytes, or is the one

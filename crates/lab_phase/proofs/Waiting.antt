@@ -16,10 +16,10 @@ use Rattle.dmix_client.specs.Calls.{dropped, paused, prepared, refusal_of}
 use Rattle.dmix_client.specs.Growth.{StandsFor}
 use Rattle.dmix_client.specs.View.{ClientView, is_moving}
 use Rattle.wav_io.specs.Sound.{Sound}
-use Rattle.lab_script.specs.declared.line.Op.{Op}
-use Rattle.lab_script.specs.declared.line.Op.TheVariants as op
-use Rattle.lab_report.specs.declared.row.Answer.{Answer}
-use Rattle.lab_report.specs.declared.row.Answer.TheVariants.{Done, Failed}
+use Rattle.short_script.specs.declared.line.Op.{Op}
+use Rattle.short_script.specs.declared.line.Op.TheVariants as op
+use Rattle.short_report.specs.declared.row.Answer.{Answer}
+use Rattle.short_report.specs.declared.row.Answer.TheVariants.{Done, Failed}
 use Rattle.lab_phase.specs.Lines.{Own, after_call, called, done_answer, free_after, refused_or, told}
 use Rattle.lab_phase.specs.Seats.{HasCalled, IsAtPort, IsOwn, ends_stretch, stretch}
 use Rattle.lab_phase.proofs.Called.{tell}

@@ -8,10 +8,10 @@ use Rattle.snd_base.specs.declared.places.Segment.{Segment}
 use Rattle.pcm_states.specs.declared.calls.Call.{Call}
 use Rattle.pcm_states.specs.declared.calls.Call.TheVariants as call
 use Rattle.wav_io.specs.Sound.{Sound}
-use Rattle.lab_script.specs.declared.line.Op.{Op}
-use Rattle.lab_script.specs.declared.line.Op.TheVariants as op
-use Rattle.lab_report.specs.declared.row.Answer.{Answer}
-use Rattle.lab_report.specs.declared.row.Answer.TheVariants.{Done, Count, Failed}
+use Rattle.short_script.specs.declared.line.Op.{Op}
+use Rattle.short_script.specs.declared.line.Op.TheVariants as op
+use Rattle.short_report.specs.declared.row.Answer.{Answer}
+use Rattle.short_report.specs.declared.row.Answer.TheVariants.{Done, Count, Failed}
 use Rattle.dmix_client.specs.declared.plain.Plain.{Plain}
 use Rattle.dmix_client.specs.Calls.{Answered, avail_answer, delay_answer, dropped, paused, prepared, refusal_of, segment_of, with_number}
 use Rattle.lab_phase.specs.Rest.{drain_at, start_at, sync_at, writei_at}

@@ -11,9 +11,9 @@ ghost use Rattle.lab_phase.specs.Seats.{HasCalled, IsAtPort, IsOwn};
 ghost use Rattle.lab_phase.specs.Stages.{IsAsked};
 
 use dmix_client::Client;
-use lab_report::Answer;
-use lab_script::Op;
 use mix_core::{NeverStops, Turn};
+use short_report::Answer;
+use short_script::Op;
 use snd_base::{PcmError, Why, XrunWhy};
 use wav_io::Wav;
 

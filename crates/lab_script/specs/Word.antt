@@ -1,4 +1,4 @@
--- The lines of a text, the words of a line, and which words are numbers, names and files.
+-- Which words are numbers, names and files, and the parts of a list.
 use Rattle.std.specs.Prelude.{ℕ, Bool, false, ◌&&◌, ◌||◌, not, List, [], ◌∷◌, length, take, drop, option_map, ◌+◌, codes, bytes_eq, Option, Some, None, ◌==◌, nat_le, if◌then◌else◌}
 use Rattle.std.specs.List.{slice_split, position, list_all}
 use Rattle.std.specs.Str.{all_ascii_digits}
@@ -12,14 +12,6 @@ is_feed b = b == 10
 -- a space
 abbrev pub is_space : ℕ → Bool
 is_space b = b == 32
-
--- the first line of a text and the text behind its line feed, where there is a line feed
-abbrev pub cut_line : List ℕ → Option (List ℕ × List ℕ)
-cut_line text = option_map (λ i. (take i text, drop (i + 1) text)) (position is_feed text)
-
--- the words of a line: what stands between its spaces
-abbrev pub words_of : List ℕ → List (List ℕ)
-words_of line = slice_split is_space line
 
 -- a comma
 abbrev pub is_comma : ℕ → Bool

@@ -73,7 +73,8 @@ pub enum ScriptWhy {
     /// The text is longer than a script may be.
     #[error("TooLong")]
     TooLong,
-    /// The line is right or wrong in a way that this release doesn't read yet.
+    /// The line is right, and the lab can't run it yet. [`crate::not_yet`] tells which line that is; the
+    /// reader never refuses for it.
     #[error("NotYet")]
     NotYet,
     /// Memory ran out.
@@ -90,30 +91,24 @@ pub struct ScriptError {
     pub why: ScriptWhy,
 }
 
-impl From<AllocError> for ScriptError {
+impl From<AllocError> for ScriptWhy {
     ghost use Rattle.std.specs.Prelude.{◌≡◌};
     ghost use Rattle.lab_script.specs.declared.error.ScriptWhy.TheVariants as why;
 
-    ghost from_gives = { λ _ e. e.why ≡ why.Memory };
+    ghost from_gives = { λ _ e. e ≡ why.Memory };
 
-    fn from(_error: AllocError) -> ScriptError {
-        ScriptError {
-            line: 0,
-            why: ScriptWhy::Memory,
-        }
+    fn from(_error: AllocError) -> ScriptWhy {
+        ScriptWhy::Memory
     }
 }
 
-impl<T: Drop> From<AllocFailed<T>> for ScriptError {
+impl<T: Drop> From<AllocFailed<T>> for ScriptWhy {
     ghost use Rattle.std.specs.Prelude.{◌≡◌};
     ghost use Rattle.lab_script.specs.declared.error.ScriptWhy.TheVariants as why;
 
-    ghost from_gives = { λ _ e. e.why ≡ why.Memory };
+    ghost from_gives = { λ _ e. e ≡ why.Memory };
 
-    fn from(_error: AllocFailed<T>) -> ScriptError {
-        ScriptError {
-            line: 0,
-            why: ScriptWhy::Memory,
-        }
+    fn from(_error: AllocFailed<T>) -> ScriptWhy {
+        ScriptWhy::Memory
     }
 }

@@ -80,6 +80,7 @@ fn from_word(line: &[u8]) -> Option<&[u8]>
     ensures some { IfSome result (λ r. words_between r.now ≡ words_between line.now) }
     ensures begins { IfSome result (λ r. position is_blank r.now ≢ Some 0) }
     ensures whole { IfSome result (λ r. 0 < length r.now) }
+    ensures within { IfSome result (λ r. length r.now ≤ length line.now) }
 {
     let start = first_of_word(line)?;
     Some(&line[start..])
@@ -88,7 +89,8 @@ fn from_word(line: &[u8]) -> Option<&[u8]>
 /// The first word of a line without a comment, and what stands behind it. Words are separated by one
 /// or more spaces or tabs, which may stand at the line's ends too.
 pub fn next_word(line: &[u8]) -> Option<(&[u8], &[u8])>
-    ensures { option_map (λ w. (w.0.now, words_between w.1.now)) result ≡ first_and_rest (words_between line.now) }
+    ensures words { option_map (λ w. (w.0.now, words_between w.1.now)) result ≡ first_and_rest (words_between line.now) }
+    ensures shorter { IfSome result (λ w. length w.1.now < length line.now) }
 {
     let line = from_word(line)?;
     match first_blank(line) {

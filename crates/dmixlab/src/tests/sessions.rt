@@ -595,10 +595,7 @@ pub(super) const SESSIONS: [Session<'static>; 22] = [
                 ("a pause", "EBADFD PAUSED 0"),
             ],
             &[("card play 200", "200 RUNNING 200")],
-            &[
-                ("a delay", "128 PAUSED 0"),
-                ("a drop", "ok SETUP 0"),
-            ],
+            &[("a delay", "128 PAUSED 0"), ("a drop", "ok SETUP 0")],
         ],
         tail: &["segment a 0 64 64 0", "played 0 200"],
         wavs: &[("a.wav", MONO, &[(64, 9)])],

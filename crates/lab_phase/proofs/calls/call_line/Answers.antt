@@ -1,5 +1,5 @@
 use Rattle.std.proofs.Common.{sym, subst}
-use Rattle.lab_script.specs.declared.line.Op.{Op}
+use Rattle.short_script.specs.declared.line.Op.{Op}
 use Rattle.lab_phase.specs.Seats.{HasCalled}
 use Rattle.lab_phase.proofs.Waiting.{no_call-line}
 use Rattle.lab_phase.proofs.calls.call_line.Goals as goal
