@@ -85,7 +85,8 @@ fn lay_word(seat: &mut MixSeat<'_>, frame: u64, channel: u8) -> u64
 
 /// Lays the sample in each channel of a frame, and answers how many were laid.
 #[inline(always)]
-fn lay_frame(seat: &mut MixSeat<'_>, frame: u64) -> u64
+fn lay_frame(seat: &mut MixSeat<'_>, frame: u64, channels: u8) -> u64
+    requires channels { channels ≡ (geometry_of seat.old).channels }
     requires can_add { CanAdd seat.old }
     requires from_cursor { IsFrom (cursor_of_seat seat.old) frame 0 }
     requires ahead { frame < seen_of seat.old + (geometry_of seat.old).frames }
@@ -95,7 +96,7 @@ fn lay_frame(seat: &mut MixSeat<'_>, frame: u64) -> u64
     ensures few { result ≤ 8 }
 {
     let mut laid: u64 = 0;
-    for channel in 0..seat.geometry().channels {
+    for channel in 0..channels {
         laid += lay_word(seat, frame, channel);
     }
     laid
@@ -122,9 +123,10 @@ pub(crate) fn lay(seat: &mut MixSeat<'_>, offset: u32, count: u32) -> u64
     if !can_lay(seat, first, end) {
         return 0;
     }
+    let channels = seat.geometry().channels;
     let mut laid: u64 = 0;
     for frame in first..end {
-        laid += lay_frame(seat, frame);
+        laid += lay_frame(seat, frame, channels);
     }
     laid
 }

@@ -70,7 +70,7 @@ impl MixSeat<'_> {
     }
 
     // Lays an entry of a kind: looks at the word, and exchanges it until the entry is laid, or a word of a later lap was found,
-    // or the gate stops a step.
+    // or the gate stops a step. Each word that an exchange finds has a greater count than the one before.
     pub(crate) fn lay<G: Gate, L: Ledger>(
         &mut self,
         gate: &mut G,
@@ -95,7 +95,7 @@ impl MixSeat<'_> {
         let Ok(()) = ask(gate, StepKind::Exchange) else {
             return Ended::Stopped;
         };
-        for _ in 0..3 * self.key.places {
+        loop {
             let Err(found) = self.exchange(kind, spot, frame, channel, word, sample, steps) else {
                 return Ended::Whole;
             };
@@ -107,7 +107,6 @@ impl MixSeat<'_> {
             };
             word = found;
         }
-        unreachable!()
     }
 }
 
