@@ -8,7 +8,7 @@ use Rattle.mix_core.specs.declared.event.Taken.{Taken}
 use Rattle.sum_table.specs.declared.seats.player.PlayerSeat.{PlayerSeat}
 use Rattle.sum_table.specs.declared.view.Key.{Key}
 use Rattle.sum_table.specs.declared.view.Track.{Track}
-use Rattle.sum_table.specs.Exact.{last_of}
+use Rattle.ring_rule.specs.Positions.{last_of}
 use Rattle.sum_table.specs.Players.{HasPublished, HasTaken, PlayerGoes, next_of_player, player_geometry, player_view, track_of}
 use Rattle.sum_table.specs.Seats.{BeginsWith-trans}
 use Rattle.card_player.specs.Plays.{HasPlayed, IsSumThen, behind_words, words_at}

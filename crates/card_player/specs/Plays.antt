@@ -8,7 +8,7 @@ use Rattle.mix_core.specs.declared.event.Taken.{Taken}
 use Rattle.mix_core.specs.History.{laid_of}
 use Rattle.mix_core.specs.Laid.{total}
 use Rattle.sum_table.specs.declared.seats.player.PlayerSeat.{PlayerSeat}
-use Rattle.sum_table.specs.Exact.{last_of}
+use Rattle.ring_rule.specs.Positions.{last_of}
 use Rattle.sum_table.specs.Players.{PlayerGoes, gone_of_player, next_of_player, player_geometry, player_view, position_of_player, track_of}
 use Rattle.card_player.specs.declared.player.CardPlayer.{CardPlayer}
 

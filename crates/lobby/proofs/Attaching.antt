@@ -26,19 +26,19 @@ filter_map-set h [] i y d same = refl
 filter_map-set h (x ∷ xs) zero y d same = ap (λ o. cons_option o (filter_map h xs)) same
 filter_map-set h (x ∷ xs) (suc i) y d same = ap (cons_option (h x)) (filter_map-set h xs i y d same)
 
-pub KeepsLasts-set : (seats : List (Option MixSeat)) (place : ℕ) (s t : MixSeat) → seat_at seats place ≡ Some s → last_of t ≡ last_of s → KeepsLasts seats (set seats place (Some t))
-KeepsLasts-set seats place s t at same = record {
+pub KeepsLasts-set : (seats : List (Option MixSeat)) (place : ℕ) (s t : MixSeat) → seat_at seats place ≡ Some s → (view_of t).laid ≡ (view_of s).laid → KeepsLasts seats (set seats place (Some t))
+KeepsLasts-set seats place s t at laid = let same : last_of t ≡ last_of s = ap last_frame laid in record {
   free = position-set is_some seats place (Some t) None (ap is_some (sym at));
   silent = λ p. position-set (is_silent p) seats place (Some t) None (ap (is_below p) same ∙ ap (is_silent p) (sym at));
   lasts = filter_map-set (option_and_then last_of) seats place (Some t) None (same ∙ ap (option_and_then last_of) (sym at));
 }
 
-pub last_of-loaded : (s t : MixSeat) (p : Position) → HasLoaded s t p → last_of t ≡ last_of s
-last_of-loaded s t p load = ap last_frame (load.laid_nothing.laid ∙ append-nil (view_of s).laid)
+-- a load lays nothing
+pub laid-loaded : (s t : MixSeat) (p : Position) → HasLoaded s t p → (view_of t).laid ≡ (view_of s).laid
+laid-loaded s t p load = load.laid_nothing.laid ∙ append-nil (view_of s).laid
 
-pub last_of-loaded_beside : (p : PlayerSeat) (s : MixSeat) (q : PlayerSeat) (t : MixSeat) (x : Position) → HasLoadedBeside p s q t x → last_of t ≡ last_of s
-last_of-loaded_beside p s q t x beside =
-    ap (λ (v : View). last_frame v.laid) beside.told.same_view ∙ (last_of-loaded beside.fresh beside.located x beside.load ∙ ap last_frame beside.met.laid)
+pub laid-loaded_beside : (p : PlayerSeat) (s : MixSeat) (q : PlayerSeat) (t : MixSeat) (x : Position) → HasLoadedBeside p s q t x → (view_of t).laid ≡ (view_of s).laid
+laid-loaded_beside p s q t x beside = ap (λ (v : View). v.laid) beside.told.same_view ∙ (laid-loaded beside.fresh beside.located x beside.load ∙ beside.met.laid)
 
 -- the choice was made by the seats as they were before the load
 Outcome-before : (p : ℕ) (before between after : List (Option MixSeat)) (r : Result MixSeat PcmError) → KeepsLasts before between
@@ -58,15 +58,14 @@ Outcome-before p before between after (Err e) keeps out = (
   out.1,
 )
 
-GoesOn-joined : (k l m : Lobby) → GoesOn k l → GoesOn l m → GoesOn k m
+pub GoesOn-joined : (k l m : Lobby) → GoesOn k l → GoesOn l m → GoesOn k m
 GoesOn-joined k l m first then = record { ring = then.ring ∙ first.ring; key = then.key ∙ first.key; places = then.places ∙ first.places; same_reaped = then.same_reaped ∙ first.same_reaped }
 
 -- a load by the seat of a place, and what came of it
 pub attached : (load : Position → MixSeat → MixSeat → Type 0) (place : ℕ) (l k m : Lobby) (p : Position) (r : Result MixSeat PcmError)
-    → GoesOn l k → LoadsAt (load p) (free_seats l) place (free_seats k) → KeepsLasts (free_seats l) (free_seats k) → seen_of_lobby k ≡ p.frame
-    → GoesOn k m → Outcome p.frame (free_seats k) (free_seats k) r (free_seats m) → seen_of_lobby m ≡ seen_of_lobby k → Attaches load place l m r
-attached load place l k m p r first loads keeps saw then out seen = record {
-  goes = GoesOn-joined l k m first then;
+    → LoadsAt (load p) (free_seats l) place (free_seats k) → KeepsLasts (free_seats l) (free_seats k) → seen_of_lobby k ≡ p.frame
+    → Outcome p.frame (free_seats k) (free_seats k) r (free_seats m) → seen_of_lobby m ≡ seen_of_lobby k → Attaches load place l m r
+attached load place l k m p r loads keeps saw out seen = record {
   position = p;
   between = free_seats k;
   loads = loads;

@@ -5,3 +5,4 @@ pub mod Leasts
 pub mod Loading
 pub mod Placed
 pub mod Splitting
+pub mod Trying

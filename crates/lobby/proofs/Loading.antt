@@ -39,21 +39,3 @@ IsPlace-loaded_beside ring key place p s q t x beside is =
       member = beside.told.stays.member ∙ located.member;
       places = beside.told.same_places ∙ located.places;
     }
-
-or_true : (a b : Bool) → b ≡ true → (a || b) ≡ true
-or_true true b is = refl
-or_true false b is = is
-
-same_test : (a b : Bool) → (b ≡ true → a ≡ true) → (a ≡ true → b ≡ true) → a ≡ b
-same_test true b up down = sym (down refl)
-same_test false true up down = up refl
-same_test false false up down = refl
-
--- a load beside the player finds the card gone exactly where the player is
-pub gone-beside : (p : PlayerSeat) (s : MixSeat) (q : PlayerSeat) (t : MixSeat) (x : Position) → HasLoadedBeside p s q t x → x.gone ≡ (track_of p).gone
-gone-beside p s q t x beside =
-    let fresh : (view_of beside.fresh).seen_gone ≡ ((view_of s).seen_gone || (track_of p).gone) = beside.met.gone ∙ ap (λ b. (view_of s).seen_gone || b) beside.gave.gone in
-    let track : track_of beside.noted ≡ track_of p = ap (λ (v : View). the_track v.track) beside.gave.same_view in
-    same_test x.gone (track_of p).gone
-    (λ is. beside.load.loaded.after_gone (fresh ∙ or_true (view_of s).seen_gone (track_of p).gone is) 0 x (omega arith))
-    (λ is. ap (λ (u : Track). u.gone) (sym track) ∙ beside.heard.gone (beside.told.gone ∙ (beside.load.loaded.gone ∙ or_true (view_of beside.fresh).seen_gone (x.gone || false) (ap (λ b. b || false) is))))

@@ -60,12 +60,13 @@ pub record IsNewLobby (whole : MixSeat) (l : Lobby) : Type 0 where
   pub saw_none : seen_of_lobby l ≡ first_frame (key_of whole).geometry
   pub reaped_none : reaped_of l ≡ 0
 
--- the seat of one free place loaded the position
+-- the seat of one free place loaded the position, and laid nothing; no other seat did anything
 pub record LoadsAt (load : MixSeat → MixSeat → Type 0) (before : List (Option MixSeat)) (place : ℕ) (after : List (Option MixSeat)) : Type 0 where
   pub seat : MixSeat
   pub loaded : MixSeat
   pub found : seat_at before place ≡ Some seat
   pub load_is : load seat loaded
+  pub laid : (view_of loaded).laid ≡ (view_of seat).laid
   pub after_is : after ≡ slice_set before place (Some loaded)
 
 -- the lowest free seat whose last frame is below a position was handed out, from the seats as they were after the load
@@ -84,7 +85,6 @@ IsSilentSeat l p s = IsPlace (ring_of_lobby l) (key_of_lobby l) (member_of s) s 
 
 -- an attach by way of a place's seat, the lowest free one
 pub record Attaches (load : Position → MixSeat → MixSeat → Type 0) (place : ℕ) (l m : Lobby) (r : Result MixSeat PcmError) : Type 0 where
-  pub goes : GoesOn l m
   pub position : Position
   pub between : List (Option MixSeat)
   pub loads : LoadsAt (load position) (free_seats l) place between

@@ -6,3 +6,6 @@ mod lobby;
 mod seats;
 
 pub use lobby::Lobby;
+
+#[cfg(test)]
+mod tests;

@@ -2,7 +2,7 @@
 ghost use Rattle.std.specs.Prelude.{◌≡◌};
 ghost use Rattle.lobby.specs.Loads.{HasLoaded, HasLoadedBeside, PlayerStays};
 ghost use Rattle.sum_table.specs.Joins.{OneRing};
-ghost use Rattle.sum_table.specs.Players.{player_key, player_ring, position_of_player, track_of};
+ghost use Rattle.sum_table.specs.Players.{player_key, player_ring, position_of_player};
 ghost use Rattle.sum_table.specs.Seats.{key_of, ring_of};
 
 use mix_core::{MixPort, NeverStops, Position};
@@ -23,8 +23,7 @@ pub(crate) fn load_beside(seat: &mut MixSeat<'_>, player: &mut PlayerSeat<'_>) -
     requires { OneRing (player_ring player.old) (player_key player.old) (ring_of seat.old) (key_of seat.old) }
     ensures load { HasLoadedBeside player.old seat.old player.new seat.new result }
     ensures published_last { result.frame ≡ position_of_player player.old }
-    ensures gone { result.gone ≡ (track_of player.old).gone }
-    ensures rests { PlayerStays player.old player.new }
+    ensures player { PlayerStays player.old player.new }
 {
     let note = player.note();
     seat.meet(note);

@@ -76,6 +76,7 @@ impl<'a> Lobby<'a> {
         ensures free { (place : ℕ) → lowest_free (free_seats self.old) ≡ Some place
             → Attaches (λ p s t. HasLoaded s t p) place self.old self.new result }
         ensures silent { IfOk result (IsSilentSeat self.old (seen_of_lobby self.new)) }
+        ensures goes { GoesOn self.old self.new }
     {
         let Some(place) = lowest_free(self.seats.as_slice()) else {
             return Err(self.full());
@@ -96,6 +97,7 @@ impl<'a> Lobby<'a> {
         ensures free { (place : ℕ) → lowest_free (free_seats self.old) ≡ Some place
             → Attaches (λ p s t. HasLoadedBeside player.old s player.new t p) place self.old self.new result }
         ensures silent { IfOk result (IsSilentSeat self.old (seen_of_lobby self.new)) }
+        ensures goes { GoesOn self.old self.new }
         ensures published_last { IsSome (lowest_free (free_seats self.old)) → seen_of_lobby self.new ≡ position_of_player player.old }
         ensures player { PlayerStays player.old player.new }
     {

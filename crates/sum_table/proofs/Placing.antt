@@ -27,7 +27,7 @@ use Rattle.sum_table.specs.Exact.{BeginsWith}
 use Rattle.sum_table.specs.Laid.{by_member}
 use Rattle.sum_table.specs.Seats.{Goes, Goes-joined, Goes-same, HasLaid, HasLost, HasNoted, LaysCounted, MakesIn, MakesLate, MayLay, SeatLaid, SeatLays, SeatLoaded, SeatLoaded-composes, entry_by, seat_view, shown, view_of}
 use Rattle.sum_table.specs.Steps.{HoldsLast, IsLateAt, IsLateHeld, IsStep, Makes, MakesLook, MayStand, Tells, in_row, sighting}
-use Rattle.sum_table.specs.Words.{index_of, rank}
+use Rattle.ring_rule.specs.Words.{index_of, rank}
 use Rattle.sum_table.proofs.Rows.{BeginsWith-same}
 use Rattle.sum_table.proofs.Seated.{holds_facts, holds_of, lay_facts}
 use Rattle.sum_table.proofs.Views.{rank-of}

@@ -29,13 +29,13 @@ use Rattle.sum_table.specs.Exact.{BeginsWith, Exact, IsLaid}
 use Rattle.sum_table.specs.Known.{IsKnown, IsNoted, greater, last_frame}
 use Rattle.sum_table.specs.Seats.{HasLaid, HasLocated, HasLost, HasNoted, MayLay, NotesRise, NotesRise-same, entry_by, view_of}
 use Rattle.sum_table.specs.Steps.{Finds, HoldsLast, IsStep, IsSumOf, IsWord, Lays, Makes, MakesLook, Notes, exchanged, in_row, located, looked, with_entry, with_note, with_position}
-use Rattle.sum_table.specs.Words.{NotPast, index_of}
+use Rattle.ring_rule.specs.Words.{NotPast, index_of}
 use Rattle.sum_table.proofs.Keeps.{MayPut, exchanges, locates, looks, may_put}
 use Rattle.sum_table.proofs.Kept.{IsHeldAt, IsLaid-later, held_laid, laid_more}
-use Rattle.sum_table.proofs.Lists.{noted_set}
+use Rattle.ring_rule.specs.NoteLaws.{noted_set}
 use Rattle.std.proofs.lemmas.Bool.Decides.{nat_tests}
-use Rattle.sum_table.proofs.Places.{index_of-lt}
-use Rattle.sum_table.proofs.Rings.{suc-le-end_frame}
+use Rattle.ring_rule.specs.WordLaws.{index_of-lt}
+use Rattle.ring_rule.specs.WordLaws.{suc-le-end_frame}
 
 -- the steps at the ring's key, which is the view's
 pub locates_at : (k : Key) (slots id : ℕ) (m : Me Entry View) → m.0.key ≡ k → m.0.ended ≡ false

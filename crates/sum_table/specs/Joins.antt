@@ -21,7 +21,7 @@ use Rattle.sum_table.specs.Laid.{SameSums}
 use Rattle.sum_table.specs.Players.{PlayerGoes, player_key, player_ring, player_view, track_of}
 use Rattle.sum_table.specs.Seats.{key_of, ring_of, view_of}
 use Rattle.sum_table.specs.Steps.{Makes, with_history}
-use Rattle.sum_table.specs.Words.{index_of}
+use Rattle.ring_rule.specs.Words.{index_of}
 
 -- two seats are of one ring. That one ring has one key is not told by its identity, so both are asked
 abbrev pub OneRing : TableId → Key → TableId → Key → Type 0

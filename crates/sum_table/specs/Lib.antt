@@ -7,6 +7,4 @@ pub mod Laid
 pub mod Players
 pub mod Rings
 pub mod Seats
-pub mod Spots
 pub mod Steps
-pub mod Words

@@ -33,7 +33,10 @@ use Rattle.sum_table.specs.Exact.{BeginsWith}
 use Rattle.sum_table.specs.Known.{greater}
 use Rattle.sum_table.specs.Laid.{by_member, own}
 use Rattle.sum_table.specs.Steps.{Finds, IsStep, IsSumOf, Makes, MakesLook, in_row, sighting, with_entry, with_note, with_position}
-use Rattle.sum_table.specs.Words.{NotPast, index_of, rank}
+use Rattle.ring_rule.specs.Words.{NotPast, index_of, rank}
+use Rattle.ring_rule.specs.NoteLaws.{NeverFall-joined, NeverFall-same}
+use Rattle.ring_rule.specs.Notes.{NeverFall}
+use Rattle.ring_rule.specs.WordLaws.{NotPast-rank}
 
 -- what a seat knows, and did
 abbrev pub view_of : MixSeat → View
@@ -102,7 +105,7 @@ shown s f c = slice_index_or (view_of s).noted (index_of s.key.geometry f c) Non
 
 -- no noted word is followed by an earlier one, by lap and then by count
 abbrev pub NotesRise : View → View → Type 0
-NotesRise v w = (i n : ℕ) → slice_index_or v.noted i None ≡ Some n → (m : ℕ) × (slice_index_or w.noted i None ≡ Some m) × NotPast n m
+NotesRise v w = NeverFall v.noted w.noted
 
 -- a seat of one ring, later, which met no other seat in between: its key and member are the same, it has seen no less of the
 -- ring's history, and none of its noted words falls
@@ -223,21 +226,11 @@ pub record LaysCounted {T : Type 0} (stops : T → ℕ) (asked : T → T → Lis
 pub BeginsWith-trans : (h j early : List Row) → BeginsWith h j → BeginsWith j early → BeginsWith h early
 BeginsWith-trans h j early late first = (first.0 ++ late.0, late.1 ∙ (ap (λ x. x ++ late.0) first.1 ∙ append_assoc early first.0 late.0))
 
--- what was not past a word isn't past a later one
-pub NotPast-trans : (a b c : ℕ) → NotPast a b → NotPast b c → NotPast a c
-NotPast-trans a b c first then = elim first [
-  | inl same ↦ subst (λ x. NotPast x c) (sym same) then
-  | inr up ↦ elim then [ inl same ↦ inr (subst (λ x. rank a < rank x) same up) | inr more ↦ inr (omega (arith, up, more)) ]
-]
-
 pub NotesRise-same : (v w : View) → w.noted ≡ v.noted → NotesRise v w
-NotesRise-same v w same i n is = (n, ap (λ ns. slice_index_or ns i None) same ∙ is, inl refl)
+NotesRise-same v w same = NeverFall-same v.noted w.noted same
 
 pub NotesRise-joined : (u v w : View) → NotesRise u v → NotesRise v w → NotesRise u w
-NotesRise-joined u v w first then i n is =
-    let one = first i n is in
-    let two = then i one.0 one.1 in
-    (two.0, two.1, NotPast-trans n one.0 two.0 one.2 two.2)
+NotesRise-joined u v w first then = NeverFall-joined u.noted v.noted w.noted first then
 
 pub Goes-same : (s : MixSeat) → Goes s s
 Goes-same s = record {
@@ -368,9 +361,6 @@ SeatEndsIn-back p q xs f c x from laid ends =
     let a : Entry = an_add p.member f c x in
     let was : standing (view_of p).laid ≡ (ends.0 ++ xs) ++ a ∷ [] = ends.1 ∙ sym (append_assoc ends.0 xs (a ∷ [])) in
     (ends.0, ap standing laid.laid ∙ (standing-more (view_of p).laid (a_withdrawal p.member f c x) ∙ (ap without_last was ∙ without_last-more (ends.0 ++ xs) a)))
-
-NotPast-rank : (a b : ℕ) → NotPast a b → rank a ≤ rank b
-NotPast-rank a b past = elim past [ inl same ↦ subst (λ x. rank a ≤ rank x) same (omega arith) | inr up ↦ omega (arith, up) ]
 
 -- the words that a seat shows never fall
 pub SeatLaid-shows : (p q : MixSeat) (es : List Entry) (f c word : ℕ) → SeatLaid p q es → shown p f c ≡ Some word → ShowsFrom shown q f c word

@@ -3,7 +3,7 @@
 ghost use Rattle.std.specs.Prelude.{◌≡◌};
 ghost use Rattle.sum_table.specs.Exact.{IsFirst};
 ghost use Rattle.sum_table.specs.Rings.{HasSeats};
-ghost use Rattle.sum_table.specs.Words.{words_of};
+ghost use Rattle.ring_rule.specs.Words.{words_of};
 
 mod join;
 mod mix;
@@ -12,7 +12,6 @@ mod parts;
 mod player;
 mod plays;
 mod reach;
-mod spots;
 
 use crate::rule::{Seat, Shared};
 use crate::view::Key;
@@ -23,7 +22,7 @@ use parts::Deal;
 pub use player::PlayerSeat;
 use reach::Reach;
 use snd_base::Cursor;
-use spots::LapStart;
+use ring_rule::LapStart;
 
 /// The player's seat of a ring and its first mix seat, which has all places, of the ring's first seat.
 pub(crate) fn deal<'a>(ring: &'a Shared, first: Seat, key: Key) -> (PlayerSeat<'a>, MixSeat<'a>)

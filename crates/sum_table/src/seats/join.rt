@@ -7,7 +7,7 @@ use super::parts::{Amount, Both, Copied, Part};
 use super::player::PlayerSeat;
 use super::plays::Learn;
 use super::reach::Reach;
-use super::spots::LapStart;
+use ring_rule::LapStart;
 use snd_base::Cursor;
 use std::marker::Brand;
 

@@ -3,11 +3,11 @@ ghost use Rattle.std.specs.Prelude.{◌≡◌, ◌+◌, ◌<◌, negsuc, pos, �
 ghost use Rattle.lap_word.specs.Word.{StandsFor, count_of, lap_of, sum_of};
 ghost use Rattle.mix_core.specs.Laid.{signed};
 ghost use Rattle.sum_table.specs.Known.{IsKnown, SitsAt};
-ghost use Rattle.sum_table.specs.Spots.{IsLapStart};
+ghost use Rattle.ring_rule.specs.Spots.{IsLapStart};
 
 use super::plays::{Exchange, Locate, Look};
 use super::reach::Reach;
-use super::spots::{LapStart, Spot};
+use ring_rule::{LapStart, Spot};
 use crate::rule::{Seat, Shared};
 use crate::view::Key;
 use mix_core::{Entry, Kind, Position};
@@ -42,7 +42,7 @@ impl MixSeat<'_> {
     ghost use Rattle.mix_core.specs.Laid.{a_withdrawal, an_add};
     ghost use Rattle.sum_table.specs.Known.{last_frame};
     ghost use Rattle.sum_table.specs.Seats.{CanAdd, HasLaid, HasLocated, HasLost, HasNoted, MayLay, SeatEndsIn, cursor_of_seat, entry_by, geometry_of, history_of, last_of_seat, marks_of_seat, member_of, places_of_seat, seen_of, shown, view_of};
-    ghost use Rattle.sum_table.specs.Spots.{IsSpot};
+    ghost use Rattle.ring_rule.specs.Spots.{IsSpot};
     ghost use Rattle.sum_table.specs.Steps.{IsSumOf};
 
     /// How many places the seat has.

@@ -20,4 +20,4 @@ returns-clause-free c place is =
     let load = c.load_at-position.ensures in
     let given = c.hand_out.ensures in
     subst (λ i. Attaches (λ p s t. HasLoaded s t p) i l c.hand_out.new.self c.hand_out.result) here
-    (attached (λ p s t. HasLoaded s t p) c.in-Some.place l c.load_at-position.new.self c.hand_out.new.self c.load_at-position.result c.hand_out.result load.goes load.loads load.lasts load.seen given.goes given.outcome given.seen)
+    (attached (λ p s t. HasLoaded s t p) c.in-Some.place l c.load_at-position.new.self c.hand_out.new.self c.load_at-position.result c.hand_out.result load.loads load.lasts load.seen given.outcome given.seen)

@@ -2,7 +2,7 @@ use Rattle.std.proofs.Common.{◌≡◌, ◌∙◌, Some, refl, sym}
 use Rattle.sum_table.specs.Seats.{key_of, ring_of}
 use Rattle.lobby.specs.declared.lobby.Lobby.{Lobby}
 use Rattle.lobby.specs.Seats.{seat_at}
-use Rattle.lobby.proofs.Attaching.{KeepsLasts-set, last_of-loaded}
+use Rattle.lobby.proofs.Attaching.{KeepsLasts-set, laid-loaded}
 use Rattle.lobby.proofs.Loading.{IsPlace-loaded}
 use Rattle.lobby.proofs.Placed.{ArePlaces-set, free-not_none, lowest-found, read_free}
 use Rattle.lobby.proofs.lobby.Lobby.load_at.Goals as goal
@@ -29,6 +29,7 @@ returns-clause-loads c =
       loaded = c.load-position.new.seat;
       found = sym (read_free l.seats.items c.args.place c.index_mut.result.now c.requires c.index_mut.ensures.value) ∙ c.in-Some.is;
       load_is = c.load-position.ensures;
+      laid = laid-loaded c.in-Some.seat c.load-position.new.seat c.load-position.result c.load-position.ensures;
       after_is = refl;
     }
 
@@ -37,4 +38,4 @@ returns-clause-lasts c =
     let l : Lobby = c.args.self.now in
     KeepsLasts-set l.seats.items c.args.place c.in-Some.seat c.load-position.new.seat
     (sym (read_free l.seats.items c.args.place c.index_mut.result.now c.requires c.index_mut.ensures.value) ∙ c.in-Some.is)
-    (last_of-loaded c.in-Some.seat c.load-position.new.seat c.load-position.result c.load-position.ensures)
+    (laid-loaded c.in-Some.seat c.load-position.new.seat c.load-position.result c.load-position.ensures)

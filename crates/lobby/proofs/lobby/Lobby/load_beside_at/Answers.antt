@@ -2,7 +2,7 @@ use Rattle.std.proofs.Common.{◌≡◌, ◌∙◌, Some, refl, sym}
 use Rattle.sum_table.specs.Seats.{key_of, ring_of}
 use Rattle.lobby.specs.declared.lobby.Lobby.{Lobby}
 use Rattle.lobby.specs.Seats.{seat_at}
-use Rattle.lobby.proofs.Attaching.{KeepsLasts-set, last_of-loaded_beside}
+use Rattle.lobby.proofs.Attaching.{KeepsLasts-set, laid-loaded_beside}
 use Rattle.lobby.proofs.Loading.{IsPlace-loaded_beside}
 use Rattle.lobby.proofs.Placed.{ArePlaces-set, free-not_none, lowest-found, read_free}
 use Rattle.lobby.proofs.lobby.Lobby.load_beside_at.Goals as goal
@@ -37,6 +37,7 @@ returns-clause-loads c =
       loaded = c.load_beside-position.new.seat;
       found = sym (read_free l.seats.items c.args.place c.index_mut.result.now c.requires.free c.index_mut.ensures.value) ∙ c.in-Some.is;
       load_is = c.load_beside-position.ensures.load;
+      laid = laid-loaded_beside c.args.player.now c.in-Some.seat c.load_beside-position.new.player c.load_beside-position.new.seat c.load_beside-position.result c.load_beside-position.ensures.load;
       after_is = refl;
     }
 
@@ -45,4 +46,4 @@ returns-clause-lasts c =
     let l : Lobby = c.args.self.now in
     KeepsLasts-set l.seats.items c.args.place c.in-Some.seat c.load_beside-position.new.seat
     (sym (read_free l.seats.items c.args.place c.index_mut.result.now c.requires.free c.index_mut.ensures.value) ∙ c.in-Some.is)
-    (last_of-loaded_beside c.args.player.now c.in-Some.seat c.load_beside-position.new.player c.load_beside-position.new.seat c.load_beside-position.result c.load_beside-position.ensures.load)
+    (laid-loaded_beside c.args.player.now c.in-Some.seat c.load_beside-position.new.player c.load_beside-position.new.seat c.load_beside-position.result c.load_beside-position.ensures.load)

@@ -10,7 +10,7 @@ use Rattle.sum_table.specs.declared.view.View.{View}
 use Rattle.sum_table.specs.Extent.{Extent}
 use Rattle.sum_table.specs.Known.{IsKnown, greater}
 use Rattle.sum_table.specs.Seats.{entry_by}
-use Rattle.sum_table.specs.Words.{index_of}
+use Rattle.ring_rule.specs.Words.{index_of}
 use Rattle.sum_table.proofs.Spots.{spot_within}
 use Rattle.sum_table.proofs.Seated.{MayExchange, has_laid_as, has_lost, known_lost, known_won, lay_facts, lost_notes, may_exchange, may_lay, room_there, won_lays}
 use Rattle.sum_table.proofs.seats.mix.MixSeat.exchange.Goals as goal

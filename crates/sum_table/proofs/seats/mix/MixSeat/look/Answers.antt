@@ -3,7 +3,7 @@ use Rattle.atomic_table.specs.Table.{step}
 use mathlib.Core.Option.{none}
 use Rattle.sum_table.specs.declared.seats.mix.MixSeat.{MixSeat}
 use Rattle.sum_table.specs.Steps.{looked}
-use Rattle.sum_table.specs.Words.{index_of}
+use Rattle.ring_rule.specs.Words.{index_of}
 use Rattle.sum_table.proofs.Spots.{spot_within}
 use Rattle.sum_table.proofs.Seated.{has_noted, known_looked, may_look}
 use Rattle.sum_table.proofs.seats.mix.MixSeat.look.Goals as goal

@@ -6,7 +6,7 @@ use Rattle.snd_base.specs.Places.{lap}
 use Rattle.sum_table.specs.declared.seats.player.PlayerSeat.{PlayerSeat}
 use Rattle.sum_table.specs.declared.view.View.{View}
 use Rattle.sum_table.specs.Known.{IsPlayer}
-use Rattle.sum_table.specs.Words.{index_of}
+use Rattle.ring_rule.specs.Words.{index_of}
 use Rattle.std.proofs.Common.{pos, to_z, of_z, rules}
 use Rattle.std.proofs.lemmas.Int.{to_z-of_z}
 use mir.Syntax.{w16, w32}
