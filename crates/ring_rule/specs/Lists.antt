@@ -19,3 +19,10 @@ pub at_append : {A : Type 0} (xs ys : List A) (b : A) (j : ℕ) → get_elem? (x
 at_append [] ys b j is = inr (j, is)
 at_append (x ∷ xs) ys b zero is = inl is
 at_append (x ∷ xs) ys b (suc j) is = elim (at_append xs ys b j is) [ inl here ↦ inl here | inr there ↦ inr there ]
+
+-- an item of the second of joined lists stands behind the first
+pub at_second : {A : Type 0} (xs ys : List A) (i : ℕ) (b : A) → get_elem? ys i ≡ some b → (j : ℕ) × (get_elem? (xs ++ ys) j ≡ some b)
+at_second [] ys i b is = (i, is)
+at_second (x ∷ xs) ys i b is =
+    let rest = at_second xs ys i b is in
+    (suc rest.0, rest.1)

@@ -1,9 +1,10 @@
 -- Laws of notes.
-use Rattle.std.specs.Prelude.{◌≡◌, ◌≢◌, ◌⊎◌, ℕ, zero, suc, ◌<◌, Bool, true, false, Option, None, Some, List, [], ◌∷◌, length, nat_lt}
+use Rattle.std.specs.Prelude.{◌≡◌, ◌≢◌, ◌⊎◌, ℕ, zero, suc, ◌<◌, ◌≤◌, Bool, true, false, Option, None, Some, List, [], ◌∷◌, length, nat_lt}
 use Rattle.std.specs.List.{slice_index_or}
 use Rattle.std.proofs.Common.{get_or, set, cond, inl, inr, arith, subst, sym, refl, ap, ◌∙◌}
 use Rattle.std.proofs.Math.ListN.{replicate}
 use Rattle.std.proofs.lemmas.Bool.{false≢true}
+use Rattle.std.proofs.lemmas.Bool.Decides.{nat_tests}
 use Rattle.std.proofs.lemmas.List.{get_or-set_same, get_or-set_other}
 use Rattle.ring_rule.specs.Notes.{NeverFall, later_note, later_notes}
 use Rattle.ring_rule.specs.WordLaws.{NotPast-trans, cases_eq}
@@ -80,3 +81,40 @@ NeverFall-set ns j word inside not_past i n is = elim (cases_eq i j) [
   )
   | inr other ↦ (n, get_or-set_other ns j i (Some word) None other ∙ is, inl refl)
 ]
+
+-- what is noted in one of two lists is noted in both together, or a later word is
+later_note-keeps : (n o : Option ℕ) (x : ℕ) → (n ≡ Some x) ⊎ (o ≡ Some x) → (m : ℕ) × (later_note n o ≡ Some m) × (rank x ≤ rank m)
+later_note-keeps None o x is = elim is [ inl none ↦ absurd (no_note x none) | inr some ↦ (x, some, omega arith) ]
+later_note-keeps (Some n) None x is = elim is [ inl some ↦ (x, some, omega arith) | inr none ↦ absurd (no_note x none) ]
+later_note-keeps (Some n) (Some o) x is = choose (nat_lt (rank n) (rank o)) refl where
+  value : (k : ℕ) → Some k ≡ Some x → k ≡ x
+  value k e = ap (value_or 0) e
+
+  choose : (b : Bool) → nat_lt (rank n) (rank o) ≡ b → (m : ℕ) × (cond b (Some o) (Some n) ≡ Some m) × (rank x ≤ rank m)
+  choose true test = (
+    o,
+    refl,
+    elim is [
+      | inl first ↦
+          let up : rank n < rank o = grind (arith, nat_tests, test) in
+          omega (arith, up, ap rank (value n first))
+      | inr second ↦ omega (arith, ap rank (value o second))
+    ],
+  )
+  choose false test = (
+    n,
+    refl,
+    elim is [
+      | inl first ↦ omega (arith, ap rank (value n first))
+      | inr second ↦
+          let up : rank o ≤ rank n = grind (arith, nat_tests, test) in
+          omega (arith, up, ap rank (value o second))
+    ],
+  )
+
+pub later_notes-keeps : (ns os : List (Option ℕ)) (i x : ℕ) → (get_or ns i None ≡ Some x) ⊎ (get_or os i None ≡ Some x)
+    → (m : ℕ) × (get_or (later_notes ns os) i None ≡ Some m) × (rank x ≤ rank m)
+later_notes-keeps [] os i x is = elim is [ inl none ↦ absurd (no_note x none) | inr some ↦ (x, some, omega arith) ]
+later_notes-keeps (n ∷ ns) [] i x is = elim is [ inl some ↦ (x, some, omega arith) | inr none ↦ absurd (no_note x none) ]
+later_notes-keeps (n ∷ ns) (o ∷ os) zero x is = later_note-keeps n o x is
+later_notes-keeps (n ∷ ns) (o ∷ os) (suc i) x is = later_notes-keeps ns os i x is
