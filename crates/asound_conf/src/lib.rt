@@ -8,6 +8,7 @@ mod conf;
 mod error;
 mod find;
 mod group;
+mod index;
 mod number;
 mod part;
 mod plugin;
