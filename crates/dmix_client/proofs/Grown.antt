@@ -37,7 +37,7 @@ pub record IsSynced (c : Plain) (ring : List ℤ) (load : Option Position) (comm
   pub newer : IfSome load (λ (position : Position). unwrap_or c.seen 0 ≤ position.frame)
 
 advances-synced : (c : Plain) (ring : List ℤ) (call : Call) (load : Option Position) (commit : Commit) → IsSynced c ring load commit → Advances c (synced c call load commit).0 commit c.written
-advances-synced c ring call load commit is = Advances-synced c call load commit (is.sound.moving is.moves is.going).whole is.found is.newer
+advances-synced c ring call load commit is = Advances-synced c call load commit (is.sound.moving is.moves is.going).whole is.found.nothing is.newer
 
 pub StandsFor-synced : (c : Plain) (ring samples : List ℤ) (call : Call) (load : Option Position) (commit : Commit) → IsSynced c ring load commit → StandsFor c ring samples
     → StandsFor (synced c call load commit).0 ring samples

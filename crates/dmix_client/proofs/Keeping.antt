@@ -169,7 +169,7 @@ module _ {S T : Type 0} (P : mixport.Ghosts S) (G : gates.Ghosts T) (laid_compos
       subst (λ (b : Answered (Unit {0})). Synced P G s t c ring b) st.outcome (record {
         keeps = record {
           sound = IsSound-synced c ring call st.load st.commit syncing;
-          port = CanUse-synced c ring call st.load st.commit (P.view t.0) syncing (same.same_geometry ∙ port.same_geometry) (same.same_member ∙ port.same_member) (same.same_can_add ∙ port.can)
+          port = CanUse-synced c call st.load st.commit (P.view t.0) step (same.same_geometry ∙ port.same_geometry) (same.same_member ∙ port.same_member) (same.same_can_add ∙ port.can)
               (if-some st.load _ _ (λ p from. from (port.behind moves going)) x.stayed) (if-some st.load _ _ (λ p near. near.2) x.near);
           told = λ unstopped. told.told;
           grows = λ samples stands any. Grows-synced P.laid laid_composes s.0 t.0 c ring samples call st.load st.commit is stands x.laid_them;

@@ -16,6 +16,7 @@ use Rattle.mix_core.specs.declared.port.Ended.TheVariants as ended
 use Rattle.dmix_client.specs.declared.plain.Plain.{Plain}
 use Rattle.dmix_client.specs.Calls.{commit_count, committed_by, end_channel, end_of_commit, facts_of, is_running, is_stop, late_at, late_of, over_of, seen_at, settled, stopped_in, sync_count, synced, window_end}
 use Rattle.mix_core.specs.Port.{OnWhole, PortView}
+use Rattle.dmix_client.specs.Course.{nothing}
 use Rattle.dmix_client.specs.Port.{CanUse, IsCommit, IsFound, IsStep, least_channel}
 use Rattle.dmix_client.specs.View.{IsLaidPast, IsMoving, IsSound, avail_of, hw_of, is_moving, is_set_up, queued_of}
 
@@ -226,6 +227,23 @@ pub IsSound-synced : (c : Plain) (ring : List ℤ) (call : Call) (load : Option 
 IsSound-synced c ring call None commit syncing = IsSound-stopped c ring syncing.sound syncing.moves
 IsSound-synced c ring call (Some position) commit syncing = synced-by c ring call position commit (is_stop commit.ended) refl syncing
 
+-- a load behind which nothing is committed
+IsMoving-checked : (c : Plain) (position : Position) (s : State) (stopped : Bool) → IsMoving c → IsLoaded c position → IsMoving (done_at c position nothing s stopped)
+IsMoving-checked c position s stopped m loaded =
+    let hw : hw_of c ≡ unwrap_or c.seen 0 - c.card = hw-started c m.started in
+    let later : hw_of (done_at c position nothing s stopped) ≡ position.frame - c.card = hw-started (done_at c position nothing s stopped) m.started in
+    record { started = m.started; whole = refl; laid_most = omega (arith, m.laid_most); fits = omega (arith, later, hw, m.fits, loaded.newer); pending = omega (arith, m.pending) }
+
+pub IsSound-checked : (c : Plain) (ring : List ℤ) (call : Call) (load : Option Position) → IsSound c ring → is_moving c.state ≡ true → c.stopped ≡ false → IsStep c.state call
+    → IfSome load (λ position. (unwrap_or c.seen 0 ≤ position.frame) × (position.frame ≤ end_frame c.geometry)) → IsSound (synced c call load nothing).0 ring
+IsSound-checked c ring call None sound moves going step loaded = IsSound-stopped c ring sound moves
+IsSound-checked c ring call (Some position) sound moves going step loaded =
+    let s : State = (next_of c.state call (facts_of (committed_by (seen_at c position) nothing) position (over_of (seen_at c position) position) None)).state in
+    let goes = next-GoesOn c.state call (queued_of (committed_by (seen_at c position) nothing)) position.gone (over_of (seen_at c position) position) None step in
+    let at : IsLoaded c position = record { newer = loaded.0; most = loaded.1 } in
+    IsSound-done c ring position nothing s c.stopped sound (sound.set_up (set_up-moving c.state moves)) at (omega arith) goes.not_prepared goes.not_paused
+    (λ still unstopped. IsMoving-checked c position s c.stopped (sound.moving moves going) at)
+
 past-by : (c : Plain) (ring : List ℤ) (call : Call) (position : Position) (commit : Commit) (stop : Bool) → is_stop commit.ended ≡ stop → IsSyncing c ring call (Some position) commit
     → (let d : Plain = (if stop then stopped_in {T = Unit {0}} (committed_by (seen_at c position) commit)
     else settled (committed_by (seen_at c position) commit) (next_of c.state call (facts_of (committed_by (seen_at c position) commit) position (over_of (seen_at c position) position) (late_of (seen_at c position) commit)))).0 in
@@ -249,20 +267,20 @@ OnWhole-of ended.Whole P frame channel going in_time is = is
 OnWhole-of (ended.Late word) P frame channel going in_time is = absurd (cc)
 OnWhole-of ended.Stopped P frame channel going in_time is = absurd (cc)
 
-use_by : (c : Plain) (ring : List ℤ) (call : Call) (position : Position) (commit : Commit) (stop : Bool) (v : PortView)
-    → is_stop commit.ended ≡ stop → IsSyncing c ring call (Some position) commit
+use_by : (c : Plain) (call : Call) (position : Position) (commit : Commit) (stop : Bool) (v : PortView)
+    → is_stop commit.ended ≡ stop → IsStep c.state call
     → v.geometry ≡ c.geometry → v.member ≡ c.member → v.can_add ≡ true → OnWhole commit.ended (IsFrom v.marks.cursor (end_of_commit c commit) (least_channel c.bindings)) → v.seen ≡ position.frame
     → CanUse (if stop then stopped_in {T = Unit {0}} (committed_by (seen_at c position) commit)
     else settled (committed_by (seen_at c position) commit) (next_of c.state call (facts_of (committed_by (seen_at c position) commit) position (over_of (seen_at c position) position) (late_of (seen_at c position) commit)))).0 v
-use_by c ring call position commit true v is syncing same_geometry same_member able whole saw = record {
+use_by c call position commit true v is step same_geometry same_member able whole saw = record {
   same_geometry = same_geometry;
   same_member = same_member;
   can = able;
   behind = λ moves going. absurd (cc);
   newer = λ moves going. absurd (cc);
 }
-use_by c ring call position commit false v is syncing same_geometry same_member able whole saw =
-    let goes = next-GoesOn c.state call (queued_of (committed_by (seen_at c position) commit)) position.gone (over_of (seen_at c position) position) (late_of (seen_at c position) commit) syncing.step in
+use_by c call position commit false v is step same_geometry same_member able whole saw =
+    let goes = next-GoesOn c.state call (queued_of (committed_by (seen_at c position) commit)) position.gone (over_of (seen_at c position) position) (late_of (seen_at c position) commit) step in
     record {
       same_geometry = same_geometry;
       same_member = same_member;
@@ -272,15 +290,15 @@ use_by c ring call position commit false v is syncing same_geometry same_member 
     }
 
 -- after a sync the port is still one that the client can use
-pub CanUse-synced : (c : Plain) (ring : List ℤ) (call : Call) (load : Option Position) (commit : Commit) (v : PortView)
-    → IsSyncing c ring call load commit → v.geometry ≡ c.geometry → v.member ≡ c.member → v.can_add ≡ true → IfSome load (λ (position : Position). OnWhole commit.ended (IsFrom v.marks.cursor (end_of_commit c commit) (least_channel c.bindings)))
+pub CanUse-synced : (c : Plain) (call : Call) (load : Option Position) (commit : Commit) (v : PortView)
+    → IsStep c.state call → v.geometry ≡ c.geometry → v.member ≡ c.member → v.can_add ≡ true → IfSome load (λ (position : Position). OnWhole commit.ended (IsFrom v.marks.cursor (end_of_commit c commit) (least_channel c.bindings)))
     → IfSome load (λ (position : Position). v.seen ≡ position.frame) → CanUse (synced c call load commit).0 v
-CanUse-synced c ring call None commit v syncing same_geometry same_member able whole saw = record {
+CanUse-synced c call None commit v step same_geometry same_member able whole saw = record {
   same_geometry = same_geometry;
   same_member = same_member;
   can = able;
   behind = λ moves going. absurd (cc);
   newer = λ moves going. absurd (cc);
 }
-CanUse-synced c ring call (Some position) commit v syncing same_geometry same_member able whole saw =
-    use_by c ring call position commit (is_stop commit.ended) v refl syncing same_geometry same_member able whole saw
+CanUse-synced c call (Some position) commit v step same_geometry same_member able whole saw =
+    use_by c call position commit (is_stop commit.ended) v refl step same_geometry same_member able whole saw

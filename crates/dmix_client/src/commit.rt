@@ -119,7 +119,7 @@ pub(crate) fn slot_of(from: u64, frame: u64, buffer_size: u32, channels: u8) -> 
 }
 
 /// The samples of one frame of a ring.
-fn frame_of(ring: &[i16], slot: usize, channels: u8) -> &[i16]
+pub(crate) fn frame_of(ring: &[i16], slot: usize, channels: u8) -> &[i16]
     requires { slot + channels ≤ length ring.now }
     ensures length { length result.now ≡ channels }
     ensures samples { (q : ℕ) → q < channels → slice_index_or result.now q (pos 0) ≡ slice_index_or ring.now (slot + q) (pos 0) }

@@ -233,7 +233,7 @@ fn going_on(plain: Plain, state: State, outcome: Outcome) -> Answered<()>
 }
 
 /// What a start found, or a commit behind a sync.
-fn found_at(position: Position, late: Option<XrunWhy>) -> Facts
+pub(crate) fn found_at(position: Position, late: Option<XrunWhy>) -> Facts
     ensures { result ≡ found_at position late }
 {
     Facts {
