@@ -51,7 +51,9 @@ pub record CanRunWith (g : Geometry) (config : Config) (bindings : List ℕ) : T
   pub buffer_least : 1 ≤ config.buffer_size
   pub buffer_most : config.buffer_size ≤ 16384
 
--- a stream at a ring runs with what it is set up with
+-- a stream at a ring can run with what it is set up with, and its thresholds are at least one frame
 pub record IsConfigured (g : Geometry) (setup : Setup) : Type 0 where
   pub bound : AreBindings setup.bindings
   pub runs : CanRunWith g setup.config setup.bindings
+  pub starts : 1 ≤ setup.params.start_threshold
+  pub stops : 1 ≤ setup.params.stop_threshold
