@@ -56,15 +56,17 @@ impl Converter {
         requires channels { length (samples_of frame.old) ≡ self.now.table.inputs }
         ensures { samples_of frame.new ≡ samples_in self.now.from self.now.table.inputs bytes.now }
     {
+        let width = self.from.bytes() as usize;
         let mut rest = bytes;
         for channel in 0..self.table.inputs() {
-            let (sample, behind) = rest.split_at(self.from.bytes() as usize);
+            let (sample, behind) = rest.split_at(width);
             frame.put(channel, self.from.sample(sample));
             rest = behind;
         }
     }
 
     /// Takes one frame's bytes.
+    #[inline(always)]
     fn take_frame(
         &self,
         course: &mut Course,

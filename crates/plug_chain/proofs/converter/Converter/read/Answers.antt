@@ -22,7 +22,7 @@ loop-channel-preserved c =
     ∙ (ap (λ (k : ℕ). take k (set (samples_of c.loop-channel.frame) c.loop-channel.channel c.sample.result)) (let e : c.loop-channel.channel + 1 ≡ suc c.loop-channel.channel = omega arith in e)
     ∙ take-suc-set (samples_of c.loop-channel.frame) c.loop-channel.channel c.sample.result within)
     in
-    let width : c.bytes.result ≡ bytes_of c.args.self.now.from = c.bytes.ensures in
+    let width : c.bytes-width.result ≡ bytes_of c.args.self.now.from = c.bytes-width.ensures in
     let front : c.split_at.result.0.now ≡ take (bytes_of c.args.self.now.from) c.loop-channel.rest.now = c.split_at.ensures.front ∙ ap (λ (n : ℕ). take n c.loop-channel.rest.now) width in
     let back : c.split_at.result.1.now ≡ drop (bytes_of c.args.self.now.from) c.loop-channel.rest.now = c.split_at.ensures.back ∙ ap (λ (n : ℕ). drop n c.loop-channel.rest.now) width in
     record {
