@@ -1,5 +1,5 @@
 -- An attach: the load keeps the last frames, and so the choice of the seat.
-use Rattle.std.proofs.Common.{◌≡◌, ℕ, zero, suc, ◌<◌, Bool, List, [], ◌∷◌, Option, None, Some, IsSome, Result, Ok, Err, cond, get_or, length, nat_lt, set, ap, refl, subst, sym, ◌∙◌}
+use Rattle.std.proofs.Common.{◌≡◌, ℕ, zero, suc, Bool, List, [], ◌∷◌, Option, None, Some, IsSome, Result, Ok, Err, cond, get_or, length, nat_lt, set, ap, refl, subst, sym, ◌∙◌}
 use Rattle.std.specs.List.{cons_option, filter_map, position, position_or_len}
 use Rattle.std.specs.Option.{is_some, option_and_then}
 use Rattle.std.proofs.lemmas.List.{append-nil, length-set}
@@ -14,7 +14,7 @@ use Rattle.sum_table.specs.Seats.{view_of}
 use Rattle.lobby.specs.Loads.{HasLoaded, HasLoadedBeside}
 use Rattle.lobby.specs.declared.lobby.Lobby.{Lobby}
 use Rattle.lobby.specs.Lobbies.{Attaches, GoesOn, LoadsAt, Outcome, free_seats, seen_of_lobby}
-use Rattle.lobby.specs.Seats.{IsLeast, KeepsLasts, is_below, is_silent, last_frames, last_of, lowest_free, seat_at}
+use Rattle.lobby.specs.Seats.{IsLeast, KeepsLasts, is_below, is_silent, last_of, lowest_free, seat_at}
 
 position-set : {X : Type 0} (p : X → Bool) (xs : List X) (i : ℕ) (y d : X) → p y ≡ p (get_or xs i d) → position p (set xs i y) ≡ position p xs
 position-set p xs i y d same =

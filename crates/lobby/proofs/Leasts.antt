@@ -1,5 +1,5 @@
 -- The least of the last frames, as more seats are looked at.
-use Rattle.std.proofs.Common.{◌≡◌, ℕ, ◌+◌, ◌<◌, ◌≤◌, ◌^◌, All, Contains, List, [], ◌∷◌, ◌++◌, Option, None, Some, IfSome, MatchOption, add-one, get_or, length, min, take, arith, ap, refl, subst, sym, ◌∙◌, inl, inr, ◌⊎◌}
+use Rattle.std.proofs.Common.{◌≡◌, ℕ, ◌+◌, ◌<◌, ◌≤◌, ◌^◌, All, Contains, List, [], ◌∷◌, ◌++◌, Option, None, Some, IfSome, MatchOption, add-one, get_or, length, min, take, arith, ap, refl, subst, sym, ◌∙◌, inl, inr}
 use Rattle.std.specs.List.{cons_option}
 use Rattle.std.specs.Option.{option_and_then, option_to_list}
 use Rattle.std.proofs.lemmas.Bool.{cases_lt}

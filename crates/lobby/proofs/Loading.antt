@@ -1,14 +1,10 @@
 -- What a load leaves of a seat and of the player.
-use Rattle.std.proofs.Common.{◌≡◌, ℕ, ◌||◌, Bool, true, false, arith, ap, refl, sym, ◌∙◌}
+use Rattle.std.proofs.Common.{ℕ, ◌∙◌}
 use Rattle.mix_core.specs.declared.port.Position.{Position}
 use Rattle.sum_table.specs.declared.seats.mix.MixSeat.{MixSeat}
 use Rattle.sum_table.specs.declared.seats.player.PlayerSeat.{PlayerSeat}
 use Rattle.sum_table.specs.declared.view.Key.{Key}
-use Rattle.sum_table.specs.declared.view.Track.{Track}
-use Rattle.sum_table.specs.declared.view.View.{View}
-use Rattle.sum_table.specs.Exact.{the_track}
-use Rattle.sum_table.specs.Players.{track_of}
-use Rattle.sum_table.specs.Seats.{Goes, TableId, view_of}
+use Rattle.sum_table.specs.Seats.{Goes, TableId}
 use Rattle.lobby.specs.Loads.{HasLoaded, HasLoadedBeside}
 use Rattle.lobby.specs.Seats.{IsPlace}
 

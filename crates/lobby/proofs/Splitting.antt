@@ -1,14 +1,12 @@
 -- A seat is split into seats of one place each.
-use Rattle.std.proofs.Common.{◌≡◌, ℕ, ◌+◌, ◌<◌, ◌≤◌, List, [], ◌∷◌, ◌++◌, Option, None, Some, get_or, length, arith, ap, refl, subst, sym, ◌∙◌, inl, inr}
+use Rattle.std.proofs.Common.{◌≡◌, ℕ, ◌+◌, ◌<◌, List, [], ◌∷◌, ◌++◌, Option, None, Some, length, arith, ap, refl, subst, sym, ◌∙◌, inl, inr}
 use Rattle.std.proofs.Math.ListN.{get_or-eq_default}
 use Rattle.std.proofs.lemmas.Bool.{cases_lt}
 use Rattle.std.proofs.lemmas.List.{get_or_append_left, get_or_push, length-append}
 use Rattle.std.proofs.lemmas.Option.{none-some, same_Some}
-use Rattle.snd_base.specs.Places.{first_frame}
 use Rattle.sum_table.specs.declared.seats.mix.MixSeat.{MixSeat}
-use Rattle.sum_table.specs.declared.view.Key.{Key}
 use Rattle.sum_table.specs.declared.view.View.{View}
-use Rattle.sum_table.specs.Cuts.{part_of, without}
+use Rattle.sum_table.specs.Cuts.{part_of}
 use Rattle.sum_table.specs.Joins.{HasSplit}
 use Rattle.sum_table.specs.Seats.{key_of, places_of_seat, ring_of, seen_of, view_of}
 use Rattle.lobby.specs.Lobbies.{IsPart}

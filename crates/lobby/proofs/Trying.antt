@@ -1,5 +1,7 @@
 -- What the tests conclude of a seat, and of the seats that a lobby handed out.
-use Rattle.std.proofs.Common.{◌≡◌, ℕ, ◌++◌, ◌∷◌, [], All, Bool, true, false, List, cond, get_or, subst, sym, ◌∙◌}
+use Rattle.std.proofs.Common.{◌≡◌, ℕ, ◌++◌, ◌∷◌, [], All, Bool, true, false, List, arith, cond, get_or, length, subst, sym, ◌∙◌}
+use Rattle.std.proofs.Math.Seq.{get_or-append_seam}
+use Rattle.std.proofs.lemmas.List.{get_or_append_left, length-append}
 use Rattle.std.proofs.lemmas.List.Elements.{All-push}
 use Rattle.sum_table.specs.declared.seats.mix.MixSeat.{MixSeat}
 use Rattle.sum_table.specs.Joins.{OneRing}
@@ -27,3 +29,20 @@ seats_out l m p xs ys s b goes were silent is = subst (All (IsOfLobby m)) (sym i
   by_room : (c : Bool) → All (IsOfLobby m) (cond c (xs ++ s ∷ []) xs)
   by_room true = All-push (IsOfLobby m) xs s before (goes_on l m s goes (silent.0.of_ring, silent.0.of_key))
   by_room false = before
+
+-- a seat that is out was used, and put back behind the others, whether or not there was room
+pub seat_put_back : (l : Lobby) (xs ys zs : List MixSeat) (s t : MixSeat) (b : Bool) → All (IsOfLobby l) xs → xs ≡ ys ++ s ∷ [] → Goes s t
+    → zs ≡ cond b (ys ++ t ∷ []) ys → All (IsOfLobby l) zs
+seat_put_back l xs ys zs s t b were parts goes is = subst (All (IsOfLobby l)) (sym is) (by_room b) where
+  all : All (IsOfLobby l) (ys ++ s ∷ [])
+  all = subst (All (IsOfLobby l)) parts were
+
+  front : All (IsOfLobby l) ys
+  front k d inside = subst (IsOfLobby l) (get_or_append_left ys (s ∷ []) d k inside) (all k d (omega (arith, length-append ys (s ∷ []))))
+
+  last : IsOfLobby l s
+  last = subst (IsOfLobby l) (get_or-append_seam ys s [] s) (all (length ys) s (omega (arith, length-append ys (s ∷ []))))
+
+  by_room : (c : Bool) → All (IsOfLobby l) (cond c (ys ++ t ∷ []) ys)
+  by_room true = All-push (IsOfLobby l) ys t front (goes.ring ∙ last.0, goes.key ∙ last.1)
+  by_room false = front

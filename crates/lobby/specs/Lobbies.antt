@@ -1,8 +1,7 @@
 -- What contracts say of a lobby, and what its calls do.
-use Rattle.std.specs.Prelude.{◌≡◌, ℕ, ◌+◌, ◌<◌, List, [], ◌++◌, length, Option, None, Some, Result, Ok, Err, IfSome, MatchResult, slice_set}
+use Rattle.std.specs.Prelude.{◌≡◌, ℕ, ◌+◌, ◌<◌, List, [], length, Option, None, Some, Result, IfSome, MatchResult, slice_set}
 use Rattle.std.specs.List.{flat_map}
 use Rattle.snd_base.specs.declared.errors.PcmError.{PcmError}
-use Rattle.snd_base.specs.declared.errors.PcmError.TheVariants.{Busy}
 use Rattle.snd_base.specs.declared.geometry.Geometry.{Geometry}
 use Rattle.snd_base.specs.Places.{first_frame}
 use Rattle.mix_core.specs.declared.port.Entry.{Entry}

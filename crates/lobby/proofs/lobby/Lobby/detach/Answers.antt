@@ -1,6 +1,6 @@
 use Rattle.std.proofs.Common.{◌<◌, length, subst, sym}
 use Rattle.sum_table.specs.declared.seats.mix.MixSeat.{MixSeat}
-use Rattle.sum_table.specs.Seats.{key_of, member_of, ring_of}
+use Rattle.sum_table.specs.Seats.{key_of, ring_of}
 use Rattle.lobby.specs.declared.lobby.Lobby.{Lobby}
 use Rattle.lobby.proofs.Placed.{ArePlaces-set}
 use Rattle.lobby.proofs.lobby.Lobby.detach.Goals as goal
