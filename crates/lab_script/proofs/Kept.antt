@@ -11,7 +11,7 @@ use Rattle.lab_script.specs.declared.ops.Form.TheVariants.{Plain, Counted}
 use Rattle.lab_script.specs.declared.script.CardLine.{CardLine}
 use Rattle.lab_script.specs.declared.script.ClientLine.{ClientLine}
 use Rattle.lab_script.specs.declared.script.ReaderLine.{ReaderLine}
-use Rattle.lab_script.specs.Causes.{◌>>=◌, refuse_if, some_or, first_of, end_of}
+use Rattle.lab_script.specs.Causes.{refuse_if, some_or, first_of, end_of}
 use Rattle.lab_script.specs.Draft.{State, card_of, client_of, reader_of, named, divides}
 use Rattle.lab_script.specs.Keys.{row_of, number_in, keys_from, given, number_given, small_given, byte_given, name_of, file_of, file_where, bindings_where}
 use Rattle.lab_script.specs.Limits.{IsIn, IsCardLine, IsClientLine, IsReaderLine, IsOpOf}

@@ -1,6 +1,6 @@
 -- What the lines that are read so far keep: ranges, names that differ, actors that there are, and the card's limits.
-use Rattle.std.proofs.Common.{◌≡◌, ◌≢◌, ℕ, ◌+◌, ◌*◌, ◌≤◌, ◌<◌, ◌==◌, Bool, true, false, not, cond, ◌&&◌, ◌||◌, List, [], ◌∷◌, ◌++◌, length, get_or, refl, ap, sym, subst, ◌∙◌, arith, zero, suc, Option, Some, None, option_map, is_some, Result, Ok, Err, bytes_eq, nat_le, nat_lt}
-use Rattle.std.specs.List.{All, AllPairs, list_any, position, position_or_len, sum_by}
+use Rattle.std.proofs.Common.{◌≡◌, ◌≢◌, ℕ, ◌+◌, ◌*◌, ◌≤◌, ◌<◌, ◌==◌, Bool, true, false, not, cond, ◌&&◌, ◌||◌, List, [], ◌∷◌, ◌++◌, length, get_or, refl, ap, sym, subst, ◌∙◌, arith, zero, suc, Option, Some, None, option_map, is_some, Result, Ok, Err, nat_le, nat_lt}
+use Rattle.std.specs.List.{All, AllPairs, list_any, position, position_or_len}
 use Rattle.std.proofs.Math.Nat.{mul-le-mul_right}
 use Rattle.std.proofs.lemmas.Bool.Decides.{nat_tests, not_from_Decides}
 use Rattle.std.proofs.lemmas.List.{append-nil}
@@ -19,17 +19,16 @@ use Rattle.lab_script.specs.declared.line.Actor.TheVariants.{Card, Client, Reade
 use Rattle.lab_script.specs.declared.line.Item.{Item}
 use Rattle.lab_script.specs.declared.line.Item.TheVariants as item
 use Rattle.lab_script.specs.declared.line.Line.{Line}
-use Rattle.lab_script.specs.declared.line.Op.{Op}
 use Rattle.lab_script.specs.declared.script.CardLine.{CardLine}
 use Rattle.lab_script.specs.declared.script.ClientLine.{ClientLine}
 use Rattle.lab_script.specs.declared.script.ReaderLine.{ReaderLine}
 use Rattle.lab_script.specs.declared.script.Script.{Script}
-use Rattle.lab_script.specs.Causes.{◌>>=◌, refuse_if, some_or, first_of, end_of}
+use Rattle.lab_script.specs.Causes.{refuse_if, some_or, first_of, end_of}
 use Rattle.lab_script.specs.Draft.{State, begun, client_of, reader_of, border_of, named, is_client, is_reader, or_else, is_beside, ends_lap, keywords, with_client, with_reader, with_open, with_close, with_phase, with_end, with_line, with_words, outside, inside, unknown_outside, unknown_inside, line_at}
 use Rattle.lab_script.specs.Keys.{row_of}
-use Rattle.lab_script.specs.Limits.{IsCardLine, IsClientLine, IsReaderLine, IsBorder, IsActor, IsLine, IsAlone, IsPhase, IsItem, IsGoneAfter, IsScript}
+use Rattle.lab_script.specs.Limits.{IsCardLine, IsClientLine, IsReaderLine, IsBorder, IsActor, IsLine, IsAlone, IsItem, IsGoneAfter, IsScript}
 use Rattle.lab_script.specs.Ops.{op_of, played_by}
-use Rattle.lab_script.specs.Reading.{refused, on_line, card_line, first_by, after, ended, script_at, script_of_lines, Answers}
+use Rattle.lab_script.specs.Reading.{on_line, card_line, first_by, after, ended, script_at, script_of_lines, Answers}
 use Rattle.std.specs.Result.{IfOk}
 use Rattle.lab_script.specs.Script.{phases_of, played_in, frames_played, first_frame, is_card_line, is_of_card, is_unplug, unplugs}
 use Rattle.lab_script.proofs.Ranges.{bind_ok, not_refused, some_is, below}

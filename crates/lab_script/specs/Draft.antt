@@ -1,5 +1,5 @@
 -- A script that is read as far as some line, and what one more line makes of it.
-use Rattle.std.specs.Prelude.{ℕ, ◌+◌, ◌*◌, ◌/◌, ◌%◌, ◌==◌, Bool, true, false, ◌&&◌, ◌||◌, not, List, [], ◌∷◌, ◌++◌, length, codes, bytes_eq, Option, Some, None, option_map, Result, Ok, Err, nat_le, nat_lt, is_some, if◌then◌else◌}
+use Rattle.std.specs.Prelude.{ℕ, ◌+◌, ◌*◌, ◌/◌, ◌%◌, ◌==◌, Bool, false, ◌&&◌, ◌||◌, not, List, [], ◌∷◌, ◌++◌, length, codes, bytes_eq, Option, Some, None, option_map, Result, Ok, Err, nat_le, nat_lt, is_some}
 use Rattle.std.specs.List.{position}
 use Rattle.lab_script.specs.declared.draft.Draft.{Draft}
 use Rattle.lab_script.specs.declared.keyword.Keyword.{Keyword}

@@ -1,5 +1,5 @@
 -- The keys of the card's line, of a client's and of a reader's, and what is given by them.
-use Rattle.std.specs.Prelude.{ℕ, Bool, true, false, not, List, [], ◌∷◌, ◌++◌, codes, bytes_eq, Option, Some, None, option_map, Result, Ok, Err, nat_le, if◌then◌else◌}
+use Rattle.std.specs.Prelude.{ℕ, not, List, [], ◌∷◌, ◌++◌, codes, bytes_eq, Option, Some, None, option_map, Result, Ok, Err, nat_le, if◌then◌else◌}
 use Rattle.std.specs.List.{list_any}
 use Rattle.std.specs.Option.{option_map_or}
 use Rattle.bindings.specs.Answers.{answer_of}
@@ -16,7 +16,7 @@ use Rattle.lab_script.specs.declared.script.Share.TheVariants as share
 use Rattle.lab_script.specs.declared.script.Stop.{Stop}
 use Rattle.lab_script.specs.declared.script.Stop.TheVariants as stop
 use Rattle.lab_script.specs.Word.{number_of, parts_of, is_name, is_file}
-use Rattle.lab_script.specs.Causes.{◌>>=◌, refuse_if, some_or, first_of}
+use Rattle.lab_script.specs.Causes.{◌>>=◌, refuse_if, some_or}
 
 -- the keys of the card's line; a period above half the ring is no matter of its range
 abbrev pub card_keys : List (List ℕ × Takes)

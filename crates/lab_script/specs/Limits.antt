@@ -1,5 +1,5 @@
 -- What each script that is read keeps: ranges, names that differ, actors that there are, and the card's limits.
-use Rattle.std.specs.Prelude.{◌≡◌, ◌≢◌, ℕ, ◌+◌, ◌*◌, ◌%◌, ◌<◌, ◌≤◌, Bool, true, false, List, [], ◌∷◌, length, Option, Some, None, Ok, IsTrue, All, AllPairs}
+use Rattle.std.specs.Prelude.{◌≡◌, ◌≢◌, ℕ, ◌+◌, ◌*◌, ◌%◌, ◌<◌, ◌≤◌, true, false, List, length, Option, Some, None, Ok, All, AllPairs}
 use Rattle.std.specs.List.{list_any}
 use Rattle.bindings.specs.Answers.{answer_of}
 use Rattle.lab_script.specs.declared.line.Actor.{Actor}

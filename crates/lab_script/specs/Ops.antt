@@ -1,5 +1,5 @@
 -- The lines of a phase: what each actor can be asked for, by which words.
-use Rattle.std.specs.Prelude.{ℕ, List, [], ◌∷◌, ◌++◌, codes, Option, Some, None, option_map, Result, Ok, Err}
+use Rattle.std.specs.Prelude.{ℕ, List, [], ◌∷◌, ◌++◌, codes, Result, Ok}
 use Rattle.std.specs.Fmt.{decimal}
 use Rattle.lab_script.specs.declared.error.ScriptWhy.{ScriptWhy}
 use Rattle.lab_script.specs.declared.error.ScriptWhy.TheVariants as why
@@ -9,7 +9,7 @@ use Rattle.lab_script.specs.declared.line.Op.{Op}
 use Rattle.lab_script.specs.declared.line.Op.TheVariants as op
 use Rattle.lab_script.specs.declared.ops.Form.{Form}
 use Rattle.lab_script.specs.declared.ops.Form.TheVariants.{Plain, Counted}
-use Rattle.lab_script.specs.Causes.{◌>>=◌, refuse_if, some_or, first_of, end_of}
+use Rattle.lab_script.specs.Causes.{◌>>=◌, some_or, first_of, end_of}
 use Rattle.lab_script.specs.Keys.{row_of, number_in}
 
 -- what the card can be asked for

@@ -1,5 +1,5 @@
 -- What a script says: its phases, the frames that the card plays in them, and the positions that it publishes.
-use Rattle.std.specs.Prelude.{◌≡◌, ℕ, ◌+◌, ◌-◌, ◌*◌, ◌<◌, ◌≤◌, ◌⊎◌, Bool, true, false, ◌&&◌, not, List, [], ◌∷◌, ◌++◌, take, length, sum_by, slice_index_or}
+use Rattle.std.specs.Prelude.{◌≡◌, ℕ, ◌+◌, ◌-◌, ◌*◌, ◌<◌, ◌≤◌, ◌⊎◌, Bool, true, false, ◌&&◌, not, List, [], ◌∷◌, take, length, sum_by, slice_index_or}
 use Rattle.std.specs.List.{list_any}
 use Rattle.lab_script.specs.declared.line.Actor.{Actor}
 use Rattle.lab_script.specs.declared.line.Actor.TheVariants.{Card, Client, Reader}

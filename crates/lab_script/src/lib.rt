@@ -24,7 +24,7 @@ pub use error::{ScriptError, ScriptWhy};
 pub use lexing::{TextLine, next_line, next_word};
 pub use line::{Actor, Item, Line, Op, Phase};
 pub use name::{FileName, Name};
-pub use ops::print_op;
+pub use ops::{print_op, push_op};
 pub use reader::read_script;
 pub use runs::not_yet;
 pub use script::{Body, CardLine, ClientLine, Clients, ReaderLine, Readers, Script, Share, Stop};

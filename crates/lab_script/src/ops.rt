@@ -161,8 +161,10 @@ pub fn played_by(op: Op) -> u32
     }
 }
 
-/// Appends the words of an op, as they stand in a script.
-fn push_op(op: Op, text: &mut String) -> Result<(), AllocError>
+/// Appends the words of an op to a text, as they stand in a script.
+///
+/// The one error is that memory ran out.
+pub fn push_op(op: Op, text: &mut String) -> Result<(), AllocError>
     ensures { OnOk result (string_bytes text.new ≡ string_bytes text.old ++ op_text op) }
 {
     match op {
@@ -187,7 +189,7 @@ fn push_op(op: Op, text: &mut String) -> Result<(), AllocError>
     }
 }
 
-/// Appends the words of an op, as they stand in a script.
+/// Appends the words of an op to the bytes of a text, as they stand in a script.
 ///
 /// # Errors
 ///

@@ -1,7 +1,5 @@
 use Rattle.std.proofs.Common.{sym, ap, ◌∙◌}
-use Rattle.lab_script.specs.Lexing.{first_and_rest, is_blank}
-use Rattle.std.specs.List.{position}
-use Rattle.std.proofs.Common.{◌≡◌, ◌≢◌, Some}
+use Rattle.lab_script.specs.Lexing.{first_and_rest}
 use Rattle.lab_script.proofs.LineWords.{words_between-at, words_between-one}
 use Rattle.lab_script.proofs.lexing.next_word.Goals as goal
 
