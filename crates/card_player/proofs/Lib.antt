@@ -1,3 +1,1 @@
-pub mod Played
-pub mod Buffers
-pub mod Laps
+mod Laps

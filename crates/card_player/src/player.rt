@@ -19,7 +19,7 @@ pub struct CardPlayer<'a> {
 impl<'a> CardPlayer<'a> {
     ghost use Rattle.std.specs.Prelude.{◌≡◌, ◌+◌, ◌*◌, ◌<◌, ◌≤◌, ◌↔◌, IsTrue, [], take, drop, length, IfErr, OnErr, OnOk, IsErrOf, nat_lt, ◌&&◌};
     ghost use Rattle.snd_base.specs.Places.{end_frame, lap};
-    ghost use Rattle.sum_table.specs.Players.{HasPublished, HasUnplugged, next_of_player};
+    ghost use Rattle.sum_table.specs.Players.{HasPublished, HasUnplugged, next_of_player, position_of_player};
     ghost use Rattle.card_player.specs.Plays.{HasPlayed, IsAtFrame, PlaysFrames, at_frame, frame_of, frames_in, frames_left, geometry_of, is_multiple, period_at, period_of, positions_of, seat_of};
 
     /// A player over this seat, with a period of so many frames, at least 1.
@@ -43,6 +43,13 @@ impl<'a> CardPlayer<'a> {
         ensures { result ≡ next_of_player (seat_of self.now) }
     {
         self.seat.next()
+    }
+
+    /// The position that was published last, a frame number, or the number of the first frame.
+    pub fn position(&self) -> u64
+        ensures { result ≡ position_of_player (seat_of self.now) }
+    {
+        self.seat.position()
     }
 
     /// Whether the next word is the first one of a frame, as the calls that take frames ask.
@@ -70,8 +77,31 @@ impl<'a> CardPlayer<'a> {
         if geometry.lap(self.seat.next().frame) == 4294967295 {
             return Err(PcmError::LapEnd);
         }
-        self.take_words(out, 0);
+        self.take_frame_at(out, 0);
         Ok(())
+    }
+
+    /// Takes the words of the next frame, which is before the ring's end, and writes their values into `out` from an index
+    /// on. Nothing is published.
+    ///
+    /// The caller has room there for one sample of each channel, and a next word of channel 0 (`is_at_frame`).
+    pub fn take_frame_at(&mut self, out: &mut [i16], at: usize)
+        requires room { at + (geometry_of self.old).channels ≤ length out.old }
+        requires at_frame { IsAtFrame self.old }
+        requires fits { frame_of self.old < end_frame (geometry_of self.old) }
+        ensures played { HasPlayed (seat_of self.old) (seat_of self.new) (drop at (take (at + (geometry_of self.old).channels) out.new)) [] }
+        ensures next { next_of_player (seat_of self.new) ≡ at_frame (frame_of self.old + 1) }
+        ensures before { take at out.new ≡ take at out.old }
+        ensures rest { drop (at + (geometry_of self.old).channels) out.new ≡ drop (at + (geometry_of self.old).channels) out.old }
+        ensures period { period_of self.new ≡ period_of self.old }
+    {
+        let channels = self.seat.geometry().channels as usize;
+        for channel in 0..channels {
+            let Ok(taken) = self.seat.take_word() else {
+                unreachable!()
+            };
+            out[at + channel] = taken.value;
+        }
     }
 
     /// Plays as many frames as `out` has room for: takes the words of each, writes their values, interleaved, and publishes
@@ -120,26 +150,6 @@ impl<'a> CardPlayer<'a> {
         self.seat
     }
 
-    // Takes the words of the next frame and writes their values into `out` from an index on.
-    fn take_words(&mut self, out: &mut [i16], at: usize)
-        requires room { at + (geometry_of self.old).channels ≤ length out.old }
-        requires at_frame { IsAtFrame self.old }
-        requires fits { frame_of self.old < end_frame (geometry_of self.old) }
-        ensures played { HasPlayed (seat_of self.old) (seat_of self.new) (drop at (take (at + (geometry_of self.old).channels) out.new)) [] }
-        ensures next { next_of_player (seat_of self.new) ≡ at_frame (frame_of self.old + 1) }
-        ensures before { take at out.new ≡ take at out.old }
-        ensures rest { drop (at + (geometry_of self.old).channels) out.new ≡ drop (at + (geometry_of self.old).channels) out.old }
-        ensures period { period_of self.new ≡ period_of self.old }
-    {
-        let channels = self.seat.geometry().channels as usize;
-        for channel in 0..channels {
-            let Ok(taken) = self.seat.take_word() else {
-                unreachable!()
-            };
-            out[at + channel] = taken.value;
-        }
-    }
-
     // Plays so many frames, which the ring still has and `out` has room for.
     fn play_frames(&mut self, out: &mut [i16], frames: usize)
         requires room { frames * (geometry_of self.old).channels ≤ length out.old }
@@ -149,7 +159,7 @@ impl<'a> CardPlayer<'a> {
     {
         let channels = self.seat.geometry().channels as usize;
         for frame in 0..frames {
-            self.take_words(out, frame * channels);
+            self.take_frame_at(out, frame * channels);
             self.publish_period();
         }
         if !self.has_ended_period(frames) {

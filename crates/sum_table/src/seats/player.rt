@@ -27,13 +27,20 @@ impl PlayerSeat<'_> {
     ghost use Rattle.std.specs.Prelude.{◌≡◌, ◌<◌, ◌↔◌, IfOk, IfErr, OnErr, IsErrOf};
     ghost use Rattle.snd_base.specs.Places.{IsWithin, lap};
     ghost use Rattle.sum_table.specs.Exact.{next_at};
-    ghost use Rattle.sum_table.specs.Players.{HasPublished, HasTaken, HasUnplugged, next_of_player, player_geometry, track_of};
+    ghost use Rattle.sum_table.specs.Players.{HasPublished, HasTaken, HasUnplugged, next_of_player, player_geometry, position_of_player, track_of};
 
     /// The geometry of the ring.
     pub fn geometry(&self) -> Geometry
         ensures { result ≡ player_geometry self.now }
     {
         self.key.geometry
+    }
+
+    /// The position that it published last, a frame number, or the number of the first frame.
+    pub fn position(&self) -> u64
+        ensures { result ≡ position_of_player self.now }
+    {
+        self.position
     }
 
     /// The next word to be taken: the word behind everything that was taken, in the order of frames and channels.

@@ -4,18 +4,18 @@ use Rattle.snd_base.specs.declared.places.Cursor.{Cursor}
 use Rattle.sum_table.specs.Players.{next_of_player}
 use Rattle.card_player.specs.declared.player.CardPlayer.{CardPlayer}
 use Rattle.card_player.specs.Plays.{HasPlayed, seat_of, ends_period, frame_of, geometry_of, is_multiple, period_at, period_of}
-use Rattle.card_player.proofs.Buffers.{HasFilled, HasFilled-ended, HasFilled-more, HasFilled-published}
+use Rattle.card_player.specs.FillLaws.{HasFilled, HasFilled-ended, HasFilled-more, HasFilled-published}
 use Rattle.card_player.proofs.player.CardPlayer.play_frames.Goals as goal
 
 pub loop-frame-preserved : goal.loop-frame-preserved
 loop-frame-preserved c =
-    let period : period_of c.take_words.new.self ≡ period_of c.args.self.now = c.take_words.ensures.period ∙ c.loop-frame.invariant.1 in
+    let period : period_of c.take_frame_at.new.self ≡ period_of c.args.self.now = c.take_frame_at.ensures.period ∙ c.loop-frame.invariant.1 in
     let channels : c.geometry-channels.result.channels ≡ (geometry_of c.args.self.now).channels = ap (λ (g : Geometry). g.channels) c.geometry-channels.ensures in
     let at_is : c.loop-frame.frame * c.geometry-channels.result.channels ≡ c.loop-frame.frame * (geometry_of c.args.self.now).channels = ap (λ n. c.loop-frame.frame * n) channels in (
-      HasFilled-more c.args.self.now.seat c.loop-frame.self.seat c.take_words.new.self.seat c.publish_period.new.self.seat (period_of c.args.self.now)
-          c.loop-frame.frame (c.loop-frame.frame * c.geometry-channels.result.channels) c.args.out.now c.loop-frame.out c.take_words.new.out
-          c.loop-frame.invariant.0 at_is c.take_words.ensures.played c.take_words.ensures.next c.take_words.ensures.before c.take_words.ensures.rest
-          (subst (λ n. HasPlayed c.take_words.new.self.seat c.publish_period.new.self.seat [] (period_at n (next_of_player c.take_words.new.self.seat).frame)) period c.publish_period.ensures.played)
+      HasFilled-more c.args.self.now.seat c.loop-frame.self.seat c.take_frame_at.new.self.seat c.publish_period.new.self.seat (period_of c.args.self.now)
+          c.loop-frame.frame (c.loop-frame.frame * c.geometry-channels.result.channels) c.args.out.now c.loop-frame.out c.take_frame_at.new.out
+          c.loop-frame.invariant.0 at_is c.take_frame_at.ensures.played c.take_frame_at.ensures.next c.take_frame_at.ensures.before c.take_frame_at.ensures.rest
+          (subst (λ n. HasPlayed c.take_frame_at.new.self.seat c.publish_period.new.self.seat [] (period_at n (next_of_player c.take_frame_at.new.self.seat).frame)) period c.publish_period.ensures.played)
           c.publish_period.ensures.next,
       c.publish_period.ensures.period ∙ period,
     )

@@ -1,5 +1,5 @@
 use Rattle.std.proofs.Common.{◌≡◌}
-use Rattle.card_player.proofs.Buffers.{HasFilled}
+use Rattle.card_player.specs.FillLaws.{HasFilled}
 use Rattle.card_player.proofs.player.CardPlayer.play_frames.Given as goal
 
 abbrev pub invariant-loop-frame : goal.invariant-loop-frame

@@ -6,8 +6,8 @@ use Rattle.card_player.specs.Plays.{frame_of, geometry_of}
 use Rattle.card_player.proofs.Laps.{end_frame-above}
 use Rattle.card_player.proofs.player.CardPlayer.take_frame.Goals as goal
 
-pub take_words-requires-clause-fits : goal.take_words-requires-clause-fits
-take_words-requires-clause-fits c =
+pub take_frame_at-requires-clause-fits : goal.take_frame_at-requires-clause-fits
+take_frame_at-requires-clause-fits c =
     let frame : c.next.result.frame ≡ frame_of c.args.self.now = ap (λ (w : Cursor). w.frame) c.next.ensures.value in
     let same : c.lap.result ≡ lap (geometry_of c.args.self.now) (frame_of c.args.self.now) =
     c.lap.ensures ∙ (ap (λ g. lap g c.next.result.frame) c.geometry-geometry.ensures ∙ ap (λ f. lap (geometry_of c.args.self.now) f) frame) in

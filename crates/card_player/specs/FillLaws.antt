@@ -12,7 +12,7 @@ use Rattle.std.proofs.lemmas.Bool.{lt-ltb}
 use Rattle.sum_table.specs.Players.{HasPublished, HasTaken, next_of_player, player_geometry}
 use Rattle.sum_table.specs.declared.seats.player.PlayerSeat.{PlayerSeat}
 use Rattle.card_player.specs.Plays.{HasPlayed, at_frame, ends_period, period_at, periods_to, positions_of}
-use Rattle.card_player.proofs.Played.{HasPlayed-joined, HasPlayed-published, HasPlayed-taken}
+use Rattle.card_player.specs.PlayLaws.{HasPlayed-joined, HasPlayed-published, HasPlayed-taken}
 
 -- the next word after so many words of a frame
 abbrev pub word_of_frame : Geometry → ℕ → ℕ → Cursor
@@ -73,7 +73,7 @@ pub record HasFilled (p q : PlayerSeat) (period frames : ℕ) (old new : List �
   pub rest : drop (frames * (player_geometry p).channels) new ≡ drop (frames * (player_geometry p).channels) old
 
 -- a buffer's samples up to an index, and from there on
-take-split : (at c : ℕ) (xs : List ℤ) → take (at + c) xs ≡ take at xs ++ drop at (take (at + c) xs)
+pub take-split : (at c : ℕ) (xs : List ℤ) → take (at + c) xs ≡ take at xs ++ drop at (take (at + c) xs)
 take-split at c xs = sym (take-append-drop at (take (at + c) xs)) ∙ ap (λ ys. ys ++ drop at (take (at + c) xs)) (take-take at (at + c) xs (omega arith))
 
 -- one frame more is played, and where it ends a period the position is published

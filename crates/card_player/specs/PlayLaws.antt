@@ -1,5 +1,7 @@
 -- Steps of the player's seat, put together.
-use Rattle.std.proofs.Common.{◌≡◌, ℕ, zero, suc, ◌+◌, ◌<◌, Bool, true, false, ℤ, List, [], ◌∷◌, ◌++◌, All, length, nat_lt, if◌then◌else◌, refl, sym, ap, subst, ◌∙◌, append_assoc, append-nil, arith}
+use Rattle.std.proofs.Common.{◌&&◌, ◌≡◌, ℕ, zero, suc, ◌+◌, ◌<◌, Bool, true, false, ℤ, List, [], ◌∷◌, ◌++◌, All, length, nat_lt, if◌then◌else◌, refl, sym, ap, subst, ◌∙◌, append_assoc, append-nil, arith}
+use Rattle.std.proofs.Math.Numerals.{suc-eq-add-one}
+use Rattle.std.proofs.lemmas.Bool.{lt-ltb}
 use Rattle.std.proofs.lemmas.List.Elements.{All-append}
 use Rattle.snd_base.specs.declared.geometry.Geometry.{Geometry}
 use Rattle.snd_base.specs.declared.places.Cursor.{Cursor}
@@ -11,7 +13,7 @@ use Rattle.sum_table.specs.declared.view.Track.{Track}
 use Rattle.ring_rule.specs.Positions.{last_of}
 use Rattle.sum_table.specs.Players.{HasPublished, HasTaken, PlayerGoes, next_of_player, player_geometry, player_view, track_of}
 use Rattle.sum_table.specs.Seats.{BeginsWith-trans}
-use Rattle.card_player.specs.Plays.{HasPlayed, IsSumThen, behind_words, words_at}
+use Rattle.card_player.specs.Plays.{HasPlayed, IsSumThen, behind_words, ends_period, is_multiple, period_at, periods_to, positions_of, words_at}
 
 pub last_of-append : (d : ℕ) (xs ys : List ℕ) → last_of d (xs ++ ys) ≡ last_of (last_of d xs) ys
 last_of-append d [] ys = refl
@@ -115,3 +117,33 @@ HasPlayed-joined p q r xs ys early late first then_ =
       gone = then_.gone ∙ first.gone;
       unplugged = then_.unplugged ∙ first.unplugged;
     }
+
+-- the last position that is published where so many frames are played is the end
+pub last_of-positions_of : (d period first n : ℕ) → last_of d (positions_of period first n) ≡ first + n
+last_of-positions_of d period first zero = omega arith
+last_of-positions_of d period first (suc n) =
+    ap (λ (b : Bool). last_of d (periods_to period first (suc n) ++ (if b then [] else (first + suc n) ∷ [])))
+        (ap (λ (b : Bool). b && is_multiple period (first + suc n)) (lt-ltb 0 (suc n) (omega arith)))
+    ∙ choose (is_multiple period (first + suc n)) where
+  choose : (b : Bool)
+      → last_of d ((periods_to period first n ++ (if b then (first + suc n) ∷ [] else [])) ++ (if b then [] else (first + suc n) ∷ [])) ≡ first + suc n
+  choose true =
+      ap (last_of d) (append-nil (periods_to period first n ++ (first + suc n) ∷ []))
+      ∙ last_of-append d (periods_to period first n) ((first + suc n) ∷ [])
+  choose false = last_of-append d (periods_to period first n ++ []) ((first + suc n) ∷ [])
+
+-- the periods among so many frames, and one frame more
+pub periods_to-more : (period first n last : ℕ) → last ≡ first + n + 1 → periods_to period first n ++ period_at period last ≡ periods_to period first (n + 1)
+periods_to-more period first n last is =
+    let last_is : last ≡ first + suc n = omega (arith, is) in
+    ap (λ (k : ℕ). periods_to period first n ++ period_at period k) last_is ∙ ap (λ (k : ℕ). periods_to period first k) (suc-eq-add-one n)
+
+-- the positions of so many frames are the periods among them, and the end where it is none
+pub periods_to-open : (period first n end : ℕ) → ends_period period first n ≡ false → end ≡ first + n → periods_to period first n ++ end ∷ [] ≡ positions_of period first n
+periods_to-open period first n end open_ is =
+    ap (λ (k : ℕ). periods_to period first n ++ k ∷ []) is
+    ∙ ap (λ (b : Bool). periods_to period first n ++ (if b then [] else (first + n) ∷ [])) (sym open_)
+
+pub periods_to-ended : (period first n : ℕ) → ends_period period first n ≡ true → periods_to period first n ≡ positions_of period first n
+periods_to-ended period first n ended =
+    sym (append-nil (periods_to period first n)) ∙ ap (λ (b : Bool). periods_to period first n ++ (if b then [] else (first + n) ∷ [])) (sym ended)

@@ -2,8 +2,8 @@ use Rattle.std.proofs.Common.{◌≡◌, ◌<◌, ◌+◌, SFits, rules, arith, 
 use Rattle.std.proofs.Math.ListN.{set}
 use Rattle.snd_base.specs.declared.geometry.Geometry.{Geometry}
 use Rattle.card_player.specs.Plays.{geometry_of}
-use Rattle.card_player.proofs.Buffers.{HasWritten, HasWritten-more}
-use Rattle.card_player.proofs.player.CardPlayer.take_words.Goals as goal
+use Rattle.card_player.specs.FillLaws.{HasWritten, HasWritten-more}
+use Rattle.card_player.proofs.player.CardPlayer.take_frame_at.Goals as goal
 
 pub loop-channel-preserved : goal.loop-channel-preserved
 loop-channel-preserved c =
