@@ -1,5 +1,5 @@
 -- Where the word of a frame is, by the first frame of its lap.
-use Rattle.std.proofs.Common.{◌≡◌, ℕ, ◌+◌, ◌-◌, ◌*◌, ◌%◌, ◌<◌, ◌≤◌, arith, subst, sym, ap, ◌∙◌}
+use Rattle.std.proofs.Common.{◌≡◌, ℕ, ◌+◌, ◌-◌, ◌*◌, ◌%◌, ◌<◌, ◌≤◌, arith, sym, ap, ◌∙◌}
 use Rattle.std.proofs.lemmas.Nat.{div-mul-add, mod-mul-add}
 use Rattle.std.proofs.Math.Nat.{mul-le-mul_right}
 use Rattle.snd_base.specs.declared.geometry.Geometry.{Geometry}
@@ -7,7 +7,7 @@ use Rattle.snd_base.specs.Places.{lap, slot}
 use Rattle.sum_table.specs.declared.seats.spots.LapStart.{LapStart}
 use Rattle.sum_table.specs.declared.seats.spots.Spot.{Spot}
 use Rattle.sum_table.specs.Spots.{IsLapStart, IsSpot}
-use Rattle.sum_table.specs.Words.{index_of, words_of}
+use Rattle.sum_table.specs.Words.{words_of}
 use Rattle.sum_table.proofs.Places.{index_of-lt}
 
 -- a frame that is so far past a lap's first one is of this lap
