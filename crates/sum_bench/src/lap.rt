@@ -142,8 +142,10 @@ fn take_value(player: &mut PlayerSeat<'_>) -> u16
     }
 }
 
-/// Takes `words` words, publishes the position, and answers the sum of all that was taken.
+/// Takes `words` words, publishes the position, and answers the sum of all that was taken. It is a function of its own in the
+/// machine code too, as in C.
 #[tactic(auto, using(crate::proofs::Going::player_stays, crate::proofs::Going::player_goes_on))]
+#[inline(never)]
 pub(crate) fn play(player: &mut PlayerSeat<'_>, words: u64) -> u64
     ensures { PlayerGoes player.old player.new }
 {

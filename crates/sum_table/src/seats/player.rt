@@ -71,7 +71,9 @@ impl PlayerSeat<'_> {
         let at = geometry.word_index(frame, channel) + 1;
         let empty = lap_word::pack(lap as u32 + 1, 0, 0);
         let found = self.ring.swap::<Take>(&mut self.seat, at, empty);
-        self.next = Cursor::behind(&geometry, frame, channel);
+        let next = Cursor::behind(&geometry, frame, channel);
+        self.next.frame = next.frame;
+        self.next.channel = next.channel;
         Ok(Taken {
             frame,
             channel,

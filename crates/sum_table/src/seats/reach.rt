@@ -160,13 +160,7 @@ impl Reach {
     }
 
     // After an add at a frame and channel.
-    fn behind(
-        geometry: Geometry,
-        frame: u64,
-        channel: u8,
-        marks: Marks,
-        last: Option<u64>,
-    ) -> Reach
+    fn behind(geometry: Geometry, frame: u64, channel: u8, marks: Marks, last: Option<u64>) -> Reach
         requires channel { channel < geometry.channels }
         requires frame { frame + 1 < 2 ^ 64 }
         requires cursor { marks.cursor ≡ behind geometry frame channel }

@@ -10,7 +10,6 @@ use Rattle.sum_table.specs.declared.view.View.{View}
 use Rattle.sum_table.specs.Extent.{Extent}
 use Rattle.sum_table.specs.Known.{IsKnown, greater}
 use Rattle.sum_table.specs.Seats.{entry_by}
-use Rattle.ring_rule.specs.Words.{index_of}
 use Rattle.sum_table.proofs.Spots.{spot_within}
 use Rattle.sum_table.proofs.Seated.{MayExchange, has_laid_as, has_lost, known_lost, known_won, lay_facts, lost_notes, may_exchange, may_lay, room_there, won_lays}
 use Rattle.sum_table.proofs.seats.mix.MixSeat.exchange.Goals as goal
@@ -33,8 +32,7 @@ pub compare_exchange_with-found-requires : goal.compare_exchange_with-found-requ
 compare_exchange_with-found-requires g c =
     let s : MixSeat = c.args.self.now in
     let z : ℤ = to_z w16 (of_z w16 c.args.sample) in
-    let may : MayExchange s c.args.kind c.args.frame c.args.channel c.args.old z = may_lay s c.args.kind c.args.frame c.args.channel c.args.old c.args.sample c.ranges.sample c.requires.may c.requires.noted c.requires.of_lap in
-    (
+    let may : MayExchange s c.args.kind c.args.frame c.args.channel c.args.old z = may_lay s c.args.kind c.args.frame c.args.channel c.args.old c.args.sample c.ranges.sample c.requires.may c.requires.noted c.requires.of_lap in (
       s.same_ring.0,
       spot_within s.key.geometry c.args.frame c.args.channel c.args.spot c.requires.spot (lay_facts s c.args.kind c.args.frame c.args.channel c.args.sample c.requires.may).channel s.same_ring.3,
       may_exchange s c.args.kind s.ring.now.table_id.slots c.args.spot.index c.args.frame c.args.channel c.args.old c.changed-new.result z may c.changed-new.ensures c.requires.spot.index_is,

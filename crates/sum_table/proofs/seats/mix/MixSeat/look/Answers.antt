@@ -1,4 +1,4 @@
-use Rattle.std.proofs.Common.{◌≡◌, subst, ap, ◌∙◌, refl}
+use Rattle.std.proofs.Common.{subst, ap, ◌∙◌, refl}
 use Rattle.atomic_table.specs.Table.{step}
 use mathlib.Core.Option.{none}
 use Rattle.sum_table.specs.declared.seats.mix.MixSeat.{MixSeat}
