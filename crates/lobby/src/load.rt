@@ -20,7 +20,8 @@ pub(crate) fn load(seat: &mut MixSeat<'_>) -> Position
 
 /// Loads the position beside the player, which publishes none meanwhile: it is the one that the player published last.
 pub(crate) fn load_beside(seat: &mut MixSeat<'_>, player: &mut PlayerSeat<'_>) -> Position
-    requires { OneRing (player_ring player.old) (player_key player.old) (ring_of seat.old) (key_of seat.old) }
+    requires { OneRing (player_ring player.old) (player_key player.old)
+        (ring_of seat.old) (key_of seat.old) }
     ensures load { HasLoadedBeside player.old seat.old player.new seat.new result }
     ensures published_last { result.frame ≡ position_of_player player.old }
     ensures player { PlayerStays player.old player.new }

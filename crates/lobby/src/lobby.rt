@@ -91,14 +91,18 @@ impl<'a> Lobby<'a> {
     ///
     /// The answers are those of `attach`; where no place is free, no note is given.
     pub fn attach_beside(&mut self, player: &mut PlayerSeat<'_>) -> Result<MixSeat<'a>, PcmError>
-        requires { OneRing (player_ring player.old) (player_key player.old) (ring_of_lobby self.old) (key_of_lobby self.old) }
+        requires { OneRing (player_ring player.old) (player_key player.old)
+            (ring_of_lobby self.old) (key_of_lobby self.old) }
         ensures none_free { lowest_free (free_seats self.old) ≡ None
-            → (result ≡ Err (PcmError.Busy None (seen_of_lobby self.old))) × (self.new ≡ self.old) × (player.new ≡ player.old) }
+            → (result ≡ Err (PcmError.Busy None (seen_of_lobby self.old)))
+            × (self.new ≡ self.old) × (player.new ≡ player.old) }
         ensures free { (place : ℕ) → lowest_free (free_seats self.old) ≡ Some place
-            → Attaches (λ p s t. HasLoadedBeside player.old s player.new t p) place self.old self.new result }
+            → Attaches (λ p s t. HasLoadedBeside player.old s player.new t p) place
+            self.old self.new result }
         ensures silent { IfOk result (IsSilentSeat self.old (seen_of_lobby self.new)) }
         ensures goes { GoesOn self.old self.new }
-        ensures published_last { IsSome (lowest_free (free_seats self.old)) → seen_of_lobby self.new ≡ position_of_player player.old }
+        ensures published_last { IsSome (lowest_free (free_seats self.old))
+            → seen_of_lobby self.new ≡ position_of_player player.old }
         ensures player { PlayerStays player.old player.new }
     {
         let Some(place) = lowest_free(self.seats.as_slice()) else {
@@ -122,7 +126,8 @@ impl<'a> Lobby<'a> {
     fn load_at(&mut self, place: usize) -> Position
         requires { lowest_free (free_seats self.old) ≡ Some place }
         ensures goes { GoesOn self.old self.new }
-        ensures loads { LoadsAt (λ s t. HasLoaded s t result) (free_seats self.old) place (free_seats self.new) }
+        ensures loads { LoadsAt (λ s t. HasLoaded s t result)
+            (free_seats self.old) place (free_seats self.new) }
         ensures lasts { KeepsLasts (free_seats self.old) (free_seats self.new) }
         ensures seen { seen_of_lobby self.new ≡ result.frame }
     {
@@ -137,9 +142,11 @@ impl<'a> Lobby<'a> {
     // The same beside the player.
     fn load_beside_at(&mut self, place: usize, player: &mut PlayerSeat<'_>) -> Position
         requires free { lowest_free (free_seats self.old) ≡ Some place }
-        requires one_ring { OneRing (player_ring player.old) (player_key player.old) (ring_of_lobby self.old) (key_of_lobby self.old) }
+        requires one_ring { OneRing (player_ring player.old) (player_key player.old)
+            (ring_of_lobby self.old) (key_of_lobby self.old) }
         ensures goes { GoesOn self.old self.new }
-        ensures loads { LoadsAt (λ s t. HasLoadedBeside player.old s player.new t result) (free_seats self.old) place (free_seats self.new) }
+        ensures loads { LoadsAt (λ s t. HasLoadedBeside player.old s player.new t result)
+            (free_seats self.old) place (free_seats self.new) }
         ensures lasts { KeepsLasts (free_seats self.old) (free_seats self.new) }
         ensures seen { seen_of_lobby self.new ≡ result.frame }
         ensures published_last { result.frame ≡ position_of_player player.old }
@@ -157,7 +164,8 @@ impl<'a> Lobby<'a> {
     fn hand_out(&mut self, position: u64) -> Result<MixSeat<'a>, PcmError>
         requires { IsSome (lowest_free (free_seats self.old)) }
         ensures goes { GoesOn self.old self.new }
-        ensures outcome { Outcome position (free_seats self.old) (free_seats self.old) result (free_seats self.new) }
+        ensures outcome { Outcome position (free_seats self.old) (free_seats self.old)
+            result (free_seats self.new) }
         ensures silent { IfOk result (IsSilentSeat self.old position) }
         ensures seen { seen_of_lobby self.new ≡ seen_of_lobby self.old }
     {
@@ -182,7 +190,8 @@ impl<'a> Lobby<'a> {
     /// one, or the first frame where nothing was laid by it. The caller shows that the lobby can take it back, and that it is
     /// of the lobby's ring.
     pub fn detach(&mut self, seat: MixSeat<'a>) -> u64
-        requires one_ring { OneRing (ring_of seat) (key_of seat) (ring_of_lobby self.old) (key_of_lobby self.old) }
+        requires one_ring { OneRing (ring_of seat) (key_of seat)
+            (ring_of_lobby self.old) (key_of_lobby self.old) }
         requires out { CanTakeBack self.old seat }
         ensures back { TakesBack self.old self.new seat.entry }
         ensures same_reaped { reaped_of self.new ≡ reaped_of self.old }
@@ -199,7 +208,8 @@ impl<'a> Lobby<'a> {
 
     /// Takes the seat of a client back that was stopped, as `detach` does, and counts it.
     pub fn reap(&mut self, seat: MixSeat<'a>) -> u64
-        requires one_ring { OneRing (ring_of seat) (key_of seat) (ring_of_lobby self.old) (key_of_lobby self.old) }
+        requires one_ring { OneRing (ring_of seat) (key_of seat)
+            (ring_of_lobby self.old) (key_of_lobby self.old) }
         requires out { CanTakeBack self.old seat }
         ensures back { TakesBack self.old self.new seat.entry }
         ensures counted { reaped_of self.new ≡ min (reaped_of self.old + 1) 4294967295 }
