@@ -1,7 +1,7 @@
 //! An index of the names of a group, so that a name is found without a look at all of them.
-ghost use Rattle.std.specs.Prelude.{◌≡◌, ℕ, ◌≤◌, ◌++◌, ◌∷◌, [], List, length, fold, false, drop, OnOk, IfOk};
+ghost use Rattle.std.specs.Prelude.{◌≡◌, ℕ, ◌≤◌, ◌++◌, ◌∷◌, [], List, length, false, drop, OnOk, IfOk};
 ghost use Rattle.asound_conf.specs.declared.conf.Node.{Node};
-ghost use Rattle.asound_conf.specs.Index.{IsBounded, IsIndex, bound_of, hash_of, mixed};
+ghost use Rattle.asound_conf.specs.Index.{IsBounded, IsIndex, hash_of};
 ghost use Rattle.asound_conf.specs.Tree.{has};
 ghost use Rattle.asound_conf.specs.View.{entries_of};
 

@@ -9,6 +9,7 @@ mod error;
 mod find;
 mod group;
 mod index;
+mod name;
 mod number;
 mod part;
 mod plugin;

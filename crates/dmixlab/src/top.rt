@@ -28,15 +28,14 @@ use std::thread::Threads;
 /// - `refine TEXT` reads in the file TEXT what is asked of the hardware parameters that a slave leaves
 ///   to its clients, and puts an answer for each line on `out`. It begins as `snd_pcm_hw_params_any`
 ///   does; a line narrows as `snd_pcm_hw_params_set_..` or shows as `snd_pcm_hw_params_get_..`.
-/// - `conf FILE NAME` reads in the file FILE the device `pcm.NAME` as `asound_conf` does, and puts on `out`
-///   the lines `type KIND`, `card channels C rate R period P ring N` and, where the device has bindings,
-///   `bindings` with its card channels. The card's line by itself is a script.
+/// - `conf FILE NAME` reads in the file FILE the device `pcm.NAME` as `asound_conf` does, and puts on
+///   `out` the lines `type KIND`, `card channels C rate R period P ring N` and, where the device has
+///   bindings, `bindings` with its card channels. The card's line by itself is a script.
 /// - `--help` and `--version`, each alone, put their text on `out`.
 ///
 /// A word for a file is 1 to 4,096 bytes of UTF-8 without a zero byte; NAME is 1 to 64 visible ASCII
-/// characters. The status is 0 where all
-/// was done, and then `errors` takes nothing. Otherwise one line on `errors` says why it is not, and
-/// a fault there changes nothing:
+/// characters. The status is 0 where all was done, and then `errors` takes nothing. Otherwise one line
+/// on `errors` says why it is not, and a fault there changes nothing:
 ///
 /// - 1: the words are none of these;
 /// - 2: the script has more than 1,048,576 bytes, or isn't a script as `short_script::read_script`
@@ -49,9 +48,9 @@ use std::thread::Threads;
 /// - 5: `OUT.wav` can't be stored, or the text can't be put;
 /// - 6: memory ran out.
 ///
-/// The first cause in the order of the work decides: the words, the script, TEXT or FILE, each client's file
-/// in the order of the clients' lines, `OUT.wav`, the text. Over a reliable shelf and a reliable `out`
-/// 4 comes only where a file isn't there, and 5 never.
+/// The first cause in the order of the work decides: the words, the script, TEXT or FILE, each
+/// client's file in the order of the clients' lines, `OUT.wav`, the text. Over a reliable shelf and a
+/// reliable `out` 4 comes only where a file isn't there, and 5 never.
 ///
 /// A client whose file the card can't play, by its rate or its number of channels, or whose bindings
 /// are not as many as its file has channels, is no cause of a status: its opening is answered EINVAL

@@ -1,4 +1,4 @@
-use Rattle.std.proofs.Common.{◌<◌, sym, ◌≡◌, ◌≤◌, ℕ, suc, ◌+◌, ◌-◌, ◌*◌, arith, rules, [], ◌∷◌, ◌++◌, ap, ◌∙◌, FitsSigned, length, length-append, length-drop, take, drop}
+use Rattle.std.proofs.Common.{◌<◌, sym, ◌≡◌, ◌≤◌, ℕ, suc, ◌+◌, ◌-◌, ◌*◌, arith, rules, [], ◌∷◌, ◌++◌, ap, ◌∙◌, FitsSigned, length, length-drop, take, drop}
 use Rattle.std.proofs.Math.ListN.{set, length-set}
 use Rattle.std.proofs.Math.Seq.{take-length, take-suc-set}
 use Rattle.std.proofs.lemmas.List.{append-nil}

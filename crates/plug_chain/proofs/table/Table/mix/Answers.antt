@@ -1,4 +1,4 @@
-use Rattle.std.proofs.Common.{◌≡◌, ◌<◌, ℕ, suc, ℤ, ap, sym, ◌∙◌, arith, rules, length, map, take, [], ◌∷◌, ◌++◌, ◌+◌, FitsSigned}
+use Rattle.std.proofs.Common.{◌≡◌, ◌<◌, ℕ, suc, ap, sym, ◌∙◌, arith, rules, length, map, take, [], ◌∷◌, ◌++◌, ◌+◌, FitsSigned}
 use Rattle.std.proofs.Math.ListN.{set, length-set}
 use Rattle.std.proofs.Math.Seq.{take-length, take-suc-set}
 use Rattle.std.proofs.lemmas.Int.{to_z-of_z}
