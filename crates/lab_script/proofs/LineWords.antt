@@ -48,7 +48,7 @@ words_between-skip : (line : List ℕ) → words_between (drop (position_or_len 
 words_between-skip [] = refl
 words_between-skip (b ∷ bs) = skip-cons b bs (is_blank b) refl (words_between-skip bs)
 
--- where nothing passes, the first place is behind the end
+-- where nothing passes, the first place is after the end
 position_end : (p : ℕ → Bool) (xs : List ℕ) → position p xs ≡ None → length xs ≤ position_or_len p xs
 position_end p xs e = grind (arith, nat_tests)
 

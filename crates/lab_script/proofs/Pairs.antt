@@ -1,4 +1,4 @@
--- Tests over a list of references, products of numbers of 32 bits, and what is refused behind a first word or line.
+-- Tests over a list of references, products of numbers of 32 bits, and what is refused after a first word or line.
 use Rattle.std.proofs.Common.{◌≡◌, ℕ, ◌*◌, ◌≤◌, Bool, ◌||◌, List, [], ◌∷◌, ◌++◌, map, refl, ap, sym, ◌∙◌, arith, Some, Result, Ok}
 use Rattle.std.specs.List.{list_any}
 use Rattle.std.proofs.Math.Nat.{mul-le-mul_left}
@@ -33,7 +33,7 @@ first-is {X = X} k more (x ∷ xs) e =
     let both : ◌≡◌ {A = X × List X} (k, more) (x, xs) = cc in
     sym (ap (λ p. p.0 ∷ p.1) both)
 
--- a key, the word behind it, and the rest are all words
+-- a key, the word after it, and the rest are all words
 pub pair-is : (k word : List ℕ) (ws mid more : List (List ℕ)) → Some (k, mid) ≡ first_and_rest ws → Some (word, more) ≡ first_and_rest mid → ws ≡ k ∷ word ∷ more
 pair-is k word ws mid more a b = first-is k mid ws a ∙ ap (λ m. k ∷ m) (first-is word more mid b)
 
@@ -47,14 +47,14 @@ pub refuses_line : {X Y : Type 0} (e : ScriptWhy) (n : ℕ) (r : Result X Script
 refuses_line why.Memory n r f h = tt
 refuses_line e n r f h = rw h refl
 
--- the word behind a key is refused
+-- the word after a key is refused
 pub keys_wrong : (line : Kind) (earlier : List (List ℕ)) (k word : List ℕ) (ws mid more : List (List ℕ)) (value : Takes) (e : ScriptWhy)
     → Some (k, mid) ≡ first_and_rest ws → Some (word, more) ≡ first_and_rest mid → Ok value ≡ key_of line earlier k → Refuses e (value_of value word)
     → Refuses e (keys_from line earlier ws)
 keys_wrong line earlier k word ws mid more value e a b c r =
     rw (pair-is k word ws mid more a b, ← c) (refuses_bind e (value_of value word) (λ u. keys_from line (earlier ++ k ∷ []) more) r)
 
--- a key and the word behind it more
+-- a key and the word after it more
 pub keys_next : (line : Kind) (earlier : List (List ℕ)) (k word : List ℕ) (ws mid more : List (List ℕ)) (value : Takes)
     → Some (k, mid) ≡ first_and_rest ws → Some (word, more) ≡ first_and_rest mid → Ok value ≡ key_of line earlier k → value_of value word ≡ Ok tt
     → keys_from line (earlier ++ k ∷ []) more ≡ keys_from line earlier ws

@@ -21,7 +21,7 @@ pub all_digits : (ds : List ℕ) → list_all is_ascii_digit ds ≡ all_ascii_di
 all_digits [] = refl
 all_digits (d ∷ ds) = ap (λ b. is_ascii_digit d && b) (all_digits ds)
 
--- what stands behind a place
+-- what follows a place
 pub take-drop : (i : ℕ) (xs : List ℕ) → take (length xs - i) (drop i xs) ≡ drop i xs
 take-drop i xs = take_all (length xs - i) (drop i xs) (omega (arith, length-drop i xs))
 

@@ -1,4 +1,4 @@
--- What follows from a value, and from a test, on a line that is read word by word: the value behind it, or why the line is refused.
+-- What follows from a value, and from a test, on a line that is read word by word: the value after it, or why the line is refused.
 use Rattle.std.specs.Prelude.{◌≡◌, ℕ, Bool, List, [], ◌∷◌, Option, Some, None, Result, Ok, Err, if◌then◌else◌}
 use Rattle.lab_script.specs.declared.error.ScriptWhy.{ScriptWhy}
 use Rattle.lab_script.specs.declared.error.ScriptWhy.TheVariants as why
@@ -18,12 +18,12 @@ abbrev pub some_or : {A : Type 0} → ScriptWhy → Option A → Result A Script
 some_or cause None = Err cause
 some_or cause (Some x) = Ok x
 
--- the first of some words and the rest, where a word must stand
+-- the first of some words and the rest, where a word must follow
 abbrev pub first_of : List (List ℕ) → Result (List ℕ × List (List ℕ)) ScriptWhy
 first_of [] = Err why.Missing
 first_of (word ∷ words) = Ok (word, words)
 
--- the end of a line, where no further word may stand
+-- the end of a line, where no further word may follow
 abbrev pub end_of : List (List ℕ) → Result (Unit {0}) ScriptWhy
 end_of [] = Ok tt
 end_of (word ∷ words) = Err why.Extra

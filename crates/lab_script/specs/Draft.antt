@@ -84,7 +84,7 @@ named s name = or_else (option_map Client (position (is_client name) s.clients))
 abbrev pub divides : ℕ → ℕ → Bool
 divides period ring = nat_lt 0 period && nat_le period (ring / 2) && ring % period == 0
 
--- the card of the words behind `card`, on the line of this number
+-- the card of the words after `card`, on the line of this number
 unfoldable pub card_of : ℕ → List (List ℕ) → Result CardLine ScriptWhy
 card_of number words = do
   keys ← keys_from kind.Card [] words
@@ -104,7 +104,7 @@ card_of number words = do
     share = share_given words;
   })
 
--- the client of the words behind `client`, on the line of this number
+-- the client of the words after `client`, on the line of this number
 unfoldable pub client_of : State → ℕ → List (List ℕ) → Result ClientLine ScriptWhy
 client_of s number words = do
   first ← first_of words
@@ -130,7 +130,7 @@ client_of s number words = do
     plug = is_some (given (codes "plug") second.1);
   })
 
--- the reader of the words behind `reader`, on the line of this number
+-- the reader of the words after `reader`, on the line of this number
 unfoldable pub reader_of : State → ℕ → List (List ℕ) → Result ReaderLine ScriptWhy
 reader_of s number words = do
   first ← first_of words
@@ -196,7 +196,7 @@ with_end s words = do
   end ← end_of words
   Ok (record s { body = s.body ++ item.Phase s.lines ∷ []; phase = None; lines = [] })
 
--- a line of a phase is not alone where the card is unplugged, behind these lines
+-- a line of a phase is not alone where the card is unplugged, after these lines
 abbrev pub is_beside : List Line → Op → Bool
 is_beside [] op = false
 is_beside (first ∷ lines) op = is_unplug first.op || is_unplug op
@@ -253,7 +253,7 @@ abbrev pub line_at : Option ℕ → State → ℕ → List ℕ → List (List �
 line_at None s number word words = outside s number word (row_of keywords word) words
 line_at (Some opened) s number word words = inside s number word (row_of keywords word) words
 
--- what a line behind the card's makes of what is read before it
+-- what a line after the card's makes of what is read before it
 abbrev pub with_words : State → ℕ → List (List ℕ) → Result State ScriptWhy
 with_words s number [] = Ok s
 with_words s number (word ∷ words) = line_at s.phase s number word words

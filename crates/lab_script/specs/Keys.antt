@@ -69,7 +69,7 @@ number_in least most word = do
   within ← refuse_if (not (nat_le n most)) why.Range
   Ok n
 
--- the numbers of the parts of a list of channels, behind those that are read
+-- the numbers of the parts of a list of channels, after those that are read
 abbrev pub numbers_from : List ℕ → List (List ℕ) → Result (List ℕ) ScriptWhy
 numbers_from before [] = Ok before
 numbers_from before (part ∷ parts) = (number_in 0 4294967295 part) >>= (λ n. numbers_from (before ++ n ∷ []) parts)
@@ -91,7 +91,7 @@ abbrev pub checked : {A : Type 0} → Result A ScriptWhy → Result (Unit {0}) S
 checked (Ok x) = Ok tt
 checked (Err e) = Err e
 
--- a word behind a key that takes this
+-- a word after a key that takes this
 abbrev pub value_of : Takes → List ℕ → Result (Unit {0}) ScriptWhy
 value_of (takes.Number least most) word = checked (number_in least most word)
 value_of (takes.NumberOrNever least most) word = if bytes_eq word (codes "never") then Ok tt else checked (number_in least most word)
@@ -100,21 +100,21 @@ value_of takes.Bindings word = checked (numbers_of word)
 value_of takes.Share word = if bytes_eq word (codes "dmix") then Ok tt else refuse_if (not (bytes_eq word (codes "dshare"))) why.Word
 value_of takes.Plug word = refuse_if (not (bytes_eq word (codes "linear"))) why.Word
 
--- a word that must be a key of this kind of line, behind the keys that stand earlier on it
+-- a word that must be a key of this kind of line, after the keys that are earlier on it
 unfoldable pub key_of : Kind → List (List ℕ) → List ℕ → Result Takes ScriptWhy
 key_of line earlier word = do
   value ← some_or why.Word (row_of (keys_of line) word)
   once ← refuse_if (list_any (bytes_eq word) earlier) why.KeyTwice
   Ok value
 
--- keys and what stands behind each, in any order, each once
+-- keys and what follows each, in any order, each once
 abbrev pub keys_from : Kind → List (List ℕ) → List (List ℕ) → Result (Unit {0}) ScriptWhy
 keys_from line earlier [] = Ok tt
 keys_from line earlier (key ∷ []) = (key_of line earlier key) >>= (λ value. Err why.Missing)
 keys_from line earlier (key ∷ word ∷ words) =
     (key_of line earlier key) >>= (λ value. (value_of value word) >>= (λ u. keys_from line (earlier ++ key ∷ []) words))
 
--- the word behind a key, where the key is given
+-- the word after a key, where the key is given
 abbrev pub given : List ℕ → List (List ℕ) → Option (List ℕ)
 given key [] = None
 given key (k ∷ []) = None
@@ -124,7 +124,7 @@ given key (k ∷ word ∷ words) = if bytes_eq k key then Some word else given k
 abbrev pub number_or_zero : List ℕ → ℕ
 number_or_zero word = option_map_or (λ n. n) (number_of word) 0
 
--- the number behind a key, or another one where it isn't given
+-- the number after a key, or another one where it isn't given
 abbrev pub number_given : List ℕ → ℕ → List (List ℕ) → ℕ
 number_given key otherwise words = option_map_or number_or_zero (given key words) otherwise
 
@@ -132,19 +132,19 @@ number_given key otherwise words = option_map_or number_or_zero (given key words
 abbrev pub limited : ℕ → ℕ → ℕ
 limited most n = if nat_le n most then n else 0
 
--- the number behind a key, where it is given
+-- the number after a key, where it is given
 abbrev pub small_where : List ℕ → List (List ℕ) → Option ℕ
 small_where key words = option_map (λ word. limited 4294967295 (number_or_zero word)) (given key words)
 
--- the number behind a key, or another one where it isn't given
+-- the number after a key, or another one where it isn't given
 abbrev pub small_given : List ℕ → ℕ → List (List ℕ) → ℕ
 small_given key otherwise words = limited 4294967295 (number_given key otherwise words)
 
--- the number behind a key, or another one where it isn't given
+-- the number after a key, or another one where it isn't given
 abbrev pub byte_given : List ℕ → ℕ → List (List ℕ) → ℕ
 byte_given key otherwise words = limited 255 (number_given key otherwise words)
 
--- the word behind `stop`
+-- the word after `stop`
 abbrev pub stop_of : List ℕ → Stop
 stop_of word = if bytes_eq word (codes "never") then stop.Never else stop.At (number_or_zero word)
 
@@ -152,7 +152,7 @@ stop_of word = if bytes_eq word (codes "never") then stop.Never else stop.At (nu
 abbrev pub stop_given : List (List ℕ) → Option Stop
 stop_given words = option_map stop_of (given (codes "stop") words)
 
--- the word behind `share`
+-- the word after `share`
 abbrev pub share_of : List ℕ → Share
 share_of word = if bytes_eq word (codes "dshare") then share.Dshare else share.Dmix
 

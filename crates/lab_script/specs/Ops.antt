@@ -62,7 +62,7 @@ with_count (op.Rewind m) n = op.Rewind n
 with_count (op.Die m) n = op.Die n
 with_count other n = other
 
--- the op of a form and the words behind the op's own word
+-- the op of a form and the words after the op's own word
 abbrev pub op_with : Form → List (List ℕ) → Result Op ScriptWhy
 op_with (Plain o) words = (end_of words) >>= (λ u. Ok o)
 op_with (Counted o most) words = do
@@ -71,7 +71,7 @@ op_with (Counted o most) words = do
   end ← end_of number.1
   Ok (with_count o n)
 
--- what the words behind an actor ask for
+-- what the words after an actor ask for
 unfoldable pub op_of : Actor → List (List ℕ) → Result Op ScriptWhy
 op_of actor words = do
   word ← first_of words
@@ -87,7 +87,7 @@ played_by other = 0
 abbrev pub counted : List ℕ → ℕ → List ℕ
 counted word n = word ++ 32 ∷ decimal n
 
--- the words of an op, as they stand in a script
+-- the words of an op, as a script has them
 abbrev pub op_text : Op → List ℕ
 op_text (op.Play n) = counted (codes "play") n
 op_text op.Unplug = codes "unplug"

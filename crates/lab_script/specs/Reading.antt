@@ -31,7 +31,7 @@ abbrev pub card_line : ℕ → List (List ℕ) → Result CardLine ScriptWhy
 card_line number [] = Err why.NoCard
 card_line number (word ∷ words) = first_by number (row_of keywords word) words
 
--- the lines behind the card's, one after the other
+-- the lines after the card's, one after the other
 abbrev pub after : State → List (ℕ × List (List ℕ)) → Result State ScriptError
 after s [] = Ok s
 after s (line ∷ lines) = on_line line.0 (with_words s line.0 line.1) (λ next. after next lines)

@@ -40,7 +40,7 @@ abbrev pub phase_at : Script → ℕ → List Line
 phase_at script phase = slice_index_or (phases_of script.body) (phase - 1) []
 
 -- a position that the card publishes in the phase of this number, or has before it: where the phase begins, a multiple of the
--- period on the way, or behind one of its lines
+-- period on the way, or after one of its lines
 abbrev pub IsPublished : Script → ℕ → ℕ → Type 0
 IsPublished script phase position =
     (position ≡ position_after script (phase - 1))

@@ -17,7 +17,7 @@ is_space b = b == 32
 abbrev pub is_comma : ℕ → Bool
 is_comma b = b == 44
 
--- the parts of a word: what stands between its commas
+-- the parts of a word: what is between its commas
 abbrev pub parts_of : List ℕ → List (List ℕ)
 parts_of word = slice_split is_comma word
 

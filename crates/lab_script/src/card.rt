@@ -17,7 +17,7 @@ fn divides(period: u64, ring: u32) -> bool
     0 < period && period <= u64::from(ring / 2) && u64::from(ring) % period == 0
 }
 
-/// The card of what stands behind `card`, on the line of this number.
+/// The card of what follows `card`, on the line of this number.
 #[tactic(auto, unfolding(crate::specs::Draft::card_of))]
 pub fn read_card(alloc: Global, number: u32, words: &[u8]) -> Result<CardLine, ScriptWhy>
     ensures { Gives (λ c. c) result (card_of number (words_between words.now)) }

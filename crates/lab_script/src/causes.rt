@@ -13,7 +13,7 @@ pub fn refuse_if(test: bool, cause: ScriptWhy) -> Result<(), ScriptWhy>
     if test { Err(cause) } else { Ok(()) }
 }
 
-/// The first word of a line, which must be there, and what stands behind it.
+/// The first word of a line, which must be there, and what follows it.
 pub fn first_of(words: &[u8]) -> Result<(&[u8], &[u8]), ScriptWhy>
     ensures { Gives (λ w. (w.0.now, words_between w.1.now)) result (first_of (words_between words.now)) }
 {

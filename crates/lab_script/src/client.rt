@@ -13,7 +13,7 @@ use crate::script::{ClientLine, ReaderLine};
 use crate::values::{bindings_where, number_given, read_file, read_name, small_where, stop_given};
 use std::alloc::Global;
 
-/// The client of what stands behind `client`, on the line of this number.
+/// The client of what follows `client`, on the line of this number.
 #[tactic(auto, unfolding(crate::specs::Draft::client_of))]
 pub fn read_client(
     alloc: Global,
@@ -53,7 +53,7 @@ pub fn read_client(
     })
 }
 
-/// The reader of what stands behind `reader`, on the line of this number.
+/// The reader of what follows `reader`, on the line of this number.
 #[tactic(auto, unfolding(crate::specs::Draft::reader_of))]
 pub fn read_reader(
     alloc: Global,

@@ -7,13 +7,13 @@ pub enum ScriptWhy {
     /// A line begins with a word of the language that can't begin a line here.
     #[error("Order")]
     Order,
-    /// A word isn't one of those that can stand here.
+    /// A word isn't one of those allowed here.
     #[error("Word")]
     Word,
-    /// The line ends where a word must stand.
+    /// The line ends where a word must follow.
     #[error("Missing")]
     Missing,
-    /// A word stands behind a line that is whole.
+    /// A word follows a line that is whole.
     #[error("Extra")]
     Extra,
     /// A declared name isn't of the form of a name.
@@ -28,7 +28,7 @@ pub enum ScriptWhy {
     /// A number is out of its range.
     #[error("Range")]
     Range,
-    /// A key stands a second time on its line.
+    /// A key is given a second time on its line.
     #[error("KeyTwice")]
     KeyTwice,
     /// A name is declared a second time.

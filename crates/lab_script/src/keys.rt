@@ -12,7 +12,7 @@ use crate::lexing::next_word;
 use crate::values::check_value;
 use std::alloc::Global;
 
-/// What stands behind a key: a number in a range, or `never` in its place; a file's name; the numbers
+/// What follows a key: a number in a range, or `never` in its place; a file's name; the numbers
 /// of channels, joined by commas; `dmix` or `dshare`; or `linear`.
 #[derive(Clone, Copy)]
 pub enum Takes {
@@ -113,14 +113,14 @@ fn value_taken(kind: Kind, key: &[u8]) -> Option<Takes>
     }
 }
 
-/// Whether a key stands earlier on a line.
-fn stands_in(earlier: &[&[u8]], key: &[u8]) -> bool
+/// Whether a key is earlier on a line.
+fn is_in(earlier: &[&[u8]], key: &[u8]) -> bool
     ensures { result ≡ list_any (λ k. bytes_eq key.now k.now) earlier.now }
 {
     earlier.iter().any(|k| key == *k)
 }
 
-/// A word that must be a key that doesn't stand earlier on its line.
+/// A word that must be a key that isn't earlier on its line.
 #[tactic(auto, using(crate::proofs::Pairs::list_any_map), unfolding(crate::specs::Keys::key_of))]
 fn read_key(kind: Kind, earlier: &[&[u8]], key: &[u8]) -> Result<Takes, ScriptWhy>
     ensures { result ≡ key_of kind (map (λ k. k.now) earlier.now) key.now }
@@ -128,13 +128,13 @@ fn read_key(kind: Kind, earlier: &[&[u8]], key: &[u8]) -> Result<Takes, ScriptWh
     match value_taken(kind, key) {
         None => Err(ScriptWhy::Word),
         Some(takes) => {
-            refuse_if(stands_in(earlier, key), ScriptWhy::KeyTwice)?;
+            refuse_if(is_in(earlier, key), ScriptWhy::KeyTwice)?;
             Ok(takes)
         }
     }
 }
 
-/// Keys and what stands behind each, up to a line's end.
+/// Keys and what follows each, up to a line's end.
 pub fn check_keys(alloc: Global, kind: Kind, words: &[u8]) -> Result<(), ScriptWhy>
     ensures { Gives (λ u. u) result (keys_from kind [] (words_between words.now)) }
 {
@@ -152,7 +152,7 @@ pub fn check_keys(alloc: Global, kind: Kind, words: &[u8]) -> Result<(), ScriptW
     Ok(())
 }
 
-/// The word behind a key, where the key is given.
+/// The word after a key, where the key is given.
 pub fn given<'a>(key: &[u8], words: &'a [u8]) -> Option<&'a [u8]>
     ensures { option_map (λ w. w.now) result ≡ given key.now (words_between words.now) }
 {

@@ -45,7 +45,7 @@ pub enum Op {
     Rewind(u32),
     /// `snd_pcm_rewindable`.
     Rewindable,
-    /// The client or reader dies at the step behind the next so many.
+    /// The client or reader dies at the step after the next so many.
     Die(u32),
     /// The opening of a client or reader, as by `snd_pcm_open` and `snd_pcm_hw_params`.
     Opens,
@@ -77,7 +77,7 @@ impl Model for Phase {
 }
 
 impl Phase {
-    /// The phase of these lines, which are taken as they stand.
+    /// The phase of these lines, which are taken as they are.
     pub fn from_vec(lines: Vec<Line>) -> Phase
         ensures { result ≡ lines.items }
     {

@@ -12,7 +12,7 @@ use crate::values::number_in;
 use snd_base::PcmError;
 use std::alloc::AllocError;
 
-/// What stands behind an op's word: nothing, or a number up to some limit, which takes the place of
+/// What follows an op's word: nothing, or a number up to some limit, which takes the place of
 /// the op's own.
 #[derive(Clone, Copy)]
 pub enum Form {
@@ -121,7 +121,7 @@ fn with_count(op: Op, n: u32) -> Op
     }
 }
 
-/// The op of a form and what stands behind the op's own word.
+/// The op of a form and what follows the op's own word.
 fn op_with(form: Form, words: &[u8]) -> Result<Op, ScriptWhy>
     ensures { Gives (λ o. o) result (op_with form (words_between words.now)) }
 {
@@ -139,7 +139,7 @@ fn op_with(form: Form, words: &[u8]) -> Result<Op, ScriptWhy>
     }
 }
 
-/// What is asked for behind an actor.
+/// What is asked for after an actor.
 #[tactic(auto, unfolding(crate::specs::Ops::op_of))]
 pub fn op_of(actor: Actor, words: &[u8]) -> Result<Op, ScriptWhy>
     ensures { Gives (λ o. o) result (op_of actor (words_between words.now)) }
@@ -161,7 +161,7 @@ pub fn played_by(op: Op) -> u32
     }
 }
 
-/// Appends the words of an op to a text, as they stand in a script.
+/// Appends the words of an op to a text, as a script has them.
 ///
 /// The one error is that memory ran out.
 pub fn push_op(op: Op, text: &mut String) -> Result<(), AllocError>
@@ -189,7 +189,7 @@ pub fn push_op(op: Op, text: &mut String) -> Result<(), AllocError>
     }
 }
 
-/// Appends the words of an op to the bytes of a text, as they stand in a script.
+/// Appends the words of an op to the bytes of a text, as a script has them.
 ///
 /// # Errors
 ///

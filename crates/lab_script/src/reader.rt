@@ -29,7 +29,7 @@ fn card_line(alloc: Global, number: u32, words: &[u8]) -> Result<CardLine, Scrip
     }
 }
 
-/// What is read of a script behind the card's line.
+/// What is read of a script after the card's line.
 fn begin(alloc: Global, card: CardLine) -> Draft
     ensures { view result ≡ begun card }
 {
@@ -46,7 +46,7 @@ fn begin(alloc: Global, card: CardLine) -> Draft
     }
 }
 
-/// The lines behind the card's, of which the first has this number.
+/// The lines after the card's, of which the first has this number.
 fn read_lines(alloc: Global, card: CardLine, number: u32, text: &[u8]) -> Result<Draft, ScriptError>
     requires { number + length text.now < 2 ^ 32 }
     ensures { Answers view result (after (begun card) (lines_from number text.now)) }
@@ -114,7 +114,7 @@ fn read_whole(alloc: Global, text: &[u8]) -> Result<Script, ScriptError>
 /// Reads a script.
 ///
 /// A script is a text of at most 1,048,576 bytes. Lines end with a line feed, which the last may lack;
-/// one carriage return at a line's very end is dropped, and then `#` and all behind it. Words are
+/// one carriage return at a line's very end is dropped, and then `#` and all after it. Words are
 /// separated by spaces and tabs. Lines without words count, and say nothing. A number is 1 to 19
 /// decimal digits. A name is 1 to 32 bytes, a lower-case letter and then lower-case letters, digits or
 /// `_`, and none of the words `card`, `client`, `reader`, `open`, `close`, `phase` and `end`. A file is
@@ -134,18 +134,18 @@ fn read_whole(alloc: Global, text: &[u8]) -> Result<Script, ScriptError>
 ///   `resume`, `drain` and `delay`; a reader has `read N`; both have `start`, `sync`, `avail`, `drop`,
 ///   `prepare`, `pause` and `die K`. N is 0 to 4194304 frames, K 0 to 1000000.
 ///
-/// Keys stand in any order, each at most once, each with one word behind it. The card plays at most
+/// Keys are in any order, each at most once, each with one word after it. The card plays at most
 /// 4194304 frames in all.
 ///
 /// # Errors
 ///
-/// The first word that can't stand where it stands, or the first line that can't, with the number of
+/// The first word that isn't allowed where it is, or the first line that isn't, with the number of
 /// its line from 1 on:
 ///
 /// - `Order`: a line begins with a word of the language, or a declared name, that can't begin a line
-///   here; `Word`: a word isn't one of those that can stand here; `Missing`: the line ends where a word
-///   must stand; `Extra`: a word stands behind a line that is whole; `Name`, `File`, `Number`: a word
-///   isn't of this form; `Range`: a number is out of its range; `KeyTwice`: a key stands a second time;
+///   here; `Word`: a word isn't one of those allowed here; `Missing`: the line ends where a word
+///   must follow; `Extra`: a word follows a line that is whole; `Name`, `File`, `Number`: a word
+///   isn't of this form; `Range`: a number is out of its range; `KeyTwice`: a key is given a second time;
 /// - for a line whose words are all in order, in this order: `NameTwice`; `TooMany` clients, readers or
 ///   phases; `Fit`: the period doesn't divide the ring at least twice, or the lead isn't below the ring;
 ///   the causes of `Bindings::read`; `Alone`: a phase has `card unplug` and another line, at the later

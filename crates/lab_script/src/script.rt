@@ -42,7 +42,7 @@ pub struct CardLine {
 /// A client: the number of its line, its name, the WAV file that it plays, and to which channels of
 /// the card the file's channels go (the `bindings` of a `pcm_dmix` definition), where that is given.
 /// Its buffer and period in frames are chosen by the configuration where they aren't given; `stop` is
-/// then the buffer size. `lead` is how many frames before the card's position a start is laid. With
+/// then the buffer size. `lead` is how many frames before the card's position a start is placed. With
 /// `plug` the file may have another rate or format than the card (`pcm_plug`).
 #[derive(Debug, Drop)]
 pub struct ClientLine {
@@ -87,7 +87,7 @@ impl Model for Clients {
 }
 
 impl Clients {
-    /// The clients of a list, which are taken as they stand.
+    /// The clients of a list, which are taken as they are.
     pub fn from_vec(clients: Vec<ClientLine>) -> Clients
         ensures { result ≡ clients.items }
     {
@@ -132,7 +132,7 @@ impl Model for Readers {
 }
 
 impl Readers {
-    /// The readers of a list, which are taken as they stand.
+    /// The readers of a list, which are taken as they are.
     pub fn from_vec(readers: Vec<ReaderLine>) -> Readers
         ensures { result ≡ readers.items }
     {
@@ -177,7 +177,7 @@ impl Model for Body {
 }
 
 impl Body {
-    /// The items of a list, which are taken as they stand.
+    /// The items of a list, which are taken as they are.
     pub fn from_vec(items: Vec<Item>) -> Body
         ensures { result ≡ items.items }
     {

@@ -127,7 +127,7 @@ fn is_beside(before: &[Line], op: Op) -> bool
     }
 }
 
-/// Whether the card's last lap has no room for a ring behind so many frames.
+/// Whether the card's last lap has no room for a ring after so many frames.
 fn ends_lap(card: &CardLine, played: u64) -> bool
     requires { played ≤ 4194304 }
     ensures { result ≡ ends_lap card.now played }
@@ -203,7 +203,7 @@ fn inside(
     }
 }
 
-/// A line behind the card's.
+/// A line after the card's.
 pub fn add_words(
     alloc: Global,
     draft: &mut Draft,

@@ -1,4 +1,4 @@
-//! What stands behind keys.
+//! What follows keys.
 ghost use Rattle.std.specs.Prelude.{◌≡◌, ◌≤◌, ◌<◌, [], IfOk, IsAscii, length, option_map, string_bytes};
 ghost use Rattle.std.specs.Option.{option_map_or};
 ghost use Rattle.lab_script.specs.Causes.{Gives};
@@ -87,7 +87,7 @@ fn check_number_or_never(least: u64, most: u64, word: &[u8]) -> Result<(), Scrip
     Ok(())
 }
 
-/// Whether a word can stand behind a key that takes this.
+/// Whether a word can follow a key that takes this.
 pub fn check_value(alloc: Global, takes: Takes, word: &[u8]) -> Result<(), ScriptWhy>
     ensures { Gives (λ u. u) result (value_of takes word.now) }
 {
@@ -122,7 +122,7 @@ fn number_or_zero(word: &[u8]) -> u64
     }
 }
 
-/// The number behind a key, or another one where it isn't given.
+/// The number after a key, or another one where it isn't given.
 pub fn number_given(key: &[u8], otherwise: u64, words: &[u8]) -> u64
     ensures { result ≡ number_given key.now otherwise (words_between words.now) }
 {
@@ -146,7 +146,7 @@ fn in_8_bits(n: u64) -> u8
     if n <= 255 { n as u8 } else { 0 }
 }
 
-/// The number behind a key, where it is given.
+/// The number after a key, where it is given.
 pub fn small_where(key: &[u8], words: &[u8]) -> Option<u32>
     ensures { result ≡ small_where key.now (words_between words.now) }
 {
@@ -154,21 +154,21 @@ pub fn small_where(key: &[u8], words: &[u8]) -> Option<u32>
     Some(in_32_bits(number_or_zero(word)))
 }
 
-/// The number behind a key, or another one where it isn't given.
+/// The number after a key, or another one where it isn't given.
 pub fn small_given(key: &[u8], otherwise: u32, words: &[u8]) -> u32
     ensures { result ≡ small_given key.now otherwise (words_between words.now) }
 {
     in_32_bits(number_given(key, u64::from(otherwise), words))
 }
 
-/// The number behind a key, or another one where it isn't given.
+/// The number after a key, or another one where it isn't given.
 pub fn byte_given(key: &[u8], otherwise: u8, words: &[u8]) -> u8
     ensures { result ≡ byte_given key.now otherwise (words_between words.now) }
 {
     in_8_bits(number_given(key, u64::from(otherwise), words))
 }
 
-/// The word behind `stop`.
+/// The word after `stop`.
 fn stop_of(word: &[u8]) -> Stop
     ensures { result ≡ stop_of word.now }
 {

@@ -5,14 +5,14 @@ ghost use Rattle.std.specs.Str.{all_ascii_digits};
 ghost use Rattle.std.specs.Str.Parse.{digits_value};
 ghost use Rattle.lab_script.specs.Word.{parts_of, number_of, is_name, is_name_byte, is_file, is_file_byte, begins_lower, is_reserved};
 
-/// Where a byte stands first.
+/// Where a byte is first.
 fn place_of(bytes: &[u8], byte: u8) -> Option<usize>
     ensures { result ≡ position (λ b. b == byte) bytes.now }
 {
     bytes.iter().position(|b| *b == byte)
 }
 
-/// The first part of a list and what stands behind its comma, where there is a comma.
+/// The first part of a list and what follows its comma, where there is a comma.
 pub fn split_part(list: &[u8]) -> Option<(&[u8], &[u8])>
     ensures some { IfSome result (λ c. parts_of list.now ≡ c.0.now ∷ parts_of c.1.now) }
     ensures none { IfNone result (parts_of list.now ≡ list.now ∷ []) }
@@ -62,7 +62,7 @@ fn is_name_byte(b: u8) -> bool
     b.is_ascii_lowercase() || b.is_ascii_digit() || b == b'_'
 }
 
-/// Whether each byte of a word can stand in a name.
+/// Whether each byte of a word can be in a name.
 fn are_name_bytes(word: &[u8]) -> bool
     ensures { result ≡ list_all is_name_byte word.now }
 {
@@ -106,7 +106,7 @@ fn is_file_byte(b: u8) -> bool
     33 <= b && b <= 126 && b != b'#'
 }
 
-/// Whether each byte of a word can stand in a file's name.
+/// Whether each byte of a word can be in a file's name.
 fn are_file_bytes(word: &[u8]) -> bool
     ensures { result ≡ list_all is_file_byte word.now }
 {
