@@ -1,5 +1,5 @@
 -- Splits and joins keep the rule, and what the rule tells a seat of its view.
-use Rattle.std.proofs.Common.{◌≡◌, ◌≢◌, ◌⊎◌, ℕ, ◌+◌, ◌≤◌, ◌||◌, Bool, true, false, Option, None, Some, List, [], ◌∷◌, ◌++◌, length, get_or, set, inl, inr, arith, subst, sym, refl, ap, ◌∙◌}
+use Rattle.std.proofs.Common.{◌≡◌, ◌≢◌, ◌⊎◌, ℕ, ◌+◌, ◌||◌, Bool, true, false, Option, None, Some, List, [], ◌∷◌, ◌++◌, get_or, set, inl, inr, arith, subst, sym, refl, ap, ◌∙◌}
 use mathlib.Core.Option.{none, some, some-ne-none}
 use lib.ListN.{get_elem?}
 use Rattle.std.proofs.lemmas.Bool.{false≢true}
@@ -11,11 +11,10 @@ use Rattle.ring_rule.specs.Lists.{at_append, at_more}
 use Rattle.ring_rule.specs.NoteLaws.{later_notes-one, no_note}
 use Rattle.ring_rule.specs.WordLaws.{NotPast-upper}
 use Rattle.ring_rule.specs.Words.{NotPast, index_of}
-use Rattle.snoop_core.specs.declared.port.Frame.{Frame}
 use Rattle.snoop_core.specs.Word.{HoldsSample-fields, laps_of}
 use Rattle.snoop_table.specs.declared.view.Track.{Track}
 use Rattle.snoop_table.specs.declared.view.View.{View}
-use Rattle.snoop_table.specs.Captured.{AreViews, Holds, IsRing, IsView, word_in}
+use Rattle.snoop_table.specs.Captured.{Holds, IsView, word_in}
 use Rattle.snoop_table.specs.Cuts.{both_of, either_track, part_of, spent_view}
 use Rattle.snoop_table.specs.Steps.{Knows, learned}
 use Rattle.snoop_table.proofs.Keeps.{IsSo, idle, loaded}

@@ -1,5 +1,5 @@
 -- What seats know after splits, joins and notes, and what these tell.
-use Rattle.std.proofs.Common.{◌≡◌, ◌⊎◌, ℕ, ◌+◌, ◌<◌, ◌≤◌, ◌||◌, Bool, true, false, Option, None, Some, List, ◌++◌, length, get_or, max, inl, inr, arith, subst, sym, refl, ap, ◌∙◌}
+use Rattle.std.proofs.Common.{◌≡◌, ℕ, ◌≤◌, ◌||◌, Bool, true, false, Option, None, Some, ◌++◌, max, inl, inr, arith, subst, sym, refl, ap, ◌∙◌}
 use mathlib.Core.Option.{none, some}
 use lib.ListN.{get_elem?}
 use Rattle.std.proofs.lemmas.Bool.{false≢true}
@@ -7,14 +7,11 @@ use Rattle.atomic_table.specs.Table.{Allows, Me, step}
 use Rattle.atomic_table.proofs.Lists.{at_longer}
 use Rattle.snd_base.specs.declared.geometry.Geometry.{Geometry}
 use Rattle.snd_base.specs.declared.places.Cursor.{Cursor}
-use Rattle.snd_base.specs.Places.{lap}
 use Rattle.ring_rule.specs.Lists.{at_second}
 use Rattle.ring_rule.specs.NoteLaws.{later_notes-keeps, later_notes-length}
 use Rattle.ring_rule.specs.PositionLaws.{has_all-more, has_each}
-use Rattle.ring_rule.specs.Positions.{IsPosition, has_all}
+use Rattle.ring_rule.specs.Positions.{has_all}
 use Rattle.ring_rule.specs.Words.{index_of, rank}
-use Rattle.snoop_core.specs.declared.port.Frame.{Frame}
-use Rattle.snoop_core.specs.Stored.{IsLast}
 use Rattle.snoop_core.specs.Word.{laps_of}
 use Rattle.snoop_table.specs.declared.seats.desk.Desk.{Desk}
 use Rattle.snoop_table.specs.declared.seats.reader.ReaderSeat.{ReaderSeat}

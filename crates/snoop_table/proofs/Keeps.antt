@@ -1,14 +1,13 @@
 -- Loads keep the rule, and tell what they tell.
-use Rattle.std.proofs.Common.{◌≡◌, ◌≢◌, ◌⊎◌, ℕ, zero, suc, ◌+◌, ◌*◌, ◌<◌, ◌≤◌, ◌==◌, Bool, true, false, Some, List, [], ◌∷◌, ◌++◌, length, get_or, set, cond, ℤ, pos, inl, inr, arith, subst, sym, refl, ap, ◌∙◌}
+use Rattle.std.proofs.Common.{◌≡◌, ◌⊎◌, ℕ, zero, suc, ◌+◌, ◌*◌, ◌<◌, ◌≤◌, ◌==◌, Bool, true, false, Some, List, [], ◌∷◌, ◌++◌, length, get_or, set, cond, ℤ, pos, inl, inr, arith, subst, sym, refl, ap, ◌∙◌}
 use mathlib.Core.Option.{Option, none, some}
 use lib.ListN.{get_elem?}
 use Rattle.std.proofs.lemmas.Bool.Decides.{nat_tests}
 use Rattle.std.proofs.lemmas.List.{get_or_append_left, get_or_at, length-append}
-use Rattle.atomic_table.specs.Table.{Act, Allows, Me, State, Valid, carried_after, keeps, step, stepped}
+use Rattle.atomic_table.specs.Table.{Act, Allows, Me, Valid, carried_after, keeps, step, stepped}
 use Rattle.atomic_table.proofs.Lists.{at_set, at_snoc}
 use Rattle.snd_base.specs.declared.geometry.Geometry.{Geometry}
-use Rattle.snd_base.specs.declared.places.Cursor.{Cursor}
-use Rattle.snd_base.specs.Places.{first_frame, first_free, lap, slot}
+use Rattle.snd_base.specs.Places.{first_frame, first_free, lap}
 use Rattle.ring_rule.specs.NoteLaws.{noted_set}
 use Rattle.ring_rule.specs.PositionLaws.{IsPosition-last}
 use Rattle.ring_rule.specs.Positions.{IsPosition}
@@ -16,7 +15,7 @@ use Rattle.ring_rule.specs.WordLaws.{cases_eq, set_read}
 use Rattle.ring_rule.specs.Words.{NotPast, index_of}
 use Rattle.snoop_core.specs.declared.port.Frame.{Frame}
 use Rattle.snoop_core.specs.Port.{frame_of}
-use Rattle.snoop_core.specs.Stored.{IsCaptured, next_at, sample_at}
+use Rattle.snoop_core.specs.Stored.{IsCaptured, next_at}
 use Rattle.snoop_core.specs.StoredLaws.{BySlots, HaveLaps-holding, IsByLaps, IsCaptured-more, by_laps, first_free-more, own_sample, sample_at-more}
 use Rattle.snoop_core.specs.Word.{laps_of, sample_of}
 use Rattle.snoop_table.specs.declared.view.Track.{Track}

@@ -1,5 +1,5 @@
 -- A new ring meets the rule.
-use Rattle.std.proofs.Common.{◌≡◌, ℕ, zero, suc, ◌+◌, ◌*◌, ◌<◌, ◌≤◌, false, None, Some, List, [], ◌∷◌, length, get_or, set, pos, arith, subst, sym, refl, ap, ◌∙◌}
+use Rattle.std.proofs.Common.{◌≡◌, ℕ, zero, suc, ◌≤◌, false, List, [], ◌∷◌, length, get_or, set, pos, arith, subst, sym, refl, ap, ◌∙◌}
 use mathlib.Core.Option.{some, some-injective, some-ne-none}
 use lib.ListN.{get_elem?}
 use Rattle.std.proofs.Math.ListN.{replicate}
@@ -14,7 +14,7 @@ use Rattle.lap_word.specs.Position.{word_of}
 use Rattle.ring_rule.specs.NoteLaws.{no_note, none_there}
 use Rattle.ring_rule.specs.WordLaws.{index_of-lt}
 use Rattle.ring_rule.specs.Words.{index_of, words_of}
-use Rattle.snoop_core.specs.Stored.{HoldLast, IsLast, IsUnused}
+use Rattle.snoop_core.specs.Stored.{HoldLast, IsLast}
 use Rattle.snoop_core.specs.Word.{HoldsSample}
 use Rattle.snoop_table.specs.declared.view.View.{View}
 use Rattle.snoop_table.specs.Captured.{Holds, IsRing, IsView, first_track, first_view, next_of, word_in}

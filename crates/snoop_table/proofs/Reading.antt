@@ -1,23 +1,22 @@
 -- What a reader's steps may do and do, said of the fields of its seat.
-use Rattle.std.proofs.Common.{◌≡◌, ◌≢◌, ◌⊎◌, ℕ, zero, suc, ◌+◌, ◌*◌, ◌<◌, ◌≤◌, ◌==◌, Bool, true, false, Some, None, List, [], ◌∷◌, ◌++◌, length, get_or, set, take, cond, ℤ, pos, inl, inr, arith, subst, sym, refl, ap, ◌∙◌}
+use Rattle.std.proofs.Common.{◌≡◌, ℕ, ◌+◌, ◌<◌, ◌≤◌, Some, None, length, get_or, set, inl, inr, arith, subst, sym, refl, ap, ◌∙◌}
 use mathlib.Core.Option.{none}
-use Rattle.std.proofs.lemmas.Bool.Decides.{nat_tests}
-use Rattle.std.proofs.lemmas.List.{append-nil, get_or-set_same, length-set}
+use Rattle.std.proofs.lemmas.List.{get_or-set_same, length-set}
 use Rattle.atomic_table.specs.Table.{Allows, Me, step}
 use Rattle.snd_base.specs.declared.geometry.Geometry.{Geometry}
-use Rattle.snd_base.specs.Places.{IsWithin, end_frame, first_frame, lap}
-use Rattle.lap_word.specs.Position.{gone_in, position_in, word_of, word_of-fields}
+use Rattle.snd_base.specs.Places.{end_frame, lap}
+use Rattle.lap_word.specs.Position.{gone_in, position_in, word_of-fields}
 use Rattle.mix_core.specs.declared.port.Position.{Position}
 use Rattle.ring_rule.specs.NoteLaws.{NeverFall-same, NeverFall-set}
 use Rattle.ring_rule.specs.Notes.{NeverFall}
 use Rattle.ring_rule.specs.WordLaws.{cases_eq, index_of-lt}
-use Rattle.ring_rule.specs.Words.{index_of, words_of}
+use Rattle.ring_rule.specs.Words.{index_of}
 use Rattle.snoop_core.specs.Word.{laps_of, sample_of}
 use Rattle.snoop_table.specs.declared.seats.reader.ReaderSeat.{ReaderSeat}
 use Rattle.snoop_table.specs.declared.view.View.{View}
 use Rattle.snoop_table.specs.Captured.{Holds}
 use Rattle.snoop_table.specs.Known.{IsReader}
-use Rattle.snoop_table.specs.Readers.{Goes, HasLocated, HasLooked, view_of}
+use Rattle.snoop_table.specs.Readers.{HasLocated, HasLooked, view_of}
 use Rattle.snoop_table.specs.Steps.{IsNext, located, looked, with_note, with_position, with_sample}
 use Rattle.snoop_table.proofs.Keeps.{locates, looks}
 

@@ -1,5 +1,5 @@
 -- The writer's stores keep the rule, and tell what they tell.
-use Rattle.std.proofs.Common.{◌≡◌, ◌≢◌, ℕ, ◌+◌, ◌-◌, ◌*◌, ◌/◌, ◌%◌, ◌<◌, ◌≤◌, Bool, true, false, Option, None, Some, List, [], ◌∷◌, ◌++◌, length, get_or, set, ℤ, pos, inl, inr, arith, subst, sym, refl, ap, ◌∙◌}
+use Rattle.std.proofs.Common.{◌≡◌, ℕ, ◌+◌, ◌-◌, ◌*◌, ◌%◌, ◌<◌, ◌≤◌, Bool, true, Option, None, Some, List, [], ◌∷◌, length, get_or, set, ℤ, pos, inl, inr, arith, subst, sym, refl, ap, ◌∙◌}
 use mathlib.Core.Option.{none, some}
 use lib.ListN.{get_elem?}
 use Rattle.std.proofs.lemmas.Bool.{cases_lt, false≢true}
@@ -12,12 +12,12 @@ use Rattle.atomic_table.proofs.Lists.{at_snoc}
 use Rattle.snd_base.specs.declared.geometry.Geometry.{Geometry}
 use Rattle.snd_base.specs.declared.places.Cursor.{Cursor}
 use Rattle.snd_base.specs.PlaceLaws.{div-lt_same}
-use Rattle.snd_base.specs.Places.{behind, end_frame, first_frame, first_free, lap, slot}
+use Rattle.snd_base.specs.Places.{behind, end_frame, first_frame, first_free, lap}
 use Rattle.lap_word.specs.Position.{word_of}
 use Rattle.ring_rule.specs.PositionLaws.{IsPosition-last, IsPosition-more, Rising-more, last_of-more}
 use Rattle.ring_rule.specs.Positions.{IsPosition}
 use Rattle.ring_rule.specs.WordLaws.{NotPast-position, NotPast-set, index_of-lt, index_of-same, suc-le-end_frame}
-use Rattle.ring_rule.specs.Words.{NotPast, index_of, rank}
+use Rattle.ring_rule.specs.Words.{index_of, rank}
 use Rattle.snoop_core.specs.Stored.{HoldLast, IsLast, IsUnused, sample_at}
 use Rattle.snoop_core.specs.StoredLaws.{HoldLast-written, IsWritten, next_at-channel, next_at-grows, next_at-more}
 use Rattle.snoop_core.specs.Word.{HoldsSample, HoldsSample-fields, laps_of, sample_of}

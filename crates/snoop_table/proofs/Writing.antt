@@ -13,8 +13,8 @@ use Rattle.snd_base.specs.Places.{behind, end_frame, first_frame, lap, slot}
 use Rattle.lap_word.specs.Position.{word_of}
 use Rattle.ring_rule.specs.PositionLaws.{has_all-published, last_of-more}
 use Rattle.ring_rule.specs.Positions.{has_all}
-use Rattle.ring_rule.specs.WordLaws.{index_of-lt, lap-le, suc-le-end_frame}
-use Rattle.ring_rule.specs.Words.{index_of, words_of}
+use Rattle.ring_rule.specs.WordLaws.{suc-le-end_frame}
+use Rattle.ring_rule.specs.Words.{index_of}
 use Rattle.snoop_core.specs.Ring.{after_samples}
 use Rattle.snoop_core.specs.StoredLaws.{next_at-more}
 use Rattle.snoop_core.specs.Word.{HoldsSample, HoldsSample-fields, sample_of}
@@ -24,7 +24,7 @@ use Rattle.snoop_table.specs.declared.view.Track.{Track}
 use Rattle.snoop_table.specs.declared.view.View.{View}
 use Rattle.snoop_table.specs.Captured.{Holds, next_of, position_of, the_track}
 use Rattle.snoop_table.specs.Known.{IsPlace, IsWriter}
-use Rattle.snoop_table.specs.Steps.{published, stored, track_gone, track_published, track_stored, unplugged, with_gone, with_published, with_stored}
+use Rattle.snoop_table.specs.Steps.{published, stored, unplugged, with_gone, with_published, with_stored}
 use Rattle.snoop_table.specs.Writers.{HasPublished, HasStored, HasStoredPart, HasStoredSample, HasUnplugged, desk_track, desk_view, track_more}
 use Rattle.snoop_table.proofs.Stores.{publishes, stores, unplugs}
 

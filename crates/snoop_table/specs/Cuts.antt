@@ -1,5 +1,5 @@
 -- How a new seat's view is made of another one, and how two views are made one.
-use Rattle.std.specs.Prelude.{ℕ, ◌≤◌, ◌||◌, false, Option, None, Some, [], ◌++◌, max}
+use Rattle.std.specs.Prelude.{◌≤◌, ◌||◌, false, Option, None, Some, [], ◌++◌, max}
 use Rattle.std.proofs.Common.{arith}
 use Rattle.snd_base.specs.declared.geometry.Geometry.{Geometry}
 use Rattle.ring_rule.specs.Notes.{later_notes}

@@ -1,5 +1,5 @@
 -- What splits, joins, notes, meetings and the close of a ring do.
-use Rattle.std.specs.Prelude.{◌≡◌, ℕ, ◌+◌, ◌≤◌, ◌||◌, true, None, Some, List, max}
+use Rattle.std.specs.Prelude.{◌≡◌, ℕ, ◌+◌, ◌≤◌, ◌||◌, true, None, Some, max}
 use Rattle.std.specs.List.{slice_index_or}
 use mathlib.Core.Option.{some}
 use lib.ListN.{get_elem?}
@@ -20,7 +20,7 @@ use Rattle.snoop_table.specs.declared.view.View.{View}
 use Rattle.snoop_table.specs.Captured.{next_of, position_of}
 use Rattle.snoop_table.specs.Cuts.{both_of, part_of}
 use Rattle.snoop_table.specs.Readers.{ring_of, view_of}
-use Rattle.snoop_table.specs.Writers.{desk_of, desk_ring, desk_track, desk_view, writer_geometry, writer_ring, writer_track, writer_view}
+use Rattle.snoop_table.specs.Writers.{desk_of, desk_ring, desk_track, desk_view, writer_geometry, writer_track}
 
 -- two seats are of one ring. That one ring has one geometry is not told by its identity, so both are asked
 abbrev pub OneRing : TableId → Geometry → TableId → Geometry → Type 0

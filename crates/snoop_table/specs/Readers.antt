@@ -1,5 +1,5 @@
 -- What contracts say of a reader's seat, and what its steps do.
-use Rattle.std.specs.Prelude.{◌≡◌, ◌≢◌, ℕ, ◌+◌, ◌<◌, ◌≤◌, Bool, true, false, ◌||◌, Option, None, Some, List, [], ◌∷◌, ◌++◌, map, All, ⊤}
+use Rattle.std.specs.Prelude.{◌≡◌, ◌≢◌, ℕ, ◌+◌, ◌≤◌, Bool, true, false, ◌||◌, Option, None, Some, List, ◌++◌, map, All, ⊤}
 use Rattle.std.specs.List.{list_any, slice_index_or}
 use Rattle.std.proofs.Common.{refl, sym, ap, ◌∙◌, subst, arith, append_assoc}
 use Rattle.std.proofs.lemmas.List.{append-nil, map-append}
@@ -46,6 +46,10 @@ seat_view s = record { geometry = s.geometry; seen = s.seen }
 -- the word that a seat noted last at a frame and channel
 abbrev pub shown : ReaderSeat → ℕ → ℕ → Option ℕ
 shown s f c = slice_index_or (view_of s).noted (index_of s.geometry f c) None
+
+-- a seat of the same ring
+abbrev pub SameReader : ReaderSeat → ReaderSeat → Type 0
+SameReader s t = (ring_of t ≡ ring_of s) × (t.geometry ≡ s.geometry)
 
 -- a seat of one ring, later, which met no other seat in between: none of its noted words falls
 pub record Goes (s t : ReaderSeat) : Type 0 where

@@ -4,7 +4,6 @@ use Rattle.std.specs.List.{slice_index_or}
 use mathlib.Core.Option.{some}
 use lib.ListN.{get_elem?}
 use Rattle.atomic_table.specs.Table.{Me, Step}
-use Rattle.snd_base.specs.declared.geometry.Geometry.{Geometry}
 use Rattle.snd_base.specs.Places.{end_frame, first_frame, lap}
 use Rattle.lap_word.specs.Position.{word_of}
 use Rattle.ring_rule.specs.Positions.{IsPosition}

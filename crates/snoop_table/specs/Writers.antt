@@ -1,5 +1,5 @@
 -- What contracts say of the writer's seat, and what its steps do.
-use Rattle.std.specs.Prelude.{◌≡◌, ℕ, ◌+◌, ◌<◌, Bool, true, Some, List, ◌++◌, length, ℤ}
+use Rattle.std.specs.Prelude.{◌≡◌, ℕ, ◌+◌, true, Some, List, ◌++◌, length, ℤ}
 use Rattle.atomic_table.specs.Seated.{TableId}
 use Rattle.snd_base.specs.declared.geometry.Geometry.{Geometry}
 use Rattle.snd_base.specs.declared.places.Cursor.{Cursor}
@@ -101,3 +101,7 @@ writer_geometry w = w.desk.geometry
 -- the frame that it stores next
 abbrev pub next_frame : WriterSeat → ℕ
 next_frame w = w.desk.place.next.frame
+
+-- a seat of the same ring
+abbrev pub SameWriter : WriterSeat → WriterSeat → Type 0
+SameWriter v w = (writer_ring w ≡ writer_ring v) × (writer_geometry w ≡ writer_geometry v)

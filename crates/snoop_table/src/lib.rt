@@ -12,3 +12,6 @@ pub use ring::SnoopRing;
 pub use rule::Captured;
 pub use seats::{ReaderSeat, SnoopNote, WriterSeat};
 pub use view::{Track, View};
+
+#[cfg(test)]
+mod tests;

@@ -1,7 +1,6 @@
-use Rattle.std.proofs.Common.{◌≡◌, set, ap, ◌∙◌, pos, rules}
+use Rattle.std.proofs.Common.{◌≡◌, set, ap, ◌∙◌}
 use Rattle.std.proofs.Math.ListN.{replicate}
 use Rattle.ring_rule.specs.Words.{words_of}
-use Rattle.snoop_core.specs.Word.{HoldsSample}
 use Rattle.snoop_table.proofs.Opens.{new_words, opens_at}
 use Rattle.snoop_table.proofs.ring.SnoopRing.new.Goals as goal
 

@@ -1,4 +1,4 @@
-use Rattle.std.proofs.Common.{◌≡◌, ◌+◌, ◌<◌, arith, ap, sym, subst, ◌∙◌, refl, rules}
+use Rattle.std.proofs.Common.{◌+◌, arith, ap, sym, subst, ◌∙◌, refl}
 use Rattle.std.proofs.lemmas.Int.{to_z-of_z}
 use Rattle.atomic_table.specs.Table.{Me}
 use Rattle.snd_base.specs.declared.places.Cursor.{Cursor}

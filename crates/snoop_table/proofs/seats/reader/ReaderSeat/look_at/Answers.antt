@@ -1,13 +1,12 @@
-use Rattle.std.proofs.Common.{◌≡◌, ℕ, ◌<◌, arith, sym, subst, ap, ◌∙◌, refl}
+use Rattle.std.proofs.Common.{ℕ, ◌<◌, arith, sym, subst, refl}
 use mathlib.Core.Option.{none}
-use Rattle.atomic_table.specs.Table.{Allows, Me, step}
+use Rattle.atomic_table.specs.Table.{Allows, step}
 use Rattle.snd_base.specs.declared.geometry.Geometry.{Geometry}
 use Rattle.ring_rule.specs.WordLaws.{index_of-lt}
 use Rattle.snoop_table.specs.declared.seats.reader.ReaderSeat.{ReaderSeat}
-use Rattle.snoop_table.specs.declared.view.View.{View}
 use Rattle.snoop_table.specs.Captured.{Holds}
 use Rattle.snoop_table.specs.Steps.{looked}
-use Rattle.snoop_table.proofs.Reading.{has_looked, is_looked, known_looked, may_look}
+use Rattle.snoop_table.proofs.Reading.{has_looked, may_look}
 use Rattle.snoop_table.proofs.seats.reader.ReaderSeat.look_at.Goals as goal
 
 pub load-requires : goal.load-requires
