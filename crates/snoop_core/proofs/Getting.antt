@@ -59,15 +59,6 @@ loading-more t u f c word out x in_range l found own is = record {
     | inr near ↦ record { published = found.published; not_over = omega (arith, near) }
   ]
 
--- one more look
-pub looks-more : (c : ℕ) → replicate c Look ++ Look ∷ [] ≡ replicate (c + 1) Look
-looks-more c = replicate-append-replicate c 1 Look
-
-pub asked-more : {T : Type 0} (asked : T → T → List StepKind → Pass → Type 0) → AsksCompose asked → (g h k : T) (c : ℕ) (last : Pass)
-    → asked g h (replicate c Look) Go → asked h k (Look ∷ []) last → asked g k (replicate (c + 1) Look) last
-asked-more asked composes g h k c last first then =
-    subst (λ ks. asked g k ks last) (looks-more c) (composes.joined g h k (replicate c Look) (Look ∷ []) last first then)
-
 -- nothing was got
 got-none : (t u : SnoopTurn) → IsSame t u → TurnGot t u []
 got-none t u same = record { same = same; each = λ k d within. absurd (omega arith) }

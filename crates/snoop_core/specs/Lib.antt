@@ -1,4 +1,5 @@
 pub mod Port
+pub mod PortLaws
 pub mod Ring
 pub mod Stored
 pub mod StoredLaws

@@ -243,6 +243,32 @@ next_at-grows g xs ys =
     le-div (length xs / g.channels) (length (xs ++ ys)) g.channels some (omega (arith, more, div-mul-le_self (length xs) g.channels)) in
     omega (arith, up)
 
+-- and so does each place that was stored
+pub first_free-next : (g : Geometry) (n m c : ℕ) → n ≤ m → first_free (next_word g n) c ≤ first_free (next_word g m) c
+first_free-next g n m c up =
+    let some : 0 < g.channels = omega (arith, g.channels_least) in
+    let q : ℕ = n / g.channels in
+    let r : ℕ = n % g.channels in
+    let k : ℕ = m / g.channels in
+    let s : ℕ = m % g.channels in
+    let first : q * g.channels + r ≡ n = div-add-mod' n g.channels in
+    let then : k * g.channels + s ≡ m = div-add-mod' m g.channels in
+    let rows : q ≤ k = le-div q m g.channels some (omega (arith, up, div-mul-le_self n g.channels)) in
+    elim (cases_lt q k) [
+      | inl below ↦ grind (arith, nat_tests, below)
+      | inr not_below ↦
+          let same : q ≡ k = omega (arith, not_below, rows) in
+          let part : r ≤ s = omega (arith, first, then, up, ap (λ y. y * g.channels) same) in
+          grind (arith, nat_tests, same, part)
+    ]
+
+pub first_free-more : (g : Geometry) (xs ys : List ℤ) (c : ℕ) → first_free (next_at g xs) c ≤ first_free (next_at g (xs ++ ys)) c
+first_free-more g xs ys c = first_free-next g (length xs) (length (xs ++ ys)) c (omega (arith, Rattle.std.proofs.lemmas.List.length-append xs ys))
+
+-- what the words hold tells their laps
+pub HaveLaps-holding : (g : Geometry) (word : ℕ → ℕ → ℕ) (xs : List ℤ) → HoldLast g word xs → HaveLaps g (next_at g xs) word
+HaveLaps-holding g word xs holds f c is = (HoldsSample-fields _ _ _ (holds.last f c is)).0
+
 pub IsCaptured-more : (g : Geometry) (xs ys : List ℤ) (frame : Frame) → IsCaptured g xs frame → IsCaptured g (xs ++ ys) frame
 IsCaptured-more g xs ys frame is = record {
   least = is.least;

@@ -5,10 +5,11 @@ use Rattle.snd_base.specs.declared.geometry.Geometry.{Geometry}
 use Rattle.snd_base.specs.Places.{lap}
 use Rattle.mix_core.specs.declared.gate.Pass.TheVariants.{Go}
 use Rattle.mix_core.specs.declared.gate.StepKind.TheVariants.{Look}
+use Rattle.snoop_core.specs.PortLaws.{asked-more}
 use Rattle.snoop_core.specs.Turn.{core_of}
 use Rattle.snoop_core.specs.View.{geometry_of}
 use Rattle.snoop_core.specs.Word.{laps_of}
-use Rattle.snoop_core.proofs.Getting.{IsLoading, asked-more, gets-overtaken, gets-stopped, gets-whole, loading-more}
+use Rattle.snoop_core.proofs.Getting.{IsLoading, gets-overtaken, gets-stopped, gets-whole, loading-more}
 use mir.Syntax.{w16}
 use mir.Val.{SFits}
 use Rattle.snoop_core.proofs.turn.SnoopTurnSnoopPort.load_frame.Goals as goal

@@ -1,0 +1,75 @@
+//! Where the words of a ring are.
+ghost use Rattle.std.specs.Prelude.{◌≡◌, ◌<◌, ◌≤◌, ◌↔◌, true};
+ghost use Rattle.snd_base.specs.Places.{lap};
+ghost use Rattle.ring_rule.specs.Spots.{IsLapStart, IsSpot};
+
+use snd_base::Geometry;
+
+/// Where the word of a frame and channel is: the frame's lap, and the word's index among the ring's words.
+#[derive(Clone, Copy, Debug, PartialEq, Eq)]
+pub struct Spot {
+    pub lap: u64,
+    pub index: usize,
+}
+
+/// A lap that words can have, and its first frame. A seat keeps the lap in which it stepped last, so that it divides only
+/// where it goes to another one.
+#[derive(Clone, Copy, Debug, PartialEq, Eq)]
+pub struct LapStart {
+    pub lap: u64,
+    pub frame: u64,
+}
+
+impl LapStart {
+    /// The ring's first lap.
+    pub fn first(geometry: &Geometry) -> LapStart
+        ensures { IsLapStart geometry.now result }
+    {
+        LapStart {
+            lap: geometry.first_lap as u64,
+            frame: geometry.first_frame(),
+        }
+    }
+
+    /// Where the word of a frame and channel is, in this lap or another one.
+    #[inline(always)]
+    pub fn spot(&self, geometry: &Geometry, frame: u64, channel: u8) -> Spot
+        requires start { IsLapStart geometry.now self.now }
+        requires channel { channel < geometry.now.channels }
+        ensures { IsSpot geometry.now frame channel result }
+    {
+        let slot = frame.wrapping_sub(self.frame);
+        if slot >= geometry.frames as u64 {
+            return Spot {
+                lap: geometry.lap(frame),
+                index: geometry.word_index(frame, channel) + 1,
+            };
+        }
+        Spot {
+            lap: self.lap,
+            index: slot as usize * geometry.channels as usize + channel as usize + 1,
+        }
+    }
+
+    /// Whether no word can have a frame's lap: 4294967295 or a later one.
+    #[inline(always)]
+    pub fn is_lap_end(&self, geometry: &Geometry, frame: u64) -> bool
+        requires { IsLapStart geometry.now self.now }
+        ensures { (result ≡ true) ↔ (4294967295 ≤ lap geometry.now frame) }
+    {
+        frame.wrapping_sub(self.frame) >= geometry.frames as u64
+            && geometry.lap(frame) >= 4294967295
+    }
+
+    /// Goes to another lap, where words can have it.
+    #[inline(always)]
+    pub fn turn_to(&mut self, geometry: &Geometry, lap: u64)
+        requires { IsLapStart geometry.now self.old }
+        ensures { IsLapStart geometry.now self.new }
+    {
+        if lap != self.lap && lap < 4294967295 {
+            self.lap = lap;
+            self.frame = lap * geometry.frames as u64;
+        }
+    }
+}

@@ -1,0 +1,142 @@
+-- What a reader's steps may do and do, said of the fields of its seat.
+use Rattle.std.proofs.Common.{◌≡◌, ℕ, ◌+◌, ◌<◌, ◌≤◌, Some, None, length, get_or, set, inl, inr, arith, subst, sym, refl, ap, ◌∙◌}
+use mathlib.Core.Option.{none}
+use Rattle.std.proofs.lemmas.List.{get_or-set_same, length-set}
+use Rattle.atomic_table.specs.Table.{Allows, Me, step}
+use Rattle.snd_base.specs.declared.geometry.Geometry.{Geometry}
+use Rattle.snd_base.specs.Places.{end_frame, lap}
+use Rattle.lap_word.specs.Position.{gone_in, position_in, word_of-fields}
+use Rattle.mix_core.specs.declared.port.Position.{Position}
+use Rattle.ring_rule.specs.NoteLaws.{NeverFall-same, NeverFall-set}
+use Rattle.ring_rule.specs.Notes.{NeverFall}
+use Rattle.ring_rule.specs.WordLaws.{cases_eq, index_of-lt}
+use Rattle.ring_rule.specs.Words.{index_of}
+use Rattle.snoop_core.specs.Word.{laps_of, sample_of}
+use Rattle.snoop_table.specs.declared.seats.reader.ReaderSeat.{ReaderSeat}
+use Rattle.snoop_table.specs.declared.view.View.{View}
+use Rattle.snoop_table.specs.Captured.{Holds}
+use Rattle.snoop_table.specs.Known.{IsReader}
+use Rattle.snoop_table.specs.Readers.{HasLocated, HasLooked, view_of}
+use Rattle.snoop_table.specs.Steps.{IsNext, located, looked, with_note, with_position, with_sample}
+use Rattle.snoop_table.proofs.Keeps.{locates, looks}
+
+-- a load of the position
+pub may_locate : (s : ReaderSeat) (slots : ℕ) → Allows (Holds s.ring.now.key) slots s.seat.id s.seat.me 0 (λ n. n) (located (step slots 0 0 0 none) s.seat.me)
+may_locate s slots =
+    let Goes : Geometry → Type 0 = λ g. Allows (Holds g) slots s.seat.id s.seat.me 0 (λ n. n) (located (step slots 0 0 0 none) s.seat.me) in
+    subst Goes (s.known.same_geometry ∙ s.same_ring.1) (locates slots s.seat.id s.seat.me)
+
+-- no position up to the end has the gone bit
+below_gone : (g : Geometry) (p : ℕ) → p ≤ end_frame g → p < 9223372036854775808
+below_gone g p within = omega (arith, within, g.frames_most)
+
+pub known_located : (g : Geometry) (seen slots n : ℕ) (m r : Me (Unit {0}) View) → IsReader m.0 g seen → located (step slots 0 0 0 none) m n r
+    → IsReader r.0 g (position_in n)
+known_located g seen slots n m r is told =
+    let p : ℕ = told.0 in
+    let end : p ≤ end_frame g = subst (λ (k : Geometry). p ≤ end_frame k) is.same_geometry told.5 in
+    let fields = word_of-fields p told.1 (below_gone g p end) in
+    let read : position_in n ≡ p = ap position_in told.3 ∙ fields.0 in
+    let known : IsReader (with_position m.0 p told.1) g p = record {
+      same_geometry = is.same_geometry;
+      same_seen = refl;
+      untracked = is.untracked;
+      room = is.room;
+      seen_within = record { least = omega (arith, is.seen_within.least, told.4, is.same_seen); most = end };
+    } in
+    subst (λ q. IsReader r.0 g q) (sym read) (subst (λ (y : Me (Unit {0}) View). IsReader y.0 g p) (sym told.2) known)
+
+pub has_located : (s t : ReaderSeat) (slots n : ℕ) (p : Position) → t.seat.table_id ≡ s.seat.table_id → t.geometry ≡ s.geometry → t.seen ≡ p.frame
+    → p.frame ≡ position_in n → p.gone ≡ gone_in n → located (step slots 0 0 0 none) s.seat.me n t.seat.me → HasLocated s t p
+has_located s t slots n p ring geometry seen frame gone told =
+    let v : View = view_of s in
+    let q : ℕ = told.0 in
+    let end : q ≤ end_frame s.geometry = subst (λ (k : Geometry). q ≤ end_frame k) s.known.same_geometry told.5 in
+    let fields = word_of-fields q told.1 (below_gone s.geometry q end) in
+    let frame_is : p.frame ≡ q = frame ∙ (ap position_in told.3 ∙ fields.0) in
+    let gone_is : p.gone ≡ told.1 = gone ∙ (ap gone_in told.3 ∙ fields.1) in
+    let view : view_of t ≡ with_position v q told.1 = ap (λ (y : Me (Unit {0}) View). y.0) told.2 in
+    record {
+      goes = record { ring = ring; geometry = geometry; notes = NeverFall-same v.noted (view_of t).noted (ap (λ (y : View). y.noted) view) };
+      view = view ∙ (ap (λ x. with_position v x told.1) (sym frame_is) ∙ ap (with_position v p.frame) (sym gone_is));
+      seen = seen;
+      not_before = omega (arith, frame_is, told.4, s.known.same_seen);
+      within = record { least = omega (arith, s.known.seen_within.least, told.4, frame_is, s.known.same_seen); most = omega (arith, end, frame_is) };
+      gone = λ is. gone_is ∙ told.6 is;
+    }
+
+-- a load of the next word of a frame
+pub may_look : (s : ReaderSeat) (slots i f c : ℕ) → IsNext (view_of s) f c → i ≡ index_of s.geometry f c
+    → Allows (Holds s.ring.now.key) slots s.seat.id s.seat.me i (λ n. n) (looked f c (step slots i 0 0 none) s.seat.me)
+may_look s slots i f c next index =
+    let v : View = view_of s in
+    let Goes : Geometry → ℕ → Type 0 = λ g j. Allows (Holds g) slots s.seat.id s.seat.me j (λ n. n) (looked f c (step slots j 0 0 none) s.seat.me) in
+    let at_own : Goes v.geometry (index_of v.geometry f c) = looks slots s.seat.id s.seat.me f c next in
+    let at_key : Goes s.geometry (index_of s.geometry f c) = subst (λ (g : Geometry). Goes g (index_of g f c)) s.known.same_geometry at_own in
+    subst (λ g. Goes g i) s.same_ring.1 (subst (Goes s.geometry) (sym index) at_key)
+
+-- either way, the fields stay and the word is noted
+pub record IsLooked (v w : View) (i n : ℕ) : Type 0 where
+  pub geometry : w.geometry ≡ v.geometry
+  pub seen : w.seen ≡ v.seen
+  pub track : w.track ≡ v.track
+  pub noted : w.noted ≡ set v.noted i (Some n)
+
+pub is_looked : (f c slots i n : ℕ) (m r : Me (Unit {0}) View) → looked f c (step slots i 0 0 none) m n r → IsLooked m.0 r.0 i n × (r.1 ≡ m.1)
+is_looked f c slots i n m r told = elim (cases_eq (laps_of n) (lap m.0.geometry f + 1)) [
+  | inl own ↦
+      let is = told.1 own in (
+        record {
+          geometry = ap (λ (y : Me (Unit {0}) View). y.0.geometry) is;
+          seen = ap (λ (y : Me (Unit {0}) View). y.0.seen) is;
+          track = ap (λ (y : Me (Unit {0}) View). y.0.track) is;
+          noted = ap (λ (y : Me (Unit {0}) View). y.0.noted) is;
+        },
+        ap (λ (y : Me (Unit {0}) View). y.1) is,
+      )
+  | inr other ↦
+      let is = told.2 other in (
+        record {
+          geometry = ap (λ (y : Me (Unit {0}) View). y.0.geometry) is;
+          seen = ap (λ (y : Me (Unit {0}) View). y.0.seen) is;
+          track = ap (λ (y : Me (Unit {0}) View). y.0.track) is;
+          noted = ap (λ (y : Me (Unit {0}) View). y.0.noted) is;
+        },
+        ap (λ (y : Me (Unit {0}) View). y.1) is,
+      )
+]
+
+pub known_looked : (g : Geometry) (seen f c slots i n : ℕ) (m r : Me (Unit {0}) View) → IsReader m.0 g seen → looked f c (step slots i 0 0 none) m n r
+    → IsReader r.0 g seen
+known_looked g seen f c slots i n m r is told =
+    let l : IsLooked m.0 r.0 i n = (is_looked f c slots i n m r told).0 in
+    record {
+      same_geometry = l.geometry ∙ is.same_geometry;
+      same_seen = l.seen ∙ is.same_seen;
+      untracked = l.track ∙ is.untracked;
+      room = ap length l.noted ∙ (length-set m.0.noted i (Some n) ∙ is.room);
+      seen_within = is.seen_within;
+    }
+
+pub has_looked : (s t : ReaderSeat) (slots i f c n : ℕ) → t.seat.table_id ≡ s.seat.table_id → t.geometry ≡ s.geometry → t.seen ≡ s.seen
+    → c < s.geometry.channels → i ≡ index_of s.geometry f c
+    → looked f c (step slots i 0 0 none) s.seat.me n t.seat.me → HasLooked s t f c n
+has_looked s t slots i f c n ring geometry seen in_range index told =
+    let v : View = view_of s in
+    let g : Geometry = s.geometry in
+    let at : ℕ = index_of g f c in
+    let l : IsLooked v (view_of t) i n = (is_looked f c slots i n s.seat.me t.seat.me told).0 in
+    let inside : at < length v.noted = omega (arith, s.known.room, index_of-lt g f c in_range) in
+    let noted : (view_of t).noted ≡ set v.noted at (Some n) = l.noted ∙ ap (λ j. set v.noted j (Some n)) index in
+    let lap_is : lap v.geometry f ≡ lap g f = ap (λ (k : Geometry). lap k f) s.known.same_geometry in
+    let never : NeverFall v.noted (set v.noted at (Some n)) = NeverFall-set v.noted at n inside
+    (λ o is. told.0.noted o (subst (λ (k : Geometry). get_or v.noted (index_of k f c) None ≡ Some o) (sym s.known.same_geometry) is)) in
+    record {
+      goes = record { ring = ring; geometry = geometry; notes = subst (NeverFall v.noted) (sym noted) never };
+      own = λ is. ap (λ (y : Me (Unit {0}) View). y.0) (told.1 (is ∙ ap (λ x. x + 1) (sym lap_is))) ∙ ap (λ j. with_sample (with_note v j n) f c (sample_of n)) index;
+      other = λ is. ap (λ (y : Me (Unit {0}) View). y.0) (told.2 (λ e. is (e ∙ ap (λ x. x + 1) lap_is))) ∙ ap (λ j. with_note v j n) index;
+      seen = seen;
+      shows = ap (λ (k : Geometry). get_or (view_of t).noted (index_of k f c) None) geometry
+          ∙ (ap (λ ns. get_or ns at None) noted ∙ get_or-set_same v.noted at (Some n) None inside);
+      found = told.0;
+    }

@@ -1,0 +1,6 @@
+use Rattle.std.proofs.Common.{take}
+use Rattle.snoop_table.specs.Writers.{HasStoredPart}
+use Rattle.snoop_table.proofs.seats.desk.Desk.store_frame.Given as goal
+
+abbrev pub invariant-loop-sample : goal.invariant-loop-sample
+invariant-loop-sample l = HasStoredPart l.fn.self l.self (take l.sample-index l.frame)
