@@ -123,14 +123,14 @@ pub last_of-positions_of : (d period first n : ℕ) → last_of d (positions_of 
 last_of-positions_of d period first zero = omega arith
 last_of-positions_of d period first (suc n) =
     ap (λ (b : Bool). last_of d (periods_to period first (suc n) ++ (if b then [] else (first + suc n) ∷ [])))
-        (ap (λ (b : Bool). b && is_multiple period (first + suc n)) (lt-ltb 0 (suc n) (omega arith)))
+    (ap (λ (b : Bool). b && is_multiple period (first + suc n)) (lt-ltb 0 (suc n) (omega arith)))
     ∙ choose (is_multiple period (first + suc n)) where
-  choose : (b : Bool)
-      → last_of d ((periods_to period first n ++ (if b then (first + suc n) ∷ [] else [])) ++ (if b then [] else (first + suc n) ∷ [])) ≡ first + suc n
-  choose true =
-      ap (last_of d) (append-nil (periods_to period first n ++ (first + suc n) ∷ []))
-      ∙ last_of-append d (periods_to period first n) ((first + suc n) ∷ [])
-  choose false = last_of-append d (periods_to period first n ++ []) ((first + suc n) ∷ [])
+      choose : (b : Bool)
+          → last_of d ((periods_to period first n ++ (if b then (first + suc n) ∷ [] else [])) ++ (if b then [] else (first + suc n) ∷ [])) ≡ first + suc n
+      choose true =
+          ap (last_of d) (append-nil (periods_to period first n ++ (first + suc n) ∷ []))
+          ∙ last_of-append d (periods_to period first n) ((first + suc n) ∷ [])
+      choose false = last_of-append d (periods_to period first n ++ []) ((first + suc n) ∷ [])
 
 -- the periods among so many frames, and one frame more
 pub periods_to-more : (period first n last : ℕ) → last ≡ first + n + 1 → periods_to period first n ++ period_at period last ≡ periods_to period first (n + 1)

@@ -1,8 +1,8 @@
 -- What the player of a card takes and publishes.
-use Rattle.std.specs.Prelude.{◌≡◌, ℕ, ◌+◌, ◌-◌, ◌*◌, ◌/◌, ◌%◌, ◌==◌, ◌<◌, ◌&&◌, nat_lt, Bool, zero, suc, if◌then◌else◌, min, ℤ, List, [], ◌∷◌, ◌++◌, All, length, take, drop}
+use Rattle.std.specs.Prelude.{◌≡◌, ℕ, ◌+◌, ◌-◌, ◌*◌, ◌/◌, ◌%◌, ◌==◌, ◌<◌, ◌≤◌, ◌&&◌, nat_lt, Bool, zero, suc, if◌then◌else◌, min, ℤ, List, [], ◌∷◌, ◌++◌, All, length, take, drop}
 use Rattle.snd_base.specs.declared.geometry.Geometry.{Geometry}
 use Rattle.snd_base.specs.declared.places.Cursor.{Cursor}
-use Rattle.snd_base.specs.Places.{behind, end_frame}
+use Rattle.snd_base.specs.Places.{behind, end_frame, lap}
 use Rattle.lap_word.specs.Clamp.{clamp_of}
 use Rattle.mix_core.specs.declared.event.Taken.{Taken}
 use Rattle.mix_core.specs.History.{laid_of}
@@ -102,4 +102,38 @@ pub record PlaysFrames (p q : CardPlayer) (frames : ℕ) (old new : List ℤ) (p
   pub played : HasPlayed (seat_of p) (seat_of q) (samples_of p frames new) positions
   pub next : next_of_player (seat_of q) ≡ at_frame (frame_of p + frames)
   pub rest : rest_of p frames new ≡ rest_of p frames old
+  pub period : period_of q ≡ period_of p
+
+-- one frame was taken, and its samples written into a buffer from an index on; nothing was published
+pub record TakesFrameAt (p q : CardPlayer) (at : ℕ) (old new : List ℤ) : Type 0 where
+  pub played : HasPlayed (seat_of p) (seat_of q) (drop at (take (at + (geometry_of p).channels) new)) []
+  pub next : next_of_player (seat_of q) ≡ at_frame (frame_of p + 1)
+  pub before : take at new ≡ take at old
+  pub rest : drop (at + (geometry_of p).channels) new ≡ drop (at + (geometry_of p).channels) old
+  pub period : period_of q ≡ period_of p
+
+-- a buffer has room for a frame from an index on
+abbrev pub HasRoom : CardPlayer → ℕ → List ℤ → Type 0
+HasRoom p at out = at + (geometry_of p).channels ≤ length out
+
+-- the next frame is before the ring's end
+abbrev pub HasFrame : CardPlayer → Type 0
+HasFrame p = frame_of p < end_frame (geometry_of p)
+
+-- the next frame's lap is the one that no word can have
+abbrev pub IsAtLapEnd : CardPlayer → Type 0
+IsAtLapEnd p = lap (geometry_of p) (frame_of p) ≡ 4294967295
+
+-- so many frames were played, and the positions among them published
+abbrev pub PlaysAndPublishes : CardPlayer → CardPlayer → ℕ → List ℤ → List ℤ → Type 0
+PlaysAndPublishes p q frames old new = PlaysFrames p q frames old new (positions_of (period_of p) (frame_of p) frames)
+
+-- fewer frames were played than a buffer has room for: the ring's end came first
+abbrev pub EndsEarly : CardPlayer → List ℤ → Type 0
+EndsEarly p out = frames_left p out < frames_in p out
+
+-- a position is published where it is a multiple of the period, and nothing else is done
+pub record PublishesPeriod (p q : CardPlayer) : Type 0 where
+  pub played : HasPlayed (seat_of p) (seat_of q) [] (period_at (period_of p) (frame_of p))
+  pub next : next_of_player (seat_of q) ≡ next_of_player (seat_of p)
   pub period : period_of q ≡ period_of p

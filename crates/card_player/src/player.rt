@@ -17,10 +17,10 @@ pub struct CardPlayer<'a> {
 }
 
 impl<'a> CardPlayer<'a> {
-    ghost use Rattle.std.specs.Prelude.{◌≡◌, ◌+◌, ◌*◌, ◌<◌, ◌≤◌, ◌↔◌, IsTrue, [], take, drop, length, IfErr, OnErr, OnOk, IsErrOf, nat_lt, ◌&&◌};
-    ghost use Rattle.snd_base.specs.Places.{end_frame, lap};
+    ghost use Rattle.std.specs.Prelude.{◌≡◌, ◌+◌, ◌*◌, ◌≤◌, ◌↔◌, IsTrue, [], length, IfErr, OnErr, OnOk, IsErrOf, nat_lt, ◌&&◌};
+    ghost use Rattle.snd_base.specs.Places.{end_frame};
     ghost use Rattle.sum_table.specs.Players.{HasPublished, HasUnplugged, next_of_player, position_of_player};
-    ghost use Rattle.card_player.specs.Plays.{HasPlayed, IsAtFrame, PlaysFrames, at_frame, frame_of, frames_in, frames_left, geometry_of, is_multiple, period_at, period_of, positions_of, seat_of};
+    ghost use Rattle.card_player.specs.Plays.{EndsEarly, HasFrame, HasRoom, IsAtFrame, IsAtLapEnd, PlaysAndPublishes, PlaysFrames, PublishesPeriod, TakesFrameAt, frame_of, frames_left, geometry_of, is_multiple, period_of, seat_of};
 
     /// A player over this seat, with a period of so many frames, at least 1.
     pub fn new(seat: PlayerSeat<'a>, period: u32) -> CardPlayer<'a>
@@ -70,7 +70,7 @@ impl<'a> CardPlayer<'a> {
         ensures ok { OnOk result (PlaysFrames self.old self.new 1 out.old out.new []) }
         ensures err { OnErr result (self.new ≡ self.old) }
         ensures out { OnErr result (out.new ≡ out.old) }
-        ensures lap_end { IsErrOf result PcmError.LapEnd ↔ (lap (geometry_of self.old) (frame_of self.old) ≡ 4294967295) }
+        ensures lap_end { IsErrOf result PcmError.LapEnd ↔ IsAtLapEnd self.old }
         ensures only { IfErr result (λ e. e ≡ PcmError.LapEnd) }
     {
         let geometry = self.seat.geometry();
@@ -86,14 +86,10 @@ impl<'a> CardPlayer<'a> {
     ///
     /// The caller has room there for one sample of each channel, and a next word of channel 0 (`is_at_frame`).
     pub fn take_frame_at(&mut self, out: &mut [i16], at: usize)
-        requires room { at + (geometry_of self.old).channels ≤ length out.old }
+        requires room { HasRoom self.old at out.old }
         requires at_frame { IsAtFrame self.old }
-        requires fits { frame_of self.old < end_frame (geometry_of self.old) }
-        ensures played { HasPlayed (seat_of self.old) (seat_of self.new) (drop at (take (at + (geometry_of self.old).channels) out.new)) [] }
-        ensures next { next_of_player (seat_of self.new) ≡ at_frame (frame_of self.old + 1) }
-        ensures before { take at out.new ≡ take at out.old }
-        ensures rest { drop (at + (geometry_of self.old).channels) out.new ≡ drop (at + (geometry_of self.old).channels) out.old }
-        ensures period { period_of self.new ≡ period_of self.old }
+        requires fits { HasFrame self.old }
+        ensures { TakesFrameAt self.old self.new at out.old out.new }
     {
         let channels = self.seat.geometry().channels as usize;
         for channel in 0..channels {
@@ -112,8 +108,8 @@ impl<'a> CardPlayer<'a> {
     /// 4294967295: then the frames before it are played, and published.
     pub fn play(&mut self, out: &mut [i16]) -> Result<(), PcmError>
         requires { IsAtFrame self.old }
-        ensures plays { let frames = frames_left self.old out.old in PlaysFrames self.old self.new frames out.old out.new (positions_of (period_of self.old) (frame_of self.old) frames) }
-        ensures lap_end { IsErrOf result PcmError.LapEnd ↔ (frames_left self.old out.old < frames_in self.old out.old) }
+        ensures plays { PlaysAndPublishes self.old self.new (frames_left self.old out.old) out.old out.new }
+        ensures lap_end { IsErrOf result PcmError.LapEnd ↔ EndsEarly self.old out.old }
         ensures only { IfErr result (λ e. e ≡ PcmError.LapEnd) }
     {
         let geometry = self.seat.geometry();
@@ -155,7 +151,7 @@ impl<'a> CardPlayer<'a> {
         requires room { frames * (geometry_of self.old).channels ≤ length out.old }
         requires at_frame { IsAtFrame self.old }
         requires fits { frame_of self.old + frames ≤ end_frame (geometry_of self.old) }
-        ensures { PlaysFrames self.old self.new frames out.old out.new (positions_of (period_of self.old) (frame_of self.old) frames) }
+        ensures { PlaysAndPublishes self.old self.new frames out.old out.new }
     {
         let channels = self.seat.geometry().channels as usize;
         for frame in 0..frames {
@@ -169,9 +165,7 @@ impl<'a> CardPlayer<'a> {
 
     // Publishes the position where it is a multiple of the period.
     fn publish_period(&mut self)
-        ensures played { HasPlayed (seat_of self.old) (seat_of self.new) [] (period_at (period_of self.old) (frame_of self.old)) }
-        ensures next { next_of_player (seat_of self.new) ≡ next_of_player (seat_of self.old) }
-        ensures period { period_of self.new ≡ period_of self.old }
+        ensures { PublishesPeriod self.old self.new }
     {
         if self.is_at_period() {
             self.seat.publish();

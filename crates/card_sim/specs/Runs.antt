@@ -1,8 +1,8 @@
 -- What a duplex card captures, plays and publishes.
-use Rattle.std.specs.Prelude.{◌≡◌, ℕ, ◌+◌, ◌++◌, ℤ, List}
+use Rattle.std.specs.Prelude.{◌≡◌, ℕ, ◌+◌, ◌++◌, ℤ, List, [], take, drop}
 use Rattle.sum_table.specs.Players.{next_of_player}
 use Rattle.card_player.specs.declared.player.CardPlayer.{CardPlayer}
-use Rattle.card_player.specs.Plays.{HasPlayed, at_frame, frame_of, geometry_of, positions_of, rest_of, samples_of, seat_of}
+use Rattle.card_player.specs.Plays.{HasPlayed, TakesFrameAt, at_frame, frame_of, frames_left, geometry_of, positions_of, rest_of, samples_of, seat_of}
 use Rattle.snoop_table.specs.declared.seats.writer.WriterSeat.{WriterSeat}
 use Rattle.snoop_table.specs.Writers.{next_frame, writer_geometry, writer_ring, writer_track}
 use Rattle.card_sim.specs.declared.card.Card.{Card}
@@ -26,6 +26,19 @@ pub record HasCaptured (w v : WriterSeat) (samples : List ℤ) (positions : List
   pub published : (writer_track v).published ≡ (writer_track w).published ++ positions
   pub gone : (writer_track v).gone ≡ (writer_track w).gone
 
+-- one frame was captured and played, of the samples from an index of both buffers on; nothing was published
+pub record RunsFrame (p : CardPlayer) (w : WriterSeat) (q : CardPlayer) (v : WriterSeat) (at : ℕ) (captured old new : List ℤ) : Type 0 where
+  pub takes : TakesFrameAt p q at old new
+  pub stored : HasCaptured w v (drop at (take (at + (geometry_of p).channels) captured)) []
+  pub in_step : AreInStep q v
+
+-- a position is published on both rings, and nothing else is done
+pub record PublishesBoth (p : CardPlayer) (w : WriterSeat) (q : CardPlayer) (v : WriterSeat) (positions : List ℕ) : Type 0 where
+  pub played : HasPlayed (seat_of p) (seat_of q) [] positions
+  pub stored : HasCaptured w v [] positions
+  pub next : next_of_player (seat_of q) ≡ next_of_player (seat_of p)
+  pub in_step : AreInStep q v
+
 -- so many frames were captured and played, and both rings' positions published at each multiple of the period, and at the end
 pub record RunsFrames (p : CardPlayer) (w : WriterSeat) (q : CardPlayer) (v : WriterSeat) (period frames : ℕ) (captured old new : List ℤ) : Type 0 where
   pub played : HasPlayed (seat_of p) (seat_of q) (samples_of p frames new) (positions_of period (frame_of p) frames)
@@ -33,3 +46,8 @@ pub record RunsFrames (p : CardPlayer) (w : WriterSeat) (q : CardPlayer) (v : Wr
   pub next : next_of_player (seat_of q) ≡ at_frame (frame_of p + frames)
   pub in_step : AreInStep q v
   pub rest : rest_of p frames new ≡ rest_of p frames old
+
+-- a card runs for as many frames as its buffers hold and its rings have
+abbrev pub RunsThrough : Card → Card → List ℤ → List ℤ → List ℤ → Type 0
+RunsThrough c d captured old new =
+    RunsFrames (player_of c) (writer_of c) (player_of d) (writer_of d) (period_of c) (frames_left (player_of c) old) captured old new

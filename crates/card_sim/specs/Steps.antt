@@ -1,8 +1,8 @@
 -- When the two seats of a card are in step.
 use Rattle.std.specs.Prelude.{◌≡◌}
-use Rattle.sum_table.specs.Players.{next_of_player}
+use Rattle.sum_table.specs.Players.{next_of_player, position_of_player}
 use Rattle.card_player.specs.declared.player.CardPlayer.{CardPlayer}
-use Rattle.card_player.specs.Plays.{at_frame, geometry_of, seat_of}
+use Rattle.card_player.specs.Plays.{at_frame, frame_of, geometry_of, seat_of}
 use Rattle.snoop_table.specs.declared.seats.writer.WriterSeat.{WriterSeat}
 use Rattle.snoop_table.specs.Writers.{next_frame, writer_geometry}
 
@@ -10,3 +10,7 @@ use Rattle.snoop_table.specs.Writers.{next_frame, writer_geometry}
 pub record AreInStep (p : CardPlayer) (w : WriterSeat) : Type 0 where
   pub geometry : geometry_of p ≡ writer_geometry w
   pub next : next_of_player (seat_of p) ≡ at_frame (next_frame w)
+
+-- the frame that a player takes next is the position that it published last
+abbrev pub IsPublished : CardPlayer → Type 0
+IsPublished p = position_of_player (seat_of p) ≡ frame_of p

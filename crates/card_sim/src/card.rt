@@ -1,8 +1,6 @@
 //! The duplex card over the seats of both rings.
-ghost use Rattle.std.specs.Prelude.{◌≡◌, ◌≤◌};
-ghost use Rattle.sum_table.specs.Players.{position_of_player};
-ghost use Rattle.card_player.specs.Plays.{frame_of, seat_of};
-ghost use Rattle.card_sim.specs.Steps.{AreInStep};
+ghost use Rattle.std.specs.Prelude.{◌≤◌};
+ghost use Rattle.card_sim.specs.Steps.{AreInStep, IsPublished};
 
 use crate::run::run_frames;
 use card_player::CardPlayer;
@@ -22,16 +20,16 @@ pub struct Card<'p, 'w> {
     period: u32,
     ghost period_least: { 1 ≤ period },
     ghost in_step: { AreInStep player writer },
-    ghost published: { position_of_player (seat_of player) ≡ frame_of player },
+    ghost published: { IsPublished player },
 }
 
 impl<'p, 'w> Card<'p, 'w> {
     ghost use Rattle.std.specs.Prelude.{◌≡◌, ◌<◌, ◌≤◌, ◌%◌, ◌↔◌, IsTrue, length, IfErr, IsErrOf};
     ghost use Rattle.sum_table.specs.Players.{HasUnplugged, position_of_player};
     ghost use Rattle.snoop_table.specs.Writers.{HasUnplugged as WriterHasUnplugged, desk_of};
-    ghost use Rattle.card_player.specs.Plays.{frame_of, frames_in, frames_left, geometry_of, seat_of};
-    ghost use Rattle.card_sim.specs.Steps.{AreInStep};
-    ghost use Rattle.card_sim.specs.Runs.{RunsFrames, period_of, player_of, writer_of};
+    ghost use Rattle.card_player.specs.Plays.{EndsEarly, frame_of, geometry_of, seat_of};
+    ghost use Rattle.card_sim.specs.Steps.{AreInStep, IsPublished};
+    ghost use Rattle.card_sim.specs.Runs.{RunsThrough, period_of, player_of, writer_of};
 
     /// A card over a player and a writer, with a period of so many frames, at least 1.
     ///
@@ -40,7 +38,7 @@ impl<'p, 'w> Card<'p, 'w> {
     pub fn new(player: CardPlayer<'p>, writer: WriterSeat<'w>, period: u32) -> Card<'p, 'w>
         requires period { 1 ≤ period }
         requires in_step { AreInStep player writer }
-        requires published { position_of_player (seat_of player) ≡ frame_of player }
+        requires published { IsPublished player }
         ensures player { player_of result ≡ player.entry }
         ensures writer { writer_of result ≡ writer.entry }
         ensures period { period_of result ≡ period }
@@ -54,7 +52,7 @@ impl<'p, 'w> Card<'p, 'w> {
 
     /// Whether a card can be made of this player and this writer, as `new` asks.
     pub fn can_use(player: &CardPlayer<'p>, writer: &WriterSeat<'w>) -> bool
-        ensures { IsTrue result ↔ (AreInStep player.now writer.now × (position_of_player (seat_of player.now) ≡ frame_of player.now)) }
+        ensures { IsTrue result ↔ (AreInStep player.now writer.now × IsPublished player.now) }
     {
         if !player.is_at_frame() || !is_same_ring(&player.geometry(), &writer.geometry()) {
             return false;
@@ -86,9 +84,9 @@ impl<'p, 'w> Card<'p, 'w> {
     pub fn run(&mut self, captured: &[i16], out: &mut [i16]) -> Result<(), PcmError>
         requires same { length captured.now ≡ length out.old }
         requires whole { length out.old % (geometry_of (player_of self.old)).channels ≡ 0 }
-        ensures runs { RunsFrames (player_of self.old) (writer_of self.old) (player_of self.new) (writer_of self.new) (period_of self.old) (frames_left (player_of self.old) out.old) captured.now out.old out.new }
+        ensures runs { RunsThrough self.old self.new captured.now out.old out.new }
         ensures period { period_of self.new ≡ period_of self.old }
-        ensures lap_end { IsErrOf result PcmError.LapEnd ↔ (frames_left (player_of self.old) out.old < frames_in (player_of self.old) out.old) }
+        ensures lap_end { IsErrOf result PcmError.LapEnd ↔ EndsEarly (player_of self.old) out.old }
         ensures only { IfErr result (λ e. e ≡ PcmError.LapEnd) }
     {
         let geometry = self.player.geometry();

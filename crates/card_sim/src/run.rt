@@ -1,10 +1,9 @@
 //! The frames of one run of a duplex card.
-ghost use Rattle.std.specs.Prelude.{◌≡◌, ◌+◌, ◌*◌, ◌<◌, ◌≤◌, ◌&&◌, nat_lt, [], ◌∷◌, length, drop, take};
+ghost use Rattle.std.specs.Prelude.{◌≡◌, ◌+◌, ◌*◌, ◌<◌, ◌≤◌, ◌&&◌, nat_lt, [], ◌∷◌, length};
 ghost use Rattle.snd_base.specs.Places.{end_frame};
-ghost use Rattle.sum_table.specs.Players.{next_of_player};
 ghost use Rattle.snoop_table.specs.Writers.{next_frame};
-ghost use Rattle.card_player.specs.Plays.{HasPlayed, IsAtFrame, at_frame, frame_of, geometry_of, is_multiple, period_at, seat_of};
-ghost use Rattle.card_sim.specs.Runs.{HasCaptured, RunsFrames};
+ghost use Rattle.card_player.specs.Plays.{HasFrame, HasRoom, IsAtFrame, TakesFrameAt, frame_of, geometry_of, is_multiple, period_at};
+ghost use Rattle.card_sim.specs.Runs.{PublishesBoth, RunsFrame, RunsFrames};
 ghost use Rattle.card_sim.specs.Steps.{AreInStep};
 
 use card_player::CardPlayer;
@@ -45,15 +44,10 @@ fn run_frame(
     at: usize,
 )
     requires in_step { AreInStep player.old writer.old }
-    requires captured { at + (geometry_of player.old).channels ≤ length captured.now }
-    requires room { at + (geometry_of player.old).channels ≤ length out.old }
-    requires fits { frame_of player.old < end_frame (geometry_of player.old) }
-    ensures played { HasPlayed (seat_of player.old) (seat_of player.new) (drop at (take (at + (geometry_of player.old).channels) out.new)) [] }
-    ensures stored { HasCaptured writer.old writer.new (drop at (take (at + (geometry_of player.old).channels) captured.now)) [] }
-    ensures next { next_of_player (seat_of player.new) ≡ at_frame (frame_of player.old + 1) }
-    ensures in_step { AreInStep player.new writer.new }
-    ensures before { take at out.new ≡ take at out.old }
-    ensures rest { drop (at + (geometry_of player.old).channels) out.new ≡ drop (at + (geometry_of player.old).channels) out.old }
+    requires captured { HasRoom player.old at captured.now }
+    requires room { HasRoom player.old at out.old }
+    requires fits { HasFrame player.old }
+    ensures { RunsFrame player.old writer.old player.new writer.new at captured.now out.old out.new }
 {
     let channels = player.geometry().channels as usize;
     let Ok(()) = writer.store_frame(&captured[at..at + channels]) else {
@@ -66,12 +60,9 @@ fn run_frame(
 fn take_stored(player: &mut CardPlayer<'_>, writer: &WriterSeat<'_>, out: &mut [i16], at: usize)
     requires stored { next_frame writer.now ≡ frame_of player.old + 1 }
     requires at_frame { IsAtFrame player.old }
-    requires room { at + (geometry_of player.old).channels ≤ length out.old }
-    requires fits { frame_of player.old < end_frame (geometry_of player.old) }
-    ensures played { HasPlayed (seat_of player.old) (seat_of player.new) (drop at (take (at + (geometry_of player.old).channels) out.new)) [] }
-    ensures next { next_of_player (seat_of player.new) ≡ at_frame (frame_of player.old + 1) }
-    ensures before { take at out.new ≡ take at out.old }
-    ensures rest { drop (at + (geometry_of player.old).channels) out.new ≡ drop (at + (geometry_of player.old).channels) out.old }
+    requires room { HasRoom player.old at out.old }
+    requires fits { HasFrame player.old }
+    ensures { TakesFrameAt player.old player.new at out.old out.new }
 {
     let _stored = writer.next();
     player.take_frame_at(out, at);
@@ -81,10 +72,7 @@ fn take_stored(player: &mut CardPlayer<'_>, writer: &WriterSeat<'_>, out: &mut [
 fn publish_period(player: &mut CardPlayer<'_>, writer: &mut WriterSeat<'_>, period: u32)
     requires period { 1 ≤ period }
     requires in_step { AreInStep player.old writer.old }
-    ensures played { HasPlayed (seat_of player.old) (seat_of player.new) [] (period_at period (frame_of player.old)) }
-    ensures stored { HasCaptured writer.old writer.new [] (period_at period (frame_of player.old)) }
-    ensures next { next_of_player (seat_of player.new) ≡ next_of_player (seat_of player.old) }
-    ensures in_step { AreInStep player.new writer.new }
+    ensures { PublishesBoth player.old writer.old player.new writer.new (period_at period (frame_of player.old)) }
 {
     if is_at_period(player, period) {
         publish(player, writer);
@@ -94,10 +82,7 @@ fn publish_period(player: &mut CardPlayer<'_>, writer: &mut WriterSeat<'_>, peri
 /// Publishes the position of the sum ring and then that of the snoop ring.
 fn publish(player: &mut CardPlayer<'_>, writer: &mut WriterSeat<'_>)
     requires { AreInStep player.old writer.old }
-    ensures played { HasPlayed (seat_of player.old) (seat_of player.new) [] (frame_of player.old ∷ []) }
-    ensures stored { HasCaptured writer.old writer.new [] (frame_of player.old ∷ []) }
-    ensures next { next_of_player (seat_of player.new) ≡ next_of_player (seat_of player.old) }
-    ensures in_step { AreInStep player.new writer.new }
+    ensures { PublishesBoth player.old writer.old player.new writer.new (frame_of player.old ∷ []) }
 {
     player.publish();
     writer.publish();

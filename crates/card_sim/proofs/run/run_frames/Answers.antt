@@ -18,9 +18,9 @@ loop-frame-preserved c =
     let at_is : at ≡ c.loop-frame.frame * (geometry_of p).channels = ap (λ (g : Geometry). c.loop-frame.frame * g.channels) c.geometry-channels.ensures in
     let same : (geometry_of q).channels ≡ (geometry_of p).channels = ap (λ (k : Key). k.geometry.channels) filled.played.goes.key in
     let last_is : frame_of c.run_frame.new.player ≡ frame_of p + c.loop-frame.frame + 1 =
-    ap (λ (x : Cursor). x.frame) c.run_frame.ensures.next ∙ ap (λ (x : Cursor). x.frame + 1) filled.next in (
+    ap (λ (x : Cursor). x.frame) c.run_frame.ensures.takes.next ∙ ap (λ (x : Cursor). x.frame + 1) filled.next in (
       HasFilled-more (seat_of p) (seat_of q) (seat_of c.run_frame.new.player) (seat_of c.publish_period.new.player) c.args.period c.loop-frame.frame at c.args.out.now c.loop-frame.out c.run_frame.new.out
-          filled at_is c.run_frame.ensures.played c.run_frame.ensures.next c.run_frame.ensures.before c.run_frame.ensures.rest c.publish_period.ensures.played c.publish_period.ensures.next,
+          filled at_is c.run_frame.ensures.takes.played c.run_frame.ensures.takes.next c.run_frame.ensures.takes.before c.run_frame.ensures.takes.rest c.publish_period.ensures.played c.publish_period.ensures.next,
       HasCaptured-more c.args.writer.now c.loop-frame.writer c.run_frame.new.writer c.publish_period.new.writer c.args.captured.now c.args.period (frame_of p) c.loop-frame.frame at (geometry_of p).channels (frame_of c.run_frame.new.player)
           c.loop-frame.invariant.1 at_is
           (subst (λ (n : ℕ). HasCaptured c.loop-frame.writer c.run_frame.new.writer (drop at (take (at + n) c.args.captured.now)) []) same c.run_frame.ensures.stored)
