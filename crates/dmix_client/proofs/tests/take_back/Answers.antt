@@ -1,4 +1,4 @@
-use Rattle.std.proofs.Common.{◌≡◌, ◌<◌, ◌+◌, ℕ, List, [], ◌++◌, ◌∙◌, ap, sym, refl, subst, arith, length}
+use Rattle.std.proofs.Common.{◌≡◌, ◌+◌, ℕ, List, [], ◌++◌, ◌∙◌, ap, sym, refl, subst, arith, length}
 use Rattle.std.specs.Prelude.{false, ℤ, Result}
 use Rattle.snd_base.specs.declared.errors.PcmError.{PcmError}
 use Rattle.mix_core.specs.declared.gate.Gate as gates
