@@ -1,8 +1,7 @@
 -- What the load of a rewind leaves, behind which nothing is committed.
 use Rattle.std.proofs.Common.{◌≡◌, ◌≤◌, ◌+◌, ℕ, List, [], ◌∙◌, ap, sym, refl, subst, arith}
 use Rattle.std.proofs.lemmas.List.{append-nil}
-use Rattle.std.specs.Prelude.{Bool, true, false, ℤ, Option, Some, None, IfNone, IfSome, OnOk, Result, Ok, Err, unwrap_or, ◌++◌}
-use Rattle.std.specs.Option.{option_to_list}
+use Rattle.std.specs.Prelude.{true, false, ℤ, Option, Some, None, IfNone, IfSome, OnOk, Result, Err, unwrap_or, ◌++◌}
 use Rattle.snd_base.specs.declared.errors.PcmError.{PcmError}
 use Rattle.snd_base.specs.declared.errors.PcmError.TheVariants.{Xrun}
 use Rattle.snd_base.specs.declared.errors.XrunWhy.TheVariants as why
@@ -24,7 +23,6 @@ use Rattle.pcm_states.specs.declared.calls.Call.TheVariants as call
 use Rattle.dmix_client.specs.declared.plain.Plain.{Plain}
 use Rattle.dmix_client.specs.Calls.{Answered, committed_by, over_of, seen_at, synced}
 use Rattle.dmix_client.specs.Course.{nothing}
-use Rattle.dmix_client.specs.Causes.{IsCaused}
 use Rattle.dmix_client.specs.Growth.{AnySamples, Keeps, StandsFor, segment_entries}
 use Rattle.dmix_client.specs.Port.{CanUse, CountsFound, CountsStop, IsStep, least_channel}
 use Rattle.dmix_client.specs.Rewind.{checks}

@@ -1,12 +1,10 @@
 -- What a rewind keeps, and why it answered so, by its load and what followed it.
-use Rattle.std.proofs.Common.{◌≡◌, ◌≤◌, ◌+◌, ◌-◌, ℕ, List, [], ◌++◌, ◌∙◌, ap, sym, refl, subst, arith, min, append_assoc}
+use Rattle.std.proofs.Common.{◌≡◌, ◌≤◌, ◌+◌, ◌-◌, ℕ, List, ◌++◌, ◌∙◌, ap, sym, refl, subst, arith, min}
 use Rattle.std.proofs.lemmas.Bool.Decides.{nat_tests}
-use Rattle.std.proofs.lemmas.List.{append-nil}
-use Rattle.std.specs.Prelude.{true, false, ℤ, Option, OnOk, Result, Ok, Err}
+use Rattle.std.specs.Prelude.{false, ℤ, Option, Result, Ok, Err}
 use Rattle.snd_base.specs.declared.errors.PcmError.{PcmError}
 use Rattle.snd_base.specs.declared.errors.PcmError.TheVariants as error
 use Rattle.snd_base.specs.declared.places.Cursor.{Cursor}
-use Rattle.snd_base.specs.Relations.{Composes}
 use Rattle.mix_core.specs.declared.gate.Gate as gates
 use Rattle.mix_core.specs.declared.marks.Marks.{Marks}
 use Rattle.mix_core.specs.declared.port.Entry.{Entry}
@@ -26,18 +24,17 @@ use Rattle.dmix_client.specs.Course.{nothing, numbered}
 use Rattle.dmix_client.specs.Expansion.{run_entries}
 use Rattle.dmix_client.specs.ExpansionLaws.{run_entries-append}
 use Rattle.hw_space.specs.declared.config.Config.{Config}
-use Rattle.dmix_client.specs.Growth.{AnySamples, Keeps, KeepsBack, Loses, StandsFor, TakesAway, segment_entries}
+use Rattle.dmix_client.specs.Growth.{AnySamples, Keeps, KeepsBack, StandsFor, TakesAway, segment_entries}
 use Rattle.dmix_client.specs.Port.{CanUse, CountsStop, pass_by}
-use Rattle.dmix_client.specs.Rewind.{checks, held_entries, rewind_on, rewindable_of, rewinds, takes_back, without}
+use Rattle.dmix_client.specs.Rewind.{checks, held_entries, rewind_on, rewindable_of, rewinds, without}
 use Rattle.dmix_client.specs.RewindCauses.{ExplainsCheck, ExplainsRewind}
 use Rattle.dmix_client.specs.View.{IsMoving, IsSound, held, hw_of, is_moving}
 use Rattle.dmix_client.proofs.CausedBy.{caused-number}
 use Rattle.dmix_client.proofs.Checking.{Checked, checked-keeps, checks-kept}
-use Rattle.dmix_client.proofs.Going.{OnOk-of}
 use Rattle.dmix_client.proofs.Keeping.{client}
 use Rattle.dmix_client.proofs.Left.{IsConfigured-as}
 use Rattle.dmix_client.proofs.Sound.{not_prepared-moving}
-use Rattle.dmix_client.proofs.Taking.{IsBack-of, TakenBack, kept-err, takes_back-kept, takes_back-why}
+use Rattle.dmix_client.proofs.Taking.{IsBack-of, kept-err, takes_back-kept, takes_back-why}
 use Rattle.dmix_client.proofs.Withdrawn.{HoldsBy, TakesAway-joined, TakesAway-none}
 
 least-most : (k h : ℕ) → min k h ≤ k

@@ -1,5 +1,5 @@
 -- A client keeps its counts in order over a start.
-use Rattle.std.proofs.Common.{◌≡◌, ℕ, ◌+◌, ◌-◌, ◌<◌, ◌≤◌, List, ap, sym, refl, subst, arith, length, min, max}
+use Rattle.std.proofs.Common.{◌≡◌, ℕ, ◌+◌, ◌-◌, ◌<◌, ◌≤◌, List, ap, refl, arith, length, min, max}
 use Rattle.std.proofs.lemmas.Bool.Decides.{nat_tests}
 use Rattle.std.specs.Prelude.{Bool, true, false, ℤ, Option, Some, IfSome}
 use Rattle.snd_base.specs.declared.places.Cursor.{Cursor}

@@ -1,14 +1,13 @@
 -- What a rewind leaves of a client that runs, by what its withdrawals left.
-use Rattle.std.proofs.Common.{inl, inr, ◌≡◌, ◌≤◌, ◌<◌, ◌+◌, ◌-◌, ◌*◌, ℕ, List, [], ◌++◌, ◌∙◌, ap, sym, refl, subst, arith, length, min, max}
+use Rattle.std.proofs.Common.{inl, inr, ◌≡◌, ◌≤◌, ◌<◌, ◌+◌, ◌-◌, ℕ, List, [], ◌++◌, ◌∙◌, ap, sym, refl, subst, arith, length, min, max}
 use Rattle.std.proofs.lemmas.Bool.{cases_eq}
 use Rattle.std.proofs.lemmas.Bool.Decides.{nat_tests}
-use Rattle.std.proofs.lemmas.List.{append-nil}
-use Rattle.std.specs.Prelude.{◌↔◌, slice_index, Bool, true, false, nat_eq, if◌then◌else◌, ℤ, Option, Some, None, Result, Ok, Err, unwrap_or}
+use Rattle.std.specs.Prelude.{slice_index, Bool, true, false, nat_eq, if◌then◌else◌, ℤ, Option, Result, Ok, Err, unwrap_or}
 use Rattle.snd_base.specs.declared.errors.PcmError.{PcmError}
 use Rattle.snd_base.specs.declared.errors.PcmError.TheVariants as error
 use Rattle.snd_base.specs.declared.errors.XrunWhy.TheVariants as why
 use Rattle.snd_base.specs.declared.places.Cursor.{Cursor}
-use Rattle.snd_base.specs.Places.{IsFrom, end_frame, first_free}
+use Rattle.snd_base.specs.Places.{IsFrom, first_free}
 use Rattle.mix_core.specs.declared.gate.Gate as gates
 use Rattle.mix_core.specs.declared.port.Ended.{Ended}
 use Rattle.mix_core.specs.declared.port.Ended.TheVariants.{Whole, Late, Stopped}
@@ -24,7 +23,7 @@ use Rattle.pcm_states.specs.declared.states.State.{State}
 use Rattle.pcm_states.specs.declared.states.State.TheVariants.{Paused, Prepared, Running, Xrun}
 use Rattle.dmix_client.specs.declared.commit.Commit.{Commit}
 use Rattle.dmix_client.specs.declared.plain.Plain.{Plain}
-use Rattle.dmix_client.specs.Calls.{Answered, pending_of}
+use Rattle.dmix_client.specs.Calls.{Answered}
 use Rattle.dmix_client.specs.Causes.{IsCaused}
 use Rattle.dmix_client.specs.RewindCauses.{IsKeptCause}
 use Rattle.dmix_client.specs.Expansion.{run_entries, sample_at}
@@ -39,7 +38,7 @@ use Rattle.dmix_client.proofs.Grown.{configured-moving}
 use Rattle.dmix_client.proofs.Keeping.{client}
 use Rattle.dmix_client.proofs.Left.{IsConfigured-as}
 use Rattle.dmix_client.proofs.Sound.{hw-started}
-use Rattle.dmix_client.proofs.Withdrawn.{AreLeft, HoldsBy, TakesAt-back, TakesAway-behind, TakesAway-joined, TakesAway-none, TookFrames, last_frame, last_place}
+use Rattle.dmix_client.proofs.Withdrawn.{AreLeft, HoldsBy, TakesAt-back, TakesAway-behind, TookFrames, last_frame, last_place}
 
 -- so many frames can be taken back: they are accepted, and the committed ones among them aren't played, nor before the floor
 pub record IsBack (d : Plain) (floor : Cursor) (n : ℕ) : Type 0 where

@@ -1,5 +1,5 @@
 -- The loops that withdraw the samples of a frame, and frames, take their courses.
-use Rattle.std.proofs.Common.{◌≡◌, ℕ, ◌+◌, ◌-◌, ◌<◌, ◌≤◌, suc, zero, refl, sym, ◌∙◌, ap, subst, arith, List, length}
+use Rattle.std.proofs.Common.{◌≡◌, ℕ, ◌+◌, ◌<◌, ◌≤◌, suc, zero, refl, sym, ◌∙◌, ap, subst, arith, List, length}
 use Rattle.std.specs.Prelude.{ℤ, slice_index}
 use Rattle.mix_core.specs.declared.gate.Gate as gates
 use Rattle.mix_core.specs.declared.port.Ended.{Ended}
@@ -7,10 +7,10 @@ use Rattle.mix_core.specs.declared.port.Ended.TheVariants.{Whole, Late, Stopped}
 use Rattle.mix_core.specs.declared.port.MixPort as mixport
 use Rattle.mix_core.specs.Laid.{a_withdrawal}
 use Rattle.course.specs.AtPort.{LaysAt, LoadsAt, NoGet, TakesAt}
-use Rattle.course.specs.Course.{◌>>=◌, ends, lays}
+use Rattle.course.specs.Course.{lays}
 use Rattle.course.specs.CourseLaws.{Takes-then}
 use Rattle.bindings.specs.Bound.{AreBindings, rising}
-use Rattle.bindings.specs.RisingLaws.{length-rising, rising-within}
+use Rattle.bindings.specs.RisingLaws.{rising-within}
 use Rattle.dmix_client.specs.declared.commit.Commit.{Commit}
 use Rattle.dmix_client.specs.Course.{nothing}
 use Rattle.dmix_client.specs.Rewind.{back_on, left_of, take_each, take_frames, take_on}

@@ -1,10 +1,10 @@
 -- What the withdrawals of a rewind did at a port: which adds it lost at the end of those that stand, and where its cursor is.
-use Rattle.std.proofs.Common.{◌≡◌, ℕ, ◌+◌, ◌-◌, ◌<◌, ◌≤◌, suc, zero, refl, sym, ◌∙◌, ap, subst, arith, List, [], ◌∷◌, ◌++◌, length, take, map, get_or, append_assoc, zero-add}
+use Rattle.std.proofs.Common.{◌≡◌, ℕ, ◌+◌, ◌-◌, ◌<◌, ◌≤◌, suc, zero, refl, sym, ◌∙◌, ap, subst, arith, List, [], ◌∷◌, ◌++◌, length, take, map, get_or, append_assoc}
 use Rattle.std.proofs.Math.Seq.{take-suc}
 use Rattle.std.proofs.lemmas.Bool.Decides.{nat_tests}
 use Rattle.std.proofs.lemmas.List.{append-nil, map-append}
 use Rattle.std.proofs.lemmas.List.Sums.{fold-append}
-use Rattle.std.specs.Prelude.{ℤ, Bool, true, false, nat_eq, if◌then◌else◌, fold, slice_index, Option}
+use Rattle.std.specs.Prelude.{ℤ, Bool, true, false, nat_eq, if◌then◌else◌, fold, slice_index}
 use Rattle.snd_base.specs.declared.places.Cursor.{Cursor}
 use Rattle.snd_base.specs.Places.{IsFrom}
 use Rattle.snd_base.specs.Relations.{Composes}
@@ -18,7 +18,6 @@ use Rattle.mix_core.specs.Laid.{a_withdrawal, an_add, stand_after, without_last}
 use Rattle.mix_core.specs.MarkLaws.{without_last-more}
 use Rattle.mix_core.specs.Port.{IsPast, OnLate, OnWhole, PortView, pass_of_end}
 use Rattle.course.specs.AtPort.{LaysAt, LoadsAt, NoGet, TakesAt}
-use Rattle.course.specs.Course.{◌>>=◌}
 use Rattle.course.specs.CourseLaws.{Takes-parts}
 use Rattle.bindings.specs.Bound.{AreBindings, rising}
 use Rattle.bindings.specs.RisingLaws.{length-rising}
@@ -27,7 +26,7 @@ use Rattle.dmix_client.specs.Expansion.{frame_entries, run_entries}
 use Rattle.dmix_client.specs.ExpansionLaws.{frames_used, run_entries-append}
 use Rattle.dmix_client.specs.Growth.{TakesAway}
 use Rattle.dmix_client.specs.Port.{least_channel}
-use Rattle.dmix_client.specs.Rewind.{back_on, left_of, take_each, take_frames, take_on}
+use Rattle.dmix_client.specs.Rewind.{back_on, take_each, take_frames}
 use Rattle.dmix_client.proofs.Frames.{IsFrom-later, marks-joined, rising-least}
 
 -- the laws by which a port's standing adds follow from what it laid

@@ -9,14 +9,14 @@ use Rattle.snd_base.specs.declared.errors.PcmError.{PcmError}
 use Rattle.mix_core.specs.declared.gate.Gate as gates
 use Rattle.mix_core.specs.declared.port.Entry.{Entry}
 use Rattle.mix_core.specs.declared.port.MixPort as mixport
-use Rattle.mix_core.specs.Laid.{AreAdds, an_add}
+use Rattle.mix_core.specs.Laid.{AreAdds}
 use Rattle.bindings.specs.Bound.{rising}
 use Rattle.pcm_states.specs.declared.states.State.TheVariants.{Paused, Running}
 use Rattle.dmix_client.specs.declared.plain.Plain.{Plain}
 use Rattle.dmix_client.specs.Calls.{rebased}
 use Rattle.dmix_client.specs.Expansion.{frame_entries, run_entries, sample_at}
 use Rattle.dmix_client.specs.ExpansionLaws.{run_entries-append, run_entries-same}
-use Rattle.dmix_client.specs.Growth.{IsBacked, Keeps, KeepsBack, StandsFor, segment_entries}
+use Rattle.dmix_client.specs.Growth.{IsBacked, Keeps, KeepsBack, segment_entries}
 use Rattle.dmix_client.specs.GrowthLaws.{StandsFor-rebased}
 use Rattle.dmix_client.specs.Rewind.{held_entries}
 use Rattle.dmix_client.specs.View.{ClientView, IsSound, held, hw_of, is_moving, is_set_up}

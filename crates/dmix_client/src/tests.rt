@@ -157,6 +157,13 @@ fn avail_update(rt: &impl Abort, core: &mut Core, client: &mut Client) -> Result
     client.avail_update(&mut turn, &mut NeverStops)
 }
 
+fn rewindable(rt: &impl Abort, core: &mut Core, client: &mut Client) -> Result<u64, PcmError> {
+    assert!(rt; core.members() > 0);
+    let mut turn = core.turn(0);
+    assert!(rt; client.can_use(&turn));
+    client.rewindable(&mut turn, &mut NeverStops)
+}
+
 fn delay(rt: &impl Abort, core: &mut Core, client: &mut Client) -> Result<u64, PcmError> {
     assert!(rt; core.members() > 0);
     let mut turn = core.turn(0);
@@ -419,6 +426,106 @@ fn a_resume_that_is_stopped_changes_no_count(rt: HostRuntime) -> Result<(), Fail
     assert_eq!(rt; client.state(), State::Paused);
     assert_eq!(rt; client.segment(), before);
     assert_eq!(rt; client.fed(), 256);
+    Ok(())
+}
+
+/// What a new client at a core of a mono ring took back of the frames that it wrote.
+#[derive(Drop)]
+struct TakenBack {
+    core: Core,
+    client: Client,
+    answer: Result<u64, PcmError>,
+}
+
+/// A new client writes some frames and takes some back, by a gate.
+fn take_back<G: Gate>(
+    rt: &impl Abort,
+    alloc: Global,
+    gate: &mut G,
+    samples: &[i16],
+    frames: u64,
+) -> Result<TakenBack, PcmError> {
+    let mut core = Core::new(alloc, RING, 1)?;
+    let mut client = Client::new(alloc, RING, 0, 64);
+    client.hw_params(alloc, MONO, Bindings::identity(1))?;
+    let mut turn = core.turn(0);
+    assert!(rt; client.can_use(&turn));
+    assert!(rt; client.can_offer(samples));
+    client.writei(&mut turn, &mut NeverStops, samples)?;
+    client.counts_are_sound();
+    assert!(rt; client.can_use(&turn));
+    let answer = client.rewind(&mut turn, gate, frames);
+    Ok(TakenBack {
+        core,
+        client,
+        answer,
+    })
+}
+
+// A rewind of half of what is written leaves the first half in the card's ring.
+#[test]
+fn a_rewind_leaves_the_first_half(rt: HostRuntime) -> Result<(), Fail> {
+    let samples = [100; 64];
+    let mut taken = take_back(&rt, rt.alloc(), &mut NeverStops, &samples, 32)?;
+    assert_eq!(rt; taken.answer, Ok(32));
+    assert_eq!(rt; taken.client.state(), State::Running);
+    assert_eq!(rt; taken.client.seen(), Some(0));
+    let laid = Segment {
+        source: 0,
+        card: 64,
+        whole: 32,
+        part: 0,
+    };
+    assert_eq!(rt; taken.client.segment(), laid);
+    assert_eq!(rt; taken.client.fed(), 32);
+    assert_eq!(rt; heard(&mut taken.core, 64), Ok(0));
+    assert_eq!(rt; heard(&mut taken.core, 32), Ok(32));
+    assert_eq!(rt; heard(&mut taken.core, 160), Ok(0));
+    Ok(())
+}
+
+// A rewind that is stopped at its fifth ask withdrew one frame: the load asks once, and a withdrawal twice.
+#[test]
+fn a_rewind_that_is_stopped_leaves_the_rest(rt: HostRuntime) -> Result<(), Fail> {
+    let samples = [100; 64];
+    let mut gate = StopsOnce {
+        left: 4,
+        stopped: false,
+    };
+    let mut taken = take_back(&rt, rt.alloc(), &mut gate, &samples, 32)?;
+    assert_eq!(rt; taken.answer, Err(PcmError::Stopped));
+    assert_eq!(rt; taken.client.state(), State::Running);
+    assert!(rt; taken.client.is_stopped());
+    let laid = Segment {
+        source: 0,
+        card: 64,
+        whole: 63,
+        part: 0,
+    };
+    assert_eq!(rt; taken.client.segment(), laid);
+    assert_eq!(rt; taken.client.fed(), 63);
+    assert_eq!(rt; heard(&mut taken.core, 256), Ok(63));
+    Ok(())
+}
+
+// Frames that were written over withdrawn ones aren't withdrawn again: a half is taken back and written anew, and then
+// nothing can be taken back.
+#[test]
+fn frames_that_were_taken_back_once_stay(rt: HostRuntime) -> Result<(), Fail> {
+    let samples = [100; 64];
+    let mut taken = take_back(&rt, rt.alloc(), &mut NeverStops, &samples, 32)?;
+    let wrote = write(&rt, &mut taken.core, &mut taken.client, &samples[32..]);
+    assert_eq!(rt; wrote, Ok(32));
+    let more = rewindable(&rt, &mut taken.core, &mut taken.client);
+    assert_eq!(rt; more, Ok(0));
+    let laid = Segment {
+        source: 0,
+        card: 64,
+        whole: 64,
+        part: 0,
+    };
+    assert_eq!(rt; taken.client.segment(), laid);
+    assert_eq!(rt; heard(&mut taken.core, 256), Ok(64));
     Ok(())
 }
 

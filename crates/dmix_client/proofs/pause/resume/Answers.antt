@@ -1,4 +1,4 @@
-use Rattle.std.proofs.Common.{ℕ, refl, subst, sym}
+use Rattle.std.proofs.Common.{subst, sym}
 use Rattle.snd_base.specs.declared.places.Cursor.{Cursor}
 use Rattle.course.specs.AtPort.{TakesAt}
 use Rattle.pcm_states.specs.declared.states.State.TheVariants.{Running}
@@ -6,7 +6,6 @@ use Rattle.dmix_client.specs.declared.plain.Plain.{Plain}
 use Rattle.dmix_client.specs.Calls.{start_count, started_in}
 use Rattle.dmix_client.specs.Course.{looks, resumes}
 use Rattle.dmix_client.proofs.Looking.{resumes-by}
-use Rattle.dmix_client.proofs.Resuming.{CanUse-rebased, IsSound-rebased}
 use Rattle.dmix_client.proofs.pause.resume.Goals as goal
 
 pub returns-clause-takes : goal.returns-clause-takes

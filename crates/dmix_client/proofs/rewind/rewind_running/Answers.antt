@@ -1,15 +1,13 @@
 use Rattle.std.proofs.Common.{◌≡◌, ◌≤◌, ◌∙◌, ℕ, ap, arith, refl, subst, sym}
 use Rattle.std.proofs.lemmas.Bool.Decides.{nat_tests}
-use Rattle.std.specs.Prelude.{Err, Ok, Result, List, ℤ, false, min}
-use Rattle.snd_base.specs.declared.errors.PcmError.{PcmError}
+use Rattle.std.specs.Prelude.{min}
 use Rattle.snd_base.specs.declared.places.Cursor.{Cursor}
 use Rattle.mix_core.specs.declared.marks.Marks.{Marks}
 use Rattle.pcm_states.specs.declared.states.State.TheVariants.{Running}
 use Rattle.course.specs.AtPort.{TakesAt}
-use Rattle.dmix_client.specs.Calls.{Answered}
-use Rattle.dmix_client.specs.Rewind.{checks, held_entries, rewind_on, rewindable_of, takes_back}
+use Rattle.dmix_client.specs.Rewind.{rewindable_of, takes_back}
 use Rattle.dmix_client.specs.View.{IsGoing}
-use Rattle.dmix_client.proofs.Checking.{Checked, checks-kept}
+use Rattle.dmix_client.proofs.Checking.{checks-kept}
 use Rattle.dmix_client.proofs.Going.{OnOk-of, ok-of}
 use Rattle.dmix_client.proofs.Rewinding.{rewinds-by, standing-checked}
 use Rattle.dmix_client.proofs.Withdrawn.{HoldsBy}

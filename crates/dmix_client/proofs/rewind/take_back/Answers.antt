@@ -1,12 +1,9 @@
-use Rattle.std.proofs.Common.{◌≡◌, ◌≤◌, ◌+◌, ◌-◌, ℕ, length, refl, subst, sym, arith}
-use Rattle.std.specs.Prelude.{true}
-use Rattle.mix_core.specs.Port.{OnLate}
-use Rattle.course.specs.AtPort.{TakesAt}
+use Rattle.std.proofs.Common.{◌≤◌, ◌-◌, ℕ, length, refl, subst, sym, arith}
 use Rattle.dmix_client.specs.Expansion.{run_entries}
-use Rattle.dmix_client.specs.Rewind.{back_of, take_frames}
-use Rattle.dmix_client.specs.View.{IsMoving, held, hw_of, is_moving}
+use Rattle.dmix_client.specs.Rewind.{back_of}
+use Rattle.dmix_client.specs.View.{IsMoving, held}
 use Rattle.dmix_client.proofs.Taking.{IsBack, IsBack-of, held-last, left-few, left-part, take_frames-took, takes_back-by}
-use Rattle.dmix_client.proofs.Withdrawn.{HoldsBy, TookFrames}
+use Rattle.dmix_client.proofs.Withdrawn.{HoldsBy}
 use Rattle.dmix_client.proofs.rewind.take_back.Goals as goal
 
 pub take_frames-left-requires-clause-held : goal.take_frames-left-requires-clause-held

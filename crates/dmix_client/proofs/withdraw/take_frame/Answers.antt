@@ -1,10 +1,10 @@
-use Rattle.std.proofs.Common.{rules, w16, to_z, of_z, to_z-of_z, SFits, ◌≡◌, ℕ, ◌+◌, ◌-◌, ◌<◌, ◌≤◌, ◌∙◌, ◌++◌, [], ◌∷◌, ap, sym, refl, subst, arith, length, pos}
+use Rattle.std.proofs.Common.{rules, w16, to_z, of_z, to_z-of_z, SFits, ◌≡◌, ℕ, ◌+◌, ◌-◌, ◌∙◌, ap, sym, refl, subst, arith, length, pos}
 use Rattle.std.specs.Prelude.{slice_index, slice_index_or}
 use Rattle.snd_base.specs.declared.places.Cursor.{Cursor}
 use Rattle.snd_base.specs.Places.{IsFrom}
 use Rattle.mix_core.specs.declared.port.Ended.{Ended}
 use Rattle.mix_core.specs.declared.port.Ended.TheVariants.{Whole}
-use Rattle.mix_core.specs.Laid.{a_withdrawal, an_add}
+use Rattle.mix_core.specs.Laid.{a_withdrawal}
 use Rattle.mix_core.specs.Port.{PortView}
 use Rattle.course.specs.AtPort.{LaysAt, TakesAt}
 use Rattle.bindings.specs.Bound.{rising}
@@ -12,7 +12,7 @@ use Rattle.dmix_client.specs.Expansion.{frame_entries}
 use Rattle.dmix_client.specs.Port.{least_channel}
 use Rattle.dmix_client.specs.Rewind.{take_each}
 use Rattle.dmix_client.proofs.Frames.{IsFrom-later, rising-least}
-use Rattle.dmix_client.proofs.Withdrawing.{Back-all, Back-ended, Back-next, Back-none}
+use Rattle.dmix_client.proofs.Withdrawing.{Back-all, Back-ended, Back-next}
 use Rattle.dmix_client.proofs.Withdrawn.{stands-last}
 use Rattle.dmix_client.proofs.withdraw.take_frame.Goals as goal
 

@@ -1,4 +1,4 @@
-use Rattle.std.proofs.Common.{◌≡◌, ℕ, ◌≤◌, length}
+use Rattle.std.proofs.Common.{◌≡◌, ◌≤◌, length}
 use Rattle.std.specs.Prelude.{pos, slice_index_or}
 use Rattle.snd_base.specs.Places.{IsFrom}
 use Rattle.bindings.specs.Bound.{AreBindings}

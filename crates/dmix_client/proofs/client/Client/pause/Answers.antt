@@ -1,11 +1,11 @@
-use Rattle.std.proofs.Common.{rules, ◌≡◌, ap, subst, sym, ◌∙◌}
+use Rattle.std.proofs.Common.{rules, ◌≡◌, subst, sym}
 use Rattle.std.specs.Prelude.{List, None, Ok, Result, ℤ}
 use Rattle.snd_base.specs.declared.errors.PcmError.{PcmError}
-use Rattle.pcm_states.specs.declared.states.State.TheVariants.{Paused, Running}
+use Rattle.pcm_states.specs.declared.states.State.TheVariants.{Running}
 use Rattle.pcm_states.specs.declared.calls.Call.TheVariants as call
 use Rattle.course.specs.AtPort.{TakesAt}
 use Rattle.dmix_client.specs.declared.plain.Plain.{Plain}
-use Rattle.dmix_client.specs.Calls.{base_of, paused, pending_of, rebased, refusal_of, resumed, start_count, started_in}
+use Rattle.dmix_client.specs.Calls.{base_of, pending_of, rebased, refusal_of, resumed, start_count, started_in}
 use Rattle.dmix_client.specs.Causes.{Explains}
 use Rattle.dmix_client.specs.Course.{resumes}
 use Rattle.dmix_client.specs.Growth.{AnySamples, Keeps}

@@ -1,22 +1,19 @@
-use Rattle.std.proofs.Common.{rules, ◌≡◌, ◌≤◌, ◌∙◌, ℕ, ap, arith, refl, subst, sym}
-use Rattle.std.proofs.lemmas.Bool.Decides.{nat_tests}
-use Rattle.std.specs.Prelude.{List, Ok, Result, ℤ, false, min}
+use Rattle.std.proofs.Common.{rules, ◌≡◌, ℕ, refl, subst, sym}
+use Rattle.std.specs.Prelude.{List, Ok, Result, ℤ, false}
 use Rattle.snd_base.specs.declared.errors.PcmError.{PcmError}
 use denote.Enum.Bare.{same_true}
 use Rattle.pcm_states.specs.contracts.states.State.{the_type}
-use Rattle.pcm_states.specs.declared.states.State.TheVariants.{Prepared, Running}
+use Rattle.pcm_states.specs.declared.states.State.TheVariants.{Running}
 use Rattle.pcm_states.specs.declared.calls.Call.TheVariants as call
-use Rattle.course.specs.AtPort.{TakesAt}
-use Rattle.dmix_client.specs.declared.plain.Plain.{Plain}
 use Rattle.dmix_client.specs.Calls.{synced, with_number}
-use Rattle.dmix_client.specs.Course.{nothing, numbered}
-use Rattle.dmix_client.specs.Growth.{AnySamples, Keeps, KeepsBack}
+use Rattle.dmix_client.specs.Course.{nothing}
+use Rattle.dmix_client.specs.Growth.{AnySamples}
 use Rattle.dmix_client.specs.Port.{CanUse}
-use Rattle.dmix_client.specs.Rewind.{checks, rewindable_of, rewinds, without}
-use Rattle.dmix_client.specs.RewindCauses.{ExplainsCheck, ExplainsRewind}
+use Rattle.dmix_client.specs.Rewind.{rewindable_of}
+use Rattle.dmix_client.specs.RewindCauses.{ExplainsCheck}
 use Rattle.dmix_client.specs.View.{ClientView}
 use Rattle.dmix_client.proofs.Keeping.{Keeps-none, client}
-use Rattle.dmix_client.proofs.Rewinding.{numbered-kept, rewinds-kept, without-kept}
+use Rattle.dmix_client.proofs.Rewinding.{numbered-kept}
 use Rattle.dmix_client.proofs.Withdrawn.{HoldsBy}
 use Rattle.dmix_client.proofs.client.Client.rewindable.Goals as goal
 

@@ -1,4 +1,4 @@
-use Rattle.std.proofs.Common.{ℕ, refl, rules, subst, sym}
+use Rattle.std.proofs.Common.{refl, rules, subst, sym}
 use Rattle.std.specs.Prelude.{List, Ok, Result, ℤ}
 use Rattle.snd_base.specs.declared.errors.PcmError.{PcmError}
 use Rattle.dmix_client.specs.Growth.{AnySamples}
