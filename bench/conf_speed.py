@@ -4,8 +4,7 @@
 usage: bench/conf_speed.py        from the top of the repository; proves and builds crates/conf_bench if needed
 
 Each text is read nine times in one run, and there are ROUNDS runs; the least time counts. The limit is 40 ms for a text of
-1 MiB whose groups have few names. A name is sought among all names of its group, so the last rows, whose one group has
-so many names, tell what that costs.
+1 MiB. A list has a name and a text for each of its values, so the last row, with two bytes for a value, is without limit.
 """
 import subprocess
 import sys
@@ -50,9 +49,11 @@ def texts():
     yield "one device, defined again and again", filled(lambda i: DEVICE.format(name="dmixer", key=1024 + i, card=i % 8)), True
     yield "comments", filled(lambda i: "# a line of a comment that is as long as they are\n"), True
     yield "keys of 15 parts", filled(lambda i: f"a.b.c.d.e.f.g.h.i.j.k.l.m.n.o {i % 10}\n"), True
-    yield "devices of many names", filled(lambda i: DEVICE.format(name=f"dmix{i}", key=1024 + i, card=i % 8)), False
-    for names in (1000, 4000, 16000):
-        yield f"one group of {names} names", "".join(f"k{i} {i % 10}\n" for i in range(names)), False
+    yield "keys of 15 parts, each with another last one", filled(lambda i: f"a.b.c.d.e.f.g.h.i.j.k.l.m.n.o{i} {i % 10}\n"), True
+    yield "devices of many names", filled(lambda i: DEVICE.format(name=f"dmix{i}", key=1024 + i, card=i % 8)), True
+    yield "names in one group", filled(lambda i: f"k{i} {i % 10}\n"), True
+    yield "a list of 20,000 values", "a [\n" + "".join(f"{i % 10}\n" for i in range(20000)) + "]\n", True
+    yield "a list of values", "a [\n" + filled(lambda i: f"{i % 10}\n")[: SIZE - 6] + "]\n", False
 
 
 def milliseconds(path):

@@ -20,7 +20,8 @@ CRATE = TOP / "crates/plug_bench"
 PROGRAM = CRATE / "out/plug_bench"
 RATES = (8000, 11025, 16000, 22050, 32000, 44100, 48000, 96000)
 WIDTHS = {"s8": 1, "u8": 1, "s16le": 2, "s16be": 2, "s24": 3, "s32": 4}
-SAMPLES, ROUNDS = 4_000_000, 20
+# A round is short, so that some of many aren't interrupted by what else runs on the machine; sox gets more samples.
+SAMPLES, ROUNDS, TIMES = 200_000, 2000, 20
 
 
 def sample(form, raw):
@@ -88,17 +89,18 @@ def compare(folder):
 
 
 def sox_time(folder, in_rate, out_rate):
-    """The processor time of sox for the same file, in seconds, the least of three."""
+    """The time of sox for a file of the same samples again and again, in seconds for one of them, the least of three."""
     if shutil.which("sox") is None:
         return None
-    words = ["sox", "-t", "raw", "-e", "signed", "-b", "16", "-c", "2", "-r", str(in_rate), str(folder / "in")]
+    (folder / "many").write_bytes((folder / "in").read_bytes() * TIMES)
+    words = ["sox", "-t", "raw", "-e", "signed", "-b", "16", "-c", "2", "-r", str(in_rate), str(folder / "many")]
     words += ["-t", "raw", "-r", str(out_rate), str(folder / "sox_out"), *(["rate", "-q"] if in_rate != out_rate else [])]
     best = float("inf")
     for _ in range(3):
         before = time.perf_counter()
         subprocess.run(words, check=True, stderr=subprocess.DEVNULL)
         best = min(best, time.perf_counter() - before)
-    return best
+    return best / TIMES
 
 
 def measure(folder):

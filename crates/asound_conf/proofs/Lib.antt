@@ -6,3 +6,4 @@ pub mod Settles
 pub mod Readings
 pub mod Numerals
 pub mod NumberedValues
+pub mod Indexes

@@ -1,5 +1,5 @@
 -- The device that a configuration defines under a name, or why it defines none.
-use Rattle.std.specs.Prelude.{ℕ, zero, suc, ◌+◌, ◌*◌, ◌/◌, ◌%◌, ◌==◌, ◌&&◌, ◌||◌, not, nat_lt, nat_le, Bool, if◌then◌else◌, List, [], ◌∷◌, ◌++◌, length, slice_index, codes, bytes_eq, Option, Some, None, Result, Ok, Err}
+use Rattle.std.specs.Prelude.{◌≡◌, ◌≤◌, ℕ, zero, suc, ◌+◌, ◌*◌, ◌/◌, ◌%◌, ◌==◌, ◌&&◌, ◌||◌, not, nat_lt, nat_le, Bool, if◌then◌else◌, List, [], ◌∷◌, ◌++◌, length, slice_index, codes, bytes_eq, Option, Some, None, Result, Ok, Err}
 use Rattle.std.specs.Str.{all_ascii_digits}
 use Rattle.std.specs.Str.Parse.{digits_value}
 use Rattle.std.specs.Fmt.{decimal}
@@ -137,6 +137,18 @@ is_ring ring = nat_le 64 ring && nat_le ring 16384
 -- a period divides its ring at least twice
 abbrev pub is_fit : ℕ → ℕ → Bool
 is_fit period ring = nat_le period (ring / 2) && ring % period == 0
+
+-- a card's numbers are in their ranges, and its period divides its ring at least twice
+pub record IsCard (channels rate period ring : ℕ) : Type 0 where
+  pub channels_low : 1 ≤ channels
+  pub channels_high : channels ≤ 8
+  pub rate_low : 4000 ≤ rate
+  pub rate_high : rate ≤ 192000
+  pub period_low : 16 ≤ period
+  pub ring_low : 64 ≤ ring
+  pub ring_high : ring ≤ 16384
+  pub period_twice : period * 2 ≤ ring
+  pub period_divides : ring % period ≡ 0
 
 -- the card of these numbers
 abbrev pub card_with : Numbers → ℕ → ℕ → ℕ → ℕ → Result Card ConfWhy

@@ -3,6 +3,7 @@ pub mod Grammar
 pub mod Key
 pub mod NodeFalls
 pub mod Place
+pub mod Index
 pub mod Reading
 pub mod Text
 pub mod Token

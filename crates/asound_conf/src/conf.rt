@@ -1,16 +1,19 @@
 //! Groups of named texts and groups.
 
+use crate::index::Index;
 use crate::text::ConfText;
 use std::alloc::Global;
 use std::marker::Model;
 
 /// A group: named nodes in the order in which they were added. In one that was read no two names are the same; where two
-/// are, the later node counts. Contracts see the group without where it lies in memory.
+/// are, the later node counts. Contracts see the group without where it lies in memory, and without its index.
 #[cycle(tree)]
 #[derive(Debug, Drop)]
 pub struct Conf {
     /// Each name and its node.
     pub items: Vec<(ConfText, Node)>,
+    /// Where names are among the items, once there are many.
+    pub(crate) index: Index,
 }
 
 /// What has a name in a group.
@@ -35,6 +38,10 @@ impl Model for Conf {
 
     ghost view = { λ conf. entries_of conf.items.items };
 
+    ghost use Rattle.asound_conf.specs.Index.{IsIndex};
+
+    ghost invariant = { λ conf. IsIndex conf.index conf.items.items };
+
     ghost size = { entries_size };
 
     ghost use Rattle.asound_conf.specs.NodeFalls.{deep-Node-le};
@@ -52,6 +59,7 @@ impl Conf {
     {
         Conf {
             items: Vec::new(alloc),
+            index: Index::none(),
         }
     }
 }

@@ -1,5 +1,5 @@
-ghost use Rattle.std.specs.Prelude.{◌≡◌};
-ghost use Rattle.asound_conf.specs.Device.{device_of};
+ghost use Rattle.std.specs.Prelude.{◌≡◌, IfOk};
+ghost use Rattle.asound_conf.specs.Device.{IsCard, device_of};
 
 use crate::conf::Conf;
 use crate::error::ConfError;
@@ -28,7 +28,10 @@ use crate::plugin::{Device, device_by};
 /// - `BindingKey`: `bindings` isn't a group whose n names are 0 to n - 1 as decimal texts and whose values are numbers.
 /// - `BindingsEmpty`, `BindingsTooMany`, `BindingRange`, `BindingTwice`: as [`bindings::Bindings::read`] says.
 pub fn device(conf: &Conf, name: &[u8]) -> Result<Device, ConfError>
-    ensures { result ≡ device_of conf.now name.now }
+    ensures value { result ≡ device_of conf.now name.now }
+
+    // The device's card is in its ranges.
+    ensures card { IfOk result (λ d. IsCard d.channels d.rate d.period d.ring) }
 {
     match device_by(conf, name) {
         Ok(device) => Ok(device),

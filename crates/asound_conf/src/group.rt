@@ -1,21 +1,24 @@
 //! Nodes in a group: by their names, and down the parts of a key.
 ghost use Rattle.std.specs.Prelude.{◌≡◌, ℕ, ◌<◌, length, option_map, IfOk, OnOk, IfSome, IfNone, Some, None, false, vec_len};
+ghost use Rattle.asound_conf.specs.Index.{IsIndex};
 ghost use Rattle.asound_conf.specs.Tree.{get, group, group_in, has, set, without};
 ghost use Rattle.asound_conf.specs.Place.{base, met, meets_text, node_at, put, put_there};
 ghost use Rattle.asound_conf.specs.View.{added, entries_of, put_node, tree_of, IsLast};
 
 use crate::conf::{Conf, Node};
+use crate::index::Index;
 use crate::part::Part;
 use crate::text::ConfText;
 use std::alloc::{AllocError, Global};
 
-/// The place of the node of this name. It is sought from the end, where what was added last is.
-fn place_of(items: &[(ConfText, Node)], name: &[u8]) -> Option<usize>
+/// The place of the node of this name. It is sought from the last place on that the index tells.
+fn place_of(items: &[(ConfText, Node)], index: &Index, name: &[u8]) -> Option<usize>
+    requires { IsIndex index.now items.now }
     ensures some { IfSome result (λ at. IsLast name.now items.now at) }
     ensures within { IfSome result (λ at. at < length items.now) }
     ensures none { IfNone result (has name.now (entries_of items.now) ≡ false) }
 {
-    let mut left = items.len();
+    let mut left = index.bound(items, name);
     while left > 0 {
         left -= 1;
         if items[left].0.as_bytes() == name {
@@ -26,10 +29,12 @@ fn place_of(items: &[(ConfText, Node)], name: &[u8]) -> Option<usize>
 }
 
 /// Removes the nodes of this name.
-fn remove_all(items: &mut Vec<(ConfText, Node)>, name: &[u8])
-    ensures { entries_of items.new.items ≡ without name.now (entries_of items.old.items) }
+fn remove_all(items: &mut Vec<(ConfText, Node)>, index: &Index, name: &[u8])
+    requires { IsIndex index.now items.old.items }
+    ensures items { entries_of items.new.items ≡ without name.now (entries_of items.old.items) }
+    ensures index { IsIndex index.now items.new.items }
 {
-    while let Some(at) = place_of(items.as_slice(), name) {
+    while let Some(at) = place_of(items.as_slice(), index, name) {
         drop(items.remove(at));
     }
 }
@@ -39,7 +44,7 @@ fn clear(group: &mut Conf, part: &Part)
     ensures { group.new ≡ base part.now group.old }
 {
     if part.removes {
-        remove_all(&mut group.items, part.name.as_bytes());
+        remove_all(&mut group.items, &group.index, part.name.as_bytes());
     }
 }
 
@@ -47,18 +52,22 @@ fn clear(group: &mut Conf, part: &Part)
 fn place_or_add(
     alloc: Global,
     items: &mut Vec<(ConfText, Node)>,
+    index: &mut Index,
     name: &[u8],
 ) -> Result<usize, AllocError>
+    requires { IsIndex index.old items.old.items }
     ensures place { IfOk result (λ at. IsLast name.now items.new.items at) }
     ensures within { IfOk result (λ at. at < vec_len items.new) }
     ensures items { OnOk result (entries_of items.new.items
         ≡ added name.now (entries_of items.old.items)) }
+    ensures index { IsIndex index.new items.new.items }
 {
-    if let Some(at) = place_of(items.as_slice(), name) {
+    if let Some(at) = place_of(items.as_slice(), index, name) {
         return Ok(at);
     }
     let at = items.len();
     let name = ConfText::copied(alloc, name)?;
+    index.add(alloc, items.as_slice(), name.as_bytes())?;
     items.push((name, Node::Group(Conf::new(alloc))))?;
     Ok(at)
 }
@@ -117,7 +126,12 @@ pub fn put(
         return Ok(());
     };
     clear(group, part);
-    let at = place_or_add(alloc, &mut group.items, part.name.as_bytes())?;
+    let at = place_or_add(
+        alloc,
+        &mut group.items,
+        &mut group.index,
+        part.name.as_bytes(),
+    )?;
     put_node(alloc, &mut group.items[at].1, rest, text)
 }
 
@@ -125,7 +139,7 @@ pub fn put(
 pub fn get<'a>(group: &'a Conf, name: &[u8]) -> Option<&'a Node>
     ensures { option_map (λ n. tree_of n.now) result ≡ get name.now group.now }
 {
-    let at = place_of(group.items.as_slice(), name)?;
+    let at = place_of(group.items.as_slice(), &group.index, name)?;
     Some(&group.items[at].1)
 }
 

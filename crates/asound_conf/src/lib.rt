@@ -8,6 +8,8 @@ mod conf;
 mod error;
 mod find;
 mod group;
+mod index;
+mod name;
 mod number;
 mod part;
 mod plugin;

@@ -1,6 +1,6 @@
 //! The dmix, dsnoop and dshare devices that a configuration defines.
-ghost use Rattle.std.specs.Prelude.{◌≡◌, ◌<◌, ◌≤◌, ◌+◌, ◌^◌, option_map};
-ghost use Rattle.asound_conf.specs.Device.{as_group, card_of, defined, device_by, field, field_in, format_of, frames_in, is_fit, is_period, is_ring, is_stream, kind_named, kind_of, number_in, numbers_of, or_default, period_of, ring_of, seen, slave_of, bindings_of};
+ghost use Rattle.std.specs.Prelude.{◌≡◌, ◌<◌, ◌≤◌, ◌+◌, ◌^◌, option_map, IfOk};
+ghost use Rattle.asound_conf.specs.Device.{IsCard, as_group, card_of, defined, device_by, field, field_in, format_of, frames_in, is_fit, is_period, is_ring, is_stream, kind_named, kind_of, number_in, numbers_of, or_default, period_of, ring_of, seen, slave_of, bindings_of};
 ghost use Rattle.asound_conf.specs.Tree.{get};
 ghost use Rattle.asound_conf.specs.View.{tree_of};
 
@@ -244,7 +244,8 @@ fn is_fit(period: u64, ring: u64) -> bool
 
 /// The card of a slave's numbers.
 fn card_of(numbers: &Numbers) -> Result<Card, ConfWhy>
-    ensures { result ≡ card_of numbers.now }
+    ensures value { result ≡ card_of numbers.now }
+    ensures ranges { IfOk result (λ c. IsCard c.channels c.rate c.period c.ring) }
 {
     let channels = or_default(u64::from(numbers.channels), 2);
     let rate = or_default(u64::from(numbers.rate), 48_000);
@@ -273,7 +274,8 @@ fn card_of(numbers: &Numbers) -> Result<Card, ConfWhy>
 /// The device of this name, or why there is none.
 #[tactic(auto, unfolding(crate::specs::Device::device_by))]
 pub fn device_by(root: &Conf, name: &[u8]) -> Result<Device, ConfWhy>
-    ensures { result ≡ device_by root.now name.now }
+    ensures value { result ≡ device_by root.now name.now }
+    ensures card { IfOk result (λ d. IsCard d.channels d.rate d.period d.ring) }
 {
     let definition = defined(b"pcm", name, root)?;
     let slave = slave_of(root, get(definition, b"slave"))?;

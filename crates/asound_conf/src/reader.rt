@@ -80,8 +80,8 @@ fn read_tokens(alloc: Global, text: &[u8]) -> Result<Conf, ConfError>
 /// - `Kind`: a text would be put where a group is, or a group where a text is.
 /// - `Memory`: memory ran out at this line.
 ///
-/// A name is sought among all names of its group, from the end, so a text whose groups have many names takes longer than
-/// its length alone says.
+/// A text is read in time that goes with its length: a group of 16 names or more has an index of them. Names whose hashes are the
+/// same, and many removals by `!` in one large group, take longer.
 #[tactic(auto, unfolding(crate::specs::Grammar::conf_of))]
 pub fn read_conf(alloc: Global, text: &[u8]) -> Result<Conf, ConfError>
     // The answer is what the text means, or its first defect, unless memory ran out.

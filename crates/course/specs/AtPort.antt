@@ -7,7 +7,7 @@ use Rattle.mix_core.specs.declared.port.Entry.{Entry}
 use Rattle.mix_core.specs.declared.port.MixPort as mixport
 use Rattle.mix_core.specs.declared.port.Position.{Position}
 use Rattle.mix_core.specs.Port.{Lays, Loads, PortView}
-use Rattle.course.specs.declared.capture.Got.{Got}
+use Rattle.snoop_core.specs.declared.port.Got.{Got}
 use Rattle.course.specs.Course.{Course, Takes}
 use Rattle.course.specs.CourseLaws.{Takes-keeps}
 

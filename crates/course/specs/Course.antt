@@ -3,7 +3,7 @@ use Rattle.std.specs.Prelude.{◌≡◌, ℕ, Option}
 use Rattle.mix_core.specs.declared.port.Ended.{Ended}
 use Rattle.mix_core.specs.declared.port.Entry.{Entry}
 use Rattle.mix_core.specs.declared.port.Position.{Position}
-use Rattle.course.specs.declared.capture.Got.{Got}
+use Rattle.snoop_core.specs.declared.port.Got.{Got}
 
 -- it ends with a result, or it loads the position (none, where the gate stops it), lays an entry (adds a sample or withdraws
 -- one), or loads a captured frame, and goes on by what came of it

@@ -4,7 +4,7 @@ use Rattle.std.proofs.Common.{refl, sym}
 use Rattle.mix_core.specs.declared.port.Ended.{Ended}
 use Rattle.mix_core.specs.declared.port.Entry.{Entry}
 use Rattle.mix_core.specs.declared.port.Position.{Position}
-use Rattle.course.specs.declared.capture.Got.{Got}
+use Rattle.snoop_core.specs.declared.port.Got.{Got}
 use Rattle.course.specs.Course.{◌>>=◌, Course, Takes, ends, gets, lays, loads}
 
 module _ {S : Type 0} (L : S → Option Position → S → Type 0) (P : S → Entry → Ended → S → Type 0) (G : S → ℕ → Got → S → Type 0) where
@@ -45,6 +45,18 @@ Takes-keeps L P K none then by_load by_lay s t (loads next) y (load, m, step, re
 Takes-keeps L P K none then by_load by_lay s t (lays e next) y (ended, m, step, rest) =
     then s m t (by_lay s m e ended step) (Takes-keeps L P K none then by_load by_lay m t (next ended) y rest)
 Takes-keeps L P K none then by_load by_lay s t (gets frame next) y (got, m, step, rest) = absurd step
+
+-- the same of a course that lays nothing
+pub Takes-keeps_getting : {S X : Type 0} (L : S → Option Position → S → Type 0) (G : S → ℕ → Got → S → Type 0) (K : S → S → Type 0)
+    → ((s : S) → K s s) → ((s m t : S) → K s m → K m t → K s t)
+    → ((s t : S) (load : Option Position) → L s load t → K s t) → ((s t : S) (frame : ℕ) (got : Got) → G s frame got t → K s t)
+    → (s t : S) (m : Course X) (y : X) → Takes L (λ a e ended b. ⊥) G s m t y → K s t
+Takes-keeps_getting L G K none then by_load by_get s t (ends x) y takes = rw takes.there (none s)
+Takes-keeps_getting L G K none then by_load by_get s t (loads next) y (load, m, step, rest) =
+    then s m t (by_load s m load step) (Takes-keeps_getting L G K none then by_load by_get m t (next load) y rest)
+Takes-keeps_getting L G K none then by_load by_get s t (lays e next) y (ended, m, step, rest) = absurd step
+Takes-keeps_getting L G K none then by_load by_get s t (gets frame next) y (got, m, step, rest) =
+    then s m t (by_get s m frame got step) (Takes-keeps_getting L G K none then by_load by_get m t (next got) y rest)
 
 -- where each step of one world is a step of another, so is a course
 pub Takes-follow : {S W X : Type 0} (L : S → Option Position → S → Type 0) (P : S → Entry → Ended → S → Type 0) (G : S → ℕ → Got → S → Type 0)

@@ -1,3 +1,5 @@
 pub mod AtPort
+pub mod AtSnoopPort
 pub mod Course
 pub mod CourseLaws
+pub mod Stops

@@ -1,7 +1,7 @@
 -- What a sync, a start and a write make of a client: it advances by what was laid.
 use Rattle.std.proofs.Common.{◌≡◌, ℕ, ◌+◌, ◌-◌, ◌≤◌, List, [], ◌∙◌, ap, sym, refl, subst, arith, length, min, add-zero}
 use Rattle.std.proofs.lemmas.Bool.Decides.{nat_tests}
-use Rattle.std.specs.Prelude.{Bool, true, false, ◌&&◌, nat_eq, nat_lt, if◌then◌else◌, ◌||◌, is_some, ℤ, Option, Some, None, IfSome, Result, Ok, Err, unwrap_or}
+use Rattle.std.specs.Prelude.{Bool, true, false, ◌&&◌, nat_eq, nat_lt, if◌then◌else◌, ◌||◌, is_some, ℤ, Option, Some, None, IfNone, IfSome, Result, Ok, Err, unwrap_or}
 use Rattle.snd_base.specs.declared.errors.PcmError.{PcmError}
 use Rattle.snd_base.specs.declared.errors.PcmError.TheVariants.{Again}
 use Rattle.snd_base.specs.declared.places.Cursor.{Cursor}
@@ -17,6 +17,7 @@ use Rattle.mix_core.specs.declared.port.Ended.{Ended}
 use Rattle.mix_core.specs.declared.port.Ended.TheVariants as ended
 use Rattle.dmix_client.specs.declared.plain.Plain.{Plain}
 use Rattle.dmix_client.specs.Calls.{Answered, accepted_if, commit_count, commit_entries, committed_by, facts_of, found_at, going_on, going_on_by, is_stop, late_of, over_of, seen_at, settled, start_count, started, started_in, stopped_in, sync_count, synced, taken_of, window_end, written_after}
+use Rattle.dmix_client.specs.Course.{nothing}
 use Rattle.dmix_client.specs.Expansion.{run_entries, sample_at}
 use Rattle.dmix_client.specs.ExpansionLaws.{frames_used}
 use Rattle.dmix_client.specs.Growth.{Follows}
@@ -90,10 +91,10 @@ synced-by_stop c call position commit false newer = record {
   written = omega arith;
 }
 
-pub Advances-synced : (c : Plain) (call : Call) (load : Option Position) (commit : Commit) → c.part ≡ 0 → IsFound load commit (λ position. c) (sync_count c) (length c.bindings)
+pub Advances-synced : (c : Plain) (call : Call) (load : Option Position) (commit : Commit) → c.part ≡ 0 → IfNone load (commit ≡ nothing)
     → IfSome load (λ (position : Position). unwrap_or c.seen 0 ≤ position.frame) → Advances c (synced c call load commit).0 commit c.written
 Advances-synced c call None commit whole found newer =
-    Advances-nothing c (record c { stopped = true }) commit c.written (ap (λ (x : Commit). x.frames) found.nothing) (ap (λ (x : Commit). x.part) found.nothing) whole (omega arith) refl refl refl refl refl refl refl refl (omega arith)
+    Advances-nothing c (record c { stopped = true }) commit c.written (ap (λ (x : Commit). x.frames) found) (ap (λ (x : Commit). x.part) found) whole (omega arith) refl refl refl refl refl refl refl refl (omega arith)
 Advances-synced c call (Some position) commit whole found newer = synced-by_stop c call position commit (is_stop commit.ended) newer
 
 pub IsWithin-synced : (c : Plain) (load : Option Position) (commit : Commit) → AreBindings c.bindings → c.part ≡ 0 → c.committed ≤ c.written → IsFound load commit (λ position. c) (sync_count c) (length c.bindings)
@@ -111,7 +112,7 @@ IsWithin-synced c (Some position) commit bound whole low found = record {
 }
 
 -- what it laid is what its commit laid
-synced-card : (c : Plain) (call : Call) (position : Position) (commit : Commit) (stop : Bool)
+pub synced-card : (c : Plain) (call : Call) (position : Position) (commit : Commit) (stop : Bool)
     → (if stop then stopped_in {T = Unit {0}} (committed_by (seen_at c position) commit)
     else settled (committed_by (seen_at c position) commit) (next_of c.state call (facts_of (committed_by (seen_at c position) commit) position (over_of (seen_at c position) position) (late_of (seen_at c position) commit)))).0.card ≡ c.card
 synced-card c call position commit true = refl
@@ -234,7 +235,7 @@ started-card c state cursor position commit false =
     let outcome = next_of Prepared call.Start (found_at position (late_of (started_in c state position cursor) commit)) in
     going_on-card (committed_by (started_in c state position cursor) commit) outcome.answer state outcome.state
 
-laid_by-none : (c d : Plain) (ring : List ℤ) (x : Commit) → x.frames ≡ 0 → x.part ≡ 0 → laid_by c d ring x ≡ []
+pub laid_by-none : (c d : Plain) (ring : List ℤ) (x : Commit) → x.frames ≡ 0 → x.part ≡ 0 → laid_by c d ring x ≡ []
 laid_by-none c d ring x no_frame no_part =
     ap (λ (n : ℕ). run_entries c.member c.bindings (held c ring) d.card c.committed n x.part) no_frame
     ∙ ap (λ (n : ℕ). run_entries c.member c.bindings (held c ring) d.card c.committed 0 n) no_part

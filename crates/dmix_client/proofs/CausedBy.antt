@@ -192,18 +192,28 @@ ends-if c call position x true = record { card = refl; bindings = refl; committe
 ends-if c call position x false = record { card = refl; bindings = refl; committed = refl; part = refl }
 
 module _ {S : Type 0} (view : S → PortView) (shows : S → ℕ → ℕ → Option ℕ) (q : S) where
-  pub IsCaused-synced : (c : Plain) (call : Call) (load : Option Position) (x : Commit) → IsStep c.state call → IsFound load x (λ position. c) (sync_count c) (length c.bindings)
+  pub IsCaused-plain : (c : Plain) (call : Call) (load : Option Position) (x : Commit) → IsStep c.state call → IfSome load (λ position. IsPlain position.gone (over_of (seen_at c position) position) x.ended)
       → IfSome load (λ position. OnLate x.ended (λ word. IsPast view shows q (end_of_commit c x) (end_channel c x) word))
       → IsCaused {X = Unit {0}} view shows q c (synced c call load x).0 load (synced c call load x).1
-  IsCaused-synced c call None x step found shown = caused-none view shows q c (record c { stopped = true })
-  IsCaused-synced c call (Some position) x step found shown =
+  IsCaused-plain c call None x step plain shown = caused-none view shows q c (record c { stopped = true })
+  IsCaused-plain c call (Some position) x step plain shown =
       let over = over_of (seen_at c position) position in
       let done = committed_by (seen_at c position) x in
-      let says = next-says c.state call (queued_of done) position.gone over x.ended (end_of_commit c x) (end_channel c x) step (draining-below c position) (IsPlain-synced c position x found.commit_is) in
+      let says = next-says c.state call (queued_of done) position.gone over x.ended (end_of_commit c x) (end_channel c x) step (draining-below c position) plain in
       let same = answer-if (is_stop x.ended) (stopped_in done) (settled done (next_of c.state call (facts_of done position over (late_of (seen_at c position) x)))) in
       caused-some view shows q c c (synced c call (Some position) x).0 position x over (synced c call (Some position) x).1
       (subst (λ (r : Result (Unit {0}) PcmError). Says r position.gone over x.ended (end_of_commit c x) (end_channel c x)) (sym same) says)
       (reaches-over c position) (ends-if c call position x (is_stop x.ended)) shown
+
+  pub IsCaused-synced : (c : Plain) (call : Call) (load : Option Position) (x : Commit) → IsStep c.state call → IsFound load x (λ position. c) (sync_count c) (length c.bindings)
+      → IfSome load (λ position. OnLate x.ended (λ word. IsPast view shows q (end_of_commit c x) (end_channel c x) word))
+      → IsCaused {X = Unit {0}} view shows q c (synced c call load x).0 load (synced c call load x).1
+  IsCaused-synced c call load x step found shown = IsCaused-plain c call load x step (plain-found load found.commit_is) shown
+    where
+      plain-found : (at : Option Position) → IfSome at (λ (position : Position). IsCommit x.ended x.frames x.part (sync_count c position) (length c.bindings))
+          → IfSome at (λ position. IsPlain position.gone (over_of (seen_at c position) position) x.ended)
+      plain-found None commit_is = tt
+      plain-found (Some position) commit_is = IsPlain-synced c position x commit_is
 
 -- the calls of a stream that moves frames
 pub step-sync : (s : State) → is_moving s ≡ true → IsStep s call.Sync

@@ -14,7 +14,7 @@ use Rattle.dmix_client.specs.declared.plain.Plain.{Plain}
 use Rattle.dmix_client.specs.Calls.{accepted_if, commit_entries, start_count, started, started_in, sync_count, synced, taken_of, written_after}
 use Rattle.dmix_client.specs.Growth.{Follows, Grows, StandsFor, StandsUpTo}
 use Rattle.dmix_client.specs.Port.{IsCommit, IsFound, entries_at}
-use Rattle.dmix_client.specs.View.{IsConfigured, IsSound, hw_of, is_moving, is_set_up}
+use Rattle.dmix_client.specs.View.{IsConfigured, IsLaidPast, IsSound, hw_of, is_moving, is_set_up}
 use Rattle.dmix_client.specs.Writes.{count_with, ring_with}
 use Rattle.dmix_client.proofs.Advances.{Advances-accepted, Advances-started, Advances-synced, Advances-written, IsWithin-started, IsWithin-synced, IsWithin-written, accepted-card, laid_by-started, laid_by-synced, laid_by-written}
 use Rattle.dmix_client.proofs.Growth.{Advances, Grows-advanced, StandsFor-advanced, laid_by}
@@ -37,7 +37,7 @@ pub record IsSynced (c : Plain) (ring : List ℤ) (load : Option Position) (comm
   pub newer : IfSome load (λ (position : Position). unwrap_or c.seen 0 ≤ position.frame)
 
 advances-synced : (c : Plain) (ring : List ℤ) (call : Call) (load : Option Position) (commit : Commit) → IsSynced c ring load commit → Advances c (synced c call load commit).0 commit c.written
-advances-synced c ring call load commit is = Advances-synced c call load commit (is.sound.moving is.moves is.going).whole is.found is.newer
+advances-synced c ring call load commit is = Advances-synced c call load commit (is.sound.moving is.moves is.going).whole is.found.nothing is.newer
 
 pub StandsFor-synced : (c : Plain) (ring samples : List ℤ) (call : Call) (load : Option Position) (commit : Commit) → IsSynced c ring load commit → StandsFor c ring samples
     → StandsFor (synced c call load commit).0 ring samples
@@ -67,6 +67,7 @@ pub record IsTaken (c : Plain) (ring : List ℤ) (n : ℕ) (last : Commit) : Typ
   pub sound : IsSound c ring
   pub moves : is_moving c.state ≡ true
   pub going : c.stopped ≡ false
+  pub past : IsLaidPast c
   pub commit_is : IsCommit last.ended last.frames last.part (count_with c (taken_of c n)) (length c.bindings)
 
 advances-written : (c : Plain) (ring : List ℤ) (n : ℕ) (last : Commit) → IsTaken c ring n last → Advances c (written_after c n last).0 last (c.written + taken_of c n)
@@ -76,7 +77,7 @@ pub StandsUpTo-taken : (c : Plain) (ring samples offered : List ℤ) (n : ℕ) (
     → StandsFor c ring samples → Follows c samples offered n → StandsUpTo c (ring_with c ring offered (taken_of c n)) samples (c.written + taken_of c n)
 StandsUpTo-taken c ring samples offered n last is held_all stands follows =
     let m = is.sound.moving is.moves is.going in
-    StandsUpTo-written c ring samples offered n (configured-moving c ring is.sound is.moves) held_all m.fits m.laid_least stands follows
+    StandsUpTo-written c ring samples offered n (configured-moving c ring is.sound is.moves) held_all m.fits is.past stands follows
 
 pub StandsFor-taken : (c : Plain) (ring samples offered : List ℤ) (n : ℕ) (last : Commit) → IsTaken c ring n last → n * length c.bindings ≤ length offered
     → StandsFor c ring samples → Follows c samples offered n → StandsFor (written_after c n last).0 (ring_with c ring offered (taken_of c n)) samples

@@ -35,8 +35,8 @@ pub record IsWithin (c : Plain) (x : Commit) (to : ℕ) : Type 0 where
 abbrev pub laid_by : Plain → Plain → List ℤ → Commit → List Entry
 laid_by c d ring x = run_entries c.member c.bindings (held c ring) d.card c.committed x.frames x.part
 
-held-same : (c d : Plain) (ring : List ℤ) (j q : ℕ) → d.config ≡ c.config → d.bindings ≡ c.bindings → held d ring j q ≡ held c ring j q
-held-same c d ring j q config bindings = let b = config in let e = bindings in cc
+held-same : (c d : Plain) (ring : List ℤ) (j q : ℕ) → d.config ≡ c.config → d.bindings ≡ c.bindings → d.source ≡ c.source → held d ring j q ≡ held c ring j q
+held-same c d ring j q config bindings source = let b = config in let e = bindings in let s = source in cc
 
 -- the client after it stands for the same samples
 pub StandsFor-advanced : (c d : Plain) (x : Commit) (to : ℕ) (ring samples : List ℤ) → Advances c d x to → StandsUpTo c ring samples to → StandsFor d ring samples
@@ -44,7 +44,7 @@ StandsFor-advanced c d x to ring samples step stands j q low high in_range =
     let channels : length d.bindings ≡ length c.bindings = ap length step.bindings in
     let there : held c ring j q ≡ sample_at samples (length c.bindings) (c.source + j) q =
     stands j q (omega (arith, low, step.least)) (omega (arith, high, step.written)) (omega (arith, in_range, channels)) in
-    held-same c d ring j q step.config step.bindings ∙ there
+    held-same c d ring j q step.config step.bindings step.source ∙ there
     ∙ ap (λ (n : ℕ). sample_at samples n (c.source + j) q) (sym channels)
     ∙ ap (λ (n : ℕ). sample_at samples (length d.bindings) (n + j) q) (sym step.source)
 

@@ -34,7 +34,7 @@ use Rattle.dmix_client.specs.Growth.{AnySamples, Follows, Grows, Keeps, KeepsAcc
 use Rattle.dmix_client.specs.GrowthLaws.{Grows-joined}
 use Rattle.dmix_client.specs.Port.{CanUse, CountsStop, IsStep, TakesStep, least_channel, pass_by}
 use Rattle.dmix_client.specs.RingLaws.{stored-HasRoom}
-use Rattle.dmix_client.specs.View.{ClientView, avail_of, IsConfigured, IsGoing, IsSound, held, is_moving, is_set_up}
+use Rattle.dmix_client.specs.View.{ClientView, avail_of, IsConfigured, IsGoing, IsLaidPast, IsSound, held, is_moving, is_set_up}
 use Rattle.dmix_client.specs.Writes.{count_with, ring_with, taken_after}
 use Rattle.dmix_client.proofs.Advances.{Follows-synced, accepted-none}
 use Rattle.dmix_client.proofs.CausedBy.{IsCaused-synced, caused-number}
@@ -46,7 +46,7 @@ use Rattle.dmix_client.proofs.Going.{OnOk-of, accepted_if-told, gone-whole, star
 use Rattle.dmix_client.proofs.Grown.{Grows-started, Grows-synced, Grows-taken, IsBegun, IsSynced, IsTaken, StandsFor-started, StandsFor-synced, StandsFor-taken, StandsUpTo-filled, configured-moving, configured-prepared}
 use Rattle.dmix_client.proofs.Growth.{Grows-none}
 use Rattle.dmix_client.proofs.Left.{IsAfter, IsLeft-started, grown-accepted}
-use Rattle.dmix_client.proofs.Sound.{CanUse-synced, IsSound-synced, IsSyncing, not_prepared-moving}
+use Rattle.dmix_client.proofs.Sound.{CanUse-synced, IsLaidPast-synced, IsSound-synced, IsSyncing, not_prepared-moving}
 use Rattle.dmix_client.proofs.Started.{KeepsAccepted-started, KeepsAccepted-synced}
 use Rattle.dmix_client.proofs.Starting.{IsStarting}
 use Rattle.dmix_client.proofs.Writes.{IsWriting, IsWritten-after}
@@ -63,6 +63,7 @@ client c ring = record { plain = c; ring = ring }
 pub record Synced {S T : Type 0} (P : mixport.Ghosts S) (G : gates.Ghosts T) (s t : S × T) (c : Plain) (ring : List ℤ) (a : Answered (Unit {0})) : Type 0 where
   pub keeps : Keeps P G s t (client c ring) (client a.0 ring) a.1 AnySamples
   pub goes : OnOk a.1 (IsGoing a.0)
+  pub past : is_moving a.0.state ≡ true → a.0.stopped ≡ false → IsLaidPast a.0
   pub same : KeepsAccepted c a.0
   pub follows : (samples offered : List ℤ) (n : ℕ) → Follows c samples offered n → Follows a.0 samples offered n
 
@@ -89,13 +90,14 @@ IsSound-ring c ring new sound same = record {
   configured = λ set. let k = sound.configured set in record { bound = k.bound; on_card = k.on_card; channels = k.channels; buffer_least = k.buffer_least; buffer_most = k.buffer_most; room = same ∙ k.room };
   prepared = sound.prepared;
   moving = sound.moving;
+  paused = sound.paused;
 }
 
 -- the counts of a client whose ring took frames
 pub IsSound-stored : (c : Plain) (ring samples : List ℤ) (m : ℕ) → IsSound c ring → IsConfigured c ring → m * length c.bindings ≤ length samples → IsSound c (ring_with c ring samples m)
 IsSound-stored c ring samples m sound k held_all =
     IsSound-ring c ring (ring_with c ring samples m) sound
-    ((stored-HasRoom c.config.buffer_size (length c.bindings) ring c.written samples m (record { some = k.buffer_least; room = k.room }) held_all).room ∙ sym k.room)
+    ((stored-HasRoom c.config.buffer_size (length c.bindings) ring (c.source + c.written) samples m (record { some = k.buffer_least; room = k.room }) held_all).room ∙ sym k.room)
 
 taken-few : (n a b : ℕ) → min n (min a b) ≤ n
 taken-few n a b = grind (arith, nat_tests)
@@ -117,6 +119,7 @@ IsSound-filled c ring m sound waits fits = record {
   configured = λ set. let k = sound.configured set in record { bound = k.bound; on_card = k.on_card; channels = k.channels; buffer_least = k.buffer_least; buffer_most = k.buffer_most; room = k.room };
   prepared = λ is. let p = sound.prepared is in record { waiting = p.waiting; no_frame = p.no_frame; no_part = p.no_part; fits = fits };
   moving = λ moves going. absurd (not_prepared-moving c.state moves waits);
+  paused = λ is. absurd (cc);
 }
 
 filled-stands : (c : Plain) (ring stored samples all : List ℤ) (n m : ℕ) → m ≡ taken_of c n → stored ≡ ring_with c ring samples m → IsSound c ring → c.state ≡ Prepared
@@ -166,13 +169,14 @@ module _ {S T : Type 0} (P : mixport.Ghosts S) (G : gates.Ghosts T) (laid_compos
       subst (λ (b : Answered (Unit {0})). Synced P G s t c ring b) st.outcome (record {
         keeps = record {
           sound = IsSound-synced c ring call st.load st.commit syncing;
-          port = CanUse-synced c ring call st.load st.commit (P.view t.0) syncing (same.same_geometry ∙ port.same_geometry) (same.same_member ∙ port.same_member) (same.same_can_add ∙ port.can)
+          port = CanUse-synced c call st.load st.commit (P.view t.0) step (same.same_geometry ∙ port.same_geometry) (same.same_member ∙ port.same_member) (same.same_can_add ∙ port.can)
               (if-some st.load _ _ (λ p from. from (port.behind moves going)) x.stayed) (if-some st.load _ _ (λ p near. near.2) x.near);
           told = λ unstopped. told.told;
           grows = λ samples stands any. Grows-synced P.laid laid_composes s.0 t.0 c ring samples call st.load st.commit is stands x.laid_them;
           stands = λ samples stands any. StandsFor-synced c ring samples call st.load st.commit is stands;
         };
         goes = told.goes;
+        past = IsLaidPast-synced c ring call st.load st.commit syncing;
         same = KeepsAccepted-synced c call st.load st.commit;
         follows = λ samples offered n. Follows-synced c call st.load st.commit samples offered n;
       })
@@ -262,10 +266,10 @@ module _ {S T : Type 0} (P : mixport.Ghosts S) (G : gates.Ghosts T) (laid_compos
     pub outcome : written_after c n last ≡ a
     pub late : OnLate last.ended (λ word. IsPast P.view P.shows t.0 (end_of_commit c last) (end_channel c last) word)
 
-  pub takes_more-kept : (s t : S × T) (c : Plain) (ring offered : List ℤ) (n : ℕ) (a : Answered ℕ) → IsSound c ring → is_moving c.state ≡ true → c.stopped ≡ false
+  pub takes_more-kept : (s t : S × T) (c : Plain) (ring offered : List ℤ) (n : ℕ) (a : Answered ℕ) → IsSound c ring → is_moving c.state ≡ true → c.stopped ≡ false → IsLaidPast c
       → n * length c.bindings ≤ length offered → CanUse c (P.view s.0) → TakesAt P G s (takes_more c ring offered n) t a → Taken s t c ring offered n a
   unfolding takes_more
-  takes_more-kept s t c ring offered n a sound moves going held_all port takes =
+  takes_more-kept s t c ring offered n a sound moves going past held_all port takes =
       let k = configured-moving c ring sound moves in
       let stored = ring_with c ring offered (taken_of c n) in
       let parts = Takes-parts (LoadsAt P G) (LaysAt P G) NoGet s t (commits c stored (count_with c (taken_of c n))) (λ last. ends (written_after c n last)) a takes in
@@ -273,7 +277,7 @@ module _ {S T : Type 0} (P : mixport.Ghosts S) (G : gates.Ghosts T) (laid_compos
       let laid = TakesAt-frames P G laid_composes loaded_composes c.member c.card c.bindings (held c stored) (count_with c (taken_of c n)) c.committed s parts.0 last k.bound parts.2 in
       let few : taken_of c n * length c.bindings ≤ n * length c.bindings = mul-le-mul_right (length c.bindings) (taken-few n _ _) in
       let same = TakesAt-same P G s parts.0 (commits c stored (count_with c (taken_of c n))) last parts.2 in
-      let is : IsTaken c ring n last = record { sound = sound; moves = moves; going = going; commit_is = laid.commit_is } in
+      let is : IsTaken c ring n last = record { sound = sound; moves = moves; going = going; past = past; commit_is = laid.commit_is } in
       let writing : IsWriting c stored n last (P.view parts.0.0) (G.stops s.1) (G.stops parts.0.1) = record {
         sound = IsSound-stored c ring offered (taken_of c n) sound k (omega (arith, few, held_all));
         moves = moves;
@@ -464,7 +468,7 @@ module _ {S T : Type 0} (P : mixport.Ghosts S) (G : gates.Ghosts T) (laid_compos
       let bound = (configured-moving c ring sound moves).bound in
       let first = syncs-kept s m c ring call.Transfer (d, Ok tt) sound moves unstopped (subst (λ (state : State). IsStep state call.Transfer) (sym runs) tt) port one in
       let still : d.state ≡ Running = syncs-runs s m c ring (d, Ok tt) bound runs refl one in
-      let later = takes_more-kept m t d ring offered n a first.keeps.sound (ap is_moving still) first.goes.unstopped (subst (λ (bs : List ℕ). n * length bs ≤ length offered) (sym first.same.bindings) held_all) first.keeps.port two in
+      let later = takes_more-kept m t d ring offered n a first.keeps.sound (ap is_moving still) first.goes.unstopped (first.past (ap is_moving still) first.goes.unstopped) (subst (λ (bs : List ℕ). n * length bs ≤ length offered) (sym first.same.bindings) held_all) first.keeps.port two in
       subst (λ (r : List ℤ). Wrote s t c ring r offered n a) (sym is_new) (record {
         keeps = Keeps-then s m t (client c ring) (client d ring) (client a.0 (ring_with d ring offered (taken_of d n))) (let r : Result (Unit {0}) PcmError = Ok tt in r) a.1 (λ all. Follows c all offered n) (λ all. Follows d all offered n)
             refl first.goes.unstopped (λ all for. first.follows all offered n for)
@@ -487,6 +491,7 @@ module _ {S T : Type 0} (P : mixport.Ghosts S) (G : gates.Ghosts T) (laid_compos
       configured = λ set. let k = sound.configured set in record { bound = k.bound; on_card = k.on_card; channels = k.channels; buffer_least = k.buffer_least; buffer_most = k.buffer_most; room = k.room };
       prepared = λ is. absurd (cc);
       moving = λ moves going. absurd (cc);
+      paused = λ is. absurd (cc);
     };
     port = record {
       same_geometry = port.same_geometry;

@@ -9,7 +9,7 @@ use Rattle.mix_core.specs.declared.port.Position.{Position}
 use Rattle.bindings.specs.Bound.{AreBindings}
 use Rattle.hw_space.specs.declared.config.Config.{Config}
 use Rattle.pcm_states.specs.declared.states.State.{State}
-use Rattle.pcm_states.specs.declared.states.State.TheVariants.{Prepared, Running, Xrun, Disconnected}
+use Rattle.pcm_states.specs.declared.states.State.TheVariants.{Paused, Prepared, Running, Xrun, Disconnected}
 use Rattle.pcm_states.specs.declared.calls.Call.TheVariants as call
 use Rattle.pcm_states.specs.Table.{next_of}
 use Rattle.dmix_client.specs.declared.commit.Commit.{Commit}
@@ -76,6 +76,7 @@ module _ (c : Plain) (ring : List ℤ) (state : State) (moves_then : is_moving s
           configured = λ set. IsConfigured-as c (record c { stopped = true }) ring refl refl refl (sound.configured set);
           prepared = λ is. record { waiting = p.waiting; no_frame = p.no_frame; no_part = p.no_part; fits = p.fits };
           moving = λ moves going. absurd (cc);
+          paused = λ is. absurd (let waits = starting.prepared in cc);
         };
         use_it = CanUse-still (record c { stopped = true }) v after.same_geometry after.same_member after.able (λ moves going. cc);
       }
@@ -96,6 +97,7 @@ module _ (c : Plain) (ring : List ℤ) (state : State) (moves_then : is_moving s
           configured = λ set. IsConfigured-as c d ring refl refl refl (sound.configured set);
           prepared = λ is. absurd (cc);
           moving = λ moves going. absurd (cc);
+          paused = λ is. absurd (cc);
         };
         use_it = CanUse-still d v after.same_geometry after.same_member after.able (λ moves going. cc);
       }
@@ -103,17 +105,20 @@ module _ (c : Plain) (ring : List ℤ) (state : State) (moves_then : is_moving s
   left-stopped : (position : Position) → IsStarting c ring cursor (Some position) commit upto → IsAfter c cursor (Some position) commit v
       → IsLeft (begun c state position cursor commit true c.written c.fed) ring v
   left-stopped position starting after = record {
-    sound = IsSound-begun c ring state position cursor commit true upto c.written c.fed starting not_prepared starting.sound.fed (λ moves going. absurd (cc));
+    sound = IsSound-begun c ring state position cursor commit true upto c.written c.fed starting not_prepared not_paused starting.sound.fed (λ moves going. absurd (cc));
     use_it = CanUse-still (begun c state position cursor commit true c.written c.fed) v after.same_geometry after.same_member after.able (λ moves going. cc);
   }
     where
       not_prepared : state ≡ Prepared → ⊥
       not_prepared is = let no : is_moving Prepared ≡ true = subst (λ (x : State). is_moving x ≡ true) is moves_then in cc
 
+      not_paused : state ≡ Paused → ⊥
+      not_paused is = let no : is_moving Paused ≡ true = subst (λ (x : State). is_moving x ≡ true) is moves_then in cc
+
   left-late : (position : Position) → IsStarting c ring cursor (Some position) commit upto → IsAfter c cursor (Some position) commit v
       → IsLeft (begun c Xrun position cursor commit c.stopped c.written c.fed) ring v
   left-late position starting after = record {
-    sound = IsSound-begun c ring Xrun position cursor commit c.stopped upto c.written c.fed starting (λ is. cc) starting.sound.fed (λ moves going. absurd (cc));
+    sound = IsSound-begun c ring Xrun position cursor commit c.stopped upto c.written c.fed starting (λ is. cc) (λ is. cc) starting.sound.fed (λ moves going. absurd (cc));
     use_it = CanUse-still (begun c Xrun position cursor commit c.stopped c.written c.fed) v after.same_geometry after.same_member after.able (λ moves going. cc);
   }
 
@@ -125,7 +130,7 @@ module _ (c : Plain) (ring : List ℤ) (state : State) (moves_then : is_moving s
       let all : commit.frames ≡ commit_count (started_in c Running position cursor) position.frame upto =
       whole.0 ∙ ap (λ (b : Bool). if b then 0 else commit_count (started_in c Running position cursor) position.frame upto) here in
       record {
-        sound = IsSound-begun c ring state position cursor commit c.stopped upto upto fed starting not_prepared sums (λ moves going. IsMoving-begun c ring state position cursor commit c.stopped upto fed starting all whole.1);
+        sound = IsSound-begun c ring state position cursor commit c.stopped upto upto fed starting not_prepared not_paused sums (λ moves going. IsMoving-begun c ring state position cursor commit c.stopped upto fed starting all whole.1);
         use_it = record {
           same_geometry = after.same_geometry;
           same_member = after.same_member;
@@ -137,6 +142,9 @@ module _ (c : Plain) (ring : List ℤ) (state : State) (moves_then : is_moving s
     where
       not_prepared : state ≡ Prepared → ⊥
       not_prepared is = let no : is_moving Prepared ≡ true = subst (λ (x : State). is_moving x ≡ true) is moves_then in cc
+
+      not_paused : state ≡ Paused → ⊥
+      not_paused is = let no : is_moving Paused ≡ true = subst (λ (x : State). is_moving x ≡ true) is moves_then in cc
 
   left-by_late : (position : Position) (late : Option XrunWhy) → late_of (started_in c state position cursor) commit ≡ late → IsStarting c ring cursor (Some position) commit upto → IsAfter c cursor (Some position) commit v
       → (gone : Bool) → position.gone ≡ gone → gone ≡ false → is_stop commit.ended ≡ false

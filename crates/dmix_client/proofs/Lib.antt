@@ -4,6 +4,7 @@ mod CausedBy
 mod CausedStart
 mod CausedWrite
 mod CausedWritten
+mod Checking
 mod Drained
 mod Frames
 mod Going
@@ -13,10 +14,15 @@ mod Keeping
 mod Laying
 mod Looking
 mod Left
+mod Resuming
+mod Rewinding
 mod Rings
 mod Same
 mod Sound
 mod Started
 mod Starting
 mod Storing
+mod Taking
+mod Withdrawing
+mod Withdrawn
 mod Writes

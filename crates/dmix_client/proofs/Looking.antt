@@ -15,8 +15,8 @@ use Rattle.pcm_states.specs.declared.calls.Call.{Call}
 use Rattle.pcm_states.specs.declared.calls.Call.TheVariants as call
 use Rattle.dmix_client.specs.declared.commit.Commit.{Commit}
 use Rattle.dmix_client.specs.declared.plain.Plain.{Plain}
-use Rattle.dmix_client.specs.Calls.{Answered, accepted_if, is_running, refusal_of, refused_by, start_count, started, started_in, sync_count, synced, taken_of, with_number, written_after}
-use Rattle.dmix_client.specs.Course.{admitted, admitted_by, commits, drain_on, drains, fills, looks, nothing, number_course, numbered, starts, starts_taking, syncs, takes_more, write_course, write_on, writes_on}
+use Rattle.dmix_client.specs.Calls.{Answered, accepted_if, is_running, pending_of, rebased, refusal_of, refused_by, resumed, start_count, started, started_in, sync_count, synced, taken_of, with_number, written_after}
+use Rattle.dmix_client.specs.Course.{admitted, admitted_by, commits, drain_on, drains, fills, looks, nothing, number_course, numbered, resumes, starts, starts_taking, syncs, takes_more, write_course, write_on, writes_on}
 use Rattle.dmix_client.specs.View.{is_moving}
 use Rattle.dmix_client.specs.Writes.{count_with, frames_in, ring_with}
 
@@ -56,6 +56,13 @@ module _ {S T : Type 0} (P : mixport.Ghosts S) (G : gates.Ghosts T) where
   unfolding starts
   starts-by s t c state cursor upto ring load commit done takes is =
       Takes-map (LoadsAt P G) (LaysAt P G) NoGet s t (looks (λ position. started_in c Running position cursor) (λ position. start_count c cursor position upto) ring) (λ found. started c state cursor found.0 found.1) (load, commit) done takes is
+
+  pub resumes-by : (s t : S × T) (c : Plain) (cursor : Cursor) (ring : List ℤ) (load : Option Position) (commit : Commit) (done : Answered (Unit {0}))
+      → TakesAt P G s (looks (λ position. started_in (rebased c) Running position cursor) (λ position. start_count (rebased c) cursor position (pending_of c)) ring) t (load, commit)
+      → resumed c cursor load commit ≡ done → TakesAt P G s (resumes c cursor ring) t done
+  unfolding resumes
+  resumes-by s t c cursor ring load commit done takes is =
+      Takes-map (LoadsAt P G) (LaysAt P G) NoGet s t (looks (λ position. started_in (rebased c) Running position cursor) (λ position. start_count (rebased c) cursor position (pending_of c)) ring) (λ found. resumed c cursor found.0 found.1) (load, commit) done takes is
 
   -- the drain of a client that is prepared, by its start and what follows
   pub drains-by : (s t u : S × T) (c : Plain) (ring : List ℤ) (cursor : Cursor) (begun done : Answered (Unit {0}))

@@ -6,7 +6,7 @@ use Rattle.snd_base.specs.declared.errors.XrunWhy.{XrunWhy}
 use Rattle.snd_base.specs.Places.{IsFrom, end_frame}
 use Rattle.mix_core.specs.declared.port.Position.{Position}
 use Rattle.pcm_states.specs.declared.states.State.{State}
-use Rattle.pcm_states.specs.declared.states.State.TheVariants.{Setup, Prepared, Running, Draining}
+use Rattle.pcm_states.specs.declared.states.State.TheVariants.{Setup, Prepared, Running, Draining, Paused}
 use Rattle.pcm_states.specs.declared.calls.Call.{Call}
 use Rattle.pcm_states.specs.declared.calls.Call.TheVariants as call
 use Rattle.pcm_states.specs.Table.{draining, first_of, moving, next_of, outcome_of, still_draining}
@@ -16,22 +16,24 @@ use Rattle.mix_core.specs.declared.port.Ended.TheVariants as ended
 use Rattle.dmix_client.specs.declared.plain.Plain.{Plain}
 use Rattle.dmix_client.specs.Calls.{commit_count, committed_by, end_channel, end_of_commit, facts_of, is_running, is_stop, late_at, late_of, over_of, seen_at, settled, stopped_in, sync_count, synced, window_end}
 use Rattle.mix_core.specs.Port.{OnWhole, PortView}
+use Rattle.dmix_client.specs.Course.{nothing}
 use Rattle.dmix_client.specs.Port.{CanUse, IsCommit, IsFound, IsStep, least_channel}
-use Rattle.dmix_client.specs.View.{IsMoving, IsSound, avail_of, hw_of, is_moving, is_set_up, queued_of}
+use Rattle.dmix_client.specs.View.{IsLaidPast, IsMoving, IsSound, avail_of, hw_of, is_moving, is_set_up, queued_of}
 
 -- a stream that still moves frames found nothing against it
 pub record GoesOn (state s : State) (gone : Bool) (over : Option (ℕ × ℕ)) (late : Option XrunWhy) : Type 0 where
   pub not_prepared : s ≡ Prepared → ⊥
+  pub not_paused : s ≡ Paused → ⊥
   pub here : is_moving s ≡ true → gone ≡ false
   pub in_time : is_moving s ≡ true → late ≡ None
   pub below : is_moving s ≡ true → is_running state ≡ true → over ≡ None
 
 moving-GoesOn : (call : Call) (queued : ℕ) (gone : Bool) (over : Option (ℕ × ℕ)) (late : Option XrunWhy)
     → GoesOn Running (outcome_of moving Running call (record { capture = false; queued = queued; starts = true; gone = gone; over = over; late = late })).state gone over late
-moving-GoesOn call queued true over late = record { not_prepared = λ e. cc; here = λ e. cc; in_time = λ e. cc; below = λ e r. cc }
-moving-GoesOn call queued false (Some over) late = record { not_prepared = λ e. cc; here = λ e. cc; in_time = λ e. cc; below = λ e r. cc }
-moving-GoesOn call queued false None (Some late) = record { not_prepared = λ e. cc; here = λ e. cc; in_time = λ e. cc; below = λ e r. cc }
-moving-GoesOn call queued false None None = record { not_prepared = λ e. cc; here = λ e. refl; in_time = λ e. refl; below = λ e r. refl }
+moving-GoesOn call queued true over late = record { not_prepared = λ e. cc; not_paused = λ e. cc; here = λ e. cc; in_time = λ e. cc; below = λ e r. cc }
+moving-GoesOn call queued false (Some over) late = record { not_prepared = λ e. cc; not_paused = λ e. cc; here = λ e. cc; in_time = λ e. cc; below = λ e r. cc }
+moving-GoesOn call queued false None (Some late) = record { not_prepared = λ e. cc; not_paused = λ e. cc; here = λ e. cc; in_time = λ e. cc; below = λ e r. cc }
+moving-GoesOn call queued false None None = record { not_prepared = λ e. cc; not_paused = λ e. cc; here = λ e. refl; in_time = λ e. refl; below = λ e r. refl }
 
 still-GoesOn : (call : Call) → (still_draining call).state ≡ Draining
 still-GoesOn call.HwParams = refl
@@ -44,18 +46,19 @@ still-GoesOn call.Sync = refl
 still-GoesOn call.Drop = refl
 still-GoesOn call.Drain = refl
 still-GoesOn call.Pause = refl
+still-GoesOn call.Resume = refl
 
 played-GoesOn : (call : Call) (over : Option (ℕ × ℕ)) (played : Bool) (s : State)
     → s ≡ (first_of ((if played then Some (record { state = Setup; answer = Ok tt }) else None) ∷ []) (still_draining call)).state → GoesOn Draining s false over None
-played-GoesOn call over true s is = record { not_prepared = λ e. cc; here = λ e. refl; in_time = λ e. refl; below = λ e r. cc }
+played-GoesOn call over true s is = record { not_prepared = λ e. cc; not_paused = λ e. cc; here = λ e. refl; in_time = λ e. refl; below = λ e r. cc }
 played-GoesOn call over false s is =
     let at = still-GoesOn call in
-    record { not_prepared = λ e. cc; here = λ e. refl; in_time = λ e. refl; below = λ e r. cc }
+    record { not_prepared = λ e. cc; not_paused = λ e. cc; here = λ e. refl; in_time = λ e. refl; below = λ e r. cc }
 
 draining-GoesOn : (call : Call) (queued : ℕ) (gone : Bool) (over : Option (ℕ × ℕ)) (late : Option XrunWhy)
     → GoesOn Draining (outcome_of draining Draining call (record { capture = false; queued = queued; starts = true; gone = gone; over = over; late = late })).state gone over late
-draining-GoesOn call queued true over late = record { not_prepared = λ e. cc; here = λ e. cc; in_time = λ e. cc; below = λ e r. cc }
-draining-GoesOn call queued false over (Some late) = record { not_prepared = λ e. cc; here = λ e. cc; in_time = λ e. cc; below = λ e r. cc }
+draining-GoesOn call queued true over late = record { not_prepared = λ e. cc; not_paused = λ e. cc; here = λ e. cc; in_time = λ e. cc; below = λ e r. cc }
+draining-GoesOn call queued false over (Some late) = record { not_prepared = λ e. cc; not_paused = λ e. cc; here = λ e. cc; in_time = λ e. cc; below = λ e r. cc }
 draining-GoesOn call queued false over None = played-GoesOn call over (nat_eq queued 0) _ refl
 
 -- the step of a stream that moves frames
@@ -124,16 +127,15 @@ IsMoving-done c position commit s stopped m loaded all none =
       started = m.started;
       whole = none;
       laid_most = whole_most c.written c.committed c.card commit.frames position.frame (window_end c.geometry position.frame) m.laid_most all;
-      laid_least = subst (λ (n : ℕ). min c.written n ≤ c.committed + commit.frames) (sym later)
-          (whole_least c.written c.committed c.card commit.frames position.frame (window_end c.geometry position.frame) (window_end-above position.frame c.geometry.frames (end_frame c.geometry) loaded.most) all);
       fits = omega (arith, later, hw, m.fits, loaded.newer);
+      pending = omega (arith, m.pending);
     }
 
 -- it keeps its counts in order, where it is moving only after a commit of all
 IsSound-done : (c : Plain) (ring : List ℤ) (position : Position) (commit : Commit) (s : State) (stopped : Bool) → IsSound c ring → c.configured ≡ true → IsLoaded c position
-    → commit.frames ≤ commit_count c position.frame c.written → (s ≡ Prepared → ⊥) → (is_moving s ≡ true → stopped ≡ false → IsMoving (done_at c position commit s stopped))
+    → commit.frames ≤ commit_count c position.frame c.written → (s ≡ Prepared → ⊥) → (s ≡ Paused → ⊥) → (is_moving s ≡ true → stopped ≡ false → IsMoving (done_at c position commit s stopped))
     → IsSound (done_at c position commit s stopped) ring
-IsSound-done c ring position commit s stopped sound set loaded few not_prepared moves = record {
+IsSound-done c ring position commit s stopped sound set loaded few not_prepared not_paused moves = record {
   lead = sound.lead;
   seen = loaded.most;
   card = sound.card;
@@ -143,11 +145,15 @@ IsSound-done c ring position commit s stopped sound set loaded few not_prepared 
   configured = λ is. let k = sound.configured set in record { bound = k.bound; on_card = k.on_card; channels = k.channels; buffer_least = k.buffer_least; buffer_most = k.buffer_most; room = k.room };
   prepared = λ is. absurd (not_prepared is);
   moving = moves;
+  paused = λ is. absurd (not_paused is);
 }
 
 -- a stream that moves frames isn't prepared, and is set up
 pub not_prepared-moving : (s : State) → is_moving s ≡ true → (s ≡ Prepared → ⊥)
 not_prepared-moving s is prepared = let no : is_moving Prepared ≡ true = subst (λ (x : State). is_moving x ≡ true) prepared is in cc
+
+pub not_paused-moving : (s : State) → is_moving s ≡ true → (s ≡ Paused → ⊥)
+not_paused-moving s is paused = let no : is_moving Paused ≡ true = subst (λ (x : State). is_moving x ≡ true) paused is in cc
 
 pub set_up-moving : (s : State) → is_moving s ≡ true → is_set_up s ≡ true
 set_up-moving Running is = refl
@@ -166,6 +172,7 @@ IsSound-stopped c ring sound is = record {
   configured = λ set. let k = sound.configured set in record { bound = k.bound; on_card = k.on_card; channels = k.channels; buffer_least = k.buffer_least; buffer_most = k.buffer_most; room = k.room };
   prepared = λ prepared. absurd (not_prepared-moving c.state is prepared);
   moving = λ moves going. absurd (cc);
+  paused = λ paused. absurd (not_paused-moving c.state is paused);
 }
 
 -- what stands about a sync: the client moves frames, and its load and commit came to this
@@ -208,37 +215,72 @@ synced-by : (c : Plain) (ring : List ℤ) (call : Call) (position : Position) (c
     else settled (committed_by (seen_at c position) commit) (next_of c.state call (facts_of (committed_by (seen_at c position) commit) position (over_of (seen_at c position) position) (late_of (seen_at c position) commit)))).0 ring
 synced-by c ring call position commit true is syncing =
     IsSound-done c ring position commit c.state true syncing.sound (syncing.sound.set_up (set_up-moving c.state syncing.moves)) (loaded-of c ring call position commit syncing) (few-of c ring call position commit syncing)
-    (not_prepared-moving c.state syncing.moves) (λ moves going. absurd (cc))
+    (not_prepared-moving c.state syncing.moves) (not_paused-moving c.state syncing.moves) (λ moves going. absurd (cc))
 synced-by c ring call position commit false is syncing =
     let s : State = (next_of c.state call (facts_of (committed_by (seen_at c position) commit) position (over_of (seen_at c position) position) (late_of (seen_at c position) commit))).state in
     let goes = next-GoesOn c.state call (queued_of (committed_by (seen_at c position) commit)) position.gone (over_of (seen_at c position) position) (late_of (seen_at c position) commit) syncing.step in
     IsSound-done c ring position commit s c.stopped syncing.sound (syncing.sound.set_up (set_up-moving c.state syncing.moves)) (loaded-of c ring call position commit syncing) (few-of c ring call position commit syncing)
-    goes.not_prepared (λ moves going. let all = going-of c ring call position commit syncing is moves in IsMoving-done c position commit s c.stopped (syncing.sound.moving syncing.moves syncing.going) (loaded-of c ring call position commit syncing) all.0 all.1)
+    goes.not_prepared goes.not_paused (λ moves going. let all = going-of c ring call position commit syncing is moves in IsMoving-done c position commit s c.stopped (syncing.sound.moving syncing.moves syncing.going) (loaded-of c ring call position commit syncing) all.0 all.1)
 
 -- a client keeps its counts in order over a sync
 pub IsSound-synced : (c : Plain) (ring : List ℤ) (call : Call) (load : Option Position) (commit : Commit) → IsSyncing c ring call load commit → IsSound (synced c call load commit).0 ring
 IsSound-synced c ring call None commit syncing = IsSound-stopped c ring syncing.sound syncing.moves
 IsSound-synced c ring call (Some position) commit syncing = synced-by c ring call position commit (is_stop commit.ended) refl syncing
 
+-- a load behind which nothing is committed
+IsMoving-checked : (c : Plain) (position : Position) (s : State) (stopped : Bool) → IsMoving c → IsLoaded c position → IsMoving (done_at c position nothing s stopped)
+IsMoving-checked c position s stopped m loaded =
+    let hw : hw_of c ≡ unwrap_or c.seen 0 - c.card = hw-started c m.started in
+    let later : hw_of (done_at c position nothing s stopped) ≡ position.frame - c.card = hw-started (done_at c position nothing s stopped) m.started in
+    record { started = m.started; whole = refl; laid_most = omega (arith, m.laid_most); fits = omega (arith, later, hw, m.fits, loaded.newer); pending = omega (arith, m.pending) }
+
+pub IsSound-checked : (c : Plain) (ring : List ℤ) (call : Call) (load : Option Position) → IsSound c ring → is_moving c.state ≡ true → c.stopped ≡ false → IsStep c.state call
+    → IfSome load (λ position. (unwrap_or c.seen 0 ≤ position.frame) × (position.frame ≤ end_frame c.geometry)) → IsSound (synced c call load nothing).0 ring
+IsSound-checked c ring call None sound moves going step loaded = IsSound-stopped c ring sound moves
+IsSound-checked c ring call (Some position) sound moves going step loaded =
+    let s : State = (next_of c.state call (facts_of (committed_by (seen_at c position) nothing) position (over_of (seen_at c position) position) None)).state in
+    let goes = next-GoesOn c.state call (queued_of (committed_by (seen_at c position) nothing)) position.gone (over_of (seen_at c position) position) None step in
+    let at : IsLoaded c position = record { newer = loaded.0; most = loaded.1 } in
+    IsSound-done c ring position nothing s c.stopped sound (sound.set_up (set_up-moving c.state moves)) at (omega arith) goes.not_prepared goes.not_paused
+    (λ still unstopped. IsMoving-checked c position s c.stopped (sound.moving moves going) at)
+
+past-by : (c : Plain) (ring : List ℤ) (call : Call) (position : Position) (commit : Commit) (stop : Bool) → is_stop commit.ended ≡ stop → IsSyncing c ring call (Some position) commit
+    → (let d : Plain = (if stop then stopped_in {T = Unit {0}} (committed_by (seen_at c position) commit)
+    else settled (committed_by (seen_at c position) commit) (next_of c.state call (facts_of (committed_by (seen_at c position) commit) position (over_of (seen_at c position) position) (late_of (seen_at c position) commit)))).0 in
+    is_moving d.state ≡ true → d.stopped ≡ false → IsLaidPast d)
+past-by c ring call position commit true is syncing moves going = absurd (cc)
+past-by c ring call position commit false is syncing moves going =
+    let s : State = (next_of c.state call (facts_of (committed_by (seen_at c position) commit) position (over_of (seen_at c position) position) (late_of (seen_at c position) commit))).state in
+    let all = going-of c ring call position commit syncing is moves in
+    let later : hw_of (done_at c position commit s c.stopped) ≡ position.frame - c.card = hw-started (done_at c position commit s c.stopped) (syncing.sound.moving syncing.moves syncing.going).started in
+    subst (λ (n : ℕ). min c.written n ≤ c.committed + commit.frames) (sym later)
+    (whole_least c.written c.committed c.card commit.frames position.frame (window_end c.geometry position.frame) (window_end-above position.frame c.geometry.frames (end_frame c.geometry) syncing.loaded.1) all.0)
+
+-- a client that goes on after a sync has laid what is played
+pub IsLaidPast-synced : (c : Plain) (ring : List ℤ) (call : Call) (load : Option Position) (commit : Commit) → IsSyncing c ring call load commit
+    → is_moving (synced c call load commit).0.state ≡ true → (synced c call load commit).0.stopped ≡ false → IsLaidPast (synced c call load commit).0
+IsLaidPast-synced c ring call None commit syncing moves going = absurd (cc)
+IsLaidPast-synced c ring call (Some position) commit syncing moves going = past-by c ring call position commit (is_stop commit.ended) refl syncing moves going
+
 pub OnWhole-of : (e : Ended) (P : Type 0) (frame channel : ℕ) → is_stop e ≡ false → late_at e frame channel ≡ None → OnWhole e P → P
 OnWhole-of ended.Whole P frame channel going in_time is = is
 OnWhole-of (ended.Late word) P frame channel going in_time is = absurd (cc)
 OnWhole-of ended.Stopped P frame channel going in_time is = absurd (cc)
 
-use_by : (c : Plain) (ring : List ℤ) (call : Call) (position : Position) (commit : Commit) (stop : Bool) (v : PortView)
-    → is_stop commit.ended ≡ stop → IsSyncing c ring call (Some position) commit
+use_by : (c : Plain) (call : Call) (position : Position) (commit : Commit) (stop : Bool) (v : PortView)
+    → is_stop commit.ended ≡ stop → IsStep c.state call
     → v.geometry ≡ c.geometry → v.member ≡ c.member → v.can_add ≡ true → OnWhole commit.ended (IsFrom v.marks.cursor (end_of_commit c commit) (least_channel c.bindings)) → v.seen ≡ position.frame
     → CanUse (if stop then stopped_in {T = Unit {0}} (committed_by (seen_at c position) commit)
     else settled (committed_by (seen_at c position) commit) (next_of c.state call (facts_of (committed_by (seen_at c position) commit) position (over_of (seen_at c position) position) (late_of (seen_at c position) commit)))).0 v
-use_by c ring call position commit true v is syncing same_geometry same_member able whole saw = record {
+use_by c call position commit true v is step same_geometry same_member able whole saw = record {
   same_geometry = same_geometry;
   same_member = same_member;
   can = able;
   behind = λ moves going. absurd (cc);
   newer = λ moves going. absurd (cc);
 }
-use_by c ring call position commit false v is syncing same_geometry same_member able whole saw =
-    let goes = next-GoesOn c.state call (queued_of (committed_by (seen_at c position) commit)) position.gone (over_of (seen_at c position) position) (late_of (seen_at c position) commit) syncing.step in
+use_by c call position commit false v is step same_geometry same_member able whole saw =
+    let goes = next-GoesOn c.state call (queued_of (committed_by (seen_at c position) commit)) position.gone (over_of (seen_at c position) position) (late_of (seen_at c position) commit) step in
     record {
       same_geometry = same_geometry;
       same_member = same_member;
@@ -248,15 +290,15 @@ use_by c ring call position commit false v is syncing same_geometry same_member 
     }
 
 -- after a sync the port is still one that the client can use
-pub CanUse-synced : (c : Plain) (ring : List ℤ) (call : Call) (load : Option Position) (commit : Commit) (v : PortView)
-    → IsSyncing c ring call load commit → v.geometry ≡ c.geometry → v.member ≡ c.member → v.can_add ≡ true → IfSome load (λ (position : Position). OnWhole commit.ended (IsFrom v.marks.cursor (end_of_commit c commit) (least_channel c.bindings)))
+pub CanUse-synced : (c : Plain) (call : Call) (load : Option Position) (commit : Commit) (v : PortView)
+    → IsStep c.state call → v.geometry ≡ c.geometry → v.member ≡ c.member → v.can_add ≡ true → IfSome load (λ (position : Position). OnWhole commit.ended (IsFrom v.marks.cursor (end_of_commit c commit) (least_channel c.bindings)))
     → IfSome load (λ (position : Position). v.seen ≡ position.frame) → CanUse (synced c call load commit).0 v
-CanUse-synced c ring call None commit v syncing same_geometry same_member able whole saw = record {
+CanUse-synced c call None commit v step same_geometry same_member able whole saw = record {
   same_geometry = same_geometry;
   same_member = same_member;
   can = able;
   behind = λ moves going. absurd (cc);
   newer = λ moves going. absurd (cc);
 }
-CanUse-synced c ring call (Some position) commit v syncing same_geometry same_member able whole saw =
-    use_by c ring call position commit (is_stop commit.ended) v refl syncing same_geometry same_member able whole saw
+CanUse-synced c call (Some position) commit v step same_geometry same_member able whole saw =
+    use_by c call position commit (is_stop commit.ended) v refl step same_geometry same_member able whole saw

@@ -6,7 +6,7 @@ use Rattle.snd_base.specs.declared.places.Cursor.{Cursor}
 use Rattle.snd_base.specs.Places.{end_frame, first_free}
 use Rattle.mix_core.specs.declared.port.Position.{Position}
 use Rattle.pcm_states.specs.declared.states.State.{State}
-use Rattle.pcm_states.specs.declared.states.State.TheVariants.{Prepared, Running}
+use Rattle.pcm_states.specs.declared.states.State.TheVariants.{Paused, Prepared, Running}
 use Rattle.dmix_client.specs.declared.commit.Commit.{Commit}
 use Rattle.dmix_client.specs.declared.plain.Plain.{Plain}
 use Rattle.dmix_client.specs.Calls.{commit_count, start_count, start_frame, started_in, window_end}
@@ -55,9 +55,9 @@ start_few c ring cursor position commit upto starting =
 
 -- it keeps its counts in order
 pub IsSound-begun : (c : Plain) (ring : List ℤ) (s : State) (position : Position) (cursor : Cursor) (commit : Commit) (stopped : Bool) (upto written fed : ℕ)
-    → IsStarting c ring cursor (Some position) commit upto → (s ≡ Prepared → ⊥) → written + c.source ≡ fed
+    → IsStarting c ring cursor (Some position) commit upto → (s ≡ Prepared → ⊥) → (s ≡ Paused → ⊥) → written + c.source ≡ fed
     → (is_moving s ≡ true → stopped ≡ false → IsMoving (begun c s position cursor commit stopped written fed)) → IsSound (begun c s position cursor commit stopped written fed) ring
-IsSound-begun c ring s position cursor commit stopped upto written fed starting not_prepared sums moves =
+IsSound-begun c ring s position cursor commit stopped upto written fed starting not_prepared not_paused sums moves =
     let sound = starting.sound in
     let set : c.configured ≡ true = sound.set_up (ap is_set_up starting.prepared) in
     let most = card_most c ring position cursor sound starting.cursor_most starting.loaded in
@@ -71,6 +71,7 @@ IsSound-begun c ring s position cursor commit stopped upto written fed starting 
       configured = λ is. let k = sound.configured set in record { bound = k.bound; on_card = k.on_card; channels = k.channels; buffer_least = k.buffer_least; buffer_most = k.buffer_most; room = k.room };
       prepared = λ is. absurd (not_prepared is);
       moving = moves;
+      paused = λ is. absurd (not_paused is);
     }
 
 all_most : (k w card n stop : ℕ) → k ≡ 0 → n ≡ min w (stop - card) - k → k + n ≤ w
@@ -87,6 +88,6 @@ IsMoving-begun c ring s position cursor commit stopped upto fed starting all non
       started = refl;
       whole = none;
       laid_most = all_most c.committed upto (start_frame c position.frame cursor) commit.frames (window_end c.geometry position.frame) zero_frames all;
-      laid_least = subst (λ (n : ℕ). min upto n ≤ c.committed + commit.frames) (sym hw) (grind (arith, nat_tests));
       fits = omega (arith, hw, starting.fits);
+      pending = omega (arith, starting.fits);
     }

@@ -18,14 +18,15 @@ pub StandsUpTo-stored : (c : Plain) (ring samples offered : List ℤ) (n m : ℕ
     → StandsUpTo c (ring_with c ring offered m) samples (c.written + m)
 StandsUpTo-stored c ring samples offered n m set held_all few fits near stands follows j q low high in_range = elim (cases_lt j c.written) [
   | inl before ↦
-      stored-old c.config.buffer_size (length c.bindings) ring c.written offered m j q has held_all before (omega (arith, near, low)) in_range ∙ stands j q low before in_range
+      stored-old c.config.buffer_size (length c.bindings) ring (c.source + c.written) offered m (c.source + j) q has held_all (omega (arith, before)) (omega (arith, near, low)) in_range ∙ stands j q low before in_range
   | inr not_before ↦
       let k : ℕ = j - c.written in
       let at : c.written + k ≡ j = omega (arith, not_before) in
       let within : k < m = omega (arith, high, not_before) in
-      let new : get_or (ring_with c ring offered m) ((c.written + k) % c.config.buffer_size * length c.bindings + q) (pos 0) ≡ get_or offered (k * length c.bindings + q) (pos 0) =
-      stored-new c.config.buffer_size (length c.bindings) ring c.written offered m k q has held_all fits within in_range in
-      ap (λ (i : ℕ). get_or (ring_with c ring offered m) (i % c.config.buffer_size * length c.bindings + q) (pos 0)) (sym at) ∙ new
+      let there : c.source + c.written + k ≡ c.source + j = omega (arith, at) in
+      let new : get_or (ring_with c ring offered m) ((c.source + c.written + k) % c.config.buffer_size * length c.bindings + q) (pos 0) ≡ get_or offered (k * length c.bindings + q) (pos 0) =
+      stored-new c.config.buffer_size (length c.bindings) ring (c.source + c.written) offered m k q has held_all fits within in_range in
+      ap (λ (i : ℕ). get_or (ring_with c ring offered m) (i % c.config.buffer_size * length c.bindings + q) (pos 0)) (sym there) ∙ new
       ∙ sym (follows k q (omega (arith, within, few)) in_range)
       ∙ ap (λ (i : ℕ). sample_at samples (length c.bindings) (c.source + i) q) at
 ]

@@ -8,7 +8,7 @@ use Rattle.mix_core.specs.declared.port.Ended.TheVariants as ended
 use Rattle.snd_base.specs.declared.errors.XrunWhy.{XrunWhy}
 use Rattle.snd_base.specs.Places.{IsFrom, end_frame}
 use Rattle.pcm_states.specs.declared.states.State.{State}
-use Rattle.pcm_states.specs.declared.states.State.TheVariants.{Prepared, Running, Xrun}
+use Rattle.pcm_states.specs.declared.states.State.TheVariants.{Paused, Prepared, Running, Xrun}
 use Rattle.pcm_states.specs.declared.calls.Call.TheVariants as call
 use Rattle.pcm_states.specs.Table.{next_of}
 use Rattle.dmix_client.specs.declared.commit.Commit.{Commit}
@@ -21,7 +21,7 @@ use Rattle.dmix_client.specs.View.{IsMoving, IsSound, avail_of, hw_of, is_moving
 use Rattle.dmix_client.specs.Writes.{count_with}
 use Rattle.dmix_client.proofs.Going.{told-going, told-stop}
 use Rattle.dmix_client.proofs.Left.{IsConfigured-as}
-use Rattle.dmix_client.proofs.Sound.{OnWhole-of, frames-le, hw-started, laid_most, not_prepared-moving, set_up-moving, whole-of, window_end-above}
+use Rattle.dmix_client.proofs.Sound.{OnWhole-of, frames-le, hw-started, laid_most, not_paused-moving, not_prepared-moving, set_up-moving, whole-of, window_end-above}
 
 -- a client that moves frames, with a commit of a write of n frames behind it; the port at its end
 pub record IsWriting (c : Plain) (ring : List ℤ) (n : ℕ) (last : Commit) (v : PortView) (before after : ℕ) : Type 0 where
@@ -56,9 +56,9 @@ write_few : (c : Plain) (n : ℕ) (last : Commit) (channels : ℕ) → IsCommit 
 write_few c n last channels is = omega (arith, frames-le last.ended last.frames last.part (count_with c (taken_of c n)) channels is, count-le (nat_eq (taken_of c n) 0) (commit_count c (unwrap_or c.seen 0) (c.written + taken_of c n)))
 
 IsSound-behind : (c : Plain) (ring : List ℤ) (s : State) (last : Commit) (stopped : Bool) (upto written fed : ℕ) → IsSound c ring → c.configured ≡ true
-    → last.frames ≤ commit_count c (unwrap_or c.seen 0) upto → (s ≡ Prepared → ⊥) → written + c.source ≡ fed
+    → last.frames ≤ commit_count c (unwrap_or c.seen 0) upto → (s ≡ Prepared → ⊥) → (s ≡ Paused → ⊥) → written + c.source ≡ fed
     → (is_moving s ≡ true → stopped ≡ false → IsMoving (behind c last s stopped written fed)) → IsSound (behind c last s stopped written fed) ring
-IsSound-behind c ring s last stopped upto written fed sound set few not_prepared sums moves = record {
+IsSound-behind c ring s last stopped upto written fed sound set few not_prepared not_paused sums moves = record {
   lead = sound.lead;
   seen = sound.seen;
   card = sound.card;
@@ -68,6 +68,7 @@ IsSound-behind c ring s last stopped upto written fed sound set few not_prepared
   configured = λ is. IsConfigured-as c (behind c last s stopped written fed) ring refl refl refl (sound.configured set);
   prepared = λ is. absurd (not_prepared is);
   moving = moves;
+  paused = λ is. absurd (not_paused is);
 }
 
 taken_fits : (w hw b n m : ℕ) → w ≤ hw + b → m ≡ min n (min (b + hw - w) b) → (w + m ≤ hw + b) × (m ≤ b)
@@ -82,6 +83,9 @@ some_least w m k card n h stop low is = grind (arith, nat_tests)
 count-some : (m n k : ℕ) → 0 < m → n ≡ (if nat_eq m 0 then 0 else k) → n ≡ k
 count-some m n k some is = grind (arith, nat_tests)
 
+near-pending : (w h k b : ℕ) → w ≤ h + b → min w h ≤ k → w ≤ k + b
+near-pending w h k b fits low = grind (arith, nat_tests)
+
 -- it moves on, where all was laid
 IsMoving-behind : (c : Plain) (ring : List ℤ) (s : State) (last : Commit) (stopped : Bool) (n fed : ℕ) (m : ℕ) → m ≡ taken_of c n → IsSound c ring → IsMoving c
     → last.frames ≡ count_with c m → last.part ≡ 0 → IsMoving (behind c last s stopped (c.written + m) fed)
@@ -89,8 +93,8 @@ IsMoving-behind c ring s last stopped n fed zero is sound was all none = record 
   started = was.started;
   whole = none;
   laid_most = omega (arith, was.laid_most, all);
-  laid_least = subst (λ (k : ℕ). min k (hw_of c) ≤ c.committed + last.frames) (sym (let e : c.written + 0 ≡ c.written = omega arith in e)) (omega (arith, was.laid_least));
   fits = omega (arith, was.fits);
+  pending = omega (arith, was.pending);
 }
 IsMoving-behind c ring s last stopped n fed (suc m) is sound was all none =
     let hw : hw_of c ≡ unwrap_or c.seen 0 - c.card = hw-started c was.started in
@@ -99,7 +103,7 @@ IsMoving-behind c ring s last stopped n fed (suc m) is sound was all none =
       started = was.started;
       whole = none;
       laid_most = some_most c.written (suc m) c.committed c.card last.frames (window_end c.geometry (unwrap_or c.seen 0)) was.laid_most count;
-      laid_least = subst (λ (k : ℕ). min (c.written + suc m) k ≤ c.committed + last.frames) (sym hw)
+      pending = near-pending (c.written + suc m) (unwrap_or c.seen 0 - c.card) (c.committed + last.frames) c.config.buffer_size (omega (arith, hw, (taken_fits c.written (hw_of c) c.config.buffer_size n (suc m) was.fits is).0))
           (some_least c.written (suc m) c.committed c.card last.frames (unwrap_or c.seen 0) (window_end c.geometry (unwrap_or c.seen 0)) (window_end-above (unwrap_or c.seen 0) c.geometry.frames (end_frame c.geometry) sound.seen) count);
       fits = (taken_fits c.written (hw_of c) c.config.buffer_size n (suc m) was.fits is).0;
     }
@@ -153,7 +157,7 @@ module _ (c : Plain) (ring : List ℤ) (n : ℕ) (last : Commit) (v : PortView) 
 
   written-stopped : IsWriting c ring n last v before after → is_stop last.ended ≡ true → IsWritten (stopped_in (committed_by c last)) ring v before after
   written-stopped writing is = record {
-    sound = IsSound-behind c ring c.state last true (c.written + taken_of c n) c.written c.fed writing.sound (set_of writing) (write_few c n last (length c.bindings) writing.commit_is) (not_prepared-moving c.state writing.moves) writing.sound.fed (λ moves going. absurd (cc));
+    sound = IsSound-behind c ring c.state last true (c.written + taken_of c n) c.written c.fed writing.sound (set_of writing) (write_few c n last (length c.bindings) writing.commit_is) (not_prepared-moving c.state writing.moves) (not_paused-moving c.state writing.moves) writing.sound.fed (λ moves going. absurd (cc));
     use_it = still_used (behind c last c.state true c.written c.fed) refl refl writing (λ moves going. cc);
     told = told-stop last.ended before after is writing.told;
     count = tt;
@@ -162,7 +166,7 @@ module _ (c : Plain) (ring : List ℤ) (n : ℕ) (last : Commit) (v : PortView) 
   written-late : (late : XrunWhy) → IsWriting c ring n last v before after → is_stop last.ended ≡ false
       → IsWritten (behind c last Xrun c.stopped c.written c.fed, Err (error.Xrun late)) ring v before after
   written-late late writing is = record {
-    sound = IsSound-behind c ring Xrun last c.stopped (c.written + taken_of c n) c.written c.fed writing.sound (set_of writing) (write_few c n last (length c.bindings) writing.commit_is) (λ same. cc) writing.sound.fed (λ moves going. absurd (cc));
+    sound = IsSound-behind c ring Xrun last c.stopped (c.written + taken_of c n) c.written c.fed writing.sound (set_of writing) (write_few c n last (length c.bindings) writing.commit_is) (λ same. cc) (λ same. cc) writing.sound.fed (λ moves going. absurd (cc));
     use_it = still_used (behind c last Xrun c.stopped c.written c.fed) refl refl writing (λ moves going. cc);
     told = told-going last.ended before after is writing.told;
     count = tt;
@@ -177,7 +181,7 @@ module _ (c : Plain) (ring : List ℤ) (n : ℕ) (last : Commit) (v : PortView) 
       let buffer : c.config.buffer_size ≤ 16384 = (writing.sound.configured (set_of writing)).buffer_most in
       let few : taken_of c n ≤ c.config.buffer_size = taken_most n c.config.buffer_size (hw_of c) c.written (taken_of c n) refl in
       record {
-        sound = IsSound-behind c ring Running last c.stopped (c.written + taken_of c n) (c.written + taken_of c n) (c.fed + taken_of c n) writing.sound (set_of writing) (write_few c n last (length c.bindings) writing.commit_is) (λ same. cc) sums
+        sound = IsSound-behind c ring Running last c.stopped (c.written + taken_of c n) (c.written + taken_of c n) (c.fed + taken_of c n) writing.sound (set_of writing) (write_few c n last (length c.bindings) writing.commit_is) (λ same. cc) (λ same. cc) sums
             (λ moves going. IsMoving-behind c ring Running last c.stopped n (c.fed + taken_of c n) (taken_of c n) refl writing.sound (writing.sound.moving writing.moves writing.going) all.0 all.1);
         use_it = record {
           same_geometry = writing.same_geometry;

@@ -1,6 +1,6 @@
 -- What each call of a client makes of it, by the parts that the call does one after the other: with the positions that
 -- its loads gave, and with what its commits came to.
-use Rattle.std.specs.Prelude.{ℕ, ◌+◌, ◌-◌, Bool, true, false, ◌&&◌, ◌||◌, nat_le, nat_lt, nat_eq, if◌then◌else◌, min, max, ℤ, List, slice_index, Option, Some, None, is_some, unwrap_or, Result, Ok, Err}
+use Rattle.std.specs.Prelude.{ℕ, ◌+◌, ◌-◌, Bool, true, false, not, ◌&&◌, ◌||◌, nat_le, nat_lt, nat_eq, if◌then◌else◌, min, max, ℤ, List, slice_index, Option, Some, None, is_some, unwrap_or, Result, Ok, Err}
 use Rattle.snd_base.specs.declared.errors.PcmError.{PcmError}
 use Rattle.snd_base.specs.declared.errors.PcmError.TheVariants.{Again, BadState, NotSupported, Stopped}
 use Rattle.snd_base.specs.declared.errors.PcmError.TheVariants as error
@@ -16,7 +16,7 @@ use Rattle.bindings.specs.Bound.{identity, rising}
 use Rattle.hw_space.specs.declared.config.Config.{Config}
 use Rattle.sw_limits.specs.declared.params.SwParams.{SwParams}
 use Rattle.pcm_states.specs.declared.states.State.{State}
-use Rattle.pcm_states.specs.declared.states.State.TheVariants.{Open, Setup, Prepared, Running, Draining}
+use Rattle.pcm_states.specs.declared.states.State.TheVariants.{Open, Setup, Prepared, Running, Draining, Paused}
 use Rattle.pcm_states.specs.declared.calls.Call.{Call}
 use Rattle.pcm_states.specs.declared.calls.Call.TheVariants as call
 use Rattle.pcm_states.specs.declared.calls.Facts.{Facts}
@@ -243,6 +243,33 @@ started c state cursor (Some position) commit =
     then stopped_in done
     else going_on done state (next_of Prepared call.Start (found_at position (late_of from commit)))
     )
+
+-- a running stream is paused
+abbrev pub paused : Plain → Plain
+paused c = record c { state = Paused }
+
+abbrev pub is_paused : State → Bool
+is_paused Paused = true
+is_paused other = false
+
+-- the frames that are pending: accepted, and not committed
+abbrev pub pending_of : Plain → ℕ
+pending_of c = c.written - c.committed
+
+-- the counts based anew: what is pending is all that is written, and nothing is laid since now
+abbrev pub rebased : Plain → Plain
+rebased c =
+    record c { state = Prepared; written = pending_of c; committed = 0; part = 0; card = 0; started = false; source = c.fed - pending_of c }
+
+-- a client that a call found as the first of these and left as the second begins with its counts based anew where it is no
+-- longer paused
+abbrev pub base_of : Plain → Plain → Plain
+base_of c d = if is_paused c.state && not (is_paused d.state) then rebased c else c
+
+-- the resume of a client with pending frames: a start of these, once the position was loaded
+abbrev pub resumed : Plain → Cursor → Option Position → Commit → Answered (Unit {0})
+resumed c cursor None commit = stopped_in c
+resumed c cursor (Some position) commit = started (rebased c) Running cursor (Some position) commit
 
 -- an answer's number, where there is one
 abbrev pub with_number : (Plain → ℕ) → Answered (Unit {0}) → Answered ℕ

@@ -1,5 +1,5 @@
 -- The calls of a client as courses: what each does at its port, step by step.
-use Rattle.std.specs.Prelude.{ℕ, zero, suc, ◌+◌, ℤ, List, [], ◌∷◌, Option, None, Some, slice_index, nat_eq, if◌then◌else◌, Ok, Err}
+use Rattle.std.specs.Prelude.{ℕ, zero, suc, ◌+◌, Bool, ℤ, List, [], ◌∷◌, Option, None, Some, slice_index, nat_eq, if◌then◌else◌, Ok, Err}
 use Rattle.snd_base.specs.declared.errors.PcmError.{PcmError}
 use Rattle.snd_base.specs.declared.places.Cursor.{Cursor}
 use Rattle.mix_core.specs.declared.port.Ended.{Ended}
@@ -15,7 +15,7 @@ use Rattle.pcm_states.specs.declared.calls.Call.{Call}
 use Rattle.pcm_states.specs.declared.calls.Call.TheVariants as call
 use Rattle.dmix_client.specs.declared.commit.Commit.{Commit}
 use Rattle.dmix_client.specs.declared.plain.Plain.{Plain}
-use Rattle.dmix_client.specs.Calls.{Answered, accepted, accepted_if, draining, dropped, has_frames, is_running, nothing_found, refusal_of, settled, start_count, started, started_in, sync_count, synced, taken_of, with_number, written_after}
+use Rattle.dmix_client.specs.Calls.{Answered, accepted, accepted_if, draining, dropped, has_frames, is_running, nothing_found, paused, pending_of, rebased, refusal_of, resumed, settled, start_count, started, started_in, sync_count, synced, taken_of, with_number, written_after}
 use Rattle.dmix_client.specs.View.{held, is_moving}
 use Rattle.dmix_client.specs.Writes.{count_with, frames_in, ring_with, starts_with}
 
@@ -99,6 +99,19 @@ abbrev pub drain_course : Plain → List ℤ → Cursor → Course (Answered (Un
 drain_course c ring cursor =
     if is_moving c.state then syncs (draining c) call.Drain ring else
     (if has_frames c then drains c ring cursor else ends (dropped c, Ok tt))
+
+-- the resume of a client with pending frames: the load, and the commit of these from where the stream starts
+unfoldable pub resumes : Plain → Cursor → List ℤ → Course (Answered (Unit {0}))
+resumes c cursor ring =
+    looks (λ position. started_in (rebased c) Running position cursor) (λ position. start_count (rebased c) cursor position (pending_of c)) ring
+    >>= λ found. ends (resumed c cursor found.0 found.1)
+
+abbrev pub pause_course : Bool → Plain → List ℤ → Cursor → Course (Answered (Unit {0}))
+pause_course on c ring cursor = if on then ends (paused c, Ok tt) else
+    (if nat_eq (pending_of c) 0 then ends (rebased c, Ok tt) else resumes c cursor ring)
+
+abbrev pub pause_call : Bool → Call
+pause_call on = if on then call.Pause else call.Resume
 
 -- a call, unless it is refused before it does anything
 abbrev pub admitted_by : {X : Type 0} → Option PcmError → Plain → Course (Answered X) → Course (Answered X)

@@ -1,9 +1,10 @@
 -- For which accepted frames a client stands, and how its segment grows by what a port laid for it.
-use Rattle.std.specs.Prelude.{◌≡◌, ℕ, ◌+◌, ◌<◌, ◌≤◌, false, min, ℤ, List, ◌++◌, length, Result, ⊤}
+use Rattle.std.specs.Prelude.{◌≡◌, ℕ, ◌+◌, ◌<◌, ◌≤◌, false, fold, min, ℤ, List, ◌++◌, length, Result, ⊤}
 use Rattle.snd_base.specs.declared.errors.PcmError.{PcmError}
 use Rattle.mix_core.specs.declared.gate.Gate as gates
 use Rattle.mix_core.specs.declared.port.Entry.{Entry}
 use Rattle.mix_core.specs.declared.port.MixPort as mixport
+use Rattle.mix_core.specs.Laid.{stand_after}
 use Rattle.dmix_client.specs.declared.plain.Plain.{Plain}
 use Rattle.dmix_client.specs.Calls.{segment_of}
 use Rattle.dmix_client.specs.Expansion.{expand, sample_at}
@@ -48,6 +49,34 @@ pub record Keeps {S T X : Type 0} (P : mixport.Ghosts S) (G : gates.Ghosts T) (s
   pub told : c.plain.stopped ≡ false → CountsStop answer (G.stops s.1) (G.stops t.1)
   pub grows : (samples : List ℤ) → StandsFor c.plain c.ring samples → For samples → Grows P.laid s.0 t.0 c.plain d.plain samples
   pub stands : (samples : List ℤ) → StandsFor c.plain c.ring samples → For samples → StandsFor d.plain d.ring samples
+
+-- a port lost at the end of its standing adds: they ended in some entries, and end in others now, whatever is before these; what
+-- it laid in between takes the one to the other
+pub record TakesAway {S : Type 0} (laid : S → S → List Entry → Type 0) (ends_in : S → List Entry → Type 0) (p q : S) (before after : List Entry) : Type 0 where
+  pub entries : List Entry
+  pub laid_them : laid p q entries
+  pub lost : (early : List Entry) → fold stand_after (early ++ before) entries ≡ early ++ after
+  pub held : (early : List Entry) → ends_in p (early ++ before) → ends_in q (early ++ after)
+
+-- it lost exactly what a client's segment lost, by some samples
+pub record Loses {S : Type 0} (laid : S → S → List Entry → Type 0) (ends_in : S → List Entry → Type 0) (p q : S) (c d : Plain) (samples : List ℤ) : Type 0 where
+  pub away : TakesAway laid ends_in p q (segment_entries c samples) (segment_entries d samples)
+  pub same_member : d.member ≡ c.member
+  pub same_bindings : d.bindings ≡ c.bindings
+
+-- what a rewind keeps: as every call that takes steps, but that for each list of samples its segment lost exactly what the port
+-- lost at the end of its standing adds
+pub record KeepsBack {S T X : Type 0} (P : mixport.Ghosts S) (G : gates.Ghosts T) (s t : S × T) (c d : ClientView) (answer : Result X PcmError) : Type 0 where
+  pub sound : IsSound d.plain d.ring
+  pub port : CanUse d.plain (P.view t.0)
+  pub told : c.plain.stopped ≡ false → CountsStop answer (G.stops s.1) (G.stops t.1)
+  pub loses : (samples : List ℤ) → StandsFor c.plain c.ring samples → Loses P.laid P.ends_in s.0 t.0 c.plain d.plain samples
+  pub stands : (samples : List ℤ) → StandsFor c.plain c.ring samples → StandsFor d.plain d.ring samples
+
+-- a port's standing adds end in a client's segment, by some samples that the client represents
+pub record IsBacked {S : Type 0} (ends_in : S → List Entry → Type 0) (p : S) (c : ClientView) (samples : List ℤ) : Type 0 where
+  pub stands : StandsFor c.plain c.ring samples
+  pub segment : ends_in p (segment_entries c.plain samples)
 
 -- no list of samples is left out
 abbrev pub AnySamples : List ℤ → Type 0

@@ -1,14 +1,28 @@
 -- For which samples a client stands that has just begun, and how what it laid adds up.
-use Rattle.std.specs.Prelude.{◌≡◌, ℤ, List, ◌++◌}
-use Rattle.std.proofs.Common.{arith, ap, ◌∙◌, append_assoc}
+use Rattle.std.specs.Prelude.{◌≡◌, ℕ, ◌+◌, ◌-◌, ◌*◌, ◌%◌, ℤ, pos, List, ◌++◌, length}
+use Rattle.std.proofs.Common.{arith, ap, sym, ◌∙◌, append_assoc, get_or}
+use Rattle.std.proofs.lemmas.Bool.Decides.{nat_tests}
 use Rattle.snd_base.specs.Relations.{Composes}
 use Rattle.mix_core.specs.declared.port.Entry.{Entry}
 use Rattle.dmix_client.specs.declared.plain.Plain.{Plain}
+use Rattle.pcm_states.specs.declared.states.State.TheVariants.{Paused}
+use Rattle.dmix_client.specs.Calls.{rebased}
+use Rattle.dmix_client.specs.Expansion.{sample_at}
 use Rattle.dmix_client.specs.Growth.{Grows, StandsFor, segment_entries}
+use Rattle.dmix_client.specs.View.{IsSound}
 
 -- a client with nothing written, as after `hw_params` and `prepare`, stands for all samples
 pub StandsFor-nothing : (c : Plain) (ring samples : List ℤ) → c.written ≡ 0 → StandsFor c ring samples
 StandsFor-nothing c ring samples none j q low high in_range = absurd (omega (arith, high, none))
+
+-- a paused client that stands for some samples does so with its counts based anew
+pub StandsFor-rebased : (c : Plain) (ring samples : List ℤ) → IsSound c ring → c.state ≡ Paused → StandsFor c ring samples → StandsFor (rebased c) ring samples
+StandsFor-rebased c ring samples sound is stands j q low high in_range =
+    let most = (sound.paused is).laid_most in
+    let at : c.fed - (c.written - c.committed) + j ≡ c.source + (c.committed + j) = omega (arith, sound.fed, most, high) in
+    ap (λ (n : ℕ). get_or ring (n % c.config.buffer_size * length c.bindings + q) (pos 0)) at
+    ∙ stands (c.committed + j) q (grind (arith, nat_tests)) (omega (arith, high)) in_range
+    ∙ ap (λ (n : ℕ). sample_at samples (length c.bindings) n q) (sym at)
 
 -- the growths of two calls, one after the other, are one
 pub Grows-joined : {S : Type 0} (laid : S → S → List Entry → Type 0) (composes : Composes laid) (p q r : S) (c d e : Plain) (samples : List ℤ)

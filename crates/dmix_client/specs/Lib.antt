@@ -8,7 +8,10 @@ pub mod ExpansionLaws
 pub mod Growth
 pub mod GrowthLaws
 pub mod Port
+pub mod Rewind
+pub mod RewindCauses
 pub mod Ring
 pub mod RingLaws
+pub mod StandingLaws
 pub mod View
 pub mod Writes

@@ -1,4 +1,4 @@
--- The local ring: frame j stands in slot j mod the buffer size.
+-- The local ring: the frame with a number is in the slot of that number mod the buffer size.
 use Rattle.std.specs.Prelude.{ℕ, zero, suc, ◌+◌, ◌*◌, ◌%◌, ℤ, List, ◌++◌, drop, length, take}
 
 -- a list with a part written over, from a place on

@@ -7,7 +7,7 @@ use Rattle.pcm_states.specs.declared.states.State.{State}
 use Rattle.pcm_states.specs.declared.states.State.TheVariants.{Open, Setup, Prepared, Running, Xrun, Draining, Paused, Suspended, Disconnected}
 use Rattle.dmix_client.specs.declared.plain.Plain.{Plain}
 
--- a client: its counts and settings, and its local ring, in which frame j stands in slot j mod the buffer size
+-- a client: its counts and settings, and its local ring, in which frame j is in slot `source + j` mod the buffer size
 pub record ClientView : Type 0 where
   pub plain : Plain
   pub ring : List ℤ
@@ -60,7 +60,7 @@ is_set_up Prepared = true
 is_set_up Running = true
 is_set_up Xrun = true
 is_set_up Draining = true
-is_set_up Paused = false
+is_set_up Paused = true
 is_set_up Suspended = false
 is_set_up Disconnected = false
 
@@ -73,13 +73,18 @@ pub record IsConfigured (c : Plain) (ring : List ℤ) : Type 0 where
   pub buffer_most : c.config.buffer_size ≤ 16384
   pub room : length ring ≡ c.config.buffer_size * length c.bindings
 
--- how far a client is that moves frames: all whole frames up to one are laid, and what isn't played fits the buffer
+-- how far a client is that moves frames or is paused: all whole frames up to one are laid, and what isn't played fits the
+-- buffer, and so does what is pending
 pub record IsMoving (c : Plain) : Type 0 where
   pub started : c.started ≡ true
   pub whole : c.part ≡ 0
   pub laid_most : c.committed ≤ c.written
-  pub laid_least : min c.written (hw_of c) ≤ c.committed
   pub fits : c.written ≤ hw_of c + c.config.buffer_size
+  pub pending : c.written ≤ c.committed + c.config.buffer_size
+
+-- the frames that are played, as far as the client saw, are laid: so it is after each sync that goes on
+abbrev pub IsLaidPast : Plain → Type 0
+IsLaidPast c = min c.written (hw_of c) ≤ c.committed
 
 -- a client that wasn't stopped, and moves frames unless it is at its end
 pub record IsGoing (c : Plain) : Type 0 where
@@ -104,7 +109,8 @@ pub record IsSound (c : Plain) (ring : List ℤ) : Type 0 where
   pub configured : c.configured ≡ true → IsConfigured c ring
   pub prepared : c.state ≡ Prepared → IsPrepared c
   pub moving : is_moving c.state ≡ true → c.stopped ≡ false → IsMoving c
+  pub paused : c.state ≡ Paused → IsMoving c
 
 -- the sample of a frame and client channel in the local ring
 abbrev pub held : Plain → List ℤ → ℕ → ℕ → ℤ
-held c ring frame channel = slice_index_or ring (frame % c.config.buffer_size * channels_of c + channel) (pos 0)
+held c ring frame channel = slice_index_or ring ((c.source + frame) % c.config.buffer_size * channels_of c + channel) (pos 0)

@@ -10,7 +10,7 @@ frames_in c samples = length samples / length c.bindings
 
 -- the ring of a client with frames behind what is written
 abbrev pub ring_with : Plain → List ℤ → List ℤ → ℕ → List ℤ
-ring_with c ring samples n = stored c.config.buffer_size (length c.bindings) ring c.written samples n
+ring_with c ring samples n = stored c.config.buffer_size (length c.bindings) ring (c.source + c.written) samples n
 
 -- how many frames a write of n takes after its sync
 abbrev pub taken_after : Answered (Unit {0}) → ℕ → ℕ

@@ -70,7 +70,7 @@ impl Client {
         self.plain.state
     }
 
-    /// Whether the gate has stopped the client. Every later call but `pause` is then refused with `Stopped`.
+    /// Whether the gate has stopped the client. Every later call is then refused with `Stopped`.
     pub fn is_stopped(&self) -> bool
         ensures { result ≡ self.now.plain.stopped }
     {
@@ -102,7 +102,7 @@ impl Client {
         self.plain.fed
     }
 
-    /// What the client has laid into the card's ring since the last `prepare`.
+    /// What the client has laid into the card's ring since the last `prepare`, or the last resume that based its counts anew.
     pub fn segment(&self) -> Segment
         ensures { result ≡ segment_of self.now.plain }
     {
@@ -186,13 +186,5 @@ impl Client {
         self.plain.admit(Call::Drop)?;
         self.plain = self.plain.dropped();
         Ok(())
-    }
-
-    /// Pausing (`snd_pcm_pause`) is refused with `NotSupported` in every state, also of a client that is stopped.
-    pub fn pause(&mut self, _on: bool) -> Result<(), PcmError>
-        ensures answer { result ≡ Err PcmError.NotSupported }
-        ensures unchanged { self.new ≡ self.old }
-    {
-        Err(PcmError::NotSupported)
     }
 }

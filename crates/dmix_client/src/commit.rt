@@ -107,17 +107,19 @@ fn place_frame<P: MixPort, G: Gate>(
     }
 }
 
-/// Where the samples of a frame begin in a local ring of `buffer_size` frames.
-pub(crate) fn slot_of(frame: u64, buffer_size: u32, channels: u8) -> usize
+/// Where the samples of frame number `from + frame` begin in a local ring of `buffer_size` frames.
+pub(crate) fn slot_of(from: u64, frame: u64, buffer_size: u32, channels: u8) -> usize
     requires some { 1 ≤ buffer_size }
-    ensures value { result ≡ frame % buffer_size * channels }
+    ensures value { result ≡ (from + frame) % buffer_size * channels }
     ensures within { result + channels ≤ buffer_size * channels }
 {
-    (frame % buffer_size as u64) as usize * channels as usize
+    let size = buffer_size as u64;
+    let slot = (from % size + frame % size) % size;
+    slot as usize * channels as usize
 }
 
 /// The samples of one frame of a ring.
-fn frame_of(ring: &[i16], slot: usize, channels: u8) -> &[i16]
+pub(crate) fn frame_of(ring: &[i16], slot: usize, channels: u8) -> &[i16]
     requires { slot + channels ≤ length ring.now }
     ensures length { length result.now ≡ channels }
     ensures samples { (q : ℕ) → q < channels → slice_index_or result.now q (pos 0) ≡ slice_index_or ring.now (slot + q) (pos 0) }
@@ -145,7 +147,7 @@ pub(crate) fn lay_frames<P: MixPort, G: Gate>(
     let channels = plain.bindings.len();
     for frame in 0..count {
         let number = plain.committed + frame;
-        let slot = slot_of(number, plain.config.buffer_size, channels);
+        let slot = slot_of(plain.source, number, plain.config.buffer_size, channels);
         let samples = frame_of(ring, slot, channels);
         let placed = place_frame(port, gate, &plain.bindings, plain.card + number, samples);
         match placed.ended {

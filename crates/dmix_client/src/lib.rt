@@ -4,11 +4,15 @@
 mod client;
 mod commit;
 mod control;
+mod pause;
 mod plain;
+mod rewind;
+mod rewound;
 mod ring;
 mod status;
 mod steps;
 mod usable;
+mod withdraw;
 mod write;
 
 pub use client::Client;

@@ -9,9 +9,9 @@ use sw_limits::SwParams;
 ///
 /// `member` is the number of its port, `lead` how far past the position a start begins. `config`, `bindings` and `params`
 /// mean something where it is `configured`. Since the last `prepare`, `written` frames were accepted and `committed` of
-/// them laid whole, with `part` channels of the next one; the first frame stands at the card's frame `card`, once it is
-/// `started`. `seen` is the position that it loaded last. `fed` frames were accepted in all, of which `source` stood
-/// before the last `prepare`.
+/// them laid whole, with `part` channels of the next one; the first frame is at the card's frame `card`, once it is
+/// `started`. A resume bases these counts anew: what was pending is all that is written then. `seen` is the position that
+/// the client loaded last. `fed` frames were accepted in all, of which `source` are before those that these counts tell of.
 #[derive(Clone, Copy, Debug, PartialEq, Eq)]
 pub struct Plain {
     pub geometry: Geometry,

@@ -1,4 +1,4 @@
-//! The local ring: frame j stands in slot j mod the buffer size.
+//! The local ring: the frame with a number is in the slot of that number mod the buffer size.
 ghost use Rattle.std.specs.Prelude.{◌≡◌, ℕ, ◌+◌, ◌*◌, ◌%◌, ◌^◌, ◌<◌, ◌≤◌, length};
 ghost use Rattle.dmix_client.specs.Ring.{stored, written_over};
 
@@ -24,11 +24,10 @@ pub(crate) fn store(
     requires some { 1 ≤ buffer_size }
     requires room { length ring.old ≡ buffer_size * channels }
     requires held { frames * channels ≤ length samples.now }
-    requires fits { from + frames < 2 ^ 64 }
     ensures stored { ring.new ≡ stored buffer_size channels ring.old from samples.now frames }
 {
     for frame in 0..frames {
-        let slot = slot_of(from + frame, buffer_size, channels);
+        let slot = slot_of(from, frame, buffer_size, channels);
         let first = frame as usize * channels as usize;
         write_over(ring, slot, &samples[first..first + channels as usize]);
     }

@@ -1,6 +1,6 @@
 //! What a client is after each part of a call, by what the part found.
 ghost use Rattle.std.specs.Prelude.{◌≡◌, ℕ, ◌+◌, ◌*◌, ◌^◌, ◌<◌, ◌≤◌, IfSome, OnOk, length, unwrap_or};
-ghost use Rattle.dmix_client.specs.Calls.{is_refusal, refusal_of, refused_by, with_params, draining, has_frames, with_number, configured_with, dropped, freed, opened, accepted, accepted_if, written_after, avail_answer, commit_count, committed_by, delay_answer, facts_of, found_at, going_on, is_stop, late_of, over_of, prepared, seen_at, segment_of, settled, start_count, start_frame, started, started_in, stopped_in, sync_count, synced, taken_of, window_end};
+ghost use Rattle.dmix_client.specs.Calls.{is_refusal, refusal_of, refused_by, with_params, draining, has_frames, with_number, configured_with, dropped, freed, opened, accepted, accepted_if, written_after, avail_answer, commit_count, committed_by, delay_answer, facts_of, found_at, going_on, is_stop, late_of, over_of, paused, pending_of, prepared, rebased, resumed, seen_at, segment_of, settled, start_count, start_frame, started, started_in, stopped_in, sync_count, synced, taken_of, window_end};
 ghost use Rattle.mix_core.specs.Port.{OnLate};
 ghost use Rattle.dmix_client.specs.Writes.{count_with};
 ghost use Rattle.dmix_client.specs.View.{is_moving, IsReady, IsReadyAt, avail_of, hw_of, queued_of};
@@ -233,7 +233,7 @@ fn going_on(plain: Plain, state: State, outcome: Outcome) -> Answered<()>
 }
 
 /// What a start found, or a commit behind a sync.
-fn found_at(position: Position, late: Option<XrunWhy>) -> Facts
+pub(crate) fn found_at(position: Position, late: Option<XrunWhy>) -> Facts
     ensures { result ≡ found_at position late }
 {
     Facts {
@@ -362,6 +362,67 @@ pub(crate) fn started(
     }
     let facts = found_at(position, from.late(commit));
     going_on(done, state, next(State::Prepared, Call::Start, facts))
+}
+
+impl Plain {
+    /// The stream is paused.
+    pub(crate) fn paused(&self) -> Plain
+        ensures { result ≡ paused self.now }
+    {
+        Plain {
+            state: State::Paused,
+            ..*self
+        }
+    }
+
+    /// The frames that are accepted and not committed.
+    pub(crate) fn pending(&self) -> u64
+        ensures { result ≡ pending_of self.now }
+    {
+        self.written.saturating_sub(self.committed)
+    }
+
+    /// What is pending is all that is written, and nothing is laid since now.
+    pub(crate) fn rebased(&self) -> Plain
+        ensures { result ≡ rebased self.now }
+    {
+        let pending = self.pending();
+        Plain {
+            state: State::Prepared,
+            written: pending,
+            committed: 0,
+            part: 0,
+            card: 0,
+            started: false,
+            source: self.fed.saturating_sub(pending),
+            ..*self
+        }
+    }
+}
+
+/// The resume of a client that has pending frames.
+pub(crate) fn resumed(
+    plain: Plain,
+    cursor: Cursor,
+    load: Option<Position>,
+    commit: Commit,
+) -> Answered<()>
+    requires position { IfSome load (λ position. position.frame < 2 ^ 63) }
+    requires cursor { cursor.frame < 2 ^ 63 }
+    requires fits { commit.frames < 2 ^ 62 }
+    requires part { OnLate commit.ended (λ _. commit.part < length plain.bindings) }
+    ensures { result ≡ resumed plain cursor load commit }
+{
+    match load {
+        None => stopped_in(plain),
+        Some(position) => started(
+            plain.rebased(),
+            State::Running,
+            cursor,
+            Some(position),
+            commit,
+        ),
+    }
 }
 
 /// Frames that were taken are accepted where the call went well.

@@ -111,6 +111,24 @@ fn write(
     client.writei(&mut turn, &mut NeverStops, samples)
 }
 
+/// A pause or resume at the core's member 0, by a gate.
+fn pause_by<G: Gate>(
+    rt: &impl Abort,
+    core: &mut Core,
+    client: &mut Client,
+    gate: &mut G,
+    on: bool,
+) -> Result<(), PcmError> {
+    assert!(rt; core.members() > 0);
+    let mut turn = core.turn(0);
+    assert!(rt; client.can_use(&turn));
+    client.pause(&mut turn, gate, on)
+}
+
+fn pause(rt: &impl Abort, core: &mut Core, client: &mut Client, on: bool) -> Result<(), PcmError> {
+    pause_by(rt, core, client, &mut NeverStops, on)
+}
+
 fn sync(rt: &impl Abort, core: &mut Core, client: &mut Client) -> Result<(), PcmError> {
     assert!(rt; core.members() > 0);
     let mut turn = core.turn(0);
@@ -307,13 +325,113 @@ fn exchanged_channels_are_exchanged(rt: HostRuntime) -> Result<(), Fail> {
     Ok(())
 }
 
+/// A ramp of samples, from 1 on.
+fn ramp(samples: &mut [i16]) {
+    let mut next: i16 = 1;
+    for sample in samples.iter_mut() {
+        *sample = next;
+        next = next.wrapping_add(1);
+    }
+}
+
+// A paused client commits nothing, and what it committed is played. Its resume begins a new segment with what was pending,
+// one period past the position: of a ramp of 256 frames 192 are in the ring first, and then the last 64.
+#[test]
+fn a_resume_begins_a_segment_with_what_is_pending(rt: HostRuntime) -> Result<(), Fail> {
+    let (mut core, mut client) = opened(rt.alloc())?;
+    let mut samples = [0; 256];
+    ramp(&mut samples);
+    let wrote = write(&rt, &mut core, &mut client, &samples);
+    assert_eq!(rt; wrote, Ok(256));
+    let paused = pause(&rt, &mut core, &mut client, true);
+    assert_eq!(rt; paused, Ok(()));
+    assert_eq!(rt; client.state(), State::Paused);
+    let synced = sync(&rt, &mut core, &mut client);
+    assert_eq!(rt; synced, Ok(()));
+    assert_eq!(rt; heard(&mut core, 256), Ok(192));
+    core.publish();
+    let avail = avail_update(&rt, &mut core, &mut client);
+    assert_eq!(rt; avail, Ok(0));
+    let left = delay(&rt, &mut core, &mut client);
+    assert_eq!(rt; left, Ok(320));
+    let resumed = pause(&rt, &mut core, &mut client, false);
+    assert_eq!(rt; resumed, Ok(()));
+    assert_eq!(rt; client.state(), State::Running);
+    assert_eq!(rt; client.seen(), Some(256));
+    let laid = Segment {
+        source: 192,
+        card: 320,
+        whole: 64,
+        part: 0,
+    };
+    assert_eq!(rt; client.segment(), laid);
+    assert_eq!(rt; client.fed(), 256);
+    assert_eq!(rt; heard(&mut core, 64), Ok(0));
+    assert_eq!(rt; core.take()?.value, 193);
+    assert_eq!(rt; heard(&mut core, 191), Ok(63));
+    Ok(())
+}
+
+// A pause is refused unless the stream runs. A resume without pending frames prepares the stream.
+#[test]
+fn a_resume_without_pending_frames_is_a_prepare(rt: HostRuntime) -> Result<(), Fail> {
+    let (mut core, mut client) = opened(rt.alloc())?;
+    let early = pause(&rt, &mut core, &mut client, true);
+    assert_eq!(rt; early, Err(PcmError::BadState));
+    let samples = [100; 64];
+    let wrote = write(&rt, &mut core, &mut client, &samples);
+    assert_eq!(rt; wrote, Ok(64));
+    let none = write(&rt, &mut core, &mut client, &samples[..0]);
+    assert_eq!(rt; none, Ok(0));
+    let paused = pause(&rt, &mut core, &mut client, true);
+    assert_eq!(rt; paused, Ok(()));
+    let refused = write(&rt, &mut core, &mut client, &samples);
+    assert_eq!(rt; refused, Err(PcmError::BadState));
+    let resumed = pause(&rt, &mut core, &mut client, false);
+    assert_eq!(rt; resumed, Ok(()));
+    assert_eq!(rt; client.state(), State::Prepared);
+    let nothing = Segment {
+        source: 64,
+        card: 0,
+        whole: 0,
+        part: 0,
+    };
+    assert_eq!(rt; client.segment(), nothing);
+    Ok(())
+}
+
+// A resume that is stopped before its load leaves the stream paused, with the segment that it had.
+#[test]
+fn a_resume_that_is_stopped_changes_no_count(rt: HostRuntime) -> Result<(), Fail> {
+    let (mut core, mut client) = opened(rt.alloc())?;
+    let samples = [100; 256];
+    let wrote = write(&rt, &mut core, &mut client, &samples);
+    assert_eq!(rt; wrote, Ok(256));
+    let paused = pause(&rt, &mut core, &mut client, true);
+    assert_eq!(rt; paused, Ok(()));
+    let before = client.segment();
+    let mut gate = StopsOnce {
+        left: 0,
+        stopped: false,
+    };
+    let stopped = pause_by(&rt, &mut core, &mut client, &mut gate, false);
+    assert_eq!(rt; stopped, Err(PcmError::Stopped));
+    assert_eq!(rt; client.state(), State::Paused);
+    assert_eq!(rt; client.segment(), before);
+    assert_eq!(rt; client.fed(), 256);
+    Ok(())
+}
+
 // What a client that isn't started answers.
 #[test]
 fn an_empty_client_is_not_started(rt: HostRuntime) -> Result<(), Fail> {
     let mut core = Core::new(rt.alloc(), RING, 1)?;
     let mut client = Client::new(rt.alloc(), RING, 0, 64);
     assert_eq!(rt; client.prepare(), Err(PcmError::BadState));
-    assert_eq!(rt; client.pause(true), Err(PcmError::NotSupported));
+    assert_eq!(rt;
+        pause(&rt, &mut core, &mut client, true),
+        Err(PcmError::BadState)
+    );
     client.hw_params(rt.alloc(), MONO, Bindings::identity(1))?;
     assert_eq!(rt; client.config(), Some(MONO));
     let started = start(&rt, &mut core, &mut client);

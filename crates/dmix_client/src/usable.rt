@@ -10,7 +10,7 @@ use mix_core::MixPort;
 
 /// Whether a port has the geometry and the member of a client.
 fn is_own<P: MixPort>(plain: &Plain, port: &P) -> bool
-    ensures { IsTrue result → ((P.view port.now).geometry ≡ plain.now.geometry) × ((P.view port.now).member ≡ plain.now.member) }
+    ensures { IsTrue result ↔ ((P.view port.now).geometry ≡ plain.now.geometry) × ((P.view port.now).member ≡ plain.now.member) }
 {
     let here = port.geometry();
     let own = plain.geometry;
@@ -25,7 +25,7 @@ fn is_own<P: MixPort>(plain: &Plain, port: &P) -> bool
 
 /// Whether the port's cursor and its position are where a client that moves frames left them.
 fn is_behind<P: MixPort>(client: &Client, port: &P) -> bool
-    ensures { IsTrue result → IsFrom (P.view port.now).marks.cursor (client.now.plain.card + client.now.plain.committed) (least_channel client.now.plain.bindings) × unwrap_or client.now.plain.seen 0 ≤ (P.view port.now).seen }
+    ensures { IsTrue result ↔ IsFrom (P.view port.now).marks.cursor (client.now.plain.card + client.now.plain.committed) (least_channel client.now.plain.bindings) × unwrap_or client.now.plain.seen 0 ≤ (P.view port.now).seen }
 {
     let plain = &client.plain;
     let _channels = plain.bindings.len();
@@ -38,7 +38,7 @@ impl Client {
     /// Whether its calls may be made with this port: the port is one of the client's ring, of its member, and can add; and
     /// where the client moves frames nobody else has used the port since the start.
     pub fn can_use<P: MixPort>(&self, port: &P) -> bool
-        ensures { IsTrue result → CanUse self.now.plain (P.view port.now) }
+        ensures { IsTrue result ↔ CanUse self.now.plain (P.view port.now) }
     {
         if !port.can_add() || !is_own(&self.plain, port) {
             return false;
@@ -52,7 +52,7 @@ impl Client {
     /// Whether these samples, interleaved, may be written: whole frames, at most 4,194,304 of them, and less than 2 to the
     /// power 63 were accepted so far.
     pub fn can_offer(&self, samples: &[i16]) -> bool
-        ensures { IsTrue result → IsOffer self.now.plain samples.now }
+        ensures { IsTrue result ↔ IsOffer self.now.plain samples.now }
     {
         let channels = self.plain.bindings.len() as usize;
         samples.len() % channels == 0

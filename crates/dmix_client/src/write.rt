@@ -75,7 +75,6 @@ fn store_taken(plain: &Plain, ring: &mut [i16], samples: &[i16], taken: u64)
     requires sound { IsSound plain.now ring.old }
     requires configured { plain.now.configured ≡ true }
     requires held { taken * length plain.now.bindings ≤ length samples.now }
-    requires fits { plain.now.written + taken < 2 ^ 64 }
     ensures ring { ring.new ≡ ring_with plain.now ring.old samples.now taken }
     ensures sound { IsSound plain.now ring.new }
 {
@@ -83,7 +82,7 @@ fn store_taken(plain: &Plain, ring: &mut [i16], samples: &[i16], taken: u64)
         ring,
         plain.config.buffer_size,
         plain.bindings.len(),
-        plain.written,
+        plain.fed,
         samples,
         taken,
     );

@@ -4,7 +4,7 @@ use Rattle.std.specs.Prelude.{Option, Some, Result, Ok, Err, IfErr, OnOk, OnErr}
 use Rattle.std.specs.Option.{option_map}
 use Rattle.std.specs.Result.{IsErrAnd}
 use Rattle.dmixlab.specs.declared.stop.Stop.{Stop}
-use Rattle.dmixlab.specs.declared.stop.Stop.TheVariants.{Words, Script, Wav, Read, Write, Memory}
+use Rattle.dmixlab.specs.declared.stop.Stop.TheVariants.{Words, Script, Conf, Wav, Read, Write, Memory}
 use Rattle.dmixlab.specs.Stops.{FetchFaults, IsReadStop, IsWriteStop}
 use Rattle.dmixlab.specs.declared.output.Output.{Output}
 use Rattle.dmixlab.specs.Words.{run}
@@ -20,6 +20,7 @@ pub IsReadStop-read : {X : Type 0} (Y : Type 0) (r : Result X Stop) (e : Stop) (
 IsReadStop-read Y (Ok x) e before now is faults = absurd is
 IsReadStop-read Y (Err Words) e before now is faults = absurd (subst (λ s. FetchFaults {X = Y} (Err s) before now) (sym is) faults)
 IsReadStop-read Y (Err (Script error)) e before now is faults = tt
+IsReadStop-read Y (Err (Conf error)) e before now is faults = tt
 IsReadStop-read Y (Err (Wav name why)) e before now is faults = tt
 IsReadStop-read Y (Err (Read name)) e before now is faults = tt
 IsReadStop-read Y (Err Write) e before now is faults = absurd (subst (λ s. FetchFaults {X = Y} (Err s) before now) (sym is) faults)
@@ -39,6 +40,7 @@ Leaves-written (Ok x) name out before between after taken told o ready same only
     (stored ∙ ap (option_map (λ files. with_file files o.name.items o.file.items)) same) put
 Leaves-written (Err Words) name out before between after taken told o ready same only stored put changed part order = absurd only
 Leaves-written (Err (Script error)) name out before between after taken told o ready same only stored put changed part order = absurd only
+Leaves-written (Err (Conf error)) name out before between after taken told o ready same only stored put changed part order = absurd only
 Leaves-written (Err (Wav file why)) name out before between after taken told o ready same only stored put changed part order = absurd only
 Leaves-written (Err (Read file)) name out before between after taken told o ready same only stored put changed part order = absurd only
 Leaves-written (Err Write) name out before between after taken told o ready same only stored put changed part order =

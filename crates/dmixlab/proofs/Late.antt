@@ -16,23 +16,23 @@ use Rattle.pcm_states.specs.declared.calls.Call.{Call}
 use Rattle.pcm_states.specs.declared.calls.Call.TheVariants as call
 use Rattle.pcm_states.specs.declared.calls.Facts.{Facts}
 use Rattle.pcm_states.specs.declared.calls.Outcome.{Outcome}
-use Rattle.pcm_states.specs.Table.{Cell, to, ebadfd, enodev, eio, already, starting, filling, moving, draining, done_in, first_of, if_empty, if_gone, if_late, if_over, if_played, next_of, outcome_of, refused_in, row_of, still_draining}
+use Rattle.pcm_states.specs.Table.{Cell, to, ebadfd, enodev, eio, already, starting, filling, moving, draining, resuming, done_in, first_of, if_empty, if_gone, if_late, if_none_left, if_over, if_played, next_of, outcome_of, refused_in, row_of, still_draining}
 use Rattle.dmix_client.specs.declared.commit.Commit.{Commit}
 use Rattle.mix_core.specs.declared.port.Ended.TheVariants as ended
 use Rattle.dmix_client.specs.declared.plain.Plain.{Plain}
-use Rattle.dmix_client.specs.Calls.{Answered, accepted, accepted_if, avail_answer, committed_by, delay_answer, dropped, facts_of, found_at, going_on, going_on_by, has_frames, is_running, late_of, nothing_found, over_of, prepared, refusal_of, seen_at, settled, start_count, started, started_in, sync_count, synced, taken_of, with_number, written_after}
+use Rattle.dmix_client.specs.Calls.{Answered, accepted, accepted_if, avail_answer, committed_by, delay_answer, dropped, facts_of, found_at, going_on, going_on_by, has_frames, is_running, late_of, nothing_found, over_of, paused, prepared, refusal_of, seen_at, settled, start_count, started, started_in, sync_count, synced, taken_of, with_number, written_after}
 use Rattle.dmix_client.specs.Calls.{draining as draining_of}
 use Rattle.dmix_client.specs.View.{avail_of, is_moving}
 use Rattle.dmix_client.specs.Writes.{count_with, starts_with}
 use Rattle.wav_io.specs.Sound.{Sound}
-use Rattle.lab_script.specs.declared.line.Actor.{Actor}
-use Rattle.lab_script.specs.declared.line.Actor.TheVariants as actor
-use Rattle.lab_script.specs.declared.line.Line.{Line}
-use Rattle.lab_script.specs.declared.line.Op.{Op}
-use Rattle.lab_script.specs.declared.line.Op.TheVariants as op
-use Rattle.lab_script.specs.declared.script.Script.{Script}
-use Rattle.lab_report.specs.declared.row.Answer.{Answer}
-use Rattle.lab_report.specs.declared.row.Answer.TheVariants.{Done, Count, Failed}
+use Rattle.short_script.specs.declared.line.Actor.{Actor}
+use Rattle.short_script.specs.declared.line.Actor.TheVariants as actor
+use Rattle.short_script.specs.declared.line.Line.{Line}
+use Rattle.short_script.specs.declared.line.Op.{Op}
+use Rattle.short_script.specs.declared.line.Op.TheVariants as op
+use Rattle.short_script.specs.declared.script.Script.{Script}
+use Rattle.short_report.specs.declared.row.Answer.{Answer}
+use Rattle.short_report.specs.declared.row.Answer.TheVariants.{Done, Count, Failed}
 use Rattle.lab_phase.specs.Lines.{Own, called, counted_of, done_of, ended_after, frames_of, laid_in, refused_or, segments_of, told, unless_refused}
 use Rattle.lab_phase.specs.Meaning.{Stage, client_line, client_row, first_stage, line_by, numbered}
 use Rattle.lab_phase.specs.Opening.{Setup, opened_with}
@@ -93,6 +93,9 @@ if_late-timely f none = by_case f.late none
     by_case None is = tt
     by_case (Some late) is = absurd (cc)
 
+if_none_left-timely : (f : Facts) → AreTimely (if_none_left f)
+if_none_left-timely f = if-both AreTimely (nat_eq f.queued 0) (Some (done_in Prepared)) None (done-timely Prepared) tt
+
 still_draining-timely : (asked : Call) → IsTimely (still_draining asked)
 still_draining-timely call.HwParams = done-timely _
 still_draining-timely call.HwFree = done-timely _
@@ -104,6 +107,7 @@ still_draining-timely call.Sync = done-timely _
 still_draining-timely call.Drop = done-timely _
 still_draining-timely call.Drain = record { not_late = λ late. late }
 still_draining-timely call.Pause = done-timely _
+still_draining-timely call.Resume = done-timely _
 
 outcome_of-timely : (cell : Cell) (state : State) (asked : Call) (f : Facts) → f.late ≡ None → IsTimely (outcome_of cell state asked f)
 outcome_of-timely (to s) state asked f none = done-timely s
@@ -121,6 +125,8 @@ outcome_of-timely moving state asked f none =
     first_of-timely (if_gone f) (if_over f) (if_late f) (done_in Running) (if_gone-timely f) (if_over-timely f) (if_late-timely f none) (done-timely Running)
 outcome_of-timely draining state asked f none =
     first_of-timely (if_gone f) (if_late f) (if_played f) (still_draining asked) (if_gone-timely f) (if_late-timely f none) (if_played-timely f) (still_draining-timely asked)
+outcome_of-timely resuming state asked f none =
+    first_of-timely (if_none_left f) (if_gone f) (if_late f) (done_in Running) (if_none_left-timely f) (if_gone-timely f) (if_late-timely f none) (done-timely Running)
 
 next_of-timely : (state : State) (asked : Call) (f : Facts) → f.late ≡ None → IsTimely (next_of state asked f)
 next_of-timely state asked f none = outcome_of-timely (row_of f.capture asked state) state asked f none
@@ -409,7 +415,8 @@ called-Stays p wav own op.Drop whole =
     done-LineStays own.plain call.Drop (dropped own.plain, Ok tt) whole (done-Stays own.plain (dropped own.plain) tt whole)
 called-Stays p wav own op.Prepare whole =
     done-LineStays own.plain call.Prepare (prepared own.plain, Ok tt) whole (done-Stays own.plain (prepared own.plain) tt refl)
-called-Stays p wav own op.Pause whole = unchanged own.plain _ whole
+called-Stays p wav own op.Pause whole =
+    done-LineStays own.plain call.Pause (paused own.plain, Ok tt) whole (done-Stays own.plain (paused own.plain) tt whole)
 called-Stays p wav own (op.Play frames) whole = unchanged own.plain _ whole
 called-Stays p wav own op.Opens whole = unchanged own.plain _ whole
 

@@ -3,6 +3,7 @@ mod Sounds
 mod Replies
 mod Sessions
 mod Late
+mod Devices
 mod Only
 mod Outputs
 mod Commands

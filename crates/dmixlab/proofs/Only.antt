@@ -16,25 +16,26 @@ use Rattle.hw_space.specs.Narrowings.{with_value}
 use Rattle.hw_space.specs.Settled.{Leaves}
 use Rattle.hw_space.specs.Widest.{widest}
 use Rattle.snd_base.specs.declared.geometry.Geometry.{Geometry}
-use Rattle.lab_script.specs.declared.script.CardLine.{CardLine}
-use Rattle.lab_script.specs.declared.script.ClientLine.{ClientLine}
-use Rattle.lab_script.specs.declared.script.Script.{Script}
-use Rattle.lab_report.specs.declared.report.Report.{Report}
+use Rattle.short_script.specs.declared.script.CardLine.{CardLine}
+use Rattle.short_script.specs.declared.script.ClientLine.{ClientLine}
+use Rattle.short_script.specs.declared.script.Script.{Script}
+use Rattle.short_report.specs.declared.report.Report.{Report}
 use Rattle.lab_phase.specs.Meaning.{IsRun, bindings_of, entries_of, lines_of, mixed, mixed_at, report_of}
 use Rattle.lab_phase.specs.Opening.{IsChosen, IsOpening, IsRingOf, Setup}
-use Rattle.lab_report.specs.Text.{report_text}
+use Rattle.short_report.specs.Text.{report_text}
 use Rattle.lab_shelf.specs.Files.{Files, with_file}
 use Rattle.lap_word.specs.Clamp.{clamp_of}
 use Rattle.mix_core.specs.Laid.{total}
 use Rattle.wav_io.specs.Sound.{Sound}
 use Rattle.dmixlab.specs.declared.stop.Stop.{Stop}
-use Rattle.dmixlab.specs.declared.stop.Stop.TheVariants.{Words, Script as ScriptStop, Wav, Read, Write, Memory}
+use Rattle.dmixlab.specs.declared.stop.Stop.TheVariants.{Words, Script as ScriptStop, Conf, Wav, Read, Write, Memory}
 use Rattle.dmixlab.specs.Input.{Input, SpelledIn, input_in}
 use Rattle.dmixlab.specs.Run.{Finished, IsMixOf, IsOnlyRun, IsSession, laid, wav_of}
 use Rattle.dmixlab.specs.Stops.{status_of}
 use Rattle.dmixlab.specs.Top.{Leaves as LeavesBehind, OnlyIn}
 use Rattle.dmixlab.proofs.Late.{script-late}
-use Rattle.dmixlab.specs.Words.{Form, run, refine, help, version, wav_name}
+use Rattle.dmixlab.proofs.Devices.{Described-only}
+use Rattle.dmixlab.specs.Words.{Form, run, refine, conf, help, version, wav_name}
 
 -- ---- openings
 
@@ -226,10 +227,12 @@ pub DoneIn-only : {X : Type 0} (end : Result X Stop) (form : Option Form) (befor
 DoneIn-only (Ok x) None before after taken told left is = tt
 DoneIn-only (Ok x) (Some (run name out)) before after taken told left is = Finished-only name out before after taken told left
 DoneIn-only (Ok x) (Some (refine text)) before after taken told left is = tt
+DoneIn-only (Ok x) (Some (conf file name)) before after taken told left is = Described-only file name before after taken told left
 DoneIn-only (Ok x) (Some help) before after taken told left is = tt
 DoneIn-only (Ok x) (Some version) before after taken told left is = tt
 DoneIn-only (Err Words) form before after taken told left is = absurd (omega arith)
 DoneIn-only (Err (ScriptStop error)) form before after taken told left is = absurd (omega arith)
+DoneIn-only (Err (Conf error)) form before after taken told left is = absurd (omega arith)
 DoneIn-only (Err (Wav name why)) form before after taken told left is = absurd (omega arith)
 DoneIn-only (Err (Read name)) form before after taken told left is = absurd (omega arith)
 DoneIn-only (Err Write) form before after taken told left is = absurd (omega arith)

@@ -9,8 +9,8 @@ use Rattle.dmixlab.specs.declared.output.Output.{Output}
 use Rattle.dmixlab.specs.Words.{wav_name}
 use Rattle.dmixlab.specs.Run.{IsReady, IsOutput, IsSession, Finished, Unfinished}
 use Rattle.dmixlab.specs.declared.stop.Stop.{Stop}
-use Rattle.lab_report.specs.declared.report.Report.{Report}
-use Rattle.lab_script.specs.declared.script.Script.{Script}
+use Rattle.short_report.specs.declared.report.Report.{Report}
+use Rattle.short_script.specs.declared.script.Script.{Script}
 use Rattle.wav_io.specs.Sound.{Sound}
 
 -- a sink that took nothing took the first of any bytes

@@ -11,19 +11,19 @@ use Rattle.pcm_states.specs.declared.states.State.{State}
 use Rattle.pcm_states.specs.declared.states.State.TheVariants.{Disconnected, Draining, Prepared, Running, Setup}
 use Rattle.pcm_states.specs.declared.states.State.TheVariants as states
 use Rattle.pcm_states.specs.declared.calls.Call.{Call}
-use Rattle.pcm_states.specs.declared.calls.Call.TheVariants.{HwParams, HwFree, SwParams, Prepare, Start, Transfer, Sync, Drop, Drain, Pause}
+use Rattle.pcm_states.specs.declared.calls.Call.TheVariants.{HwParams, HwFree, SwParams, Prepare, Start, Transfer, Sync, Drop, Drain, Pause, Resume}
 use Rattle.pcm_states.specs.declared.calls.Facts.{Facts}
 use Rattle.pcm_states.specs.declared.calls.Outcome.{Outcome}
-use Rattle.pcm_states.specs.Table.{Cell, to, ebadfd, enodev, eio, already, starting, filling, moving, draining, done_in, first_of, if_empty, if_gone, if_late, if_over, if_played, next_of, outcome_of, refused_in, row_of, still_draining}
+use Rattle.pcm_states.specs.Table.{Cell, to, ebadfd, enodev, eio, already, starting, filling, moving, draining, resuming, done_in, first_of, if_empty, if_gone, if_late, if_none_left, if_over, if_played, next_of, outcome_of, refused_in, row_of, still_draining}
 use Rattle.dmix_client.specs.declared.commit.Commit.{Commit}
 use Rattle.dmix_client.specs.declared.plain.Plain.{Plain}
-use Rattle.dmix_client.specs.Calls.{Answered, accepted, accepted_if, avail_answer, committed_by, delay_answer, dropped, facts_of, found_at, has_frames, going_on, going_on_by, is_refusal, is_running, is_stop, late_of, nothing_found, over_of, prepared, refusal_in, refusal_of, seen_at, settled, started, started_in, stopped_in, synced, taken_of, with_number, written_after}
+use Rattle.dmix_client.specs.Calls.{Answered, accepted, accepted_if, avail_answer, committed_by, delay_answer, dropped, facts_of, found_at, has_frames, going_on, going_on_by, is_refusal, is_running, is_stop, late_of, nothing_found, over_of, paused, prepared, refusal_in, refusal_of, seen_at, settled, started, started_in, stopped_in, synced, taken_of, with_number, written_after}
 use Rattle.dmix_client.specs.Calls.{draining as draining_of}
 use Rattle.dmix_client.specs.View.{avail_of, is_moving}
 use Rattle.wav_io.specs.Sound.{Sound}
-use Rattle.lab_script.specs.declared.line.Op.{Op}
-use Rattle.lab_script.specs.declared.line.Op.TheVariants as op
-use Rattle.lab_report.specs.Text.{HasErrorWords, HasWords}
+use Rattle.short_script.specs.declared.line.Op.{Op}
+use Rattle.short_script.specs.declared.line.Op.TheVariants as op
+use Rattle.short_report.specs.Text.{HasErrorWords, HasWords}
 use Rattle.lab_phase.specs.Lines.{Own, called, counted_of, done_of, frames_of, refused_or, told, unless_refused}
 use Rattle.dmix_client.specs.Writes.{count_with, starts_with}
 use Rattle.lab_phase.specs.Rest.{commit_at, cursor_at, drain_at, drained_at, resting, start_at, start_commit, sync_at, sync_commit, writei_at, written_at}
@@ -75,6 +75,9 @@ if_gone-Worded f = if-both IsWorded f.gone (Some (refused_in Disconnected NoDevi
 if_played-Worded : (f : Facts) → IsWorded (if_played f)
 if_played-Worded f = if-both IsWorded (nat_eq f.queued 0) (Some (done_in Setup)) None (record { words = worded tt }) none
 
+if_none_left-Worded : (f : Facts) → IsWorded (if_none_left f)
+if_none_left-Worded f = if-both IsWorded (nat_eq f.queued 0) (Some (done_in Prepared)) None (record { words = worded tt }) none
+
 if_over-Worded : (f : Facts) → IsWorded (if_over f)
 if_over-Worded f = by_case f.over
   where
@@ -104,6 +107,7 @@ still_draining-Worded Sync = record { words = tt }
 still_draining-Worded Drop = record { words = tt }
 still_draining-Worded Drain = record { words = tt }
 still_draining-Worded Pause = record { words = tt }
+still_draining-Worded Resume = record { words = tt }
 
 outcome_of-Worded : (cell : Cell) (state : State) (call : Call) (f : Facts) → Worded (outcome_of cell state call f).answer
 outcome_of-Worded (to s) state call f = record { words = tt }
@@ -121,6 +125,8 @@ outcome_of-Worded moving state call f =
     first_of-Worded (if_gone f) (if_over f) (if_late f) (done_in Running) (if_gone-Worded f) (if_over-Worded f) (if_late-Worded f) (worded tt)
 outcome_of-Worded draining state call f =
     first_of-Worded (if_gone f) (if_late f) (if_played f) (still_draining call) (if_gone-Worded f) (if_late-Worded f) (if_played-Worded f) (still_draining-Worded call)
+outcome_of-Worded resuming state call f =
+    first_of-Worded (if_none_left f) (if_gone f) (if_late f) (done_in Running) (if_none_left-Worded f) (if_gone-Worded f) (if_late-Worded f) (worded tt)
 
 next_of-Worded : (state : State) (call : Call) (f : Facts) → Worded (next_of state call f).answer
 next_of-Worded state call f = outcome_of-Worded (row_of f.capture call state) state call f
@@ -296,6 +302,6 @@ called-HasWords p wav own op.Delay =
 called-HasWords p wav own op.Drain = done-HasWords own.plain Drain (drain_at p own.plain own.free) (drain_at-Replies p own.plain own.free)
 called-HasWords p wav own op.Drop = done-HasWords own.plain Drop (dropped own.plain, Ok tt) (fine (dropped own.plain) tt)
 called-HasWords p wav own op.Prepare = done-HasWords own.plain Prepare (prepared own.plain, Ok tt) (fine (prepared own.plain) tt)
-called-HasWords p wav own op.Pause = tt
+called-HasWords p wav own op.Pause = done-HasWords own.plain Pause (paused own.plain, Ok tt) (fine (paused own.plain) tt)
 called-HasWords p wav own (op.Play frames) = tt
 called-HasWords p wav own op.Opens = tt

@@ -3,10 +3,10 @@ use Rattle.std.proofs.Common.{◌≡◌, ℕ, List, [], ◌∷◌, ◌++◌, ap,
 use Rattle.std.specs.Prelude.{Some, None, Result, Ok, Err, IfOk}
 use Rattle.std.proofs.lemmas.List.{append-nil}
 use Rattle.std.specs.Result.{IsErrAnd}
-use Rattle.lab_script.specs.declared.error.ScriptWhy.{ScriptWhy}
-use Rattle.lab_script.specs.declared.error.ScriptWhy.TheVariants as why
-use Rattle.lab_script.specs.Lexing.{first_and_rest}
-use Rattle.lab_script.specs.declared.error.ScriptError.{ScriptError}
+use Rattle.short_script.specs.declared.error.ScriptWhy.{ScriptWhy}
+use Rattle.short_script.specs.declared.error.ScriptWhy.TheVariants as why
+use Rattle.short_script.specs.Lexing.{first_and_rest}
+use Rattle.short_script.specs.declared.error.ScriptError.{ScriptError}
 use Rattle.dmixlab.specs.declared.refine.request.Ask.{Ask}
 use Rattle.dmixlab.specs.Refine.Grammar.{ask_of, IsAsk}
 use Rattle.std.proofs.lemmas.List.Elements.{All-append, All-cons, All-nil}

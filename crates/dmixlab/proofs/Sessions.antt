@@ -8,17 +8,17 @@ use Rattle.std.proofs.lemmas.List.Elements.{All-append, All-cons, All-nil, All-h
 use Rattle.std.proofs.lemmas.List.FromFn.{length-range_with_len, get_or-range_with_len, length-map-range_with_len}
 use Rattle.snd_base.specs.declared.geometry.Geometry.{Geometry}
 use Rattle.snd_base.specs.declared.places.Segment.{Segment}
-use Rattle.lab_script.specs.declared.line.Actor.{Actor}
-use Rattle.lab_script.specs.declared.line.Actor.TheVariants.{Card, Client}
-use Rattle.lab_script.specs.declared.line.Line.{Line}
-use Rattle.lab_script.specs.declared.line.Op.{Op}
-use Rattle.lab_script.specs.declared.line.Op.TheVariants as op
-use Rattle.lab_script.specs.declared.script.ClientLine.{ClientLine}
-use Rattle.lab_script.specs.declared.script.Script.{Script}
-use Rattle.lab_script.specs.Script.{IsActor, IsLine, IsPhase, IsScript, frames_played}
-use Rattle.lab_report.specs.declared.report.Report.{Report}
-use Rattle.lab_report.specs.declared.row.Answer.{Answer}
-use Rattle.lab_report.specs.Text.{HasWords, IsReportOf, IsRowOf, IsSegmentOf}
+use Rattle.short_script.specs.declared.line.Actor.{Actor}
+use Rattle.short_script.specs.declared.line.Actor.TheVariants.{Card, Client}
+use Rattle.short_script.specs.declared.line.Line.{Line}
+use Rattle.short_script.specs.declared.line.Op.{Op}
+use Rattle.short_script.specs.declared.line.Op.TheVariants as op
+use Rattle.short_script.specs.declared.script.ClientLine.{ClientLine}
+use Rattle.short_script.specs.declared.script.Script.{Script}
+use Rattle.short_script.specs.Script.{IsActor, IsLine, IsPhase, IsScript, frames_played}
+use Rattle.short_report.specs.declared.report.Report.{Report}
+use Rattle.short_report.specs.declared.row.Answer.{Answer}
+use Rattle.short_report.specs.Text.{HasWords, IsReportOf, IsRowOf, IsSegmentOf}
 use Rattle.lab_phase.specs.Lines.{Own, segments_of}
 use Rattle.lab_phase.specs.Meaning.{IsRun, Stage, bindings_of, client_line, client_row, entries_of, first_stage, line_by, lines_of, mixed_at, numbered, numbered_lines, open_row, report_of, rows_of, stage_after}
 use Rattle.lab_phase.specs.Opening.{Setup, open_answer, opened_with}

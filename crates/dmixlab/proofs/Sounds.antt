@@ -4,12 +4,12 @@ use Rattle.std.proofs.lemmas.List.{append-nil, drop_all}
 use Rattle.std.proofs.lemmas.List.{length-append}
 use Rattle.std.specs.Prelude.{Option, Some, Result, Ok, Err}
 use Rattle.std.specs.Option.{ForSome}
-use Rattle.lab_script.specs.declared.script.ClientLine.{ClientLine}
+use Rattle.short_script.specs.declared.script.ClientLine.{ClientLine}
 use Rattle.lab_shelf.specs.Files.{Files}
 use Rattle.wav_io.specs.Sound.{Sound}
 use Rattle.dmixlab.specs.declared.stop.Stop.{Stop}
-use Rattle.dmixlab.specs.declared.stop.Stop.TheVariants.{Words, Script, Wav, Read, Write, Memory}
-use Rattle.dmixlab.specs.Input.{Cause, missing, script_refused, wav_refused, most_of_run, sound_in, sounds_in, ◌>>=◌}
+use Rattle.dmixlab.specs.declared.stop.Stop.TheVariants.{Words, Script, Conf, Wav, Read, Write, Memory}
+use Rattle.dmixlab.specs.Input.{Cause, missing, script_refused, conf_refused, wav_refused, most_of_run, sound_in, sounds_in, ◌>>=◌}
 use Rattle.dmixlab.specs.Stops.{IsCauseOf, Misses}
 
 -- sounds that were read before others
@@ -65,6 +65,7 @@ pub IsCauseOf-passed : {X Y : Type 0} (stop : Stop) (part : Result X Cause) (giv
     → ((e : Cause) → part ≡ Err e → given ≡ Err e) → IsCauseOf stop part → IsCauseOf stop given
 IsCauseOf-passed Words part given passes is = is
 IsCauseOf-passed (Script error) part given passes is = passes (script_refused error) is
+IsCauseOf-passed (Conf error) part given passes is = passes (conf_refused error) is
 IsCauseOf-passed (Wav name why) part given passes is = passes (wav_refused name.items why) is
 IsCauseOf-passed (Read name) part given passes is = is
 IsCauseOf-passed Write part given passes is = is
@@ -75,6 +76,7 @@ pub Misses-passed : {X Y : Type 0} (stop : Stop) (part : Result X Cause) (given 
     → ((e : Cause) → part ≡ Err e → given ≡ Err e) → Misses {X = Unit {0}} (Err stop) part → Misses {X = Unit {0}} (Err stop) given
 Misses-passed Words part given passes is = is
 Misses-passed (Script error) part given passes is = is
+Misses-passed (Conf error) part given passes is = is
 Misses-passed (Wav name why) part given passes is = is
 Misses-passed (Read name) part given passes is = passes (missing name.items) is
 Misses-passed Write part given passes is = is

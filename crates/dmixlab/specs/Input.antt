@@ -1,20 +1,22 @@
 -- What a run reads, or the first cause for which it can't: a function of the files.
 use Rattle.std.specs.Prelude.{◌≡◌, ℕ, ◌+◌, nat_le, if◌then◌else◌, List, [], ◌∷◌, length, Option, Some, None, Result, Ok, Err}
-use Rattle.lab_script.specs.declared.error.ScriptError.{ScriptError}
-use Rattle.lab_script.specs.declared.script.ClientLine.{ClientLine}
-use Rattle.lab_script.specs.declared.script.Script.{Script}
-use Rattle.lab_script.specs.Reading.{script_of}
-use Rattle.lab_script.specs.Spelling.{Spells}
+use Rattle.asound_conf.specs.declared.error.ConfError.{ConfError}
+use Rattle.short_script.specs.declared.error.ScriptError.{ScriptError}
+use Rattle.short_script.specs.declared.script.ClientLine.{ClientLine}
+use Rattle.short_script.specs.declared.script.Script.{Script}
+use Rattle.short_script.specs.Reading.{script_of}
+use Rattle.short_script.specs.Spelling.{Spells}
 use Rattle.wav_io.specs.declared.error.WavError.{WavError}
 use Rattle.wav_io.specs.declared.error.WavError.TheVariants.{TooLong}
 use Rattle.wav_io.specs.Sound.{Sound}
 use Rattle.wav_io.specs.Reading.{wav_file}
 use Rattle.lab_shelf.specs.Files.{Files, piece}
 
--- why input can't be read: a file isn't there, the script is refused, or a client's file is
+-- why input can't be read: a file isn't there, the script is refused, a configuration is, or a client's file is
 pub data Cause : Type 0 where
   missing : List ℕ → Cause
   script_refused : ScriptError → Cause
+  conf_refused : ConfError → Cause
   wav_refused : List ℕ → WavError → Cause
 
 -- the script of a run, and its clients' sounds in the order of their lines

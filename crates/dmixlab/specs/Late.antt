@@ -2,9 +2,9 @@
 use Rattle.std.specs.Prelude.{◌≡◌, ℕ, List, [], ◌∷◌, ⊤}
 use Rattle.snd_base.specs.declared.errors.PcmError.TheVariants.{Xrun}
 use Rattle.snd_base.specs.declared.errors.XrunWhy.TheVariants.{Late}
-use Rattle.lab_script.specs.declared.line.Line.{Line}
-use Rattle.lab_report.specs.declared.row.Answer.{Answer}
-use Rattle.lab_report.specs.declared.row.Answer.TheVariants.{Failed}
+use Rattle.short_script.specs.declared.line.Line.{Line}
+use Rattle.short_report.specs.declared.row.Answer.{Answer}
+use Rattle.short_report.specs.declared.row.Answer.TheVariants.{Failed}
 use Rattle.lab_phase.specs.Meaning.{Stage, line_by, numbered}
 use Rattle.wav_io.specs.Sound.{Sound}
 

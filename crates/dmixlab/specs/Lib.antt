@@ -6,3 +6,4 @@ pub mod Late
 pub mod Run
 pub mod Top
 pub mod Refine
+pub mod Conf

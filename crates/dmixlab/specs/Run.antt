@@ -3,10 +3,10 @@ use Rattle.std.specs.Prelude.{◌≡◌, ◌⊎◌, ◌<◌, ◌+◌, ◌*◌, �
 use Rattle.std.specs.Option.{ForSome, option_map}
 use Rattle.wav_io.specs.Sound.{Sound}
 use Rattle.wav_io.specs.Canonical.{canonical}
-use Rattle.lab_script.specs.declared.script.CardLine.{CardLine}
-use Rattle.lab_script.specs.declared.script.Script.{Script}
-use Rattle.lab_report.specs.declared.report.Report.{Report}
-use Rattle.lab_report.specs.Text.{report_text}
+use Rattle.short_script.specs.declared.script.CardLine.{CardLine}
+use Rattle.short_script.specs.declared.script.Script.{Script}
+use Rattle.short_report.specs.declared.report.Report.{Report}
+use Rattle.short_report.specs.Text.{report_text}
 use Rattle.lab_phase.specs.Meaning.{IsRun, bindings_of, entries_of, first_stage, lines_of}
 use Rattle.lap_word.specs.Clamp.{clamp_of}
 use Rattle.mix_core.specs.declared.port.Entry.{Entry}

@@ -1,19 +1,27 @@
 -- Why a command stops, beside the causes that the files give and the faults that are counted.
 use Rattle.std.specs.Prelude.{◌≡◌, ◌⊎◌, ℕ, ◌≤◌, List, Option, Some, None, IsSome, Result, Ok, Err, ⊤}
-use Rattle.lab_script.specs.declared.error.ScriptError.{ScriptError}
-use Rattle.lab_script.specs.declared.error.ScriptWhy.{ScriptWhy}
-use Rattle.lab_script.specs.declared.error.ScriptWhy.TheVariants as script_whys
+use Rattle.asound_conf.specs.declared.error.ConfError.{ConfError}
+use Rattle.asound_conf.specs.declared.error.ConfWhy.{ConfWhy}
+use Rattle.asound_conf.specs.declared.error.ConfWhy.TheVariants as conf_whys
+use Rattle.short_script.specs.declared.error.ScriptError.{ScriptError}
+use Rattle.short_script.specs.declared.error.ScriptWhy.{ScriptWhy}
+use Rattle.short_script.specs.declared.error.ScriptWhy.TheVariants as script_whys
 use Rattle.wav_io.specs.declared.error.WavError.{WavError}
 use Rattle.wav_io.specs.declared.error.WavError.TheVariants as wav_whys
 use Rattle.lab_shelf.specs.Counts.{Rose}
 use Rattle.dmixlab.specs.declared.stop.Stop.{Stop}
-use Rattle.dmixlab.specs.declared.stop.Stop.TheVariants.{Words, Script, Wav, Read, Write, Memory}
-use Rattle.dmixlab.specs.Input.{Cause, missing, script_refused, wav_refused}
+use Rattle.dmixlab.specs.declared.stop.Stop.TheVariants.{Words, Script, Conf, Wav, Read, Write, Memory}
+use Rattle.dmixlab.specs.Input.{Cause, missing, script_refused, conf_refused, wav_refused}
 
 -- the stop at a script that is refused
 abbrev pub IsScriptStop : ScriptWhy → ScriptError → Stop → Type 0
 IsScriptStop script_whys.Memory error stop = stop ≡ Memory
 IsScriptStop why error stop = stop ≡ Script error
+
+-- the stop at a configuration that is refused
+abbrev pub IsConfStop : ConfWhy → ConfError → Stop → Type 0
+IsConfStop conf_whys.Memory error stop = stop ≡ Memory
+IsConfStop why error stop = stop ≡ Conf error
 
 -- the stop names a file and why it is refused, unless there was no memory for that
 abbrev pub NamesWav : WavError → List ℕ → Stop → Type 0
@@ -21,6 +29,7 @@ NamesWav why file (Wav name because) = (name.items ≡ file) × (because ≡ why
 NamesWav why file Memory = ⊤
 NamesWav why file Words = ⊥
 NamesWav why file (Script error) = ⊥
+NamesWav why file (Conf error) = ⊥
 NamesWav why file (Read name) = ⊥
 NamesWav why file Write = ⊥
 
@@ -29,11 +38,12 @@ abbrev pub IsWavStop : WavError → List ℕ → Stop → Type 0
 IsWavStop wav_whys.Memory file stop = stop ≡ Memory
 IsWavStop why file stop = NamesWav why file stop
 
--- the exit status: 1 for the words, 2 for the script, 3 for a client's file, 4 for a read, 5 for a write, 6 for memory
+-- the exit status: 1 for the words, 2 for the script or the configuration, 3 for a client's file, 4 for a read, 5 for a write, 6 for memory
 abbrev pub status_of : {T : Type 0} → Result T Stop → ℕ
 status_of (Ok done) = 0
 status_of (Err Words) = 1
 status_of (Err (Script error)) = 2
+status_of (Err (Conf error)) = 2
 status_of (Err (Wav name why)) = 3
 status_of (Err (Read name)) = 4
 status_of (Err Write) = 5
@@ -43,6 +53,7 @@ status_of (Err Memory) = 6
 abbrev pub IsCauseOf : {Y : Type 0} → Stop → Result Y Cause → Type 0
 IsCauseOf Words given = ⊥
 IsCauseOf (Script error) given = given ≡ Err (script_refused error)
+IsCauseOf (Conf error) given = given ≡ Err (conf_refused error)
 IsCauseOf (Wav name why) given = given ≡ Err (wav_refused name.items why)
 IsCauseOf (Read name) given = ⊤
 IsCauseOf Write given = ⊥
@@ -60,6 +71,7 @@ FetchFaults (Ok x) before now = now ≡ before
 FetchFaults (Err (Read name)) before now = (before ≤ now) × Rose before now
 FetchFaults (Err Words) before now = ⊥
 FetchFaults (Err (Script error)) before now = before ≤ now
+FetchFaults (Err (Conf error)) before now = before ≤ now
 FetchFaults (Err (Wav name why)) before now = before ≤ now
 FetchFaults (Err Write) before now = ⊥
 FetchFaults (Err Memory) before now = before ≤ now
@@ -70,6 +82,7 @@ Misses (Err (Read name)) given = given ≡ Err (missing name.items)
 Misses (Ok x) given = ⊤
 Misses (Err Words) given = ⊤
 Misses (Err (Script error)) given = ⊤
+Misses (Err (Conf error)) given = ⊤
 Misses (Err (Wav name why)) given = ⊤
 Misses (Err Write) given = ⊤
 Misses (Err Memory) given = ⊤
@@ -78,6 +91,7 @@ Misses (Err Memory) given = ⊤
 abbrev pub IsWriteStop : Stop → Type 0
 IsWriteStop Words = ⊥
 IsWriteStop (Script error) = ⊥
+IsWriteStop (Conf error) = ⊥
 IsWriteStop (Wav name why) = ⊥
 IsWriteStop (Read name) = ⊥
 IsWriteStop Write = ⊤
@@ -89,6 +103,7 @@ WriteFaults (Ok x) before now = now ≡ before
 WriteFaults (Err Write) before now = (before ≤ now) × Rose before now
 WriteFaults (Err Words) before now = before ≤ now
 WriteFaults (Err (Script error)) before now = before ≤ now
+WriteFaults (Err (Conf error)) before now = before ≤ now
 WriteFaults (Err (Wav name why)) before now = before ≤ now
 WriteFaults (Err (Read name)) before now = before ≤ now
 WriteFaults (Err Memory) before now = before ≤ now
@@ -99,6 +114,7 @@ OutputFaults (Err Write) writes writes_now puts puts_now = Rose writes writes_no
 OutputFaults (Ok x) writes writes_now puts puts_now = ⊤
 OutputFaults (Err Words) writes writes_now puts puts_now = ⊤
 OutputFaults (Err (Script error)) writes writes_now puts puts_now = ⊤
+OutputFaults (Err (Conf error)) writes writes_now puts puts_now = ⊤
 OutputFaults (Err (Wav name why)) writes writes_now puts puts_now = ⊤
 OutputFaults (Err (Read name)) writes writes_now puts puts_now = ⊤
 OutputFaults (Err Memory) writes writes_now puts puts_now = ⊤
@@ -109,6 +125,7 @@ InputFaults (Err (Read name)) before now = Rose before now
 InputFaults (Ok x) before now = ⊤
 InputFaults (Err Words) before now = ⊤
 InputFaults (Err (Script error)) before now = ⊤
+InputFaults (Err (Conf error)) before now = ⊤
 InputFaults (Err (Wav name why)) before now = ⊤
 InputFaults (Err Write) before now = ⊤
 InputFaults (Err Memory) before now = ⊤
@@ -119,6 +136,7 @@ abbrev pub EndsOf : {X : Type 0} → Result X Stop → Option Cause → Type 0
 EndsOf (Ok x) cause = cause ≡ None
 EndsOf (Err Words) cause = ⊤
 EndsOf (Err (Script error)) cause = cause ≡ Some (script_refused error)
+EndsOf (Err (Conf error)) cause = cause ≡ Some (conf_refused error)
 EndsOf (Err (Wav name why)) cause = cause ≡ Some (wav_refused name.items why)
 EndsOf (Err (Read name)) cause = ⊤
 EndsOf (Err Write) cause = cause ≡ None
@@ -132,6 +150,7 @@ EndsReliably (Err Write) cause = ⊥
 EndsReliably (Ok x) cause = ⊤
 EndsReliably (Err Words) cause = ⊤
 EndsReliably (Err (Script error)) cause = ⊤
+EndsReliably (Err (Conf error)) cause = ⊤
 EndsReliably (Err (Wav name why)) cause = ⊤
 EndsReliably (Err Memory) cause = ⊤
 
@@ -140,6 +159,7 @@ abbrev pub Refuses : {X Y : Type 0} → Result X Stop → Option Y → Type 0
 Refuses (Err Words) form = form ≡ None
 Refuses (Ok x) form = IsSome form
 Refuses (Err (Script error)) form = IsSome form
+Refuses (Err (Conf error)) form = IsSome form
 Refuses (Err (Wav name why)) form = IsSome form
 Refuses (Err (Read name)) form = IsSome form
 Refuses (Err Write) form = IsSome form
@@ -149,6 +169,7 @@ Refuses (Err Memory) form = IsSome form
 abbrev pub IsReadStop : Stop → Type 0
 IsReadStop Words = ⊥
 IsReadStop (Script error) = ⊤
+IsReadStop (Conf error) = ⊤
 IsReadStop (Wav name why) = ⊤
 IsReadStop (Read name) = ⊤
 IsReadStop Write = ⊥

@@ -1,7 +1,7 @@
 //! The input of a run: its script, and its clients' files.
 ghost use Rattle.std.specs.Prelude.{◌≡◌, ◌≤◌, IfOk, All, length, vec_len};
 ghost use Rattle.std.specs.Option.{ForSome};
-ghost use Rattle.lab_script.specs.Script.{IsScript};
+ghost use Rattle.short_script.specs.Script.{IsScript};
 ghost use Rattle.lab_phase.specs.Meaning.{AreFiles};
 ghost use Rattle.wav_io.specs.Reading.{wav_file, Reads};
 ghost use Rattle.dmixlab.specs.Input.{SpelledIn, fetched, input_in, most_of_run, script_in, sound_in, sounds_in, within_run};
@@ -9,8 +9,8 @@ ghost use Rattle.dmixlab.specs.Stops.{FetchFaults, Follows, Misses};
 ghost use Rattle.dmixlab.specs.Loaded.{input_of};
 
 use crate::stop::{Stop, wav_stop};
-use lab_script::{ClientLine, Script, read_script};
 use lab_shelf::{Shelf, ShelfFault};
+use short_script::{ClientLine, Script, read_script};
 use std::alloc::Global;
 use wav_io::{Wav, WavError, read_wav};
 

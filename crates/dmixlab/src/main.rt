@@ -1,6 +1,9 @@
 //! dmixlab: mixes the clients of a script as ALSA's dmix does, and reports what was mixed.
 #![tactic(auto)]
 
+mod conf;
+#[cfg(test)]
+mod conf_tests;
 mod load;
 mod output;
 mod refine;

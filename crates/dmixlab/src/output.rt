@@ -1,7 +1,7 @@
 //! What a run writes: the file with what the card played, and the text of the report.
 ghost use Rattle.std.specs.Prelude.{◌≡◌, ◌⊎◌, ◌≢◌, ◌≤◌, ◌%◌, ◌++◌, Err, IfOk, IfErr, OnOk, OnErr, length, codes};
-ghost use Rattle.lab_script.specs.Script.{IsCardLine, IsScript};
-ghost use Rattle.lab_report.specs.Text.{IsReportOf, report_text};
+ghost use Rattle.short_script.specs.Script.{IsCardLine, IsScript};
+ghost use Rattle.short_report.specs.Text.{IsReportOf, report_text};
 ghost use Rattle.lab_phase.specs.Meaning.{IsRun};
 ghost use Rattle.lab_shelf.specs.Changes.{Changes, PartOf};
 ghost use Rattle.lab_shelf.specs.Files.{with_file, TookPart};
@@ -13,9 +13,9 @@ ghost use Rattle.dmixlab.specs.Stops.{IsWriteStop, OutputFaults, WriteFaults};
 
 use crate::stop::Stop;
 use lab_phase::Outcome;
-use lab_report::{Report, print_report};
-use lab_script::{CardLine, Script};
 use lab_shelf::{Shelf, ShelfFault, Sink};
+use short_report::{Report, print_report};
+use short_script::{CardLine, Script};
 use std::alloc::Global;
 use wav_io::{Samples, Wav, write_wav};
 

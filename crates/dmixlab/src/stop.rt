@@ -1,9 +1,10 @@
 //! Why a command stops before it is done.
 ghost use Rattle.std.specs.Prelude.{◌≡◌};
-ghost use Rattle.dmixlab.specs.Stops.{IsScriptStop, IsWavStop, status_of};
+ghost use Rattle.dmixlab.specs.Stops.{IsConfStop, IsScriptStop, IsWavStop, status_of};
 
-use lab_script::{ScriptError, ScriptWhy};
+use asound_conf::{ConfError, ConfWhy};
 use lab_shelf::Sink;
+use short_script::{ScriptError, ScriptWhy};
 use std::alloc::{AllocError, AllocFailed, Global};
 use std::str;
 use wav_io::WavError;
@@ -15,6 +16,8 @@ pub(crate) enum Stop {
     Words,
     /// The script is refused.
     Script(ScriptError),
+    /// The configuration is refused, or what it says of the device.
+    Conf(ConfError),
     /// A client's file is refused.
     Wav { name: Vec<u8>, why: WavError },
     /// A file can't be read.
@@ -58,6 +61,17 @@ impl From<ScriptError> for Stop {
     }
 }
 
+impl From<ConfError> for Stop {
+    ghost from_gives = { λ error stop. IsConfStop error.why error stop };
+
+    fn from(error: ConfError) -> Stop {
+        match error.why {
+            ConfWhy::Memory => Stop::Memory,
+            _ => Stop::Conf(error),
+        }
+    }
+}
+
 /// The stop at a client's file that is refused.
 pub(crate) fn wav_stop(alloc: Global, name: &[u8], why: WavError) -> Stop
     ensures { IsWavStop why name.now result }
@@ -79,6 +93,7 @@ pub(crate) fn status(end: &Result<(), Stop>) -> u8
         Ok(()) => 0,
         Err(Stop::Words) => 1,
         Err(Stop::Script(_)) => 2,
+        Err(Stop::Conf(_)) => 2,
         Err(Stop::Wav { .. }) => 3,
         Err(Stop::Read { .. }) => 4,
         Err(Stop::Write) => 5,
@@ -91,6 +106,7 @@ fn reason(alloc: Global, stop: &Stop) -> Result<String, AllocError> {
     match stop {
         Stop::Words => String::from_str(alloc, "dmixlab: words\n"),
         Stop::Script(error) => format!(in alloc; "dmixlab: script {error}\n"),
+        Stop::Conf(error) => format!(in alloc; "dmixlab: conf {error}\n"),
         Stop::Wav { name, why } => {
             let name = str::from_utf8(name.as_slice()).unwrap_or("");
             format!(in alloc; "dmixlab: wav {name}: {why}\n")

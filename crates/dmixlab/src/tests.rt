@@ -379,7 +379,7 @@ fn calls_that_are_not_done_say_why(rt: HostRuntime) -> Result<(), Fail> {
 fn help_and_version_are_put(rt: HostRuntime) -> Result<(), Fail> {
     let alloc = rt.alloc();
     let help =
-        "usage: dmixlab run SCRIPT OUT\n       dmixlab refine TEXT\n       dmixlab --help\n       dmixlab --version\n\nrun reads SCRIPT and the WAV file of each of its clients, mixes what they write\nas ALSA's dmix does, stores what the card plays as OUT.wav, and prints a report.\n\nrefine narrows the hardware parameters that a card leaves to its clients line by\nline, as TEXT says, and prints what is left of them.\n";
+        "usage: dmixlab run SCRIPT OUT\n       dmixlab refine TEXT\n       dmixlab conf FILE NAME\n       dmixlab --help\n       dmixlab --version\n\nrun reads SCRIPT and the WAV file of each of its clients, mixes what they write\nas ALSA's dmix does, stores what the card plays as OUT.wav, and prints a report.\n\nrefine narrows the hardware parameters that a card leaves to its clients line by\nline, as TEXT says, and prints what is left of them.\n\nconf reads FILE, which is written as asound.conf is, and prints the type of its\ndevice pcm.NAME, the device's card as a script's card line, and its bindings.\n";
     for (word, text) in [("--help", help), ("--version", "dmixlab 0.1.0\n")] {
         let left = call(&rt, alloc, &[word], Vec::new(alloc), (&[], &[]))?;
         assert_eq!(rt; left.status, 0);

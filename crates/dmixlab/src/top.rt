@@ -6,8 +6,9 @@ ghost use Rattle.dmixlab.specs.Words.{form_of, run, texts};
 ghost use Rattle.dmixlab.specs.Input.{input_in};
 ghost use Rattle.dmixlab.specs.Stops.{EndsOf, EndsReliably, InputFaults, IsReadStop, OutputFaults, Refuses};
 ghost use Rattle.dmixlab.specs.Run.{IsReady};
-ghost use Rattle.dmixlab.specs.Top.{cause, cause_in, ComesExactly, EndsWell, Headline, IsExact, IsLeft, IsMissing, IsScriptRefused, IsValid, IsWavRefused, Leaves};
+ghost use Rattle.dmixlab.specs.Top.{cause, cause_in, ComesExactly, EndsWell, Headline, IsExact, IsLeft, IsMissing, IsTextRefused, IsValid, IsWavRefused, Leaves};
 
+use crate::conf::conf_command;
 use crate::load::load;
 use crate::output::{Output, prepare, put, write};
 use crate::refine::refine_command;
@@ -27,15 +28,19 @@ use std::thread::Threads;
 /// - `refine TEXT` reads in the file TEXT what is asked of the hardware parameters that a slave leaves
 ///   to its clients, and puts an answer for each line on `out`. It begins as `snd_pcm_hw_params_any`
 ///   does; a line narrows as `snd_pcm_hw_params_set_..` or shows as `snd_pcm_hw_params_get_..`.
+/// - `conf FILE NAME` reads in the file FILE the device `pcm.NAME` as `asound_conf` does, and puts on
+///   `out` the lines `type KIND`, `card channels C rate R period P ring N` and, where the device has
+///   bindings, `bindings` with its card channels. The card's line by itself is a script.
 /// - `--help` and `--version`, each alone, put their text on `out`.
 ///
-/// A word for a file is 1 to 4,096 bytes of UTF-8 without a zero byte. The status is 0 where all
-/// was done, and then `errors` takes nothing. Otherwise one line on `errors` says why it is not, and
-/// a fault there changes nothing:
+/// A word for a file is 1 to 4,096 bytes of UTF-8 without a zero byte; NAME is 1 to 64 visible ASCII
+/// characters. The status is 0 where all was done, and then `errors` takes nothing. Otherwise one line
+/// on `errors` says why it is not, and a fault there changes nothing:
 ///
 /// - 1: the words are none of these;
-/// - 2: the script has more than 1,048,576 bytes, or isn't a script as `lab_script::read_script`
+/// - 2: the script has more than 1,048,576 bytes, or isn't a script as `short_script::read_script`
 ///   reads it; or TEXT has more bytes than that, no line with words, or a line that can't stand in it;
+///   or FILE is refused by `asound_conf::read_conf`, or its device by `asound_conf::device`;
 /// - 3: a client's file isn't a WAV file of 16-bit PCM, has more than 67,108,864 bytes, or is the one
 ///   with which the files of all clients so far, each counted as often as a client names it, have
 ///   more than 268,435,456 bytes;
@@ -43,9 +48,9 @@ use std::thread::Threads;
 /// - 5: `OUT.wav` can't be stored, or the text can't be put;
 /// - 6: memory ran out.
 ///
-/// The first cause in the order of the work decides: the words, the script or TEXT, each client's file
-/// in the order of the clients' lines, `OUT.wav`, the text. Over a reliable shelf and a reliable `out`
-/// 4 comes only where a file isn't there, and 5 never.
+/// The first cause in the order of the work decides: the words, the script, TEXT or FILE, each
+/// client's file in the order of the clients' lines, `OUT.wav`, the text. Over a reliable shelf and a
+/// reliable `out` 4 comes only where a file isn't there, and 5 never.
 ///
 /// A client whose file the card can't play, by its rate or its number of channels, or whose bindings
 /// are not as many as its file has channels, is no cause of a status: its opening is answered EINVAL
@@ -56,8 +61,8 @@ use std::thread::Threads;
 /// report's segments laid there, cut once into the range of a sample. `out` took the
 /// whole report. With 1 to 4 no file changed and `out` took nothing. With 5 and 6 that is so, or
 /// `OUT.wav` holds the first bytes of what it was to hold, or all, or is as it was, no other file
-/// changed, and `out` took the first bytes of the text. `refine` changes no file: with status 0 `out`
-/// took all its answers, put with one call, with 5 and 6 the first bytes of them or nothing.
+/// changed, and `out` took the first bytes of the text. `refine` and `conf` change no file: with status 0
+/// `out` took all their lines, put with one call, with 5 and 6 the first bytes of them or nothing.
 ///
 /// `gates` are the clients' gates, at least 128; a run of one thread asks none of them.
 pub fn dmixlab<R: Threads + Sync, S: Shelf, K: Sink, E: Sink, G: Gate + Send>(
@@ -86,7 +91,7 @@ pub fn dmixlab<R: Threads + Sync, S: Shelf, K: Sink, E: Sink, G: Gate + Send>(
     ensures statuses { result ≤ 6 }
     ensures words { (result ≡ 1) ↔ (form_of (texts words.now) ≡ None) }
     ensures script { ForSome (S.files shelf.old) (λ files. ComesExactly 2 result
-        (Rose (S.fetch_faults shelf.old) (S.fetch_faults shelf.new)) (IsScriptRefused (texts words.now) files)) }
+        (Rose (S.fetch_faults shelf.old) (S.fetch_faults shelf.new)) (IsTextRefused (texts words.now) files)) }
     ensures wav { ForSome (S.files shelf.old) (λ files. ComesExactly 3 result
         (Rose (S.fetch_faults shelf.old) (S.fetch_faults shelf.new)) (IsWavRefused (texts words.now) files)) }
     ensures read { result ≡ 4 → Rose (S.fetch_faults shelf.old) (S.fetch_faults shelf.new) }
@@ -140,6 +145,7 @@ fn command<S: Shelf, K: Sink>(
     match read_command(words) {
         Some(Command::Run { script, out: name }) => run_command(alloc, shelf, out, script, name),
         Some(Command::Refine { text }) => refine_command(alloc, shelf, out, text),
+        Some(Command::Conf { file, name }) => conf_command(alloc, shelf, out, file, name),
         Some(Command::Help) => put(out, help()),
         Some(Command::Version) => put(out, version()),
         None => Err(Stop::Words),

@@ -1,13 +1,13 @@
 //! The run itself.
 ghost use Rattle.std.specs.Prelude.{◌≡◌, ◌≤◌, ◌%◌, IfOk, IfErr, length};
-ghost use Rattle.lab_script.specs.Script.{IsScript};
+ghost use Rattle.short_script.specs.Script.{IsScript};
 ghost use Rattle.lab_phase.specs.Meaning.{AreFiles, IsRun};
-ghost use Rattle.lab_report.specs.Text.{IsReportOf};
+ghost use Rattle.short_report.specs.Text.{IsReportOf};
 ghost use Rattle.dmixlab.specs.declared.stop.Stop.TheVariants as stops;
 
 use crate::stop::Stop;
 use lab_phase::{Outcome, run_script};
-use lab_script::Script;
+use short_script::Script;
 use std::alloc::Global;
 use wav_io::Wav;
 

@@ -12,7 +12,7 @@ use Rattle.pcm_states.specs.declared.calls.Call.{Call}
 use Rattle.pcm_states.specs.declared.calls.Call.TheVariants as call
 use Rattle.pcm_states.specs.declared.calls.Facts.{Facts}
 use Rattle.pcm_states.specs.declared.calls.Outcome.{Outcome}
-use Rattle.pcm_states.specs.Table.{Cell, to, ebadfd, enodev, eio, already, starting, filling, moving, draining, first_of, if_empty, if_gone, if_over, next_of, outcome_of, row_of, stopped_by}
+use Rattle.pcm_states.specs.Table.{Cell, to, ebadfd, enodev, eio, already, starting, filling, moving, draining, resuming, first_of, if_empty, if_gone, if_none_left, if_over, next_of, outcome_of, row_of, stopped_by}
 use Rattle.dmix_client.specs.declared.commit.Commit.{Commit}
 use Rattle.mix_core.specs.declared.port.Ended.TheVariants as ended
 use Rattle.dmix_client.specs.declared.plain.Plain.{Plain}
@@ -86,6 +86,9 @@ outcome_of-late moving s c f frame channel word seen =
     (record { state = refl; answer = refl })
 outcome_of-late draining s c f frame channel word seen =
     first_late (if_gone (with_late f frame channel word)) (stopped_by (why.Late frame channel word)) (stopped_by (why.Late frame channel seen)) _ _
+    (record { state = refl; answer = refl })
+outcome_of-late resuming s c f frame channel word seen =
+    second_late (if_none_left (with_late f frame channel word)) (if_gone (with_late f frame channel word)) (stopped_by (why.Late frame channel word)) (stopped_by (why.Late frame channel seen)) [] _
     (record { state = refl; answer = refl })
 
 -- the table tells late frames alike, whatever word was seen

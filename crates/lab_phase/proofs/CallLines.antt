@@ -21,9 +21,9 @@ use Rattle.dmix_client.specs.Growth.{AnySamples, Follows, Keeps}
 use Rattle.dmix_client.specs.View.{ClientView}
 use Rattle.dmix_client.specs.Writes.{frames_in}
 use Rattle.wav_io.specs.Sound.{Sound}
-use Rattle.lab_script.specs.declared.line.Op.{Op}
-use Rattle.lab_script.specs.declared.line.Op.TheVariants as op
-use Rattle.lab_report.specs.declared.row.Answer.{Answer}
+use Rattle.short_script.specs.declared.line.Op.{Op}
+use Rattle.short_script.specs.declared.line.Op.TheVariants as op
+use Rattle.short_report.specs.declared.row.Answer.{Answer}
 use Rattle.lab_phase.specs.Lines.{Own, called, count_answer, done_answer, frames_of, unless_refused}
 use Rattle.lab_phase.specs.Rest.{drain_at, start_at, sync_at, writei_at}
 use Rattle.lab_phase.specs.Seats.{HasCalled, IsAtPort, IsOwn, ends_stretch}

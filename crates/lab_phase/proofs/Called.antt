@@ -20,8 +20,8 @@ use Rattle.dmix_client.specs.Growth.{Grows, Keeps, StandsFor}
 use Rattle.dmix_client.specs.Port.{CanUse, IsOnCard}
 use Rattle.dmix_client.specs.View.{ClientView}
 use Rattle.wav_io.specs.Sound.{Sound}
-use Rattle.lab_script.specs.declared.line.Op.{Op}
-use Rattle.lab_report.specs.declared.row.Answer.{Answer}
+use Rattle.short_script.specs.declared.line.Op.{Op}
+use Rattle.short_report.specs.declared.row.Answer.{Answer}
 use Rattle.lab_phase.specs.Lines.{Own, after_call, called, frames_of, free_after}
 use Rattle.lab_phase.specs.Mixes.{RestsAt}
 use Rattle.lab_phase.specs.Seats.{HasCalled, IsAtPort, IsOwn, ends_stretch, stretch}

@@ -20,7 +20,7 @@ use Rattle.hw_space.specs.Narrowings.{LeavesOf, at_least, at_most, greatest_end,
 use Rattle.hw_space.specs.Settled.{Leaves}
 use Rattle.hw_space.specs.Widest.{whole_from_to, widest}
 use Rattle.wav_io.specs.Sound.{Sound}
-use Rattle.lab_script.specs.declared.script.CardLine.{CardLine}
+use Rattle.short_script.specs.declared.script.CardLine.{CardLine}
 use Rattle.lab_phase.specs.Opening.{IsChosen, IsInRange}
 
 -- a narrowed box lies within the box

@@ -21,15 +21,15 @@ use Rattle.dmix_client.specs.Expansion.{expand}
 use Rattle.dmix_client.specs.Port.{least_channel}
 use Rattle.dmix_client.specs.View.{ClientView}
 use Rattle.wav_io.specs.Sound.{Sound}
-use Rattle.lab_script.specs.declared.line.Actor.TheVariants.{Card, Client}
-use Rattle.lab_script.specs.declared.line.Line.{Line}
-use Rattle.lab_script.specs.declared.line.Op.{Op}
-use Rattle.lab_script.specs.declared.line.Op.TheVariants as op
-use Rattle.lab_script.specs.declared.script.Script.{Script}
-use Rattle.lab_script.specs.Script.{played_by}
-use Rattle.lab_report.specs.declared.row.Answer.{Answer}
-use Rattle.lab_report.specs.declared.row.Answer.TheVariants.{Done, Count, Failed}
-use Rattle.lab_report.specs.declared.row.Row.{Row}
+use Rattle.short_script.specs.declared.line.Actor.TheVariants.{Card, Client}
+use Rattle.short_script.specs.declared.line.Line.{Line}
+use Rattle.short_script.specs.declared.line.Op.{Op}
+use Rattle.short_script.specs.declared.line.Op.TheVariants as op
+use Rattle.short_script.specs.declared.script.Script.{Script}
+use Rattle.short_script.specs.Script.{played_by}
+use Rattle.short_report.specs.declared.row.Answer.{Answer}
+use Rattle.short_report.specs.declared.row.Answer.TheVariants.{Done, Count, Failed}
+use Rattle.short_report.specs.declared.row.Row.{Row}
 use Rattle.lab_phase.specs.declared.body.Body.{Body}
 use Rattle.lab_phase.specs.declared.seat.Seat.{Seat}
 use Rattle.lab_phase.specs.Lines.{Own, after_call, closed_answer, ended_after, laid_in, line_done, segments_of}

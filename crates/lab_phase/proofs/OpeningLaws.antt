@@ -16,8 +16,8 @@ use Rattle.dmix_client.specs.Calls.{configured_with, opened}
 use Rattle.dmix_client.specs.Port.{IsOnCard}
 use Rattle.dmix_client.specs.View.{ClientView, IsConfigured, IsSound}
 use Rattle.wav_io.specs.Sound.{Sound}
-use Rattle.lab_script.specs.declared.script.ClientLine.{ClientLine}
-use Rattle.lab_script.specs.Script.{IsBound}
+use Rattle.short_script.specs.declared.script.ClientLine.{ClientLine}
+use Rattle.short_script.specs.Script.{IsBound}
 use Rattle.lab_phase.specs.Opening.{bound_by}
 use Rattle.lab_phase.specs.Seats.{IsOwn}
 

@@ -4,13 +4,13 @@ use Rattle.std.proofs.lemmas.List.{append-nil, map-append, take_more, length-tak
 use Rattle.std.proofs.lemmas.List.Sums.{sum_by-append, sum_by-cons, sum_by-take-le, sum_by_more}
 use Rattle.std.specs.Prelude.{sum_by, slice_get, Some}
 use Rattle.wav_io.specs.Sound.{Sound}
-use Rattle.lab_script.specs.declared.line.Actor.{Actor}
-use Rattle.lab_script.specs.declared.line.Actor.TheVariants.{Card, Client}
-use Rattle.lab_script.specs.declared.line.Line.{Line}
-use Rattle.lab_script.specs.declared.line.Op.{Op}
-use Rattle.lab_script.specs.declared.line.Op.TheVariants as op
-use Rattle.lab_script.specs.declared.script.Script.{Script}
-use Rattle.lab_script.specs.Script.{IsActor, IsLine, IsOpOf, IsScript, frames_played, played_by, played_in}
+use Rattle.short_script.specs.declared.line.Actor.{Actor}
+use Rattle.short_script.specs.declared.line.Actor.TheVariants.{Card, Client}
+use Rattle.short_script.specs.declared.line.Line.{Line}
+use Rattle.short_script.specs.declared.line.Op.{Op}
+use Rattle.short_script.specs.declared.line.Op.TheVariants as op
+use Rattle.short_script.specs.declared.script.Script.{Script}
+use Rattle.short_script.specs.Script.{IsActor, IsLine, IsOpOf, IsScript, frames_played, played_by, played_in}
 use Rattle.lab_phase.specs.declared.body.Body.{Body}
 use Rattle.lab_phase.specs.declared.seat.Seat.{Seat}
 use Rattle.lab_phase.specs.Meaning.{AreFiles, numbered_lines}

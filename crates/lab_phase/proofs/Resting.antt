@@ -20,7 +20,7 @@ use Rattle.mix_core.specs.declared.turn.Turn.{Turn}
 use Rattle.mix_core.specs.Laid.{marked}
 use Rattle.mix_core.specs.Turn.{KeepsRest, TurnFinds, TurnLaid, TurnLoaded, core_of, cursor_of_turn, marks_of_turn}
 use Rattle.mix_core.specs.View.{View}
-use Rattle.course.specs.declared.capture.Got.{Got}
+use Rattle.snoop_core.specs.declared.port.Got.{Got}
 use Rattle.course.specs.AtPort.{LaysAt, LoadsAt, NoGet, TakesAt}
 use Rattle.course.specs.Course.{Course, Takes}
 use Rattle.course.specs.CourseLaws.{Takes-follow}

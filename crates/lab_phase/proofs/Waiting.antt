@@ -8,17 +8,18 @@ use Rattle.snd_base.specs.declared.errors.PcmError.TheVariants as error
 use Rattle.mix_core.specs.declared.turn.Turn.{Turn}
 use Rattle.mix_core.specs.TurnLaws.{TurnLaid-composes}
 use Rattle.pcm_states.specs.declared.states.State.{State}
-use Rattle.pcm_states.specs.declared.states.State.TheVariants.{Prepared, Setup}
+use Rattle.pcm_states.specs.declared.states.State.TheVariants.{Paused, Prepared, Setup}
+use Rattle.pcm_states.specs.declared.calls.Call.{Call}
 use Rattle.pcm_states.specs.declared.calls.Call.TheVariants as call
 use Rattle.dmix_client.specs.declared.plain.Plain.{Plain}
-use Rattle.dmix_client.specs.Calls.{dropped, prepared, refusal_of}
+use Rattle.dmix_client.specs.Calls.{dropped, paused, prepared, refusal_of}
 use Rattle.dmix_client.specs.Growth.{StandsFor}
 use Rattle.dmix_client.specs.View.{ClientView, is_moving}
 use Rattle.wav_io.specs.Sound.{Sound}
-use Rattle.lab_script.specs.declared.line.Op.{Op}
-use Rattle.lab_script.specs.declared.line.Op.TheVariants as op
-use Rattle.lab_report.specs.declared.row.Answer.{Answer}
-use Rattle.lab_report.specs.declared.row.Answer.TheVariants.{Done, Failed}
+use Rattle.short_script.specs.declared.line.Op.{Op}
+use Rattle.short_script.specs.declared.line.Op.TheVariants as op
+use Rattle.short_report.specs.declared.row.Answer.{Answer}
+use Rattle.short_report.specs.declared.row.Answer.TheVariants.{Done, Failed}
 use Rattle.lab_phase.specs.Lines.{Own, after_call, called, done_answer, free_after, refused_or, told}
 use Rattle.lab_phase.specs.Seats.{HasCalled, IsAtPort, IsOwn, ends_stretch, stretch}
 use Rattle.lab_phase.proofs.Called.{tell}
@@ -77,30 +78,45 @@ pub HasCalled-same : (members p : ℕ) (wav : Sound) (own : Own) (asked : Op) (v
 HasCalled-same members p wav own asked v w t answer is at same is_call goes_on =
     HasCalled-state members p wav own asked v w t answer own.plain.state is at (ap (λ (x : ClientView). x.plain) same ∙ is.same) (ap (λ (x : ClientView). x.ring) same) (λ moving. moving) (λ waits. waits) is_call goes_on
 
-pub pause-line : (members p : ℕ) (wav : Sound) (own : Own) (v w : ClientView) (t : Turn) (result : Result (Unit {0}) PcmError)
-    → IsOwn wav own v → IsAtPort members p own t → result ≡ Err error.NotSupported → w ≡ v → HasCalled members p wav own op.Pause w t t (done_answer result)
-pause-line members p wav own v w t result is at refused same =
-    HasCalled-same members p wav own op.Pause v w t (done_answer result) is at same
-    (ap (λ (x : Result (Unit {0}) PcmError). tell done_answer (own.plain, x)) (sym refused)) refl
+-- a call that leads to a state in which nothing moves, and does nothing else, unless it is refused
+state-line : (members p : ℕ) (wav : Sound) (own : Own) (asked : Op) (named : Call) (s : State) (v w : ClientView) (t : Turn) (result : Result (Unit {0}) PcmError)
+    → IsOwn wav own v → IsAtPort members p own t → (is_moving s ≡ true → ⊥) → (s ≡ Prepared → ⊥)
+    → called p wav own asked ≡ tell done_answer (refused_or (refusal_of own.plain named) own.plain (in_state own.plain s, Ok tt)) → ends_stretch asked (done_answer result) ≡ false
+    → ((e : PcmError) → refusal_of v.plain named ≡ Some e → (result ≡ Err e) × (w ≡ v))
+    → (refusal_of v.plain named ≡ None → (result ≡ Ok tt) × (w ≡ record { plain = in_state v.plain s; ring = v.ring }))
+    → HasCalled members p wav own asked w t t (done_answer result)
+state-line members p wav own asked named s v w t result is at rests not_prepared is_call goes_on refused leads = elim (refusal-cases (refusal_of own.plain named)) [
+  | inr found ↦
+      let r = refused found.0 (ap (λ (c : Plain). refusal_of c named) is.same ∙ found.1) in
+      HasCalled-same members p wav own asked v w t (done_answer result) is at r.1
+      (is_call ∙ ap (λ (o : Option PcmError). tell done_answer (refused_or o own.plain (in_state own.plain s, Ok tt))) found.1
+      ∙ ap (λ (x : Result (Unit {0}) PcmError). tell done_answer (own.plain, x)) (sym r.0)) goes_on
+  | inl admitted ↦
+      let r = leads (ap (λ (c : Plain). refusal_of c named) is.same ∙ admitted) in
+      HasCalled-state members p wav own asked v w t (done_answer result) s is at
+      (ap (λ (x : ClientView). x.plain) r.1 ∙ ap (λ (c : Plain). in_state c s) is.same) (ap (λ (x : ClientView). x.ring) r.1) (λ moving. absurd (rests moving)) (λ waits. absurd (not_prepared waits))
+      (is_call ∙ ap (λ (o : Option PcmError). tell done_answer (refused_or o own.plain (in_state own.plain s, Ok tt))) admitted
+      ∙ ap (λ (x : Result (Unit {0}) PcmError). tell done_answer (in_state own.plain s, x)) (sym r.0)) goes_on
+]
 
 pub drop-line : (members p : ℕ) (wav : Sound) (own : Own) (v w : ClientView) (t : Turn) (result : Result (Unit {0}) PcmError)
     → IsOwn wav own v → IsAtPort members p own t
     → ((e : PcmError) → refusal_of v.plain call.Drop ≡ Some e → (result ≡ Err e) × (w ≡ v))
     → (refusal_of v.plain call.Drop ≡ None → (result ≡ Ok tt) × (w ≡ record { plain = dropped v.plain; ring = v.ring }))
     → HasCalled members p wav own op.Drop w t t (done_answer result)
-drop-line members p wav own v w t result is at refused drops = elim (refusal-cases (refusal_of own.plain call.Drop)) [
-  | inr found ↦
-      let r = refused found.0 (ap (λ (c : Plain). refusal_of c call.Drop) is.same ∙ found.1) in
-      HasCalled-same members p wav own op.Drop v w t (done_answer result) is at r.1
-      (ap (λ (o : Option PcmError). tell done_answer (refused_or o own.plain (dropped own.plain, Ok tt))) found.1
-      ∙ ap (λ (x : Result (Unit {0}) PcmError). tell done_answer (own.plain, x)) (sym r.0)) refl
-  | inl admitted ↦
-      let r = drops (ap (λ (c : Plain). refusal_of c call.Drop) is.same ∙ admitted) in
-      HasCalled-state members p wav own op.Drop v w t (done_answer result) Setup is at
-      (ap (λ (x : ClientView). x.plain) r.1 ∙ ap dropped is.same) (ap (λ (x : ClientView). x.ring) r.1) (λ moving. absurd (cc)) (λ waits. absurd (cc))
-      (ap (λ (o : Option PcmError). tell done_answer (refused_or o own.plain (dropped own.plain, Ok tt))) admitted
-      ∙ ap (λ (x : Result (Unit {0}) PcmError). tell done_answer (dropped own.plain, x)) (sym r.0)) refl
-]
+drop-line members p wav own v w t result is at refused drops = state-line members p wav own op.Drop call.Drop Setup v w t result is at (λ moving. cc) (λ waits. cc) refl refl refused drops
+
+pub pause-line : (members p : ℕ) (wav : Sound) (own : Own) (v w : ClientView) (t u : Turn) (result : Result (Unit {0}) PcmError)
+    → IsOwn wav own v → IsAtPort members p own t
+    → ((e : PcmError) → refusal_of v.plain call.Pause ≡ Some e → (result ≡ Err e) × (w ≡ v) × (u ≡ t))
+    → (refusal_of v.plain call.Pause ≡ None → (result ≡ Ok tt) × (w ≡ record { plain = paused v.plain; ring = v.ring }) × (u ≡ t))
+    → HasCalled members p wav own op.Pause w t u (done_answer result)
+pause-line members p wav own v w t u result is at refused pauses =
+    subst (λ (x : Turn). HasCalled members p wav own op.Pause w t x (done_answer result)) (sym there)
+    (state-line members p wav own op.Pause call.Pause Paused v w t result is at (λ moving. cc) (λ waits. cc) refl refl (λ e found. let r = refused e found in (r.0, r.1)) (λ admitted. let r = pauses admitted in (r.0, r.1)))
+  where
+    there : u ≡ t
+    there = elim (refusal-cases (refusal_of v.plain call.Pause)) [ inl admitted ↦ (pauses admitted).2 | inr found ↦ (refused found.0 found.1).2 ]
 
 -- a line that names no call of a client
 pub no_call-line : (members p : ℕ) (wav : Sound) (own : Own) (asked : Op) (v : ClientView) (t : Turn) → IsOwn wav own v → IsAtPort members p own t

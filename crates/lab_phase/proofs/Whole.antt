@@ -10,10 +10,10 @@ use Rattle.snd_base.specs.Places.{first_frame}
 use Rattle.mix_core.specs.declared.port.Entry.{Entry}
 use Rattle.mix_core.specs.History.{Row as Event, laid_of, taken_of}
 use Rattle.wav_io.specs.Sound.{Sound}
-use Rattle.lab_script.specs.declared.script.Script.{Script}
-use Rattle.lab_script.specs.Script.{frames_played}
-use Rattle.lab_report.specs.declared.row.Row.{Row}
-use Rattle.lab_report.specs.declared.report.Report.{Report}
+use Rattle.short_script.specs.declared.script.Script.{Script}
+use Rattle.short_script.specs.Script.{frames_played}
+use Rattle.short_report.specs.declared.row.Row.{Row}
+use Rattle.short_report.specs.declared.report.Report.{Report}
 use Rattle.lab_phase.specs.declared.body.Body.{Body}
 use Rattle.lab_phase.specs.Meaning.{AreFiles, IsRun, Stage, bindings_of, entries_of, first_stage, lines_of, mixed_at, numbered, open_row, report_of, rows_of, stage_after}
 use Rattle.lab_phase.specs.Stages.{HasOpened, HasRun, stage_of}

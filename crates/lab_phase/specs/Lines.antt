@@ -1,19 +1,19 @@
 -- What a line of a client is answered, and the client after it.
 use Rattle.std.specs.Prelude.{ℕ, ◌+◌, ◌-◌, ◌/◌, ◌&&◌, nat_eq, if◌then◌else◌, min, List, [], ◌∷◌, ◌++◌, length, Option, Some, None, Result, Ok, Err}
 use Rattle.snd_base.specs.declared.errors.PcmError.{PcmError}
-use Rattle.snd_base.specs.declared.errors.PcmError.TheVariants.{Xrun, Invalid, BadState, NotSupported}
+use Rattle.snd_base.specs.declared.errors.PcmError.TheVariants.{Xrun, Invalid, BadState}
 use Rattle.snd_base.specs.declared.errors.Why.TheVariants.{Config}
 use Rattle.snd_base.specs.declared.errors.XrunWhy.TheVariants.{Avail, Late}
 use Rattle.snd_base.specs.declared.places.Segment.{Segment}
 use Rattle.pcm_states.specs.declared.calls.Call.{Call}
 use Rattle.pcm_states.specs.declared.calls.Call.TheVariants as call
 use Rattle.wav_io.specs.Sound.{Sound}
-use Rattle.lab_script.specs.declared.line.Op.{Op}
-use Rattle.lab_script.specs.declared.line.Op.TheVariants as op
-use Rattle.lab_report.specs.declared.row.Answer.{Answer}
-use Rattle.lab_report.specs.declared.row.Answer.TheVariants.{Done, Count, Failed}
+use Rattle.short_script.specs.declared.line.Op.{Op}
+use Rattle.short_script.specs.declared.line.Op.TheVariants as op
+use Rattle.short_report.specs.declared.row.Answer.{Answer}
+use Rattle.short_report.specs.declared.row.Answer.TheVariants.{Done, Count, Failed}
 use Rattle.dmix_client.specs.declared.plain.Plain.{Plain}
-use Rattle.dmix_client.specs.Calls.{Answered, avail_answer, delay_answer, dropped, prepared, refusal_of, segment_of, with_number}
+use Rattle.dmix_client.specs.Calls.{Answered, avail_answer, delay_answer, dropped, paused, prepared, refusal_of, segment_of, with_number}
 use Rattle.lab_phase.specs.Rest.{drain_at, start_at, sync_at, writei_at}
 
 -- the frames of a WAV
@@ -84,7 +84,7 @@ called p wav own op.Delay = counted_of (unless_refused own.plain call.Sync (with
 called p wav own op.Drain = done_of (unless_refused own.plain call.Drain (drain_at p own.plain own.free))
 called p wav own op.Drop = done_of (unless_refused own.plain call.Drop (dropped own.plain, Ok tt))
 called p wav own op.Prepare = done_of (unless_refused own.plain call.Prepare (prepared own.plain, Ok tt))
-called p wav own op.Pause = (own.plain, Failed NotSupported)
+called p wav own op.Pause = done_of (unless_refused own.plain call.Pause (paused own.plain, Ok tt))
 called p wav own other = (own.plain, Failed BadState)
 
 -- the client after a line, by the line's call, and the answer

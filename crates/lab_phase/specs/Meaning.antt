@@ -9,17 +9,17 @@ use Rattle.mix_core.specs.Laid.{total}
 use Rattle.mix_core.specs.declared.port.Entry.{Entry}
 use Rattle.wav_io.specs.Sound.{Sound}
 use Rattle.pcm_states.specs.declared.states.State.TheVariants.{Open, Running}
-use Rattle.lab_script.specs.declared.script.Script.{Script}
-use Rattle.lab_script.specs.declared.line.Actor.{Actor}
-use Rattle.lab_script.specs.declared.line.Actor.TheVariants.{Card, Client}
-use Rattle.lab_script.specs.declared.line.Line.{Line}
-use Rattle.lab_script.specs.declared.line.Op.{Op}
-use Rattle.lab_script.specs.declared.line.Op.TheVariants as op
-use Rattle.lab_script.specs.Script.{frames_played, played_by}
-use Rattle.lab_report.specs.declared.row.Row.{Row}
-use Rattle.lab_report.specs.declared.row.Answer.{Answer}
-use Rattle.lab_report.specs.declared.row.Answer.TheVariants.{Count}
-use Rattle.lab_report.specs.declared.report.Report.{Report}
+use Rattle.short_script.specs.declared.script.Script.{Script}
+use Rattle.short_script.specs.declared.line.Actor.{Actor}
+use Rattle.short_script.specs.declared.line.Actor.TheVariants.{Card, Client}
+use Rattle.short_script.specs.declared.line.Line.{Line}
+use Rattle.short_script.specs.declared.line.Op.{Op}
+use Rattle.short_script.specs.declared.line.Op.TheVariants as op
+use Rattle.short_script.specs.Script.{frames_played, played_by}
+use Rattle.short_report.specs.declared.row.Row.{Row}
+use Rattle.short_report.specs.declared.row.Answer.{Answer}
+use Rattle.short_report.specs.declared.row.Answer.TheVariants.{Count}
+use Rattle.short_report.specs.declared.report.Report.{Report}
 use Rattle.dmix_client.specs.Expansion.{expand}
 use Rattle.lab_phase.specs.Lines.{Own, closed_answer, line_done, segments_of}
 use Rattle.lab_phase.specs.Opening.{Setup, IsOpening, IsRingOf, bound_by, open_answer, opened_with}

@@ -13,12 +13,12 @@ use Rattle.hw_space.specs.Narrowings.{with_value}
 use Rattle.hw_space.specs.Settled.{Leaves}
 use Rattle.hw_space.specs.Widest.{widest}
 use Rattle.wav_io.specs.Sound.{Sound}
-use Rattle.lab_script.specs.declared.script.CardLine.{CardLine}
-use Rattle.lab_script.specs.declared.script.ClientLine.{ClientLine}
+use Rattle.short_script.specs.declared.script.CardLine.{CardLine}
+use Rattle.short_script.specs.declared.script.ClientLine.{ClientLine}
 use Rattle.dmix_client.specs.Calls.{configured_with, opened}
 use Rattle.lab_phase.specs.Lines.{Own}
-use Rattle.lab_report.specs.declared.row.Answer.{Answer}
-use Rattle.lab_report.specs.declared.row.Answer.TheVariants.{Done, Failed}
+use Rattle.short_report.specs.declared.row.Answer.{Answer}
+use Rattle.short_report.specs.declared.row.Answer.TheVariants.{Done, Failed}
 
 -- what a client is opened with: the configuration of its stream, and the card channel of each of its channels
 pub record Setup : Type 0 where

@@ -13,10 +13,10 @@ use Rattle.dmix_client.specs.Growth.{StandsFor}
 use Rattle.dmix_client.specs.Port.{CanUse, IsOnCard}
 use Rattle.dmix_client.specs.View.{ClientView}
 use Rattle.wav_io.specs.Sound.{Sound}
-use Rattle.lab_script.specs.declared.line.Op.{Op}
-use Rattle.lab_script.specs.declared.line.Op.TheVariants as op
-use Rattle.lab_report.specs.declared.row.Answer.{Answer}
-use Rattle.lab_report.specs.declared.row.Answer.TheVariants.{Done}
+use Rattle.short_script.specs.declared.line.Op.{Op}
+use Rattle.short_script.specs.declared.line.Op.TheVariants as op
+use Rattle.short_report.specs.declared.row.Answer.{Answer}
+use Rattle.short_report.specs.declared.row.Answer.TheVariants.{Done}
 use Rattle.lab_phase.specs.Lines.{Own, called, frames_of, line_done}
 use Rattle.lab_phase.specs.Mixes.{RestsAt}
 

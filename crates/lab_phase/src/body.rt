@@ -1,7 +1,7 @@
 //! What a run is between two lines.
 use crate::seat::Seat;
-use lab_report::Row;
 use mix_core::Core;
+use short_report::Row;
 
 /// A run of a script between two lines: the core that mixes, the clients in the order of their lines, the rows and the
 /// samples played so far, and the card's position in frames.

@@ -11,9 +11,9 @@ ghost use Rattle.lab_phase.specs.Seats.{HasCalled, IsAtPort, IsOwn};
 ghost use Rattle.lab_phase.specs.Stages.{IsAsked};
 
 use dmix_client::Client;
-use lab_report::Answer;
-use lab_script::Op;
 use mix_core::{NeverStops, Turn};
+use short_report::Answer;
+use short_script::Op;
 use snd_base::{PcmError, Why, XrunWhy};
 use wav_io::Wav;
 
@@ -129,12 +129,13 @@ fn drop_line(client: &mut Client) -> Answer
     done(answer)
 }
 
-/// The client is to pause.
-fn pause_line(client: &mut Client) -> Answer
-    ensures { (members p : ℕ) (wav : Sound) (own : Own) (h : List Row) (t : Turn) → IsOwn wav own client.old → IsAtPort members p own t → Stands (core_of t) h
-        → HasCalled members p wav own Op.Pause client.new t t result }
+/// The client pauses.
+fn pause_line(client: &mut Client, port: &mut Turn<'_>) -> Answer
+    requires { CanUse client.old.plain (view_of_turn port.old) }
+    ensures { (members p : ℕ) (wav : Sound) (own : Own) (h : List Row) → IsOwn wav own client.old → IsAtPort members p own port.old → Stands (core_of port.old) h
+        → HasCalled members p wav own Op.Pause client.new port.old port.new result }
 {
-    let answer = client.pause(true);
+    let answer = client.pause(port, &mut NeverStops, true);
     client.counts_are_sound();
     done(answer)
 }
@@ -197,7 +198,7 @@ pub(crate) fn call_line(client: &mut Client, port: &mut Turn<'_>, wav: &Wav, ask
         Op::Drain => drain_line(client, port),
         Op::Drop => drop_line(client),
         Op::Prepare => prepare_line(client),
-        Op::Pause => pause_line(client),
+        Op::Pause => pause_line(client, port),
         Op::Play(_) | Op::Opens => Answer::Failed(PcmError::BadState),
     }
 }

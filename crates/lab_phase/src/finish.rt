@@ -8,7 +8,7 @@ ghost use Rattle.lab_phase.specs.Stages.{laid_of, own_of, owns_from, stage_of};
 use crate::body::Body;
 use crate::outcome::Outcome;
 use crate::seat::Seat;
-use lab_report::{Report, Rows, Segments};
+use short_report::{Report, Rows, Segments};
 use snd_base::{PcmError, Segment};
 use std::alloc::Global;
 

@@ -1,7 +1,7 @@
 //! The opening of a client.
 ghost use Rattle.std.specs.Prelude.{◌≡◌, ◌≢◌, ◌≤◌, ◌<◌, All, IfErr, IfOk, IfSome, IfNone, Some, length};
 ghost use Rattle.snd_base.specs.declared.geometry.Geometry.{Geometry};
-ghost use Rattle.lab_script.specs.Script.{IsBound, IsCardLine};
+ghost use Rattle.short_script.specs.Script.{IsBound, IsCardLine};
 ghost use Rattle.dmix_client.specs.Calls.{configured_with, opened};
 ghost use Rattle.dmix_client.specs.View.{IsSound};
 ghost use Rattle.lab_phase.specs.Opening.{IsChosen, IsInRange, IsRingOf, bound_by};
@@ -10,8 +10,8 @@ ghost use Rattle.lab_phase.specs.Stages.{IsOpenedAs};
 use bindings::Bindings;
 use dmix_client::Client;
 use hw_space::{Config, Param, Slave, Space};
-use lab_script::{CardLine, ClientLine};
 use pcm_interval::Empty;
+use short_script::{CardLine, ClientLine};
 use snd_base::{Geometry, PcmError};
 use std::alloc::Global;
 use wav_io::Wav;

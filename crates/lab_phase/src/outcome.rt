@@ -1,5 +1,5 @@
 //! What a run gives.
-use lab_report::Report;
+use short_report::Report;
 
 /// What a run gives: the report, and the samples that the card played, interleaved, from the first frame on.
 #[derive(Debug, Drop)]

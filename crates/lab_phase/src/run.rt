@@ -1,6 +1,6 @@
 //! A whole run.
 ghost use Rattle.std.specs.Prelude.{◌≡◌, ◌≤◌, ◌<◌, ◌+◌, IfOk, IfErr, OnOk, [], length, map, slice_index_or};
-ghost use Rattle.lab_script.specs.Script.{IsScript, played_in};
+ghost use Rattle.short_script.specs.Script.{IsScript, played_in};
 ghost use Rattle.lab_phase.specs.Meaning.{AreFiles, IsRun, lines_of};
 ghost use Rattle.lab_phase.specs.Stages.{HasRun, IsSettled};
 
@@ -9,7 +9,7 @@ use crate::finish::finish;
 use crate::line::do_line;
 use crate::outcome::Outcome;
 use crate::start::opened;
-use lab_script::{Line, Script};
+use short_script::{Line, Script};
 use snd_base::PcmError;
 use std::alloc::Global;
 use wav_io::Wav;

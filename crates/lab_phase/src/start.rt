@@ -1,7 +1,7 @@
 //! A run before its first phase: each client is opened.
 ghost use Rattle.std.specs.Prelude.{◌≡◌, ◌≤◌, ◌<◌, ◌+◌, ◌++◌, ◌∷◌, [], IfOk, IfErr, OnOk, length, Some, slice_get};
 ghost use Rattle.snd_base.specs.declared.geometry.Geometry.{Geometry};
-ghost use Rattle.lab_script.specs.Script.{IsBound, IsCardLine, IsScript};
+ghost use Rattle.short_script.specs.Script.{IsBound, IsCardLine, IsScript};
 ghost use Rattle.lab_phase.specs.Meaning.{AreFiles};
 ghost use Rattle.lab_phase.specs.Opening.{IsRingOf};
 ghost use Rattle.lab_phase.specs.Stages.{AddsSeat, HasOpened, IsOpeningRow};
@@ -10,10 +10,10 @@ use crate::body::Body;
 use crate::opening::open_client;
 use crate::seat::Seat;
 use dmix_client::Client;
-use lab_report::{Answer, Row};
-use lab_script::{Actor, CardLine, ClientLine, Op, Script};
 use mix_core::Core;
 use pcm_states::State;
+use short_report::{Answer, Row};
+use short_script::{Actor, CardLine, ClientLine, Op, Script};
 use snd_base::{Geometry, PcmError, Why};
 use std::alloc::Global;
 use wav_io::Wav;

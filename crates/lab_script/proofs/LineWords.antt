@@ -1,6 +1,6 @@
 -- The first line of a text and the first word of a line, taken off.
-use Rattle.std.proofs.Common.{◌≡◌, ◌≢◌, ℕ, ◌+◌, ◌-◌, ◌<◌, ◌≤◌, Bool, true, false, not, cond, List, [], ◌∷◌, length, take, drop, get_or, filter, refl, ap, sym, ◌∙◌, arith, Some, None, option_map, suc, one-add, add-zero}
-use Rattle.std.specs.List.{slice_split, position, position_or_len, prefix_len}
+use Rattle.std.proofs.Common.{◌≡◌, ◌≢◌, ℕ, ◌+◌, ◌-◌, ◌<◌, ◌≤◌, Bool, true, false, not, cond, List, [], ◌∷◌, length, take, drop, get_or, filter, refl, ap, sym, ◌∙◌, arith, Some, None, suc, one-add, add-zero}
+use Rattle.std.specs.List.{slice_split, position, position_or_len}
 use Rattle.std.proofs.lemmas.Bool.{false≢true}
 use Rattle.std.proofs.lemmas.Bool.Decides.{nat_tests}
 use Rattle.std.proofs.lemmas.List.{drop_all, length-take, get_or-drop}
@@ -48,7 +48,7 @@ words_between-skip : (line : List ℕ) → words_between (drop (position_or_len 
 words_between-skip [] = refl
 words_between-skip (b ∷ bs) = skip-cons b bs (is_blank b) refl (words_between-skip bs)
 
--- where nothing passes, the first place is behind the end
+-- where nothing passes, the first place is after the end
 position_end : (p : ℕ → Bool) (xs : List ℕ) → position p xs ≡ None → length xs ≤ position_or_len p xs
 position_end p xs e = grind (arith, nat_tests)
 

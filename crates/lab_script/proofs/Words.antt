@@ -1,5 +1,5 @@
 -- Lines, words and digits.
-use Rattle.std.proofs.Common.{◌≡◌, ℕ, ◌+◌, ◌-◌, ◌*◌, ◌^◌, ◌<◌, ◌≤◌, Bool, true, false, List, [], ◌∷◌, length, take, drop, get_or, refl, ap, ◌∙◌, arith, Some, None, option_map, ◌&&◌, zero, suc, IsAscii}
+use Rattle.std.proofs.Common.{◌≡◌, ℕ, ◌+◌, ◌-◌, ◌*◌, ◌^◌, ◌<◌, ◌≤◌, Bool, true, false, List, [], ◌∷◌, length, take, drop, get_or, refl, ap, ◌∙◌, arith, Some, None, ◌&&◌, zero, suc, IsAscii}
 use Rattle.std.specs.List.{slice_split, position, position_or_len, list_all}
 use Rattle.std.specs.Str.{all_ascii_digits}
 use Rattle.std.specs.Char.{is_ascii_digit}
@@ -10,19 +10,18 @@ use Rattle.std.proofs.lemmas.Str.{digit_value_digit}
 use Rattle.std.proofs.lemmas.Str.Parse.{IsNumeralModel, numerals_by_value, tells_all_ascii_digits, digit_at, digits_value_short, digits_value-take-le}
 use Rattle.std.proofs.lemmas.Int.Digits.{digits_value_more}
 use Rattle.std.proofs.lemmas.List.{take_all, length-drop}
-use Rattle.lab_script.specs.Grammar.{one_of, two_of, first_of}
-use Rattle.std.proofs.lemmas.List.Splits.{length-slice_split, slice_split_first, slice_split_none}
+use Rattle.std.proofs.lemmas.List.Splits.{slice_split_first, slice_split_none}
 use Rattle.std.proofs.lemmas.Bool.Decides.{nat_tests}
 use Rattle.std.proofs.lemmas.Option.{cond_some}
 use Rattle.std.proofs.lemmas.List.Sums.{fails_before_first}
-use Rattle.lab_script.specs.Word.{cut_line, is_feed, is_space, words_of, is_name, is_name_byte, is_file, is_file_byte}
+use Rattle.lab_script.specs.Word.{is_name, is_name_byte, is_file, is_file_byte}
 
 -- digits, one by one
 pub all_digits : (ds : List ℕ) → list_all is_ascii_digit ds ≡ all_ascii_digits ds
 all_digits [] = refl
 all_digits (d ∷ ds) = ap (λ b. is_ascii_digit d && b) (all_digits ds)
 
--- what stands behind a place
+-- what follows a place
 pub take-drop : (i : ℕ) (xs : List ℕ) → take (length xs - i) (drop i xs) ≡ drop i xs
 take-drop i xs = take_all (length xs - i) (drop i xs) (omega (arith, length-drop i xs))
 
@@ -32,9 +31,6 @@ position_place p xs i e = grind (arith, nat_tests, cond_some)
 pub position_missing : (p : ℕ → Bool) (xs : List ℕ) (k : ℕ) → position p xs ≡ None → k < length xs → k < position_or_len p xs
 position_missing p xs k e h = grind (arith, nat_tests)
 
-pub cut-at : (text : List ℕ) (i : ℕ) → position is_feed text ≡ Some i → Some (take i text, take (length text - (i + 1)) (drop (i + 1) text)) ≡ cut_line text
-cut-at text i e = rw (e, take-drop (i + 1) text) refl
-
 pub split_at : (p : ℕ → Bool) (xs : List ℕ) (i : ℕ) → position p xs ≡ Some i → slice_split p xs ≡ take i xs ∷ slice_split p (take (length xs - (i + 1)) (drop (i + 1) xs))
 split_at p xs i e =
     let h = position_place p xs i e in
@@ -42,12 +38,6 @@ split_at p xs i e =
 
 pub split_none : (p : ℕ → Bool) (xs : List ℕ) → position p xs ≡ None → slice_split p xs ≡ xs ∷ []
 split_none p xs e = slice_split_none p xs (λ k d h. fails_before_first p xs k d (position_missing p xs k e h))
-
-pub words_at : (line : List ℕ) (i : ℕ) → position is_space line ≡ Some i → words_of line ≡ take i line ∷ words_of (take (length line - (i + 1)) (drop (i + 1) line))
-words_at line i e = split_at is_space line i e
-
-pub words_none : (line : List ℕ) → position is_space line ≡ None → words_of line ≡ line ∷ []
-words_none line e = split_none is_space line e
 
 own : IsNumeralModel (λ ds. all_ascii_digits ds ≡ true) (digits_value 10)
 own = numerals_by_value _ tells_all_ascii_digits
@@ -70,28 +60,6 @@ digit_more ds i e h n =
       step = omega (arith, more, v);
       bound = omega (arith, digits_value-take-le 10 ds (i + 1) (omega arith), digits_value_short own ds 19 e n);
     }
-
--- a line has a word
-pub words_some : (line : List ℕ) → 0 < length (words_of line)
-words_some line = omega (arith, length-slice_split is_space line)
-
-pub one_none : (w : List ℕ) (ws : List (List ℕ)) → 0 < length ws → one_of (w ∷ ws) ≡ None
-one_none w [] h = absurd (omega arith)
-one_none w (x ∷ ws) h = refl
-
-pub first_some : (w : List ℕ) (ws : List (List ℕ)) → 0 < length ws → first_of (w ∷ ws) ≡ Some (w, ws)
-first_some w [] h = absurd (omega arith)
-first_some w (x ∷ ws) h = refl
-
-pub two_from : (w : List ℕ) (ws : List (List ℕ)) → two_of (w ∷ ws) ≡ option_map (λ x. (w, x)) (one_of ws)
-two_from w [] = refl
-two_from w (x ∷ []) = refl
-two_from w (x ∷ y ∷ ws) = refl
-
-pub first_at : (line : List ℕ) (i : ℕ) → position is_space line ≡ Some i → first_of (words_of line) ≡ Some (take i line, words_of (take (length line - (i + 1)) (drop (i + 1) line)))
-first_at line i e =
-    let rest = take (length line - (i + 1)) (drop (i + 1) line) in
-    ap first_of (words_at line i e) ∙ first_some (take i line) (words_of rest) (words_some rest)
 
 -- a conjunction's parts
 pub both : (a b : Bool) → (a && b) ≡ true → (a ≡ true) × (b ≡ true)

@@ -15,7 +15,7 @@ is_of_word b = not (is_blank b)
 abbrev pub is_hash : ℕ → Bool
 is_hash b = b == 35
 
--- a line without the carriage return at its very end, where one stands there
+-- a line without the carriage return at its very end, where there is one
 abbrev pub without_return : List ℕ → List ℕ
 without_return line = if slice_index_or line (length line - 1) 0 == 13 then take (length line - 1) line else line
 
@@ -24,11 +24,11 @@ abbrev pub is_word : List ℕ → Bool
 is_word [] = false
 is_word (b ∷ bs) = true
 
--- the words of a line without a comment: what stands between its spaces and tabs, but for nothing
+-- the words of a line without a comment: what is between its spaces and tabs, but for nothing
 abbrev pub words_between : List ℕ → List (List ℕ)
 words_between line = filter is_word (slice_split is_blank line)
 
--- the words of a line: its carriage return is dropped, and then `#` and all behind it
+-- the words of a line: its carriage return is dropped, and then `#` and all after it
 abbrev pub words_in : List ℕ → List (List ℕ)
 words_in line = words_between (before_first is_hash (without_return line))
 

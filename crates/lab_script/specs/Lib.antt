@@ -1,7 +1,10 @@
-pub mod Script
 pub mod Word
-pub mod Grammar
-pub mod Reading
-pub mod Spelling
-pub mod First
 pub mod Lexing
+pub mod Causes
+pub mod Keys
+pub mod Ops
+pub mod Script
+pub mod Limits
+pub mod Runs
+pub mod Draft
+pub mod Reading

@@ -1,19 +1,23 @@
--- What a script says, and which scripts there are.
-use Rattle.std.specs.Prelude.{◌≡◌, ◌≢◌, ℕ, ◌*◌, ◌%◌, ◌<◌, ◌≤◌, List, length, sum_by, Option, Some, None, Ok, All, AllPairs}
-use Rattle.bindings.specs.Answers.{answer_of}
+-- What a script says: its phases, the frames that the card plays in them, and the positions that it publishes.
+use Rattle.std.specs.Prelude.{◌≡◌, ℕ, ◌+◌, ◌-◌, ◌*◌, ◌<◌, ◌≤◌, ◌⊎◌, Bool, true, false, ◌&&◌, not, List, [], ◌∷◌, take, length, sum_by, slice_index_or}
+use Rattle.std.specs.List.{list_any}
 use Rattle.lab_script.specs.declared.line.Actor.{Actor}
-use Rattle.lab_script.specs.declared.line.Actor.TheVariants.{Card, Client}
+use Rattle.lab_script.specs.declared.line.Actor.TheVariants.{Card, Client, Reader}
+use Rattle.lab_script.specs.declared.line.Item.{Item}
+use Rattle.lab_script.specs.declared.line.Item.TheVariants as item
 use Rattle.lab_script.specs.declared.line.Line.{Line}
 use Rattle.lab_script.specs.declared.line.Op.{Op}
 use Rattle.lab_script.specs.declared.line.Op.TheVariants as op
 use Rattle.lab_script.specs.declared.script.CardLine.{CardLine}
-use Rattle.lab_script.specs.declared.script.ClientLine.{ClientLine}
 use Rattle.lab_script.specs.declared.script.Script.{Script}
+use Rattle.lab_script.specs.Ops.{played_by}
 
--- the frames that the card plays by what is asked for
-abbrev pub played_by : Op → ℕ
-played_by (op.Play frames) = frames
-played_by other = 0
+-- the phases of a body, in order
+abbrev pub phases_of : List Item → List (List Line)
+phases_of [] = []
+phases_of (item.Phase lines ∷ items) = lines ∷ phases_of items
+phases_of (item.Opens number actor ∷ items) = phases_of items
+phases_of (item.Closes number actor ∷ items) = phases_of items
 
 -- the frames that the card plays by some lines
 abbrev pub played_in : List Line → ℕ
@@ -23,57 +27,49 @@ played_in lines = sum_by (λ (line : Line). played_by line.op) lines
 abbrev pub frames_played : List (List Line) → ℕ
 frames_played phases = sum_by played_in phases
 
--- an actor is the card, or one of so many clients
-abbrev pub IsActor : ℕ → Actor → Type 0
-IsActor clients Card = Unit {0}
-IsActor clients (Client number) = number < clients
+-- the frame at which the card begins
+abbrev pub first_frame : CardLine → ℕ
+first_frame card = card.lap * card.ring
 
--- what an actor can be asked for: the card to play, a client for each of its calls; at most 4194304 frames
-abbrev pub IsOpOf : Actor → Op → Type 0
-IsOpOf Card (op.Play frames) = frames ≤ 4194304
-IsOpOf Card other = ⊥
-IsOpOf (Client number) (op.Play frames) = ⊥
-IsOpOf (Client number) op.Opens = ⊥
-IsOpOf (Client number) (op.Write frames) = frames ≤ 4194304
-IsOpOf (Client number) other = Unit {0}
+-- the position of the card after so many phases
+abbrev pub position_after : Script → ℕ → ℕ
+position_after script phases = first_frame script.card + frames_played (take phases (phases_of script.body))
 
--- a line is of an actor that there is, and asks for something that this actor can be asked for
-pub record IsLine (clients : ℕ) (line : Line) : Type 0 where
-  pub actor : IsActor clients line.actor
-  pub op : IsOpOf line.actor line.op
+-- the lines of the phase of this number, from 1
+abbrev pub phase_at : Script → ℕ → List Line
+phase_at script phase = slice_index_or (phases_of script.body) (phase - 1) []
 
--- two lines are of one actor
-abbrev pub AreOfOne : Line → Line → Type 0
-AreOfOne a b = a.actor ≡ b.actor
+-- a position that the card publishes in the phase of this number, or has before it: where the phase begins, a multiple of the
+-- period on the way, or after one of its lines
+abbrev pub IsPublished : Script → ℕ → ℕ → Type 0
+IsPublished script phase position =
+    (position ≡ position_after script (phase - 1))
+    ⊎ (((k : ℕ) × (position ≡ k * script.card.period) × (position_after script (phase - 1) ≤ position) × (position < position_after script phase))
+    ⊎ ((lines : ℕ) × (lines ≤ length (phase_at script phase)) × (position ≡ position_after script (phase - 1) + played_in (take lines (phase_at script phase)))))
 
--- a phase: any number of lines, all of one actor
-pub record IsPhase (clients : ℕ) (lines : List Line) : Type 0 where
-  pub each : All (IsLine clients) lines
-  pub one : AllPairs AreOfOne lines
+-- it is asked of the card
+abbrev pub is_of_card : Actor → Bool
+is_of_card Card = true
+is_of_card (Client number) = false
+is_of_card (Reader number) = false
 
--- the card's numbers are in their ranges, and its period divides its ring at least twice
-pub record IsCardLine (card : CardLine) : Type 0 where
-  pub channels_low : 1 ≤ card.channels
-  pub channels_high : card.channels ≤ 8
-  pub rate_low : 4000 ≤ card.rate
-  pub rate_high : card.rate ≤ 192000
-  pub ring_low : 64 ≤ card.ring
-  pub ring_high : card.ring ≤ 16384
-  pub period_low : 16 ≤ card.period
-  pub period_high : 2 * card.period ≤ card.ring
-  pub period_divides : card.ring % card.period ≡ 0
+-- a line is of the card
+abbrev pub is_card_line : Line → Bool
+is_card_line line = is_of_card line.actor
 
--- bindings, where they are given, are such as `Bindings::read` gives on a card of so many channels
-abbrev pub IsBound : ℕ → Option (List ℕ) → Type 0
-IsBound channels None = Unit {0}
-IsBound channels (Some list) = answer_of list channels ≡ Ok list
+-- a phase is mixed where the card and another actor have lines in it
+abbrev pub is_mixed : List Line → Bool
+is_mixed lines = list_any is_card_line lines && list_any (λ (line : Line). not (is_card_line line)) lines
 
--- a script of this form: names differ, bindings fit the card, each phase is of one actor, and the limits are kept
-pub record IsScript (script : Script) : Type 0 where
-  pub card : IsCardLine script.card
-  pub clients : length script.clients ≤ 64
-  pub distinct : AllPairs (λ (a : ClientLine) (b : ClientLine). a.name ≢ b.name) script.clients
-  pub bindings : All (λ (client : ClientLine). IsBound script.card.channels client.bindings) script.clients
-  pub phases : length script.phases ≤ 4096
-  pub each : All (IsPhase (length script.clients)) script.phases
-  pub frames : frames_played script.phases ≤ 4194304
+-- the card is unplugged by what is asked for
+abbrev pub is_unplug : Op → Bool
+is_unplug op.Unplug = true
+is_unplug other = false
+
+-- the card is unplugged in a phase
+abbrev pub unplugs : List Line → Bool
+unplugs lines = list_any (λ (line : Line). is_unplug line.op) lines
+
+-- the card is gone in the phase of this number, from 1: it was unplugged in an earlier one
+abbrev pub is_gone : Script → ℕ → Bool
+is_gone script phase = list_any unplugs (take (phase - 1) (phases_of script.body))

@@ -1,6 +1,6 @@
--- The lines of a text, the words of a line, and which words are numbers, names and files.
-use Rattle.std.specs.Prelude.{ℕ, Bool, false, ◌&&◌, ◌||◌, not, List, [], ◌∷◌, length, take, drop, option_map, ◌+◌, codes, bytes_eq, Option, Some, None, ◌==◌, nat_le, if◌then◌else◌}
-use Rattle.std.specs.List.{slice_split, position, list_all}
+-- Which words are numbers, names and files, and the parts of a list.
+use Rattle.std.specs.Prelude.{ℕ, Bool, false, ◌&&◌, ◌||◌, not, List, [], ◌∷◌, length, codes, bytes_eq, Option, Some, None, ◌==◌, nat_le, if◌then◌else◌}
+use Rattle.std.specs.List.{slice_split, list_all}
 use Rattle.std.specs.Str.{all_ascii_digits}
 use Rattle.std.specs.Char.{is_ascii_digit}
 use Rattle.std.specs.Str.Parse.{digits_value}
@@ -13,19 +13,11 @@ is_feed b = b == 10
 abbrev pub is_space : ℕ → Bool
 is_space b = b == 32
 
--- the first line of a text and the text behind its line feed, where there is a line feed
-abbrev pub cut_line : List ℕ → Option (List ℕ × List ℕ)
-cut_line text = option_map (λ i. (take i text, drop (i + 1) text)) (position is_feed text)
-
--- the words of a line: what stands between its spaces
-abbrev pub words_of : List ℕ → List (List ℕ)
-words_of line = slice_split is_space line
-
 -- a comma
 abbrev pub is_comma : ℕ → Bool
 is_comma b = b == 44
 
--- the parts of a word: what stands between its commas
+-- the parts of a word: what is between its commas
 abbrev pub parts_of : List ℕ → List (List ℕ)
 parts_of word = slice_split is_comma word
 

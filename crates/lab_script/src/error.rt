@@ -7,13 +7,13 @@ pub enum ScriptWhy {
     /// A line begins with a word of the language that can't begin a line here.
     #[error("Order")]
     Order,
-    /// A word isn't one of those that can stand here.
+    /// A word isn't one of those allowed here.
     #[error("Word")]
     Word,
-    /// The line ends where a word must stand.
+    /// The line ends where a word must follow.
     #[error("Missing")]
     Missing,
-    /// A word stands behind a line that is whole.
+    /// A word follows a line that is whole.
     #[error("Extra")]
     Extra,
     /// A declared name isn't of the form of a name.
@@ -28,7 +28,7 @@ pub enum ScriptWhy {
     /// A number is out of its range.
     #[error("Range")]
     Range,
-    /// A key stands a second time on its line.
+    /// A key is given a second time on its line.
     #[error("KeyTwice")]
     KeyTwice,
     /// A name is declared a second time.
@@ -73,7 +73,8 @@ pub enum ScriptWhy {
     /// The text is longer than a script may be.
     #[error("TooLong")]
     TooLong,
-    /// The line is right or wrong in a way that this release doesn't read yet.
+    /// The line is right, and the lab can't run it yet. [`crate::not_yet`] tells which line that is; the
+    /// reader never refuses for it.
     #[error("NotYet")]
     NotYet,
     /// Memory ran out.
@@ -90,30 +91,24 @@ pub struct ScriptError {
     pub why: ScriptWhy,
 }
 
-impl From<AllocError> for ScriptError {
+impl From<AllocError> for ScriptWhy {
     ghost use Rattle.std.specs.Prelude.{◌≡◌};
     ghost use Rattle.lab_script.specs.declared.error.ScriptWhy.TheVariants as why;
 
-    ghost from_gives = { λ _ e. e.why ≡ why.Memory };
+    ghost from_gives = { λ _ e. e ≡ why.Memory };
 
-    fn from(_error: AllocError) -> ScriptError {
-        ScriptError {
-            line: 0,
-            why: ScriptWhy::Memory,
-        }
+    fn from(_error: AllocError) -> ScriptWhy {
+        ScriptWhy::Memory
     }
 }
 
-impl<T: Drop> From<AllocFailed<T>> for ScriptError {
+impl<T: Drop> From<AllocFailed<T>> for ScriptWhy {
     ghost use Rattle.std.specs.Prelude.{◌≡◌};
     ghost use Rattle.lab_script.specs.declared.error.ScriptWhy.TheVariants as why;
 
-    ghost from_gives = { λ _ e. e.why ≡ why.Memory };
+    ghost from_gives = { λ _ e. e ≡ why.Memory };
 
-    fn from(_error: AllocFailed<T>) -> ScriptError {
-        ScriptError {
-            line: 0,
-            why: ScriptWhy::Memory,
-        }
+    fn from(_error: AllocFailed<T>) -> ScriptWhy {
+        ScriptWhy::Memory
     }
 }

@@ -1,25 +1,33 @@
-//! Scripts: what the card does, which clients there are, and what each of them does in each phase.
+//! Scripts: the card, the clients and readers that it has, and what each of them does in each phase.
 #![tactic(auto)]
 
-mod calls;
+mod card;
+mod causes;
+mod client;
+mod draft;
 mod error;
-mod front;
-mod grammar;
+mod keys;
+mod keyword;
 mod lexing;
 mod line;
-mod lists;
 mod name;
-mod phases;
+mod named;
+mod ops;
 mod reader;
+mod runs;
 mod script;
+mod steps;
+mod values;
 mod word;
 
 pub use error::{ScriptError, ScriptWhy};
 pub use lexing::{TextLine, next_line, next_word};
-pub use line::{Actor, Line, Op};
+pub use line::{Actor, Item, Line, Op, Phase};
 pub use name::{FileName, Name};
+pub use ops::{print_op, push_op};
 pub use reader::read_script;
-pub use script::{CardLine, ClientLine, Clients, Phase, Phases, Script};
+pub use runs::not_yet;
+pub use script::{Body, CardLine, ClientLine, Clients, ReaderLine, Readers, Script, Share, Stop};
 pub use word::read_number;
 
 #[cfg(test)]

@@ -19,7 +19,7 @@ impl Model for Name {
 }
 
 impl Name {
-    /// The name over a text, which is taken as it stands, whatever its form.
+    /// The name over a text, which is taken as it is, whatever its form.
     pub fn from_text(text: String) -> Name
         ensures { result ≡ string_bytes text }
     {
@@ -57,7 +57,7 @@ impl Model for FileName {
 }
 
 impl FileName {
-    /// The file's name over a text, which is taken as it stands, whatever its form.
+    /// The file's name over a text, which is taken as it is, whatever its form.
     pub fn from_text(text: String) -> FileName
         ensures { result ≡ string_bytes text }
     {

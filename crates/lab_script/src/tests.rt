@@ -1,10 +1,8 @@
 //! Scripts that are read, and texts that are refused, each with its line.
 use super::*;
-use bindings::Bindings;
+use crate::error::ScriptWhy as Why;
 use std::alloc::{AllocError, Global};
 use std::test::*;
-
-const CARD: &str = "card channels 1 rate 48000 period 16 ring 64\n";
 
 /// The line and the cause of a refusal.
 fn refusal(alloc: Global, text: &[u8]) -> Option<(u32, ScriptWhy)> {
@@ -14,314 +12,330 @@ fn refusal(alloc: Global, text: &[u8]) -> Option<(u32, ScriptWhy)> {
     }
 }
 
-/// The card's line and a text, so many times.
+/// A card's line and a text, so many times.
 fn repeated(alloc: Global, text: &str, times: u32) -> Result<String, AllocError> {
-    let mut all = String::from_str(alloc, CARD)?;
+    let mut all = String::from_str(alloc, "card\n")?;
     for _ in 0..times {
         all.push_str(text)?;
     }
     Ok(all)
 }
 
-/// The card's line and so many clients of different names.
-fn with_clients(alloc: Global, count: u32) -> Result<String, AllocError> {
-    let mut all = String::from_str(alloc, CARD)?;
-    for number in 0..count {
-        let line = format!(in alloc; "client c{number} f.wav\n")?;
-        all.push_str(line.as_str())?;
-    }
-    Ok(all)
-}
-
-/// The script of the card's line and a text.
-fn script_of(alloc: Global, text: &str) -> Result<Script, Fail> {
-    let all = format!(in alloc; "{CARD}{text}")?;
-    let script = read_script(alloc, all.as_bytes())
-        .ok()
-        .ok_or("the text is a script")?;
-    Ok(script)
-}
-
 #[test]
-fn reads_each_field(rt: HostRuntime) -> Result<(), Fail> {
-    let text =
-        b"card channels 08 rate 44100 period 064 ring 256\nclient a x.wav\nclient b_2 dir/y.wav\nopen a\nopen b_2\nphase\nb_2 write 0064\nend\nphase\ncard play 4194304\nend\n";
-    let script = read_script(rt.alloc(), text)
-        .ok()
-        .ok_or("the text is a script")?;
-    assert_eq!(rt; script.card.channels, 8);
-    assert_eq!(rt; script.card.rate, 44100);
-    assert_eq!(rt; script.card.period, 64);
-    assert_eq!(rt; script.card.ring, 256);
-    assert_eq!(rt; script.clients.len(), 2);
-    for (client, want) in script
-        .clients
-        .as_slice()
-        .iter()
-        .zip([("a", "x.wav"), ("b_2", "dir/y.wav")])
-    {
-        assert_eq!(rt; client.name.as_str(), want.0);
-        assert_eq!(rt; client.file.as_str(), want.1);
-        assert_eq!(rt; client.bindings, None);
-    }
-    let want = [
-        (7, Actor::Client(1), Op::Write(64)),
-        (10, Actor::Card, Op::Play(4_194_304)),
-    ];
-    assert_eq!(rt; script.phases.as_slice().len(), 2);
-    for (phase, (number, actor, op)) in script.phases.as_slice().iter().zip(want) {
-        assert_eq!(rt; phase.as_slice(), [Line { number, actor, op }].as_slice());
-    }
-    Ok(())
-}
-
-#[test]
-fn reads_each_call_of_a_client(rt: HostRuntime) -> Result<(), Fail> {
-    let text =
-        "client a f\nopen a\nphase\na prepare\na write 7\na start\na sync\na avail\na delay\na pause\na drain\na drop\na write 007\nend\n";
-    let script = script_of(rt.alloc(), text)?;
-    let calls = [
-        Op::Prepare,
-        Op::Write(7),
-        Op::Start,
-        Op::Sync,
-        Op::Avail,
-        Op::Delay,
-        Op::Pause,
-        Op::Drain,
-        Op::Drop,
-        Op::Write(7),
-    ];
-    for phase in script.phases.as_slice() {
-        assert_eq!(rt; phase.len(), 10);
-        for (line, (place, op)) in phase.as_slice().iter().zip(calls.iter().enumerate()) {
-            assert_eq!(rt; line.number, 5 + place as u32);
-            assert_eq!(rt; line.actor, Actor::Client(0));
-            assert_eq!(rt; line.op, *op);
-        }
-    }
-    Ok(())
-}
-
-#[test]
-fn reads_phases_of_any_length(rt: HostRuntime) -> Result<(), Fail> {
-    let text =
-        "client a f\nopen a\nphase\nend\nphase\ncard play 0\ncard play 3\ncard play 4\nend\nphase\na write 1\nend\nphase\na write 2\na avail\nend\n";
-    let script = script_of(rt.alloc(), text)?;
-    let mut lengths = Vec::new(rt.alloc());
-    let mut last = 0;
-    for phase in script.phases.into_vec() {
-        lengths.push(phase.len())?;
-        for line in phase.into_vec() {
-            last = line.number;
-        }
-    }
-    assert_eq!(rt; lengths.as_slice(), [0, 3, 1, 2].as_slice());
-    assert_eq!(rt; last, 16);
-    Ok(())
-}
-
-#[test]
-fn reads_bindings(rt: HostRuntime) -> Result<(), Fail> {
-    let text =
-        b"card channels 3 rate 48000 period 16 ring 64\nclient a f bindings 2,000\nclient b g bindings 1\nclient c h\nclient bindings bindings\nopen a\nopen b\nopen c\nopen bindings\n";
-    let script = read_script(rt.alloc(), text)
-        .ok()
-        .ok_or("the text is a script")?;
-    let want = [
-        Bindings::read(&[2, 0], 3).ok(),
-        Bindings::read(&[1], 3).ok(),
-        None,
-        None,
-    ];
-    for (client, bindings) in script.clients.as_slice().iter().zip(want) {
-        assert_eq!(rt; client.bindings, bindings);
-    }
-    Ok(())
-}
-
-#[test]
-fn refuses_the_card(rt: HostRuntime) {
-    for text in [
-        "",
-        "\n",
-        "card channels 0 rate 48000 period 16 ring 64\n",
-        "card channels 9 rate 48000 period 16 ring 64\n",
-        "card channels eight rate 48000 period 16 ring 64\n",
-        "card  channels 1 rate 48000 period 16 ring 64\n",
-        "card channels 1 rate 48000 period 16 ring 64\r\n",
-        "card channels 1 rate 48000 period 16 ring 64",
-        "card channels 1 rate 48000 period 40 ring 96\n",
-        "card channels 1 rate 3999 period 16 ring 64\n",
-        "card channels 1 rate 00000000000000048000 period 16 ring 64\n",
-        "card rate 48000 channels 1 period 16 ring 64\n",
-        "client a f\n",
+fn refuses_each_line_of_its_own(rt: HostRuntime) -> Result<(), Fail> {
+    for (text, line, why) in [
+        ("# no words\n\n \t\r\n", 0, Why::NoCard),
+        ("client a f", 1, Why::Order),
+        ("foo", 1, Why::Word),
+        ("\n\ncard channels", 3, Why::Missing),
+        ("card channels 9", 1, Why::Range),
+        ("card rate 3999", 1, Why::Range),
+        ("card period 15", 1, Why::Range),
+        ("card period 9999999999999999999", 1, Why::Fit),
+        ("card period 40 ring 96", 1, Why::Fit),
+        ("card ring 64", 1, Why::Fit),
+        ("card places 65", 1, Why::Range),
+        ("card lap 4294967295", 1, Why::Range),
+        ("card rate 00000000000000048000", 1, Why::Number),
+        ("card ring x channels 2 ring 64", 1, Why::Number),
+        ("card rate 48000 rate", 1, Why::KeyTwice),
+        ("card rate 48000 rates 1", 1, Why::Word),
+        ("card buffer 64", 1, Why::Word),
+        ("card capture \x7f", 1, Why::File),
+        ("card share dsnoop", 1, Why::Word),
+        ("card\ncard", 2, Why::Order),
+        ("card\nplay", 2, Why::Word),
+        ("card\nend", 2, Why::Order),
+        ("card\nclient", 2, Why::Missing),
+        ("card\nclient A f", 2, Why::Name),
+        ("card\nclient end f", 2, Why::Name),
+        ("card\nclient a", 2, Why::Missing),
+        ("card\nclient a \x7f", 2, Why::File),
+        ("card\nclient a f plug linear plug", 2, Why::KeyTwice),
+        ("card\nclient a f plug cubic", 2, Why::Word),
+        ("card\nclient a f stop foo", 2, Why::Number),
+        ("card\nclient a f lead 9999999999999999999", 2, Why::Fit),
+        ("card\nclient a f lead 8192", 2, Why::Fit),
+        ("card\nclient a f start 65537", 2, Why::Range),
+        ("card\nclient a f bindings 0,,1", 2, Why::Number),
+        ("card\nclient a f bindings 0,4294967296", 2, Why::Range),
+        (
+            "card\nclient a f bindings 0,1,0,1,0,1,0,1,0",
+            2,
+            Why::BindingsTooMany,
+        ),
+        ("card\nclient a f bindings 2", 2, Why::BindingRange(2)),
+        ("card\nclient a f bindings 1,1", 2, Why::BindingTwice(1)),
+        ("card\nclient a f\nclient a g lead 8192", 3, Why::NameTwice),
+        ("card\nclient a f\nreader a", 3, Why::NameTwice),
+        ("card\nreader r lead 64", 2, Why::Word),
+        ("card\nclient a f\nopen a\nclient b f", 4, Why::Order),
+        ("card\nopen", 2, Why::Missing),
+        ("card\nopen b", 2, Why::Word),
+        ("card\nopen card", 2, Why::Word),
+        ("card\nclient a f\nopen a b", 3, Why::Extra),
+        ("card\nclient a f\na write 1", 3, Why::Order),
+        ("card\nphase 1", 2, Why::Extra),
+        ("card\nphase\n\nphase", 4, Why::Order),
+        ("card\nphase\nb write 1", 3, Why::Word),
+        ("card\nphase\ncard", 3, Why::Missing),
+        ("card\nphase\ncard write 1", 3, Why::Word),
+        ("card\nphase\ncard play", 3, Why::Missing),
+        ("card\nphase\ncard play -1", 3, Why::Number),
+        ("card\nphase\ncard play 4194305", 3, Why::Range),
+        ("card\nphase\ncard play 1 1", 3, Why::Extra),
+        ("card\nphase\ncard play 1\ncard unplug", 4, Why::Alone),
+        (
+            "card\nphase\ncard play 4194304\ncard play 1",
+            4,
+            Why::Frames,
+        ),
+        ("card\nphase\ncard play 1\nend end", 4, Why::Extra),
+        ("card\nphase\ncard play 1\n# the end\n", 2, Why::Unended),
+        ("card\nclient a f\nphase\na play 1", 4, Why::Word),
+        ("card\nclient a f\nphase\na read 1", 4, Why::Word),
+        ("card\nclient a f\nphase\na die 1000001", 4, Why::Range),
+        ("card\nphase\ncard unplug\ncard unplug", 4, Why::Alone),
+        (
+            "card\nphase\ncard unplug\nend\nphase\ncard play 0",
+            6,
+            Why::Unplugged,
+        ),
+        (
+            "card ring 256 period 64 lap 4294967293\nphase\ncard play 256\nend\nphase\ncard play 256",
+            6,
+            Why::LapEnd,
+        ),
+        ("card\nreader r\nphase\nr write 1", 4, Why::Word),
+        ("card\nreader r\nphase\nr drain", 4, Why::Word),
+        ("card\nreader r\nopen r\nreader q", 4, Why::Order),
     ] {
         assert_eq!(rt;
             refusal(rt.alloc(), text.as_bytes()),
-            Some((1, ScriptWhy::NotYet)),
+            Some((line, why)),
             "at {text}"
         );
     }
-    let longest = b"card channels 2 rate 0000000000000048000 period 16 ring 64\n";
-    assert_eq!(rt; refusal(rt.alloc(), longest), None);
-}
-
-/// The line and the cause of a refusal of the card's line and a text.
-fn refusal_behind_card(alloc: Global, text: &str) -> Result<Option<(u32, ScriptWhy)>, AllocError> {
-    let all = format!(in alloc; "{CARD}{text}")?;
-    Ok(refusal(alloc, all.as_bytes()))
-}
-
-#[test]
-fn refuses_clients(rt: HostRuntime) -> Result<(), Fail> {
-    for (text, line) in [
-        ("\n", 2),
-        ("client A f\n", 2),
-        ("client end f\n", 2),
-        ("client a23456789012345678901234567890123 f\n", 2),
-        ("client a x#y\n", 2),
-        ("client a\n", 2),
-        ("client a f\nclient a g\n", 3),
-        ("client a f\nphase\n", 3),
-        ("client a f\nclient b g\nopen b\nopen a\n", 4),
-        ("client a f\n", 3),
-    ] {
-        let refused = refusal_behind_card(rt.alloc(), text)?;
-        assert_eq!(rt; refused, Some((line, ScriptWhy::NotYet)), "at {text}");
-    }
+    assert_eq!(rt; refusal(rt.alloc(), b"card rate 0000000000000048000"), None);
     Ok(())
 }
 
 #[test]
-fn refuses_bindings(rt: HostRuntime) -> Result<(), Fail> {
-    for bindings in [
-        "bindings",
-        "bindings ",
-        "bindings ,0",
-        "bindings 0,",
-        "bindings 0,,1",
-        "bindings zero",
-        "bindings 0, 1",
-        "bindings 4294967296",
-        "bindings 3",
-        "bindings 0,3",
-        "bindings 1,1",
-        "bindings 0,1,0",
-        "bindings 0,1,2,0,1,2,0,1,2",
-        "bindings 00000000000000000000",
-        "bindings 0 bindings 1",
-        "binding 0",
-        "period 16",
-    ] {
-        let text = format!(in rt.alloc();
-            "card channels 3 rate 48000 period 16 ring 64\nclient a f {bindings}\nopen a\n"
-        )?;
-        assert_eq!(rt;
-            refusal(rt.alloc(), text.as_bytes()),
-            Some((2, ScriptWhy::NotYet)),
-            "at {bindings}"
-        );
-    }
-    Ok(())
-}
-
-#[test]
-fn refuses_phases(rt: HostRuntime) -> Result<(), Fail> {
-    for (text, line) in [
-        ("phase\n", 3),
-        ("phase\nz write 1\nend\n", 3),
-        ("phase\ncard play 1\nend", 4),
-        ("phase\ncard play 1\nphase\nend\n", 4),
-        ("phase\ncard write 1\nend\n", 3),
-        ("phase\ncard play\nend\n", 3),
-        ("phase\ncard play 1 \nend\n", 3),
-        ("phase\ncard unplug\nend\n", 3),
-        (
-            "phase\ncard play 4194304\nend\nphase\ncard play 1\nend\n",
-            6,
-        ),
-        ("phase\ncard play 4194304\ncard play 1\nend\n", 4),
-    ] {
-        let refused = refusal_behind_card(rt.alloc(), text)?;
-        assert_eq!(rt; refused, Some((line, ScriptWhy::NotYet)), "at {text}");
-    }
-    Ok(())
-}
-
-#[test]
-fn refuses_lines_of_clients(rt: HostRuntime) -> Result<(), Fail> {
-    for (lines, line) in [
-        ("a write 4194305\n", 7),
-        ("a write\n", 7),
-        ("a play 1\n", 7),
-        ("a\n", 7),
-        ("a start 1\n", 7),
-        ("a resume\n", 7),
-        ("a read 1\n", 7),
-        ("a die 1\n", 7),
-        ("a drai\n", 7),
-        ("a  drop\n", 7),
-        ("\n", 7),
-        ("open a\n", 7),
-        ("a write 1\nb write 1\n", 8),
-        ("a write 1\ncard play 1\n", 8),
-        ("card play 1\na write 1\n", 8),
-        ("a write 1\na avail\nb avail\na avail\n", 9),
-    ] {
-        let text = format!(in rt.alloc();
-            "client a f\nclient b f\nopen a\nopen b\nphase\n{lines}end\n"
-        )?;
-        let refused = refusal_behind_card(rt.alloc(), text.as_str())?;
-        assert_eq!(rt; refused, Some((line, ScriptWhy::NotYet)), "at {lines}");
+fn reads_keys_in_any_order(rt: HostRuntime) -> Result<(), Fail> {
+    let text = b"\t# a session\n card ring 00256 period 64\tchannels 3 # mono\r\n\n\
+        client play write.wav bindings 2,0\r\nclient b b.wav lead 64 # the period\nopen play\nphase\nplay write 064\n\
+        play drain\nend\nphase\nend\nphase\ncard play 1\ncard play 2\nend\nopen b";
+    let script = read_script(rt.alloc(), text)
+        .ok()
+        .ok_or("the text is a script")?;
+    assert_eq!(rt; script.card.channels, 3);
+    assert_eq!(rt; script.card.rate, 48000);
+    assert_eq!(rt; script.card.period, 64);
+    assert_eq!(rt; script.card.ring, 256);
+    assert_eq!(rt; script.clients.len(), 2);
+    assert_eq!(rt; script.readers.len(), 0);
+    assert_eq!(rt; script.body.len(), 5);
+    let numbers = [4, 5];
+    for (client, number) in script.clients.into_vec().into_iter().zip(numbers) {
+        assert_eq!(rt; client.number, number);
+        assert_eq!(rt; client.lead, 64);
+        assert_eq!(rt; client.start, 1);
     }
     Ok(())
 }
 
 #[test]
 fn keeps_the_limits(rt: HostRuntime) -> Result<(), Fail> {
-    let clients = with_clients(rt.alloc(), 65)?;
-    assert_eq!(rt;
-        refusal(rt.alloc(), clients.as_bytes()),
-        Some((66, ScriptWhy::NotYet))
-    );
-    let lines = repeated(rt.alloc(), "phase\nend\n", 4096)?;
-    assert_eq!(rt; refusal(rt.alloc(), lines.as_bytes()), None);
     let phase = "phase\ncard play 1\nend\n";
     let most = repeated(rt.alloc(), phase, 4096)?;
     assert_eq!(rt; refusal(rt.alloc(), most.as_bytes()), None);
     let more = repeated(rt.alloc(), phase, 4097)?;
     assert_eq!(rt;
         refusal(rt.alloc(), more.as_bytes()),
-        Some((12290, ScriptWhy::NotYet))
+        Some((12290, ScriptWhy::TooMany))
     );
-    let long = repeated(rt.alloc(), "0123456789abcdef", 65534)?;
+    let long = repeated(rt.alloc(), "0123456789abcdef", 65536)?;
     assert_eq!(rt;
         refusal(rt.alloc(), long.as_bytes()),
         Some((0, ScriptWhy::TooLong))
     );
-    Ok(())
-}
-
-#[test]
-fn prints_a_refusal(rt: HostRuntime) -> Result<(), Fail> {
-    let error = ScriptError {
-        line: 7,
-        why: ScriptWhy::BindingRange(3),
-    };
+    let mut clients = String::from_str(rt.alloc(), "card\n")?;
+    for number in 0..65u32 {
+        let line = format!(in rt.alloc(); "client c{number} f.wav\n")?;
+        clients.push_str(line.as_str())?;
+    }
     assert_eq!(rt;
-        format!(in rt.alloc(); "{error}")?.as_str(),
-        "line 7: BindingRange 3"
+        refusal(rt.alloc(), clients.as_bytes()),
+        Some((66, ScriptWhy::TooMany))
     );
     Ok(())
 }
 
 #[test]
-fn gives_back_what_it_holds(rt: HostRuntime) -> Result<(), Fail> {
-    let script = script_of(rt.alloc(), "client a x.wav\nopen a\n")?;
-    for client in script.clients.into_vec() {
-        assert_eq!(rt; client.name.into_text().as_str(), "a");
-        assert_eq!(rt; client.file.into_text().as_str(), "x.wav");
+fn prints_ops(rt: HostRuntime) -> Result<(), Fail> {
+    for (op, want) in [
+        (Op::Write(64), "write 64"),
+        (Op::Die(0), "die 0"),
+        (Op::Rewindable, "rewindable"),
+        (Op::Opens, "open"),
+    ] {
+        let mut text = Vec::new(rt.alloc());
+        print_op(&op, &mut text)?;
+        assert_eq!(rt; text.as_slice(), want.as_bytes());
+    }
+    Ok(())
+}
+
+/// A script that has each line and each key of the language.
+const EVERYTHING: &[u8] =
+    b"card capture in.wav share dshare lap 3 places 2 ring 256 period 64 rate 8000 channels 4
+client a a.wav plug linear lead 0 stop 9 start 2 period 32 buffer 64 bindings 3,1
+reader r stop never bindings 0 buffer 128 period 16 start 7
+client write b.wav stop never
+open a
+open r
+phase
+a write 4194304
+a start
+a sync
+a avail
+a delay
+a pause
+a resume
+a rewind 0
+a rewindable
+a drain
+a drop
+a prepare
+a die 1000000
+card play 5
+r read 6
+r start
+r sync
+r avail
+r drop
+r prepare
+r pause
+r die 0
+end
+close r
+phase
+card unplug
+end
+close a
+";
+
+#[test]
+fn reads_a_script_with_everything(rt: HostRuntime) -> Result<(), Fail> {
+    let script = read_script(rt.alloc(), EVERYTHING)
+        .ok()
+        .ok_or("the text is a script")?;
+    let card = script.card;
+    assert_eq!(rt; card.number, 1);
+    assert_eq!(rt; (card.channels, card.rate, card.period), (4, 8000, 64));
+    assert_eq!(rt; (card.ring, card.places, card.lap), (256, 2, 3));
+    assert_eq!(rt; card.share, Share::Dshare);
+    let file = card.capture.ok_or("a file is captured")?;
+    assert_eq!(rt; file.as_str(), "in.wav");
+    let [client, other] = script.clients.as_slice() else {
+        return Err("there are two clients".into());
+    };
+    assert_eq!(rt; (client.number, client.name.as_str()), (2, "a"));
+    assert_eq!(rt; client.file.as_str(), "a.wav");
+    assert_eq!(rt; (client.buffer, client.period), (Some(64), Some(32)));
+    assert_eq!(rt; (client.start, client.lead), (2, 0));
+    assert_eq!(rt; client.stop, Some(Stop::At(9)));
+    assert!(rt; client.plug);
+    assert!(rt; client.bindings.is_some());
+    assert_eq!(rt; (other.number, other.name.as_str()), (4, "write"));
+    assert_eq!(rt; (other.start, other.lead), (1, 64));
+    assert_eq!(rt; other.stop, Some(Stop::Never));
+    assert!(rt; !other.plug);
+    let [reader] = script.readers.as_slice() else {
+        return Err("there is one reader".into());
+    };
+    assert_eq!(rt; (reader.number, reader.name.as_str()), (3, "r"));
+    assert_eq!(rt; (reader.buffer, reader.period), (Some(128), Some(16)));
+    assert_eq!(rt; (reader.start, reader.stop), (7, Some(Stop::Never)));
+    Ok(())
+}
+
+/// What the lines of the first phase of that script ask for.
+const OPS: [Op; 22] = [
+    Op::Write(4_194_304),
+    Op::Start,
+    Op::Sync,
+    Op::Avail,
+    Op::Delay,
+    Op::Pause,
+    Op::Resume,
+    Op::Rewind(0),
+    Op::Rewindable,
+    Op::Drain,
+    Op::Drop,
+    Op::Prepare,
+    Op::Die(1_000_000),
+    Op::Play(5),
+    Op::Read(6),
+    Op::Start,
+    Op::Sync,
+    Op::Avail,
+    Op::Drop,
+    Op::Prepare,
+    Op::Pause,
+    Op::Die(0),
+];
+
+#[test]
+fn reads_each_line_of_a_body(rt: HostRuntime) -> Result<(), Fail> {
+    let script = read_script(rt.alloc(), EVERYTHING)
+        .ok()
+        .ok_or("the text is a script")?;
+    let [
+        Item::Opens { actor: a, .. },
+        Item::Opens { actor: r, .. },
+        Item::Phase(lines),
+        Item::Closes { number, .. },
+        Item::Phase(gone),
+        Item::Closes { .. },
+    ] = script.body.as_slice()
+    else {
+        return Err("there are six items".into());
+    };
+    assert_eq!(rt; (*a, *r, *number), (Actor::Client(0), Actor::Reader(0), 31));
+    assert_eq!(rt; (lines.len(), gone.len()), (22, 1));
+    for (line, op) in lines.as_slice().iter().zip(OPS.iter()) {
+        assert_eq!(rt; line.op, *op);
+    }
+    Ok(())
+}
+
+#[test]
+fn tells_the_first_line_that_cannot_be_run(rt: HostRuntime) -> Result<(), Fail> {
+    for (text, line) in [
+        ("\ncard capture in.wav", Some(2)),
+        ("card share dshare", Some(1)),
+        ("card lap 1", Some(1)),
+        ("card places 63", Some(1)),
+        ("card\nreader r\nclient a f plug linear", Some(2)),
+        ("card\nclient a f stop never\nreader r", Some(2)),
+        ("card\nclient a f buffer 64", Some(2)),
+        ("card\nclient a f lead 1024\nopen a\nclose a", Some(4)),
+        ("card\nphase\nend\nphase\ncard unplug\nend", Some(5)),
+        ("card\nclient a f\nphase\na sync\na rewind 1\nend", Some(5)),
+        (
+            "card\nclient a f\nphase\na write 1\ncard play 1\nend",
+            Some(5),
+        ),
+        (
+            "card\nclient a f start 1\nopen a\nphase\na drain\na write 1\nend",
+            None,
+        ),
+    ] {
+        let script = read_script(rt.alloc(), text.as_bytes())
+            .ok()
+            .ok_or("the text is a script")?;
+        assert_eq!(rt; not_yet(&script), line, "at {text}");
     }
     Ok(())
 }

@@ -1,35 +1,25 @@
-//! The lines of a text, the words of a line, and the words that are numbers, names and files.
-ghost use Rattle.std.specs.Prelude.{◌≡◌, ◌≤◌, ◌<◌, ◌∷◌, [], true, length, option_map, IfSome, IfNone, ◌==◌};
+//! The words that are numbers, names and files, and the parts of a list.
+ghost use Rattle.std.specs.Prelude.{◌≡◌, ◌≤◌, ◌<◌, ◌∷◌, [], true, length, IfSome, IfNone, ◌==◌};
 ghost use Rattle.std.specs.List.{list_all, position};
 ghost use Rattle.std.specs.Str.{all_ascii_digits};
 ghost use Rattle.std.specs.Str.Parse.{digits_value};
-ghost use Rattle.lab_script.specs.Word.{cut_line, words_of, number_of, is_name, is_name_byte, is_file, is_file_byte, begins_lower, is_reserved};
-ghost use Rattle.lab_script.specs.Grammar.{one_of, two_of, first_of};
+ghost use Rattle.lab_script.specs.Word.{parts_of, number_of, is_name, is_name_byte, is_file, is_file_byte, begins_lower, is_reserved};
 
-/// Where a byte stands first.
-pub fn place_of(bytes: &[u8], byte: u8) -> Option<usize>
+/// Where a byte is first.
+fn place_of(bytes: &[u8], byte: u8) -> Option<usize>
     ensures { result ≡ position (λ b. b == byte) bytes.now }
 {
     bytes.iter().position(|b| *b == byte)
 }
 
-/// The first line of a text and what stands behind its line feed, where there is a line feed.
-pub fn cut_line(text: &[u8]) -> Option<(&[u8], &[u8])>
-    ensures value { option_map (λ c. (c.0.now, c.1.now)) result ≡ cut_line text.now }
-    ensures shorter { IfSome result (λ c. length c.1.now < length text.now) }
+/// The first part of a list and what follows its comma, where there is a comma.
+pub fn split_part(list: &[u8]) -> Option<(&[u8], &[u8])>
+    ensures some { IfSome result (λ c. parts_of list.now ≡ c.0.now ∷ parts_of c.1.now) }
+    ensures none { IfNone result (parts_of list.now ≡ list.now ∷ []) }
+    ensures shorter { IfSome result (λ c. length c.1.now < length list.now) }
 {
-    let end = place_of(text, b'\n')?;
-    Some((&text[..end], &text[end + 1..]))
-}
-
-/// The first word of a line and what stands behind its space, where there is a space.
-pub fn split_word(line: &[u8]) -> Option<(&[u8], &[u8])>
-    ensures some { IfSome result (λ c. words_of line.now ≡ c.0.now ∷ words_of c.1.now) }
-    ensures none { IfNone result (words_of line.now ≡ line.now ∷ []) }
-    ensures first { option_map (λ c. (c.0.now, words_of c.1.now)) result ≡ first_of (words_of line.now) }
-{
-    let end = place_of(line, b' ')?;
-    Some((&line[..end], &line[end + 1..]))
+    let end = place_of(list, b',')?;
+    Some((&list[..end], &list[end + 1..]))
 }
 
 /// Whether each byte of a word is a decimal digit.
@@ -72,7 +62,7 @@ fn is_name_byte(b: u8) -> bool
     b.is_ascii_lowercase() || b.is_ascii_digit() || b == b'_'
 }
 
-/// Whether each byte of a word can stand in a name.
+/// Whether each byte of a word can be in a name.
 fn are_name_bytes(word: &[u8]) -> bool
     ensures { result ≡ list_all is_name_byte word.now }
 {
@@ -116,7 +106,7 @@ fn is_file_byte(b: u8) -> bool
     33 <= b && b <= 126 && b != b'#'
 }
 
-/// Whether each byte of a word can stand in a file's name.
+/// Whether each byte of a word can be in a file's name.
 fn are_file_bytes(word: &[u8]) -> bool
     ensures { result ≡ list_all is_file_byte word.now }
 {

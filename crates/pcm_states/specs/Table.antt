@@ -9,7 +9,7 @@ use Rattle.snd_base.specs.declared.errors.XrunWhy.TheVariants.{Empty, Already, A
 use Rattle.pcm_states.specs.declared.states.State.{State}
 use Rattle.pcm_states.specs.declared.states.State.TheVariants.{Open, Setup, Prepared, Running, Xrun, Draining, Paused, Suspended, Disconnected}
 use Rattle.pcm_states.specs.declared.calls.Call.{Call}
-use Rattle.pcm_states.specs.declared.calls.Call.TheVariants.{HwParams, HwFree, SwParams, Prepare, Start, Transfer, Sync, Drop, Drain, Pause}
+use Rattle.pcm_states.specs.declared.calls.Call.TheVariants.{HwParams, HwFree, SwParams, Prepare, Start, Transfer, Sync, Drop, Drain, Pause, Resume}
 use Rattle.pcm_states.specs.declared.calls.Facts.{Facts}
 use Rattle.pcm_states.specs.declared.calls.Outcome.{Outcome}
 
@@ -25,6 +25,7 @@ pub data Cell : Type 0 where
   filling : Cell
   moving : Cell
   draining : Cell
+  resuming : Cell
 
 -- a row of the table: its cells under OPEN SETUP PREPARED RUNNING XRUN DRAINING PAUSED SUSPENDED DISCONNECTED
 abbrev pub row : Cell → Cell → Cell → Cell → Cell → Cell → Cell → Cell → Cell → State → Cell
@@ -42,15 +43,18 @@ row o s p r x d h z g Disconnected = g
 abbrev pub row_of : Bool → Call → State → Cell
 row_of _ HwParams = row (to Prepared) (to Prepared) (to Prepared) ebadfd ebadfd ebadfd ebadfd ebadfd enodev
 row_of _ HwFree = row ebadfd (to Open) (to Open) ebadfd ebadfd ebadfd ebadfd ebadfd enodev
-row_of _ SwParams = row ebadfd (to Setup) (to Prepared) (to Running) (to Xrun) (to Draining) ebadfd ebadfd enodev
+row_of _ SwParams = row ebadfd (to Setup) (to Prepared) (to Running) (to Xrun) (to Draining) (to Paused) ebadfd enodev
 row_of _ Prepare = row ebadfd (to Prepared) (to Prepared) ebadfd (to Prepared) ebadfd ebadfd ebadfd enodev
 row_of _ Start = row ebadfd ebadfd starting ebadfd ebadfd ebadfd ebadfd ebadfd enodev
 row_of _ Transfer = row ebadfd ebadfd filling moving already ebadfd ebadfd ebadfd enodev
-row_of _ Sync = row ebadfd ebadfd (to Prepared) moving already draining ebadfd ebadfd enodev
-row_of _ Drop = row ebadfd (to Setup) (to Setup) (to Setup) (to Setup) (to Setup) ebadfd ebadfd enodev
+row_of _ Sync = row ebadfd ebadfd (to Prepared) moving already draining (to Paused) ebadfd enodev
+row_of _ Drop = row ebadfd (to Setup) (to Setup) (to Setup) (to Setup) (to Setup) (to Setup) ebadfd enodev
 row_of false Drain = row ebadfd (to Setup) draining draining (to Setup) draining ebadfd ebadfd enodev
 row_of true Drain = row ebadfd ebadfd ebadfd ebadfd ebadfd ebadfd ebadfd ebadfd enodev
-row_of _ Pause = row eio eio eio eio eio eio eio eio eio
+row_of false Pause = row ebadfd ebadfd ebadfd (to Paused) ebadfd ebadfd ebadfd ebadfd enodev
+row_of true Pause = row eio eio eio eio eio eio eio eio eio
+row_of false Resume = row ebadfd ebadfd ebadfd ebadfd ebadfd ebadfd resuming ebadfd enodev
+row_of true Resume = row eio eio eio eio eio eio eio eio eio
 
 -- the call is done, and leaves this state
 abbrev pub done_in : State → Outcome
@@ -80,6 +84,10 @@ if_over f = option_map (λ (avail, seen). stopped_by (Avail avail seen)) f.over
 abbrev pub if_late : Facts → Option Outcome
 if_late f = option_map stopped_by f.late
 
+-- nothing is queued, so that a resume is a prepare
+abbrev pub if_none_left : Facts → Option Outcome
+if_none_left f = if nat_eq f.queued 0 then Some (done_in Prepared) else None
+
 -- nothing is queued any more, so that a drain is at its end
 abbrev pub if_played : Facts → Option Outcome
 if_played f = if nat_eq f.queued 0 then Some (done_in Setup) else None
@@ -106,6 +114,7 @@ outcome_of starting _ _ f = first_of (if_empty f ∷ if_gone f ∷ if_late f ∷
 outcome_of filling _ _ f = if f.starts then first_of (if_gone f ∷ if_late f ∷ []) (done_in Running) else done_in Prepared
 outcome_of moving _ _ f = first_of (if_gone f ∷ if_over f ∷ if_late f ∷ []) (done_in Running)
 outcome_of draining _ call f = first_of (if_gone f ∷ if_late f ∷ if_played f ∷ []) (still_draining call)
+outcome_of resuming _ _ f = first_of (if_none_left f ∷ if_gone f ∷ if_late f ∷ []) (done_in Running)
 
 -- the state and the answer after a call
 abbrev pub next_of : State → Call → Facts → Outcome

@@ -23,8 +23,10 @@ pub enum Call {
     Drop,
     /// `snd_pcm_drain`.
     Drain,
-    /// `snd_pcm_pause`.
+    /// `snd_pcm_pause` that pauses.
     Pause,
+    /// `snd_pcm_pause` that resumes.
+    Resume,
 }
 
 /// What a call found while it did its work.
@@ -32,7 +34,8 @@ pub enum Call {
 pub struct Facts {
     /// The stream captures; otherwise it plays.
     pub capture: bool,
-    /// How many written frames the card has not played yet.
+    /// How many written frames the card has not played yet; of a resume, how many were not given to
+    /// the card.
     pub queued: u64,
     /// The transfer reached the start threshold, so that it starts the stream.
     pub starts: bool,

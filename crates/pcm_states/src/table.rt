@@ -1,8 +1,8 @@
 //! The state table: what comes of each call in each state.
 ghost use Rattle.std.specs.Prelude.{◌≡◌, [], ◌∷◌};
-ghost use Rattle.pcm_states.specs.Table.{next_of, done_in, refused_in, first_of, if_gone, if_late, outcome_of, starting, filling, moving, draining};
-ghost use Rattle.pcm_states.specs.declared.states.State.TheVariants.{Prepared, Running, Draining};
-ghost use Rattle.pcm_states.specs.declared.calls.Call.TheVariants.{Start, Transfer};
+ghost use Rattle.pcm_states.specs.Table.{next_of, done_in, refused_in, first_of, if_gone, if_late, outcome_of, starting, filling, moving, draining, resuming};
+ghost use Rattle.pcm_states.specs.declared.states.State.TheVariants.{Prepared, Running, Draining, Paused};
+ghost use Rattle.pcm_states.specs.declared.calls.Call.TheVariants.{Start, Transfer, Resume};
 
 use crate::calls::{Call, Facts, Outcome};
 use crate::states::State;
@@ -10,13 +10,13 @@ use snd_base::{PcmError, XrunWhy};
 
 /// The state and the answer after `call` in `state`, where the call found `facts`.
 ///
-/// States and calls are those of alsa/pcm.h; the table is this library's own:
+/// States and calls are those of alsa/pcm.h; the table is this library's own.
 ///
-/// - A call that is not allowed in a state is refused with `BadState` and leaves the state. `Pause`
-///   is refused with `NotSupported` everywhere, and every other call with `NoDevice` once the card
-///   is gone.
+/// - A call that is not allowed in a state is refused with `BadState` and leaves the state. Once the
+///   card is gone every call is refused with `NoDevice`. Capture refuses `Pause` and `Resume` with
+///   `NotSupported` everywhere.
 /// - `HwParams` leads to PREPARED, `HwFree` to OPEN, `Drop` to SETUP, `Prepare` to PREPARED, also
-///   from XRUN. `SwParams` leaves the state.
+///   from XRUN. `SwParams` leaves the state, and so does a sync in PREPARED or PAUSED.
 /// - A start of playback with nothing queued is refused with `Xrun(Empty)` and stays in PREPARED. A
 ///   transfer in PREPARED starts the stream where `starts` says so.
 /// - A call that finds the card gone leads to DISCONNECTED with `NoDevice`. One that finds the stop
@@ -24,38 +24,37 @@ use snd_base::{PcmError, XrunWhy};
 ///   sync that begins in XRUN is refused with `Xrun(Already)`.
 /// - `Drain` plays what is queued: it answers `Again` and is in DRAINING until nothing is queued, and
 ///   then it is in SETUP. Capture refuses it with `BadState`.
-/// - PAUSED and SUSPENDED are never entered, and refuse every call.
+/// - `Pause` leads from RUNNING to PAUSED. `Resume` leads from PAUSED to RUNNING, as a start does,
+///   or to PREPARED where nothing is queued.
+/// - SUSPENDED is never entered, and refuses every call.
 pub fn next(state: State, call: Call, facts: Facts) -> Outcome
     ensures table { result ≡ next_of state call facts }
-    ensures never_paused { result.state ≡ State.Paused → state ≡ State.Paused }
     ensures never_suspended { result.state ≡ State.Suspended → state ≡ State.Suspended }
 {
-    match (call, state) {
-        (Call::Pause, _) => refused(state, PcmError::NotSupported),
-        (_, State::Disconnected) => refused(state, PcmError::NoDevice),
-        (Call::HwParams, State::Open | State::Setup | State::Prepared) => done(State::Prepared),
-        (Call::HwFree, State::Setup | State::Prepared) => done(State::Open),
-        (
-            Call::SwParams,
-            State::Setup | State::Prepared | State::Running | State::Xrun | State::Draining,
-        ) => done(state),
-        (Call::Prepare, State::Setup | State::Prepared | State::Xrun) => done(State::Prepared),
-        (Call::Start, State::Prepared) => start(facts),
-        (Call::Transfer, State::Prepared) => fill(facts),
-        (Call::Sync, State::Prepared) => done(State::Prepared),
-        (Call::Transfer | Call::Sync, State::Running) => move_frames(facts),
-        (Call::Transfer | Call::Sync, State::Xrun) => refused(
+    match (facts.capture, call, state) {
+        (true, Call::Pause | Call::Resume, _) => refused(state, PcmError::NotSupported),
+        (_, _, State::Disconnected) => refused(state, PcmError::NoDevice),
+        (true, Call::Drain, _) => refused(state, PcmError::BadState),
+        (_, Call::HwParams, State::Open | State::Setup | State::Prepared) => done(State::Prepared),
+        (_, Call::HwFree, State::Setup | State::Prepared) => done(State::Open),
+        (_, Call::SwParams, State::Open | State::Suspended) => refused(state, PcmError::BadState),
+        (_, Call::SwParams, _) => done(state),
+        (_, Call::Prepare, State::Setup | State::Prepared | State::Xrun) => done(State::Prepared),
+        (_, Call::Start, State::Prepared) => start(facts),
+        (_, Call::Transfer, State::Prepared) => fill(facts),
+        (_, Call::Sync, State::Prepared | State::Paused) => done(state),
+        (_, Call::Transfer | Call::Sync, State::Running) => move_frames(facts),
+        (_, Call::Transfer | Call::Sync, State::Xrun) => refused(
             state,
             PcmError::Xrun(XrunWhy::Already),
         ),
-        (Call::Sync, State::Draining) => drain(call, facts),
-        (
-            Call::Drop,
-            State::Setup | State::Prepared | State::Running | State::Xrun | State::Draining,
-        ) => done(State::Setup),
-        (Call::Drain, State::Setup | State::Xrun) if !facts.capture => done(State::Setup),
-        (Call::Drain, State::Prepared | State::Running | State::Draining) if !facts.capture =>
-            drain(call, facts),
+        (_, Call::Sync, State::Draining) => drain(call, facts),
+        (_, Call::Drop, State::Open | State::Suspended) => refused(state, PcmError::BadState),
+        (_, Call::Drop, _) => done(State::Setup),
+        (_, Call::Drain, State::Setup | State::Xrun) => done(State::Setup),
+        (_, Call::Drain, State::Prepared | State::Running | State::Draining) => drain(call, facts),
+        (_, Call::Pause, State::Running) => done(State::Paused),
+        (_, Call::Resume, State::Paused) => resume(facts),
         _ => refused(state, PcmError::BadState),
     }
 }
@@ -80,7 +79,7 @@ fn refused(state: State, error: PcmError) -> Outcome
     }
 }
 
-/// What a start in PREPARED comes to.
+/// The outcome of a start in PREPARED.
 fn start(facts: Facts) -> Outcome
     ensures { result ≡ outcome_of starting Prepared Start facts }
 {
@@ -90,7 +89,7 @@ fn start(facts: Facts) -> Outcome
     run(facts)
 }
 
-/// What a transfer in PREPARED comes to.
+/// The outcome of a transfer in PREPARED.
 fn fill(facts: Facts) -> Outcome
     ensures { result ≡ outcome_of filling Prepared Transfer facts }
 {
@@ -101,7 +100,7 @@ fn fill(facts: Facts) -> Outcome
     }
 }
 
-/// What a transfer or a sync in RUNNING comes to.
+/// The outcome of a transfer or a sync in RUNNING.
 fn move_frames(facts: Facts) -> Outcome
     ensures { result ≡ outcome_of moving Running Transfer facts }
 {
@@ -112,6 +111,16 @@ fn move_frames(facts: Facts) -> Outcome
         ),
         _ => run(facts),
     }
+}
+
+/// The outcome of a resume in PAUSED.
+fn resume(facts: Facts) -> Outcome
+    ensures { result ≡ outcome_of resuming Paused Resume facts }
+{
+    if facts.queued == 0 {
+        return done(State::Prepared);
+    }
+    run(facts)
 }
 
 /// The stream runs on, unless the card is gone or a frame was too late.
@@ -127,7 +136,7 @@ fn run(facts: Facts) -> Outcome
     }
 }
 
-/// What a drain comes to, and a sync while it lasts.
+/// The outcome of a drain, and of a sync while it lasts.
 fn drain(call: Call, facts: Facts) -> Outcome
     ensures { result ≡ outcome_of draining Draining call facts }
 {

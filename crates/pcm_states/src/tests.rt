@@ -40,8 +40,9 @@ fn states_have_the_numbers_and_names_of_alsa(rt: HostRuntime) -> Result<(), Fail
 }
 
 // The table: the next state, or the refusal's number with the state unchanged, or `?` where the facts decide. The
-// columns are OPEN SETUP PREPARED RUNNING XRUN DRAINING PAUSED SUSPENDED DISCONNECTED. The last row is for capture.
-const TABLE: [(Call, &str); 11] = [
+// columns are OPEN SETUP PREPARED RUNNING XRUN DRAINING PAUSED SUSPENDED DISCONNECTED. The last three rows are for
+// capture.
+const TABLE: [(Call, &str); 14] = [
     (
         Call::HwParams,
         "PREPARED PREPARED PREPARED 77 77 77 77 77 19",
@@ -49,7 +50,7 @@ const TABLE: [(Call, &str); 11] = [
     (Call::HwFree, "77 OPEN OPEN 77 77 77 77 77 19"),
     (
         Call::SwParams,
-        "77 SETUP PREPARED RUNNING XRUN DRAINING 77 77 19",
+        "77 SETUP PREPARED RUNNING XRUN DRAINING PAUSED 77 19",
     ),
     (
         Call::Prepare,
@@ -57,11 +58,14 @@ const TABLE: [(Call, &str); 11] = [
     ),
     (Call::Start, "77 77 ? 77 77 77 77 77 19"),
     (Call::Transfer, "77 77 ? ? 32 77 77 77 19"),
-    (Call::Sync, "77 77 PREPARED ? 32 ? 77 77 19"),
-    (Call::Drop, "77 SETUP SETUP SETUP SETUP SETUP 77 77 19"),
+    (Call::Sync, "77 77 PREPARED ? 32 ? PAUSED 77 19"),
+    (Call::Drop, "77 SETUP SETUP SETUP SETUP SETUP SETUP 77 19"),
     (Call::Drain, "77 SETUP ? ? SETUP ? 77 77 19"),
-    (Call::Pause, "5 5 5 5 5 5 5 5 5"),
+    (Call::Pause, "77 77 77 PAUSED 77 77 77 77 19"),
+    (Call::Resume, "77 77 77 77 77 77 ? 77 19"),
     (Call::Drain, "77 77 77 77 77 77 77 77 19"),
+    (Call::Pause, "5 5 5 5 5 5 5 5 5"),
+    (Call::Resume, "5 5 5 5 5 5 5 5 5"),
 ];
 
 // Nothing happened, with five frames queued.
@@ -100,7 +104,8 @@ fn cells_without_question_mark_hold_whatever_the_facts(rt: HostRuntime) -> Resul
     for (index, (call, row)) in TABLE.iter().enumerate() {
         for facts in [QUIET, LOUD] {
             for capture in [false, true] {
-                if *call != Call::Drain || capture == (index == 10) {
+                let differs = matches!(call, Call::Drain | Call::Pause | Call::Resume);
+                if !differs || capture == (index >= 11) {
                     let facts = Facts { capture, ..facts };
                     check_row(&rt, *call, facts, row)?;
                 }
@@ -126,7 +131,7 @@ fn check_row(rt: &(impl Abort + Alloc), call: Call, facts: Facts, row: &str) -> 
 }
 
 // The cells where the facts decide: a call in a state, what happened, the next state and the answer.
-const RULES: [(Call, State, &str, State, &str); 38] = [
+const RULES: [(Call, State, &str, State, &str); 42] = [
     // An empty playback does not start, whatever else happened. An empty capture does.
     (
         Call::Start,
@@ -348,6 +353,35 @@ const RULES: [(Call, State, &str, State, &str); 38] = [
         "queued over",
         State::Draining,
         "again",
+    ),
+    // A resume without frames is a prepare, whatever else happened.
+    (
+        Call::Resume,
+        State::Paused,
+        "gone over late",
+        State::Prepared,
+        "ok",
+    ),
+    (
+        Call::Resume,
+        State::Paused,
+        "queued gone over late",
+        State::Disconnected,
+        "gone",
+    ),
+    (
+        Call::Resume,
+        State::Paused,
+        "queued over late",
+        State::Xrun,
+        "late",
+    ),
+    (
+        Call::Resume,
+        State::Paused,
+        "queued over",
+        State::Running,
+        "ok",
     ),
 ];
 

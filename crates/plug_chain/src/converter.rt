@@ -2,10 +2,9 @@
 ghost use Rattle.std.specs.Prelude.{◌≡◌, ◌<◌, ◌≤◌, [], ◌∷◌, ◌++◌, length, OnOk, IfOk};
 ghost use Rattle.plug_chain.specs.Held.{part_of, samples_of};
 ghost use Rattle.plug_chain.specs.Growth.{Extends};
-ghost use Rattle.plug_chain.specs.Rates.{IsCourse};
 ghost use Rattle.plug_chain.specs.Frames.{frame_bytes, frame_of, frames_of, rest_of, samples_in};
 ghost use Rattle.plug_chain.specs.Plugs.{Continues, HasTaken, IsStage};
-ghost use Rattle.plug_chain.specs.Courses.{Advances};
+ghost use Rattle.plug_chain.specs.Courses.{Advances, IsOn};
 ghost use Rattle.plug_chain.specs.Views.{conversion_of, stage_of};
 
 use crate::frame::{Frame, Part};
@@ -51,21 +50,23 @@ impl Converter {
         }
     }
 
-    /// Adds the samples of one frame's bytes to an empty frame.
+    /// Puts the samples of one frame's bytes into a frame.
     fn read(&self, bytes: &[u8], frame: &mut Frame)
         requires bytes { length bytes.now ≡ frame_bytes (conversion_of self.now) }
-        requires empty { samples_of frame.old ≡ [] }
+        requires channels { length (samples_of frame.old) ≡ self.now.table.inputs }
         ensures { samples_of frame.new ≡ samples_in self.now.from self.now.table.inputs bytes.now }
     {
+        let width = self.from.bytes() as usize;
         let mut rest = bytes;
-        for _ in 0..self.table.inputs() {
-            let (sample, behind) = rest.split_at(self.from.bytes() as usize);
-            frame.push(self.from.sample(sample));
+        for channel in 0..self.table.inputs() {
+            let (sample, behind) = rest.split_at(width);
+            frame.put(channel, self.from.sample(sample));
             rest = behind;
         }
     }
 
     /// Takes one frame's bytes.
+    #[inline(always)]
     fn take_frame(
         &self,
         course: &mut Course,
@@ -73,15 +74,16 @@ impl Converter {
         out: &mut Vec<i16>,
     ) -> Result<(), AllocError>
         requires bytes { length bytes.now ≡ frame_bytes (conversion_of self.now) }
-        requires course { IsCourse self.now.rates self.now.table.outputs (samples_of course.old.last) course.old.place }
-        ensures course { OnOk result (IsCourse self.now.rates self.now.table.outputs (samples_of course.new.last) course.new.place) }
-        ensures ok { OnOk result (Advances self.now.rates self.now.table.outputs (frame_of (conversion_of self.now) bytes.now ∷ [])
-            course.old course.new out.old.items out.new.items) }
+        requires course { IsOn self.now.rates self.now.table.outputs course.old }
+        ensures course { OnOk result (IsOn self.now.rates self.now.table.outputs course.new) }
+        ensures ok { OnOk result (Advances self.now.rates self.now.table.outputs
+            (frame_of (conversion_of self.now) bytes.now ∷ []) course.old course.new
+            out.old.items out.new.items) }
         ensures grows { Extends out.old.items out.new.items }
     {
-        let mut samples = Frame::empty();
+        let mut samples = Frame::silent(self.table.inputs());
         self.read(bytes, &mut samples);
-        let mut frame = Frame::empty();
+        let mut frame = Frame::silent(self.table.outputs());
         self.table.mix(samples.as_slice(), &mut frame);
         self.rates.advance(course, &frame, out)
     }
@@ -93,10 +95,11 @@ impl Converter {
         bytes: &'a [u8],
         out: &mut Vec<i16>,
     ) -> Result<&'a [u8], AllocError>
-        requires { IsCourse self.now.rates self.now.table.outputs (samples_of course.old.last) course.old.place }
-        ensures course { OnOk result (IsCourse self.now.rates self.now.table.outputs (samples_of course.new.last) course.new.place) }
-        ensures ok { OnOk result (Advances self.now.rates self.now.table.outputs (frames_of (conversion_of self.now) bytes.now)
-            course.old course.new out.old.items out.new.items) }
+        requires { IsOn self.now.rates self.now.table.outputs course.old }
+        ensures course { OnOk result (IsOn self.now.rates self.now.table.outputs course.new) }
+        ensures ok { OnOk result (Advances self.now.rates self.now.table.outputs
+            (frames_of (conversion_of self.now) bytes.now) course.old course.new
+            out.old.items out.new.items) }
         ensures rest { IfOk result (λ rest. rest.now ≡ rest_of (conversion_of self.now) bytes.now) }
         ensures grows { Extends out.old.items out.new.items }
     {
@@ -120,9 +123,11 @@ impl Converter {
         requires stage { IsStage (stage_of self.now progress.old) }
         requires whole { part_of progress.old.part ≡ [] }
         ensures stage { OnOk result (IsStage (stage_of self.now progress.new)) }
-        ensures ok { OnOk result (Advances self.now.rates self.now.table.outputs (frames_of (conversion_of self.now) bytes.now)
-            progress.old.course progress.new.course out.old.items out.new.items) }
-        ensures part { OnOk result (part_of progress.new.part ≡ rest_of (conversion_of self.now) bytes.now) }
+        ensures ok { OnOk result (Advances self.now.rates self.now.table.outputs
+            (frames_of (conversion_of self.now) bytes.now) progress.old.course progress.new.course
+            out.old.items out.new.items) }
+        ensures part { OnOk result (part_of progress.new.part
+            ≡ rest_of (conversion_of self.now) bytes.now) }
         ensures grows { Extends out.old.items out.new.items }
     {
         let rest = self.take_frames(&mut progress.course, bytes, out)?;
@@ -135,7 +140,8 @@ impl Converter {
         requires { length (part_of part.old) ≤ frame_bytes (conversion_of self.now) }
         ensures same { part_of part.new ++ result.now ≡ part_of part.old ++ bytes.now }
         ensures most { length (part_of part.new) ≤ frame_bytes (conversion_of self.now) }
-        ensures short { length (part_of part.new) < frame_bytes (conversion_of self.now) → result.now ≡ [] }
+        ensures short { length (part_of part.new) < frame_bytes (conversion_of self.now)
+            → result.now ≡ [] }
     {
         let missing = self.frame_bytes() - part.as_slice().len();
         let (more, behind) = bytes.split_at(missing.min(bytes.len()));
@@ -152,8 +158,8 @@ impl Converter {
     ) -> Result<(), AllocError>
         requires { IsStage (stage_of self.now progress.old) }
         ensures stage { OnOk result (IsStage (stage_of self.now progress.new)) }
-        ensures ok { OnOk result (Continues (stage_of self.now progress.old) (stage_of self.now progress.new)
-            bytes.now out.old.items out.new.items) }
+        ensures ok { OnOk result (Continues (stage_of self.now progress.old)
+            (stage_of self.now progress.new) bytes.now out.old.items out.new.items) }
         ensures grows { Extends out.old.items out.new.items }
     {
         if progress.part.as_slice().is_empty() {

@@ -10,16 +10,9 @@ pub(crate) struct Frame {
 }
 
 impl Frame {
-    ghost use Rattle.std.specs.Prelude.{◌≡◌, ◌+◌, ◌<◌, [], ◌∷◌, ◌++◌, length};
+    ghost use Rattle.std.specs.Prelude.{◌≡◌, ◌<◌, length, slice_set};
     ghost use Rattle.plug_chain.specs.Held.{samples_of};
     ghost use Rattle.plug_chain.specs.Rates.{silence};
-
-    /// No samples.
-    pub(crate) fn empty() -> Frame
-        ensures { samples_of result ≡ [] }
-    {
-        Frame::silent(0)
-    }
 
     /// A frame of silence.
     pub(crate) fn silent(channels: u8) -> Frame
@@ -32,13 +25,12 @@ impl Frame {
         }
     }
 
-    /// Adds a sample at the end.
-    pub(crate) fn push(&mut self, sample: i16)
-        requires { length (samples_of self.old) < 8 }
-        ensures { samples_of self.new ≡ samples_of self.old ++ sample ∷ [] }
+    /// Puts a sample in the place of a channel's.
+    pub(crate) fn put(&mut self, channel: u8, sample: i16)
+        requires { channel < length (samples_of self.old) }
+        ensures { samples_of self.new ≡ slice_set (samples_of self.old) channel sample }
     {
-        self.samples[self.len as usize] = sample;
-        self.len += 1;
+        self.samples[channel as usize] = sample;
     }
 
     /// The samples, in the order of the channels.

@@ -1,10 +1,10 @@
 //! Frames on a straight line between two frames.
-ghost use Rattle.std.specs.Prelude.{◌≡◌, ◌≤◌, [], ◌∷◌, ◌++◌, List, length, ℤ, pos, ◌*ℤ◌, OnOk};
+ghost use Rattle.std.specs.Prelude.{◌≡◌, ◌≤◌, [], ◌∷◌, ◌++◌, length, pos, ◌*ℤ◌, OnOk};
 ghost use Rattle.std.specs.Int.{int_div_euclid};
 ghost use Rattle.plug_chain.specs.Held.{samples_of};
-ghost use Rattle.plug_chain.specs.Growth.{Appends, Extends};
-ghost use Rattle.plug_chain.specs.Rates.{AreRates, IsAt, IsCourse, IsRise, between, known, on_line, resampled};
-ghost use Rattle.plug_chain.specs.Courses.{Advances};
+ghost use Rattle.plug_chain.specs.Growth.{Extends};
+ghost use Rattle.plug_chain.specs.Rates.{AreRates, IsRise, between, on_line};
+ghost use Rattle.plug_chain.specs.Courses.{Advances, Ends, IsAfter, IsOn};
 
 use crate::frame::Frame;
 use crate::rates::Rates;
@@ -80,8 +80,8 @@ impl Rates {
     pub(crate) fn start(self, channels: u8) -> Course
         requires { channels ≤ 8 }
         ensures rates { AreRates self }
-        ensures course { IsCourse self channels (samples_of result.last) result.place }
-        ensures empty { IsAt self channels [] (samples_of result.last) result.place }
+        ensures course { IsOn self channels result }
+        ensures empty { IsAfter self channels [] result }
     {
         Course {
             last: Frame::silent(channels),
@@ -93,8 +93,8 @@ impl Rates {
     fn push_frame(self, course: &Course, next: &Frame, out: &mut Vec<i16>) -> Result<(), AllocError>
         requires within { course.now.place ≤ self.output }
         requires channels { length (samples_of course.now.last) ≡ length (samples_of next.now) }
-        ensures ok { OnOk result (out.new.items ≡ out.old.items
-            ++ between course.now.place self.output (samples_of course.now.last) (samples_of next.now)) }
+        ensures ok { OnOk result (out.new.items ≡ out.old.items ++ between course.now.place
+            self.output (samples_of course.now.last) (samples_of next.now)) }
         ensures grows { Extends out.old.items out.new.items }
     {
         let parts = self.output();
@@ -113,10 +113,10 @@ impl Rates {
         next: &Frame,
         out: &mut Vec<i16>,
     ) -> Result<(), AllocError>
-        requires { IsCourse self (length (samples_of next.now)) (samples_of course.old.last) course.old.place }
-        ensures course { OnOk result (IsCourse self (length (samples_of next.now)) (samples_of course.new.last) course.new.place) }
-        ensures ok { OnOk result (Advances self (length (samples_of next.now)) (samples_of next.now ∷ [])
-            course.old course.new out.old.items out.new.items) }
+        requires { IsOn self (length (samples_of next.now)) course.old }
+        ensures course { OnOk result (IsOn self (length (samples_of next.now)) course.new) }
+        ensures ok { OnOk result (Advances self (length (samples_of next.now))
+            (samples_of next.now ∷ []) course.old course.new out.old.items out.new.items) }
         ensures grows { Extends out.old.items out.new.items }
     {
         let parts = u64::from(self.output());
@@ -131,9 +131,9 @@ impl Rates {
 
     /// Appends each output frame that lies behind the last frame.
     pub(crate) fn end(self, course: Course, out: &mut Vec<i16>) -> Result<(), AllocError>
-        requires { IsCourse self (length (samples_of course.last)) (samples_of course.last) course.place }
-        ensures ok { OnOk result ((frames : List (List ℤ)) → IsAt self (length (samples_of course.last)) frames (samples_of course.last) course.place
-            → Appends (known self frames) (resampled self frames) out.old.items out.new.items) }
+        requires { IsOn self (length (samples_of course.last)) course }
+        ensures ok { OnOk result (Ends self (length (samples_of course.last)) course
+            out.old.items out.new.items) }
         ensures grows { Extends out.old.items out.new.items }
     {
         let mut place = course.place;

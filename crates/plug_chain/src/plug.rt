@@ -1,5 +1,5 @@
 //! A plug: bytes in any pieces in, samples out.
-ghost use Rattle.std.specs.Prelude.{◌≡◌, IfErr, OnErr, OnOk};
+ghost use Rattle.std.specs.Prelude.{◌≡◌, ◌↔◌, IfErr, IsTrue, OnErr, OnOk};
 ghost use Rattle.plug_chain.specs.Plugs.{Completes, Continues, IsBeginning};
 ghost use Rattle.plug_chain.specs.Rates.{AreRates};
 
@@ -36,11 +36,22 @@ impl Model for Plug {
 }
 
 impl Plug {
+    /// Whether a plug can be made for these rates: both are at least 1, and the output rate is at most 192000.
+    pub fn can_new(in_rate: u32, out_rate: u32) -> bool
+        ensures { IsTrue result ↔ AreRates (record { input = in_rate; output = out_rate }) }
+    {
+        1 <= in_rate && 1 <= out_rate && out_rate <= 192_000
+    }
+
     /// A conversion that begins, from samples of this format and frames of the table's inputs at `in_rate` frames a second
     /// to frames of its outputs at `out_rate`. The caller has rates of at least 1, and an output rate of at most 192000.
     pub fn new(from: Wide, table: Table, in_rate: u32, out_rate: u32) -> Plug
         requires { AreRates (record { input = in_rate; output = out_rate }) }
-        ensures { IsBeginning result (record { from = from; table = table; rates = record { input = in_rate; output = out_rate } }) }
+        ensures { IsBeginning result (record {
+          from = from;
+          table = table;
+          rates = record { input = in_rate; output = out_rate };
+        }) }
     {
         let rates = Rates::new(in_rate, out_rate);
         let converter = Converter { from, table, rates };
@@ -55,7 +66,8 @@ impl Plug {
     /// last whole frame or before it. However the bytes are cut, all that was appended is what the conversion of all bytes
     /// so far has up to there. It refuses, with `Memory`, only where no memory is left; then plug and `out` are as before.
     pub fn feed(&mut self, bytes: &[u8], out: &mut Vec<i16>) -> Result<(), PcmError>
-        ensures ok { OnOk result (Continues self.old self.new bytes.now out.old.items out.new.items) }
+        ensures ok { OnOk result (Continues self.old self.new
+            bytes.now out.old.items out.new.items) }
         ensures err { OnErr result ((self.new ≡ self.old) × (out.new.items ≡ out.old.items)) }
         ensures only_memory { IfErr result (λ e. e ≡ PcmError.Memory) }
     {

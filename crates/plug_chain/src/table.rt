@@ -1,5 +1,5 @@
 //! The table of weights by which input channels are made into output channels.
-ghost use Rattle.std.specs.Prelude.{◌≡◌, ◌<◌, ◌≤◌, All, IfErr, IfOk, [], length, ◌*ℤ◌};
+ghost use Rattle.std.specs.Prelude.{◌≡◌, ◌<◌, ◌≤◌, ◌↔◌, All, IfErr, IsTrue, IfOk, length, ◌*◌, ◌*ℤ◌};
 ghost use Rattle.plug_chain.specs.Held.{samples_of};
 ghost use Rattle.plug_chain.specs.Tables.{IsSumOf, IsTable, IsWeight, mixed, output_channel, usual_table, usual_weight, weighted_sum};
 
@@ -27,17 +27,41 @@ impl Model for Table {
 
     ghost Value = { ChannelTable };
 
-    ghost view = { λ t. record { inputs = t.inputs; outputs = t.outputs; weights = t.weights.items } };
+    ghost view = { λ t. record {
+      inputs = t.inputs;
+      outputs = t.outputs;
+      weights = t.weights.items;
+    } };
 
-    ghost invariant = { λ t. IsTable (record { inputs = t.inputs; outputs = t.outputs; weights = t.weights.items }) };
+    ghost invariant = { λ t. IsTable (record {
+      inputs = t.inputs;
+      outputs = t.outputs;
+      weights = t.weights.items;
+    }) };
 }
 
 impl Table {
+    /// Whether these are the numbers of channels and the weights of a table: 1 to 8 inputs and outputs, `inputs * outputs`
+    /// weights, and each from -65536 to 65536.
+    pub fn can_new(inputs: u8, outputs: u8, weights: &[i32]) -> bool
+        ensures { IsTrue result ↔ IsTable (record {
+          inputs = inputs;
+          outputs = outputs;
+          weights = weights.now;
+        }) }
+    {
+        are_channels(inputs) && are_channels(outputs) && are_weights(inputs, outputs, weights)
+    }
+
     /// A table of these weights, all weights of the first output first. The caller has 1 to 8 inputs and outputs,
     /// `inputs * outputs` weights, and each from -65536 to 65536. It refuses, with `Memory`, only where no memory is left.
     pub fn new(alloc: Global, inputs: u8, outputs: u8, weights: &[i32]) -> Result<Table, PcmError>
         requires { IsTable (record { inputs = inputs; outputs = outputs; weights = weights.now }) }
-        ensures ok { IfOk result (λ t. t ≡ record { inputs = inputs; outputs = outputs; weights = weights.now }) }
+        ensures ok { IfOk result (λ t. t ≡ record {
+          inputs = inputs;
+          outputs = outputs;
+          weights = weights.now;
+        }) }
         ensures only_memory { IfErr result (λ e. e ≡ PcmError.Memory) }
     {
         let weights = Vec::from_slice(alloc, weights)?;
@@ -86,14 +110,14 @@ impl Table {
         self.outputs
     }
 
-    /// Adds the output channels of a frame of the input to an empty frame.
+    /// Puts the output channels of a frame of the input into a frame.
     pub(crate) fn mix(&self, samples: &[i16], frame: &mut Frame)
         requires samples { length samples.now ≡ self.now.inputs }
-        requires empty { samples_of frame.old ≡ [] }
+        requires channels { length (samples_of frame.old) ≡ self.now.outputs }
         ensures { samples_of frame.new ≡ mixed self.now samples.now }
     {
         for output in 0..self.outputs {
-            frame.push(self.mix_channel(samples, output));
+            frame.put(output, self.mix_channel(samples, output));
         }
     }
 
@@ -109,6 +133,27 @@ impl Table {
             .div_euclid(ONE as i64)
             .clamp(-32768, 32767) as i16
     }
+}
+
+/// Whether a number of channels is from 1 to 8.
+fn are_channels(count: u8) -> bool
+    ensures { IsTrue result ↔ ((1 ≤ count) × (count ≤ 8)) }
+{
+    1 <= count && count <= 8
+}
+
+/// Whether there is a weight for each pair of channels, and each is from -1 to 1.
+fn are_weights(inputs: u8, outputs: u8, weights: &[i32]) -> bool
+    ensures { IsTrue result ↔ ((length weights.now ≡ inputs * outputs) × All IsWeight weights.now) }
+{
+    weights.len() == inputs as usize * outputs as usize && weights.iter().all(|w| is_weight(*w))
+}
+
+/// Whether a weight is from -1 to 1.
+fn is_weight(weight: i32) -> bool
+    ensures { IsTrue result ↔ IsWeight weight }
+{
+    -ONE <= weight && weight <= ONE
 }
 
 /// A sample times its weight.

@@ -57,3 +57,16 @@ fn a_sum_is_saturated_once(rt: HostRuntime) -> Result<(), Fail> {
     assert_eq!(rt; out.as_slice(), [32512, 32767].as_slice());
     Ok(())
 }
+
+#[test]
+fn what_a_table_and_a_plug_ask_can_be_tested(rt: HostRuntime) -> Result<(), Fail> {
+    assert!(rt; Table::can_new(2, 1, &[65536, -65536]));
+    assert!(rt; !Table::can_new(2, 1, &[65536]));
+    assert!(rt; !Table::can_new(1, 1, &[65537]));
+    assert!(rt; !Table::can_new(0, 1, &[]));
+    assert!(rt; !Table::can_new(1, 9, &[0; 9]));
+    assert!(rt; Plug::can_new(1, 192_000));
+    assert!(rt; !Plug::can_new(0, 1));
+    assert!(rt; !Plug::can_new(1, 192_001));
+    Ok(())
+}

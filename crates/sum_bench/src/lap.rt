@@ -1,8 +1,9 @@
 //! One lap of a ring: each word of it laid by a mix seat, and each word taken by the player.
-ghost use Rattle.std.specs.Prelude.{◌≡◌, ◌≤◌, IfOk};
+ghost use Rattle.std.specs.Prelude.{◌≡◌, ℕ, ◌+◌, ◌<◌, ◌≤◌, true, IfOk};
+ghost use Rattle.snd_base.specs.Places.{IsFrom};
 ghost use Rattle.sum_table.specs.Players.{PlayerGoes};
 ghost use Rattle.sum_table.specs.Rings.{GaveNone, key_of_ring};
-ghost use Rattle.sum_table.specs.Seats.{Goes};
+ghost use Rattle.sum_table.specs.Seats.{CanAdd, Goes, cursor_of_seat, geometry_of, seen_of};
 
 use mix_core::{MixPort, NeverStops, Placed};
 use snd_base::Geometry;
@@ -63,46 +64,69 @@ pub(crate) fn new_ring(alloc: Global, channels: u8, places: u32) -> io::Result<S
     }
 }
 
-/// Lays the sample at a frame and channel where the seat may, as seen at run time, and answers whether it was laid.
-fn try_place(seat: &mut MixSeat<'_>, frame: u64, channel: u8) -> bool
-    ensures { Goes seat.old seat.new }
+/// Lays the sample at a frame and channel, and answers how many were laid: 1, or 0 where it was late.
+#[inline(always)]
+fn lay_word(seat: &mut MixSeat<'_>, frame: u64, channel: u8) -> u64
+    requires can_add { CanAdd seat.old }
+    requires channel { channel < (geometry_of seat.old).channels }
+    requires from_cursor { IsFrom (cursor_of_seat seat.old) frame channel }
+    requires ahead { frame < seen_of seat.old + (geometry_of seat.old).frames }
+    ensures goes { Goes seat.old seat.new }
+    ensures seen { seen_of seat.new ≡ seen_of seat.old }
+    ensures next_channels { (c : ℕ) → channel < c → c < (geometry_of seat.old).channels → IsFrom (cursor_of_seat seat.new) frame c }
+    ensures next_frame { IsFrom (cursor_of_seat seat.new) (frame + 1) 0 }
+    ensures one { result ≤ 1 }
 {
-    let geometry = seat.geometry();
-    if !seat.can_add() || channel >= geometry.channels {
-        return false;
+    match seat.place(&mut NeverStops, frame, channel, SAMPLE) {
+        Ok(Placed::In) => 1,
+        _ => 0,
     }
-    let ahead = seat.seen() + geometry.frames as u64;
-    if frame < seat.cursor().first_free(channel) || frame >= ahead {
-        return false;
-    }
-    seat.place(&mut NeverStops, frame, channel, SAMPLE) == Ok(Placed::In)
 }
 
 /// Lays the sample in each channel of a frame, and answers how many were laid.
-#[tactic(auto, using(crate::proofs::Going::stays, crate::proofs::Going::goes_on))]
-fn lay_frame(seat: &mut MixSeat<'_>, frame: u64) -> u64
-    ensures { Goes seat.old seat.new }
+#[inline(always)]
+fn lay_frame(seat: &mut MixSeat<'_>, frame: u64, channels: u8) -> u64
+    requires channels { channels ≡ (geometry_of seat.old).channels }
+    requires can_add { CanAdd seat.old }
+    requires from_cursor { IsFrom (cursor_of_seat seat.old) frame 0 }
+    requires ahead { frame < seen_of seat.old + (geometry_of seat.old).frames }
+    ensures goes { Goes seat.old seat.new }
+    ensures seen { seen_of seat.new ≡ seen_of seat.old }
+    ensures next_frame { IsFrom (cursor_of_seat seat.new) (frame + 1) 0 }
+    ensures few { result ≤ 8 }
 {
     let mut laid: u64 = 0;
-    for channel in 0..seat.geometry().channels {
-        if try_place(seat, frame, channel) {
-            laid = laid.saturating_add(1);
-        }
+    for channel in 0..channels {
+        laid += lay_word(seat, frame, channel);
     }
     laid
 }
 
+/// Whether a seat may lay in all frames from `first` up to `end`, as seen at run time.
+fn can_lay(seat: &MixSeat<'_>, first: u64, end: u64) -> bool
+    ensures can_add { result ≡ true → CanAdd seat.now }
+    ensures from_cursor { result ≡ true → IsFrom (cursor_of_seat seat.now) first 0 }
+    ensures ahead { result ≡ true → end ≤ seen_of seat.now + (geometry_of seat.now).frames }
+{
+    let ahead = seat.seen() + seat.geometry().frames as u64;
+    seat.can_add() && seat.cursor().first_free(0) <= first && end <= ahead
+}
+
 /// Lays the sample in each channel of `count` frames, of which the first one is `offset` frames past the position that the
-/// seat has seen, and answers how many samples were laid.
-#[tactic(auto, using(crate::proofs::Going::stays, crate::proofs::Going::goes_on))]
+/// seat has seen, and answers how many samples were laid: 0 where the seat may not lay in all of them.
 #[inline(always)]
 pub(crate) fn lay(seat: &mut MixSeat<'_>, offset: u32, count: u32) -> u64
     ensures { Goes seat.old seat.new }
 {
     let first = seat.seen() + offset as u64;
+    let end = first + count as u64;
+    if !can_lay(seat, first, end) {
+        return 0;
+    }
+    let channels = seat.geometry().channels;
     let mut laid: u64 = 0;
-    for frame in first..first + count as u64 {
-        laid = laid.saturating_add(lay_frame(seat, frame));
+    for frame in first..end {
+        laid += lay_frame(seat, frame, channels);
     }
     laid
 }
@@ -118,8 +142,10 @@ fn take_value(player: &mut PlayerSeat<'_>) -> u16
     }
 }
 
-/// Takes `words` words, publishes the position, and answers the sum of all that was taken.
+/// Takes `words` words, publishes the position, and answers the sum of all that was taken. It is a function of its own in the
+/// machine code too, as in C.
 #[tactic(auto, using(crate::proofs::Going::player_stays, crate::proofs::Going::player_goes_on))]
+#[inline(never)]
 pub(crate) fn play(player: &mut PlayerSeat<'_>, words: u64) -> u64
     ensures { PlayerGoes player.old player.new }
 {

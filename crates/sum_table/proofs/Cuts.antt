@@ -17,17 +17,19 @@ use Rattle.mix_core.specs.Laid.{at, sum_of_samples, total}
 use Rattle.sum_table.specs.declared.view.Key.{Key}
 use Rattle.sum_table.specs.declared.view.Track.{Track}
 use Rattle.sum_table.specs.declared.view.View.{View}
-use Rattle.sum_table.specs.Cuts.{start_marks, both_of, either_track, later_note, later_notes, part_of, spent_view, with_places}
+use Rattle.sum_table.specs.Cuts.{start_marks, both_of, either_track, part_of, spent_view, with_places}
+use Rattle.ring_rule.specs.Notes.{later_note, later_notes}
 use Rattle.sum_table.specs.Exact.{Exact, IsHistory, IsView}
 use Rattle.sum_table.specs.Laid.{SameSums, all_laid, by_member, count, own, places_of}
 use Rattle.sum_table.specs.Steps.{Knows, learned, with_history}
-use Rattle.sum_table.specs.Words.{NotPast, index_of, rank}
+use Rattle.ring_rule.specs.Words.{NotPast, index_of, rank}
 use Rattle.sum_table.proofs.Kept.{kept_join, kept_none, kept_places}
 use Rattle.sum_table.proofs.Keeps.{Holds, idle, loaded, none_made}
-use Rattle.sum_table.proofs.Lists.{at_append, at_more}
+use Rattle.ring_rule.specs.Lists.{at_append, at_more}
 use Rattle.sum_table.proofs.Rings.{IsRing-same}
 use Rattle.sum_table.proofs.Rows.{BeginsWith-same}
 use Rattle.sum_table.proofs.Sums.{SameSums-joined, SameSums-more, SameSums-set, count-append, count_few, count_set, places_of-more, places_set, places_within, total_set}
+use Rattle.ring_rule.specs.NoteLaws.{later_notes-one, no_note}
 
 abbrev is_some : Option Track → Bool
 is_some None = false
@@ -118,28 +120,6 @@ splits k id v left right of_ring all few s x here =
       },
     )
 
--- what is noted in two views together, one of them noted
-later_note-one : (n o : Option ℕ) (m : ℕ) → later_note n o ≡ Some m → (n ≡ Some m) ⊎ (o ≡ Some m)
-later_note-one None o m is = inr is
-later_note-one (Some n) None m is = inl is
-later_note-one (Some n) (Some o) m is = choose (nat_lt (rank n) (rank o)) is where
-  choose : (b : Bool) → cond b (Some o) (Some n) ≡ Some m → (Some n ≡ Some m) ⊎ (Some o ≡ Some m)
-  choose true e = inr e
-  choose false e = inl e
-
-pub later_notes-one : (ns os : List (Option ℕ)) (i m : ℕ) → get_or (later_notes ns os) i None ≡ Some m → (get_or ns i None ≡ Some m) ⊎ (get_or os i None ≡ Some m)
-later_notes-one [] os i m is = inr is
-later_notes-one (n ∷ ns) [] i m is = inl is
-later_notes-one (n ∷ ns) (o ∷ os) zero m is = later_note-one n o m is
-later_notes-one (n ∷ ns) (o ∷ os) (suc i) m is = later_notes-one ns os i m is
-
-pub later_notes-length : (ns os : List (Option ℕ)) → length ns ≡ length os → length (later_notes ns os) ≡ length ns
-later_notes-length [] os same = sym same
-later_notes-length (n ∷ ns) [] same = refl
-later_notes-length (n ∷ ns) (o ∷ os) same =
-    let rest : length ns ≡ length os = omega arith in
-    omega (arith, later_notes-length ns os rest)
-
 either_one : (o p : Option Track) (y : Track) → either_track o p ≡ Some y → (o ≡ Some y) ⊎ (p ≡ Some y)
 either_one None p y is = inr is
 either_one (Some t) p y is = inl is
@@ -173,13 +153,6 @@ both_ok k words t h v w a b = record {
   begins = a.begins;
   heard = b.begins;
 }
-
-abbrev pub is_noted : Option ℕ → Bool
-is_noted None = false
-is_noted (Some n) = true
-
-pub no_note : (n : ℕ) → None ≢ Some n
-no_note n same = false≢true (ap is_noted same)
 
 spent_ok : (k : Key) (words : List ℕ) (t : Track) (h : List Row) → IsView k words t h spent_view
 spent_ok k words t h = record {

@@ -21,19 +21,22 @@ use Rattle.sum_table.specs.declared.seats.player.PlayerSeat.{PlayerSeat}
 use Rattle.sum_table.specs.declared.view.Key.{Key}
 use Rattle.sum_table.specs.declared.view.Track.{Track}
 use Rattle.sum_table.specs.declared.view.View.{View}
-use Rattle.sum_table.specs.Cuts.{joined_marks, both_of, either_track, later_note, later_notes, later_of, part_of, without}
+use Rattle.sum_table.specs.Cuts.{joined_marks, both_of, either_track, later_of, part_of, without}
+use Rattle.ring_rule.specs.Notes.{later_note, later_notes}
 use Rattle.sum_table.specs.Exact.{start_marks, BeginsWith, Exact, IsPublished, is_tracked, next_at, position_at, the_track}
 use Rattle.sum_table.specs.Joins.{HasClosed, HasHeard, HasJoined, HasMet, HasPlayerNote, note_view}
-use Rattle.sum_table.specs.Known.{IsKnown, IsNoted, IsPlayer, greater, has_all, last_frame}
+use Rattle.sum_table.specs.Known.{IsKnown, IsNoted, IsPlayer, greater, last_frame}
+use Rattle.ring_rule.specs.Positions.{has_all}
 use Rattle.sum_table.specs.Laid.{SameSums}
 use Rattle.sum_table.specs.Players.{player_view, track_of}
 use Rattle.sum_table.specs.Seats.{view_of}
 use Rattle.sum_table.specs.Steps.{IsStep, Knows, Makes, learned, with_history}
-use Rattle.sum_table.specs.Words.{index_of, rank}
+use Rattle.ring_rule.specs.Words.{index_of, rank}
 use Rattle.sum_table.proofs.Kept.{IsLaid-later}
-use Rattle.sum_table.proofs.Lists.{at_append}
-use Rattle.sum_table.proofs.Cuts.{joins, later_notes-length, later_notes-one, learns, splits}
-use Rattle.sum_table.proofs.Playing.{has_all-more, has_each}
+use Rattle.ring_rule.specs.Lists.{at_append}
+use Rattle.sum_table.proofs.Cuts.{joins, learns, splits}
+use Rattle.ring_rule.specs.NoteLaws.{later_notes-length, later_notes-one}
+use Rattle.ring_rule.specs.PositionLaws.{has_all-more, has_each}
 use Rattle.sum_table.proofs.Seated.{MarksWithin, last_frame-append, step_begins}
 
 -- a load that notes nothing, at the ring's key
@@ -208,17 +211,17 @@ or_right false b is = is
 -- what the second of two views noted is noted in both, or a later word is
 later_note-keeps : (n o : Option ℕ) (x : ℕ) → o ≡ Some x → (m : ℕ) × (later_note n o ≡ Some m) × (rank x ≤ rank m)
 later_note-keeps None o x is = (x, is, omega arith)
-later_note-keeps (Some n) None x is = absurd (Rattle.sum_table.proofs.Cuts.no_note x is)
+later_note-keeps (Some n) None x is = absurd (Rattle.ring_rule.specs.NoteLaws.no_note x is)
 later_note-keeps (Some n) (Some o) x is = choose (nat_lt (rank n) (rank o)) refl where
   choose : (b : Bool) → nat_lt (rank n) (rank o) ≡ b → (m : ℕ) × (cond b (Some o) (Some n) ≡ Some m) × (rank x ≤ rank m)
   choose true test = (x, is, omega arith)
   choose false test =
-      let same : o ≡ x = ap (Rattle.sum_table.proofs.Lists.value_or o) is in
+      let same : o ≡ x = ap (Rattle.ring_rule.specs.NoteLaws.value_or o) is in
       (n, refl, grind (arith, nat_tests))
 
 later_notes-keeps : (ns os : List (Option ℕ)) (i x : ℕ) → get_or os i None ≡ Some x → (m : ℕ) × (get_or (later_notes ns os) i None ≡ Some m) × (rank x ≤ rank m)
 later_notes-keeps [] os i x is = (x, is, omega arith)
-later_notes-keeps (n ∷ ns) [] i x is = absurd (Rattle.sum_table.proofs.Cuts.no_note x is)
+later_notes-keeps (n ∷ ns) [] i x is = absurd (Rattle.ring_rule.specs.NoteLaws.no_note x is)
 later_notes-keeps (n ∷ ns) (o ∷ os) zero x is = later_note-keeps n o x is
 later_notes-keeps (n ∷ ns) (o ∷ os) (suc i) x is = later_notes-keeps ns os i x is
 
@@ -248,6 +251,10 @@ has_heard p q n slots found x ring key next position gone both told =
       next = next;
       position = position;
       same_gone = gone;
+      seen =
+          let most : max v.seen w.seen ≤ position_at v.key.geometry track = knows.seen in
+          let at : p.position ≡ position_at v.key.geometry track = p.known.position_is ∙ ap (λ (k : Key). position_at k.geometry track) (sym own) in
+          omega (arith, most, at, n.seat.known.same_seen);
       positions = λ i y there.
           let j = at_right v.positions w.positions i y there in
           subst (λ (k : Key). IsPublished k.geometry track y) own (knows.positions j.0 y j.1);
@@ -330,7 +337,7 @@ greater_none (Some n) = refl
 -- a mix seat that was joined with a note's
 pub has_met : (s t : MixSeat) (n : SeatNote) → n.seat.key ≡ s.key → HasJoined s t n.seat → HasMet s t n
 has_met s t n one joined =
-    let no_last : n.seat.last ≡ None = sym n.seat.known.same_last ∙ ap last_frame n.laid_nothing in
+    let no_last : n.seat.reach.last ≡ None = sym n.seat.known.same_last ∙ ap last_frame n.laid_nothing in
     record {
       ring = joined.ring;
       key = joined.key;
@@ -338,8 +345,8 @@ has_met s t n one joined =
       view = joined.view;
       places = omega (arith, joined.places, n.no_places);
       laid = ap (λ (v : View). v.laid) joined.view ∙ (ap (λ es. (view_of s).laid ++ es) n.laid_nothing ∙ append-nil (view_of s).laid);
-      marks = joined.marks ∙ ap (joined_marks s.marks n.seat.marks) n.no_places;
-      last = joined.last ∙ (ap (greater s.last) no_last ∙ greater_none s.last);
+      marks = joined.marks ∙ ap (joined_marks s.reach.marks n.seat.reach.marks) n.no_places;
+      last = joined.last ∙ (ap (greater s.reach.last) no_last ∙ greater_none s.reach.last);
       seen = joined.seen;
       gone = ap (λ (v : View). v.seen_gone) joined.view;
       history = joined.history;

@@ -30,13 +30,17 @@ use Rattle.sum_table.specs.declared.view.View.{View}
 use Rattle.sum_table.specs.Exact.{AreViews, BeginsWith, Exact, IsHistory, IsKept, IsOwn, IsRing, IsView, next_at, position_at}
 use Rattle.sum_table.specs.Laid.{all_laid, count}
 use Rattle.sum_table.specs.Steps.{Finds, HoldsLast, IsLateAt, IsLateHeld, IsStep, IsSumOf, freed, MakesLook, exchanged, in_row, located, looked, with_entry, with_note, with_position}
-use Rattle.sum_table.specs.Words.{index_of, rank}
-use Rattle.sum_table.proofs.Lists.{IsPublished-last, noted_set, set_read}
-use Rattle.sum_table.proofs.Places.{index_of-lt, now_of}
+use Rattle.ring_rule.specs.Words.{index_of, rank}
+use Rattle.sum_table.proofs.Lists.{IsPublished-last}
+use Rattle.ring_rule.specs.NoteLaws.{noted_set}
+use Rattle.ring_rule.specs.WordLaws.{set_read}
+use Rattle.sum_table.proofs.Places.{now_of}
+use Rattle.ring_rule.specs.WordLaws.{index_of-lt}
 use Rattle.sum_table.proofs.Rings.{IsRing-put, IsRing-same, not_taken}
 use Rattle.sum_table.proofs.Rows.{BeginsWith-more, BeginsWith-same, history_put, history_same, inside, is_held, own_marks, step_of}
 use Rattle.sum_table.proofs.Sums.{SameSums-put, SameSums-set}
-use Rattle.sum_table.proofs.Views.{ByLap, Later, Later-same, NotPast-set, by_lap, finds, rank-of, view_later, views_set}
+use Rattle.sum_table.proofs.Views.{ByLap, Later, Later-same, by_lap, finds, rank-of, view_later, views_set}
+use Rattle.ring_rule.specs.WordLaws.{NotPast-set}
 use Rattle.sum_table.proofs.Kept.{HeldFacts, IsHeldAt, held_facts, held_of, kept_add, kept_later, kept_withdraw}
 
 -- what the rule says of some words and views, with the player's track and the history

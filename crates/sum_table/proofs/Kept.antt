@@ -23,7 +23,7 @@ use Rattle.sum_table.specs.Cuts.{joined_free, joined_marks}
 use Rattle.sum_table.specs.Exact.{AreWithinMarks, IsKept, IsLaid, IsOwn}
 use Rattle.sum_table.specs.Laid.{by_member, count}
 use Rattle.sum_table.specs.Steps.{HoldsLast, freed}
-use Rattle.sum_table.proofs.Lists.{at_append}
+use Rattle.ring_rule.specs.Lists.{at_append}
 
 pub IsLaid-later : (g : Geometry) (seen later : ℕ) → seen ≤ later → (e : Entry) → IsLaid g seen e → IsLaid g later e
 IsLaid-later g seen later up e l = record { channel = l.channel; low = l.low; ahead = omega (arith, l.ahead, up); fits = l.fits }

@@ -1,4 +1,3 @@
-pub mod Below
 pub mod Cuts
 pub mod Going
 pub mod Joining
@@ -14,6 +13,7 @@ pub mod Playing
 pub mod Rings
 pub mod Rows
 pub mod Seated
+pub mod Spots
 pub mod Sums
 pub mod Takes
 pub mod Views

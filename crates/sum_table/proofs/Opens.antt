@@ -20,11 +20,11 @@ use Rattle.sum_table.specs.declared.view.Key.{Key}
 use Rattle.sum_table.specs.declared.view.View.{View}
 use Rattle.sum_table.specs.Exact.{start_marks, Exact, IsRing, IsView, first_track, first_view, next_at, start_of}
 use Rattle.sum_table.specs.Laid.{by_member}
-use Rattle.sum_table.specs.Words.{index_of, words_of}
+use Rattle.ring_rule.specs.Words.{index_of, words_of}
 use Rattle.sum_table.proofs.Kept.{kept_none}
-use Rattle.sum_table.proofs.Cuts.{no_note}
+use Rattle.ring_rule.specs.NoteLaws.{no_note, none_there}
 use Rattle.sum_table.proofs.Takes.{track_or}
-use Rattle.sum_table.proofs.Places.{index_of-lt}
+use Rattle.ring_rule.specs.WordLaws.{index_of-lt}
 use Rattle.sum_table.proofs.Rings.{position-others}
 
 -- the words of a new ring
@@ -43,12 +43,6 @@ lap-first g f c now =
     let rest : f - g.first_lap * g.frames < g.frames = omega arith in
     let split : f ≡ g.first_lap * g.frames + (f - g.first_lap * g.frames) = omega arith in
     ap (λ x. x / g.frames) split ∙ div-mul-add g.first_lap g.frames (f - g.first_lap * g.frames) rest
-
--- nothing is noted at first
-none_there : (n i : ℕ) → get_or (replicate {A = Option ℕ} n None) i None ≡ None
-none_there zero i = refl
-none_there (suc n) zero = refl
-none_there (suc n) (suc i) = none_there n i
 
 ring_first : (g : Geometry) (silent : ℕ) → StandsFor silent g.first_lap 0 (pos 0) → IsRing g (new_words g silent) [] first_track
 ring_first g silent stands =

@@ -9,20 +9,8 @@ use Rattle.snd_base.specs.declared.places.Cursor.{Cursor}
 use Rattle.snd_base.specs.PlaceLaws.{first_free-behind_grows, first_free-behind_low, mod-same, mod-window, word_index-same}
 use Rattle.snd_base.specs.Places.{behind, first_free, next_word, slot, word_index}
 use Rattle.mix_core.specs.Sound.{IsNow}
-use Rattle.sum_table.specs.Words.{index_of, words_of}
-use Rattle.sum_table.proofs.Lists.{cases_eq}
-
-pub index_of-same : (g : Geometry) (f c k d : ℕ) → c < g.channels → d < g.channels → index_of g f c ≡ index_of g k d → (slot g f ≡ slot g k) × (c ≡ d)
-index_of-same g f c k d c_in d_in same =
-    let inner : word_index g f c ≡ word_index g k d = omega (arith, same) in
-    word_index-same g f c k d c_in d_in inner
-
--- each frame and channel has a word
-pub index_of-lt : (g : Geometry) (f c : ℕ) → c < g.channels → index_of g f c < words_of g
-index_of-lt g f c in_range =
-    let below : slot g f < g.frames = mod-lt f (omega (arith, g.frames_least)) in
-    let place : slot g f * g.channels + c < g.channels * g.frames = mul-add-lt (slot g f) g.channels c g.frames below in_range in
-    grind arith
+use Rattle.ring_rule.specs.Words.{index_of, words_of}
+use Rattle.ring_rule.specs.WordLaws.{cases_eq, index_of-lt, index_of-same}
 
 -- two frames and channels that the ring has now and that have one word are one
 pub IsNow-same : (g : Geometry) (next : Cursor) (f c k d : ℕ) → IsNow g next f c → IsNow g next k d → index_of g f c ≡ index_of g k d → (f ≡ k) × (c ≡ d)

@@ -27,7 +27,7 @@ use Rattle.sum_table.specs.Exact.{BeginsWith}
 use Rattle.sum_table.specs.Laid.{by_member}
 use Rattle.sum_table.specs.Seats.{Goes, Goes-joined, Goes-same, HasLaid, HasLost, HasNoted, LaysCounted, MakesIn, MakesLate, MayLay, SeatLaid, SeatLays, SeatLoaded, SeatLoaded-composes, entry_by, seat_view, shown, view_of}
 use Rattle.sum_table.specs.Steps.{HoldsLast, IsLateAt, IsLateHeld, IsStep, Makes, MakesLook, MayStand, Tells, in_row, sighting}
-use Rattle.sum_table.specs.Words.{index_of, rank}
+use Rattle.ring_rule.specs.Words.{index_of, rank}
 use Rattle.sum_table.proofs.Rows.{BeginsWith-same}
 use Rattle.sum_table.proofs.Seated.{holds_facts, holds_of, lay_facts}
 use Rattle.sum_table.proofs.Views.{rank-of}
@@ -52,8 +52,8 @@ in_made s t u e goes laid =
     (made.0, made.1, goes.history.0 ++ made.2, step_since (view_of s) (view_of t) (view_of u) made.0 made.1 made.2 (in_row made.0 e ∷ []) (same_view_key s t goes) goes.history made.3)
 
 -- a word of a later lap was found at last
-pub late_made : (s t u : MixSeat) (n : ℕ) (e : Entry) → Goes s t → t.marks ≡ s.marks → t.seen ≡ s.seen → HasNoted t u e.frame e.channel n → e.kind ≡ Added
-    → e.channel < s.key.geometry.channels → IsFrom s.marks.cursor e.frame e.channel → e.frame < s.seen + s.key.geometry.frames → lap s.key.geometry e.frame < lap_of n
+pub late_made : (s t u : MixSeat) (n : ℕ) (e : Entry) → Goes s t → t.reach.marks ≡ s.reach.marks → t.seen ≡ s.seen → HasNoted t u e.frame e.channel n → e.kind ≡ Added
+    → e.channel < s.key.geometry.channels → IsFrom s.reach.marks.cursor e.frame e.channel → e.frame < s.seen + s.key.geometry.frames → lap s.key.geometry e.frame < lap_of n
     → MakesLate s u e
 late_made s t u n e goes marks seen noted kind channel from ahead past =
     let own : s.key ≡ (view_of t).key = sym (t.known.same_key ∙ goes.key) in
@@ -145,7 +145,7 @@ pub is_past : (s u : MixSeat) (f c n : ℕ) → HasNoted s u f c n → IsAt s f 
 is_past s u f c n noted at_it other = omega (arith, (tells_seat s u f c n noted at_it).not_before, other)
 
 -- a seat's last standing add, after steps that laid nothing
-pub holds_on : (s t : MixSeat) (f c : ℕ) (sample : ℤ) → (view_of t).laid ≡ (view_of s).laid → t.marks ≡ s.marks → HoldsLast (view_of s) f c sample → HoldsLast (view_of t) f c sample
+pub holds_on : (s t : MixSeat) (f c : ℕ) (sample : ℤ) → (view_of t).laid ≡ (view_of s).laid → t.reach.marks ≡ s.reach.marks → HoldsLast (view_of s) f c sample → HoldsLast (view_of t) f c sample
 holds_on s t f c sample laid marks holds = record {
   early = holds.early;
   last = holds.last;
@@ -156,7 +156,7 @@ holds_on s t f c sample laid marks holds = record {
   from_floor = subst (λ (x : Marks). IsFrom x.floor f c) (s.known.same_marks ∙ (sym marks ∙ sym t.known.same_marks)) holds.from_floor;
 }
 
-pub at_on : (s t : MixSeat) (f c : ℕ) → Goes s t → (view_of t).laid ≡ (view_of s).laid → t.marks ≡ s.marks → t.seen ≡ s.seen → IsAt s f c → IsAt t f c
+pub at_on : (s t : MixSeat) (f c : ℕ) → Goes s t → (view_of t).laid ≡ (view_of s).laid → t.reach.marks ≡ s.reach.marks → t.seen ≡ s.seen → IsAt s f c → IsAt t f c
 at_on s t f c goes laid marks seen at_it =
     let own : s.key ≡ t.key = sym goes.key in
     record {
@@ -181,7 +181,7 @@ pub record HasFound (s t : MixSeat) (f c : ℕ) (words : List ℕ) : Type 0 wher
   pub positions : (view_of t).positions ≡ (view_of s).positions
   pub seen_gone : (view_of t).seen_gone ≡ (view_of s).seen_gone
   pub sightings : (view_of t).sightings ≡ (view_of s).sightings ++ map (sighting (index_of s.key.geometry f c)) words
-  pub marks : t.marks ≡ s.marks
+  pub marks : t.reach.marks ≡ s.reach.marks
   pub seen : t.seen ≡ s.seen
 
 pub found_none : (s : MixSeat) (f c : ℕ) → HasFound s s f c []
@@ -336,7 +336,7 @@ one_laid s t u f c words e is laid =
     let step : IsStep (view_of s) (view_of u) made.0 made.1 made.2 (in_row made.0 e ∷ []) = made.3 in
     record {
       goes = Goes-joined s t u is.goes laid.goes;
-      marks = laid.marks ∙ (ap (λ (k : Key). marks_after k.geometry t.marks e) is.goes.key ∙ ap (λ m. marks_after s.key.geometry m e) is.marks);
+      marks = laid.marks ∙ (ap (λ (k : Key). marks_after k.geometry t.reach.marks e) is.goes.key ∙ ap (λ m. marks_after s.key.geometry m e) is.marks);
       laid = ap (λ (x : View). x.laid) laid.view ∙ ap (λ es. es ++ e ∷ []) is.laid;
       mine = mine;
       adds = (
@@ -357,7 +357,7 @@ port_view g m can marks seen = record { geometry = g; member = m; can_add = can;
 pub view_same : (g k : Geometry) (m n : ℕ) (can may : Bool) (a b : Marks) (p q : ℕ) → g ≡ k → m ≡ n → can ≡ may → a ≡ b → p ≡ q → port_view g m can a p ≡ port_view k n may b q
 view_same g k m n can may a b p q e1 e2 e3 e4 e5 = cc
 
-seat_view_is : (s t : MixSeat) (m : Marks) → Goes s t → t.marks ≡ m → t.seen ≡ s.seen → seat_view t ≡ record (seat_view s) { marks = m }
+seat_view_is : (s t : MixSeat) (m : Marks) → Goes s t → t.reach.marks ≡ m → t.seen ≡ s.seen → seat_view t ≡ record (seat_view s) { marks = m }
 seat_view_is s t m goes marks seen =
     view_same _ _ _ _ _ _ _ _ _ _ (ap (λ (k : Key). k.geometry) goes.key) goes.member (ap (λ n. nat_lt 0 n) goes.places) marks seen
 
@@ -368,7 +368,7 @@ pub stopped_lays : {T : Type 0} (stops : T → ℕ) (asked : T → T → List St
     → LaysCounted stops asked s g before e Stopped t h after
 stopped_lays stops asked s t g h e words n before after is number some early asks up counted bound = record {
   step = record {
-    view_is = seat_view_is s t s.marks is.goes is.marks is.seen;
+    view_is = seat_view_is s t s.reach.marks is.goes is.marks is.seen;
     laid_it = nothing_laid s t e.frame e.channel words is;
     loaded_nothing = loads_nothing s t is.positions is.seen_gone is.seen;
     not_before_seen = tt;
@@ -399,7 +399,7 @@ late_lays stops asked s t u g h k f c x words word n before after is noted lay o
     let all : HasFound s u f c (words ++ word ∷ []) = found_more s t u f c word words is noted in
     record {
       step = record {
-        view_is = seat_view_is s u s.marks all.goes all.marks all.seen;
+        view_is = seat_view_is s u s.reach.marks all.goes all.marks all.seen;
         laid_it = nothing_laid s u f c (words ++ word ∷ []) all;
         loaded_nothing = loads_nothing s u all.positions all.seen_gone all.seen;
         not_before_seen = tt;
@@ -431,7 +431,7 @@ whole_lays stops asked s t u g h e words n before after is laid not_before numbe
     let one : SeatLaid s u (e ∷ []) = one_laid s t u e.frame e.channel words e is laid in
     record {
       step = record {
-        view_is = seat_view_is s u (marks_after s.key.geometry s.marks e) one.goes one.marks (laid.seen ∙ is.seen);
+        view_is = seat_view_is s u (marks_after s.key.geometry s.reach.marks e) one.goes one.marks (laid.seen ∙ is.seen);
         laid_it = one;
         loaded_nothing = loads_nothing s u (ap (λ (x : View). x.positions) laid.view ∙ is.positions) (ap (λ (x : View). x.seen_gone) laid.view ∙ is.seen_gone) (laid.seen ∙ is.seen);
         not_before_seen = not_before;

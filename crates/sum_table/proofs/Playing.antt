@@ -25,22 +25,17 @@ use Rattle.sum_table.specs.declared.view.Key.{Key}
 use Rattle.sum_table.specs.declared.view.Track.{Track}
 use Rattle.sum_table.specs.declared.view.View.{View}
 use Rattle.sum_table.specs.Exact.{Exact, next_at, position_at, the_track}
-use Rattle.sum_table.specs.Known.{IsPlayer, has_all}
+use Rattle.sum_table.specs.Known.{IsPlayer}
+use Rattle.ring_rule.specs.Positions.{has_all}
 use Rattle.sum_table.specs.Players.{HasTaken, player_view, track_of}
 use Rattle.sum_table.specs.Steps.{Makes, published, taken, taking, track_taken, unplugged, with_gone, with_published, with_taken}
-use Rattle.sum_table.specs.Words.{index_of}
-use Rattle.sum_table.proofs.Lists.{cases_eq, last_of-more}
-use Rattle.sum_table.proofs.Rings.{next_at-taken, suc-le-end_frame}
+use Rattle.ring_rule.specs.Words.{index_of}
+use Rattle.ring_rule.specs.PositionLaws.{has_all-published, last_of-more}
+use Rattle.ring_rule.specs.WordLaws.{cases_eq, lap-le}
+use Rattle.sum_table.proofs.Rings.{next_at-taken}
+use Rattle.ring_rule.specs.WordLaws.{suc-le-end_frame}
 use Rattle.sum_table.proofs.Seated.{step_begins}
 use Rattle.sum_table.proofs.Takes.{publishes, takes, unplugs}
-
--- no frame up to the end has a lap past the last
-pub lap-le : (g : Geometry) (f : ℕ) → f ≤ end_frame g → lap g f ≤ 4294967295
-lap-le g f within =
-    let some : 0 < g.frames = omega (arith, g.frames_least) in
-    let below : f < 4294967296 * g.frames = omega (arith, g.frames_least) in
-    let fits : lap g f < 4294967296 = (div-lt_iff_lt-mul some).1 below in
-    omega arith
 
 -- the player's track is the one that its view has
 track_is : (v : View) (t : Track) → v.track ≡ Some t → the_track v.track ≡ t
@@ -86,61 +81,9 @@ may_unplug p slots word is =
     (λ t is. p.known.position_is ∙ (ap (position_at p.key.geometry) (track_is v t is) ∙ ap (λ (k : Key). position_at k.geometry t) own)) in
     subst (λ k. Goes k word) (p.known.same_key ∙ p.same_ring.1) (subst (Goes v.key) (sym is) at_own)
 
-and_split : (a b : Bool) → (a && b) ≡ true → (a ≡ true) × (b ≡ true)
-and_split true b is = (refl, is)
-and_split false b is = absurd (false≢true is)
-
-and_true : (a b : Bool) → a ≡ true → b ≡ true → (a && b) ≡ true
-and_true a b first second = rw (first, second) refl
-
-or_left : (a b : Bool) → a ≡ true → (a || b) ≡ true
-or_left a b is = rw is refl
-
 or_right : (a b : Bool) → b ≡ true → (a || b) ≡ true
 or_right true b is = refl
 or_right false b is = is
-
--- more positions were seen
-pub has_all-more : (ns more ms : List ℕ) → has_all ns ms ≡ true → has_all (ns ++ more) ms ≡ true
-has_all-more ns more [] is = refl
-has_all-more ns more (m ∷ ms) is =
-    let parts = and_split (list_any (λ n. n == m) ns) (has_all ns ms) is in
-    and_true _ _ (list_any-append (λ n. n == m) ns more ∙ or_left (list_any (λ n. n == m) ns) (list_any (λ n. n == m) more) parts.0) (has_all-more ns more ms parts.1)
-
--- one more was published, and seen
-has_last : (ns ms : List ℕ) (m : ℕ) → has_all ns ms ≡ true → list_any (λ n. n == m) ns ≡ true → has_all ns (ms ++ m ∷ []) ≡ true
-has_last ns [] m is here = and_true (list_any (λ n. n == m) ns) true here refl
-has_last ns (x ∷ xs) m is here =
-    let parts = and_split (list_any (λ n. n == x) ns) (has_all ns xs) is in
-    and_true _ _ parts.0 (has_last ns xs m parts.1 here)
-
-pub has_all-published : (ns ms : List ℕ) (m : ℕ) → has_all ns ms ≡ true → has_all (ns ++ m ∷ []) (ms ++ m ∷ []) ≡ true
-has_all-published ns ms m is =
-    let own : (m == m) ≡ true = grind (arith, nat_tests) in
-    let here : list_any (λ n. n == m) (ns ++ m ∷ []) ≡ true =
-    list_any-append (λ n. n == m) ns (m ∷ []) ∙ or_right (list_any (λ n. n == m) ns) (list_any (λ n. n == m) (m ∷ [])) (rw own refl) in
-    has_last (ns ++ m ∷ []) ms m (has_all-more ns (m ∷ []) ms is) here
-
--- what is among the positions stands at some place
-found_there : (ns : List ℕ) (m : ℕ) → list_any (λ n. n == m) ns ≡ true → (j : ℕ) × (get_elem? ns j ≡ some m)
-found_there [] m is = absurd (false≢true is)
-found_there (n ∷ ns) m is = elim (cases_eq n m) [
-  | inl same ↦ (0, ap some same)
-  | inr apart ↦
-      let test : (n == m) ≡ false = grind (arith, nat_tests) in
-      let later : list_any (λ x. x == m) ns ≡ true = rw test at is in
-      let rest = found_there ns m later in
-      (suc rest.0, rest.1)
-]
-
-pub has_each : (ns ms : List ℕ) (i m : ℕ) → has_all ns ms ≡ true → get_elem? ms i ≡ some m → (j : ℕ) × (get_elem? ns j ≡ some m)
-has_each ns [] i m is there = absurd (some-ne-none m (sym there))
-has_each ns (x ∷ xs) zero m is there =
-    let parts = and_split (list_any (λ n. n == x) ns) (has_all ns xs) is in
-    found_there ns m (ap (λ y. list_any (λ n. n == y) ns) (sym (some-injective x m there)) ∙ parts.0)
-has_each ns (x ∷ xs) (suc i) m is there =
-    let parts = and_split (list_any (λ n. n == x) ns) (has_all ns xs) is in
-    has_each ns xs i m parts.1 there
 
 -- the fields after a word was taken
 pub known_taken : (k : Key) (next : Cursor) (position : ℕ) (gone : Bool) (slots i word n : ℕ) (m r : Me Entry View)

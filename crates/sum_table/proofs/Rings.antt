@@ -24,8 +24,10 @@ use Rattle.sum_table.specs.declared.view.Track.{Track}
 use Rattle.sum_table.specs.Exact.{IsRing, next_at, position_at}
 use Rattle.sum_table.specs.Laid.{SameSums, count}
 use Rattle.sum_table.specs.Steps.{taking, track_gone, track_published, track_taken}
-use Rattle.sum_table.specs.Words.{index_of}
-use Rattle.sum_table.proofs.Lists.{Rising-more, at-more_elsewhere, at-more_here, at_place, cases_eq, is_taken-more, last_of-more, place_cases, total-more_elsewhere, total-more_here}
+use Rattle.ring_rule.specs.Words.{index_of}
+use Rattle.sum_table.proofs.Lists.{at-more_elsewhere, at-more_here, at_place, is_taken-more, place_cases, total-more_elsewhere, total-more_here}
+use Rattle.ring_rule.specs.PositionLaws.{Rising-more, last_of-more}
+use Rattle.ring_rule.specs.WordLaws.{cases_eq, suc-le-end_frame}
 use Rattle.sum_table.proofs.Places.{next_word-channel, words-taken, words-written}
 
 -- the words, the track, and other entries of the same sums
@@ -114,13 +116,6 @@ AreInOrder-more g ts x in_order here i d inside =
           let below : i < length ts = omega (arith, length-append ts (x ∷ [])) in
           ap place_of (get_or_append_left ts (x ∷ []) d i below) ∙ in_order i d below
     ]
-
--- a frame of a lap that fits a word is not the last of all
-pub suc-le-end_frame : (g : Geometry) (f : ℕ) → lap g f < 4294967295 → f + 1 ≤ end_frame g
-suc-le-end_frame g f fits =
-    let some : 0 < g.frames = omega (arith, g.frames_least) in
-    let below : f < 4294967295 * g.frames = (div-lt_iff_lt-mul some).0 fits in
-    omega arith
 
 -- the next word stands behind the one that is taken
 pub next_at-taken : (g : Geometry) (t : Track) (x : Taken) → next_at g (track_taken t x) ≡ behind g (next_at g t).frame (next_at g t).channel

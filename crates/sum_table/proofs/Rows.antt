@@ -28,7 +28,7 @@ use Rattle.sum_table.specs.Exact.{BeginsWith, IsHistory, IsKept, IsOwn, next_at,
 use Rattle.sum_table.specs.Laid.{SameSums, all_laid, by_member, own}
 use Rattle.sum_table.specs.Steps.{IsStep, in_row, taking, track_gone, track_published, track_taken}
 use Rattle.sum_table.proofs.Kept.{HeldFacts, IsHeldAt, held_facts, marks_by-member, standing-member}
-use Rattle.sum_table.proofs.Lists.{last_of-more}
+use Rattle.ring_rule.specs.PositionLaws.{last_of-more}
 use Rattle.sum_table.proofs.Sums.{SameSums-append, SameSums-append_right, SameSums-by_member, SameSums-joined, SameSums-put, SameSums-set}
 
 pub within : {A : Type 0} (l : List A) (i : ℕ) (a : A) → get_elem? l i ≡ some a → i < length l

@@ -1,5 +1,5 @@
 -- What a seat's steps may do and do, said of the seat's fields.
-use Rattle.std.proofs.Common.{◌≡◌, ◌≢◌, ℕ, ◌+◌, ◌<◌, ◌≤◌, ◌==◌, Bool, false, Option, None, Some, List, [], ◌∷◌, ◌++◌, length, get_or, set, ℤ, pos, negsuc, ◌+ℤ◌, ◌≤ℤ◌, inl, inr, arith, subst, sym, refl, ap, ◌∙◌, to_z, of_z}
+use Rattle.std.proofs.Common.{◌≡◌, ◌≢◌, ℕ, ◌+◌, ◌<◌, ◌≤◌, ◌==◌, Bool, false, Option, None, Some, IfSome, suc, List, [], ◌∷◌, ◌++◌, length, get_or, set, ℤ, pos, negsuc, ◌+ℤ◌, ◌≤ℤ◌, inl, inr, arith, subst, sym, refl, ap, ◌∙◌, to_z, of_z}
 use mathlib.Core.Option.{some, none}
 use lib.ListN.{get_elem?}
 use prog.Atomic.{either}
@@ -29,13 +29,13 @@ use Rattle.sum_table.specs.Exact.{BeginsWith, Exact, IsLaid}
 use Rattle.sum_table.specs.Known.{IsKnown, IsNoted, greater, last_frame}
 use Rattle.sum_table.specs.Seats.{HasLaid, HasLocated, HasLost, HasNoted, MayLay, NotesRise, NotesRise-same, entry_by, view_of}
 use Rattle.sum_table.specs.Steps.{Finds, HoldsLast, IsStep, IsSumOf, IsWord, Lays, Makes, MakesLook, Notes, exchanged, in_row, located, looked, with_entry, with_note, with_position}
-use Rattle.sum_table.specs.Words.{NotPast, index_of}
+use Rattle.ring_rule.specs.Words.{NotPast, index_of}
 use Rattle.sum_table.proofs.Keeps.{MayPut, exchanges, locates, looks, may_put}
 use Rattle.sum_table.proofs.Kept.{IsHeldAt, IsLaid-later, held_laid, laid_more}
-use Rattle.sum_table.proofs.Lists.{noted_set}
+use Rattle.ring_rule.specs.NoteLaws.{noted_set}
 use Rattle.std.proofs.lemmas.Bool.Decides.{nat_tests}
-use Rattle.sum_table.proofs.Places.{index_of-lt}
-use Rattle.sum_table.proofs.Rings.{suc-le-end_frame}
+use Rattle.ring_rule.specs.WordLaws.{index_of-lt}
+use Rattle.ring_rule.specs.WordLaws.{suc-le-end_frame}
 
 -- the steps at the ring's key, which is the view's
 pub locates_at : (k : Key) (slots id : ℕ) (m : Me Entry View) → m.0.key ≡ k → m.0.ended ≡ false
@@ -141,7 +141,7 @@ notes_more v w i n is inside past j o there = elim (cases_eq j i) [
 ]
 
 -- a seat that noted a word
-pub has_noted : (s t : MixSeat) (f c n : ℕ) → SameFields s t → t.marks ≡ s.marks → t.last ≡ s.last → c < s.key.geometry.channels
+pub has_noted : (s t : MixSeat) (f c n : ℕ) → SameFields s t → t.reach.marks ≡ s.reach.marks → t.reach.last ≡ s.reach.last → c < s.key.geometry.channels
     → Finds (view_of s) (index_of s.key.geometry f c) n
     → Notes s.seat.me.0 s.seat.me.1 (index_of s.key.geometry f c) n t.seat.me
     → HasNoted s t f c n
@@ -206,7 +206,7 @@ pub record MayExchange (s : MixSeat) (k : Kind) (f c old : ℕ) (sample : ℤ) :
   pub high : signed k sample ≤ℤ pos 32768
 
 -- a seat's last standing add is a sample at a frame and channel that are not before its floor, at its fields
-pub holds_of : (s : MixSeat) (f c : ℕ) (sample : ℤ) → EndsIn (standing (view_of s).laid) (an_add s.member f c sample ∷ []) → IsFrom s.marks.floor f c → HoldsLast (view_of s) f c sample
+pub holds_of : (s : MixSeat) (f c : ℕ) (sample : ℤ) → EndsIn (standing (view_of s).laid) (an_add s.member f c sample ∷ []) → IsFrom s.reach.marks.floor f c → HoldsLast (view_of s) f c sample
 holds_of s f c sample ends from = record {
   early = ends.0;
   last = an_add s.member f c sample;
@@ -273,7 +273,7 @@ may_lay s Withdrawn f c old sample in_range lay noted of_lap =
 -- where a seat may lay
 pub lay_facts : (s : MixSeat) (k : Kind) (f c : ℕ) (sample : ℤ) → MayLay k s f c sample → HoldsFacts s f c
 lay_facts s Added f c sample lay =
-    let start : s.marks.cursor.frame ≤ first_free s.marks.cursor c = grind (arith, nat_tests) in
+    let start : s.reach.marks.cursor.frame ≤ first_free s.reach.marks.cursor c = grind (arith, nat_tests) in
     record { channel = lay.1; low = omega (arith, s.known.cursor_within.least, start, lay.2); ahead = omega (arith, s.known.same_seen, lay.3); fits = lay.4 }
 lay_facts s Withdrawn f c sample lay = holds_facts s f c sample (holds_of s f c sample lay.0 lay.1)
 
@@ -313,6 +313,14 @@ greater-assoc (Some x) (Some y) (Some z) = ap (λ n. Some n) (omega arith)
 pub last_frame-append : (xs ys : List Entry) → last_frame (xs ++ ys) ≡ greater (last_frame xs) (last_frame ys)
 last_frame-append [] ys = refl
 last_frame-append (x ∷ xs) ys = ap (greater (Some x.frame)) (last_frame-append xs ys) ∙ sym (greater-assoc (Some x.frame) (last_frame xs) (last_frame ys))
+
+-- the greatest frame of some entries is below what each of them is below
+pub last_frame-before : (es : List Entry) (end : ℕ) → ((i : ℕ) (e : Entry) → get_elem? es i ≡ some e → e.frame < end) → IfSome (last_frame es) (λ f. f < end)
+last_frame-before [] end each = tt
+last_frame-before (e ∷ es) end each = step (last_frame es) (last_frame-before es end (λ i. each (suc i))) (each 0 e refl) where
+  step : (o : Option ℕ) → IfSome o (λ f. f < end) → e.frame < end → IfSome (greater (Some e.frame) o) (λ f. f < end)
+  step None rest own = own
+  step (Some f) rest own = omega arith
 
 -- the marks after an entry stay within the ring's frames
 pub record MarksWithin (g : Geometry) (m : Marks) : Type 0 where
@@ -397,7 +405,7 @@ known_laid k places marks seen last v h e is may =
     }
 
 -- a seat that laid an entry
-pub has_laid : (s t : MixSeat) (e : Entry) → SameFields s t → t.marks ≡ marks_after s.key.geometry s.marks e → t.last ≡ greater s.last (Some e.frame)
+pub has_laid : (s t : MixSeat) (e : Entry) → SameFields s t → t.reach.marks ≡ marks_after s.key.geometry s.reach.marks e → t.reach.last ≡ greater s.reach.last (Some e.frame)
     → Lays s.seat.me.0 s.seat.me.1 e t.seat.me → HasLaid s t e
 has_laid s t e same marks last told =
     let h : List Row = told.0 in
@@ -431,7 +439,7 @@ pub known_lost : (k : Key) (places : ℕ) (marks : Marks) (seen : ℕ) (last : O
 known_lost k places marks seen last slots i old new n e m r is other told =
     known_looked k places marks seen last slots i n m r is (lost_notes slots i old new n e m r other told)
 
-pub has_lost : (s t : MixSeat) (slots i f c old new n : ℕ) (e : Entry) → SameFields s t → t.marks ≡ s.marks → t.last ≡ s.last → c < s.key.geometry.channels
+pub has_lost : (s t : MixSeat) (slots i f c old new n : ℕ) (e : Entry) → SameFields s t → t.reach.marks ≡ s.reach.marks → t.reach.last ≡ s.reach.last → c < s.key.geometry.channels
     → get_or (view_of s).noted (index_of s.key.geometry f c) None ≡ Some old → i ≡ index_of s.key.geometry f c
     → n ≢ old → exchanged (step slots i old new (some e)) s.seat.me n t.seat.me → HasLost s t f c old n
 has_lost s t slots i f c old new n e same marks last in_range noted index other told =
@@ -462,13 +470,13 @@ known_won k places marks seen last slots i old new n e m r is may same told =
     subst (λ (x : Me Entry View). IsKnown x.0 k places (marks_after k.geometry marks e) seen (greater last (Some e.frame))) (sym lays.1) (known_laid k places marks seen last m.0 lays.0 e is may)
 
 -- the sample is the one that was handed in
-pub has_laid_as : (s t : MixSeat) (k : Kind) (f c : ℕ) (z x : ℤ) → z ≡ x → SameFields s t → t.marks ≡ marked k s.key.geometry s.marks f c → t.last ≡ greater s.last (Some f)
+pub has_laid_as : (s t : MixSeat) (k : Kind) (f c : ℕ) (z x : ℤ) → z ≡ x → SameFields s t → t.reach.marks ≡ marked k s.key.geometry s.reach.marks f c → t.reach.last ≡ greater s.reach.last (Some f)
     → Lays s.seat.me.0 s.seat.me.1 (entry_by s k f c z) t.seat.me → HasLaid s t (entry_by s k f c x)
 has_laid_as s t k f c z x is same marks last told = subst (λ y. HasLaid s t (entry_by s k f c y)) is (has_laid s t (entry_by s k f c z) same marks last told)
 
 -- a seat that loaded the position
 pub has_located : (s t : MixSeat) (slots n : ℕ) (p : Position) → t.seat.table_id ≡ s.seat.table_id → t.key ≡ s.key → t.member ≡ s.member → t.places ≡ s.places
-    → t.marks ≡ s.marks → t.last ≡ s.last → t.seen ≡ p.frame → p.frame ≡ position_in n → p.gone ≡ gone_in n
+    → t.reach.marks ≡ s.reach.marks → t.reach.last ≡ s.reach.last → t.seen ≡ p.frame → p.frame ≡ position_in n → p.gone ≡ gone_in n
     → located (step slots 0 0 0 none) s.seat.me n t.seat.me → HasLocated s t p
 has_located s t slots n p ring key member places marks last seen frame gone told =
     let most : told.1 ≤ end_frame s.key.geometry = subst (λ (x : Key). told.1 ≤ end_frame x.geometry) s.known.same_key told.6 in

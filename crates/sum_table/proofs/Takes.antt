@@ -24,15 +24,18 @@ use Rattle.sum_table.specs.declared.view.View.{View}
 use Rattle.sum_table.specs.Exact.{Exact, is_tracked, IsHistory, IsPublished, IsView, next_at, position_at}
 use Rattle.sum_table.specs.Laid.{all_laid, count}
 use Rattle.sum_table.specs.Steps.{published, taken, taking, track_gone, track_published, track_taken, unplugged, with_gone, with_published, with_taken}
-use Rattle.sum_table.specs.Words.{NotPast, index_of, rank}
+use Rattle.ring_rule.specs.Words.{NotPast, index_of, rank}
 use Rattle.sum_table.proofs.Kept.{kept_later}
 use Rattle.sum_table.proofs.Keeps.{Holds, none_made}
-use Rattle.sum_table.proofs.Lists.{IsPublished-last, last_of-more}
-use Rattle.sum_table.proofs.Places.{IsNow-next, index_of-lt, next_word-channel}
+use Rattle.sum_table.proofs.Lists.{IsPublished-last}
+use Rattle.ring_rule.specs.PositionLaws.{last_of-more}
+use Rattle.sum_table.proofs.Places.{IsNow-next, next_word-channel}
+use Rattle.ring_rule.specs.WordLaws.{index_of-lt}
 use Rattle.sum_table.proofs.Rings.{IsRing-gone, IsRing-publish, IsRing-same, IsRing-take, next_at-taken}
 use Rattle.sum_table.proofs.Rows.{BeginsWith-more, BeginsWith-same, history_gone, history_publish, history_same, history_take, step_of}
 use Rattle.sum_table.proofs.Sums.{SameSums-set}
-use Rattle.sum_table.proofs.Views.{Later, NotPast-set, none_far, rank-of, view_later, views_set}
+use Rattle.sum_table.proofs.Views.{Later, none_far, rank-of, view_later, views_set}
+use Rattle.ring_rule.specs.WordLaws.{NotPast-set}
 
 abbrev pub track_or : Track → Option Track → Track
 track_or t None = t

@@ -22,8 +22,8 @@ use Rattle.sum_table.specs.declared.view.View.{View}
 use Rattle.sum_table.specs.Exact.{AreViews, BeginsWith, IsPublished, IsRing, IsView, next_at, position_at}
 use Rattle.sum_table.specs.Laid.{all_laid, count, places_of}
 use Rattle.sum_table.specs.Steps.{Finds, IsWord, Tells}
-use Rattle.sum_table.specs.Words.{NotPast, index_of, rank}
-use Rattle.sum_table.proofs.Lists.{cases_eq}
+use Rattle.ring_rule.specs.Words.{NotPast, index_of, rank}
+use Rattle.ring_rule.specs.WordLaws.{cases_eq}
 use Rattle.sum_table.proofs.Kept.{held_of, held_once, held_place}
 use Rattle.sum_table.proofs.Places.{now_of}
 use Rattle.sum_table.proofs.Sums.{count-append, count_few, count_room, places_set}
@@ -85,21 +85,6 @@ Later-same g words t early late more = record {
   words = λ i n positive x. x;
   history = more;
 }
-
-pub NotPast-later : (n old new : ℕ) → NotPast n old → rank old < rank new → NotPast n new
-NotPast-later n old new past up = elim past [
-  | inl same ↦ inr (subst (λ x. rank x < rank new) (sym same) up)
-  | inr below ↦ inr (omega (arith, below, up))
-]
-
--- one word becomes a later one
-pub NotPast-set : (words : List ℕ) (j word i n : ℕ) → j < length words → rank (get_or words j 0) < rank word → NotPast n (get_or words i 0) → NotPast n (get_or (set words j word) i 0)
-NotPast-set words j word i n inside up past = elim (cases_eq i j) [
-  | inl same ↦
-      subst (λ x. NotPast n (get_or (set words j word) x 0)) (sym same)
-      (subst (NotPast n) (sym (get_or-set_same words j word 0 inside)) (NotPast-later n (get_or words j 0) word (subst (λ x. NotPast n (get_or words x 0)) same past) up))
-  | inr other ↦ subst (NotPast n) (sym (get_or-set_other words j i word 0 other)) past
-]
 
 pub rank-of : (w l c : ℕ) (s : ℤ) → StandsFor w l c s → rank w ≡ l * 256 + c
 rank-of w l c s h = grind (arith, ints)

@@ -7,7 +7,8 @@ pub use Rattle.mix_core.specs.Marks.{is_before, later_of, start_marks}
 use Rattle.sum_table.specs.declared.view.Key.{Key}
 use Rattle.sum_table.specs.declared.view.Track.{Track}
 use Rattle.sum_table.specs.declared.view.View.{View}
-use Rattle.sum_table.specs.Words.{rank}
+use Rattle.ring_rule.specs.Words.{rank}
+use Rattle.ring_rule.specs.Notes.{later_notes}
 
 -- a view with other places
 abbrev pub with_places : View → ℕ → View
@@ -47,18 +48,6 @@ joined_marks a b (suc n) = record { cursor = later_of a.high b.high; floor = lat
 abbrev pub joined_free : List Entry → ℕ → List Entry
 joined_free free zero = free
 joined_free free (suc n) = []
-
--- the later one of two notes
-abbrev pub later_note : Option ℕ → Option ℕ → Option ℕ
-later_note None o = o
-later_note (Some n) None = Some n
-later_note (Some n) (Some o) = if nat_lt (rank n) (rank o) then Some o else Some n
-
--- the later notes of two views
-abbrev pub later_notes : List (Option ℕ) → List (Option ℕ) → List (Option ℕ)
-later_notes [] os = os
-later_notes (n ∷ ns) [] = n ∷ ns
-later_notes (n ∷ ns) (o ∷ os) = later_note n o ∷ later_notes ns os
 
 -- the player's part of two views, of which at most one has it
 abbrev pub either_track : Option Track → Option Track → Option Track

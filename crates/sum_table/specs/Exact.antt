@@ -22,29 +22,20 @@ use Rattle.sum_table.specs.declared.view.Key.{Key}
 use Rattle.sum_table.specs.declared.view.Track.{Track}
 use Rattle.sum_table.specs.declared.view.View.{View}
 use Rattle.sum_table.specs.Laid.{SameSums, all_laid, by_member, count, own, places_of}
-use Rattle.sum_table.specs.Words.{NotPast, index_of, words_of}
+use Rattle.ring_rule.specs.Words.{NotPast, index_of, words_of}
+use Rattle.ring_rule.specs.Positions.{IsPosition, Rising, last_position}
 
 -- the next word to be taken
 abbrev pub next_at : Geometry → Track → Cursor
 next_at g t = next_word g (length t.taken)
 
--- the last one of some numbers, or another where there is none
-abbrev pub last_of : ℕ → List ℕ → ℕ
-last_of d [] = d
-last_of d (x ∷ xs) = last_of x xs
-
 -- the position that was published last, or the first frame
 abbrev pub position_at : Geometry → Track → ℕ
-position_at g t = last_of (first_frame g) t.published
-
--- the numbers never fall, from one on
-abbrev pub Rising : ℕ → List ℕ → Type 0
-Rising d [] = ⊤
-Rising d (x ∷ xs) = (d ≤ x) × Rising x xs
+position_at g t = last_position g t.published
 
 -- a position is the first frame or one that was published
 abbrev pub IsPublished : Geometry → Track → ℕ → Type 0
-IsPublished g t p = (p ≡ first_frame g) ⊎ ((i : ℕ) × (get_elem? t.published i ≡ some p))
+IsPublished g t p = IsPosition g t.published p
 
 -- a history begins with another
 abbrev pub BeginsWith : List Row → List Row → Type 0

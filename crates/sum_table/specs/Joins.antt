@@ -21,7 +21,7 @@ use Rattle.sum_table.specs.Laid.{SameSums}
 use Rattle.sum_table.specs.Players.{PlayerGoes, player_key, player_ring, player_view, track_of}
 use Rattle.sum_table.specs.Seats.{key_of, ring_of, view_of}
 use Rattle.sum_table.specs.Steps.{Makes, with_history}
-use Rattle.sum_table.specs.Words.{index_of}
+use Rattle.ring_rule.specs.Words.{index_of}
 
 -- two seats are of one ring. That one ring has one key is not told by its identity, so both are asked
 abbrev pub OneRing : TableId → Key → TableId → Key → Type 0
@@ -45,9 +45,9 @@ pub record Stays (s t : MixSeat) : Type 0 where
   pub ring : ring_of t ≡ ring_of s
   pub key : t.key ≡ s.key
   pub member : t.member ≡ s.member
-  pub marks : t.marks ≡ s.marks
+  pub marks : t.reach.marks ≡ s.reach.marks
   pub seen : t.seen ≡ s.seen
-  pub last : t.last ≡ s.last
+  pub last : t.reach.last ≡ s.reach.last
 
 -- some places moved to a new seat, which has seen as much and laid nothing
 pub record HasSplit (s t new : MixSeat) (n m : ℕ) : Type 0 where
@@ -59,9 +59,9 @@ pub record HasSplit (s t new : MixSeat) (n m : ℕ) : Type 0 where
   pub new_view : view_of new ≡ part_of (view_of s) n
   pub new_member : new.member ≡ m
   pub new_places : new.places ≡ n
-  pub new_marks : new.marks ≡ start_marks s.key.geometry
+  pub new_marks : new.reach.marks ≡ start_marks s.key.geometry
   pub new_seen : new.seen ≡ s.seen
-  pub new_last : new.last ≡ None
+  pub new_last : new.reach.last ≡ None
 
 -- a seat took over what another one is and has: places and laid lists add up, the later cursor and notes stay, and what
 -- either has seen both have seen
@@ -71,9 +71,9 @@ pub record HasJoined (s t other : MixSeat) : Type 0 where
   pub member : t.member ≡ s.member
   pub view : view_of t ≡ with_history (both_of (view_of s) (view_of other)) (view_of t).history
   pub places : t.places ≡ s.places + other.places
-  pub marks : t.marks ≡ joined_marks s.marks other.marks other.places
+  pub marks : t.reach.marks ≡ joined_marks s.reach.marks other.reach.marks other.places
   pub seen : t.seen ≡ max s.seen other.seen
-  pub last : t.last ≡ greater s.last other.last
+  pub last : t.reach.last ≡ greater s.reach.last other.reach.last
   pub history : BeginsWith (view_of t).history (view_of s).history
   pub other_history : BeginsWith (view_of t).history (view_of other).history
   pub event : Makes (both_of (view_of s) (view_of other)) (view_of t) (λ _. [])
@@ -97,8 +97,8 @@ pub record HasMet (s t : MixSeat) (n : SeatNote) : Type 0 where
   pub view : view_of t ≡ with_history (both_of (view_of s) (note_view n)) (view_of t).history
   pub places : t.places ≡ s.places
   pub laid : (view_of t).laid ≡ (view_of s).laid
-  pub marks : t.marks ≡ s.marks
-  pub last : t.last ≡ s.last
+  pub marks : t.reach.marks ≡ s.reach.marks
+  pub last : t.reach.last ≡ s.reach.last
   pub seen : t.seen ≡ max s.seen (note_seen n)
   pub gone : (view_of t).seen_gone ≡ ((view_of s).seen_gone || (note_view n).seen_gone)
   pub history : BeginsWith (view_of t).history (view_of s).history
@@ -121,7 +121,8 @@ pub record HasPlayerNote (p q : PlayerSeat) (n : SeatNote) : Type 0 where
   pub published : (i x : ℕ) → get_elem? (track_of p).published i ≡ some x → (j : ℕ) × (get_elem? (note_view n).positions j ≡ some x)
   pub gone : (note_view n).seen_gone ≡ (track_of p).gone
 
--- the player met a note: each position of it is the first frame or one that this player published, each of its noted words
+-- the player met a note: the greatest position that it has seen is not past the one that this player published last, each
+-- position of it is the first frame or one that this player published, each of its noted words
 -- has at most the lap of the first frame of its slot and channel that this player has not taken, and it has seen the card
 -- gone only where this player is gone
 pub record HasHeard (p q : PlayerSeat) (n : SeatNote) : Type 0 where
@@ -131,6 +132,7 @@ pub record HasHeard (p q : PlayerSeat) (n : SeatNote) : Type 0 where
   pub next : q.next ≡ p.next
   pub position : q.position ≡ p.position
   pub same_gone : q.gone ≡ p.gone
+  pub seen : note_seen n ≤ p.position
   pub positions : (i x : ℕ) → get_elem? (note_view n).positions i ≡ some x → IsPublished (player_key p).geometry (track_of p) x
   pub noted : (f c x : ℕ) → IsNow (player_key p).geometry (next_at (player_key p).geometry (track_of p)) f c
       → slice_index_or (note_view n).noted (index_of (player_key p).geometry f c) None ≡ Some x → lap_of x ≤ lap (player_key p).geometry f

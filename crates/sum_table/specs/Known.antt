@@ -12,7 +12,8 @@ use Rattle.sum_table.specs.declared.view.Key.{Key}
 use Rattle.sum_table.specs.declared.view.View.{View}
 use Rattle.sum_table.specs.Exact.{IsLaid, is_tracked, next_at, position_at, the_track}
 use Rattle.sum_table.specs.Steps.{IsWord}
-use Rattle.sum_table.specs.Words.{words_of}
+use Rattle.ring_rule.specs.Words.{words_of}
+use Rattle.ring_rule.specs.Positions.{has_all}
 
 -- the greater one of two frames, where there are any
 abbrev pub greater : Option ℕ → Option ℕ → Option ℕ
@@ -50,11 +51,6 @@ pub record IsKnown (v : View) (k : Key) (places : ℕ) (marks : Marks) (seen : �
   pub seen_within : IsWithin k.geometry seen
   pub places_most : places ≤ k.places
   pub laid : (i : ℕ) (e : Entry) → get_elem? v.laid i ≡ some e → IsLaid k.geometry v.seen e
-
--- whether each number of a list stands in another
-abbrev pub has_all : List ℕ → List ℕ → Bool
-has_all ns [] = true
-has_all ns (m ∷ ms) = list_any (λ n. n == m) ns && has_all ns ms
 
 -- a player's fields are those of its view
 pub record IsPlayer (v : View) (k : Key) (next : Cursor) (position : ℕ) (gone : Bool) : Type 0 where

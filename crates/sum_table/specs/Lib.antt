@@ -1,5 +1,6 @@
 pub mod Cuts
 pub mod Exact
+pub mod Extent
 pub mod Joins
 pub mod Known
 pub mod Laid
@@ -7,4 +8,3 @@ pub mod Players
 pub mod Rings
 pub mod Seats
 pub mod Steps
-pub mod Words

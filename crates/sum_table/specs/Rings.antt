@@ -41,6 +41,6 @@ pub record HasSeats (k : Key) (p : PlayerSeat) (m : MixSeat) : Type 0 where
   pub gone : p.gone ≡ false
   pub member : m.member ≡ 0
   pub places : m.places ≡ k.places
-  pub marks : m.marks ≡ start_marks k.geometry
+  pub marks : m.reach.marks ≡ start_marks k.geometry
   pub seen : m.seen ≡ first_frame k.geometry
-  pub last : m.last ≡ None
+  pub last : m.reach.last ≡ None

@@ -6,7 +6,7 @@ use Rattle.std.proofs.lemmas.List.{append-nil, map-append}
 use Rattle.std.proofs.lemmas.List.Elements.{All-append}
 use Rattle.std.proofs.lemmas.List.Folds.{list_any-append}
 use Rattle.std.proofs.lemmas.List.Sums.{fold-append}
-use Rattle.atomic_table.specs.Seated.{TableId}
+pub use Rattle.atomic_table.specs.Seated.{TableId}
 use Rattle.snd_base.specs.declared.geometry.Geometry.{Geometry}
 use Rattle.snd_base.specs.declared.places.Cursor.{Cursor}
 use Rattle.snd_base.specs.Places.{IsFrom, IsWithin, lap}
@@ -33,7 +33,10 @@ use Rattle.sum_table.specs.Exact.{BeginsWith}
 use Rattle.sum_table.specs.Known.{greater}
 use Rattle.sum_table.specs.Laid.{by_member, own}
 use Rattle.sum_table.specs.Steps.{Finds, IsStep, IsSumOf, Makes, MakesLook, in_row, sighting, with_entry, with_note, with_position}
-use Rattle.sum_table.specs.Words.{NotPast, index_of, rank}
+use Rattle.ring_rule.specs.Words.{NotPast, index_of, rank}
+use Rattle.ring_rule.specs.NoteLaws.{NeverFall-joined, NeverFall-same}
+use Rattle.ring_rule.specs.Notes.{NeverFall}
+use Rattle.ring_rule.specs.WordLaws.{NotPast-rank}
 
 -- what a seat knows, and did
 abbrev pub view_of : MixSeat → View
@@ -59,17 +62,17 @@ abbrev pub places_of_seat : MixSeat → ℕ
 places_of_seat s = s.places
 
 abbrev pub cursor_of_seat : MixSeat → Cursor
-cursor_of_seat s = s.marks.cursor
+cursor_of_seat s = s.reach.marks.cursor
 
 abbrev pub seen_of : MixSeat → ℕ
 seen_of s = s.seen
 
 abbrev pub last_of_seat : MixSeat → Option ℕ
-last_of_seat s = s.last
+last_of_seat s = s.reach.last
 
 -- the marks of a seat, and the lists in which its standing adds end
 abbrev pub marks_of_seat : MixSeat → Marks
-marks_of_seat s = s.marks
+marks_of_seat s = s.reach.marks
 
 abbrev pub SeatEndsIn : MixSeat → List Entry → Type 0
 SeatEndsIn s es = EndsIn (standing (view_of s).laid) es
@@ -80,7 +83,7 @@ CanAdd s = 0 < s.places
 
 -- what is plain of a seat
 abbrev pub seat_view : MixSeat → PortView
-seat_view s = record { geometry = s.key.geometry; member = s.member; can_add = nat_lt 0 s.places; marks = s.marks; seen = s.seen }
+seat_view s = record { geometry = s.key.geometry; member = s.member; can_add = nat_lt 0 s.places; marks = s.reach.marks; seen = s.seen }
 
 -- the ring's history up to the last step of a seat
 abbrev pub history_of : MixSeat → List Row
@@ -93,8 +96,8 @@ entry_by s k f c x = record { member = s.member; frame = f; channel = c; sample 
 -- a seat may add a sample at a frame and channel, or withdraw it there
 abbrev pub MayLay : Kind → MixSeat → ℕ → ℕ → ℤ → Type 0
 MayLay Added s f c x =
-    CanAdd s × (c < s.key.geometry.channels) × IsFrom s.marks.cursor f c × (f < s.seen + s.key.geometry.frames) × (lap s.key.geometry f < 4294967295)
-MayLay Withdrawn s f c x = SeatEndsIn s (an_add s.member f c x ∷ []) × IsFrom s.marks.floor f c
+    CanAdd s × (c < s.key.geometry.channels) × IsFrom s.reach.marks.cursor f c × (f < s.seen + s.key.geometry.frames) × (lap s.key.geometry f < 4294967295)
+MayLay Withdrawn s f c x = SeatEndsIn s (an_add s.member f c x ∷ []) × IsFrom s.reach.marks.floor f c
 
 -- the word that a seat noted last at a frame and channel
 abbrev pub shown : MixSeat → ℕ → ℕ → Option ℕ
@@ -102,7 +105,7 @@ shown s f c = slice_index_or (view_of s).noted (index_of s.key.geometry f c) Non
 
 -- no noted word is followed by an earlier one, by lap and then by count
 abbrev pub NotesRise : View → View → Type 0
-NotesRise v w = (i n : ℕ) → slice_index_or v.noted i None ≡ Some n → (m : ℕ) × (slice_index_or w.noted i None ≡ Some m) × NotPast n m
+NotesRise v w = NeverFall v.noted w.noted
 
 -- a seat of one ring, later, which met no other seat in between: its key and member are the same, it has seen no less of the
 -- ring's history, and none of its noted words falls
@@ -130,7 +133,7 @@ Adds g h mine (e ∷ es) later =
 -- ring's history as far as the seat has seen it; and its marks went on by them
 pub record SeatLaid (s t : MixSeat) (es : List Entry) : Type 0 where
   pub goes : Goes s t
-  pub marks : t.marks ≡ marks_from s.key.geometry s.marks es
+  pub marks : t.reach.marks ≡ marks_from s.key.geometry s.reach.marks es
   pub laid : (view_of t).laid ≡ (view_of s).laid ++ es
   pub mine : (view_of t).mine ≡ (view_of s).mine ++ es
   pub adds : Adds s.key.geometry (view_of s).history (view_of s).mine es (view_of t).history
@@ -150,9 +153,9 @@ pub record SeatLoaded (s t : MixSeat) (ps : List Position) : Type 0 where
 pub record HasNoted (s t : MixSeat) (f c n : ℕ) : Type 0 where
   pub goes : Goes s t
   pub view : view_of t ≡ with_note (view_of s) (view_of t).history (index_of s.key.geometry f c) n
-  pub marks : t.marks ≡ s.marks
+  pub marks : t.reach.marks ≡ s.reach.marks
   pub seen : t.seen ≡ s.seen
-  pub last : t.last ≡ s.last
+  pub last : t.reach.last ≡ s.reach.last
   pub shows : shown t f c ≡ Some n
   pub found : Finds (view_of s) (index_of s.key.geometry f c) n
   pub sum : IsSumOf s.key.geometry (view_of t).history f c n
@@ -162,9 +165,9 @@ pub record HasNoted (s t : MixSeat) (f c n : ℕ) : Type 0 where
 pub record HasLaid (s t : MixSeat) (e : Entry) : Type 0 where
   pub goes : Goes s t
   pub view : view_of t ≡ with_entry (view_of s) (view_of t).history e
-  pub marks : t.marks ≡ marks_after s.key.geometry s.marks e
+  pub marks : t.reach.marks ≡ marks_after s.key.geometry s.reach.marks e
   pub seen : t.seen ≡ s.seen
-  pub last : t.last ≡ greater s.last (Some e.frame)
+  pub last : t.reach.last ≡ greater s.reach.last (Some e.frame)
   pub event : Makes (view_of s) (view_of t) (λ by. in_row by e ∷ [])
 
 -- another word than the expected one was found, and noted: it is past it by lap and then by count
@@ -176,9 +179,9 @@ pub record HasLost (s t : MixSeat) (f c old n : ℕ) : Type 0 where
 pub record HasLocated (s t : MixSeat) (p : Position) : Type 0 where
   pub goes : Goes s t
   pub view : view_of t ≡ with_position (view_of s) (view_of t).history p.frame p.gone
-  pub marks : t.marks ≡ s.marks
+  pub marks : t.reach.marks ≡ s.reach.marks
   pub seen : t.seen ≡ p.frame
-  pub last : t.last ≡ s.last
+  pub last : t.reach.last ≡ s.reach.last
   pub not_before : s.seen ≤ p.frame
   pub within : IsWithin s.key.geometry p.frame
   pub gone : (view_of s).seen_gone ≡ true → p.gone ≡ true
@@ -223,21 +226,11 @@ pub record LaysCounted {T : Type 0} (stops : T → ℕ) (asked : T → T → Lis
 pub BeginsWith-trans : (h j early : List Row) → BeginsWith h j → BeginsWith j early → BeginsWith h early
 BeginsWith-trans h j early late first = (first.0 ++ late.0, late.1 ∙ (ap (λ x. x ++ late.0) first.1 ∙ append_assoc early first.0 late.0))
 
--- what was not past a word isn't past a later one
-pub NotPast-trans : (a b c : ℕ) → NotPast a b → NotPast b c → NotPast a c
-NotPast-trans a b c first then = elim first [
-  | inl same ↦ subst (λ x. NotPast x c) (sym same) then
-  | inr up ↦ elim then [ inl same ↦ inr (subst (λ x. rank a < rank x) same up) | inr more ↦ inr (omega (arith, up, more)) ]
-]
-
 pub NotesRise-same : (v w : View) → w.noted ≡ v.noted → NotesRise v w
-NotesRise-same v w same i n is = (n, ap (λ ns. slice_index_or ns i None) same ∙ is, inl refl)
+NotesRise-same v w same = NeverFall-same v.noted w.noted same
 
 pub NotesRise-joined : (u v w : View) → NotesRise u v → NotesRise v w → NotesRise u w
-NotesRise-joined u v w first then i n is =
-    let one = first i n is in
-    let two = then i one.0 one.1 in
-    (two.0, two.1, NotPast-trans n one.0 two.0 one.2 two.2)
+NotesRise-joined u v w first then = NeverFall-joined u.noted v.noted w.noted first then
 
 pub Goes-same : (s : MixSeat) → Goes s s
 Goes-same s = record {
@@ -301,8 +294,8 @@ SeatLaid-composes = record {
   joined = λ p q r xs ys first then. record {
     goes = Goes-joined p q r first.goes then.goes;
     marks = then.marks
-        ∙ (ap (λ (k : Key). marks_from k.geometry q.marks ys) first.goes.key
-        ∙ (ap (λ m. marks_from p.key.geometry m ys) first.marks ∙ sym (fold-append (marks_after p.key.geometry) p.marks xs ys)));
+        ∙ (ap (λ (k : Key). marks_from k.geometry q.reach.marks ys) first.goes.key
+        ∙ (ap (λ m. marks_from p.key.geometry m ys) first.marks ∙ sym (fold-append (marks_after p.key.geometry) p.reach.marks xs ys)));
     laid = then.laid ∙ (ap (λ es. es ++ ys) first.laid ∙ append_assoc (view_of p).laid xs ys);
     mine = then.mine ∙ (ap (λ es. es ++ ys) first.mine ∙ append_assoc (view_of p).mine xs ys);
     adds = Adds-joined p.key.geometry (view_of p).history (view_of p).mine xs ys (view_of q).history (view_of r).history first.adds
@@ -362,15 +355,12 @@ pub SeatEndsIn-nothing : (p q : MixSeat) (xs : List Entry) → SeatLaid p q [] �
 SeatEndsIn-nothing p q xs laid ends = (ends.0, ap standing (laid.laid ∙ append-nil (view_of p).laid) ∙ ends.1)
 
 -- and after a withdrawal the last of them is gone
-pub SeatEndsIn-back : (p q : MixSeat) (xs : List Entry) (f c : ℕ) (x : ℤ) → IsFrom p.marks.floor f c
+pub SeatEndsIn-back : (p q : MixSeat) (xs : List Entry) (f c : ℕ) (x : ℤ) → IsFrom p.reach.marks.floor f c
     → SeatLaid p q (a_withdrawal p.member f c x ∷ []) → SeatEndsIn p (xs ++ an_add p.member f c x ∷ []) → SeatEndsIn q xs
 SeatEndsIn-back p q xs f c x from laid ends =
     let a : Entry = an_add p.member f c x in
     let was : standing (view_of p).laid ≡ (ends.0 ++ xs) ++ a ∷ [] = ends.1 ∙ sym (append_assoc ends.0 xs (a ∷ [])) in
     (ends.0, ap standing laid.laid ∙ (standing-more (view_of p).laid (a_withdrawal p.member f c x) ∙ (ap without_last was ∙ without_last-more (ends.0 ++ xs) a)))
-
-NotPast-rank : (a b : ℕ) → NotPast a b → rank a ≤ rank b
-NotPast-rank a b past = elim past [ inl same ↦ subst (λ x. rank a ≤ rank x) same (omega arith) | inr up ↦ omega (arith, up) ]
 
 -- the words that a seat shows never fall
 pub SeatLaid-shows : (p q : MixSeat) (es : List Entry) (f c word : ℕ) → SeatLaid p q es → shown p f c ≡ Some word → ShowsFrom shown q f c word

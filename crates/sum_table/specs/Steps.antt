@@ -26,7 +26,7 @@ use Rattle.sum_table.specs.declared.view.Track.{Track}
 use Rattle.sum_table.specs.declared.view.View.{View}
 use Rattle.sum_table.specs.Exact.{BeginsWith, IsPublished, next_at, position_at}
 use Rattle.sum_table.specs.Laid.{SameSums, by_member, count, own}
-use Rattle.sum_table.specs.Words.{NotPast, index_of}
+use Rattle.ring_rule.specs.Words.{NotPast, index_of}
 
 -- a seat saw the history so far
 abbrev pub with_history : View → List Row → View

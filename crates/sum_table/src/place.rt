@@ -35,7 +35,7 @@ impl MixSeat<'_> {
             → (self.new ≡ self.old) × (gate.new ≡ gate.old) × (steps.new ≡ steps.old) }
         ensures only { IfErr result (λ e. (e ≡ PcmError.LapEnd) ⊎ (e ≡ PcmError.Stopped)) }
     {
-        if self.lap(frame) >= 4294967295 {
+        if self.is_lap_end(frame) {
             return Err(PcmError::LapEnd);
         }
         let ended = self.lay(gate, Kind::Added, frame, channel, sample, steps);
@@ -70,7 +70,7 @@ impl MixSeat<'_> {
     }
 
     // Lays an entry of a kind: looks at the word, and exchanges it until the entry is laid, or a word of a later lap was found,
-    // or the gate stops a step.
+    // or the gate stops a step. Each word that an exchange finds has a greater count than the one before.
     pub(crate) fn lay<G: Gate, L: Ledger>(
         &mut self,
         gate: &mut G,
@@ -84,22 +84,22 @@ impl MixSeat<'_> {
         ensures { LaysCounted G.stops G.asked self.old gate.old steps.old
             (entry_by self.old kind frame channel sample) result self.new gate.new steps.new }
     {
-        let its_lap = self.lap(frame);
         let Ok(()) = ask(gate, StepKind::Look) else {
             return Ended::Stopped;
         };
-        let mut word = self.load_word(frame, channel, steps);
-        if lap_word::lap(word) as u64 != its_lap {
+        let (found, spot) = self.look(frame, channel, steps);
+        let mut word = found;
+        if lap_word::lap(word) as u64 != spot.lap {
             return Ended::Late { seen: word };
         }
         let Ok(()) = ask(gate, StepKind::Exchange) else {
             return Ended::Stopped;
         };
-        for _ in 0..3 * self.key.places {
-            let Err(found) = self.exchange(kind, frame, channel, word, sample, steps) else {
+        loop {
+            let Err(found) = self.exchange(kind, spot, frame, channel, word, sample, steps) else {
                 return Ended::Whole;
             };
-            if lap_word::lap(found) as u64 != its_lap {
+            if lap_word::lap(found) as u64 != spot.lap {
                 return Ended::Late { seen: found };
             }
             let Ok(()) = ask(gate, StepKind::Again) else {
@@ -107,7 +107,6 @@ impl MixSeat<'_> {
             };
             word = found;
         }
-        unreachable!()
     }
 }
 

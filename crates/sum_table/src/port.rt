@@ -62,11 +62,11 @@ impl MixPort for MixSeat<'_> {
     }
 
     fn cursor(&self) -> Cursor {
-        self.marks.cursor
+        self.reach.marks().cursor
     }
 
     fn floor(&self) -> Cursor {
-        self.marks.floor
+        self.reach.marks().floor
     }
 
     fn seen(&self) -> u64 {

@@ -2,7 +2,7 @@
 ghost use Rattle.std.specs.Prelude.{◌≡◌};
 ghost use Rattle.std.specs.Option.{ForSome};
 ghost use Rattle.sum_table.specs.Exact.{IsFirst};
-ghost use Rattle.sum_table.specs.Words.{words_of};
+ghost use Rattle.ring_rule.specs.Words.{words_of};
 
 use crate::rule::{Exactly, Seat};
 use crate::seats::{MixSeat, PlayerSeat, deal};

@@ -3,26 +3,26 @@
 ghost use Rattle.std.specs.Prelude.{◌≡◌};
 ghost use Rattle.sum_table.specs.Exact.{IsFirst};
 ghost use Rattle.sum_table.specs.Rings.{HasSeats};
-ghost use Rattle.sum_table.specs.Words.{words_of};
+ghost use Rattle.ring_rule.specs.Words.{words_of};
 
-mod frame_words;
 mod join;
 mod mix;
 mod note;
 mod parts;
 mod player;
 mod plays;
+mod reach;
 
 use crate::rule::{Seat, Shared};
 use crate::view::Key;
-use frame_words::FrameWords;
 pub use join::Closed;
 pub use mix::MixSeat;
-use mix_core::Marks;
 pub use note::SeatNote;
 use parts::Deal;
 pub use player::PlayerSeat;
+use reach::Reach;
 use snd_base::Cursor;
+use ring_rule::LapStart;
 
 /// The player's seat of a ring and its first mix seat, which has all places, of the ring's first seat.
 pub(crate) fn deal<'a>(ring: &'a Shared, first: Seat, key: Key) -> (PlayerSeat<'a>, MixSeat<'a>)
@@ -51,10 +51,9 @@ pub(crate) fn deal<'a>(ring: &'a Shared, first: Seat, key: Key) -> (PlayerSeat<'
         key,
         member: 0,
         places: key.places,
-        marks: Marks::start(&key.geometry),
+        reach: Reach::start(key.geometry),
         seen: start.frame,
-        last: None,
-        words: FrameWords::of(&key.geometry, start.frame),
+        start: LapStart::first(&key.geometry),
     };
     (player, mix)
 }

@@ -1,7 +1,7 @@
 -- What the command `refine` reads and leaves.
 use Rattle.std.specs.Prelude.{◌≡◌, ◌++◌, ℕ, List, Option, Result, Ok, Err}
 use Rattle.std.specs.Option.{ForSome, option_map}
-use Rattle.lab_script.specs.declared.error.ScriptError.{ScriptError}
+use Rattle.short_script.specs.declared.error.ScriptError.{ScriptError}
 use Rattle.lab_shelf.specs.Files.{Files, TookPart}
 use Rattle.dmixlab.specs.declared.refine.request.Request.{Request}
 use Rattle.dmixlab.specs.Input.{Cause, script_refused, fetched, ◌>>=◌}

@@ -1,9 +1,9 @@
 -- What a line of a request says, by its words, or the cause that its first word has that can't stand where it stands.
 use Rattle.std.specs.Prelude.{◌≡◌, ℕ, ◌*◌, ◌%◌, ◌≤◌, Bool, false, ◌&&◌, ◌||◌, ◌==◌, nat_le, not, List, [], ◌∷◌, codes, Option, Some, None, is_some, Result, Ok, Err, if◌then◌else◌}
 use Rattle.std.specs.Str.{bytes_eq}
-use Rattle.lab_script.specs.declared.error.ScriptWhy.{ScriptWhy}
-use Rattle.lab_script.specs.declared.error.ScriptWhy.TheVariants as why
-use Rattle.lab_script.specs.Word.{number_of}
+use Rattle.short_script.specs.declared.error.ScriptWhy.{ScriptWhy}
+use Rattle.short_script.specs.declared.error.ScriptWhy.TheVariants as why
+use Rattle.short_script.specs.Word.{number_of}
 use Rattle.hw_space.specs.declared.param.Param.{Param}
 use Rattle.dmixlab.specs.declared.refine.grammar.Verb.{Verb}
 use Rattle.dmixlab.specs.declared.refine.grammar.Verb.TheVariants as verbs

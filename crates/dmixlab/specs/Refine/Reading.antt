@@ -1,9 +1,9 @@
 -- What a text asks, or its first line that can't stand.
 use Rattle.std.specs.Prelude.{◌≡◌, ℕ, List, [], ◌∷◌, length, nat_lt, Result, Ok, Err, if◌then◌else◌}
-use Rattle.lab_script.specs.declared.error.ScriptError.{ScriptError}
-use Rattle.lab_script.specs.declared.error.ScriptWhy.{ScriptWhy}
-use Rattle.lab_script.specs.declared.error.ScriptWhy.TheVariants as why
-use Rattle.lab_script.specs.Lexing.{lines_of}
+use Rattle.short_script.specs.declared.error.ScriptError.{ScriptError}
+use Rattle.short_script.specs.declared.error.ScriptWhy.{ScriptWhy}
+use Rattle.short_script.specs.declared.error.ScriptWhy.TheVariants as why
+use Rattle.short_script.specs.Lexing.{lines_of}
 use Rattle.dmixlab.specs.declared.refine.request.Ask.{Ask}
 use Rattle.dmixlab.specs.declared.refine.request.Request.{Request}
 use Rattle.dmixlab.specs.Refine.Grammar.{slave_of, ask_of}

@@ -1,14 +1,14 @@
 //! What each line of a text says.
 ghost use Rattle.std.specs.Prelude.{◌≡◌, ◌≤◌, IfOk, false};
 ghost use Rattle.dmixlab.specs.Refine.Params.{is_mask, most_of};
-ghost use Rattle.lab_script.specs.Lexing.{words_between};
+ghost use Rattle.short_script.specs.Lexing.{words_between};
 ghost use Rattle.dmixlab.specs.Refine.Grammar.{IsAsk, IsSlaveLine, ask_of, asked_by, bounded_in, fits, misplaced, result_view, slave_keys_in, slave_of, slave_with, valued_in, verb_of, whole_interval_in, whole_param_in};
 
 use crate::refine::params::most_of;
 use crate::refine::place::{end, interval, keyed, number, param, word};
 use crate::refine::request::{Ask, SlaveLine};
 use hw_space::Param;
-use lab_script::ScriptWhy;
+use short_script::ScriptWhy;
 
 /// The word with which a line asks something.
 #[derive(Clone, Copy, Debug)]

@@ -1,12 +1,12 @@
 //! What stands at one place of a line: a word, a key, a number, a quantity, or the line's end.
 ghost use Rattle.std.specs.Prelude.{◌≡◌, ◌≤◌, IfOk, false};
-ghost use Rattle.lab_script.specs.Lexing.{words_between};
+ghost use Rattle.short_script.specs.Lexing.{words_between};
 ghost use Rattle.dmixlab.specs.Refine.Params.{is_mask};
 ghost use Rattle.dmixlab.specs.Refine.Grammar.{ended, interval_in, keyed_in, number_in, param_in, result_view, word_in};
 
 use crate::refine::params::{is_mask, param_of};
 use hw_space::Param;
-use lab_script::{ScriptWhy, next_word, read_number};
+use short_script::{ScriptWhy, next_word, read_number};
 
 /// The word that must stand next, and what stands behind it.
 pub(crate) fn word(line: &[u8]) -> Result<(&[u8], &[u8]), ScriptWhy>

@@ -1,12 +1,12 @@
 //! The reader of a request's text.
 ghost use Rattle.std.specs.Prelude.{◌≡◌, ◌+◌, ◌<◌, ◌^◌, length, All, IfOk};
 ghost use Rattle.dmixlab.specs.Refine.Grammar.{IsAsk, IsSlaveLine};
-ghost use Rattle.lab_script.specs.Lexing.{lines_from, words_between};
+ghost use Rattle.short_script.specs.Lexing.{lines_from, words_between};
 ghost use Rattle.dmixlab.specs.Refine.Reading.{Reads, asked_in, asks_of, on_line, request_of};
 
 use crate::refine::grammar::{read_ask, read_slave};
 use crate::refine::request::{Ask, Asks, Request};
-use lab_script::{ScriptError, ScriptWhy, next_line};
+use short_script::{ScriptError, ScriptWhy, next_line};
 use std::alloc::Global;
 
 /// The most bytes that a text has.

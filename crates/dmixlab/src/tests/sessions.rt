@@ -47,7 +47,7 @@ const WIDE: &str = "card channels 3 rate 48000 period 64 ring 256";
 
 const OPENED: &str = "ok PREPARED -";
 
-pub(super) const SESSIONS: [Session<'static>; 21] = [
+pub(super) const SESSIONS: [Session<'static>; 22] = [
     // Eight channels, each bound to the card's of the opposite number, in a ring of 16,384 frames.
     Session {
         name: "eight channels",
@@ -337,7 +337,7 @@ pub(super) const SESSIONS: [Session<'static>; 21] = [
                 ("a write 1", "EBADFD DRAINING 0"),
                 ("a prepare", "EBADFD DRAINING 0"),
                 ("a start", "EBADFD DRAINING 0"),
-                ("a pause", "EIO DRAINING 0"),
+                ("a pause", "EBADFD DRAINING 0"),
                 ("a avail", "156 DRAINING 0"),
                 ("a delay", "164 DRAINING 0"),
             ],
@@ -488,7 +488,7 @@ pub(super) const SESSIONS: [Session<'static>; 21] = [
             &[
                 ("a write 3", "EPIPE late 256 1 XRUN 300"),
                 ("a start", "EBADFD XRUN 300"),
-                ("a pause", "EIO XRUN 300"),
+                ("a pause", "EBADFD XRUN 300"),
                 ("a prepare", "ok PREPARED 300"),
                 ("a write 3", "3 RUNNING 300"),
             ],
@@ -536,7 +536,7 @@ pub(super) const SESSIONS: [Session<'static>; 21] = [
                 ("a delay", "0 PREPARED -"),
                 ("a write 0", "0 PREPARED -"),
                 ("a start", "EPIPE empty PREPARED -"),
-                ("a pause", "EIO PREPARED -"),
+                ("a pause", "EBADFD PREPARED -"),
                 ("a prepare", "ok PREPARED -"),
                 ("a drain", "ok SETUP -"),
             ],
@@ -546,7 +546,7 @@ pub(super) const SESSIONS: [Session<'static>; 21] = [
                 ("a sync", "EBADFD SETUP -"),
                 ("a avail", "EBADFD SETUP -"),
                 ("a delay", "EBADFD SETUP -"),
-                ("a pause", "EIO SETUP -"),
+                ("a pause", "EBADFD SETUP -"),
                 ("a drain", "ok SETUP -"),
                 ("a drop", "ok SETUP -"),
                 ("a prepare", "ok PREPARED -"),
@@ -558,7 +558,6 @@ pub(super) const SESSIONS: [Session<'static>; 21] = [
                 ("a write 64", "64 RUNNING 0"),
                 ("a start", "EBADFD RUNNING 0"),
                 ("a prepare", "EBADFD RUNNING 0"),
-                ("a pause", "EIO RUNNING 0"),
                 ("a sync", "ok RUNNING 0"),
                 ("a avail", "192 RUNNING 0"),
                 ("a delay", "128 RUNNING 0"),
@@ -570,6 +569,33 @@ pub(super) const SESSIONS: [Session<'static>; 21] = [
                 ("a avail", "EPIPE already XRUN 200"),
                 ("a drop", "ok SETUP 200"),
             ],
+        ],
+        tail: &["segment a 0 64 64 0", "played 0 200"],
+        wavs: &[("a.wav", MONO, &[(64, 9)])],
+        head: MONO,
+        played: &[(64, 0), (64, 9), (72, 0)],
+    },
+    // What each call is answered in PAUSED: nothing is loaded any more, so all tell of position 0, while the card plays
+    // what was committed.
+    Session {
+        name: "a paused stream",
+        card: ONE,
+        clients: &[("a", "a.wav", OPENED)],
+        phases: &[
+            &[
+                ("a write 64", "64 RUNNING 0"),
+                ("a pause", "ok PAUSED 0"),
+                ("a sync", "ok PAUSED 0"),
+                ("a avail", "192 PAUSED 0"),
+                ("a delay", "128 PAUSED 0"),
+                ("a write 1", "EBADFD PAUSED 0"),
+                ("a start", "EBADFD PAUSED 0"),
+                ("a prepare", "EBADFD PAUSED 0"),
+                ("a drain", "EBADFD PAUSED 0"),
+                ("a pause", "EBADFD PAUSED 0"),
+            ],
+            &[("card play 200", "200 RUNNING 200")],
+            &[("a delay", "128 PAUSED 0"), ("a drop", "ok SETUP 0")],
         ],
         tail: &["segment a 0 64 64 0", "played 0 200"],
         wavs: &[("a.wav", MONO, &[(64, 9)])],

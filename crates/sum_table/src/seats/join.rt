@@ -1,14 +1,13 @@
 //! Seats are split and joined, meet notes, and end.
 ghost use Rattle.std.specs.Prelude.{◌≡◌};
-ghost use Rattle.sum_table.specs.Cuts.{joined_marks};
 
-use super::frame_words::FrameWords;
-use super::mix::{MixSeat, greater};
+use super::mix::MixSeat;
 use super::note::SeatNote;
 use super::parts::{Amount, Both, Copied, Part};
 use super::player::PlayerSeat;
 use super::plays::Learn;
-use mix_core::{Marks, later};
+use super::reach::Reach;
+use ring_rule::LapStart;
 use snd_base::Cursor;
 use std::marker::Brand;
 
@@ -52,10 +51,9 @@ impl<'a> MixSeat<'a> {
             key,
             member,
             places,
-            marks: Marks::start(&key.geometry),
+            reach: Reach::start(key.geometry),
             seen: self.seen,
-            last: None,
-            words: self.words,
+            start: self.start,
         }
     }
 
@@ -71,17 +69,15 @@ impl<'a> MixSeat<'a> {
             key: _,
             member: _,
             places,
-            marks,
+            reach,
             seen,
-            last,
-            words: _,
+            start: _,
         } = other;
         self.ring.join_seat::<Both>(&mut self.seat, seat);
         self.ring.load::<Learn>(&mut self.seat, 0);
         self.places += places;
-        self.marks = joined(self.marks, marks, places);
+        self.reach.join(&reach, places);
         self.seen = self.seen.max(seen);
-        self.last = greater(self.last, last);
     }
 
     /// A note of all that this seat has seen, for another seat of the ring to meet.
@@ -98,10 +94,9 @@ impl<'a> MixSeat<'a> {
                 key,
                 member: self.member,
                 places: 0,
-                marks: Marks::start(&key.geometry),
+                reach: Reach::start(key.geometry),
                 seen: self.seen,
-                last: None,
-                words: self.words,
+                start: self.start,
             },
         }
     }
@@ -130,10 +125,9 @@ impl<'a> MixSeat<'a> {
             key: _,
             member: _,
             places: _,
-            marks: _,
+            reach: _,
             seen: _,
-            last: _,
-            words: _,
+            start: _,
         } = self;
         let PlayerSeat {
             ring: _,
@@ -167,10 +161,9 @@ impl<'a> PlayerSeat<'a> {
                 key,
                 member: 0,
                 places: 0,
-                marks: Marks::start(&key.geometry),
+                reach: Reach::start(key.geometry),
                 seen: self.position,
-                last: None,
-                words: FrameWords::of(&key.geometry, self.position),
+                start: LapStart::first(&key.geometry),
             },
         }
     }
@@ -187,27 +180,11 @@ impl<'a> PlayerSeat<'a> {
             key: _,
             member: _,
             places: _,
-            marks: _,
+            reach: _,
             seen: _,
-            last: _,
-            words: _,
+            start: _,
         } = met;
         self.ring.join_seat::<Both>(&mut self.seat, seat);
         self.ring.load::<Learn>(&mut self.seat, 0);
-    }
-}
-
-// The marks of two seats that are joined, the second with so many places.
-fn joined(a: Marks, b: Marks, places: u32) -> Marks
-    ensures { result ≡ joined_marks a b places }
-{
-    if places == 0 {
-        return a;
-    }
-    let high = later(a.high, b.high);
-    Marks {
-        cursor: high,
-        floor: high,
-        high,
     }
 }

@@ -1,16 +1,17 @@
 //! The seat of a client at the sum ring, and its single steps.
-ghost use Rattle.std.specs.Prelude.{◌≡◌, ◌+◌, ◌<◌, ◌^◌, negsuc, pos, ◌+ℤ◌, ◌≤ℤ◌};
+ghost use Rattle.std.specs.Prelude.{◌≡◌, ◌+◌, ◌<◌, negsuc, pos, ◌+ℤ◌, ◌≤ℤ◌};
 ghost use Rattle.lap_word.specs.Word.{StandsFor, count_of, lap_of, sum_of};
-ghost use Rattle.mix_core.specs.Laid.{marked, signed};
-ghost use Rattle.sum_table.specs.Known.{IsKnown, SitsAt, greater};
-ghost use Rattle.sum_table.specs.Words.{AreFrameWords};
+ghost use Rattle.mix_core.specs.Laid.{signed};
+ghost use Rattle.sum_table.specs.Known.{IsKnown, SitsAt};
+ghost use Rattle.ring_rule.specs.Spots.{IsLapStart};
 
-use super::frame_words::FrameWords;
 use super::plays::{Exchange, Locate, Look};
+use super::reach::Reach;
+use ring_rule::{LapStart, Spot};
 use crate::rule::{Seat, Shared};
 use crate::view::Key;
-use mix_core::{Entry, Kind, Marks, Position};
-use snd_base::{Geometry, Steps};
+use mix_core::{Entry, Kind, Position};
+use snd_base::Steps;
 use std::sync::ledger::Ledger;
 
 /// A client's seat at a sum ring, which it borrows: with it a client lays samples, in any thread.
@@ -25,22 +26,23 @@ pub struct MixSeat<'a> {
     pub(crate) key: Key,
     pub(crate) member: u32,
     pub(crate) places: u32,
-    pub(crate) marks: Marks,
+    pub(crate) reach: Reach,
     pub(crate) seen: u64,
-    pub(crate) last: Option<u64>,
-    pub(super) words: FrameWords,
+    pub(super) start: LapStart,
     ghost same_ring: { SitsAt seat.table_id ring.now.table_id key ring.now.key seat.me.1 },
-    ghost known: { IsKnown seat.me.0 key places marks seen last },
-    ghost words_are: { AreFrameWords key.geometry words },
+    ghost known: { IsKnown seat.me.0 key places reach.marks seen reach.last },
+    ghost one_geometry: { reach.geometry ≡ key.geometry },
+    ghost lap_start: { IsLapStart key.geometry start },
 }
 
 impl MixSeat<'_> {
-    ghost use Rattle.std.specs.Prelude.{◌≡◌, ◌≢◌, ℕ, ◌+◌, ◌<◌, [], ◌∷◌, Option, Some, OnOk, IfErr};
-    ghost use Rattle.snd_base.specs.Places.{IsFrom, lap};
+    ghost use Rattle.std.specs.Prelude.{◌≡◌, ◌≢◌, ℕ, ◌+◌, ◌<◌, ◌≤◌, ◌↔◌, true, [], ◌∷◌, Option, Some, OnOk, IfErr, IfSome};
+    ghost use Rattle.snd_base.specs.Places.{IsFrom, end_frame, lap};
     ghost use Rattle.lap_word.specs.Word.{lap_of};
     ghost use Rattle.mix_core.specs.Laid.{a_withdrawal, an_add};
     ghost use Rattle.sum_table.specs.Known.{last_frame};
     ghost use Rattle.sum_table.specs.Seats.{CanAdd, HasLaid, HasLocated, HasLost, HasNoted, MayLay, SeatEndsIn, cursor_of_seat, entry_by, geometry_of, history_of, last_of_seat, marks_of_seat, member_of, places_of_seat, seen_of, shown, view_of};
+    ghost use Rattle.ring_rule.specs.Spots.{IsSpot};
     ghost use Rattle.sum_table.specs.Steps.{IsSumOf};
 
     /// How many places the seat has.
@@ -55,16 +57,17 @@ impl MixSeat<'_> {
     pub fn last(&self) -> Option<u64>
         ensures value { result ≡ last_of_seat self.now }
         ensures of_view { result ≡ last_frame (view_of self.now).laid }
+        ensures before_end { IfSome result (λ frame. frame < end_frame (geometry_of self.now)) }
     {
-        self.last
+        self.reach.last()
     }
 
-    // The lap of a frame.
-    pub(crate) fn lap(&self, frame: u64) -> u64
-        ensures { result ≡ lap (geometry_of self.now) frame }
+    // Whether no word can have a frame's lap.
+    #[inline(always)]
+    pub(crate) fn is_lap_end(&self, frame: u64) -> bool
+        ensures { (result ≡ true) ↔ (4294967295 ≤ lap (geometry_of self.now) frame) }
     {
-        let geometry = self.key.geometry;
-        self.words.at(&geometry, frame).lap
+        self.start.is_lap_end(&self.key.geometry, frame)
     }
 
     // Loads the position, in one step.
@@ -88,13 +91,30 @@ impl MixSeat<'_> {
         ensures sum { IsSumOf (geometry_of self.old) (history_of self.new) frame channel result }
         ensures ticks { steps.new ≡ steps.old + 1 }
     {
+        let (word, _) = self.look(frame, channel, steps);
+        word
+    }
+
+    // The same, with where the word is.
+    #[inline(always)]
+    pub(crate) fn look<L: Ledger>(
+        &mut self,
+        frame: u64,
+        channel: u8,
+        steps: &mut Steps<L>,
+    ) -> (u64, Spot)
+        requires channel { channel < (geometry_of self.old).channels }
+        ensures noted { HasNoted self.old self.new frame channel result.0 }
+        ensures sum { IsSumOf (geometry_of self.old) (history_of self.new) frame channel result.0 }
+        ensures ticks { steps.new ≡ steps.old + 1 }
+        ensures spot { IsSpot (geometry_of self.old) frame channel result.1 }
+    {
         steps.tick();
         let geometry = self.key.geometry;
-        let words = self.words.at(&geometry, frame);
-        let at = words.first + channel as usize;
-        let word = self.ring.load::<Look>(&mut self.seat, at);
-        self.words = words;
-        word
+        let spot = self.start.spot(&geometry, frame, channel);
+        self.start.turn_to(&geometry, spot.lap);
+        let word = self.ring.load::<Look>(&mut self.seat, spot.index);
+        (word, spot)
     }
 
     /// Adds a sample to the word `old`, which the seat noted at this frame and channel and which has the frame's lap, by
@@ -120,7 +140,9 @@ impl MixSeat<'_> {
         ensures err { IfErr result (λ n. HasLost self.old self.new frame channel old n) }
         ensures ticks { steps.new ≡ steps.old + 1 }
     {
-        self.exchange(Kind::Added, frame, channel, old, sample, steps)
+        let geometry = self.key.geometry;
+        let spot = self.start.spot(&geometry, frame, channel);
+        self.exchange(Kind::Added, spot, frame, channel, old, sample, steps)
     }
 
     /// Withdraws the sample of the seat's last standing add from the word `old`, which the seat noted at this frame and
@@ -143,13 +165,17 @@ impl MixSeat<'_> {
         ensures err { IfErr result (λ n. HasLost self.old self.new frame channel old n) }
         ensures ticks { steps.new ≡ steps.old + 1 }
     {
-        self.exchange(Kind::Withdrawn, frame, channel, old, sample, steps)
+        let geometry = self.key.geometry;
+        let spot = self.start.spot(&geometry, frame, channel);
+        self.exchange(Kind::Withdrawn, spot, frame, channel, old, sample, steps)
     }
 
-    // One compare-exchange that lays an entry of this kind, which `steps` counts.
+    // One compare-exchange that lays an entry of this kind, which `steps` counts, at the word of its frame and channel.
+    #[inline(always)]
     pub(crate) fn exchange<L: Ledger>(
         &mut self,
         kind: Kind,
+        spot: Spot,
         frame: u64,
         channel: u8,
         old: u64,
@@ -159,12 +185,12 @@ impl MixSeat<'_> {
         requires may { MayLay kind self.old frame channel sample }
         requires noted { shown self.old frame channel ≡ Some old }
         requires of_lap { lap_of old ≡ lap (geometry_of self.old) frame }
+        requires spot { IsSpot (geometry_of self.old) frame channel spot }
         ensures ok { OnOk result (HasLaid self.old self.new (entry_by self.old kind frame channel sample)) }
         ensures err { IfErr result (λ n. HasLost self.old self.new frame channel old n) }
         ensures ticks { steps.new ≡ steps.old + 1 }
     {
         steps.tick();
-        let geometry = self.key.geometry;
         let entry = Entry {
             member: self.member,
             frame,
@@ -172,53 +198,38 @@ impl MixSeat<'_> {
             sample,
             kind,
         };
-        let words = self.words.at(&geometry, frame);
-        let at = words.first + channel as usize;
         let new = changed(kind, old, sample);
         let found = self
             .ring
-            .compare_exchange_with::<Exchange>(&mut self.seat, at, old, new, &entry);
+            .compare_exchange_with::<Exchange>(&mut self.seat, spot.index, old, new, &entry);
         if found != old {
             return Err(found);
         }
-        self.marks = moved(kind, self.marks, &geometry, frame, channel);
-        self.last = greater(self.last, Some(frame));
+        self.reach.lay(kind, frame, channel);
         Ok(())
     }
 }
 
-// The word after a sample was added to it, or withdrawn from it.
+// The word after a sample was added to it, or withdrawn from it. It is changed as one number, by what one sample makes of a
+// silent word, since the exchange waits for it.
 fn changed(kind: Kind, word: u64, sample: i16) -> u64
     requires room { count_of word < 255 }
     requires low { negsuc 8388607 ≤ℤ (sum_of word +ℤ signed kind sample) }
     requires high { (sum_of word +ℤ signed kind sample) ≤ℤ pos 8388607 }
     ensures { StandsFor result (lap_of word) (count_of word + 1) (sum_of word +ℤ signed kind sample) }
 {
-    match kind {
-        Kind::Added => lap_word::add(word, sample),
-        Kind::Withdrawn => lap_word::withdraw(word, sample),
-    }
+    let value = signed(kind, sample);
+    word + (lap_word::pack(0, 1, value) - lap_word::pack(0, 0, 0))
 }
 
-// The marks after an entry of this kind.
-fn moved(kind: Kind, marks: Marks, geometry: &Geometry, frame: u64, channel: u8) -> Marks
-    requires channel { channel < geometry.now.channels }
-    requires frame { frame + 1 < 2 ^ 64 }
-    ensures { result ≡ marked kind geometry.now marks frame channel }
+// What a sample changes in the sum: it is added, or withdrawn.
+fn signed(kind: Kind, sample: i16) -> i32
+    ensures value { result ≡ signed kind sample }
+    ensures low { negsuc 32767 ≤ℤ result }
+    ensures high { result ≤ℤ pos 32768 }
 {
     match kind {
-        Kind::Added => marks.added(geometry, frame, channel),
-        Kind::Withdrawn => marks.withdrawn(frame, channel),
-    }
-}
-
-// The greater one of two frames, where there are any.
-pub(crate) fn greater(a: Option<u64>, b: Option<u64>) -> Option<u64>
-    ensures { result ≡ greater a b }
-{
-    match (a, b) {
-        (Some(a), Some(b)) => Some(a.max(b)),
-        (Some(a), None) => Some(a),
-        (None, b) => b,
+        Kind::Added => sample as i32,
+        Kind::Withdrawn => -(sample as i32),
     }
 }

@@ -11,5 +11,5 @@ pub struct SeatNote<'a> {
     pub(super) seat: MixSeat<'a>,
     ghost no_places: { seat.places ≡ 0 },
     ghost laid_nothing: { seat.seat.me.0.laid ≡ [] },
-    ghost starts: { seat.marks ≡ start_marks seat.key.geometry },
+    ghost starts: { seat.reach.marks ≡ start_marks seat.key.geometry },
 }

@@ -5,7 +5,7 @@ use super::plays::{Publish, Take, Unplug};
 use crate::rule::{Seat, Shared};
 use crate::view::Key;
 use mix_core::Taken;
-use snd_base::{Cursor, PcmError};
+use snd_base::{Cursor, Geometry, PcmError};
 
 /// The player's seat at a sum ring, which it borrows. There is one for each ring.
 ///
@@ -25,15 +25,30 @@ pub struct PlayerSeat<'a> {
 
 impl PlayerSeat<'_> {
     ghost use Rattle.std.specs.Prelude.{◌≡◌, ◌<◌, ◌↔◌, IfOk, IfErr, OnErr, IsErrOf};
-    ghost use Rattle.snd_base.specs.Places.{lap};
+    ghost use Rattle.snd_base.specs.Places.{IsWithin, lap};
     ghost use Rattle.sum_table.specs.Exact.{next_at};
-    ghost use Rattle.sum_table.specs.Players.{HasPublished, HasTaken, HasUnplugged, next_of_player, player_geometry, track_of};
+    ghost use Rattle.sum_table.specs.Players.{HasPublished, HasTaken, HasUnplugged, next_of_player, player_geometry, position_of_player, track_of};
+
+    /// The geometry of the ring.
+    pub fn geometry(&self) -> Geometry
+        ensures { result ≡ player_geometry self.now }
+    {
+        self.key.geometry
+    }
+
+    /// The position that it published last, a frame number, or the number of the first frame.
+    pub fn position(&self) -> u64
+        ensures { result ≡ position_of_player self.now }
+    {
+        self.position
+    }
 
     /// The next word to be taken: the word behind everything that was taken, in the order of frames and channels.
     pub fn next(&self) -> Cursor
         ensures value { result ≡ next_of_player self.now }
         ensures behind_taken { result ≡ next_at (player_geometry self.now) (track_of self.now) }
         ensures channel { result.channel < (player_geometry self.now).channels }
+        ensures within { IsWithin (player_geometry self.now) result.frame }
     {
         self.next
     }
@@ -56,7 +71,9 @@ impl PlayerSeat<'_> {
         let at = geometry.word_index(frame, channel) + 1;
         let empty = lap_word::pack(lap as u32 + 1, 0, 0);
         let found = self.ring.swap::<Take>(&mut self.seat, at, empty);
-        self.next = Cursor::behind(&geometry, frame, channel);
+        let next = Cursor::behind(&geometry, frame, channel);
+        self.next.frame = next.frame;
+        self.next.channel = next.channel;
         Ok(Taken {
             frame,
             channel,

@@ -2,11 +2,18 @@ use Rattle.std.proofs.Common.{◌≡◌, ◌-◌, List, ℕ, get_or, take, drop,
 use Rattle.asound_conf.specs.declared.conf.Node.{Node}
 use Rattle.asound_conf.specs.Place.{base, put}
 use Rattle.asound_conf.specs.View.{added, entries_of, put_node, tree_of, IsLast}
+use Rattle.asound_conf.proofs.Indexes.{IsIndex-set}
 use Rattle.asound_conf.proofs.Puts.{put-at, put-nil, first_and_rest, OnOk-map}
 use Rattle.asound_conf.proofs.group.+put.Goals as goal
 
 pub put-returns-in_default : goal.put-returns-in_default
 put-returns-in_default t c = put-nil c.args.text c.args.parts.now c.args.group.now c.in_default.len_below
+
+pub put-invariant_of-group-2 : goal.put-invariant_of-group-2
+put-invariant_of-group-2 t c =
+    let new : List ℕ × Node = (c.index_mut.result.now.0, c.put_node.new.node) in
+    let same : new.0 ≡ (get_or c.place_or_add.new.items.items c.in_ok-at.at c.index_mut.result.now).0 = ap (λ (p : List ℕ × Node). p.0) c.index_mut.ensures.value in
+    IsIndex-set c.place_or_add.new.index c.place_or_add.new.items.items c.in_ok-at.at c.index_mut.result.now new same c.in_ok-at.ensures.index
 
 pub put-returns : goal.put-returns
 put-returns t c =

@@ -29,8 +29,8 @@ loop-frame-preserved g c =
     let before = c.loop-frame.invariant in
     let plain = c.args.plain.now in
     let number : ℕ = plain.committed + c.loop-frame.frame in
-    let is_slot : c.slot_of-slot.result ≡ number % plain.config.buffer_size * length plain.bindings =
-    c.slot_of-slot.ensures.value ∙ ap (λ (n : ℕ). number % plain.config.buffer_size * n) c.len-channels.ensures.value in
+    let is_slot : c.slot_of-slot.result ≡ (plain.source + number) % plain.config.buffer_size * length plain.bindings =
+    c.slot_of-slot.ensures.value ∙ ap (λ (n : ℕ). (plain.source + number) % plain.config.buffer_size * n) c.len-channels.ensures.value in
     let same : (k : ℕ) → k < length plain.bindings → slice_index_or c.frame_of-samples.result.now k (pos 0) ≡ held plain c.args.ring.now number k =
     λ k within. c.frame_of-samples.ensures.samples k (omega (arith, c.len-channels.ensures.value)) ∙ ap (λ (n : ℕ). slice_index_or c.args.ring.now (n + k) (pos 0)) is_slot in
     let step : TakesAt port g.G.Gate (c.loop-frame.port, c.loop-frame.gate) (lay_frame plain.member (plain.card + number) plain.bindings (λ q. slice_index_or c.frame_of-samples.result.now q (pos 0))) (c.place_frame-placed.new.port, c.place_frame-placed.new.gate) (c.place_frame-placed.result.placed, Whole) =
@@ -52,8 +52,8 @@ returns-in_default g c =
     let before = c.loop-frame.invariant in
     let plain = c.args.plain.now in
     let number : ℕ = plain.committed + c.loop-frame.frame in
-    let is_slot : c.slot_of-slot.result ≡ number % plain.config.buffer_size * length plain.bindings =
-    c.slot_of-slot.ensures.value ∙ ap (λ (n : ℕ). number % plain.config.buffer_size * n) c.len-channels.ensures.value in
+    let is_slot : c.slot_of-slot.result ≡ (plain.source + number) % plain.config.buffer_size * length plain.bindings =
+    c.slot_of-slot.ensures.value ∙ ap (λ (n : ℕ). (plain.source + number) % plain.config.buffer_size * n) c.len-channels.ensures.value in
     let same : (k : ℕ) → k < length plain.bindings → slice_index_or c.frame_of-samples.result.now k (pos 0) ≡ held plain c.args.ring.now number k =
     λ k within. c.frame_of-samples.ensures.samples k (omega (arith, c.len-channels.ensures.value)) ∙ ap (λ (n : ℕ). slice_index_or c.args.ring.now (n + k) (pos 0)) is_slot in
     RestFrames-ended port g.G.Gate plain.member plain.card plain.bindings (held plain c.args.ring.now) c.args.count plain.committed (c.args.port.now, c.args.gate.now) (c.loop-frame.port, c.loop-frame.gate) (c.place_frame-placed.new.port, c.place_frame-placed.new.gate)

@@ -1,6 +1,6 @@
 use Rattle.std.proofs.Common.{sym, ◌∙◌}
 use Rattle.dmixlab.specs.Words.{form_of, texts}
-use Rattle.dmixlab.proofs.Ends.{status_of-script, status_of-wav, status_of-reliable}
+use Rattle.dmixlab.proofs.Ends.{status_of-text, status_of-wav, status_of-reliable}
 use Rattle.dmixlab.proofs.Only.{DoneIn-only}
 use Rattle.dmixlab.proofs.top.dmixlab.Goals as goal
 
@@ -11,7 +11,7 @@ returns-clause-exact g c zero =
 pub returns-clause-script : goal.returns-clause-script
 returns-clause-script g c files told =
     rw c.status.ensures
-    (status_of-script c.command-end.result (form_of (texts c.args.words.now)) files _ _ (c.command-end.ensures.cause files told)
+    (status_of-text c.command-end.result (form_of (texts c.args.words.now)) files _ _ (c.command-end.ensures.cause files told)
     c.command-end.ensures.words c.command-end.ensures.reads)
 
 pub returns-clause-wav : goal.returns-clause-wav

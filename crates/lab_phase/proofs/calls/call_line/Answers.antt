@@ -1,5 +1,5 @@
 use Rattle.std.proofs.Common.{sym, subst}
-use Rattle.lab_script.specs.declared.line.Op.{Op}
+use Rattle.short_script.specs.declared.line.Op.{Op}
 use Rattle.lab_phase.specs.Seats.{HasCalled}
 use Rattle.lab_phase.proofs.Waiting.{no_call-line}
 use Rattle.lab_phase.proofs.calls.call_line.Goals as goal
@@ -46,8 +46,8 @@ returns-in-Prepare c = λ members p own h is at stands.
 
 pub returns-in-Pause : goal.returns-in-Pause
 returns-in-Pause c = λ members p own h is at stands.
-    subst (λ (asked : Op). HasCalled members p c.args.wav.now own asked c.pause_line.new.client c.args.port.now c.args.port.now c.pause_line.result) (sym c.in-Pause.is)
-    (c.pause_line.ensures members p c.args.wav.now own h c.args.port.now is at stands)
+    subst (λ (asked : Op). HasCalled members p c.args.wav.now own asked c.pause_line.new.client c.args.port.now c.pause_line.new.port c.pause_line.result) (sym c.in-Pause.is)
+    (c.pause_line.ensures members p c.args.wav.now own h is at stands)
 
 pub returns-in-Play : goal.returns-in-Play
 returns-in-Play c = λ members p own h is at stands. no_call-line members p c.args.wav.now own c.args.asked c.args.client.now c.args.port.now is at c.in-Play.is

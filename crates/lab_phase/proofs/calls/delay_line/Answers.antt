@@ -1,6 +1,6 @@
 use Rattle.std.proofs.Common.{refl, subst}
-use Rattle.lab_report.specs.declared.row.Answer.{Answer}
-use Rattle.lab_script.specs.declared.line.Op.TheVariants as op
+use Rattle.short_report.specs.declared.row.Answer.{Answer}
+use Rattle.short_script.specs.declared.line.Op.TheVariants as op
 use Rattle.lab_phase.specs.Seats.{HasCalled}
 use Rattle.lab_phase.proofs.CallLines.{delay-called}
 use Rattle.lab_phase.proofs.calls.delay_line.Goals as goal

@@ -4,8 +4,8 @@ use Rattle.std.specs.Prelude.{ℤ, ◌-◌, min}
 use Rattle.dmix_client.specs.declared.plain.Plain.{Plain}
 use Rattle.dmix_client.specs.Writes.{IsOffer}
 use Rattle.wav_io.specs.Sound.{Sound}
-use Rattle.lab_report.specs.declared.row.Answer.{Answer}
-use Rattle.lab_script.specs.declared.line.Op.TheVariants as op
+use Rattle.short_report.specs.declared.row.Answer.{Answer}
+use Rattle.short_script.specs.declared.line.Op.TheVariants as op
 use Rattle.lab_phase.specs.Lines.{frames_of}
 use Rattle.lab_phase.specs.Seats.{HasCalled}
 use Rattle.lab_phase.proofs.Offering.{Offers, Offers-IsOffer, slice-Offers}

@@ -1,9 +1,9 @@
 use Rattle.std.proofs.Common.{◌≡◌, ◌+◌, ◌<◌, ◌≤◌, [], sym, ap, subst, arith, length, get_or, take}
 use Rattle.std.proofs.lemmas.List.{get_or_default}
-use Rattle.lab_script.specs.declared.line.Actor.TheVariants.{Card}
-use Rattle.lab_script.specs.declared.line.Line.{Line}
-use Rattle.lab_script.specs.declared.line.Op.TheVariants.{Play}
-use Rattle.lab_script.specs.Script.{IsLine, IsPhase, played_by, played_in}
+use Rattle.short_script.specs.declared.line.Actor.TheVariants.{Card}
+use Rattle.short_script.specs.declared.line.Line.{Line}
+use Rattle.short_script.specs.declared.line.Op.TheVariants.{Play}
+use Rattle.short_script.specs.Script.{IsLine, IsPhase, played_by, played_in}
 use Rattle.lab_phase.proofs.Phased.{CanTake-settled, HasRun-line, played_by_lines-in_phase, sum_by-take_more}
 use Rattle.lab_phase.proofs.run.run_phase.Goals as goal
 

@@ -1,5 +1,5 @@
 use Rattle.std.proofs.Common.{◌<◌, [], ap, arith, take, length}
-use Rattle.lab_script.specs.Script.{played_in}
+use Rattle.short_script.specs.Script.{played_in}
 use Rattle.lab_phase.proofs.Phased.{HasRun-phase, played_by_lines-numbered, sum_by-take_more}
 use Rattle.lab_phase.proofs.run.run_phases.Goals as goal
 

@@ -1,7 +1,7 @@
 use Rattle.std.proofs.Common.{◌≡◌, ℕ, ◌<◌, refl, ◌∙◌, ap, subst, arith, length, List}
 use Rattle.std.proofs.lemmas.Option.{slice_get_read}
 use Rattle.std.specs.Prelude.{Some, slice_get}
-use Rattle.lab_script.specs.declared.script.ClientLine.{ClientLine}
+use Rattle.short_script.specs.declared.script.ClientLine.{ClientLine}
 use Rattle.lab_phase.proofs.Opened.{AreSeated, AreSeated-more, HasOpened-seated}
 use Rattle.lab_phase.proofs.start.opened.Goals as goal
 

@@ -1,5 +1,8 @@
-use Rattle.std.proofs.Common.{rules, subst}
-use Rattle.std.specs.Prelude.{List, ℤ}
+use Rattle.std.proofs.Common.{ℕ, refl, rules, subst, sym}
+use Rattle.std.specs.Prelude.{List, Ok, Result, ℤ}
+use Rattle.snd_base.specs.declared.errors.PcmError.{PcmError}
+use Rattle.dmix_client.specs.Growth.{AnySamples}
+use Rattle.dmix_client.specs.Port.{CanUse}
 use Rattle.pcm_states.specs.declared.calls.Call.TheVariants as call
 use Rattle.course.specs.AtPort.{TakesAt}
 use Rattle.dmix_client.specs.Calls.{avail_answer, sync_count, synced, with_number}
@@ -8,7 +11,7 @@ use Rattle.dmix_client.specs.Course.{admitted, number_course, syncs}
 use Rattle.dmix_client.specs.View.{ClientView}
 use Rattle.dmix_client.proofs.CausedBy.{step-sync}
 use Rattle.dmix_client.proofs.Grown.{configured-moving}
-use Rattle.dmix_client.proofs.Keeping.{Explains-number, client, syncs-explained}
+use Rattle.dmix_client.proofs.Keeping.{Explains-number, Keeps-none, client, syncs-explained}
 use Rattle.dmix_client.proofs.Looking.{admitted-ok, number-moving}
 use Rattle.dmix_client.proofs.client.Client.avail_update.Goals as goal
 
@@ -29,3 +32,8 @@ returns-clause-causes g c admitted moves =
     (Explains-number g.P.MixPort g.G.Gate g.met.P.MixPort.laid_composes g.met.P.MixPort.loaded_composes (c.args.port.now, c.args.gate.now) (c.sync_call-answer.new.port, c.sync_call-answer.new.gate) (client plain c.as_slice-ring.result.now) (λ position. plain) (sync_count plain) (synced plain call.Sync) avail_answer (c.sync_call-answer.new.plain, c.sync_call-answer.result) (c.sync_call-answer.new.plain, c.with_avail.result) c.with_avail.ensures
     (syncs-explained g.P.MixPort g.G.Gate g.met.P.MixPort.laid_composes g.met.P.MixPort.loaded_composes (c.args.port.now, c.args.gate.now) (c.sync_call-answer.new.port, c.sync_call-answer.new.gate) plain c.as_slice-ring.result.now call.Sync (c.sync_call-answer.new.plain, c.sync_call-answer.result)
     (configured-moving plain c.self.inside.ring.items c.self.invariant (search rules)).bound (step-sync plain.state (search rules)) c.sync_call-answer.ensures.takes)))
+
+pub returns-then-not-is_moving-clause-keeps : goal.returns-then-not-is_moving-clause-keeps
+returns-then-not-is_moving-clause-keeps g c =
+    rw (← c.self.view_is) (Keeps-none g.P.MixPort g.G.Gate g.met.P.MixPort.laid_composes g.met.P.MixPort.loaded_composes (c.args.port.now, c.args.gate.now) (client c.self.inside.plain c.self.inside.ring.items) (let r : Result (ℕ) PcmError = Ok c.avail_answer.result in r) AnySamples
+    c.self.invariant (subst (λ (v : ClientView). CanUse v.plain (g.P.MixPort.view c.args.port.now)) (sym c.self.view_is) c.requires) (λ unstopped. refl))

@@ -1,6 +1,6 @@
 use Rattle.std.proofs.Common.{◌≡◌, ◌+◌, ◌<◌, ◌^◌, All, length}
 use Rattle.dmixlab.specs.Refine.Grammar.{IsAsk}
-use Rattle.lab_script.specs.Lexing.{lines_from}
+use Rattle.short_script.specs.Lexing.{lines_from}
 use Rattle.dmixlab.specs.Refine.Reading.{asks_of}
 use Rattle.dmixlab.proofs.Requests.{behind}
 use Rattle.dmixlab.proofs.refine.reader.read_asks.Given as goal

@@ -1,6 +1,6 @@
 use Rattle.std.proofs.Common.{◌≡◌, set, ap, ◌∙◌}
 use Rattle.std.proofs.Math.ListN.{replicate}
-use Rattle.sum_table.specs.Words.{words_of}
+use Rattle.ring_rule.specs.Words.{words_of}
 use Rattle.sum_table.proofs.Opens.{new_words, opens_at}
 use Rattle.sum_table.proofs.ring.SumRing.new.Goals as goal
 

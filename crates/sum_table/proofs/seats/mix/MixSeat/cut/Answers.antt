@@ -1,9 +1,10 @@
-use Rattle.std.proofs.Common.{◌-◌, None, arith, ap, subst, sym, ◌∙◌}
+use Rattle.std.proofs.Common.{◌-◌, arith, ap, subst, sym, ◌∙◌}
 use Rattle.atomic_table.specs.Table.{Me}
 use Rattle.mix_core.specs.declared.port.Entry.{Entry}
 use Rattle.sum_table.specs.declared.seats.mix.MixSeat.{MixSeat}
 use Rattle.sum_table.specs.declared.view.View.{View}
 use Rattle.sum_table.specs.Cuts.{part_of}
+use Rattle.sum_table.specs.Extent.{Extent}
 use Rattle.sum_table.specs.Known.{IsKnown}
 use Rattle.sum_table.proofs.Joining.{known_as, known_part, known_without, may_cut}
 use Rattle.sum_table.proofs.seats.mix.MixSeat.cut.Goals as goal
@@ -19,9 +20,10 @@ invariant_of-self g c =
     let me = c.split_seat-seat.ensures.2 in
     record {
       same_ring = (c.split_seat-seat.ensures.0 ∙ s.same_ring.0, s.same_ring.1, ap (λ (m : Me Entry View). m.1) me ∙ s.same_ring.2, s.same_ring.3);
-      known = known_as s.key (s.places - c.args.places) s.marks s.seen s.last _ c.split_seat-seat.new.seat.me me
-          (known_without s.key s.places s.marks s.seen s.last s.seat.me.0 g.B.Amount.amount c.args.places s.known c.requires.amount c.requires.places c.requires.laid_nothing);
-      words_are = s.words_are;
+      known = known_as s.key (s.places - c.args.places) s.reach.marks s.seen s.reach.last _ c.split_seat-seat.new.seat.me me
+          (known_without s.key s.places s.reach.marks s.seen s.reach.last s.seat.me.0 g.B.Amount.amount c.args.places s.known c.requires.amount c.requires.places c.requires.laid_nothing);
+      one_geometry = s.one_geometry;
+      lap_start = s.lap_start;
     }
 
 pub invariant_of-result : goal.invariant_of-result
@@ -30,7 +32,8 @@ invariant_of-result g c =
     let me = c.split_seat-seat.ensures.4 in
     record {
       same_ring = (c.split_seat-seat.ensures.3 ∙ s.same_ring.0, s.same_ring.1, ap (λ (m : Me Entry View). m.1) me, s.same_ring.3);
-      known = known_as s.key c.args.places _ s.seen None _ c.split_seat-seat.result.me me
-          (subst (λ m. IsKnown (part_of s.seat.me.0 g.B.Amount.amount) s.key c.args.places m s.seen None) (sym c.start.ensures) (known_part s.key s.seat.me.0 g.B.Amount.amount c.args.places s.seen s.known.same_key s.known.same_seen s.known.noted s.known.seen_within c.requires.amount (omega (arith, c.requires.places, s.known.places_most))));
-      words_are = s.words_are;
+      known = known_as s.key c.args.places _ s.seen _ _ c.split_seat-seat.result.me me
+          (subst (λ (x : Extent). IsKnown (part_of s.seat.me.0 g.B.Amount.amount) s.key c.args.places x.marks s.seen x.last) (sym c.start.ensures) (known_part s.key s.seat.me.0 g.B.Amount.amount c.args.places s.seen s.known.same_key s.known.same_seen s.known.noted s.known.seen_within c.requires.amount (omega (arith, c.requires.places, s.known.places_most))));
+      one_geometry = ap (λ (x : Extent). x.geometry) c.start.ensures;
+      lap_start = s.lap_start;
     }

@@ -1,16 +1,16 @@
-use Rattle.std.proofs.Common.{◌≡◌, ◌≢◌, ◌+◌, ℤ, sym, subst, ap, ◌∙◌, refl, to_z, of_z}
+use Rattle.std.proofs.Common.{◌≡◌, ◌≢◌, ◌<◌, ℤ, Some, sym, subst, ap, ◌∙◌, refl, to_z, of_z}
 use Rattle.std.proofs.lemmas.Int.{to_z-of_z}
 use Rattle.atomic_table.specs.Table.{Me}
 use mir.Syntax.{w16}
-use Rattle.mix_core.specs.declared.marks.Marks.{Marks}
+use Rattle.snd_base.specs.declared.geometry.Geometry.{Geometry}
 use Rattle.mix_core.specs.declared.port.Entry.{Entry}
 use Rattle.mix_core.specs.Laid.{marked}
 use Rattle.sum_table.specs.declared.seats.mix.MixSeat.{MixSeat}
 use Rattle.sum_table.specs.declared.view.View.{View}
-use Rattle.sum_table.specs.Known.{IsKnown}
+use Rattle.sum_table.specs.Extent.{Extent}
+use Rattle.sum_table.specs.Known.{IsKnown, greater}
 use Rattle.sum_table.specs.Seats.{entry_by}
-use Rattle.sum_table.specs.Words.{index_of}
-use Rattle.sum_table.proofs.Below.{words_index, words_within}
+use Rattle.sum_table.proofs.Spots.{spot_within}
 use Rattle.sum_table.proofs.Seated.{MayExchange, has_laid_as, has_lost, known_lost, known_won, lay_facts, lost_notes, may_exchange, may_lay, room_there, won_lays}
 use Rattle.sum_table.proofs.seats.mix.MixSeat.exchange.Goals as goal
 
@@ -32,11 +32,10 @@ pub compare_exchange_with-found-requires : goal.compare_exchange_with-found-requ
 compare_exchange_with-found-requires g c =
     let s : MixSeat = c.args.self.now in
     let z : ℤ = to_z w16 (of_z w16 c.args.sample) in
-    let may : MayExchange s c.args.kind c.args.frame c.args.channel c.args.old z = may_lay s c.args.kind c.args.frame c.args.channel c.args.old c.args.sample c.ranges.sample c.requires.may c.requires.noted c.requires.of_lap in
-    let index : c.at-words.result.first + c.args.channel ≡ index_of s.key.geometry c.args.frame c.args.channel = words_index s.key.geometry c.at-words.result c.args.frame c.args.channel c.at-words.ensures.words c.at-words.ensures.frame in (
+    let may : MayExchange s c.args.kind c.args.frame c.args.channel c.args.old z = may_lay s c.args.kind c.args.frame c.args.channel c.args.old c.args.sample c.ranges.sample c.requires.may c.requires.noted c.requires.of_lap in (
       s.same_ring.0,
-      words_within s.key.geometry c.at-words.result c.args.frame c.args.channel c.at-words.ensures.words c.at-words.ensures.frame (lay_facts s c.args.kind c.args.frame c.args.channel c.args.sample c.requires.may).channel s.same_ring.3,
-      may_exchange s c.args.kind s.ring.now.table_id.slots (c.at-words.result.first + c.args.channel) c.args.frame c.args.channel c.args.old c.changed-new.result z may c.changed-new.ensures index,
+      spot_within s.key.geometry c.args.frame c.args.channel c.args.spot c.requires.spot (lay_facts s c.args.kind c.args.frame c.args.channel c.args.sample c.requires.may).channel s.same_ring.3,
+      may_exchange s c.args.kind s.ring.now.table_id.slots c.args.spot.index c.args.frame c.args.channel c.args.old c.changed-new.result z may c.changed-new.ensures c.requires.spot.index_is,
     )
 
 pub invariant_of-self : goal.invariant_of-self
@@ -44,25 +43,26 @@ invariant_of-self g c =
     let s : MixSeat = c.args.self.now in
     let e : Entry = entry_by s c.args.kind c.args.frame c.args.channel (to_z w16 (of_z w16 c.args.sample)) in
     let other : c.compare_exchange_with-found.result ≢ c.args.old = c.if-found-old.true in
-    let lost = lost_notes s.ring.now.table_id.slots (c.at-words.result.first + c.args.channel) c.args.old c.changed-new.result c.compare_exchange_with-found.result e s.seat.me c.compare_exchange_with-found.new.seat.me other c.compare_exchange_with-found.ensures.2 in
+    let lost = lost_notes s.ring.now.table_id.slots c.args.spot.index c.args.old c.changed-new.result c.compare_exchange_with-found.result e s.seat.me c.compare_exchange_with-found.new.seat.me other c.compare_exchange_with-found.ensures.2 in
     record {
       same_ring = (c.compare_exchange_with-found.ensures.0 ∙ s.same_ring.0, s.same_ring.1, ap (λ (x : Me Entry View). x.1) lost.1.1 ∙ s.same_ring.2, s.same_ring.3);
-      known = known_lost s.key s.places s.marks s.seen s.last s.ring.now.table_id.slots (c.at-words.result.first + c.args.channel) c.args.old c.changed-new.result c.compare_exchange_with-found.result e s.seat.me c.compare_exchange_with-found.new.seat.me s.known other c.compare_exchange_with-found.ensures.2;
-      words_are = s.words_are;
+      known = known_lost s.key s.places s.reach.marks s.seen s.reach.last s.ring.now.table_id.slots c.args.spot.index c.args.old c.changed-new.result c.compare_exchange_with-found.result e s.seat.me c.compare_exchange_with-found.new.seat.me s.known other c.compare_exchange_with-found.ensures.2;
+      one_geometry = s.one_geometry;
+      lap_start = s.lap_start;
     }
 
 pub returns-then-found-old-clause-err : goal.returns-then-found-old-clause-err
 returns-then-found-old-clause-err g c =
     let s : MixSeat = c.args.self.now in
     let e : Entry = entry_by s c.args.kind c.args.frame c.args.channel (to_z w16 (of_z w16 c.args.sample)) in
-    let index : c.at-words.result.first + c.args.channel ≡ index_of s.key.geometry c.args.frame c.args.channel = words_index s.key.geometry c.at-words.result c.args.frame c.args.channel c.at-words.ensures.words c.at-words.ensures.frame in
     let other : c.compare_exchange_with-found.result ≢ c.args.old = c.if-found-old.true in
-    has_lost s _ s.ring.now.table_id.slots (c.at-words.result.first + c.args.channel) c.args.frame c.args.channel c.args.old c.changed-new.result c.compare_exchange_with-found.result e
+    has_lost s _ s.ring.now.table_id.slots c.args.spot.index c.args.frame c.args.channel c.args.old c.changed-new.result c.compare_exchange_with-found.result e
     (record { ring = c.compare_exchange_with-found.ensures.0; key = refl; member = refl; places = refl; seen = refl }) refl refl
-    (lay_facts s c.args.kind c.args.frame c.args.channel c.args.sample c.requires.may).channel c.requires.noted index other c.compare_exchange_with-found.ensures.2
+    (lay_facts s c.args.kind c.args.frame c.args.channel c.args.sample c.requires.may).channel c.requires.noted c.requires.spot.index_is other c.compare_exchange_with-found.ensures.2
 
-pub moved-self-requires-clause-channel : goal.moved-self-requires-clause-channel
-moved-self-requires-clause-channel g c = (lay_facts c.args.self.now c.args.kind c.args.frame c.args.channel c.args.sample c.requires.may).channel
+pub lay-requires-clause-channel : goal.lay-requires-clause-channel
+lay-requires-clause-channel g c =
+    subst (λ (x : Geometry). c.args.channel < x.channels) (sym c.args.self.now.one_geometry) (lay_facts c.args.self.now c.args.kind c.args.frame c.args.channel c.args.sample c.requires.may).channel
 
 pub invariant_of-self-2 : goal.invariant_of-self-2
 invariant_of-self-2 g c =
@@ -70,14 +70,15 @@ invariant_of-self-2 g c =
     let z : ℤ = to_z w16 (of_z w16 c.args.sample) in
     let same : c.compare_exchange_with-found.result ≡ c.args.old = c.if-found-old.false in
     let e : Entry = entry_by s c.args.kind c.args.frame c.args.channel z in
-    let lays = won_lays s.ring.now.table_id.slots (c.at-words.result.first + c.args.channel) c.args.old c.changed-new.result c.compare_exchange_with-found.result e s.seat.me c.compare_exchange_with-found.new.seat.me same c.compare_exchange_with-found.ensures.2 in
+    let lays = won_lays s.ring.now.table_id.slots c.args.spot.index c.args.old c.changed-new.result c.compare_exchange_with-found.result e s.seat.me c.compare_exchange_with-found.new.seat.me same c.compare_exchange_with-found.ensures.2 in
     let may : MayExchange s c.args.kind c.args.frame c.args.channel c.args.old z = may_lay s c.args.kind c.args.frame c.args.channel c.args.old c.args.sample c.ranges.sample c.requires.may c.requires.noted c.requires.of_lap in
-    let known = known_won s.key s.places s.marks s.seen s.last s.ring.now.table_id.slots (c.at-words.result.first + c.args.channel) c.args.old c.changed-new.result c.compare_exchange_with-found.result e s.seat.me c.compare_exchange_with-found.new.seat.me s.known may.may same c.compare_exchange_with-found.ensures.2 in
+    let known = known_won s.key s.places s.reach.marks s.seen s.reach.last s.ring.now.table_id.slots c.args.spot.index c.args.old c.changed-new.result c.compare_exchange_with-found.result e s.seat.me c.compare_exchange_with-found.new.seat.me s.known may.may same c.compare_exchange_with-found.ensures.2 in
     record {
       same_ring = (c.compare_exchange_with-found.ensures.0 ∙ s.same_ring.0, s.same_ring.1, ap (λ (x : Me Entry View). x.1) lays.1 ∙ s.same_ring.2, s.same_ring.3);
-      known = subst (λ (at : Marks). IsKnown c.compare_exchange_with-found.new.seat.me.0 s.key s.places at s.seen c.greater-self.result) (sym c.moved-self.ensures)
-          (subst (IsKnown c.compare_exchange_with-found.new.seat.me.0 s.key s.places (marked c.args.kind s.key.geometry s.marks c.args.frame c.args.channel) s.seen) (sym c.greater-self.ensures) known);
-      words_are = s.words_are;
+      known = subst (λ (x : Extent). IsKnown c.compare_exchange_with-found.new.seat.me.0 s.key s.places x.marks s.seen x.last) (sym c.lay.ensures)
+          (subst (λ (x : Geometry). IsKnown c.compare_exchange_with-found.new.seat.me.0 s.key s.places (marked c.args.kind x s.reach.marks c.args.frame c.args.channel) s.seen (greater s.reach.last (Some c.args.frame))) (sym s.one_geometry) known);
+      one_geometry = ap (λ (x : Extent). x.geometry) c.lay.ensures ∙ s.one_geometry;
+      lap_start = s.lap_start;
     }
 
 pub returns-clause-ok : goal.returns-clause-ok
@@ -86,6 +87,7 @@ returns-clause-ok g c =
     let z : ℤ = to_z w16 (of_z w16 c.args.sample) in
     let same : c.compare_exchange_with-found.result ≡ c.args.old = c.if-found-old.false in
     let e : Entry = entry_by s c.args.kind c.args.frame c.args.channel z in
-    let lays = won_lays s.ring.now.table_id.slots (c.at-words.result.first + c.args.channel) c.args.old c.changed-new.result c.compare_exchange_with-found.result e s.seat.me c.compare_exchange_with-found.new.seat.me same c.compare_exchange_with-found.ensures.2 in
+    let lays = won_lays s.ring.now.table_id.slots c.args.spot.index c.args.old c.changed-new.result c.compare_exchange_with-found.result e s.seat.me c.compare_exchange_with-found.new.seat.me same c.compare_exchange_with-found.ensures.2 in
     has_laid_as s _ c.args.kind c.args.frame c.args.channel z c.args.sample (to_z-of_z w16 c.args.sample c.ranges.sample)
-    (record { ring = c.compare_exchange_with-found.ensures.0; key = refl; member = refl; places = refl; seen = refl }) c.moved-self.ensures c.greater-self.ensures lays
+    (record { ring = c.compare_exchange_with-found.ensures.0; key = refl; member = refl; places = refl; seen = refl })
+    (ap (λ (x : Extent). x.marks) c.lay.ensures ∙ ap (λ (x : Geometry). marked c.args.kind x s.reach.marks c.args.frame c.args.channel) s.one_geometry) (ap (λ (x : Extent). x.last) c.lay.ensures) lays

@@ -5,6 +5,7 @@ use Rattle.sum_table.specs.declared.seats.mix.MixSeat.{MixSeat}
 use Rattle.sum_table.specs.declared.view.Key.{Key}
 use Rattle.sum_table.specs.declared.view.View.{View}
 use Rattle.sum_table.specs.Cuts.{joined_marks}
+use Rattle.sum_table.specs.Extent.{Extent}
 use Rattle.sum_table.specs.Known.{IsKnown, greater}
 use Rattle.sum_table.proofs.Cuts.{joins}
 use Rattle.sum_table.proofs.Joining.{known_joined, learned_kept, learns_at}
@@ -31,9 +32,9 @@ invariant_of-self c =
     let s : MixSeat = c.args.self.now in
     let o : MixSeat = c.args.other in
     let both = ap (λ (m : Me Entry View). m.0) c.join_seat.ensures.2 in
-    let other_known : IsKnown o.seat.me.0 s.key o.places o.marks o.seen o.last = subst (λ (k : Key). IsKnown o.seat.me.0 k o.places o.marks o.seen o.last) c.requires.1 o.known in
-    let known : IsKnown c.load-self.new.seat.me.0 s.key (s.places + o.places) (joined_marks s.marks o.marks o.places) (max s.seen o.seen) (greater s.last o.last) =
-    known_joined s.key s.places o.places s.marks o.marks s.seen o.seen s.last o.last s.seat.me.0 o.seat.me.0 s.ring.now.table_id.slots c.load-self.result c.join_seat.new.seat.me c.load-self.new.seat.me s.known other_known both c.load-self.ensures.2 in
+    let other_known : IsKnown o.seat.me.0 s.key o.places o.reach.marks o.seen o.reach.last = subst (λ (k : Key). IsKnown o.seat.me.0 k o.places o.reach.marks o.seen o.reach.last) c.requires.1 o.known in
+    let known : IsKnown c.load-self.new.seat.me.0 s.key (s.places + o.places) (joined_marks s.reach.marks o.reach.marks o.places) (max s.seen o.seen) (greater s.reach.last o.reach.last) =
+    known_joined s.key s.places o.places s.reach.marks o.reach.marks s.seen o.seen s.reach.last o.reach.last s.seat.me.0 o.seat.me.0 s.ring.now.table_id.slots c.load-self.result c.join_seat.new.seat.me c.load-self.new.seat.me s.known other_known both c.load-self.ensures.2 in
     record {
       same_ring = (
         c.load-self.ensures.0 ∙ (c.join_seat.ensures.0 ∙ s.same_ring.0),
@@ -41,6 +42,7 @@ invariant_of-self c =
         learned_kept s.ring.now.table_id.slots c.load-self.result c.join_seat.new.seat.me c.load-self.new.seat.me c.load-self.ensures.2 ∙ (ap (λ (m : Me Entry View). m.1) c.join_seat.ensures.2 ∙ s.same_ring.2),
         s.same_ring.3,
       );
-      known = rw (c.joined-self.ensures, c.max-self.ensures, c.greater-self.ensures) known;
-      words_are = s.words_are;
+      known = rw (c.join.ensures, c.max-self.ensures) known;
+      one_geometry = ap (λ (x : Extent). x.geometry) c.join.ensures ∙ s.one_geometry;
+      lap_start = s.lap_start;
     }

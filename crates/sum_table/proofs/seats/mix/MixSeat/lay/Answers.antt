@@ -18,33 +18,34 @@ returns-in_default g c =
     stopped_lays g.G.Gate.stops g.G.Gate.asked s s c.args.gate.now c.ask.new.gate (entry_by s c.args.kind c.args.frame c.args.channel c.args.sample) [] 1 c.args.steps.now c.args.steps.now
     (found_none s c.args.frame c.args.channel) refl (omega arith) (λ _. refl) c.in_default.ensures.asked c.in_default.ensures.answer (omega arith) (omega arith)
 
-pub load_word-word-requires : goal.load_word-word-requires
-load_word-word-requires g c = record { channel = (at_lay c.args.self.now c.args.kind c.args.frame c.args.channel c.args.sample c.requires.may).channel }
+pub look-found-requires : goal.look-found-requires
+look-found-requires g c = record { channel = (at_lay c.args.self.now c.args.kind c.args.frame c.args.channel c.args.sample c.requires.may).channel }
 
-pub returns-then-lap-its_lap : goal.returns-then-lap-its_lap
-returns-then-lap-its_lap g c =
+pub returns-then-lap-spot : goal.returns-then-lap-spot
+returns-then-lap-spot g c =
     let s : MixSeat = c.args.self.now in
-    let other : lap_of c.load_word-word.result ≢ lap s.key.geometry c.args.frame = λ same. c.if-lap-its_lap.true (c.lap.ensures.lap ∙ (same ∙ sym c.lap-its_lap.ensures)) in
-    late_lays g.G.Gate.stops g.G.Gate.asked s s c.load_word-word.new.self c.args.gate.now c.ask.new.gate c.args.kind c.args.frame c.args.channel c.args.sample [] c.load_word-word.result 1 c.args.steps.now c.load_word-word.new.steps
-    (found_none s c.args.frame c.args.channel) c.load_word-word.ensures.noted c.requires.may other refl (λ _. refl) c.in-Ok.ensures.asked c.in-Ok.ensures.answer c.load_word-word.ensures.ticks (omega arith)
+    let other : lap_of c.look-found.result.0 ≢ lap s.key.geometry c.args.frame = λ same. c.if-lap-spot.true (c.lap.ensures.lap ∙ (same ∙ sym c.look-found.ensures.spot.lap_is)) in
+    late_lays g.G.Gate.stops g.G.Gate.asked s s c.look-found.new.self c.args.gate.now c.ask.new.gate c.args.kind c.args.frame c.args.channel c.args.sample [] c.look-found.result.0 1 c.args.steps.now c.look-found.new.steps
+    (found_none s c.args.frame c.args.channel) c.look-found.ensures.noted c.requires.may other refl (λ _. refl) c.in-Ok.ensures.asked c.in-Ok.ensures.answer c.look-found.ensures.ticks (omega arith)
 
 pub returns-in_default-ask : goal.returns-in_default-ask
 returns-in_default-ask g c =
     let s : MixSeat = c.args.self.now in
-    let same : lap_of c.load_word-word.result ≡ lap s.key.geometry c.args.frame = sym c.lap.ensures.lap ∙ (c.if-lap-its_lap.false ∙ c.lap-its_lap.ensures) in
-    let trying = first_trying s c.load_word-word.new.self c.args.frame c.args.channel c.load_word-word.result c.args.steps.now c.load_word-word.new.steps c.load_word-word.ensures.noted
-    (at_lay s c.args.kind c.args.frame c.args.channel c.args.sample c.requires.may) same c.load_word-word.ensures.ticks in
-    stopped_lays g.G.Gate.stops g.G.Gate.asked s c.load_word-word.new.self c.args.gate.now c.ask-2.new.gate (entry_by s c.args.kind c.args.frame c.args.channel c.args.sample) trying.words 2 c.args.steps.now c.load_word-word.new.steps
+    let same : lap_of c.look-found.result.0 ≡ lap s.key.geometry c.args.frame = sym c.lap.ensures.lap ∙ (c.if-lap-spot.false ∙ c.look-found.ensures.spot.lap_is) in
+    let trying = first_trying s c.look-found.new.self c.args.frame c.args.channel c.look-found.result.0 c.args.steps.now c.look-found.new.steps c.look-found.ensures.noted
+    (at_lay s c.args.kind c.args.frame c.args.channel c.args.sample c.requires.may) same c.look-found.ensures.ticks in
+    stopped_lays g.G.Gate.stops g.G.Gate.asked s c.look-found.new.self c.args.gate.now c.ask-2.new.gate (entry_by s c.args.kind c.args.frame c.args.channel c.args.sample) trying.words 2 c.args.steps.now c.look-found.new.steps
     trying.found trying.number (omega arith) (λ before. absurd (omega (arith, before, trying.not_before)))
-    (g.met.G.Gate.asked_composes.joined _ _ _ (Look ∷ []) (Exchange ∷ []) _ c.in-Ok.ensures.asked c.in_default-ask.ensures.asked) (c.in_default-ask.ensures.answer ∙ ap (λ n. n + 1) c.in-Ok.ensures.answer) c.load_word-word.ensures.ticks (omega arith)
+    (g.met.G.Gate.asked_composes.joined _ _ _ (Look ∷ []) (Exchange ∷ []) _ c.in-Ok.ensures.asked c.in_default-ask.ensures.asked) (c.in_default-ask.ensures.answer ∙ ap (λ n. n + 1) c.in-Ok.ensures.answer) c.look-found.ensures.ticks (omega arith)
 
-pub loop-init : goal.loop-init
-loop-init g c =
+pub loop-found-init : goal.loop-found-init
+loop-found-init g c =
     let s : MixSeat = c.args.self.now in
-    let same : lap_of c.load_word-word.result ≡ lap s.key.geometry c.args.frame = sym c.lap.ensures.lap ∙ (c.if-lap-its_lap.false ∙ c.lap-its_lap.ensures) in
+    let same : lap_of c.look-found.result.0 ≡ lap s.key.geometry c.args.frame = sym c.lap.ensures.lap ∙ (c.if-lap-spot.false ∙ c.look-found.ensures.spot.lap_is) in
     record {
-      trying = first_trying s c.load_word-word.new.self c.args.frame c.args.channel c.load_word-word.result c.args.steps.now c.load_word-word.new.steps c.load_word-word.ensures.noted
-          (at_lay s c.args.kind c.args.frame c.args.channel c.args.sample c.requires.may) same c.load_word-word.ensures.ticks;
+      lost = 0;
+      trying = first_trying s c.look-found.new.self c.args.frame c.args.channel c.look-found.result.0 c.args.steps.now c.look-found.new.steps c.look-found.ensures.noted
+          (at_lay s c.args.kind c.args.frame c.args.channel c.args.sample c.requires.may) same c.look-found.ensures.ticks;
       unstopped = c.in-Ok-ask.ensures.answer ∙ c.in-Ok.ensures.answer;
       asked = g.met.G.Gate.asked_composes.joined _ _ _ (Look ∷ []) (Exchange ∷ []) _ c.in-Ok.ensures.asked c.in-Ok-ask.ensures.asked;
     }
@@ -52,38 +53,39 @@ loop-init g c =
 pub returns-in_default-exchange : goal.returns-in_default-exchange
 returns-in_default-exchange g c =
     let s : MixSeat = c.args.self.now in
-    let is = c.loop.invariant.trying in
-    whole_lays g.G.Gate.stops g.G.Gate.asked s c.loop.self c.exchange.new.self c.args.gate.now c.loop.gate (entry_by s c.args.kind c.args.frame c.args.channel c.args.sample) is.words (suc (suc c.loop.counter)) c.args.steps.now c.exchange.new.steps
-    is.found (laid_as s c.loop.self c.exchange.new.self c.args.kind c.args.frame c.args.channel _ c.args.sample is.found.goes.member (to_z-of_z w16 c.args.sample c.ranges.sample) c.in_default-exchange.ensures.ok) is.not_before
-    (omega (arith, is.number)) (omega arith) c.loop.invariant.asked c.loop.invariant.unstopped (omega (arith, c.exchange.ensures.ticks, is.ticked)) (omega (arith, is.counted, is.room))
+    let is = c.loop-found.invariant.trying in
+    whole_lays g.G.Gate.stops g.G.Gate.asked s c.loop-found.self c.exchange.new.self c.args.gate.now c.loop-found.gate (entry_by s c.args.kind c.args.frame c.args.channel c.args.sample) is.words (suc (suc c.loop-found.invariant.lost)) c.args.steps.now c.exchange.new.steps
+    is.found (laid_as s c.loop-found.self c.exchange.new.self c.args.kind c.args.frame c.args.channel _ c.args.sample is.found.goes.member (to_z-of_z w16 c.args.sample c.ranges.sample) c.in_default-exchange.ensures.ok) is.not_before
+    (omega (arith, is.number)) (omega arith) c.loop-found.invariant.asked c.loop-found.invariant.unstopped (omega (arith, c.exchange.ensures.ticks, is.ticked)) (omega (arith, is.counted, is.room))
 
-pub returns-then-lap-its_lap-2 : goal.returns-then-lap-its_lap-2
-returns-then-lap-its_lap-2 g c =
+pub returns-then-lap-spot-2 : goal.returns-then-lap-spot-2
+returns-then-lap-spot-2 g c =
     let s : MixSeat = c.args.self.now in
-    let is = c.loop.invariant.trying in
-    let other : lap_of c.in-Err.found ≢ lap s.key.geometry c.args.frame = λ same. c.if-lap-its_lap-2.true (c.lap-in-loop.ensures.lap ∙ (same ∙ sym c.lap-its_lap.ensures)) in
-    late_lays g.G.Gate.stops g.G.Gate.asked s c.loop.self c.exchange.new.self c.args.gate.now c.loop.gate c.args.kind c.args.frame c.args.channel c.args.sample is.words c.in-Err.found (suc (suc c.loop.counter)) c.args.steps.now c.exchange.new.steps
-    is.found c.in-Err.ensures.err.noted c.requires.may other (omega (arith, is.number)) (λ before. absurd (omega (arith, before, is.not_before))) c.loop.invariant.asked c.loop.invariant.unstopped
+    let is = c.loop-found.invariant.trying in
+    let other : lap_of c.in-Err.found ≢ lap s.key.geometry c.args.frame = λ same. c.if-lap-spot-2.true (c.lap-in-loop-found.ensures.lap ∙ (same ∙ sym c.look-found.ensures.spot.lap_is)) in
+    late_lays g.G.Gate.stops g.G.Gate.asked s c.loop-found.self c.exchange.new.self c.args.gate.now c.loop-found.gate c.args.kind c.args.frame c.args.channel c.args.sample is.words c.in-Err.found (suc (suc c.loop-found.invariant.lost)) c.args.steps.now c.exchange.new.steps
+    is.found c.in-Err.ensures.err.noted c.requires.may other (omega (arith, is.number)) (λ before. absurd (omega (arith, before, is.not_before))) c.loop-found.invariant.asked c.loop-found.invariant.unstopped
     (omega (arith, c.exchange.ensures.ticks, is.ticked)) (omega (arith, is.counted, is.room))
 
 pub returns-in_default-ask-2 : goal.returns-in_default-ask-2
 returns-in_default-ask-2 g c =
     let s : MixSeat = c.args.self.now in
-    let is = c.loop.invariant.trying in
-    stopped_lays g.G.Gate.stops g.G.Gate.asked s c.exchange.new.self c.args.gate.now c.ask-in-loop.new.gate (entry_by s c.args.kind c.args.frame c.args.channel c.args.sample) (is.words ++ c.in-Err.found ∷ []) (suc (suc (suc c.loop.counter))) c.args.steps.now c.exchange.new.steps
-    (found_more s c.loop.self c.exchange.new.self c.args.frame c.args.channel c.in-Err.found is.words is.found c.in-Err.ensures.err.noted)
+    let is = c.loop-found.invariant.trying in
+    stopped_lays g.G.Gate.stops g.G.Gate.asked s c.exchange.new.self c.args.gate.now c.ask-in-loop-found.new.gate (entry_by s c.args.kind c.args.frame c.args.channel c.args.sample) (is.words ++ c.in-Err.found ∷ []) (suc (suc (suc c.loop-found.invariant.lost))) c.args.steps.now c.exchange.new.steps
+    (found_more s c.loop-found.self c.exchange.new.self c.args.frame c.args.channel c.in-Err.found is.words is.found c.in-Err.ensures.err.noted)
     (omega (arith, is.number, length-append is.words (c.in-Err.found ∷ []))) (omega arith) (λ before. absurd (omega (arith, before, is.not_before)))
-    (asked_again g.G.Gate.asked g.met.G.Gate.asked_composes _ _ _ c.loop.counter _ c.loop.invariant.asked c.in_default-ask-2.ensures.asked)
-    (c.in_default-ask-2.ensures.answer ∙ ap (λ n. n + 1) c.loop.invariant.unstopped) (omega (arith, c.exchange.ensures.ticks, is.ticked)) (omega (arith, is.counted, is.room))
+    (asked_again g.G.Gate.asked g.met.G.Gate.asked_composes _ _ _ c.loop-found.invariant.lost _ c.loop-found.invariant.asked c.in_default-ask-2.ensures.asked)
+    (c.in_default-ask-2.ensures.answer ∙ ap (λ n. n + 1) c.loop-found.invariant.unstopped) (omega (arith, c.exchange.ensures.ticks, is.ticked)) (omega (arith, is.counted, is.room))
 
-pub loop-preserved : goal.loop-preserved
-loop-preserved g c =
+pub loop-found-preserved : goal.loop-found-preserved
+loop-found-preserved g c =
     let s : MixSeat = c.args.self.now in
-    let same : lap_of c.in-Err.found ≡ lap s.key.geometry c.args.frame = sym c.lap-in-loop.ensures.lap ∙ (c.if-lap-its_lap-2.false ∙ c.lap-its_lap.ensures) in
+    let same : lap_of c.in-Err.found ≡ lap s.key.geometry c.args.frame = sym c.lap-in-loop-found.ensures.lap ∙ (c.if-lap-spot-2.false ∙ c.look-found.ensures.spot.lap_is) in
     record {
-      trying = trying_on s c.loop.self c.exchange.new.self c.args.frame c.args.channel c.loop.word c.in-Err.found c.loop.counter c.args.steps.now c.loop.steps c.exchange.new.steps c.loop.invariant.trying c.in-Err.ensures.err
+      lost = c.loop-found.invariant.lost + 1;
+      trying = trying_on s c.loop-found.self c.exchange.new.self c.args.frame c.args.channel c.loop-found.word c.in-Err.found c.loop-found.invariant.lost c.args.steps.now c.loop-found.steps c.exchange.new.steps c.loop-found.invariant.trying c.in-Err.ensures.err
           (at_lay s c.args.kind c.args.frame c.args.channel c.args.sample c.requires.may) same c.exchange.ensures.ticks;
-      unstopped = c.in-Ok-ask-2.ensures.answer ∙ c.loop.invariant.unstopped;
-      asked = subst (λ n. g.G.Gate.asked c.args.gate.now c.ask-in-loop.new.gate (placing (suc (suc n))) Go) (sym (add-one c.loop.counter))
-          (asked_again g.G.Gate.asked g.met.G.Gate.asked_composes _ _ _ c.loop.counter _ c.loop.invariant.asked c.in-Ok-ask-2.ensures.asked);
+      unstopped = c.in-Ok-ask-2.ensures.answer ∙ c.loop-found.invariant.unstopped;
+      asked = subst (λ n. g.G.Gate.asked c.args.gate.now c.ask-in-loop-found.new.gate (placing (suc (suc n))) Go) (sym (add-one c.loop-found.invariant.lost))
+          (asked_again g.G.Gate.asked g.met.G.Gate.asked_composes _ _ _ c.loop-found.invariant.lost _ c.loop-found.invariant.asked c.in-Ok-ask-2.ensures.asked);
     }

@@ -17,9 +17,10 @@ invariant_of-self c =
     let s : MixSeat = c.args.self.now in
     record {
       same_ring = search;
-      known = subst (λ p. IsKnown c.load-word.new.seat.me.0 s.key s.places s.marks p s.last) (sym c.position_of.ensures)
-          (known_located s.key s.places s.marks s.seen s.last s.ring.now.table_id.slots c.load-word.result s.seat.me c.load-word.new.seat.me s.known c.load-word.ensures.2);
-      words_are = s.words_are;
+      known = subst (λ p. IsKnown c.load-word.new.seat.me.0 s.key s.places s.reach.marks p s.reach.last) (sym c.position_of.ensures)
+          (known_located s.key s.places s.reach.marks s.seen s.reach.last s.ring.now.table_id.slots c.load-word.result s.seat.me c.load-word.new.seat.me s.known c.load-word.ensures.2);
+      one_geometry = s.one_geometry;
+      lap_start = s.lap_start;
     }
 
 pub returns : goal.returns

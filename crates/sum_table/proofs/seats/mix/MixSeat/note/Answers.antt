@@ -1,9 +1,10 @@
-use Rattle.std.proofs.Common.{None, arith, ap, subst, sym, ◌∙◌, refl}
+use Rattle.std.proofs.Common.{arith, ap, subst, sym, ◌∙◌, refl}
 use Rattle.atomic_table.specs.Table.{Me}
 use Rattle.mix_core.specs.declared.port.Entry.{Entry}
 use Rattle.sum_table.specs.declared.seats.mix.MixSeat.{MixSeat}
 use Rattle.sum_table.specs.declared.view.View.{View}
 use Rattle.sum_table.specs.Cuts.{part_of}
+use Rattle.sum_table.specs.Extent.{Extent}
 use Rattle.sum_table.specs.Known.{IsKnown}
 use Rattle.sum_table.proofs.Joining.{known_as, known_part, may_note}
 use Rattle.sum_table.proofs.seats.mix.MixSeat.note.Goals as goal
@@ -19,7 +20,8 @@ invariant_of-result c =
     let me = c.split_seat-seat.ensures.4 in
     record {
       same_ring = (c.split_seat-seat.ensures.3 ∙ s.same_ring.0, s.same_ring.1, ap (λ (m : Me Entry View). m.1) me, s.same_ring.3);
-      known = known_as s.key 0 _ s.seen None _ c.split_seat-seat.result.me me
-          (subst (λ m. IsKnown (part_of s.seat.me.0 0) s.key 0 m s.seen None) (sym c.start.ensures) (known_part s.key s.seat.me.0 0 0 s.seen s.known.same_key s.known.same_seen s.known.noted s.known.seen_within refl (omega arith)));
-      words_are = s.words_are;
+      known = known_as s.key 0 _ s.seen _ _ c.split_seat-seat.result.me me
+          (subst (λ (x : Extent). IsKnown (part_of s.seat.me.0 0) s.key 0 x.marks s.seen x.last) (sym c.start.ensures) (known_part s.key s.seat.me.0 0 0 s.seen s.known.same_key s.known.same_seen s.known.noted s.known.seen_within refl (omega arith)));
+      one_geometry = ap (λ (x : Extent). x.geometry) c.start.ensures;
+      lap_start = s.lap_start;
     }

@@ -33,7 +33,7 @@ invariant_of-self c =
     let n : SeatNote = c.args.note in
     let o : MixSeat = n.seat in
     let both = ap (λ (m : Me Entry View). m.0) c.join_seat.ensures.2 in
-    let met : IsKnown o.seat.me.0 p.key o.places o.marks o.seen o.last = subst (λ (k : Key). IsKnown o.seat.me.0 k o.places o.marks o.seen o.last) c.requires.1 o.known in
+    let met : IsKnown o.seat.me.0 p.key o.places o.reach.marks o.seen o.reach.last = subst (λ (k : Key). IsKnown o.seat.me.0 k o.places o.reach.marks o.seen o.reach.last) c.requires.1 o.known in
     record {
       same_ring = (
         c.load.ensures.0 ∙ (c.join_seat.ensures.0 ∙ p.same_ring.0),
@@ -41,7 +41,7 @@ invariant_of-self c =
         learned_kept p.ring.now.table_id.slots c.load.result c.join_seat.new.seat.me c.load.new.seat.me c.load.ensures.2 ∙ (ap (λ (m : Me Entry View). m.1) c.join_seat.ensures.2 ∙ p.same_ring.2),
         p.same_ring.3,
       );
-      known = known_heard p.key p.next p.position p.gone o.places o.marks o.seen o.last p.seat.me.0 o.seat.me.0 p.ring.now.table_id.slots c.load.result c.join_seat.new.seat.me c.load.new.seat.me p.known met n.no_places n.laid_nothing both c.load.ensures.2;
+      known = known_heard p.key p.next p.position p.gone o.places o.reach.marks o.seen o.reach.last p.seat.me.0 o.seat.me.0 p.ring.now.table_id.slots c.load.result c.join_seat.new.seat.me c.load.new.seat.me p.known met n.no_places n.laid_nothing both c.load.ensures.2;
     }
 
 pub returns : goal.returns

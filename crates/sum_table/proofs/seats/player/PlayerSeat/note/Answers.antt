@@ -1,9 +1,10 @@
-use Rattle.std.proofs.Common.{None, arith, ap, subst, sym, ◌∙◌, refl}
+use Rattle.std.proofs.Common.{arith, ap, subst, sym, ◌∙◌, refl}
 use Rattle.atomic_table.specs.Table.{Me}
 use Rattle.mix_core.specs.declared.port.Entry.{Entry}
 use Rattle.sum_table.specs.declared.seats.player.PlayerSeat.{PlayerSeat}
 use Rattle.sum_table.specs.declared.view.View.{View}
 use Rattle.sum_table.specs.Cuts.{part_of}
+use Rattle.sum_table.specs.Extent.{Extent}
 use Rattle.sum_table.specs.Known.{IsKnown}
 use Rattle.sum_table.proofs.Joining.{has_player_note, known_as, known_part, may_note}
 use Rattle.sum_table.proofs.seats.player.PlayerSeat.note.Goals as goal
@@ -19,9 +20,10 @@ invariant_of-result c =
     let me = c.split_seat-seat.ensures.4 in
     record {
       same_ring = (c.split_seat-seat.ensures.3 ∙ p.same_ring.0, p.same_ring.1, ap (λ (m : Me Entry View). m.1) me, p.same_ring.3);
-      known = known_as p.key 0 _ p.position None _ c.split_seat-seat.result.me me
-          (subst (λ m. IsKnown (part_of p.seat.me.0 0) p.key 0 m p.position None) (sym c.start.ensures) (known_part p.key p.seat.me.0 0 0 p.position p.known.same_key p.known.same_seen p.known.noted p.known.position_within refl (omega arith)));
-      words_are = c.of.ensures.words;
+      known = known_as p.key 0 _ p.position _ _ c.split_seat-seat.result.me me
+          (subst (λ (x : Extent). IsKnown (part_of p.seat.me.0 0) p.key 0 x.marks p.position x.last) (sym c.start.ensures) (known_part p.key p.seat.me.0 0 0 p.position p.known.same_key p.known.same_seen p.known.noted p.known.position_within refl (omega arith)));
+      one_geometry = ap (λ (x : Extent). x.geometry) c.start.ensures;
+      lap_start = c.first.ensures;
     }
 
 pub returns : goal.returns

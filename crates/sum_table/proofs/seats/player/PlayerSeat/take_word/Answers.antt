@@ -6,7 +6,7 @@ use Rattle.snd_base.specs.Places.{lap}
 use Rattle.sum_table.specs.declared.seats.player.PlayerSeat.{PlayerSeat}
 use Rattle.sum_table.specs.declared.view.View.{View}
 use Rattle.sum_table.specs.Known.{IsPlayer}
-use Rattle.sum_table.specs.Words.{index_of}
+use Rattle.ring_rule.specs.Words.{index_of}
 use Rattle.std.proofs.Common.{pos, to_z, of_z, rules}
 use Rattle.std.proofs.lemmas.Int.{to_z-of_z}
 use mir.Syntax.{w16, w32}
@@ -31,7 +31,7 @@ invariant_of-self c =
     let other : lap p.key.geometry p.next.frame ≢ 4294967295 = λ e. c.if-lap-eq4294967295.false (c.lap-lap.ensures ∙ e) in
     record {
       same_ring = (c.swap-found.ensures.0 ∙ p.same_ring.0, p.same_ring.1, ap (λ (x : Me Entry View). x.1) c.swap-found.ensures.2.6 ∙ p.same_ring.2, p.same_ring.3);
-      known = subst (λ (y : Cursor). IsPlayer c.swap-found.new.seat.me.0 p.key y p.position p.gone) (sym c.behind-self.ensures)
+      known = subst (λ (y : Cursor). IsPlayer c.swap-found.new.seat.me.0 p.key y p.position p.gone) (sym c.behind-next.ensures)
           (known_taken p.key p.next p.position p.gone p.ring.now.table_id.slots (c.word_index-at.result + 1) c.pack-empty.result c.swap-found.result p.seat.me c.swap-found.new.seat.me p.known (fits_next p other) c.swap-found.ensures.2);
     }
 
@@ -43,4 +43,4 @@ returns-clause-ok c =
     let nearest : c.clamp.result ≡ clamp_of c.sum.result = simp to_z-of_z at c.clamp.ensures.nearest in
     let value : to_z w16 (of_z w16 c.clamp.result) ≡ clamp_of (sum_of c.swap-found.result) =
     to_z-of_z w16 c.clamp.result clamp_fits ∙ (nearest ∙ ap clamp_of c.sum.ensures.sum) in
-    has_taken p _ p.ring.now.table_id.slots (c.word_index-at.result + 1) c.pack-empty.result c.swap-found.result (to_z w16 (of_z w16 c.clamp.result)) c.swap-found.ensures.0 refl c.behind-self.ensures refl refl value c.swap-found.ensures.2
+    has_taken p _ p.ring.now.table_id.slots (c.word_index-at.result + 1) c.pack-empty.result c.swap-found.result (to_z w16 (of_z w16 c.clamp.result)) c.swap-found.ensures.0 refl c.behind-next.ensures refl refl value c.swap-found.ensures.2

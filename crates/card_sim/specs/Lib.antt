@@ -1,0 +1,3 @@
+pub mod RunLaws
+pub mod Runs
+pub mod Steps

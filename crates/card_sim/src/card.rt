@@ -1,0 +1,129 @@
+//! The duplex card over the seats of both rings.
+ghost use Rattle.std.specs.Prelude.{◌≡◌, ◌≤◌};
+ghost use Rattle.sum_table.specs.Players.{position_of_player};
+ghost use Rattle.card_player.specs.Plays.{frame_of, seat_of};
+ghost use Rattle.card_sim.specs.Steps.{AreInStep};
+
+use crate::run::run_frames;
+use card_player::CardPlayer;
+use pcm_stream::is_same_ring;
+use snd_base::PcmError;
+use snoop_table::WriterSeat;
+use sum_table::PlayerSeat;
+
+/// A duplex card: a player at the sum ring and a writer at the snoop ring, which are always at the same frame. `'p` is the
+/// borrow of the sum ring, and `'w` that of the snoop ring.
+///
+/// Its meaning is its player, its writer and its period, in frames.
+#[derive(Drop)]
+pub struct Card<'p, 'w> {
+    player: CardPlayer<'p>,
+    writer: WriterSeat<'w>,
+    period: u32,
+    ghost period_least: { 1 ≤ period },
+    ghost in_step: { AreInStep player writer },
+    ghost published: { position_of_player (seat_of player) ≡ frame_of player },
+}
+
+impl<'p, 'w> Card<'p, 'w> {
+    ghost use Rattle.std.specs.Prelude.{◌≡◌, ◌<◌, ◌≤◌, ◌%◌, ◌↔◌, IsTrue, length, IfErr, IsErrOf};
+    ghost use Rattle.sum_table.specs.Players.{HasUnplugged, position_of_player};
+    ghost use Rattle.snoop_table.specs.Writers.{HasUnplugged as WriterHasUnplugged, desk_of};
+    ghost use Rattle.card_player.specs.Plays.{frame_of, frames_in, frames_left, geometry_of, seat_of};
+    ghost use Rattle.card_sim.specs.Steps.{AreInStep};
+    ghost use Rattle.card_sim.specs.Runs.{RunsFrames, period_of, player_of, writer_of};
+
+    /// A card over a player and a writer, with a period of so many frames, at least 1.
+    ///
+    /// The caller has rings of one geometry, a player that takes next the first word of the frame that the writer stores next,
+    /// and this frame is the player's last published position, or the first frame where it published none (`can_use`).
+    pub fn new(player: CardPlayer<'p>, writer: WriterSeat<'w>, period: u32) -> Card<'p, 'w>
+        requires period { 1 ≤ period }
+        requires in_step { AreInStep player writer }
+        requires published { position_of_player (seat_of player) ≡ frame_of player }
+        ensures player { player_of result ≡ player.entry }
+        ensures writer { writer_of result ≡ writer.entry }
+        ensures period { period_of result ≡ period }
+    {
+        Card {
+            player,
+            writer,
+            period,
+        }
+    }
+
+    /// Whether a card can be made of this player and this writer, as `new` asks.
+    pub fn can_use(player: &CardPlayer<'p>, writer: &WriterSeat<'w>) -> bool
+        ensures { IsTrue result ↔ (AreInStep player.now writer.now × (position_of_player (seat_of player.now) ≡ frame_of player.now)) }
+    {
+        if !player.is_at_frame() || !is_same_ring(&player.geometry(), &writer.geometry()) {
+            return false;
+        }
+        let frame = player.next().frame;
+        frame == writer.next() && frame == player.position()
+    }
+
+    /// How many channels the card has.
+    pub fn channels(&self) -> u8
+        ensures { result ≡ (geometry_of (player_of self.now)).channels }
+    {
+        self.player.geometry().channels
+    }
+
+    /// The position that both rings published last, a frame number, or the number of the first frame.
+    pub fn position(&self) -> u64
+        ensures { result ≡ position_of_player (seat_of (player_of self.now)) }
+    {
+        self.player.next().frame
+    }
+
+    /// Runs for as many frames as the buffers hold: for each it stores the captured frame and then takes the played one into
+    /// `out`, both interleaved. At each multiple of the period, and at the end where it isn't one, it publishes the sum ring's
+    /// position and then the snoop ring's.
+    ///
+    /// The caller has buffers of equally many samples, in whole frames. `LapEnd` comes exactly where the lap of one of these
+    /// frames is 4294967295: then the frames before it are captured, played and published.
+    pub fn run(&mut self, captured: &[i16], out: &mut [i16]) -> Result<(), PcmError>
+        requires same { length captured.now ≡ length out.old }
+        requires whole { length out.old % (geometry_of (player_of self.old)).channels ≡ 0 }
+        ensures runs { RunsFrames (player_of self.old) (writer_of self.old) (player_of self.new) (writer_of self.new) (period_of self.old) (frames_left (player_of self.old) out.old) captured.now out.old out.new }
+        ensures period { period_of self.new ≡ period_of self.old }
+        ensures lap_end { IsErrOf result PcmError.LapEnd ↔ (frames_left (player_of self.old) out.old < frames_in (player_of self.old) out.old) }
+        ensures only { IfErr result (λ e. e ≡ PcmError.LapEnd) }
+    {
+        let geometry = self.player.geometry();
+        let first = self.player.next().frame;
+        let frames = out.len() / geometry.channels as usize;
+        let left = (geometry.end_frame() - first).min(frames as u64) as usize;
+        run_frames(
+            &mut self.player,
+            &mut self.writer,
+            self.period,
+            captured,
+            out,
+            left,
+        );
+        if left < frames {
+            return Err(PcmError::LapEnd);
+        }
+        Ok(())
+    }
+
+    /// Unplugs the card from both rings, by one store each: from now on every position that is loaded says that it is gone.
+    pub fn unplug(&mut self)
+        ensures played { HasUnplugged (seat_of (player_of self.old)) (seat_of (player_of self.new)) }
+        ensures captured { WriterHasUnplugged (desk_of (writer_of self.old)) (desk_of (writer_of self.new)) }
+        ensures period { period_of self.new ≡ period_of self.old }
+    {
+        self.player.unplug();
+        self.writer.unplug();
+    }
+
+    /// Gives the seats of both rings back.
+    pub fn into_seats(self) -> (PlayerSeat<'p>, WriterSeat<'w>)
+        ensures player { result.0 ≡ seat_of (player_of self.entry) }
+        ensures writer { result.1 ≡ writer_of self.entry }
+    {
+        (self.player.into_seat(), self.writer)
+    }
+}

@@ -1,0 +1,124 @@
+ghost use Rattle.std.specs.Prelude.{◌≤◌, IfOk};
+ghost use Rattle.sum_table.specs.Rings.{GaveNone};
+ghost use Rattle.snoop_table.specs.Rings.{GaveNone as SnoopGaveNone};
+
+use super::*;
+use card_player::CardPlayer;
+use mix_core::{MixPort, NeverStops, Placed};
+use snd_base::{Geometry, PcmError};
+use snoop_core::{Loaded, SnoopPort};
+use snoop_table::{ReaderSeat, SnoopRing, WriterSeat};
+use std::alloc::Global;
+use std::test::Fail;
+use sum_table::{MixSeat, SumRing};
+
+// The geometry of both rings: mono, of 64 frames.
+fn mono(first_lap: u32) -> Geometry
+    requires { first_lap ≤ 4294967294 }
+{
+    Geometry {
+        frames: 64,
+        channels: 1,
+        first_lap,
+    }
+}
+
+fn new_ring(alloc: Global, geometry: Geometry) -> Result<SumRing, Fail>
+    ensures { IfOk result (λ ring. GaveNone ring) }
+{
+    Ok(SumRing::new(alloc, geometry, 1)?)
+}
+
+fn new_snoop_ring(alloc: Global, geometry: Geometry) -> Result<SnoopRing, Fail>
+    ensures { IfOk result (λ ring. SnoopGaveNone ring) }
+{
+    Ok(SnoopRing::new(alloc, geometry)?)
+}
+
+// A card over the seats of two rings, with a period of 16 frames.
+fn new_card<'p, 'w>(player: CardPlayer<'p>, writer: WriterSeat<'w>) -> Result<Card<'p, 'w>, Fail> {
+    if !Card::can_use(&player, &writer) {
+        return Err("out of step".into());
+    }
+    Ok(Card::new(player, writer, 16))
+}
+
+// Places a sample where the seat may, as seen at run time.
+fn place(seat: &mut MixSeat<'_>, frame: u64, sample: i16) -> Result<Placed, Fail> {
+    let geometry = seat.geometry();
+    if !seat.can_add() || geometry.channels != 1 || geometry.lap(frame) >= 4294967295 {
+        return Err("no place".into());
+    }
+    let ahead = seat.seen() + geometry.frames as u64;
+    if frame < seat.cursor().first_free(0) || frame >= ahead {
+        return Err("outside".into());
+    }
+    Ok(seat.place(&mut NeverStops, frame, 0, sample)?)
+}
+
+// The captured sample of a frame, of a mono ring.
+fn load(seat: &mut ReaderSeat<'_>, frame: u64) -> Result<(Loaded, i16), Fail> {
+    let geometry = seat.geometry();
+    if geometry.channels != 1 || frame < geometry.first_frame() || frame >= seat.seen() {
+        return Err("not captured".into());
+    }
+    let mut out = [0i16; 1];
+    let loaded = seat.load_frame(&mut NeverStops, frame, &mut out)?;
+    Ok((loaded, out[0]))
+}
+
+// Runs for as many frames as the buffers hold, of a mono card.
+fn run(
+    card: &mut Card<'_, '_>,
+    captured: &[i16],
+    out: &mut [i16],
+) -> Result<Result<(), PcmError>, Fail> {
+    if card.channels() != 1 || captured.len() != out.len() {
+        return Err("not mono".into());
+    }
+    Ok(card.run(captured, out))
+}
+
+#[test]
+fn captured_frames_are_stored_and_played_ones_taken(rt: HostRuntime) -> Result<(), Fail> {
+    let mut ring = new_ring(rt.alloc(), mono(0))?;
+    let mut snoop = new_snoop_ring(rt.alloc(), mono(0))?;
+    let (player, mut mix) = ring.seats();
+    let (writer, mut reader) = snoop.seats();
+    let mut card = new_card(CardPlayer::new(player, 16), writer)?;
+    assert_eq!(rt; place(&mut mix, 19, 9)?, Placed::In);
+    let mut out = [1i16; 20];
+    assert_eq!(rt; run(&mut card, &[7i16; 20], &mut out)?, Ok(()));
+    assert_eq!(rt; [out[0], out[18], out[19]], [0, 0, 9]);
+    assert_eq!(rt; card.position(), 20);
+    assert_eq!(rt; mix.position(&mut NeverStops)?.frame, 20);
+    assert_eq!(rt; reader.position(&mut NeverStops)?.frame, 20);
+    assert_eq!(rt; load(&mut reader, 19)?, (Loaded::Got, 7));
+    card.unplug();
+    assert!(rt; mix.position(&mut NeverStops)?.gone);
+    assert!(rt; reader.position(&mut NeverStops)?.gone);
+    let (player, writer) = card.into_seats();
+    assert_eq!(rt; [player.next().frame, writer.next()], [20, 20]);
+    Ok(())
+}
+
+// Rings whose first lap is the last one end after their 64 frames: these are run, and the rest is refused.
+#[test]
+fn the_frames_before_the_last_lap_are_run(rt: HostRuntime) -> Result<(), Fail> {
+    let mut ring = new_ring(rt.alloc(), mono(4294967294))?;
+    let mut snoop = new_snoop_ring(rt.alloc(), mono(4294967294))?;
+    let (player, _mix) = ring.seats();
+    let (writer, mut reader) = snoop.seats();
+    let mut card = new_card(CardPlayer::new(player, 16), writer)?;
+    let mut out = [1i16; 100];
+    assert_eq!(rt;
+        run(&mut card, &[5i16; 100], &mut out)?,
+        Err(PcmError::LapEnd)
+    );
+    assert_eq!(rt; [out[63], out[64]], [0, 1]);
+    let end = 4294967295 * 64;
+    assert_eq!(rt; card.position(), end);
+    assert_eq!(rt; reader.position(&mut NeverStops)?.frame, end);
+    assert_eq!(rt; load(&mut reader, end - 1)?, (Loaded::Got, 5));
+    Ok(())
+}

@@ -1,0 +1,59 @@
+use Rattle.std.proofs.Common.{rules, ◌≡◌, ◌≤◌, ◌∙◌, ℕ, ap, arith, refl, subst, sym}
+use Rattle.std.proofs.lemmas.Bool.Decides.{nat_tests}
+use Rattle.std.specs.Prelude.{List, Ok, Result, ℤ, false, min}
+use Rattle.snd_base.specs.declared.errors.PcmError.{PcmError}
+use denote.Enum.Bare.{same_true}
+use Rattle.pcm_states.specs.contracts.states.State.{the_type}
+use Rattle.pcm_states.specs.declared.states.State.TheVariants.{Prepared, Running}
+use Rattle.pcm_states.specs.declared.calls.Call.TheVariants as call
+use Rattle.course.specs.AtPort.{TakesAt}
+use Rattle.dmix_client.specs.declared.plain.Plain.{Plain}
+use Rattle.dmix_client.specs.Calls.{synced, with_number}
+use Rattle.dmix_client.specs.Course.{nothing, numbered}
+use Rattle.dmix_client.specs.Growth.{AnySamples, Keeps, KeepsBack}
+use Rattle.dmix_client.specs.Port.{CanUse}
+use Rattle.dmix_client.specs.Rewind.{checks, rewindable_of, rewinds, without}
+use Rattle.dmix_client.specs.RewindCauses.{ExplainsCheck, ExplainsRewind}
+use Rattle.dmix_client.specs.View.{ClientView}
+use Rattle.dmix_client.proofs.Keeping.{Keeps-none, client}
+use Rattle.dmix_client.proofs.Rewinding.{numbered-kept, rewinds-kept, without-kept}
+use Rattle.dmix_client.proofs.Withdrawn.{HoldsBy}
+use Rattle.dmix_client.proofs.client.Client.rewind.Goals as goal
+
+pub returns-then-eq-clause-keeps : goal.returns-then-eq-clause-keeps
+returns-then-eq-clause-keeps g c =
+    let holds : HoldsBy g.P.MixPort = record { laid_composes = g.met.P.MixPort.laid_composes; loaded_composes = g.met.P.MixPort.loaded_composes; part = g.met.P.MixPort.ends_in_part; nothing = g.met.P.MixPort.held_nothing; back = g.met.P.MixPort.held_back } in
+    let plain = c.self.inside.plain in
+    let ring : List ℤ = c.self.inside.ring.items in
+    let runs : plain.state ≡ Running = same_true the_type (search rules) _ _ (sym c.if-eq.ensures) in
+    let going : plain.stopped ≡ false = search rules in
+    rw (← c.self.view_is) (rewinds-kept g.P.MixPort g.G.Gate holds (c.args.port.now, c.args.gate.now) (c.rewind_running.new.port, c.rewind_running.new.gate) plain ring c.args.frames (c.rewind_running.new.plain, c.rewind_running.result)
+    c.self.invariant runs going (subst (λ (v : ClientView). CanUse v.plain (g.P.MixPort.view c.args.port.now)) (sym c.self.view_is) c.requires.port)
+    (subst (λ (r : List ℤ). TakesAt g.P.MixPort g.G.Gate (c.args.port.now, c.args.gate.now) (rewinds plain r (g.P.MixPort.view c.args.port.now).marks.floor c.args.frames) (c.rewind_running.new.port, c.rewind_running.new.gate) (c.rewind_running.new.plain, c.rewind_running.result)) c.as_slice-ring.ensures.value c.rewind_running.ensures)).keeps
+
+pub invariant_of-self : goal.invariant_of-self
+invariant_of-self g c = (returns-then-eq-clause-keeps g c).sound
+
+pub returns-then-eq-clause-causes : goal.returns-then-eq-clause-causes
+returns-then-eq-clause-causes g c admitted running =
+    let holds : HoldsBy g.P.MixPort = record { laid_composes = g.met.P.MixPort.laid_composes; loaded_composes = g.met.P.MixPort.loaded_composes; part = g.met.P.MixPort.ends_in_part; nothing = g.met.P.MixPort.held_nothing; back = g.met.P.MixPort.held_back } in
+    let plain = c.self.inside.plain in
+    let ring : List ℤ = c.self.inside.ring.items in
+    let runs : plain.state ≡ Running = same_true the_type (search rules) _ _ (sym c.if-eq.ensures) in
+    let going : plain.stopped ≡ false = search rules in
+    subst (λ (v : ClientView). ExplainsRewind g.P.MixPort g.G.Gate (c.args.port.now, c.args.gate.now) (c.rewind_running.new.port, c.rewind_running.new.gate) v.plain v.ring (g.P.MixPort.view c.args.port.now).marks.floor c.args.frames (c.rewind_running.new.plain, c.rewind_running.result)) c.self.view_is
+    (rewinds-kept g.P.MixPort g.G.Gate holds (c.args.port.now, c.args.gate.now) (c.rewind_running.new.port, c.rewind_running.new.gate) plain ring c.args.frames (c.rewind_running.new.plain, c.rewind_running.result)
+    c.self.invariant runs going (subst (λ (v : ClientView). CanUse v.plain (g.P.MixPort.view c.args.port.now)) (sym c.self.view_is) c.requires.port)
+    (subst (λ (r : List ℤ). TakesAt g.P.MixPort g.G.Gate (c.args.port.now, c.args.gate.now) (rewinds plain r (g.P.MixPort.view c.args.port.now).marks.floor c.args.frames) (c.rewind_running.new.port, c.rewind_running.new.gate) (c.rewind_running.new.plain, c.rewind_running.result)) c.as_slice-ring.ensures.value c.rewind_running.ensures)).explains
+
+few-of : (n r : ℕ) → min n r ≤ r
+few-of n r = grind (arith, nat_tests)
+
+pub returns-clause-keeps : goal.returns-clause-keeps
+returns-clause-keeps g c =
+    let holds : HoldsBy g.P.MixPort = record { laid_composes = g.met.P.MixPort.laid_composes; loaded_composes = g.met.P.MixPort.loaded_composes; part = g.met.P.MixPort.ends_in_part; nothing = g.met.P.MixPort.held_nothing; back = g.met.P.MixPort.held_back } in
+    let plain = c.self.inside.plain in
+    let waits : plain.state ≡ Prepared = search rules in
+    let few : c.min-taken.result ≤ plain.written = subst (λ (k : ℕ). k ≤ plain.written) (sym c.min-taken.ensures) (few-of c.args.frames plain.written) in
+    rw (← c.self.view_is) (subst (λ (d : Plain). KeepsBack g.P.MixPort g.G.Gate (c.args.port.now, c.args.gate.now) (c.args.port.now, c.args.gate.now) (client plain c.self.inside.ring.items) (client d c.self.inside.ring.items) (let r : Result ℕ PcmError = Ok c.min-taken.result in r)) (sym c.without-self-inside.ensures)
+    (without-kept g.P.MixPort g.G.Gate holds (c.args.port.now, c.args.gate.now) plain c.self.inside.ring.items c.min-taken.result c.self.invariant waits few (subst (λ (v : ClientView). CanUse v.plain (g.P.MixPort.view c.args.port.now)) (sym c.self.view_is) c.requires.port)))

@@ -1,0 +1,19 @@
+use Rattle.std.proofs.Common.{ℕ, refl, subst, sym}
+use Rattle.snd_base.specs.declared.places.Cursor.{Cursor}
+use Rattle.course.specs.AtPort.{TakesAt}
+use Rattle.pcm_states.specs.declared.states.State.TheVariants.{Running}
+use Rattle.dmix_client.specs.declared.plain.Plain.{Plain}
+use Rattle.dmix_client.specs.Calls.{start_count, started_in}
+use Rattle.dmix_client.specs.Course.{looks, resumes}
+use Rattle.dmix_client.proofs.Looking.{resumes-by}
+use Rattle.dmix_client.proofs.Resuming.{CanUse-rebased, IsSound-rebased}
+use Rattle.dmix_client.proofs.pause.resume.Goals as goal
+
+pub returns-clause-takes : goal.returns-clause-takes
+returns-clause-takes g c =
+    let found = c.look_and_start-found.result in
+    let plain = c.args.plain.now in
+    subst (λ (cursor : Cursor). TakesAt g.P.MixPort g.G.Gate (c.args.port.now, c.args.gate.now) (resumes plain cursor c.args.ring.now) (c.look_and_start-found.new.port, c.look_and_start-found.new.gate) c.resumed-after.result) c.cursor-cursor.ensures.value
+    (resumes-by g.P.MixPort g.G.Gate (c.args.port.now, c.args.gate.now) (c.look_and_start-found.new.port, c.look_and_start-found.new.gate) plain c.cursor-cursor.result c.args.ring.now found.load found.commit c.resumed-after.result
+    (subst (λ (d : Plain). TakesAt g.P.MixPort g.G.Gate (c.args.port.now, c.args.gate.now) (looks (λ position. started_in d Running position c.cursor-cursor.result) (λ position. start_count d c.cursor-cursor.result position d.written) c.args.ring.now) (c.look_and_start-found.new.port, c.look_and_start-found.new.gate) (found.load, found.commit)) c.rebased-from.ensures c.look_and_start-found.ensures.takes)
+    (sym c.resumed-after.ensures))

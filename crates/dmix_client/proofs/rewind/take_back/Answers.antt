@@ -1,0 +1,67 @@
+use Rattle.std.proofs.Common.{◌≡◌, ◌≤◌, ◌+◌, ◌-◌, ℕ, length, refl, subst, sym, arith}
+use Rattle.std.specs.Prelude.{true}
+use Rattle.mix_core.specs.Port.{OnLate}
+use Rattle.course.specs.AtPort.{TakesAt}
+use Rattle.dmix_client.specs.Expansion.{run_entries}
+use Rattle.dmix_client.specs.Rewind.{back_of, take_frames}
+use Rattle.dmix_client.specs.View.{IsMoving, held, hw_of, is_moving}
+use Rattle.dmix_client.proofs.Taking.{IsBack, IsBack-of, held-last, left-few, left-part, take_frames-took, takes_back-by}
+use Rattle.dmix_client.proofs.Withdrawn.{HoldsBy, TookFrames}
+use Rattle.dmix_client.proofs.rewind.take_back.Goals as goal
+
+pub take_frames-left-requires-clause-held : goal.take_frames-left-requires-clause-held
+take_frames-left-requires-clause-held g c =
+    let port = g.P.MixPort in
+    let d = c.args.plain.now in
+    let floor = (port.view c.args.port.now).marks.floor in
+    let m : IsMoving d = c.requires.sound.moving (rw c.requires.running refl) c.requires.unstopped in
+    let is : IsBack d floor c.args.frames = IsBack-of d floor c.args.frames m c.requires.few in
+    subst (λ (b : ℕ). port.ends_in c.args.port.now (run_entries d.member d.bindings (held d c.args.ring.now) d.card (d.committed - b) b 0)) (sym c.back.ensures)
+    (g.met.P.MixPort.ends_in_part c.args.port.now _ _ (subst (port.ends_in c.args.port.now) (held-last d c.args.ring.now floor c.args.frames m is) c.requires.standing))
+
+pub rewound-after-requires-clause-committed : goal.rewound-after-requires-clause-committed
+rewound-after-requires-clause-committed g c =
+    let port = g.P.MixPort in
+    let d = c.args.plain.now in
+    let floor = (port.view c.args.port.now).marks.floor in
+    let m : IsMoving d = c.requires.sound.moving (rw c.requires.running refl) c.requires.unstopped in
+    let holds : HoldsBy port = record { laid_composes = g.met.P.MixPort.laid_composes; loaded_composes = g.met.P.MixPort.loaded_composes; part = g.met.P.MixPort.ends_in_part; nothing = g.met.P.MixPort.held_nothing; back = g.met.P.MixPort.held_back } in
+    let x = c.take_frames-left.result in
+    let are = take_frames-took d c.args.ring.now floor c.args.frames c.requires.sound c.requires.running c.requires.unstopped (IsBack-of d floor c.args.frames m c.requires.few) port g.G.Gate holds
+    (c.args.port.now, c.args.gate.now) (c.take_frames-left.new.port, c.take_frames-left.new.gate) c.back.result x c.back.ensures refl c.requires.port c.take_frames-left.ensures in
+    (left-few x.ended x.frames x.part (back_of d c.args.frames) (length d.bindings) are).0
+
+pub rewound-after-requires-clause-few : goal.rewound-after-requires-clause-few
+rewound-after-requires-clause-few g c =
+    let port = g.P.MixPort in
+    let d = c.args.plain.now in
+    let floor = (port.view c.args.port.now).marks.floor in
+    let m : IsMoving d = c.requires.sound.moving (rw c.requires.running refl) c.requires.unstopped in
+    let holds : HoldsBy port = record { laid_composes = g.met.P.MixPort.laid_composes; loaded_composes = g.met.P.MixPort.loaded_composes; part = g.met.P.MixPort.ends_in_part; nothing = g.met.P.MixPort.held_nothing; back = g.met.P.MixPort.held_back } in
+    let x = c.take_frames-left.result in
+    let are = take_frames-took d c.args.ring.now floor c.args.frames c.requires.sound c.requires.running c.requires.unstopped (IsBack-of d floor c.args.frames m c.requires.few) port g.G.Gate holds
+    (c.args.port.now, c.args.gate.now) (c.take_frames-left.new.port, c.take_frames-left.new.gate) c.back.result x c.back.ensures refl c.requires.port c.take_frames-left.ensures in
+    let few : x.frames ≤ back_of d c.args.frames = (left-few x.ended x.frames x.part (back_of d c.args.frames) (length d.bindings) are).0 in
+    omega (arith, few)
+
+pub rewound-after-requires-clause-part : goal.rewound-after-requires-clause-part
+rewound-after-requires-clause-part g c =
+    let port = g.P.MixPort in
+    let d = c.args.plain.now in
+    let floor = (port.view c.args.port.now).marks.floor in
+    let m : IsMoving d = c.requires.sound.moving (rw c.requires.running refl) c.requires.unstopped in
+    let holds : HoldsBy port = record { laid_composes = g.met.P.MixPort.laid_composes; loaded_composes = g.met.P.MixPort.loaded_composes; part = g.met.P.MixPort.ends_in_part; nothing = g.met.P.MixPort.held_nothing; back = g.met.P.MixPort.held_back } in
+    let x = c.take_frames-left.result in
+    let are = take_frames-took d c.args.ring.now floor c.args.frames c.requires.sound c.requires.running c.requires.unstopped (IsBack-of d floor c.args.frames m c.requires.few) port g.G.Gate holds
+    (c.args.port.now, c.args.gate.now) (c.take_frames-left.new.port, c.take_frames-left.new.gate) c.back.result x c.back.ensures refl c.requires.port c.take_frames-left.ensures in
+    left-part x.ended x.frames x.part (back_of d c.args.frames) (length d.bindings) are
+
+pub returns : goal.returns
+returns g c =
+    let port = g.P.MixPort in
+    let d = c.args.plain.now in
+    let floor = (port.view c.args.port.now).marks.floor in
+    let m : IsMoving d = c.requires.sound.moving (rw c.requires.running refl) c.requires.unstopped in
+    let holds : HoldsBy port = record { laid_composes = g.met.P.MixPort.laid_composes; loaded_composes = g.met.P.MixPort.loaded_composes; part = g.met.P.MixPort.ends_in_part; nothing = g.met.P.MixPort.held_nothing; back = g.met.P.MixPort.held_back } in
+    takes_back-by d c.args.ring.now floor c.args.frames c.requires.sound c.requires.running c.requires.unstopped (IsBack-of d floor c.args.frames m c.requires.few) port g.G.Gate holds
+    (c.args.port.now, c.args.gate.now) (c.take_frames-left.new.port, c.take_frames-left.new.gate) c.back.result c.take_frames-left.result c.rewound-after.result c.back.ensures c.take_frames-left.ensures (sym c.rewound-after.ensures)

@@ -1,0 +1,17 @@
+use Rattle.std.proofs.Common.{◌≡◌, ℕ, ◌+◌, ◌-◌, ◌≤◌}
+use Rattle.snd_base.specs.Places.{IsFrom}
+use Rattle.dmix_client.specs.Expansion.{run_entries}
+use Rattle.dmix_client.specs.Port.{IsOnCard, least_channel}
+use Rattle.dmix_client.specs.View.{held}
+use Rattle.dmix_client.proofs.Withdrawing.{BackFrames}
+use Rattle.dmix_client.proofs.withdraw.take_frames.Given as goal
+
+abbrev pub invariant-loop-frame : goal.invariant-loop-frame
+invariant-loop-frame g l = let port = g.P.MixPort in record {
+  member : (port.view l.port).member ≡ l.plain.member;
+  bound : IsOnCard l.plain.bindings (port.view l.port).geometry;
+  from_floor : 1 ≤ l.count → IsFrom (port.view l.port).marks.floor (l.plain.card + (l.plain.committed - l.count)) (least_channel l.plain.bindings);
+  few : l.frame ≤ l.count;
+  stand : port.ends_in l.port (run_entries l.plain.member l.plain.bindings (held l.plain l.ring) l.plain.card (l.plain.committed - l.count) l.frame 0);
+  takes : BackFrames port g.G.Gate l.plain.member l.plain.card l.plain.bindings (held l.plain l.ring) (l.plain.committed - l.count) l.count (l.fn.port, l.fn.gate) (l.port, l.gate) l.frame;
+}

@@ -1,0 +1,86 @@
+//! The call that pauses a stream and resumes it.
+ghost use Rattle.std.specs.Prelude.{◌≡◌, ℕ, ◌<◌, ◌≤◌, true, false, Option};
+ghost use Rattle.snd_base.specs.Places.{end_frame};
+ghost use Rattle.pcm_states.specs.declared.calls.Call.TheVariants as call;
+ghost use Rattle.course.specs.AtPort.{TakesAt};
+ghost use Rattle.dmix_client.specs.Calls.{base_of, paused, pending_of, rebased, refusal_of, resumed, start_count, started_in};
+ghost use Rattle.dmix_client.specs.Causes.{Explains};
+ghost use Rattle.dmix_client.specs.Course.{admitted, pause_call, pause_course, resumes};
+ghost use Rattle.dmix_client.specs.Growth.{AnySamples, Keeps};
+ghost use Rattle.dmix_client.specs.Port.{CanUse};
+ghost use Rattle.dmix_client.specs.View.{IsSound};
+
+use crate::client::Client;
+use crate::commit::look_and_start;
+use crate::plain::Plain;
+use crate::steps::resumed;
+use mix_core::{Gate, MixPort};
+use pcm_states::{Call, State};
+use snd_base::PcmError;
+
+/// The resume of a client that has pending frames.
+fn resume<P: MixPort, G: Gate>(
+    plain: &mut Plain,
+    ring: &[i16],
+    port: &mut P,
+    gate: &mut G,
+) -> Result<(), PcmError>
+    requires sound { IsSound plain.old ring.now }
+    requires paused { plain.old.state ≡ State.Paused }
+    requires port { CanUse plain.old (P.view port.old) }
+    ensures takes { TakesAt P.MixPort G.Gate (port.old, gate.old) (resumes plain.old (P.view port.old).marks.cursor ring.now) (port.new, gate.new) (plain.new, result) }
+    ensures near { (P.view port.old).marks.cursor.frame ≤ end_frame plain.old.geometry }
+{
+    let cursor = port.cursor();
+    let from = plain.rebased();
+    let found = look_and_start(&from, ring, port, gate, cursor, from.written);
+    let (after, answer) = resumed(*plain, cursor, found.load, found.commit);
+    *plain = after;
+    answer
+}
+
+impl Client {
+    /// Pauses the stream, where it is `on`, or resumes it (`snd_pcm_pause`).
+    ///
+    /// A pause leads from RUNNING to PAUSED and does nothing else: what is committed stays in the card's ring and is played,
+    /// and what is pending stays with the client. In PAUSED `sync` does nothing, and `avail_update` and `delay` answer by the
+    /// position that was seen last.
+    ///
+    /// A resume of a stream with pending frames is a start of these: it begins a new segment, as after a `prepare`, at the
+    /// larger of the position loaded plus the lead and the first frame that the port may still add to, and leads to RUNNING.
+    /// A card that is gone, a frame that is late and a stop lead to the states that `start` tells; a stop before the
+    /// position was loaded leaves the stream in PAUSED with its counts. A resume without pending frames is a `prepare`: it
+    /// leads to PREPARED without a load.
+    ///
+    /// In every other state a pause and a resume are refused with `BadState`, in DISCONNECTED with `NoDevice`.
+    pub fn pause<P: MixPort, G: Gate>(
+        &mut self,
+        port: &mut P,
+        gate: &mut G,
+        on: bool,
+    ) -> Result<(), PcmError>
+        requires { CanUse self.old.plain (P.view port.old) }
+        ensures takes { TakesAt P.MixPort G.Gate (port.old, gate.old) (admitted self.old.plain (pause_call on)
+            (pause_course on self.old.plain self.old.ring (P.view port.old).marks.cursor)) (port.new, gate.new) (self.new.plain, result) }
+        ensures refused { (e : PcmError) → refusal_of self.old.plain (pause_call on) ≡ Some e → (result ≡ Err e) × (self.new ≡ self.old) × (port.new ≡ port.old) × (gate.new ≡ gate.old) }
+        ensures pauses { on ≡ true → refusal_of self.old.plain call.Pause ≡ None → (result ≡ Ok tt) × (self.new ≡ record { plain = paused self.old.plain; ring = self.old.ring }) × (port.new ≡ port.old) × (gate.new ≡ gate.old) }
+        ensures ring { self.new.ring ≡ self.old.ring }
+        ensures keeps { Keeps P.MixPort G.Gate (port.old, gate.old) (port.new, gate.new) (record { plain = base_of self.old.plain self.new.plain; ring = self.old.ring }) self.new result AnySamples }
+        ensures causes { refusal_of self.old.plain (pause_call on) ≡ None → on ≡ false → 0 < pending_of self.old.plain →
+            Explains P.MixPort G.Gate (port.old, gate.old) (port.new, gate.new) (record { plain = rebased self.old.plain; ring = self.old.ring }) (λ position. started_in (rebased self.old.plain) State.Running position (P.view port.old).marks.cursor)
+            (λ position. start_count (rebased self.old.plain) (P.view port.old).marks.cursor position (pending_of self.old.plain)) (resumed self.old.plain (P.view port.old).marks.cursor) (self.new.plain, result) }
+    {
+        if on {
+            self.plain.admit(Call::Pause)?;
+            self.plain = self.plain.paused();
+            return Ok(());
+        }
+        self.plain.admit(Call::Resume)?;
+        if self.plain.pending() == 0 {
+            self.plain = self.plain.rebased();
+            return Ok(());
+        }
+        let ring = self.ring.as_slice();
+        resume(&mut self.plain, ring, port, gate)
+    }
+}

@@ -1,0 +1,180 @@
+//! The calls that take frames back.
+ghost use Rattle.std.specs.Prelude.{◌≡◌, ℕ, ◌+◌, ◌-◌, ◌^◌, ◌<◌, ◌≤◌, true, false, ℤ, List, Option};
+ghost use Rattle.snd_base.specs.Places.{end_frame};
+ghost use Rattle.pcm_states.specs.declared.calls.Call.TheVariants as call;
+ghost use Rattle.course.specs.AtPort.{LoadsAt, TakesAt};
+ghost use Rattle.dmix_client.specs.Calls.{refusal_of, synced, with_number};
+ghost use Rattle.dmix_client.specs.Course.{admitted, nothing, numbered};
+ghost use Rattle.dmix_client.specs.Growth.{AnySamples, Keeps, KeepsBack};
+ghost use Rattle.dmix_client.specs.Port.{CanUse};
+ghost use Rattle.dmix_client.specs.Rewind.{checks, held_entries, rewindable_course, rewindable_of, rewind_course, rewinds, takes_back};
+ghost use Rattle.dmix_client.specs.RewindCauses.{ExplainsCheck, ExplainsRewind};
+ghost use Rattle.dmix_client.specs.View.{IsSound};
+
+use crate::client::Client;
+use crate::commit::Commit;
+use crate::plain::Plain;
+use crate::rewound::{rewound, with_rewindable};
+use crate::steps::synced;
+use crate::withdraw::take_frames;
+use mix_core::{Gate, MixPort, Position};
+use pcm_states::{Call, State};
+use snd_base::{Cursor, PcmError};
+
+/// Loads the position, or none where the gate stops the load.
+fn load<P: MixPort, G: Gate>(port: &mut P, gate: &mut G) -> Option<Position>
+    ensures { LoadsAt P.MixPort G.Gate (port.old, gate.old) result (port.new, gate.new) }
+{
+    match port.position(gate) {
+        Ok(position) => Some(position),
+        Err(_) => None,
+    }
+}
+
+/// Loads the position for a client that runs, as a sync does, and commits nothing.
+fn check<P: MixPort, G: Gate>(plain: &mut Plain, port: &mut P, gate: &mut G) -> Result<(), PcmError>
+    requires sound { (ring : List ℤ) × IsSound plain.old ring }
+    requires running { plain.old.state ≡ State.Running }
+    requires unstopped { plain.old.stopped ≡ false }
+    requires port { CanUse plain.old (P.view port.old) }
+    ensures { TakesAt P.MixPort G.Gate (port.old, gate.old) (checks plain.old) (port.new, gate.new) (plain.new, result) }
+{
+    let found = load(port, gate);
+    let (after, answer) = synced(*plain, Call::Transfer, found, Commit::NOTHING);
+    *plain = after;
+    answer
+}
+
+/// Takes back `frames` frames of a client that runs, pending ones first, and then the last committed ones.
+fn take_back<P: MixPort, G: Gate>(
+    plain: &mut Plain,
+    ring: &[i16],
+    port: &mut P,
+    gate: &mut G,
+    frames: u64,
+) -> Result<u64, PcmError>
+    requires sound { IsSound plain.old ring.now }
+    requires running { plain.old.state ≡ State.Running }
+    requires unstopped { plain.old.stopped ≡ false }
+    requires port { CanUse plain.old (P.view port.old) }
+    requires few { frames ≤ rewindable_of (P.view port.old).marks.floor plain.old }
+    requires standing { P.ends_in port.old (held_entries plain.old ring.now) }
+    ensures { TakesAt P.MixPort G.Gate (port.old, gate.old) (takes_back plain.old ring.now frames) (port.new, gate.new) (plain.new, result) }
+{
+    let left = take_frames(port, gate, plain, ring, plain.back(frames));
+    let (after, answer) = rewound(*plain, frames, left);
+    *plain = after;
+    answer
+}
+
+/// The frames that a client which runs can take back, behind its load.
+fn rewindable_running<P: MixPort, G: Gate>(
+    plain: &mut Plain,
+    port: &mut P,
+    gate: &mut G,
+) -> Result<u64, PcmError>
+    requires sound { (ring : List ℤ) × IsSound plain.old ring }
+    requires running { plain.old.state ≡ State.Running }
+    requires unstopped { plain.old.stopped ≡ false }
+    requires port { CanUse plain.old (P.view port.old) }
+    ensures { TakesAt P.MixPort G.Gate (port.old, gate.old) (numbered (rewindable_of (P.view port.old).marks.floor) (checks plain.old)) (port.new, gate.new) (plain.new, result) }
+{
+    let floor = port.floor();
+    let checked = check(plain, port, gate);
+    with_rewindable(plain, floor, checked)
+}
+
+/// A rewind of a client that runs.
+fn rewind_running<P: MixPort, G: Gate>(
+    plain: &mut Plain,
+    ring: &[i16],
+    port: &mut P,
+    gate: &mut G,
+    frames: u64,
+) -> Result<u64, PcmError>
+    requires sound { IsSound plain.old ring.now }
+    requires running { plain.old.state ≡ State.Running }
+    requires unstopped { plain.old.stopped ≡ false }
+    requires port { CanUse plain.old (P.view port.old) }
+    requires standing { P.ends_in port.old (held_entries plain.old ring.now) }
+    ensures { TakesAt P.MixPort G.Gate (port.old, gate.old) (rewinds plain.old ring.now (P.view port.old).marks.floor frames) (port.new, gate.new) (plain.new, result) }
+{
+    let floor = port.floor();
+    let checked = check(plain, port, gate);
+    if let Err(error) = checked {
+        return Err(error);
+    }
+    let rewindable = plain.rewindable(floor);
+    take_back(plain, ring, port, gate, frames.min(rewindable))
+}
+
+impl Client {
+    /// How many of the last frames a `rewind` would take back now (`snd_pcm_rewindable`).
+    ///
+    /// These are the pending frames, and the committed ones that are at or past the position, and not before the port's floor:
+    /// frames are withdrawn once at most, so a client that wrote over withdrawn frames withdraws none of those again.
+    ///
+    /// In RUNNING the position is loaded, and a card that is gone and a stop threshold that is reached lead to the states that
+    /// `sync` tells; nothing is committed. In PREPARED nothing is loaded, and these are all that is written. In every other
+    /// state it is refused as a write is. `Stopped` comes as in `sync`.
+    pub fn rewindable<P: MixPort, G: Gate>(
+        &mut self,
+        port: &mut P,
+        gate: &mut G,
+    ) -> Result<u64, PcmError>
+        requires { CanUse self.old.plain (P.view port.old) }
+        ensures takes { TakesAt P.MixPort G.Gate (port.old, gate.old) (admitted self.old.plain call.Transfer
+            (rewindable_course self.old.plain (P.view port.old).marks.floor)) (port.new, gate.new) (self.new.plain, result) }
+        ensures refused { (e : PcmError) → refusal_of self.old.plain call.Transfer ≡ Some e → (result ≡ Err e) × (self.new ≡ self.old) × (port.new ≡ port.old) × (gate.new ≡ gate.old) }
+        ensures ring { self.new.ring ≡ self.old.ring }
+        ensures keeps { Keeps P.MixPort G.Gate (port.old, gate.old) (port.new, gate.new) self.old self.new result AnySamples }
+        ensures causes { refusal_of self.old.plain call.Transfer ≡ None → self.old.plain.state ≡ State.Running →
+            ExplainsCheck P.MixPort G.Gate (port.old, gate.old) (port.new, gate.new) self.old.plain
+            (λ load. with_number (rewindable_of (P.view port.old).marks.floor) (synced self.old.plain call.Transfer load nothing)) (self.new.plain, result) }
+    {
+        self.plain.admit(Call::Transfer)?;
+        if self.plain.state == State::Running {
+            return rewindable_running(&mut self.plain, port, gate);
+        }
+        Ok(self.plain.written)
+    }
+
+    /// Takes back the last `frames` frames, or as many as `rewindable` says, and answers how many (`snd_pcm_rewind`).
+    ///
+    /// Pending frames are taken back first. Then committed ones are withdrawn from the card's ring, the last frame first, and
+    /// each frame's channels by falling card channel. The position is loaded and tested as in `rewindable`; nothing is
+    /// committed. The frames are no longer accepted, and the next write continues where they began.
+    ///
+    /// `Xrun(Late)` comes exactly where a sample that was to be withdrawn was taken before. The state is XRUN then, and the
+    /// stream has the frames that are left in the ring, of which the last may be left in a part of its channels: `segment`
+    /// tells. `Stopped` behind the load leaves the same counts. In every other state than RUNNING and PREPARED it is refused as
+    /// a write is.
+    ///
+    /// The caller knows that the port's standing adds end in the committed frames that aren't played, as far as the client
+    /// saw: this is so where they ended in the client's segment since it was prepared (`Keeps`).
+    pub fn rewind<P: MixPort, G: Gate>(
+        &mut self,
+        port: &mut P,
+        gate: &mut G,
+        frames: u64,
+    ) -> Result<u64, PcmError>
+        requires port { CanUse self.old.plain (P.view port.old) }
+        requires standing { self.old.plain.state ≡ State.Running → self.old.plain.stopped ≡ false → P.ends_in port.old (held_entries self.old.plain self.old.ring) }
+        ensures takes { TakesAt P.MixPort G.Gate (port.old, gate.old) (admitted self.old.plain call.Transfer
+            (rewind_course self.old.plain self.old.ring (P.view port.old).marks.floor frames)) (port.new, gate.new) (self.new.plain, result) }
+        ensures refused { (e : PcmError) → refusal_of self.old.plain call.Transfer ≡ Some e → (result ≡ Err e) × (self.new ≡ self.old) × (port.new ≡ port.old) × (gate.new ≡ gate.old) }
+        ensures ring { self.new.ring ≡ self.old.ring }
+        ensures keeps { KeepsBack P.MixPort G.Gate (port.old, gate.old) (port.new, gate.new) self.old self.new result }
+        ensures causes { refusal_of self.old.plain call.Transfer ≡ None → self.old.plain.state ≡ State.Running →
+            ExplainsRewind P.MixPort G.Gate (port.old, gate.old) (port.new, gate.new) self.old.plain self.old.ring (P.view port.old).marks.floor frames (self.new.plain, result) }
+    {
+        self.plain.admit(Call::Transfer)?;
+        if self.plain.state == State::Running {
+            let ring = self.ring.as_slice();
+            return rewind_running(&mut self.plain, ring, port, gate, frames);
+        }
+        let taken = frames.min(self.plain.written);
+        self.plain = self.plain.without(taken);
+        Ok(taken)
+    }
+}

@@ -1,0 +1,155 @@
+//! What a client is after it took frames back.
+ghost use Rattle.std.specs.Prelude.{◌≡◌, ℕ, ◌+◌, ◌-◌, ◌^◌, ◌<◌, ◌≤◌, length};
+ghost use Rattle.mix_core.specs.Port.{OnLate};
+ghost use Rattle.dmix_client.specs.Calls.{late_at, with_number};
+ghost use Rattle.dmix_client.specs.Rewind.{back_of, last_channel, last_laid, rewindable_of, rewound, taken_back, without};
+
+use crate::commit::Commit;
+use crate::plain::Plain;
+use crate::steps::{Answered, found_at, is_stop, settled, stopped_in};
+use mix_core::{Ended, Position};
+use pcm_states::{Call, State, next};
+use snd_base::{Cursor, PcmError, XrunWhy};
+
+impl Plain {
+    /// How many frames can be taken back at a port with this floor.
+    pub(crate) fn rewindable(&self, floor: Cursor) -> u64
+        requires { floor.frame < 2 ^ 63 }
+        ensures { result ≡ rewindable_of floor self.now }
+    {
+        let from = self.seen.unwrap_or(0).max(floor.first_free(0));
+        self.pending()
+            + self
+                .committed
+                .saturating_sub(from.saturating_sub(self.card))
+    }
+
+    /// How many of the last `frames` frames are committed.
+    pub(crate) fn back(&self, frames: u64) -> u64
+        ensures { result ≡ back_of self.now frames }
+    {
+        frames.saturating_sub(self.pending())
+    }
+
+    /// The last `frames` frames, which were pending, are taken back.
+    pub(crate) fn without(&self, frames: u64) -> Plain
+        ensures { result ≡ without self.now frames }
+    {
+        Plain {
+            written: self.written.saturating_sub(frames),
+            fed: self.fed.saturating_sub(frames),
+            ..*self
+        }
+    }
+
+    /// Of the last `frames` frames the pending ones are taken back, and of the committed ones all but what is left.
+    pub(crate) fn taken_back(&self, frames: u64, left: Commit) -> Plain
+        requires few { left.frames ≤ frames }
+        requires fits { frames ≤ self.now.written }
+        requires fed { self.now.written ≤ self.now.fed }
+        requires committed { left.frames ≤ back_of self.now frames }
+        requires back { back_of self.now frames ≤ self.now.committed }
+        ensures { result ≡ taken_back self.now frames left }
+    {
+        Plain {
+            written: self.written - (frames - left.frames),
+            committed: self.committed - (self.back(frames) - left.frames),
+            part: left.part,
+            fed: self.fed - (frames - left.frames),
+            ..*self
+        }
+    }
+
+    /// The card's frame of the last sample that is laid.
+    fn last_laid(&self) -> u64
+        requires { self.now.card + self.now.committed < 2 ^ 64 }
+        ensures { result ≡ last_laid self.now }
+    {
+        if self.part == 0 {
+            self.card + self.committed.saturating_sub(1)
+        } else {
+            self.card + self.committed
+        }
+    }
+
+    /// The card's channel of the last sample that is laid.
+    fn last_channel(&self) -> u8
+        requires { self.now.part < length self.now.bindings }
+        ensures { result ≡ last_channel self.now }
+    {
+        let last = if self.part == 0 {
+            self.bindings.len()
+        } else {
+            self.part
+        };
+        self.bindings.card_channel(self.bindings.rising(last - 1))
+    }
+
+    /// Why withdrawals were late, where they were.
+    fn late_withdrawal(&self, ended: Ended) -> Option<XrunWhy>
+        requires fits { self.now.card + self.now.committed < 2 ^ 64 }
+        requires part { OnLate ended (λ _. self.now.part < length self.now.bindings) }
+        ensures { result ≡ late_at ended (last_laid self.now) (last_channel self.now) }
+    {
+        match ended {
+            Ended::Late { seen } => Some(XrunWhy::Late {
+                frame: self.last_laid(),
+                channel: self.last_channel(),
+                seen,
+            }),
+            _ => None,
+        }
+    }
+}
+
+/// A rewind of `frames` frames, by what is left of the committed ones.
+pub(crate) fn rewound(plain: Plain, frames: u64, left: Commit) -> Answered<u64>
+    requires few { left.frames ≤ frames }
+    requires written { frames ≤ plain.written }
+    requires fed { plain.written ≤ plain.fed }
+    requires committed { left.frames ≤ back_of plain frames }
+    requires back { back_of plain frames ≤ plain.committed }
+    requires fits { plain.card + plain.committed < 2 ^ 64 }
+    requires part { OnLate left.ended (λ _. left.part < length plain.bindings) }
+    ensures { result ≡ rewound plain frames left }
+{
+    let done = plain.taken_back(frames, left);
+    if is_stop(left.ended) {
+        return stopped_in(done);
+    }
+    let here = Position {
+        frame: 0,
+        gone: false,
+    };
+    let facts = found_at(here, done.late_withdrawal(left.ended));
+    with_count(
+        frames,
+        settled(done, next(State::Running, Call::Transfer, facts)),
+    )
+}
+
+/// An answer with a number, where it is well.
+fn with_count(frames: u64, answered: Answered<()>) -> Answered<u64>
+    ensures { result ≡ with_number (λ d. frames) answered }
+{
+    let (plain, answer) = answered;
+    match answer {
+        Ok(()) => (plain, Ok(frames)),
+        Err(error) => (plain, Err(error)),
+    }
+}
+
+/// The frames that can be taken back, where the load before went well.
+pub(crate) fn with_rewindable(
+    plain: &Plain,
+    floor: Cursor,
+    answer: Result<(), PcmError>,
+) -> Result<u64, PcmError>
+    requires { floor.frame < 2 ^ 63 }
+    ensures { with_number (rewindable_of floor) (plain.now, answer) ≡ (plain.now, result) }
+{
+    match answer {
+        Ok(()) => Ok(plain.rewindable(floor)),
+        Err(error) => Err(error),
+    }
+}

@@ -1,0 +1,10 @@
+use Rattle.dmixlab.proofs.Devices.{IsScriptText-card}
+use Rattle.dmixlab.proofs.conf.lines_in.Goals as goal
+
+pub returns-clause-lines : goal.returns-clause-lines
+returns-clause-lines g c = record {
+  device = c.in_ok-device.device;
+  read = c.in_ok-device.ensures.device;
+  lines = c.in_ok-text.ensures;
+  card = IsScriptText-card c.in_ok-device.device c.in_ok-device.ensures.card;
+}

@@ -1,0 +1,210 @@
+-- What a read makes of a reader, by its load and by what its frames came to.
+use Rattle.std.proofs.Common.{◌≡◌, ℕ, ◌+◌, ◌-◌, ◌*◌, ◌<◌, ◌≤◌, ◌⊎◌, ◌∙◌, inl, inr, refl, sym, ap, subst, arith, [], ◌∷◌, List}
+use Rattle.std.proofs.lemmas.Bool.Decides.{nat_tests}
+use Rattle.std.proofs.Math.Nat.{mul-le-mul_right}
+use Rattle.std.specs.Prelude.{Bool, true, false, ◌&&◌, ◌↔◌, ℤ, nat_eq, nat_lt, if◌then◌else◌, replicate, Option, Some, Result, Ok, Err, unwrap_or}
+use Rattle.snd_base.specs.declared.errors.PcmError.{PcmError}
+use Rattle.snd_base.specs.declared.errors.PcmError.TheVariants.{Again, NoDevice, Xrun}
+use Rattle.snd_base.specs.declared.errors.PcmError.TheVariants as error
+use Rattle.snd_base.specs.declared.errors.XrunWhy.TheVariants as why
+use Rattle.snd_base.specs.declared.geometry.Geometry.{Geometry}
+use Rattle.snd_base.specs.Relations.{Composes, Composes-none_after}
+use Rattle.mix_core.specs.declared.gate.Gate as gates
+use Rattle.mix_core.specs.declared.gate.Pass.{Pass}
+use Rattle.mix_core.specs.declared.gate.Pass.TheVariants.{Go, Stop}
+use Rattle.mix_core.specs.declared.gate.StepKind.TheVariants as kind
+use Rattle.mix_core.specs.declared.port.Position.{Position}
+use Rattle.mix_core.specs.Gate.{AsksCompose, stops_after}
+use Rattle.pcm_states.specs.declared.states.State.{State}
+use Rattle.pcm_states.specs.declared.states.State.TheVariants as state
+use Rattle.snoop_core.specs.declared.port.Got.{Got}
+use Rattle.snoop_core.specs.declared.port.Got.TheVariants.{Whole, Overtaken, Stopped}
+use Rattle.snoop_core.specs.declared.port.SnoopPort as snoopport
+use Rattle.snoop_core.specs.Port.{IsPast, SnoopView, pass_of_got}
+use Rattle.course.specs.Stops.{pass_by}
+use Rattle.dsnoop_client.specs.declared.plain.Plain.{Plain}
+use Rattle.dsnoop_client.specs.Calls.{in_state, read_after, read_to, taken_of}
+use Rattle.dsnoop_client.specs.Causes.{FindsNone, IsMissed}
+use Rattle.dsnoop_client.specs.Port.{Asks, IsLookNumber}
+use Rattle.dsnoop_client.specs.Reads.{AreFrames, Fills, Reads}
+use Rattle.dsnoop_client.specs.View.{IsSound, avail_of}
+use Rattle.dsnoop_client.proofs.CameTo.{CameTo, IsUpTo}
+use Rattle.dsnoop_client.proofs.Told.{Told, Went, told-some, told-went}
+
+-- ---- what it gives
+
+module _ {S : Type 0} (P : snoopport.Ghosts S) (p q : S) (c : Plain) (before after : List ℤ) (same : (P.view p).geometry ≡ c.geometry) where
+  are-frames : (done : ℕ) (ended : Got) (fills : Fills P p q c.setup.bindings c.next done ended before after) → AreFrames fills.frames c.next c.geometry.channels
+  are-frames done ended fills = subst (λ (g : Geometry). AreFrames fills.frames c.next g.channels) same fills.are
+
+  reads-error : (done : ℕ) (ended : Got) (d : Plain) (e : PcmError) → d.next ≡ c.next → Fills P p q c.setup.bindings c.next done ended before after → Reads P p q c d before after (Err e)
+  reads-error done ended d e stays fills = record {
+    first = c.next;
+    begins = λ runs. refl;
+    next_is = omega (arith, stays);
+    frames = fills.frames;
+    got_them = fills.got_them;
+    are = are-frames done ended fills;
+    count = tt;
+    samples = tt;
+  }
+
+  reads-if : (test : Bool) (done : ℕ) (ended : Got) → Fills P p q c.setup.bindings c.next done ended before after
+      → Reads P p q c (if test then (c, Err Again) else read_to c done ended).0 before after (if test then (c, Err Again) else read_to c done ended).1
+  reads-if true done ended fills = reads-error done ended c Again refl fills
+  reads-if false done Whole fills = record {
+    first = c.next;
+    begins = λ runs. refl;
+    next_is = refl;
+    frames = fills.frames;
+    got_them = fills.got_them;
+    are = are-frames done Whole fills;
+    count = fills.count;
+    samples = fills.samples;
+  }
+  reads-if false done (Overtaken channel word) fills = reads-error done (Overtaken channel word) (in_state c state.Xrun) (Xrun (why.Overtaken (c.next + done) channel word)) refl fills
+  reads-if false done Stopped fills = reads-error done Stopped (record c { status = record c.status { stopped = true } }) error.Stopped refl fills
+
+  pub reads-of : (n done : ℕ) (ended : Got) → Fills P p q c.setup.bindings c.next done ended before after
+      → Reads P p q c (read_after c n done ended).0 before after (read_after c n done ended).1
+  reads-of n done ended fills = reads-if (nat_lt 0 n && nat_eq (avail_of c) 0) done ended fills
+
+-- ---- why it answers so
+
+-- what a read came to that loaded the position
+pub record ReadTold {S T : Type 0} (P : snoopport.Ghosts S) (G : gates.Ghosts T) (s t : S × T) (c d : Plain) (n : ℕ) (answer : Result ℕ PcmError) : Type 0 where
+  pub told : Told P G s t c d answer
+  pub again : (answer ≡ Err Again) ↔ ((0 < n) × FindsNone c told.why.load)
+  pub asks : Asks G s.1 t.1 d n answer
+
+runs-or : (s : State) → (s ≡ state.Running) ⊎ (s ≡ state.Running → ⊥)
+runs-or state.Running = inl refl
+runs-or other = inr (λ h. cc)
+
+module _ {S T : Type 0} (P : snoopport.Ghosts S) (G : gates.Ghosts T) (composes : Composes P.loaded) (asks : AsksCompose G.asked) (s m t : S × T) (c u : Plain) (position : Position)
+    (went : Went P G s m c u position Go) (asked : G.asked s.1 m.1 (kind.Position ∷ []) Go) where
+  went-frames : (count first done : ℕ) (ended : Got) → CameTo P G m t count first done ended → Went P G s t c u position (pass_of_got ended)
+  went-frames count first done ended came = record {
+    here = went.here;
+    below = went.below;
+    can_use = went.can_use;
+    same_ring = went.same_ring;
+    same_setup = went.same_setup;
+    saw = went.saw;
+    running = went.running;
+    unstopped = went.unstopped;
+    sound = went.sound;
+    view_is = came.view_is ∙ went.view_is;
+    loaded_it = Composes-none_after P.loaded s.0 m.0 t.0 (position ∷ []) composes went.loaded_it came.loaded_nothing;
+    stops = came.stops ∙ ap (stops_after (pass_of_got ended)) went.stops;
+    goes_on = went.goes_on;
+    begins = went.begins;
+  }
+
+  saw-at : unwrap_or u.seen 0 ≡ position.frame
+  saw-at = ap (λ (o : Option ℕ). unwrap_or o 0) went.saw
+
+  -- no frame is available exactly where the reader finds none at the position
+  finds-none : avail_of u ≡ 0 → FindsNone c (Some position)
+  finds-none none =
+      (went.here, λ runs. let next : u.next ≡ c.next = went.goes_on runs in let most : u.next ≤ unwrap_or u.seen 0 = (went.sound.reading went.running).most in omega (arith, none, saw-at, next, most))
+
+  none-found : FindsNone c (Some position) → avail_of u ≡ 0
+  none-found finds = elim (runs-or c.status.state) [
+    | inl runs ↦ let next : u.next ≡ c.next = went.goes_on runs in let at : position.frame ≡ c.next = finds.1 runs in omega (arith, saw-at, next, at)
+    | inr stands ↦ let next : u.next ≡ position.frame = went.begins stands in omega (arith, saw-at, next)
+  ]
+
+  asks-frames : (d : Plain) (n looks : ℕ) (pass : Pass) (answer : Result ℕ PcmError) → IsLookNumber answer d.next d.geometry.channels n looks → pass_by answer ≡ pass
+      → G.asked m.1 t.1 (replicate looks kind.Look) pass → Asks G s.1 t.1 d n answer
+  asks-frames d n looks pass answer number is_pass later = record {
+    looks = looks;
+    looks_number = number;
+    asked_them = asks.joined s.1 m.1 t.1 (kind.Position ∷ []) (replicate looks kind.Look) (pass_by answer) asked (subst (λ (p : Pass). G.asked m.1 t.1 (replicate looks kind.Look) p) (sym is_pass) later);
+  }
+
+  same-channels : (P.view m.0).geometry.channels ≡ u.geometry.channels
+  same-channels = ap (λ (v : SnoopView). v.geometry.channels) went.view_is ∙ ap (λ (g : Geometry). g.channels) (went.can_use.same_geometry ∙ sym went.same_ring)
+
+  -- a test that holds leaves nothing to load
+  no-frames : (n count done : ℕ) (ended : Got) → avail_of u ≡ 0 → count ≡ taken_of u n → IsUpTo ended done count → (ended ≡ Whole) × (done ≡ 0)
+  no-frames n count done Whole none is_count up_to = (refl, omega (arith, none, is_count, up_to))
+  no-frames n count done (Overtaken channel word) none is_count up_to = absurd (omega (arith, none, is_count, up_to))
+  no-frames n count done Stopped none is_count up_to = absurd (omega (arith, none, is_count, up_to))
+
+  -- a reader that has read frames, one that missed one, and one that was stopped
+  sound-next : (done : ℕ) → done ≤ avail_of u → IsSound (record u { next = u.next + done })
+  sound-next done few = record {
+    captures = went.sound.captures;
+    seen = went.sound.seen;
+    set_up = went.sound.set_up;
+    configured = went.sound.configured;
+    reading = λ runs. let at = went.sound.reading runs in record { least = omega (arith, at.least); most = omega (arith, at.most, few) };
+  }
+
+  sound-missed : IsSound (in_state u state.Xrun)
+  sound-missed = record {
+    captures = refl;
+    seen = went.sound.seen;
+    set_up = λ h. went.sound.set_up (rw went.running refl);
+    configured = went.sound.configured;
+    reading = λ h. cc;
+  }
+
+  sound-stopped : IsSound (record u { status = record u.status { stopped = true } })
+  sound-stopped = record {
+    captures = went.sound.captures;
+    seen = went.sound.seen;
+    set_up = went.sound.set_up;
+    configured = went.sound.configured;
+    reading = λ runs. let at = went.sound.reading runs in record { least = at.least; most = at.most };
+  }
+
+  missed-at : (count done channel word frame at seen : ℕ) → count ≤ avail_of u → CameTo P G m t count u.next done (Overtaken channel word) → frame ≡ u.next + done → at ≡ channel → seen ≡ word
+      → IsMissed P t.0 (in_state u state.Xrun) frame at seen
+  missed-at count done channel word frame at seen few came is_frame is_channel is_word = record {
+    unread = omega (arith, is_frame);
+    captured = omega (arith, is_frame, few, came.up_to);
+    past = subst (λ (k : ℕ). IsPast P.view P.shows t.0 k at seen) (sym is_frame) (subst (λ (k : ℕ). IsPast P.view P.shows t.0 (u.next + done) k seen) (sym is_channel)
+        (subst (λ (k : ℕ). IsPast P.view P.shows t.0 (u.next + done) channel k) (sym is_word) came.overtaken));
+  }
+
+  read-told-if : (test : Bool) (n count done : ℕ) (ended : Got) → (nat_lt 0 n && nat_eq (avail_of u) 0) ≡ test → count ≡ taken_of u n → CameTo P G m t count u.next done ended
+      → ReadTold P G s t c (if test then (u, Err Again) else read_to u done ended).0 n (if test then (u, Err Again) else read_to u done ended).1
+  unfolding told-went told-some
+  read-told-if true n count done Whole test is_count came =
+      let none : avail_of u ≡ 0 = grind (arith, nat_tests) in
+      let nothing = no-frames n count done Whole none is_count came.up_to in
+      record {
+        told = told-went P G s t c u u position Go (Err Again) (went-frames count u.next done Whole came) refl refl refl refl went.sound (λ h. cc, λ h. let goes = went.unstopped in cc) tt (λ h. cc) (λ avail frame h. cc) (λ frame channel word h. cc);
+        again = (λ h. (grind (arith, nat_tests), finds-none none), λ h. refl);
+        asks = asks-frames u n came.looks Go (Err Again) (came.looks_number ∙ ap (λ (k : ℕ). k * (P.view m.0).geometry.channels) nothing.1 ∙ (let zero : 0 * (P.view m.0).geometry.channels ≡ 0 = omega arith in zero)) refl came.asked_them;
+      }
+  read-told-if true n count done (Overtaken channel word) test is_count came = absurd (let nothing = no-frames n count done (Overtaken channel word) (grind (arith, nat_tests)) is_count came.up_to in let is = nothing.0 in cc)
+  read-told-if true n count done Stopped test is_count came = absurd (let nothing = no-frames n count done Stopped (grind (arith, nat_tests)) is_count came.up_to in let is = nothing.0 in cc)
+  read-told-if false n count done Whole test is_count came = record {
+    told = told-went P G s t c u (record u { next = u.next + done }) position Go (Ok done) (went-frames count u.next done Whole came) refl refl refl refl (sound-next done (omega (arith, is_count, came.up_to)))
+        (λ h. cc, λ h. let goes = went.unstopped in cc) tt (λ h. cc) (λ avail frame h. cc) (λ frame channel word h. cc);
+    again = (λ h. cc, λ h. absurd (let none = none-found h.1 in let some = h.0 in grind (arith, nat_tests)));
+    asks = asks-frames (record u { next = u.next + done }) n came.looks Go (Ok done) (came.looks_number ∙ ap (λ (k : ℕ). done * k) same-channels) refl came.asked_them;
+  }
+  read-told-if false n count done (Overtaken channel word) test is_count came = record {
+    told = told-went P G s t c u (in_state u state.Xrun) position Go (Err (Xrun (why.Overtaken (u.next + done) channel word))) (went-frames count u.next done (Overtaken channel word) came) refl refl refl refl sound-missed
+        (λ h. cc, λ h. let goes = went.unstopped in cc) tt (λ h. cc) (λ avail frame h. cc)
+        (λ frame at seen h. missed-at count done channel word frame at seen (omega (arith, is_count)) came (cc) (cc) (cc));
+    again = (λ h. cc, λ h. absurd (let none = none-found h.1 in let some = h.0 in grind (arith, nat_tests)));
+    asks = asks-frames (in_state u state.Xrun) n came.looks Go (Err (Xrun (why.Overtaken (u.next + done) channel word)))
+        (came.looks_number ∙ ap (λ (k : ℕ). done * k + (channel + 1)) same-channels ∙ ap (λ (k : ℕ). k * u.geometry.channels + (channel + 1)) (let gone : done ≡ u.next + done - u.next = omega arith in gone)) refl came.asked_them;
+  }
+  read-told-if false n count done Stopped test is_count came = record {
+    told = told-went P G s t c u (record u { status = record u.status { stopped = true } }) position Stop (Err error.Stopped) (went-frames count u.next done Stopped came) refl refl refl refl sound-stopped
+        (λ h. refl, λ h. refl) tt (λ h. cc) (λ avail frame h. cc) (λ frame channel word h. cc);
+    again = (λ h. cc, λ h. absurd (let none = none-found h.1 in let some = h.0 in grind (arith, nat_tests)));
+    asks = asks-frames (record u { status = record u.status { stopped = true } }) n came.looks Stop (Err error.Stopped)
+        (let fewer : (done + 1) * (P.view m.0).geometry.channels ≤ n * (P.view m.0).geometry.channels = mul-le-mul_right (P.view m.0).geometry.channels (omega (arith, is_count, came.up_to)) in
+        subst (λ (k : ℕ). came.looks ≤ n * k) same-channels (omega (arith, came.looks_number, fewer))) refl came.asked_them;
+  }
+
+  pub read-told : (n count done : ℕ) (ended : Got) → count ≡ taken_of u n → CameTo P G m t count u.next done ended
+      → ReadTold P G s t c (read_after u n done ended).0 n (read_after u n done ended).1
+  read-told n count done ended is_count came = read-told-if (nat_lt 0 n && nat_eq (avail_of u) 0) n count done ended refl is_count came

@@ -1,0 +1,6 @@
+pub mod Calls
+pub mod Causes
+pub mod Course
+pub mod Port
+pub mod Reads
+pub mod View

@@ -1,0 +1,16 @@
+//! The reader of a shared capture: a PCM stream that reads the card's captured frames through a port.
+#![tactic(auto)]
+
+mod frames;
+mod parts;
+mod plain;
+mod positions;
+mod read;
+mod reader;
+mod usable;
+
+pub use plain::Plain;
+pub use reader::Reader;
+
+#[cfg(test)]
+mod tests;

@@ -1,0 +1,190 @@
+//! The call that moves frames.
+ghost use Rattle.std.specs.Prelude.{◌≡◌, ◌+◌, ◌*◌, ◌/◌, ◌^◌, ◌<◌, ◌≤◌, ◌⊎◌, true, false, IfOk, length};
+ghost use Rattle.pcm_states.specs.declared.calls.Call.TheVariants as call;
+ghost use Rattle.pcm_stream.specs.Status.{refusal_of};
+ghost use Rattle.pcm_stream.specs.declared.direction.Direction.{Direction};
+ghost use Rattle.course.specs.AtSnoopPort.{TakesAtSnoop};
+ghost use Rattle.dsnoop_client.specs.Calls.{waits};
+ghost use Rattle.dsnoop_client.specs.Causes.{ExplainsRead};
+ghost use Rattle.dsnoop_client.specs.Course.{admitted, read_course, reads_first, reads_on, transfers};
+ghost use Rattle.dsnoop_client.specs.Port.{Asks, Keeps};
+ghost use Rattle.dsnoop_client.specs.Reads.{Reads};
+ghost use Rattle.dsnoop_client.specs.View.{CanRead, CanUse, HasRoom, IsGoing, IsSound, LoadsFor, frames_in, is_running};
+
+use crate::frames::load_frames;
+use crate::parts::{read_after, waits};
+use crate::plain::Plain;
+use crate::positions::{start_call, sync_call};
+use crate::reader::Reader;
+use mix_core::Gate;
+use pcm_states::{Call, State};
+use pcm_stream::Direction;
+use snd_base::PcmError;
+use snoop_core::SnoopPort;
+
+/// Loads the frames of a read of `frames` frames, of a reader that runs and has loaded the position.
+fn transfer<P: SnoopPort, G: Gate>(
+    plain: &mut Plain,
+    frame: &mut [i16],
+    port: &mut P,
+    gate: &mut G,
+    out: &mut [i16],
+    frames: u64,
+) -> Result<u64, PcmError>
+    requires sound { IsSound plain.old }
+    requires going { IsGoing plain.old (P.view port.old) }
+    requires room { HasRoom plain.old frame.old }
+    requires fits { frames * length plain.old.setup.bindings ≤ length out.old }
+    ensures takes { TakesAtSnoop P.SnoopPort G.Gate (port.old, gate.old) (transfers plain.old frames) (port.new, gate.new) (plain.new, result) }
+    ensures reads { Reads P.SnoopPort port.old port.new plain.old plain.new out.old out.new result }
+    ensures few { IfOk result (λ n. n ≤ frames) }
+{
+    let count = plain.taken(frames);
+    let bindings = plain.setup.bindings;
+    let loads = load_frames(port, gate, &bindings, plain.next, count, frame, out);
+    let (after, answer) = read_after(*plain, frames, loads.frames, loads.ended);
+    *plain = after;
+    answer
+}
+
+/// A read of `frames` frames, of a reader that runs.
+fn read_running<P: SnoopPort, G: Gate>(
+    plain: &mut Plain,
+    frame: &mut [i16],
+    port: &mut P,
+    gate: &mut G,
+    out: &mut [i16],
+    frames: u64,
+) -> Result<u64, PcmError>
+    requires sound { IsSound plain.old }
+    requires running { plain.old.status.state ≡ State.Running }
+    requires unstopped { plain.old.status.stopped ≡ false }
+    requires port { CanUse plain.old (P.view port.old) }
+    requires room { HasRoom plain.old frame.old }
+    requires fits { frames * length plain.old.setup.bindings ≤ length out.old }
+    ensures takes { TakesAtSnoop P.SnoopPort G.Gate (port.old, gate.old) (reads_on plain.old frames) (port.new, gate.new) (plain.new, result) }
+    ensures reads { Reads P.SnoopPort port.old port.new plain.old plain.new out.old out.new result }
+    ensures few { IfOk result (λ n. n ≤ frames) }
+{
+    if let Err(error) = sync_call(plain, port, gate, Call::Transfer) {
+        return Err(error);
+    }
+    transfer(plain, frame, port, gate, out, frames)
+}
+
+/// A read of `frames` frames, of a prepared reader that it starts.
+fn read_starting<P: SnoopPort, G: Gate>(
+    plain: &mut Plain,
+    frame: &mut [i16],
+    port: &mut P,
+    gate: &mut G,
+    out: &mut [i16],
+    frames: u64,
+) -> Result<u64, PcmError>
+    requires sound { IsSound plain.old }
+    requires prepared { plain.old.status.state ≡ State.Prepared }
+    requires unstopped { plain.old.status.stopped ≡ false }
+    requires port { CanUse plain.old (P.view port.old) }
+    requires room { HasRoom plain.old frame.old }
+    requires fits { frames * length plain.old.setup.bindings ≤ length out.old }
+    ensures takes { TakesAtSnoop P.SnoopPort G.Gate (port.old, gate.old) (reads_first plain.old frames) (port.new, gate.new) (plain.new, result) }
+    ensures reads { Reads P.SnoopPort port.old port.new plain.old plain.new out.old out.new result }
+    ensures few { IfOk result (λ n. n ≤ frames) }
+{
+    if let Err(error) = start_call(plain, port, gate, Call::Transfer) {
+        return Err(error);
+    }
+    transfer(plain, frame, port, gate, out, frames)
+}
+
+/// How many whole frames of so many channels some samples have room for.
+fn whole_frames(samples: &[i16], channels: u8) -> u64
+    requires { 1 ≤ channels }
+    ensures value { result ≡ length samples.now / channels }
+    ensures fits { result * channels ≤ length samples.now }
+{
+    (samples.len() / channels as usize) as u64
+}
+
+/// A read that was admitted.
+fn read_admitted<P: SnoopPort, G: Gate>(
+    plain: &mut Plain,
+    frame: &mut [i16],
+    port: &mut P,
+    gate: &mut G,
+    out: &mut [i16],
+) -> Result<u64, PcmError>
+    requires sound { IsSound plain.old }
+    requires admitted { refusal_of Direction.Capture plain.old.status call.Transfer ≡ None }
+    requires port { CanUse plain.old (P.view port.old) }
+    requires room { HasRoom plain.old frame.old }
+    ensures takes { TakesAtSnoop P.SnoopPort G.Gate (port.old, gate.old) (read_course plain.old (frames_in plain.old out.old)) (port.new, gate.new) (plain.new, result) }
+    ensures reads { Reads P.SnoopPort port.old port.new plain.old plain.new out.old out.new result }
+    ensures keeps { Keeps P.SnoopPort G.Gate (port.old, gate.old) (port.new, gate.new) plain.old plain.new result }
+    ensures waits { (LoadsFor plain.old (frames_in plain.old out.old) → ⊥) → (result ≡ waits (frames_in plain.old out.old)) × (plain.new ≡ plain.old) × (port.new ≡ port.old) × (gate.new ≡ gate.old) × (out.new ≡ out.old) × (frame.new ≡ frame.old) }
+    ensures causes { LoadsFor plain.old (frames_in plain.old out.old) → ExplainsRead P.SnoopPort port.old port.new plain.old plain.new (frames_in plain.old out.old) result }
+    ensures asks { LoadsFor plain.old (frames_in plain.old out.old) → Asks G.Gate gate.old gate.new plain.new (frames_in plain.old out.old) result }
+    ensures few { IfOk result (λ n. n ≤ frames_in plain.old out.old) }
+{
+    let frames = whole_frames(out, plain.setup.bindings.len());
+    if plain.is_running() {
+        return read_running(plain, frame, port, gate, out, frames);
+    }
+    if frames < plain.setup.params.start_threshold {
+        return waits(frames);
+    }
+    read_starting(plain, frame, port, gate, out, frames)
+}
+
+/// A number of frames that was asked for, at most 4,194,304.
+fn few_frames(answer: Result<u64, PcmError>) -> Result<u32, PcmError>
+    requires { IfOk answer (λ n. n ≤ 4194304) }
+    ensures { result ≡ answer }
+{
+    match answer {
+        Ok(frames) => Ok(frames as u32),
+        Err(error) => Err(error),
+    }
+}
+
+impl Reader {
+    /// Reads interleaved frames into `out` and answers how many were read (`snd_pcm_readi` of a stream that doesn't
+    /// wait).
+    ///
+    /// The caller has room for whole frames, at most 4,194,304 of them (`can_read`).
+    ///
+    /// - In RUNNING the stream is synced first, and what the `sync` refuses is the answer.
+    /// - In PREPARED, a read of as many frames as the start threshold makes a `start`, and makes no second load. One of
+    ///   fewer frames does nothing: it answers `Again`, or 0 frames where there is no room.
+    /// - `Again` further comes exactly where there is room and no frame was captured since the last one read.
+    /// - Then the frames from the reader's next one on are loaded, as many as there is room for and as were captured, each
+    ///   through the bindings, and the reader's next frame is behind them. Where a later frame was stored over one of
+    ///   them, the stream is XRUN, with `Overtaken`.
+    /// - In XRUN it is refused with `Already`, in DISCONNECTED with `NoDevice`, and else with `BadState`.
+    ///
+    /// A call that answers an error counts no frame, and leaves nothing of use in `out`.
+    pub fn readi<P: SnoopPort, G: Gate>(
+        &mut self,
+        port: &mut P,
+        gate: &mut G,
+        out: &mut [i16],
+    ) -> Result<u32, PcmError>
+        requires room { CanRead self.old out.old }
+        requires port { CanUse self.old (P.view port.old) }
+        ensures takes { TakesAtSnoop P.SnoopPort G.Gate (port.old, gate.old) (admitted self.old call.Transfer (read_course self.old (frames_in self.old out.old))) (port.new, gate.new) (self.new, result) }
+        ensures refused { (e : PcmError) → refusal_of Direction.Capture self.old.status call.Transfer ≡ Some e → (result ≡ Err e) × (self.new ≡ self.old) × (port.new ≡ port.old) × (gate.new ≡ gate.old) × (out.new ≡ out.old) }
+        ensures reads { Reads P.SnoopPort port.old port.new self.old self.new out.old out.new result }
+        ensures keeps { Keeps P.SnoopPort G.Gate (port.old, gate.old) (port.new, gate.new) self.old self.new result }
+        ensures waits { refusal_of Direction.Capture self.old.status call.Transfer ≡ None → (LoadsFor self.old (frames_in self.old out.old) → ⊥)
+            → (result ≡ waits (frames_in self.old out.old)) × (self.new ≡ self.old) × (port.new ≡ port.old) × (gate.new ≡ gate.old) × (out.new ≡ out.old) }
+        ensures causes { refusal_of Direction.Capture self.old.status call.Transfer ≡ None → LoadsFor self.old (frames_in self.old out.old)
+            → ExplainsRead P.SnoopPort port.old port.new self.old self.new (frames_in self.old out.old) result }
+        ensures asks { refusal_of Direction.Capture self.old.status call.Transfer ≡ None → LoadsFor self.old (frames_in self.old out.old)
+            → Asks G.Gate gate.old gate.new self.new (frames_in self.old out.old) result }
+    {
+        self.plain.status.admit(Direction::Capture, Call::Transfer)?;
+        let frame = self.frame.as_mut_slice();
+        let answer = read_admitted(&mut self.plain, frame, port, gate, out);
+        few_frames(answer)
+    }
+}

@@ -1,0 +1,166 @@
+//! The reader: a PCM stream for capture that shares the card's frames with others.
+ghost use Rattle.std.specs.Prelude.{◌≡◌, ℕ, true, IfErr, OnErr, OnOk, length, ◌⊎◌};
+ghost use Rattle.pcm_states.specs.declared.calls.Call.TheVariants as call;
+ghost use Rattle.pcm_stream.specs.Setup.{CanRunWith, Checks, config_of};
+ghost use Rattle.pcm_stream.specs.Status.{refusal_of};
+ghost use Rattle.pcm_stream.specs.declared.direction.Direction.{Direction};
+ghost use Rattle.sw_limits.specs.Boundary.{IsBoundary};
+ghost use Rattle.dsnoop_client.specs.Calls.{configured_with, freed, in_state, opened, with_params};
+ghost use Rattle.dsnoop_client.specs.View.{IsSound};
+
+use crate::plain::Plain;
+use bindings::Bindings;
+use hw_space::Config;
+use pcm_states::{Call, State};
+use pcm_stream::Direction;
+use snd_base::{Geometry, PcmError};
+use std::alloc::Global;
+use std::marker::Model;
+use sw_limits::SwParams;
+
+/// A capture stream that reads the frames which a card captures into a shared ring, as ALSA's `dsnoop` plugin does
+/// (alsa-lib, `snd_pcm_dsnoop`). It is used as a `snd_pcm_t` that is opened without waiting (`SND_PCM_NONBLOCK`).
+///
+/// Contracts see its state, its settings and how far it has read. Frames of the card are absolute numbers, samples are
+/// interleaved. It has no ring of its own: a read takes the frames from the card's ring, and one that a later frame was
+/// stored over is an xrun.
+#[derive(Drop)]
+pub struct Reader {
+    pub(crate) plain: Plain,
+    pub(crate) frame: Vec<i16>,
+}
+
+impl Model for Reader {
+    ghost use Rattle.dsnoop_client.specs.declared.plain.Plain.{Plain};
+    ghost use Rattle.dsnoop_client.specs.View.{HasRoom, IsSound};
+
+    ghost Value = { Plain };
+
+    ghost view = { λ r. r.plain };
+
+    ghost invariant = { λ r. IsSound r.plain × HasRoom r.plain r.frame.items };
+}
+
+impl Reader {
+    /// A reader in OPEN, of a ring of this geometry.
+    pub fn new(alloc: Global, geometry: Geometry) -> Reader
+        ensures { result ≡ opened geometry }
+    {
+        Reader {
+            plain: Plain::opened(geometry),
+            frame: Vec::new(alloc),
+        }
+    }
+
+    /// What every reader keeps: how its state, its settings and its counts fit each other. A fact for contracts; it does
+    /// nothing.
+    pub fn counts_are_sound(&self)
+        ensures { IsSound self.now }
+    {
+        let _ = &self.plain;
+    }
+
+    /// The state of the stream (`snd_pcm_state`).
+    pub fn state(&self) -> State
+        ensures { result ≡ self.now.status.state }
+    {
+        self.plain.status.state
+    }
+
+    /// Whether the gate has stopped the reader. Every later call but `pause` is then refused with `Stopped`.
+    pub fn is_stopped(&self) -> bool
+        ensures { result ≡ self.now.status.stopped }
+    {
+        self.plain.status.stopped
+    }
+
+    /// The configuration that `hw_params` set, until `hw_free` (`snd_pcm_hw_params_current`).
+    pub fn config(&self) -> Option<Config>
+        ensures { result ≡ config_of self.now.setup }
+    {
+        self.plain.setup.config()
+    }
+
+    /// The position of the card, a frame number, that this reader loaded last.
+    pub fn seen(&self) -> Option<u64>
+        ensures { result ≡ self.now.seen }
+    {
+        self.plain.seen
+    }
+
+    /// Sets the configuration and the bindings, takes the memory for one frame of the card, sets the default software
+    /// parameters and prepares the stream (`snd_pcm_hw_params`, which also prepares).
+    ///
+    /// The caller has a configuration and bindings that the reader can run with (`can_run_with`). `BadState` comes unless
+    /// the state is OPEN, SETUP or PREPARED, and `Memory` where no memory is left. A refused call changes nothing.
+    pub fn hw_params(
+        &mut self,
+        alloc: Global,
+        config: Config,
+        bindings: Bindings,
+    ) -> Result<(), PcmError>
+        requires { CanRunWith self.old.geometry config bindings }
+        ensures refused { (e : PcmError) → refusal_of Direction.Capture self.old.status call.HwParams ≡ Some e → result ≡ Err e }
+        ensures ok { OnOk result (self.new ≡ configured_with self.old config bindings) }
+        ensures err { OnErr result (self.new ≡ self.old) }
+        ensures only { IfErr result (λ e. (refusal_of Direction.Capture self.old.status call.HwParams ≡ Some e) ⊎ (e ≡ PcmError.Memory)) }
+    {
+        self.plain.status.admit(Direction::Capture, Call::HwParams)?;
+        let frame = vec![in alloc; 0i16; self.plain.geometry.channels as usize]?;
+        self.frame = frame;
+        self.plain = self.plain.configured_with(config, bindings);
+        Ok(())
+    }
+
+    /// Gives the configuration up (`snd_pcm_hw_free`): OPEN, from SETUP or PREPARED. A refused call changes nothing.
+    pub fn hw_free(&mut self) -> Result<(), PcmError>
+        ensures refused { (e : PcmError) → refusal_of Direction.Capture self.old.status call.HwFree ≡ Some e → (result ≡ Err e) × (self.new ≡ self.old) }
+        ensures freed { refusal_of Direction.Capture self.old.status call.HwFree ≡ None → (result ≡ Ok tt) × (self.new ≡ freed self.old) }
+    {
+        self.plain.status.admit(Direction::Capture, Call::HwFree)?;
+        self.plain = self.plain.freed();
+        self.frame.clear();
+        Ok(())
+    }
+
+    /// Sets the software parameters (`snd_pcm_sw_params`), in every state but OPEN and DISCONNECTED. `Invalid` comes
+    /// exactly where they have a defect, with the first one. A refused call changes nothing.
+    pub fn sw_params(&mut self, params: SwParams) -> Result<(), PcmError>
+        ensures refused { (e : PcmError) → refusal_of Direction.Capture self.old.status call.SwParams ≡ Some e → (result ≡ Err e) × (self.new ≡ self.old) }
+        ensures checked { refusal_of Direction.Capture self.old.status call.SwParams ≡ None → (b : ℕ) × IsBoundary self.old.setup.config.buffer_size b × Checks result params b }
+        ensures ok { OnOk result (self.new ≡ with_params self.old params) }
+        ensures err { OnErr result (self.new ≡ self.old) }
+    {
+        self.plain.status.admit(Direction::Capture, Call::SwParams)?;
+        self.plain.setup.set_params(params)
+    }
+
+    /// Prepares the stream (`snd_pcm_prepare`): PREPARED, from SETUP, PREPARED or XRUN. A refused call changes nothing.
+    pub fn prepare(&mut self) -> Result<(), PcmError>
+        ensures refused { (e : PcmError) → refusal_of Direction.Capture self.old.status call.Prepare ≡ Some e → (result ≡ Err e) × (self.new ≡ self.old) }
+        ensures prepared { refusal_of Direction.Capture self.old.status call.Prepare ≡ None → (result ≡ Ok tt) × (self.new ≡ in_state self.old State.Prepared) }
+    {
+        self.plain.status.admit(Direction::Capture, Call::Prepare)?;
+        self.plain = self.plain.in_state(State::Prepared);
+        Ok(())
+    }
+
+    /// Stops the stream (`snd_pcm_drop`): SETUP, from every state but OPEN and DISCONNECTED. A refused call changes
+    /// nothing.
+    pub fn drop_pending(&mut self) -> Result<(), PcmError>
+        ensures refused { (e : PcmError) → refusal_of Direction.Capture self.old.status call.Drop ≡ Some e → (result ≡ Err e) × (self.new ≡ self.old) }
+        ensures dropped { refusal_of Direction.Capture self.old.status call.Drop ≡ None → (result ≡ Ok tt) × (self.new ≡ in_state self.old State.Setup) }
+    {
+        self.plain.status.admit(Direction::Capture, Call::Drop)?;
+        self.plain = self.plain.in_state(State::Setup);
+        Ok(())
+    }
+
+    /// Pausing (`snd_pcm_pause`) is refused with `NotSupported` in every state, also of a reader that is stopped.
+    pub fn pause(&mut self, _on: bool) -> Result<(), PcmError>
+        ensures answer { result ≡ Err PcmError.NotSupported }
+        ensures unchanged { self.new ≡ self.old }
+    {
+        Err(PcmError::NotSupported)
+    }
+}

@@ -1,0 +1,574 @@
+-- What the lines that are read so far keep: ranges, names that differ, actors that there are, and the card's limits.
+use Rattle.std.proofs.Common.{◌≡◌, ◌≢◌, ℕ, ◌+◌, ◌*◌, ◌≤◌, ◌<◌, ◌==◌, Bool, true, false, not, cond, ◌&&◌, ◌||◌, List, [], ◌∷◌, ◌++◌, length, get_or, refl, ap, sym, subst, ◌∙◌, arith, zero, suc, Option, Some, None, option_map, is_some, Result, Ok, Err, nat_le, nat_lt}
+use Rattle.std.specs.List.{All, AllPairs, list_any, position, position_or_len}
+use Rattle.std.proofs.Math.Nat.{mul-le-mul_right}
+use Rattle.std.proofs.lemmas.Bool.Decides.{nat_tests, not_from_Decides}
+use Rattle.std.proofs.lemmas.List.{append-nil}
+use Rattle.std.proofs.lemmas.List.Elements.{All-push, All-nil}
+use Rattle.std.proofs.lemmas.List.Folds.{list_any-append}
+use Rattle.std.proofs.lemmas.List.Quantifiers.{all_pairs_push}
+use Rattle.std.proofs.lemmas.List.Sums.{fails_before_first, sum_by_push}
+use Rattle.std.proofs.lemmas.Slice.Eq.{bytes_eq-Decides}
+use Rattle.lab_script.specs.declared.error.ScriptError.{ScriptError}
+use Rattle.lab_script.specs.declared.error.ScriptWhy.{ScriptWhy}
+use Rattle.lab_script.specs.declared.error.ScriptWhy.TheVariants as why
+use Rattle.lab_script.specs.declared.keyword.Keyword.{Keyword}
+use Rattle.lab_script.specs.declared.keyword.Keyword.TheVariants as keyword
+use Rattle.lab_script.specs.declared.line.Actor.{Actor}
+use Rattle.lab_script.specs.declared.line.Actor.TheVariants.{Card, Client, Reader}
+use Rattle.lab_script.specs.declared.line.Item.{Item}
+use Rattle.lab_script.specs.declared.line.Item.TheVariants as item
+use Rattle.lab_script.specs.declared.line.Line.{Line}
+use Rattle.lab_script.specs.declared.script.CardLine.{CardLine}
+use Rattle.lab_script.specs.declared.script.ClientLine.{ClientLine}
+use Rattle.lab_script.specs.declared.script.ReaderLine.{ReaderLine}
+use Rattle.lab_script.specs.declared.script.Script.{Script}
+use Rattle.lab_script.specs.Causes.{refuse_if, some_or, first_of, end_of}
+use Rattle.lab_script.specs.Draft.{State, begun, client_of, reader_of, border_of, named, is_client, is_reader, or_else, is_beside, ends_lap, keywords, with_client, with_reader, with_open, with_close, with_phase, with_end, with_line, with_words, outside, inside, unknown_outside, unknown_inside, line_at}
+use Rattle.lab_script.specs.Keys.{row_of}
+use Rattle.lab_script.specs.Limits.{IsCardLine, IsClientLine, IsReaderLine, IsBorder, IsActor, IsLine, IsAlone, IsItem, IsGoneAfter, IsScript}
+use Rattle.lab_script.specs.Ops.{op_of, played_by}
+use Rattle.lab_script.specs.Reading.{on_line, card_line, first_by, after, ended, script_at, script_of_lines, Answers}
+use Rattle.std.specs.Result.{IfOk}
+use Rattle.lab_script.specs.Script.{phases_of, played_in, frames_played, first_frame, is_card_line, is_of_card, is_unplug, unplugs}
+use Rattle.lab_script.proofs.Ranges.{bind_ok, not_refused, some_is, below}
+use Rattle.lab_script.proofs.Kept.{card_of-ranges, IsNewClient, client_of-ranges, IsNewReader, reader_of-ranges, op_of-is}
+
+-- whether a phase is open
+abbrev pub open_phases : Option ℕ → ℕ
+open_phases None = 0
+open_phases (Some line) = 1
+
+-- what is read so far keeps the limits of a script
+pub record IsState (s : State) : Type 0 where
+  pub card : IsCardLine s.card
+  pub clients : length s.clients ≤ 64
+  pub readers : length s.readers ≤ 64
+  pub each_client : All (IsClientLine s.card) s.clients
+  pub each_reader : All (IsReaderLine s.card) s.readers
+  pub clients_differ : AllPairs (λ (a : ClientLine) (b : ClientLine). a.name ≢ b.name) s.clients
+  pub readers_differ : AllPairs (λ (a : ReaderLine) (b : ReaderLine). a.name ≢ b.name) s.readers
+  pub apart : All (λ (client : ClientLine). All (λ (reader : ReaderLine). client.name ≢ reader.name) s.readers) s.clients
+  pub body : All (IsItem (length s.clients) (length s.readers)) s.body
+  pub lines : All (IsLine (length s.clients) (length s.readers)) s.lines
+  pub alone : IsAlone s.lines
+  pub phases : length (phases_of s.body) + open_phases s.phase ≡ s.phases
+  pub few_phases : s.phases ≤ 4096
+  pub gone : AllPairs IsGoneAfter (phases_of s.body)
+  pub gone_lines : All (λ (before : List Line). IsGoneAfter before s.lines) (phases_of s.body)
+  pub gone_is : s.gone ≡ (list_any unplugs (phases_of s.body) || unplugs s.lines)
+  pub played : frames_played (phases_of s.body) + played_in s.lines ≡ s.played
+  pub frames : s.played ≤ 4194304
+  pub laps : first_frame s.card + s.played + s.card.ring ≤ 4294967295 * s.card.ring
+
+ok_state : (x t : State) → ◌≡◌ {A = Result State ScriptWhy} (Ok x) (Ok t) → IsState x → IsState t
+ok_state x t e h = let same : x ≡ t = cc (e) in subst IsState same h
+
+not_above : (a b : ℕ) → nat_lt a b ≡ false → b ≤ a
+not_above a b e = grind (arith, nat_tests)
+
+laps_at_first : (lap ring : ℕ) → lap ≤ 4294967294 → lap * ring + 0 + ring ≤ 4294967295 * ring
+laps_at_first lap ring h = omega (arith, mul-le-mul_right {m = lap} {n = 4294967294} ring h)
+
+-- a card alone
+pub begun-kept : (card : CardLine) → IsCardLine card → IsState (begun card)
+begun-kept card h = record {
+  card = h;
+  clients = omega arith;
+  readers = omega arith;
+  each_client = All-nil _;
+  each_reader = All-nil _;
+  clients_differ = λ i j d a b. absurd (omega (arith, b));
+  readers_differ = λ i j d a b. absurd (omega (arith, b));
+  apart = All-nil _;
+  body = All-nil _;
+  lines = All-nil _;
+  alone = λ e. absurd (cc);
+  phases = refl;
+  few_phases = omega arith;
+  gone = λ i j d a b. absurd (omega (arith, b));
+  gone_lines = All-nil _;
+  gone_is = refl;
+  played = refl;
+  frames = omega arith;
+  laps = laps_at_first card.lap card.ring h.lap;
+}
+
+-- a place of a list, where there is one
+abbrev pub IsPlaceIn : ℕ → Option ℕ → Type 0
+IsPlaceIn n None = Unit {0}
+IsPlaceIn n (Some i) = i < n
+
+place_by : (i n : ℕ) (b : Bool) → nat_lt i n ≡ b → IsPlaceIn n (cond b (Some i) None)
+place_by i n true e = grind (arith, nat_tests)
+place_by i n false e = tt
+
+position-in : {X : Type 0} (p : X → Bool) (xs : List X) → IsPlaceIn (length xs) (position p xs)
+position-in p xs = place_by (position_or_len p xs) (length xs) (nat_lt (position_or_len p xs) (length xs)) refl
+
+named_by : (m n : ℕ) (o p : Option ℕ) (actor : Actor) → IsPlaceIn m o → IsPlaceIn n p
+    → or_else (option_map Client o) (option_map Reader p) ≡ Some actor → IsBorder m n actor
+named_by m n None None actor a b e = absurd (cc)
+named_by m n None (Some j) actor a b e = let same : Reader j ≡ actor = cc (e) in subst (IsBorder m n) same b
+named_by m n (Some i) p actor a b e = let same : Client i ≡ actor = cc (e) in subst (IsBorder m n) same a
+
+-- who is named is declared
+pub named-is : (s : State) (w : List ℕ) (actor : Actor) → named s w ≡ Some actor → IsBorder (length s.clients) (length s.readers) actor
+named-is s w actor e =
+    named_by (length s.clients) (length s.readers) (position (is_client w) s.clients) (position (is_reader w) s.readers) actor
+    (position-in (is_client w) s.clients) (position-in (is_reader w) s.readers) e
+
+border-actor : (m n : ℕ) (actor : Actor) → IsBorder m n actor → IsActor m n actor
+border-actor m n Card h = tt
+border-actor m n (Client k) h = h
+border-actor m n (Reader k) h = h
+
+unnamed : (o p : Option ℕ) → is_some (or_else (option_map Client o) (option_map Reader p)) ≡ false → (o ≡ None) × (p ≡ None)
+unnamed None None e = (refl, refl)
+unnamed None (Some j) e = absurd (cc)
+unnamed (Some i) p e = absurd (cc)
+
+none_by : (i n : ℕ) (b : Bool) → nat_lt i n ≡ b → cond b (Some i) None ≡ None → n ≤ i
+none_by i n true e g = absurd (cc)
+none_by i n false e g = grind (arith, nat_tests)
+
+position-none : {X : Type 0} (p : X → Bool) (xs : List X) (k : ℕ) (d : X) → position p xs ≡ None → k < length xs → p (get_or xs k d) ≡ false
+position-none p xs k d e h =
+    let past : length xs ≤ position_or_len p xs = none_by (position_or_len p xs) (length xs) (nat_lt (position_or_len p xs) (length xs)) refl e in
+    fails_before_first p xs k d (omega arith)
+
+client-differs : (s : State) (w : List ℕ) → is_some (named s w) ≡ false → (k : ℕ) (d : ClientLine) → k < length s.clients → (get_or s.clients k d).name ≢ w
+client-differs s w e k d h =
+    let none = unnamed (position (is_client w) s.clients) (position (is_reader w) s.readers) e in
+    not_from_Decides _ (bytes_eq-Decides (get_or s.clients k d).name w) (position-none (is_client w) s.clients k d none.0 h)
+
+reader-differs : (s : State) (w : List ℕ) → is_some (named s w) ≡ false → (k : ℕ) (d : ReaderLine) → k < length s.readers → (get_or s.readers k d).name ≢ w
+reader-differs s w e k d h =
+    let none = unnamed (position (is_client w) s.clients) (position (is_reader w) s.readers) e in
+    not_from_Decides _ (bytes_eq-Decides (get_or s.readers k d).name w) (position-none (is_reader w) s.readers k d none.1 h)
+
+more_border : (m n p q : ℕ) (actor : Actor) → m ≤ p → n ≤ q → IsBorder m n actor → IsBorder p q actor
+more_border m n p q Card a b h = absurd h
+more_border m n p q (Client k) a b h = omega (arith, h)
+more_border m n p q (Reader k) a b h = omega (arith, h)
+
+more_actor : (m n p q : ℕ) (actor : Actor) → m ≤ p → n ≤ q → IsActor m n actor → IsActor p q actor
+more_actor m n p q Card a b h = tt
+more_actor m n p q (Client k) a b h = omega (arith, h)
+more_actor m n p q (Reader k) a b h = omega (arith, h)
+
+more_line : (m n p q : ℕ) (line : Line) → m ≤ p → n ≤ q → IsLine m n line → IsLine p q line
+more_line m n p q line a b h = record { actor = more_actor m n p q line.actor a b h.actor; op = h.op }
+
+more_lines : (m n p q : ℕ) (lines : List Line) → m ≤ p → n ≤ q → All (IsLine m n) lines → All (IsLine p q) lines
+more_lines m n p q lines a b all = λ k d h. more_line m n p q _ a b (all k d h)
+
+more_item : (m n p q : ℕ) (i : Item) → m ≤ p → n ≤ q → IsItem m n i → IsItem p q i
+more_item m n p q (item.Opens number actor) a b h = more_border m n p q actor a b h
+more_item m n p q (item.Closes number actor) a b h = more_border m n p q actor a b h
+more_item m n p q (item.Phase lines) a b h = record { each = more_lines m n p q lines a b h.each; alone = h.alone }
+
+more_items : (m n p q : ℕ) (items : List Item) → m ≤ p → n ≤ q → All (IsItem m n) items → All (IsItem p q) items
+more_items m n p q items a b all = λ k d h. more_item m n p q _ a b (all k d h)
+
+length_more : {X : Type 0} (xs : List X) (x : X) → length (xs ++ x ∷ []) ≡ length xs + 1
+length_more [] x = refl
+length_more (y ∷ ys) x = let e = length_more ys x in omega arith
+
+-- one client more
+client-kept : (s : State) (client : ClientLine) → IsNewClient s client → IsState s → IsState (record s { clients = s.clients ++ client ∷ [] })
+client-kept s client new st =
+    let more : length (s.clients ++ client ∷ []) ≡ length s.clients + 1 = length_more s.clients client in
+    let at_least : length s.clients ≤ length (s.clients ++ client ∷ []) = omega arith in
+    let same : length s.readers ≤ length s.readers = omega arith in
+    record {
+      card = st.card;
+      clients = omega (arith, new.room);
+      readers = st.readers;
+      each_client = All-push (IsClientLine s.card) s.clients client st.each_client new.line;
+      each_reader = st.each_reader;
+      clients_differ = all_pairs_push (λ (a : ClientLine) (b : ClientLine). a.name ≢ b.name) s.clients client st.clients_differ (client-differs s client.name new.new);
+      readers_differ = st.readers_differ;
+      apart = All-push (λ (c : ClientLine). All (λ (reader : ReaderLine). c.name ≢ reader.name) s.readers) s.clients client st.apart (λ k d h e. reader-differs s client.name new.new k d h (sym e));
+      body = more_items _ _ _ _ s.body at_least same st.body;
+      lines = more_lines _ _ _ _ s.lines at_least same st.lines;
+      alone = st.alone;
+      phases = st.phases;
+      few_phases = st.few_phases;
+      gone = st.gone;
+      gone_lines = st.gone_lines;
+      gone_is = st.gone_is;
+      played = st.played;
+      frames = st.frames;
+      laps = st.laps;
+    }
+
+-- one reader more
+reader-kept : (s : State) (reader : ReaderLine) → IsNewReader s reader → IsState s → IsState (record s { readers = s.readers ++ reader ∷ [] })
+reader-kept s reader new st =
+    let more : length (s.readers ++ reader ∷ []) ≡ length s.readers + 1 = length_more s.readers reader in
+    let at_least : length s.readers ≤ length (s.readers ++ reader ∷ []) = omega arith in
+    let same : length s.clients ≤ length s.clients = omega arith in
+    record {
+      card = st.card;
+      clients = st.clients;
+      readers = omega (arith, new.room);
+      each_client = st.each_client;
+      each_reader = All-push (IsReaderLine s.card) s.readers reader st.each_reader new.line;
+      clients_differ = st.clients_differ;
+      readers_differ = all_pairs_push (λ (a : ReaderLine) (b : ReaderLine). a.name ≢ b.name) s.readers reader st.readers_differ (reader-differs s reader.name new.new);
+      apart = λ k d h. All-push (λ (r : ReaderLine). (get_or s.clients k d).name ≢ r.name) s.readers reader (st.apart k d h) (client-differs s reader.name new.new k d h);
+      body = more_items _ _ _ _ s.body same at_least st.body;
+      lines = more_lines _ _ _ _ s.lines same at_least st.lines;
+      alone = st.alone;
+      phases = st.phases;
+      few_phases = st.few_phases;
+      gone = st.gone;
+      gone_lines = st.gone_lines;
+      gone_is = st.gone_is;
+      played = st.played;
+      frames = st.frames;
+      laps = st.laps;
+    }
+
+with_client-kept : (s : State) (number : ℕ) (ws : List (List ℕ)) (t : State) → with_client s number ws ≡ Ok t → IsState s → IsState t
+unfolding with_client
+with_client-kept s number ws t e st =
+    let order = bind_ok (refuse_if (not (length s.body == 0)) why.Order) _ t e in
+    let client = bind_ok (client_of s number ws) _ t order.2 in
+    ok_state _ t client.2 (client-kept s client.0 (client_of-ranges s number ws client.0 client.1) st)
+
+with_reader-kept : (s : State) (number : ℕ) (ws : List (List ℕ)) (t : State) → with_reader s number ws ≡ Ok t → IsState s → IsState t
+unfolding with_reader
+with_reader-kept s number ws t e st =
+    let order = bind_ok (refuse_if (not (length s.body == 0)) why.Order) _ t e in
+    let reader = bind_ok (reader_of s number ws) _ t order.2 in
+    ok_state _ t reader.2 (reader-kept s reader.0 (reader_of-ranges s number ws reader.0 reader.1) st)
+
+phases_of-append : (xs ys : List Item) → phases_of (xs ++ ys) ≡ phases_of xs ++ phases_of ys
+phases_of-append [] ys = refl
+phases_of-append (item.Phase lines ∷ xs) ys = ap (λ ps. lines ∷ ps) (phases_of-append xs ys)
+phases_of-append (item.Opens number actor ∷ xs) ys = phases_of-append xs ys
+phases_of-append (item.Closes number actor ∷ xs) ys = phases_of-append xs ys
+
+-- an item that is no phase
+border-kept : (s : State) (i : Item) → phases_of (i ∷ []) ≡ [] → IsItem (length s.clients) (length s.readers) i → IsState s → IsState (record s { body = s.body ++ i ∷ [] })
+border-kept s i none it st =
+    let same : phases_of s.body ≡ phases_of (s.body ++ i ∷ []) = sym (phases_of-append s.body (i ∷ []) ∙ ap (λ ps. phases_of s.body ++ ps) none ∙ append-nil (phases_of s.body)) in
+    record {
+      card = st.card;
+      clients = st.clients;
+      readers = st.readers;
+      each_client = st.each_client;
+      each_reader = st.each_reader;
+      clients_differ = st.clients_differ;
+      readers_differ = st.readers_differ;
+      apart = st.apart;
+      body = All-push (IsItem (length s.clients) (length s.readers)) s.body i st.body it;
+      lines = st.lines;
+      alone = st.alone;
+      phases = subst (λ (ps : List (List Line)). length ps + open_phases s.phase ≡ s.phases) same st.phases;
+      few_phases = st.few_phases;
+      gone = subst (λ (ps : List (List Line)). AllPairs IsGoneAfter ps) same st.gone;
+      gone_lines = subst (λ (ps : List (List Line)). All (λ (before : List Line). IsGoneAfter before s.lines) ps) same st.gone_lines;
+      gone_is = subst (λ (ps : List (List Line)). s.gone ≡ (list_any unplugs ps || unplugs s.lines)) same st.gone_is;
+      played = subst (λ (ps : List (List Line)). frames_played ps + played_in s.lines ≡ s.played) same st.played;
+      frames = st.frames;
+      laps = st.laps;
+    }
+
+border_of-is : (s : State) (ws : List (List ℕ)) (actor : Actor) → border_of s ws ≡ Ok actor → IsBorder (length s.clients) (length s.readers) actor
+unfolding border_of
+border_of-is s ws actor e =
+    let first = bind_ok (first_of ws) _ actor e in
+    let who = bind_ok (some_or why.Word (named s first.0.0)) _ actor first.2 in
+    let end = bind_ok (end_of first.0.1) _ actor who.2 in
+    let same : who.0 ≡ actor = cc (end.2) in
+    subst (IsBorder (length s.clients) (length s.readers)) same (named-is s first.0.0 who.0 (some_is why.Word _ who.0 who.1))
+
+with_open-kept : (s : State) (number : ℕ) (ws : List (List ℕ)) (t : State) → with_open s number ws ≡ Ok t → IsState s → IsState t
+unfolding with_open
+with_open-kept s number ws t e st =
+    let who = bind_ok (border_of s ws) _ t e in
+    ok_state _ t who.2 (border-kept s (item.Opens number who.0) refl (border_of-is s ws who.0 who.1) st)
+
+with_close-kept : (s : State) (number : ℕ) (ws : List (List ℕ)) (t : State) → with_close s number ws ≡ Ok t → IsState s → IsState t
+unfolding with_close
+with_close-kept s number ws t e st =
+    let who = bind_ok (border_of s ws) _ t e in
+    ok_state _ t who.2 (border-kept s (item.Closes number who.0) refl (border_of-is s ws who.0 who.1) st)
+
+open_by : (phase : Option ℕ) (number n phases : ℕ) → phase ≡ None → n + open_phases phase ≡ phases → n + 1 ≡ phases + 1
+open_by None number n phases e h = omega arith
+open_by (Some k) number n phases e h = absurd (cc)
+
+with_phase-kept : (s : State) (number : ℕ) (ws : List (List ℕ)) (t : State) → s.phase ≡ None → with_phase s number ws ≡ Ok t → IsState s → IsState t
+unfolding with_phase
+with_phase-kept s number ws t none e st =
+    let end = bind_ok (end_of ws) _ t e in
+    let room = bind_ok (refuse_if (nat_le 4096 s.phases) why.TooMany) _ t end.2 in
+    let few : s.phases < 4096 = below 4096 s.phases (not_refused _ why.TooMany room.0 room.1) in
+    ok_state _ t room.2 (record {
+      card = st.card;
+      clients = st.clients;
+      readers = st.readers;
+      each_client = st.each_client;
+      each_reader = st.each_reader;
+      clients_differ = st.clients_differ;
+      readers_differ = st.readers_differ;
+      apart = st.apart;
+      body = st.body;
+      lines = st.lines;
+      alone = st.alone;
+      phases = open_by s.phase number (length (phases_of s.body)) s.phases none st.phases;
+      few_phases = omega arith;
+      gone = st.gone;
+      gone_lines = st.gone_lines;
+      gone_is = st.gone_is;
+      played = st.played;
+      frames = st.frames;
+      laps = st.laps;
+    })
+
+end_by : (phase : Option ℕ) (k n phases : ℕ) → phase ≡ Some k → n + open_phases phase ≡ phases → n + 1 + 0 ≡ phases
+end_by None k n phases e h = absurd (cc)
+end_by (Some m) k n phases e h = omega arith
+
+or_false : (a b : Bool) → (a || b) ≡ ((a || (b || false)) || false)
+or_false true b = refl
+or_false false true = refl
+or_false false false = refl
+
+with_end-kept : (s : State) (k : ℕ) (ws : List (List ℕ)) (t : State) → s.phase ≡ Some k → with_end s ws ≡ Ok t → IsState s → IsState t
+unfolding with_end
+with_end-kept s k ws t some e st =
+    let end = bind_ok (end_of ws) _ t e in
+    let same : phases_of s.body ++ s.lines ∷ [] ≡ phases_of (s.body ++ item.Phase s.lines ∷ []) = sym (phases_of-append s.body (item.Phase s.lines ∷ [])) in
+    let more : length (phases_of s.body ++ s.lines ∷ []) ≡ length (phases_of s.body) + 1 = length_more (phases_of s.body) s.lines in
+    let one : length (phases_of s.body) + 1 + 0 ≡ s.phases = end_by s.phase k (length (phases_of s.body)) s.phases some st.phases in
+    let any : list_any unplugs (phases_of s.body ++ s.lines ∷ []) ≡ (list_any unplugs (phases_of s.body) || (unplugs s.lines || false)) = list_any-append unplugs (phases_of s.body) (s.lines ∷ []) in
+    let sum : frames_played (phases_of s.body ++ s.lines ∷ []) ≡ frames_played (phases_of s.body) + played_in s.lines = sum_by_push played_in (phases_of s.body) s.lines in
+    ok_state _ t end.2 (record {
+      card = st.card;
+      clients = st.clients;
+      readers = st.readers;
+      each_client = st.each_client;
+      each_reader = st.each_reader;
+      clients_differ = st.clients_differ;
+      readers_differ = st.readers_differ;
+      apart = st.apart;
+      body = All-push (IsItem (length s.clients) (length s.readers)) s.body (item.Phase s.lines) st.body (record { each = st.lines; alone = st.alone });
+      lines = All-nil (IsLine (length s.clients) (length s.readers));
+      alone = λ e. absurd (cc);
+      phases = subst (λ (ps : List (List Line)). length ps + 0 ≡ s.phases) same (omega arith);
+      few_phases = st.few_phases;
+      gone = subst (λ (ps : List (List Line)). AllPairs IsGoneAfter ps) same (all_pairs_push IsGoneAfter (phases_of s.body) s.lines st.gone st.gone_lines);
+      gone_lines = λ i d h e. refl;
+      gone_is = subst (λ (ps : List (List Line)). s.gone ≡ (list_any unplugs ps || false)) same
+          (st.gone_is ∙ or_false (list_any unplugs (phases_of s.body)) (unplugs s.lines) ∙ sym (ap (λ b. b || false) any));
+      played = subst (λ (ps : List (List Line)). frames_played ps + 0 ≡ s.played) same (let p = st.played in omega arith);
+      frames = st.frames;
+      laps = st.laps;
+    })
+
+or_no : (a b : Bool) → (a || b) ≡ false → (a ≡ false) × (b ≡ false)
+or_no true b e = absurd (cc)
+or_no false true e = absurd (cc)
+or_no false false e = (refl, refl)
+
+no_or : (a b c : Bool) → a ≡ false → b ≡ false → (a || (b || c)) ≡ true → c ≡ true
+no_or true b c e f g = absurd (cc)
+no_or false true c e f g = absurd (cc)
+no_or false false c e f g = g
+
+-- one line more of a phase: the one that unplugs is alone
+alone-more : (lines : List Line) (line : Line) → IsAlone lines → is_beside lines line.op ≡ false → IsAlone (lines ++ line ∷ [])
+alone-more [] line h e = λ g. refl
+alone-more (first ∷ []) line h e = λ g.
+    let no = or_no (is_unplug first.op) (is_unplug line.op) e in
+    absurd (cc (no_or (is_unplug first.op) (is_unplug line.op) false no.0 no.1 g))
+alone-more (first ∷ second ∷ more) line h e = λ g.
+    let no = or_no (is_unplug first.op) (is_unplug line.op) e in
+    let parts : unplugs ((first ∷ second ∷ more) ++ line ∷ []) ≡ (unplugs (first ∷ second ∷ more) || (is_unplug line.op || false)) = list_any-append (λ (l : Line). is_unplug l.op) (first ∷ second ∷ more) (line ∷ []) in
+    alone_by (unplugs (first ∷ second ∷ more)) (is_unplug line.op) (length more) _ h no.1 (sym parts ∙ g)
+  where
+    alone_by : (a b : Bool) (n : ℕ) (P : Type 0) → (a ≡ true → suc (suc n) ≡ 1) → b ≡ false → (a || (b || false)) ≡ true → P
+    alone_by true b n P h e g = absurd (omega (arith, h refl))
+    alone_by false true n P h e g = absurd (cc)
+    alone_by false false n P h e g = absurd (cc)
+
+any_at : {X : Type 0} (p : X → Bool) (xs : List X) (k : ℕ) (d : X) → k < length xs → p (get_or xs k d) ≡ true → list_any p xs ≡ true
+any_at p [] k d h e = absurd (omega (arith, h))
+any_at p (x ∷ xs) zero d h e = rw e refl
+any_at p (x ∷ xs) (suc k) d h e = or_true (p x) _ (any_at p xs k d (omega (arith, h)) e)
+  where
+    or_true : (a b : Bool) → b ≡ true → (a || b) ≡ true
+    or_true true b e = refl
+    or_true false b e = e
+
+gone_by : (gone any lines card : Bool) → gone ≡ (any || lines) → (gone && card) ≡ false → any ≡ true → card ≡ false
+gone_by gone any lines true e f g = absurd (contradiction gone any lines e f g)
+  where
+    contradiction : (gone any lines : Bool) → gone ≡ (any || lines) → (gone && true) ≡ false → any ≡ true → ⊥
+    contradiction true any lines e f g = cc
+    contradiction false true lines e f g = cc
+    contradiction false false lines e f g = cc
+gone_by gone any lines false e f g = refl
+
+or_both : (a b : Bool) → a ≡ false → b ≡ false → (a || (b || false)) ≡ false
+or_both true b e f = absurd (cc)
+or_both false true e f = absurd (cc)
+or_both false false e f = refl
+
+or_more : (g a u b : Bool) → g ≡ (a || u) → (g || b) ≡ (a || (u || (b || false)))
+or_more g true u b e = rw e refl
+or_more g false true b e = rw e refl
+or_more g false false true e = rw e refl
+or_more g false false false e = rw e refl
+
+-- one line more of a phase
+line-kept : (s : State) (line : Line) → IsLine (length s.clients) (length s.readers) line → is_beside s.lines line.op ≡ false → (s.gone && is_of_card line.actor) ≡ false
+    → s.played + played_by line.op ≤ 4194304 → first_frame s.card + (s.played + played_by line.op) + s.card.ring ≤ 4294967295 * s.card.ring → IsState s
+    → IsState (record s { lines = s.lines ++ line ∷ []; played = s.played + played_by line.op; gone = s.gone || is_unplug line.op })
+line-kept s line ok beside plugged frames laps st =
+    let sum : played_in (s.lines ++ line ∷ []) ≡ played_in s.lines + played_by line.op = sum_by_push (λ (l : Line). played_by l.op) s.lines line in
+    let card : list_any is_card_line (s.lines ++ line ∷ []) ≡ (list_any is_card_line s.lines || (is_card_line line || false)) = list_any-append is_card_line s.lines (line ∷ []) in
+    let any : unplugs (s.lines ++ line ∷ []) ≡ (unplugs s.lines || (is_unplug line.op || false)) = list_any-append (λ (l : Line). is_unplug l.op) s.lines (line ∷ []) in
+    record {
+      card = st.card;
+      clients = st.clients;
+      readers = st.readers;
+      each_client = st.each_client;
+      each_reader = st.each_reader;
+      clients_differ = st.clients_differ;
+      readers_differ = st.readers_differ;
+      apart = st.apart;
+      body = st.body;
+      lines = All-push (IsLine (length s.clients) (length s.readers)) s.lines line st.lines ok;
+      alone = alone-more s.lines line st.alone beside;
+      phases = st.phases;
+      few_phases = st.few_phases;
+      gone = st.gone;
+      gone_lines = λ k d h e. card ∙ or_both _ _ (st.gone_lines k d h e)
+          (gone_by s.gone (list_any unplugs (phases_of s.body)) (unplugs s.lines) (is_card_line line) st.gone_is plugged (any_at unplugs (phases_of s.body) k d h e));
+      gone_is = or_more s.gone (list_any unplugs (phases_of s.body)) (unplugs s.lines) (is_unplug line.op) st.gone_is ∙ sym (ap (λ b. list_any unplugs (phases_of s.body) || b) any);
+      played = let p = st.played in omega arith;
+      frames = frames;
+      laps = laps;
+    }
+
+with_line-kept : (s : State) (number : ℕ) (actor : Actor) (ws : List (List ℕ)) (t : State) → IsActor (length s.clients) (length s.readers) actor → with_line s number actor ws ≡ Ok t → IsState s → IsState t
+unfolding with_line
+with_line-kept s number actor ws t who e st =
+    let asked = bind_ok (op_of actor ws) _ t e in
+    let played = s.played + played_by asked.0 in
+    let alone = bind_ok (refuse_if (is_beside s.lines asked.0) why.Alone) _ t asked.2 in
+    let plugged = bind_ok (refuse_if (s.gone && is_of_card actor) why.Unplugged) _ t alone.2 in
+    let frames = bind_ok (refuse_if (nat_lt 4194304 played) why.Frames) _ t plugged.2 in
+    let laps = bind_ok (refuse_if (ends_lap s.card played) why.LapEnd) _ t frames.2 in
+    ok_state _ t laps.2 (line-kept s (record { number = number; actor = actor; op = asked.0 })
+    (record { actor = who; op = op_of-is actor ws asked.0 asked.1 })
+    (not_refused _ why.Alone alone.0 alone.1) (not_refused _ why.Unplugged plugged.0 plugged.1)
+    (not_above 4194304 played (not_refused _ why.Frames frames.0 frames.1))
+    (not_above _ _ (not_refused (ends_lap s.card played) why.LapEnd laps.0 laps.1)) st)
+
+unknown_outside-kept : (o : Option Actor) (t : State) (P : Type 0) → unknown_outside o ≡ Ok t → P
+unknown_outside-kept None t P e = absurd (cc)
+unknown_outside-kept (Some actor) t P e = absurd (cc)
+
+outside-kept : (s : State) (number : ℕ) (word : List ℕ) (k : Option Keyword) (ws : List (List ℕ)) (t : State) → s.phase ≡ None → outside s number word k ws ≡ Ok t → IsState s → IsState t
+outside-kept s number word (Some keyword.Card) ws t none e st = absurd (cc)
+outside-kept s number word (Some keyword.Client) ws t none e st = with_client-kept s number ws t e st
+outside-kept s number word (Some keyword.Reader) ws t none e st = with_reader-kept s number ws t e st
+outside-kept s number word (Some keyword.Open) ws t none e st = with_open-kept s number ws t e st
+outside-kept s number word (Some keyword.Close) ws t none e st = with_close-kept s number ws t e st
+outside-kept s number word (Some keyword.Phase) ws t none e st = with_phase-kept s number ws t none e st
+outside-kept s number word (Some keyword.End) ws t none e st = absurd (cc)
+outside-kept s number word None ws t none e st = unknown_outside-kept (named s word) t (IsState t) e
+
+unknown_inside-kept : (s : State) (number : ℕ) (word : List ℕ) (o : Option Actor) (ws : List (List ℕ)) (t : State) → named s word ≡ o → unknown_inside s number o ws ≡ Ok t → IsState s → IsState t
+unknown_inside-kept s number word None ws t who e st = absurd (cc)
+unknown_inside-kept s number word (Some actor) ws t who e st =
+    with_line-kept s number actor ws t (border-actor (length s.clients) (length s.readers) actor (named-is s word actor who)) e st
+
+inside-kept : (s : State) (opened number : ℕ) (word : List ℕ) (k : Option Keyword) (ws : List (List ℕ)) (t : State) → s.phase ≡ Some opened → inside s number word k ws ≡ Ok t → IsState s → IsState t
+inside-kept s opened number word (Some keyword.Card) ws t some e st = with_line-kept s number Card ws t tt e st
+inside-kept s opened number word (Some keyword.Client) ws t some e st = absurd (cc)
+inside-kept s opened number word (Some keyword.Reader) ws t some e st = absurd (cc)
+inside-kept s opened number word (Some keyword.Open) ws t some e st = absurd (cc)
+inside-kept s opened number word (Some keyword.Close) ws t some e st = absurd (cc)
+inside-kept s opened number word (Some keyword.Phase) ws t some e st = absurd (cc)
+inside-kept s opened number word (Some keyword.End) ws t some e st = with_end-kept s opened ws t some e st
+inside-kept s opened number word None ws t some e st = unknown_inside-kept s number word (named s word) ws t refl e st
+
+line_at-kept : (o : Option ℕ) (s : State) (number : ℕ) (word : List ℕ) (ws : List (List ℕ)) (t : State) → s.phase ≡ o → line_at o s number word ws ≡ Ok t → IsState s → IsState t
+line_at-kept None s number word ws t is e st = outside-kept s number word (row_of keywords word) ws t is e st
+line_at-kept (Some opened) s number word ws t is e st = inside-kept s opened number word (row_of keywords word) ws t is e st
+
+-- one line more
+pub with_words-kept : (s : State) (number : ℕ) (ws : List (List ℕ)) (t : State) → with_words s number ws ≡ Ok t → IsState s → IsState t
+with_words-kept s number [] t e st = ok_state s t e st
+with_words-kept s number (word ∷ ws) t e st = line_at-kept s.phase s number word ws t refl e st
+
+-- what a value of a line tells
+pub on_line-ok : {X Y : Type 0} (line : ℕ) (r : Result X ScriptWhy) (f : X → Result Y ScriptError) (y : Y) → on_line line r f ≡ Ok y → (x : X) × (r ≡ Ok x) × (f x ≡ Ok y)
+on_line-ok line (Ok x) f y e = (x, refl, e)
+on_line-ok line (Err cause) f y e = absurd (cc)
+
+after-kept : (s : State) (lines : List (ℕ × List (List ℕ))) (t : State) → after s lines ≡ Ok t → IsState s → IsState t
+after-kept s [] t e st = let same : s ≡ t = cc (e) in subst IsState same st
+after-kept s (line ∷ lines) t e st =
+    let next = on_line-ok line.0 (with_words s line.0 line.1) (λ n. after n lines) t e in
+    after-kept next.0 lines t next.2 (with_words-kept s line.0 line.1 next.0 next.1 st)
+
+ok_script : (x script : Script) → ◌≡◌ {A = Result Script ScriptError} (Ok x) (Ok script) → IsScript x → IsScript script
+ok_script x script e h = let same : x ≡ script = cc (e) in subst IsScript same h
+
+ended-is : (s : State) (o : Option ℕ) (script : Script) → ended s o ≡ Ok script → IsState s → IsScript script
+ended-is s (Some opened) script e st = absurd (cc)
+ended-is s None script e st =
+    ok_script _ script e (record {
+      card = st.card;
+      clients = st.clients;
+      readers = st.readers;
+      each_client = st.each_client;
+      each_reader = st.each_reader;
+      clients_differ = st.clients_differ;
+      readers_differ = st.readers_differ;
+      apart = st.apart;
+      body = st.body;
+      phases = let p = st.phases in let few = st.few_phases in omega arith;
+      gone = st.gone;
+      frames = let p = st.played in let few = st.frames in omega arith;
+      laps = let p = st.played in let room = st.laps in omega arith;
+    })
+
+script_at-is : (r : Result State ScriptError) (script : Script) → script_at r ≡ Ok script → ((s : State) → r ≡ Ok s → IsState s) → IsScript script
+script_at-is (Ok s) script e h = ended-is s s.phase script e (h s refl)
+script_at-is (Err x) script e h = absurd (cc)
+
+first_by-ranges : (number : ℕ) (k : Option Keyword) (ws : List (List ℕ)) (card : CardLine) → first_by number k ws ≡ Ok card → IsCardLine card
+first_by-ranges number (Some keyword.Card) ws card e = card_of-ranges number ws card e
+first_by-ranges number (Some keyword.Client) ws card e = absurd (cc)
+first_by-ranges number (Some keyword.Reader) ws card e = absurd (cc)
+first_by-ranges number (Some keyword.Open) ws card e = absurd (cc)
+first_by-ranges number (Some keyword.Close) ws card e = absurd (cc)
+first_by-ranges number (Some keyword.Phase) ws card e = absurd (cc)
+first_by-ranges number (Some keyword.End) ws card e = absurd (cc)
+first_by-ranges number None ws card e = absurd (cc)
+
+card_line-ranges : (number : ℕ) (ws : List (List ℕ)) (card : CardLine) → card_line number ws ≡ Ok card → IsCardLine card
+card_line-ranges number [] card e = absurd (cc)
+card_line-ranges number (word ∷ ws) card e = first_by-ranges number (row_of keywords word) ws card e
+
+script_of_lines-is : (lines : List (ℕ × List (List ℕ))) (script : Script) → script_of_lines lines ≡ Ok script → IsScript script
+script_of_lines-is [] script e = absurd (cc)
+script_of_lines-is (line ∷ lines) script e =
+    let card = on_line-ok line.0 (card_line line.0 line.1) (λ c. script_at (after (begun c) lines)) script e in
+    script_at-is (after (begun card.0) lines) script card.2
+    (λ s r. after-kept (begun card.0) lines s r (begun-kept card.0 (card_line-ranges line.0 line.1 card.0 card.1)))
+
+-- what is read of a text that isn't too long keeps all limits
+pub answers-valid : (lines : List (ℕ × List (List ℕ))) (r : Result Script ScriptError) → Answers (λ s. s) r (script_of_lines lines) → IfOk r IsScript
+answers-valid lines (Ok script) h = script_of_lines-is lines script h
+answers-valid lines (Err e) h = tt

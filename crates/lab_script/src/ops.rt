@@ -1,0 +1,204 @@
+//! The lines of a phase: what each actor can be asked for, by which words.
+ghost use Rattle.std.specs.Prelude.{◌≡◌, ◌≤◌, ◌++◌, OnOk, string_bytes};
+ghost use Rattle.lab_script.specs.Causes.{Gives};
+ghost use Rattle.lab_script.specs.Keys.{row_of};
+ghost use Rattle.lab_script.specs.Lexing.{words_between};
+ghost use Rattle.lab_script.specs.Ops.{card_ops, client_ops, reader_ops, ops_of, with_count, op_with, op_of, op_text, played_by};
+
+use crate::causes::{end_of, first_of};
+use crate::error::ScriptWhy;
+use crate::line::{Actor, Op};
+use crate::values::number_in;
+use snd_base::PcmError;
+use std::alloc::AllocError;
+
+/// What follows an op's word: nothing, or a number up to some limit, which takes the place of
+/// the op's own.
+#[derive(Clone, Copy)]
+pub enum Form {
+    Plain(Op),
+    Counted(Op, u32),
+}
+
+/// How many frames an op can ask for.
+const FRAMES: u32 = 4_194_304;
+
+/// What the card can be asked for.
+fn card_op(word: &[u8]) -> Option<Form>
+    ensures { result ≡ row_of card_ops word.now }
+{
+    if word == b"play".as_slice() {
+        Some(Form::Counted(Op::Play(0), FRAMES))
+    } else if word == b"unplug".as_slice() {
+        Some(Form::Plain(Op::Unplug))
+    } else {
+        None
+    }
+}
+
+/// What a client can be asked for.
+fn client_op(word: &[u8]) -> Option<Form>
+    ensures { result ≡ row_of client_ops word.now }
+{
+    if word == b"write".as_slice() {
+        Some(Form::Counted(Op::Write(0), FRAMES))
+    } else if word == b"start".as_slice() {
+        Some(Form::Plain(Op::Start))
+    } else if word == b"sync".as_slice() {
+        Some(Form::Plain(Op::Sync))
+    } else if word == b"avail".as_slice() {
+        Some(Form::Plain(Op::Avail))
+    } else if word == b"delay".as_slice() {
+        Some(Form::Plain(Op::Delay))
+    } else if word == b"drain".as_slice() {
+        Some(Form::Plain(Op::Drain))
+    } else if word == b"drop".as_slice() {
+        Some(Form::Plain(Op::Drop))
+    } else if word == b"prepare".as_slice() {
+        Some(Form::Plain(Op::Prepare))
+    } else if word == b"pause".as_slice() {
+        Some(Form::Plain(Op::Pause))
+    } else if word == b"resume".as_slice() {
+        Some(Form::Plain(Op::Resume))
+    } else if word == b"rewind".as_slice() {
+        Some(Form::Counted(Op::Rewind(0), FRAMES))
+    } else if word == b"rewindable".as_slice() {
+        Some(Form::Plain(Op::Rewindable))
+    } else if word == b"die".as_slice() {
+        Some(Form::Counted(Op::Die(0), 1_000_000))
+    } else {
+        None
+    }
+}
+
+/// What a reader can be asked for.
+fn reader_op(word: &[u8]) -> Option<Form>
+    ensures { result ≡ row_of reader_ops word.now }
+{
+    if word == b"read".as_slice() {
+        Some(Form::Counted(Op::Read(0), FRAMES))
+    } else if word == b"start".as_slice() {
+        Some(Form::Plain(Op::Start))
+    } else if word == b"sync".as_slice() {
+        Some(Form::Plain(Op::Sync))
+    } else if word == b"avail".as_slice() {
+        Some(Form::Plain(Op::Avail))
+    } else if word == b"drop".as_slice() {
+        Some(Form::Plain(Op::Drop))
+    } else if word == b"prepare".as_slice() {
+        Some(Form::Plain(Op::Prepare))
+    } else if word == b"pause".as_slice() {
+        Some(Form::Plain(Op::Pause))
+    } else if word == b"die".as_slice() {
+        Some(Form::Counted(Op::Die(0), 1_000_000))
+    } else {
+        None
+    }
+}
+
+/// What an actor can be asked for by a word.
+fn form_of(actor: Actor, word: &[u8]) -> Option<Form>
+    ensures { result ≡ row_of (ops_of actor) word.now }
+{
+    match actor {
+        Actor::Card => card_op(word),
+        Actor::Client(_) => client_op(word),
+        Actor::Reader(_) => reader_op(word),
+    }
+}
+
+/// An op with this number in it, where it has one.
+fn with_count(op: Op, n: u32) -> Op
+    ensures { result ≡ with_count op n }
+{
+    match op {
+        Op::Play(_) => Op::Play(n),
+        Op::Write(_) => Op::Write(n),
+        Op::Read(_) => Op::Read(n),
+        Op::Rewind(_) => Op::Rewind(n),
+        Op::Die(_) => Op::Die(n),
+        other => other,
+    }
+}
+
+/// The op of a form and what follows the op's own word.
+fn op_with(form: Form, words: &[u8]) -> Result<Op, ScriptWhy>
+    ensures { Gives (λ o. o) result (op_with form (words_between words.now)) }
+{
+    match form {
+        Form::Plain(op) => {
+            end_of(words)?;
+            Ok(op)
+        }
+        Form::Counted(op, most) => {
+            let (number, rest) = first_of(words)?;
+            let n = number_in(0, u64::from(most), number)?;
+            end_of(rest)?;
+            Ok(with_count(op, n as u32))
+        }
+    }
+}
+
+/// What is asked for after an actor.
+#[tactic(auto, unfolding(crate::specs::Ops::op_of))]
+pub fn op_of(actor: Actor, words: &[u8]) -> Result<Op, ScriptWhy>
+    ensures { Gives (λ o. o) result (op_of actor (words_between words.now)) }
+{
+    let (word, rest) = first_of(words)?;
+    match form_of(actor, word) {
+        None => Err(ScriptWhy::Word),
+        Some(form) => op_with(form, rest),
+    }
+}
+
+/// The frames that the card plays by what is asked for.
+pub fn played_by(op: Op) -> u32
+    ensures { result ≡ played_by op }
+{
+    match op {
+        Op::Play(frames) => frames,
+        _ => 0,
+    }
+}
+
+/// Appends the words of an op to a text, as a script has them.
+///
+/// The one error is that memory ran out.
+pub fn push_op(op: Op, text: &mut String) -> Result<(), AllocError>
+    ensures { OnOk result (string_bytes text.new ≡ string_bytes text.old ++ op_text op) }
+{
+    match op {
+        Op::Play(n) => write!(text, "play {n}"),
+        Op::Unplug => write!(text, "unplug"),
+        Op::Write(n) => write!(text, "write {n}"),
+        Op::Read(n) => write!(text, "read {n}"),
+        Op::Start => write!(text, "start"),
+        Op::Sync => write!(text, "sync"),
+        Op::Avail => write!(text, "avail"),
+        Op::Delay => write!(text, "delay"),
+        Op::Drain => write!(text, "drain"),
+        Op::Drop => write!(text, "drop"),
+        Op::Prepare => write!(text, "prepare"),
+        Op::Pause => write!(text, "pause"),
+        Op::Resume => write!(text, "resume"),
+        Op::Rewind(n) => write!(text, "rewind {n}"),
+        Op::Rewindable => write!(text, "rewindable"),
+        Op::Die(n) => write!(text, "die {n}"),
+        Op::Opens => write!(text, "open"),
+        Op::Closes => write!(text, "close"),
+    }
+}
+
+/// Appends the words of an op to the bytes of a text, as a script has them.
+///
+/// # Errors
+///
+/// `Memory`, where memory ran out.
+pub fn print_op(op: &Op, text: &mut Vec<u8>) -> Result<(), PcmError>
+    ensures { OnOk result (text.new.items ≡ text.old.items ++ op_text op.now) }
+{
+    let mut words = String::new(*text.allocator());
+    push_op(*op, &mut words)?;
+    text.extend_from_slice(words.as_bytes())?;
+    Ok(())
+}

@@ -1,0 +1,48 @@
+-- The seats of all places are joined, one after the other.
+use Rattle.std.proofs.Common.{◌≡◌, List, [], ◌∷◌, ◌++◌, Option, None, Some, get_or, length, append_assoc, arith, ap, sym, ◌∙◌}
+use Rattle.std.proofs.Math.Seq.{get_or-append_seam}
+use Rattle.std.proofs.lemmas.List.{append-nil, length-append, nil_from_length}
+use Rattle.std.proofs.lemmas.Grind.{flat_map-append}
+use Rattle.sum_table.specs.declared.seats.mix.MixSeat.{MixSeat}
+use Rattle.sum_table.specs.declared.view.View.{View}
+use Rattle.sum_table.specs.Joins.{HasJoined, OneRing}
+use Rattle.sum_table.specs.Seats.{key_of, places_of_seat, ring_of, view_of}
+use Rattle.lobby.specs.declared.lobby.Lobby.{Lobby}
+use Rattle.lobby.specs.Lobbies.{JoinsAll, free_seats, key_of_lobby, laid_by, laid_by_all, ring_of_lobby}
+use Rattle.lobby.specs.Seats.{IsPlace, seat_at}
+
+-- some of the seats were joined, and the others are left
+pub record IsJoining (l : Lobby) (whole : MixSeat) (done left : List (Option MixSeat)) : Type 0 where
+  pub parts : done ++ left ≡ free_seats l
+  pub one_ring : OneRing (ring_of whole) (key_of whole) (ring_of_lobby l) (key_of_lobby l)
+  pub places : places_of_seat whole ≡ length done
+  pub laid : (view_of whole).laid ≡ laid_by_all done
+
+laid_by_all-more : (done : List (Option MixSeat)) (s : MixSeat) → laid_by_all (done ++ Some s ∷ []) ≡ laid_by_all done ++ (view_of s).laid
+laid_by_all-more done s = flat_map-append laid_by done (Some s ∷ []) ∙ ap (λ es. laid_by_all done ++ es) (append-nil (view_of s).laid)
+
+-- the seat that is joined next is that of its place
+pub next_place : (l : Lobby) (whole : MixSeat) (done left rest : List (Option MixSeat)) (o : Option MixSeat) (s : MixSeat)
+    → IsJoining l whole done left → left ≡ o ∷ rest → o ≡ Some s → IsPlace (ring_of_lobby l) (key_of_lobby l) (length done) s
+next_place l whole done left rest o s is next same =
+    let items : done ++ o ∷ rest ≡ free_seats l = ap (λ xs. done ++ xs) (sym next) ∙ is.parts in
+    let at : seat_at (free_seats l) (length done) ≡ Some s = ap (λ xs. get_or xs (length done) None) (sym items) ∙ (get_or-append_seam done o rest None ∙ same) in
+    l.placed (length done) s at
+
+pub IsJoining-more : (l : Lobby) (whole joined : MixSeat) (done left rest : List (Option MixSeat)) (o : Option MixSeat) (s : MixSeat)
+    → IsJoining l whole done left → left ≡ o ∷ rest → o ≡ Some s → HasJoined whole joined s → IsJoining l joined (done ++ o ∷ []) rest
+IsJoining-more l whole joined done left rest o s is next same join =
+    let place = next_place l whole done left rest o s is next same in
+    record {
+      parts = append_assoc done (o ∷ []) rest ∙ (ap (λ xs. done ++ xs) (sym next) ∙ is.parts);
+      one_ring = (join.ring ∙ is.one_ring.0, join.key ∙ is.one_ring.1);
+      places = join.places ∙ omega (arith, is.places, place.places, length-append done (o ∷ []));
+      laid =
+          ap (λ (v : View). v.laid) join.view
+          ∙ (ap (λ es. es ++ (view_of s).laid) is.laid ∙ (sym (laid_by_all-more done s) ∙ ap (λ x. laid_by_all (done ++ x ∷ [])) (sym same)));
+    }
+
+pub all_joined : (l : Lobby) (whole : MixSeat) (done left : List (Option MixSeat)) → IsJoining l whole done left → length left ≡ 0 → JoinsAll l whole
+all_joined l whole done left is none =
+    let same : done ≡ free_seats l = sym (append-nil done) ∙ (ap (λ xs. done ++ xs) (sym (nil_from_length left none)) ∙ is.parts) in
+    record { one_ring = is.one_ring; places = is.places ∙ ap length same; laid = is.laid ∙ ap laid_by_all same }

@@ -1,0 +1,76 @@
+-- A seat is split into seats of one place each.
+use Rattle.std.proofs.Common.{◌≡◌, ℕ, ◌+◌, ◌<◌, List, [], ◌∷◌, ◌++◌, Option, None, Some, length, arith, ap, refl, subst, sym, ◌∙◌, inl, inr}
+use Rattle.std.proofs.Math.ListN.{get_or-eq_default}
+use Rattle.std.proofs.lemmas.Bool.{cases_lt}
+use Rattle.std.proofs.lemmas.List.{get_or_append_left, get_or_push, length-append}
+use Rattle.std.proofs.lemmas.Option.{none-some, same_Some}
+use Rattle.sum_table.specs.declared.seats.mix.MixSeat.{MixSeat}
+use Rattle.sum_table.specs.declared.view.View.{View}
+use Rattle.sum_table.specs.Cuts.{part_of}
+use Rattle.sum_table.specs.Joins.{HasSplit}
+use Rattle.sum_table.specs.Seats.{key_of, places_of_seat, ring_of, seen_of, view_of}
+use Rattle.lobby.specs.Lobbies.{IsPart}
+use Rattle.lobby.specs.Seats.{ArePlaces, IsPlace, seat_at}
+
+-- so many seats of one place were split off
+pub record IsSplitting (whole rest : MixSeat) (seats : List (Option MixSeat)) (n : ℕ) : Type 0 where
+  pub ring : ring_of rest ≡ ring_of whole
+  pub key : key_of rest ≡ key_of whole
+  pub seen : seen_of rest ≡ seen_of whole
+  pub laid : (view_of rest).laid ≡ []
+  pub part : part_of (view_of rest) 1 ≡ part_of (view_of whole) 1
+  pub places : places_of_seat rest + n ≡ places_of_seat whole
+  pub count : length seats ≡ n
+  pub each : (place : ℕ) → place < n → (s : MixSeat) × (seat_at seats place ≡ Some s) × IsPart whole place s
+
+-- none yet
+pub IsSplitting-none : (whole : MixSeat) → (view_of whole).laid ≡ [] → IsSplitting whole whole [] 0
+IsSplitting-none whole nothing = record {
+  ring = refl;
+  key = refl;
+  seen = refl;
+  laid = nothing;
+  part = refl;
+  places = omega arith;
+  count = refl;
+  each = λ place below. absurd (omega arith);
+}
+
+-- one more
+pub IsSplitting-more : (whole rest after one : MixSeat) (seats : List (Option MixSeat)) (n : ℕ) → IsSplitting whole rest seats n → HasSplit rest after one 1 n
+    → IsSplitting whole after (seats ++ Some one ∷ []) (n + 1)
+IsSplitting-more whole rest after one seats n is split = record {
+  ring = split.stays.ring ∙ is.ring;
+  key = split.stays.key ∙ is.key;
+  seen = split.stays.seen ∙ is.seen;
+  laid = ap (λ (v : View). v.laid) split.view ∙ is.laid;
+  part = ap (λ v. part_of v 1) split.view ∙ is.part;
+  places = omega (arith, split.places, is.places);
+  count = length-append seats (Some one ∷ []) ∙ ap (λ k. k + 1) is.count;
+  each = λ place below. elim (cases_lt place n) [
+    | inl before ↦
+        let earlier = is.each place before in
+        (earlier.0, get_or_append_left seats (Some one ∷ []) None place (subst (λ k. place < k) (sym is.count) before) ∙ earlier.1, earlier.2)
+    | inr not_before ↦
+        let here : place ≡ n = omega arith in (
+          one,
+          get_or_push seats (Some one) None place (is.count ∙ sym here),
+          subst (λ i. IsPart whole i one) (sym here) (record {
+            is_place = record { of_ring = split.new_ring ∙ is.ring; of_key = split.new_key ∙ is.key; member = split.new_member; places = split.new_places };
+            view = split.new_view ∙ is.part;
+            seen = split.new_seen ∙ is.seen;
+          }),
+        )
+  ];
+}
+
+-- each of them is the seat of its place
+pub ArePlaces-split : (whole rest : MixSeat) (seats : List (Option MixSeat)) (n : ℕ) → IsSplitting whole rest seats n → ArePlaces (ring_of rest) (key_of rest) seats
+ArePlaces-split whole rest seats n is place s at = elim (cases_lt place n) [
+  | inl before ↦
+      let found = is.each place before in
+      let p : IsPlace (ring_of whole) (key_of whole) place found.0 = found.2.is_place in
+      subst (IsPlace (ring_of rest) (key_of rest) place) (same_Some found.0 s (sym found.1 ∙ at))
+      (record { of_ring = p.of_ring ∙ sym is.ring; of_key = p.of_key ∙ sym is.key; member = p.member; places = p.places })
+  | inr past ↦ absurd (none-some s (sym (get_or-eq_default seats None (omega (arith, is.count))) ∙ at))
+]

@@ -1,0 +1,4 @@
+pub mod Lobbies
+pub mod LobbyLaws
+pub mod Loads
+pub mod Seats

@@ -1,0 +1,17 @@
+pub mod Words
+pub mod LineWords
+pub mod Binds
+pub mod Channels
+pub mod Acts
+pub mod Steps
+pub mod Lines
+pub mod Enough
+pub mod Found
+pub mod Whole
+pub mod Plain
+pub mod Again
+pub mod Back
+pub mod Answer
+pub mod Ends
+pub mod Wrong
+pub mod First

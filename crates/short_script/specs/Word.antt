@@ -1,0 +1,63 @@
+-- The lines of a text, the words of a line, and which words are numbers, names and files.
+use Rattle.std.specs.Prelude.{ℕ, Bool, false, ◌&&◌, ◌||◌, not, List, [], ◌∷◌, length, take, drop, option_map, ◌+◌, codes, bytes_eq, Option, Some, None, ◌==◌, nat_le, if◌then◌else◌}
+use Rattle.std.specs.List.{slice_split, position, list_all}
+use Rattle.std.specs.Str.{all_ascii_digits}
+use Rattle.std.specs.Char.{is_ascii_digit}
+use Rattle.std.specs.Str.Parse.{digits_value}
+
+-- a line feed
+abbrev pub is_feed : ℕ → Bool
+is_feed b = b == 10
+
+-- a space
+abbrev pub is_space : ℕ → Bool
+is_space b = b == 32
+
+-- the first line of a text and the text behind its line feed, where there is a line feed
+abbrev pub cut_line : List ℕ → Option (List ℕ × List ℕ)
+cut_line text = option_map (λ i. (take i text, drop (i + 1) text)) (position is_feed text)
+
+-- the words of a line: what stands between its spaces
+abbrev pub words_of : List ℕ → List (List ℕ)
+words_of line = slice_split is_space line
+
+-- a comma
+abbrev pub is_comma : ℕ → Bool
+is_comma b = b == 44
+
+-- the parts of a word: what stands between its commas
+abbrev pub parts_of : List ℕ → List (List ℕ)
+parts_of word = slice_split is_comma word
+
+-- the number that a word means: it has 1 to 19 decimal digits
+abbrev pub number_of : List ℕ → Option ℕ
+number_of word = if nat_le 1 (length word) && nat_le (length word) 19 && all_ascii_digits word then Some (digits_value 10 word) else None
+
+-- a lower-case letter
+abbrev pub is_lower : ℕ → Bool
+is_lower b = nat_le 97 b && nat_le b 122
+
+-- a lower-case letter, a digit or `_`
+abbrev pub is_name_byte : ℕ → Bool
+is_name_byte b = is_lower b || is_ascii_digit b || b == 95
+
+-- the words that no name is
+abbrev pub is_reserved : List ℕ → Bool
+is_reserved word = bytes_eq word (codes "card") || bytes_eq word (codes "client") || bytes_eq word (codes "reader") || bytes_eq word (codes "open") || bytes_eq word (codes "close") || bytes_eq word (codes "phase") || bytes_eq word (codes "end")
+
+-- a word begins with a lower-case letter
+abbrev pub begins_lower : List ℕ → Bool
+begins_lower [] = false
+begins_lower (b ∷ bs) = is_lower b
+
+-- a name: 1 to 32 bytes, a lower-case letter and then lower-case letters, digits and `_`, and no reserved word
+abbrev pub is_name : List ℕ → Bool
+is_name word = begins_lower word && nat_le (length word) 32 && list_all is_name_byte word && not (is_reserved word)
+
+-- a byte of a file's name: a visible one, but `#`
+abbrev pub is_file_byte : ℕ → Bool
+is_file_byte b = nat_le 33 b && nat_le b 126 && not (b == 35)
+
+-- a file's name: 1 to 255 visible bytes without `#`
+abbrev pub is_file : List ℕ → Bool
+is_file word = nat_le 1 (length word) && nat_le (length word) 255 && list_all is_file_byte word

@@ -1,0 +1,131 @@
+//! The lines of a text, the words of a line, and the words that are numbers, names and files.
+ghost use Rattle.std.specs.Prelude.{◌≡◌, ◌≤◌, ◌<◌, ◌∷◌, [], true, length, option_map, IfSome, IfNone, ◌==◌};
+ghost use Rattle.std.specs.List.{list_all, position};
+ghost use Rattle.std.specs.Str.{all_ascii_digits};
+ghost use Rattle.std.specs.Str.Parse.{digits_value};
+ghost use Rattle.short_script.specs.Word.{cut_line, words_of, number_of, is_name, is_name_byte, is_file, is_file_byte, begins_lower, is_reserved};
+ghost use Rattle.short_script.specs.Grammar.{one_of, two_of, first_of};
+
+/// Where a byte stands first.
+pub fn place_of(bytes: &[u8], byte: u8) -> Option<usize>
+    ensures { result ≡ position (λ b. b == byte) bytes.now }
+{
+    bytes.iter().position(|b| *b == byte)
+}
+
+/// The first line of a text and what stands behind its line feed, where there is a line feed.
+pub fn cut_line(text: &[u8]) -> Option<(&[u8], &[u8])>
+    ensures value { option_map (λ c. (c.0.now, c.1.now)) result ≡ cut_line text.now }
+    ensures shorter { IfSome result (λ c. length c.1.now < length text.now) }
+{
+    let end = place_of(text, b'\n')?;
+    Some((&text[..end], &text[end + 1..]))
+}
+
+/// The first word of a line and what stands behind its space, where there is a space.
+pub fn split_word(line: &[u8]) -> Option<(&[u8], &[u8])>
+    ensures some { IfSome result (λ c. words_of line.now ≡ c.0.now ∷ words_of c.1.now) }
+    ensures none { IfNone result (words_of line.now ≡ line.now ∷ []) }
+    ensures first { option_map (λ c. (c.0.now, words_of c.1.now)) result ≡ first_of (words_of line.now) }
+{
+    let end = place_of(line, b' ')?;
+    Some((&line[..end], &line[end + 1..]))
+}
+
+/// Whether each byte of a word is a decimal digit.
+fn are_digits(word: &[u8]) -> bool
+    ensures { result ≡ all_ascii_digits word.now }
+{
+    word.iter().all(|b| b.is_ascii_digit())
+}
+
+/// The number that 1 to 19 decimal digits mean.
+fn digits_value(word: &[u8]) -> u64
+    requires most { length word.now ≤ 19 }
+    requires digits { all_ascii_digits word.now ≡ true }
+    ensures { result ≡ digits_value 10 word.now }
+{
+    let mut value = 0;
+    for b in word {
+        value = value * 10 + u64::from(*b - b'0');
+    }
+    value
+}
+
+/// The number that a word means, where it has 1 to 19 decimal digits.
+pub fn read_number(word: &[u8]) -> Option<u64>
+    ensures { result ≡ number_of word.now }
+{
+    if word.is_empty() || word.len() > 19 {
+        return None;
+    }
+    if !are_digits(word) {
+        return None;
+    }
+    Some(digits_value(word))
+}
+
+/// A lower-case letter, a digit or `_`.
+fn is_name_byte(b: u8) -> bool
+    ensures { result ≡ is_name_byte b }
+{
+    b.is_ascii_lowercase() || b.is_ascii_digit() || b == b'_'
+}
+
+/// Whether each byte of a word can stand in a name.
+fn are_name_bytes(word: &[u8]) -> bool
+    ensures { result ≡ list_all is_name_byte word.now }
+{
+    word.iter().all(|b| is_name_byte(*b))
+}
+
+/// Whether a word begins with a lower-case letter.
+fn begins_lower(word: &[u8]) -> bool
+    ensures { result ≡ begins_lower word.now }
+{
+    match word {
+        [first, ..] => first.is_ascii_lowercase(),
+        [] => false,
+    }
+}
+
+/// Whether a word is one that no name is.
+fn is_reserved(word: &[u8]) -> bool
+    ensures { result ≡ is_reserved word.now }
+{
+    word == b"card".as_slice()
+        || word == b"client".as_slice()
+        || word == b"reader".as_slice()
+        || word == b"open".as_slice()
+        || word == b"close".as_slice()
+        || word == b"phase".as_slice()
+        || word == b"end".as_slice()
+}
+
+/// Whether a word has the form of a name.
+pub fn is_name(word: &[u8]) -> bool
+    ensures { result ≡ is_name word.now }
+{
+    begins_lower(word) && word.len() <= 32 && are_name_bytes(word) && !is_reserved(word)
+}
+
+/// A visible byte, but `#`.
+fn is_file_byte(b: u8) -> bool
+    ensures { result ≡ is_file_byte b }
+{
+    33 <= b && b <= 126 && b != b'#'
+}
+
+/// Whether each byte of a word can stand in a file's name.
+fn are_file_bytes(word: &[u8]) -> bool
+    ensures { result ≡ list_all is_file_byte word.now }
+{
+    word.iter().all(|b| is_file_byte(*b))
+}
+
+/// Whether a word has the form of a file's name.
+pub fn is_file(word: &[u8]) -> bool
+    ensures { result ≡ is_file word.now }
+{
+    !word.is_empty() && word.len() <= 255 && are_file_bytes(word)
+}

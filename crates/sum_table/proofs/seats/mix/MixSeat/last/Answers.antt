@@ -1,0 +1,13 @@
+use Rattle.std.proofs.Common.{◌<◌, Option, ℕ, IfSome, arith, subst, sym, ◌∙◌}
+use Rattle.snd_base.specs.Places.{end_frame}
+use Rattle.mix_core.specs.declared.port.Entry.{Entry}
+use Rattle.sum_table.specs.declared.seats.mix.MixSeat.{MixSeat}
+use Rattle.ring_rule.specs.WordLaws.{suc-le-end_frame}
+use Rattle.sum_table.proofs.Seated.{last_frame-before}
+use Rattle.sum_table.proofs.seats.mix.MixSeat.last.Goals as goal
+
+pub returns-clause-before_end : goal.returns-clause-before_end
+returns-clause-before_end c =
+    let s : MixSeat = c.args.self.now in
+    subst (λ (o : Option ℕ). IfSome o (λ frame. frame < end_frame s.key.geometry)) (s.known.same_last ∙ sym c.last.ensures)
+    (last_frame-before s.seat.me.0.laid (end_frame s.key.geometry) (λ i e there. let fits = suc-le-end_frame s.key.geometry e.frame (s.known.laid i e there).fits in omega (arith, fits)))
