@@ -79,7 +79,6 @@ fn store_lap(writer: &mut WriterSeat<'_>, frame: &[i16]) -> u64
 
 /// Loads the last lap before the position that the reader has seen, and answers the sum of the first channel's samples, without
 /// their signs.
-#[inline(never)]
 fn load_lap(reader: &mut ReaderSeat<'_>, out: &mut [i16]) -> u64
     requires { length out.old ≡ (geometry_of reader.old).channels }
     ensures { seat_view reader.new ≡ seat_view reader.old }
