@@ -1,6 +1,6 @@
 /* The loops of crates/snoop_bench by hand: a ring of 64-bit words, each with one more than the lap of its frame in its upper
  * half, and in its lowest 16 bits its sample plus 2^15. The ring's length is a constant, so nothing is divided. It prints the
- * same lines. */
+ * same lines. CALLED is what stands before the two functions that store and load a frame: nothing, or that they aren't inlined. */
 #include <stdint.h>
 #include <stdio.h>
 #include <stdlib.h>
@@ -11,6 +11,9 @@
 #define SAMPLE 1
 #define OFFSET (1u << 15)
 #define MOST_CHANNELS 8u
+#ifndef CALLED
+#define CALLED
+#endif
 
 /* A ring: word 0 is the position, and the others are the words of its frames and channels. */
 struct ring {
@@ -43,7 +46,7 @@ static uint64_t *words_at(struct ring *ring, uint64_t frame)
 }
 
 /* Stores a frame by one store for each channel. */
-__attribute__((noinline)) static void store_frame(struct ring *ring, const int16_t *frame)
+CALLED static void store_frame(struct ring *ring, const int16_t *frame)
 {
     uint64_t *words = words_at(ring, ring->next);
     uint64_t lap = (ring->next / FRAMES + 1) << 32;
@@ -53,7 +56,7 @@ __attribute__((noinline)) static void store_frame(struct ring *ring, const int16
 }
 
 /* Loads a frame by one load for each channel, while the words have the frame's lap. */
-__attribute__((noinline)) static int load_frame(struct ring *ring, uint64_t frame, int16_t *out)
+CALLED static int load_frame(struct ring *ring, uint64_t frame, int16_t *out)
 {
     uint64_t *words = words_at(ring, frame);
     uint64_t laps = frame / FRAMES + 1;
