@@ -21,8 +21,8 @@ pub use note::SeatNote;
 use parts::Deal;
 pub use player::PlayerSeat;
 use reach::Reach;
-use snd_base::Cursor;
 use ring_rule::LapStart;
+use snd_base::Cursor;
 
 /// The player's seat of a ring and its first mix seat, which has all places, of the ring's first seat.
 pub(crate) fn deal<'a>(ring: &'a Shared, first: Seat, key: Key) -> (PlayerSeat<'a>, MixSeat<'a>)

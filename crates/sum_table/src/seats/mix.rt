@@ -7,10 +7,10 @@ ghost use Rattle.ring_rule.specs.Spots.{IsLapStart};
 
 use super::plays::{Exchange, Locate, Look};
 use super::reach::Reach;
-use ring_rule::{LapStart, Spot};
 use crate::rule::{Seat, Shared};
 use crate::view::Key;
 use mix_core::{Entry, Kind, Position};
+use ring_rule::{LapStart, Spot};
 use snd_base::Steps;
 use std::sync::ledger::Ledger;
 
