@@ -12,7 +12,7 @@ use Rattle.card_player.specs.Plays.{HasPlayed, ends_period, frame_of, geometry_o
 use Rattle.snoop_table.specs.declared.seats.writer.WriterSeat.{WriterSeat}
 use Rattle.snoop_table.specs.declared.view.Track.{Track}
 use Rattle.snoop_table.specs.Writers.{HasPublished, HasStored, desk_of, next_frame, writer_track}
-use Rattle.card_sim.specs.Runs.{HasCaptured, RunsFrames}
+use Rattle.card_sim.specs.Runs.{HasCaptured, RunsFrames, RunsInOrder}
 use Rattle.card_sim.specs.Steps.{AreInStep}
 
 pub HasCaptured-none : (w : WriterSeat) → HasCaptured w w [] []
@@ -80,8 +80,9 @@ pub RunsFrames-published : (p q r : CardPlayer) (w v u : WriterSeat) (period n :
     → ends_period period (frame_of p) n ≡ false
     → HasPlayed (seat_of q) (seat_of r) [] (frame_of q ∷ []) → HasCaptured v u [] (frame_of q ∷ [])
     → next_of_player (seat_of r) ≡ next_of_player (seat_of q) → AreInStep r u
+    → RunsInOrder period n p w q v captured old new
     → RunsFrames p w r u period n captured old new
-RunsFrames-published p q r w v u period n captured old new filled caught not_ended played published stays in_step =
+RunsFrames-published p q r w v u period n captured old new filled caught not_ended played published stays in_step in_order =
     let end_is : frame_of q ≡ frame_of p + n = ap (λ (x : Cursor). x.frame) filled.next in
     let positions : periods_to period (frame_of p) n ++ frame_of q ∷ [] ≡ positions_of period (frame_of p) n =
     periods_to-open period (frame_of p) n (frame_of q) not_ended end_is in
@@ -95,6 +96,7 @@ RunsFrames-published p q r w v u period n captured old new filled caught not_end
       next = stays ∙ filled.next;
       in_step = in_step;
       rest = filled.rest;
+      in_order = (q, v, in_order);
     }
 
 -- the end is a multiple of the period: it is published already
@@ -102,8 +104,9 @@ pub RunsFrames-ended : (p q : CardPlayer) (w v : WriterSeat) (period n : ℕ) (c
     → HasFilled (seat_of p) (seat_of q) period n old new
     → HasCaptured w v (samples_of p n captured) (periods_to period (frame_of p) n)
     → ends_period period (frame_of p) n ≡ true → AreInStep q v
+    → RunsInOrder period n p w q v captured old new
     → RunsFrames p w q v period n captured old new
-RunsFrames-ended p q w v period n captured old new filled caught ended in_step =
+RunsFrames-ended p q w v period n captured old new filled caught ended in_step in_order =
     let positions : periods_to period (frame_of p) n ≡ positions_of period (frame_of p) n = periods_to-ended period (frame_of p) n ended in
     record {
       played = subst (λ (ps : List ℕ). HasPlayed (seat_of p) (seat_of q) (samples_of p n new) ps) positions filled.played;
@@ -111,4 +114,5 @@ RunsFrames-ended p q w v period n captured old new filled caught ended in_step =
       next = filled.next;
       in_step = in_step;
       rest = filled.rest;
+      in_order = (q, v, in_order);
     }

@@ -4,7 +4,8 @@ use Rattle.std.proofs.lemmas.List.{drop-take}
 use Rattle.snd_base.specs.declared.geometry.Geometry.{Geometry}
 use Rattle.snd_base.specs.declared.places.Cursor.{Cursor}
 use Rattle.sum_table.specs.declared.view.Key.{Key}
-use Rattle.card_player.specs.Plays.{at_frame, geometry_of}
+use Rattle.card_player.specs.Plays.{at_frame, frame_of, geometry_of}
+use Rattle.snoop_table.specs.Writers.{next_frame}
 use Rattle.card_sim.specs.RunLaws.{HasCaptured-stored}
 use Rattle.card_sim.specs.Runs.{HasCaptured}
 use Rattle.card_sim.proofs.run.run_frame.Goals as goal
@@ -22,9 +23,12 @@ returns c =
     subst (λ (xs : List ℤ). HasCaptured c.args.writer.now c.store_frame.new.self xs [])
     (range_is c.args.at c.geometry-channels.result.channels (geometry_of c.args.player.now).channels c.args.captured.now same)
     (HasCaptured-stored c.args.writer.now c.store_frame.new.self (slice_range c.args.captured.now c.args.at (c.args.at + c.geometry-channels.result.channels)) c.in-Ok.ensures.ok) in
+    let ahead : next_frame c.store_frame.new.self ≡ frame_of c.args.player.now + 1 =
+    ap (λ (w : Cursor). w.frame) c.in-Ok.ensures.ok.next ∙ ap (λ (n : ℕ). n + 1) (sym (ap (λ (w : Cursor). w.frame) c.requires.in_step.next)) in
     record {
-      takes = c.take_stored.ensures;
       stored = stored;
+      ahead = ahead;
+      takes = c.take_stored.ensures;
       in_step = record {
         geometry = ap (λ (k : Key). k.geometry) c.take_stored.ensures.played.goes.key ∙ (c.requires.in_step.geometry ∙ sym c.in-Ok.ensures.ok.geometry);
         next = c.take_stored.ensures.next ∙ sym (ap (λ (w : Cursor). record { frame = w.frame; channel = 0 }) c.in-Ok.ensures.ok.next ∙ ap (λ (n : ℕ). at_frame (n + 1)) (sym (ap (λ (w : Cursor). w.frame) c.requires.in_step.next)));
