@@ -21,8 +21,9 @@ use Rattle.mix_core.specs.OwnLaws.{marks_of-other, marks_of-own}
 use Rattle.mix_core.specs.Sound.{IsNow, IsSound}
 use Rattle.mix_core.specs.Stands.{Agrees}
 use Rattle.mix_core.specs.View.{View, marks_at, word_at}
-use Rattle.mix_core.proofs.Lists.{at-more_elsewhere, at-more_here, cases_eq, is_taken-more, total-more_elsewhere, total-more_here}
+use Rattle.mix_core.proofs.Lists.{at-more_elsewhere, at-more_here, is_taken-more, total-more_elsewhere, total-more_here}
 use Rattle.mix_core.proofs.Words.{words-taken, words-written}
+use Rattle.std.proofs.lemmas.Bool.{cases_eq}
 
 -- a core after the next word was taken, and after an entry was laid, with a new word there
 abbrev pub taken_view : View → ℕ → View

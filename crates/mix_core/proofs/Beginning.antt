@@ -17,7 +17,7 @@ use Rattle.mix_core.specs.Marks.{start_marks}
 use Rattle.mix_core.specs.Stands.{Stands}
 use Rattle.mix_core.specs.View.{View, word_at}
 use Rattle.mix_core.proofs.Soundness.{HoldsAtMost-empty}
-use Rattle.mix_core.proofs.Words.{word_index-lt}
+use Rattle.snd_base.specs.PlaceLaws.{word_index-lt}
 
 -- where everybody begins
 abbrev pub start : Geometry → Cursor

@@ -18,10 +18,11 @@ use Rattle.mix_core.specs.Sound.{AreWithin, IsNow, IsSound}
 use Rattle.mix_core.specs.View.{View, cursor_at, marks_at, word_at}
 use Rattle.mix_core.proofs.Agreement.{laid_view}
 use Rattle.mix_core.proofs.History.{Stands-laid, untaken-now}
-use Rattle.mix_core.proofs.Soundness.{AreWithin-added, AreWithin-withdrawn, HoldsMoreAt, holds-added, holds-withdrawn, suc-le-end_frame}
+use Rattle.mix_core.proofs.Soundness.{AreWithin-added, AreWithin-withdrawn, HoldsMoreAt, holds-added, holds-withdrawn}
 use Rattle.mix_core.proofs.Words.{IsNow-of}
 use mir.Syntax.{w16}
 use mir.Val.{SFits}
+use Rattle.snd_base.specs.PlaceLaws.{suc-le-end_frame}
 
 pub record CanLay (v : View) (e : Entry) : Type 0 where
   pub member : e.member < length v.marks

@@ -12,13 +12,6 @@ use Rattle.mix_core.specs.declared.event.Taken.{Taken}
 use Rattle.mix_core.specs.Laid.{at, is_at, total, value_of}
 use Rattle.mix_core.specs.History.{is_taken}
 
--- two numbers are equal, or not
-pub cases_eq : (a b : ℕ) → (a ≡ b) ⊎ (a ≢ b)
-cases_eq a b = elim (cases_lt a b) [
-  | inl below ↦ inr (λ e. omega arith)
-  | inr not_below ↦ elim (cases_lt b a) [ inl above ↦ inr (λ e. omega arith) | inr not_above ↦ inl (omega arith) ]
-]
-
 -- one more item that gives something, and one that gives nothing
 pub filter_map-some : {X Y : Type 0} (h : X → Option Y) (xs : List X) (x : X) (y : Y) → h x ≡ Some y → filter_map h (xs ++ x ∷ []) ≡ filter_map h xs ++ y ∷ []
 filter_map-some h xs x y e = rw (filter_map-append h xs (x ∷ []), e) refl

@@ -8,7 +8,7 @@ use Rattle.std.proofs.lemmas.List.Elements.{All-set}
 use Rattle.std.proofs.lemmas.List.Sums.{sum_by-le, sum_by-set}
 use Rattle.std.proofs.lemmas.Bool.{cases_Bool}
 use Rattle.snd_base.specs.declared.geometry.Geometry.{Geometry}
-use Rattle.snd_base.specs.PlaceLaws.{first_free-behind_grows, first_free-behind_low}
+use Rattle.snd_base.specs.PlaceLaws.{first_free-behind_grows, first_free-behind_low, suc-le-end_frame}
 use Rattle.snd_base.specs.Places.{IsFrom, behind, end_frame, first_frame, first_free, lap, word_index}
 use Rattle.lap_word.specs.Word.{StandsFor, StandsFor-fields, count_of, lap_of, sum_of}
 use Rattle.mix_core.specs.declared.port.Entry.{Entry}
@@ -159,13 +159,6 @@ IsSound-published v s = record {
   marks_within = s.marks_within;
   words_now = s.words_now;
 }
-
--- a frame of a lap that fits a word is not the last of all
-pub suc-le-end_frame : (g : Geometry) (f : ℕ) → lap g f < 4294967295 → f + 1 ≤ end_frame g
-suc-le-end_frame g f fits =
-    let some : 0 < g.frames = omega (arith, g.frames_least) in
-    let below : f < 4294967295 * g.frames = (div-lt_iff_lt-mul some).0 fits in
-    omega arith
 
 -- the next word was taken
 pub IsSound-taken : (v : View) (word : ℕ) → IsSound v → lap v.geometry v.next.frame < 4294967295

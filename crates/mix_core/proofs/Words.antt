@@ -3,23 +3,15 @@ use Rattle.std.proofs.Common.{◌≡◌, ◌≢◌, ℕ, ◌+◌, ◌*◌, ◌%�
 use Rattle.std.proofs.lemmas.List.{get_or-set_same, get_or-set_other}
 use Rattle.std.proofs.lemmas.Nat.{mul-add-lt}
 use Rattle.std.proofs.Math.Nat.{add-mod_right, mod-lt}
-use Rattle.std.proofs.lemmas.Bool.{cases_lt}
+use Rattle.std.proofs.lemmas.Bool.{cases_eq, cases_lt}
 use Rattle.std.proofs.lemmas.Bool.Decides.{nat_tests}
 use Rattle.snd_base.specs.declared.geometry.Geometry.{Geometry}
 use Rattle.snd_base.specs.declared.places.Cursor.{Cursor}
-use Rattle.snd_base.specs.PlaceLaws.{first_free-behind_grows, first_free-behind_low, div-lt_same, mod-same, mod-window, word_index-same}
+use Rattle.snd_base.specs.PlaceLaws.{div-lt_same, first_free-behind_grows, first_free-behind_low, mod-same, mod-window, word_index-lt, word_index-same}
 use Rattle.snd_base.specs.Places.{behind, first_free, lap, slot, word_index}
 use Rattle.lap_word.specs.Word.{lap_of}
 use Rattle.mix_core.specs.Sound.{IsNow, IsSound}
 use Rattle.mix_core.specs.View.{View, word_at}
-use Rattle.mix_core.proofs.Lists.{cases_eq}
-
--- each frame and channel has a word
-pub word_index-lt : (g : Geometry) (f c : ℕ) → c < g.channels → word_index g f c < g.frames * g.channels
-word_index-lt g f c in_range =
-    let below : slot g f < g.frames = mod-lt f (omega (arith, g.frames_least)) in
-    let place : slot g f * g.channels + c < g.channels * g.frames = mul-add-lt (slot g f) g.channels c g.frames below in_range in
-    grind arith
 
 -- two frames and channels that the ring has now and that have one word are one
 pub IsNow-same : (g : Geometry) (at : Cursor) (f c k d : ℕ) → IsNow g at f c → IsNow g at k d → word_index g f c ≡ word_index g k d → (f ≡ k) × (c ≡ d)

@@ -3,11 +3,11 @@ use Rattle.std.specs.Prelude.{◌≡◌, ◌≢◌, ◌⊎◌, ℕ, zero, suc, �
 use Rattle.std.specs.List.{slice_index_or}
 use Rattle.std.proofs.Common.{get_or, set, cond, inl, inr, arith, subst, sym, refl, ap, ◌∙◌}
 use Rattle.std.proofs.Math.ListN.{replicate}
-use Rattle.std.proofs.lemmas.Bool.{false≢true}
+use Rattle.std.proofs.lemmas.Bool.{cases_eq, false≢true}
 use Rattle.std.proofs.lemmas.Bool.Decides.{nat_tests}
 use Rattle.std.proofs.lemmas.List.{get_or-set_same, get_or-set_other}
 use Rattle.ring_rule.specs.Notes.{NeverFall, later_note, later_notes}
-use Rattle.ring_rule.specs.WordLaws.{NotPast-trans, cases_eq}
+use Rattle.ring_rule.specs.WordLaws.{NotPast-trans}
 use Rattle.ring_rule.specs.Words.{NotPast, rank}
 
 abbrev pub is_noted : Option ℕ → Bool

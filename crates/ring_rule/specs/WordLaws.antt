@@ -1,28 +1,14 @@
 -- Laws of the words of a ring, where they are, and what is not past them.
 use Rattle.std.specs.Prelude.{◌≡◌, ◌≢◌, ◌⊎◌, ℕ, zero, suc, ◌+◌, ◌*◌, ◌/◌, ◌<◌, ◌≤◌, List, [], ◌∷◌, length}
-use Rattle.std.proofs.Common.{get_or, set, inl, inr, arith, subst, sym, refl, ap, ◌∙◌}
-use Rattle.std.proofs.lemmas.Bool.{cases_lt}
+use Rattle.std.proofs.Common.{get_or, set, inl, inr, arith, subst, sym, refl, ap}
+use Rattle.std.proofs.lemmas.Bool.{cases_eq, cases_lt}
 use Rattle.std.proofs.lemmas.List.{get_or-set_same, get_or-set_other}
 use Rattle.std.proofs.lemmas.Nat.{mul-add-lt}
 use Rattle.std.proofs.Math.Nat.{div-lt_iff_lt-mul, mod-lt}
 use Rattle.snd_base.specs.declared.geometry.Geometry.{Geometry}
-use Rattle.snd_base.specs.PlaceLaws.{word_index-same}
+use Rattle.snd_base.specs.PlaceLaws.{word_index-lt, word_index-same}
 use Rattle.snd_base.specs.Places.{end_frame, lap, slot, word_index}
 use Rattle.ring_rule.specs.Words.{NotPast, index_of, rank, words_of}
-
--- two numbers are equal, or not
-pub cases_eq : (a b : ℕ) → (a ≡ b) ⊎ (a ≢ b)
-cases_eq a b = elim (cases_lt a b) [
-  | inl below ↦ inr (λ e. omega arith)
-  | inr not_below ↦ elim (cases_lt b a) [ inl above ↦ inr (λ e. omega arith) | inr not_above ↦ inl (omega arith) ]
-]
-
--- each frame and channel has a word of its slot and channel
-pub word_index-lt : (g : Geometry) (f c : ℕ) → c < g.channels → word_index g f c < g.frames * g.channels
-word_index-lt g f c in_range =
-    let below : slot g f < g.frames = mod-lt f (omega (arith, g.frames_least)) in
-    let place : slot g f * g.channels + c < g.channels * g.frames = mul-add-lt (slot g f) g.channels c g.frames below in_range in
-    grind arith
 
 pub index_of-lt : (g : Geometry) (f c : ℕ) → c < g.channels → index_of g f c < words_of g
 index_of-lt g f c in_range = omega (arith, word_index-lt g f c in_range)
@@ -31,13 +17,6 @@ pub index_of-same : (g : Geometry) (f c k d : ℕ) → c < g.channels → d < g.
 index_of-same g f c k d c_in d_in same =
     let inner : word_index g f c ≡ word_index g k d = omega (arith, same) in
     word_index-same g f c k d c_in d_in inner
-
--- a frame whose lap fits a word has a next one up to the end, and no frame up to the end has a lap past the last
-pub suc-le-end_frame : (g : Geometry) (f : ℕ) → lap g f < 4294967295 → f + 1 ≤ end_frame g
-suc-le-end_frame g f fits =
-    let some : 0 < g.frames = omega (arith, g.frames_least) in
-    let below : f < 4294967295 * g.frames = (div-lt_iff_lt-mul some).0 fits in
-    omega arith
 
 pub lap-le : (g : Geometry) (f : ℕ) → f ≤ end_frame g → lap g f ≤ 4294967295
 lap-le g f within =

@@ -1,12 +1,12 @@
 -- Laws of places: how a cursor moves, and which frames share a word of the ring.
 use Rattle.std.specs.Prelude.{◌≡◌, ℕ, ◌+◌, ◌-◌, ◌*◌, ◌/◌, ◌%◌, ◌<◌, ◌≤◌, ◌==◌, ◌&&◌, ◌||◌, nat_lt}
 use Rattle.std.proofs.Common.{arith, ap, sym, ◌∙◌}
-use Rattle.std.proofs.Math.Nat.{lt_of_mul-lt-mul_left, mul-le-mul_left, div-add-mod, mod-lt, add-mul-mod_self_left}
-use Rattle.std.proofs.lemmas.Nat.{div-add-mod', div-mul-add, mod-mul-add, same_from_place}
+use Rattle.std.proofs.Math.Nat.{lt_of_mul-lt-mul_left, mul-le-mul_left, div-add-mod, div-lt_iff_lt-mul, mod-lt, add-mul-mod_self_left}
+use Rattle.std.proofs.lemmas.Nat.{div-add-mod', div-mul-add, mod-mul-add, mul-add-lt, same_from_place}
 use Rattle.std.proofs.lemmas.Bool.Decides.{nat_tests}
 use Rattle.snd_base.specs.declared.geometry.Geometry.{Geometry}
 use Rattle.snd_base.specs.declared.places.Cursor.{Cursor}
-use Rattle.snd_base.specs.Places.{IsFrom, behind, first_free, next_word, slot, word_index}
+use Rattle.snd_base.specs.Places.{IsFrom, behind, end_frame, first_free, lap, next_word, slot, word_index}
 
 -- behind a frame and channel, the channels up to this one go on with the next frame
 pub first_free-behind_low : (g : Geometry) (f c d : ℕ) → c < g.channels → d ≤ c → first_free (behind g f c) d ≡ f + 1
@@ -95,3 +95,17 @@ next_word-suc g n =
 -- two places that have one word of the ring have one slot and one channel
 pub word_index-same : (g : Geometry) (f c k d : ℕ) → c < g.channels → d < g.channels → word_index g f c ≡ word_index g k d → (slot g f ≡ slot g k) × (c ≡ d)
 word_index-same g f c k d c_in d_in same = same_from_place (slot g f) c (slot g k) d g.channels c_in d_in same
+
+-- each frame and channel has a word of its slot and channel
+pub word_index-lt : (g : Geometry) (f c : ℕ) → c < g.channels → word_index g f c < g.frames * g.channels
+word_index-lt g f c in_range =
+    let below : slot g f < g.frames = mod-lt f (omega (arith, g.frames_least)) in
+    let place : slot g f * g.channels + c < g.channels * g.frames = mul-add-lt (slot g f) g.channels c g.frames below in_range in
+    grind arith
+
+-- a frame whose lap fits a word has a next one up to the end
+pub suc-le-end_frame : (g : Geometry) (f : ℕ) → lap g f < 4294967295 → f + 1 ≤ end_frame g
+suc-le-end_frame g f fits =
+    let some : 0 < g.frames = omega (arith, g.frames_least) in
+    let below : f < 4294967295 * g.frames = (div-lt_iff_lt-mul some).0 fits in
+    omega arith

@@ -1,22 +1,21 @@
 -- The load of a frame by a turn, channel by channel.
-use Rattle.std.proofs.Common.{◌≡◌, ◌≢◌, ℕ, zero, suc, ◌+◌, ◌<◌, ◌≤◌, Some, List, [], ◌∷◌, ◌++◌, All, length, get_or, set, replicate, ℤ, pos, inl, inr, arith, subst, sym, refl, ap, ◌∙◌}
-use Rattle.std.proofs.lemmas.List.{get_or-set_same, get_or-set_other, length-set, replicate-append-replicate}
+use Rattle.std.proofs.Common.{◌≡◌, ◌≢◌, ℕ, zero, suc, ◌+◌, ◌<◌, ◌≤◌, Some, List, [], ◌∷◌, All, length, get_or, set, replicate, ℤ, pos, inl, inr, arith, subst, sym, refl, ap, ◌∙◌}
+use Rattle.std.proofs.lemmas.List.{get_or-set_same, get_or-set_other, length-set}
 use Rattle.snd_base.specs.declared.places.Cursor.{Cursor}
 use Rattle.snd_base.specs.Places.{first_frame, lap}
 use Rattle.mix_core.specs.declared.gate.Pass.{Pass}
 use Rattle.mix_core.specs.declared.gate.Pass.TheVariants.{Go, Stop}
 use Rattle.mix_core.specs.declared.gate.StepKind.{StepKind}
 use Rattle.mix_core.specs.declared.gate.StepKind.TheVariants.{Look}
-use Rattle.mix_core.specs.Gate.{AsksCompose}
 use Rattle.snoop_core.specs.declared.port.Frame.{Frame}
 use Rattle.snoop_core.specs.declared.port.Got.TheVariants.{Whole, Overtaken, Stopped}
 use Rattle.snoop_core.specs.declared.turn.SnoopTurn.{SnoopTurn}
 use Rattle.snoop_core.specs.Port.{Gets, frame_of}
 use Rattle.snoop_core.specs.Stored.{IsCaptured, sample_at}
-use Rattle.snoop_core.specs.StoredLaws.{cases_eq}
 use Rattle.snoop_core.specs.Turn.{IsSame, TurnFinds, TurnGot, TurnLoaded, core_of, shown, view_of_turn}
 use Rattle.snoop_core.specs.View.{IsFoundWord, Represents, View, geometry_of, next_frame, word_at}
 use Rattle.snoop_core.specs.Word.{laps_of, sample_of}
+use Rattle.std.proofs.lemmas.Bool.{cases_eq}
 
 -- a published frame is not stored over
 pub record IsKept (v : View) (f : ℕ) : Type 0 where

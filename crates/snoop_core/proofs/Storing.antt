@@ -6,24 +6,12 @@ use Rattle.std.proofs.lemmas.Nat.{mul-add-lt}
 use Rattle.std.proofs.Math.Nat.{div-lt_iff_lt-mul, mod-lt}
 use Rattle.snd_base.specs.declared.geometry.Geometry.{Geometry}
 use Rattle.snd_base.specs.declared.places.Cursor.{Cursor}
-use Rattle.snd_base.specs.PlaceLaws.{word_index-same}
+use Rattle.snd_base.specs.PlaceLaws.{suc-le-end_frame, word_index-lt, word_index-same}
 use Rattle.snd_base.specs.Places.{behind, end_frame, lap, slot, word_index}
 use Rattle.snoop_core.specs.Ring.{ArePartStored, HoldsSamples, IsFrameStored, IsSampleStored, IsSoundRing, RingView, after_samples, word_in}
 use Rattle.snoop_core.specs.Stored.{next_at}
 use Rattle.snoop_core.specs.StoredLaws.{HaveLaps-written, HoldLast-written, IsWritten, next_at-more}
 use Rattle.snoop_core.specs.Word.{HoldsSample}
-
-pub word_index-lt : (g : Geometry) (f c : ℕ) → c < g.channels → word_index g f c < g.frames * g.channels
-word_index-lt g f c in_range =
-    let below : slot g f < g.frames = mod-lt f (omega (arith, g.frames_least)) in
-    let place : slot g f * g.channels + c < g.channels * g.frames = mul-add-lt (slot g f) g.channels c g.frames below in_range in
-    grind arith
-
-pub suc-le-end_frame : (g : Geometry) (f : ℕ) → lap g f < 4294967295 → f + 1 ≤ end_frame g
-suc-le-end_frame g f fits =
-    let some : 0 < g.frames = omega (arith, g.frames_least) in
-    let below : f < 4294967295 * g.frames = (div-lt_iff_lt-mul some).0 fits in
-    omega arith
 
 -- one word of the list was written
 written : (g : Geometry) (next : Cursor) (words : List ℕ) (new : ℕ) → length words ≡ g.frames * g.channels → next.channel < g.channels

@@ -1,7 +1,7 @@
 -- One more sample is stored, and what a word of a frame and channel tells.
 use Rattle.std.specs.Prelude.{◌≡◌, ◌≢◌, ℕ, ◌+◌, ◌-◌, ◌*◌, ◌/◌, ◌%◌, ◌<◌, ◌≤◌, List, [], ◌∷◌, ◌++◌, length, ℤ, pos, ◌⊎◌}
 use Rattle.std.proofs.Common.{inl, inr, arith, subst, sym, ap, ◌∙◌}
-use Rattle.std.proofs.lemmas.Bool.{cases_lt}
+use Rattle.std.proofs.lemmas.Bool.{cases_eq, cases_lt}
 use Rattle.std.proofs.lemmas.Bool.Decides.{nat_tests}
 use Rattle.std.proofs.lemmas.List.{get_or_append_left, get_or_at}
 use Rattle.std.proofs.Math.Nat.{add-mod_right, div-mul-le_self, mod-lt, mul-le-mul_left}
@@ -13,12 +13,6 @@ use Rattle.snd_base.specs.Places.{behind, first_frame, first_free, lap, next_wor
 use Rattle.snoop_core.specs.Stored.{HaveLaps, HoldLast, IsCaptured, IsLast, IsUnused, next_at, place_of, sample_at}
 use Rattle.snoop_core.specs.Word.{HoldsSample, HoldsSample-fields, laps_of, sample_of}
 use Rattle.snoop_core.specs.declared.port.Frame.{Frame}
-
-pub cases_eq : (a b : ℕ) → (a ≡ b) ⊎ (a ≢ b)
-cases_eq a b = elim (cases_lt a b) [
-  | inl below ↦ inr (λ e. omega arith)
-  | inr not_below ↦ elim (cases_lt b a) [ inl above ↦ inr (λ e. omega arith) | inr not_above ↦ inl (omega arith) ]
-]
 
 -- two frames are of one slot and channel, or not
 pub slot_cases : (g : Geometry) (f c k d : ℕ) → ((slot g f ≡ slot g k) × (c ≡ d)) ⊎ (¬ ((slot g f ≡ slot g k) × (c ≡ d)))

@@ -11,7 +11,7 @@ use Rattle.snd_base.specs.Places.{first_frame, first_free, lap}
 use Rattle.ring_rule.specs.NoteLaws.{noted_set}
 use Rattle.ring_rule.specs.PositionLaws.{IsPosition-last}
 use Rattle.ring_rule.specs.Positions.{IsPosition}
-use Rattle.ring_rule.specs.WordLaws.{cases_eq, set_read}
+use Rattle.ring_rule.specs.WordLaws.{set_read}
 use Rattle.ring_rule.specs.Words.{NotPast, index_of}
 use Rattle.snoop_core.specs.declared.port.Frame.{Frame}
 use Rattle.snoop_core.specs.Port.{frame_of}
@@ -22,6 +22,7 @@ use Rattle.snoop_table.specs.declared.view.Track.{Track}
 use Rattle.snoop_table.specs.declared.view.View.{View}
 use Rattle.snoop_table.specs.Captured.{AreViews, Holds, IsPart, IsRing, IsSample, IsView, next_of, position_of, word_in}
 use Rattle.snoop_table.specs.Steps.{Finds, IsNext, located, looked, samples_before, with_note, with_position, with_sample}
+use Rattle.std.proofs.lemmas.Bool.{cases_eq}
 
 -- what the rule says of some words and views, with the writer's track
 pub record IsSo (g : Geometry) (words : List ℕ) (views : List View) (at : ℕ) (t : Track) : Type 0 where

@@ -9,7 +9,7 @@ use Rattle.lap_word.specs.Position.{gone_in, position_in, word_of-fields}
 use Rattle.mix_core.specs.declared.port.Position.{Position}
 use Rattle.ring_rule.specs.NoteLaws.{NeverFall-same, NeverFall-set}
 use Rattle.ring_rule.specs.Notes.{NeverFall}
-use Rattle.ring_rule.specs.WordLaws.{cases_eq, index_of-lt}
+use Rattle.ring_rule.specs.WordLaws.{index_of-lt}
 use Rattle.ring_rule.specs.Words.{index_of}
 use Rattle.snoop_core.specs.Word.{laps_of, sample_of}
 use Rattle.snoop_table.specs.declared.seats.reader.ReaderSeat.{ReaderSeat}
@@ -19,6 +19,7 @@ use Rattle.snoop_table.specs.Known.{IsReader}
 use Rattle.snoop_table.specs.Readers.{HasLocated, HasLooked, view_of}
 use Rattle.snoop_table.specs.Steps.{IsNext, located, looked, with_note, with_position, with_sample}
 use Rattle.snoop_table.proofs.Keeps.{locates, looks}
+use Rattle.std.proofs.lemmas.Bool.{cases_eq}
 
 -- a load of the position
 pub may_locate : (s : ReaderSeat) (slots : ℕ) → Allows (Holds s.ring.now.key) slots s.seat.id s.seat.me 0 (λ n. n) (located (step slots 0 0 0 none) s.seat.me)

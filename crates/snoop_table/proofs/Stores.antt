@@ -11,12 +11,12 @@ use Rattle.atomic_table.specs.Table.{Act, Allows, Me, State, Valid, carried_afte
 use Rattle.atomic_table.proofs.Lists.{at_snoc}
 use Rattle.snd_base.specs.declared.geometry.Geometry.{Geometry}
 use Rattle.snd_base.specs.declared.places.Cursor.{Cursor}
-use Rattle.snd_base.specs.PlaceLaws.{div-lt_same}
+use Rattle.snd_base.specs.PlaceLaws.{div-lt_same, suc-le-end_frame}
 use Rattle.snd_base.specs.Places.{behind, end_frame, first_frame, first_free, lap}
 use Rattle.lap_word.specs.Position.{word_of}
 use Rattle.ring_rule.specs.PositionLaws.{IsPosition-last, IsPosition-more, Rising-more, last_of-more}
 use Rattle.ring_rule.specs.Positions.{IsPosition}
-use Rattle.ring_rule.specs.WordLaws.{NotPast-position, NotPast-set, index_of-lt, index_of-same, suc-le-end_frame}
+use Rattle.ring_rule.specs.WordLaws.{NotPast-position, NotPast-set, index_of-lt, index_of-same}
 use Rattle.ring_rule.specs.Words.{index_of, rank}
 use Rattle.snoop_core.specs.Stored.{HoldLast, IsLast, IsUnused, sample_at}
 use Rattle.snoop_core.specs.StoredLaws.{HoldLast-written, IsWritten, next_at-channel, next_at-grows, next_at-more}

@@ -8,12 +8,11 @@ use Rattle.std.proofs.Math.Nat.{lt_of_mul-lt-mul_left, mul-le-mul_left}
 use Rattle.atomic_table.specs.Table.{Allows, Me, step}
 use Rattle.snd_base.specs.declared.geometry.Geometry.{Geometry}
 use Rattle.snd_base.specs.declared.places.Cursor.{Cursor}
-use Rattle.snd_base.specs.PlaceLaws.{div-suc_high, div-suc_low, mod-suc_high, mod-suc_low}
+use Rattle.snd_base.specs.PlaceLaws.{div-suc_high, div-suc_low, mod-suc_high, mod-suc_low, suc-le-end_frame}
 use Rattle.snd_base.specs.Places.{behind, end_frame, first_frame, lap, slot}
 use Rattle.lap_word.specs.Position.{word_of}
 use Rattle.ring_rule.specs.PositionLaws.{has_all-published, last_of-more}
 use Rattle.ring_rule.specs.Positions.{has_all}
-use Rattle.ring_rule.specs.WordLaws.{suc-le-end_frame}
 use Rattle.ring_rule.specs.Words.{index_of}
 use Rattle.snoop_core.specs.Ring.{after_samples}
 use Rattle.snoop_core.specs.StoredLaws.{next_at-more}

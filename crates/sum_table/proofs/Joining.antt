@@ -35,7 +35,7 @@ use Rattle.ring_rule.specs.Words.{index_of, rank}
 use Rattle.sum_table.proofs.Kept.{IsLaid-later}
 use Rattle.ring_rule.specs.Lists.{at_append}
 use Rattle.sum_table.proofs.Cuts.{joins, learns, splits}
-use Rattle.ring_rule.specs.NoteLaws.{later_notes-length, later_notes-one}
+use Rattle.ring_rule.specs.NoteLaws.{later_notes-keeps, later_notes-length, later_notes-one}
 use Rattle.ring_rule.specs.PositionLaws.{has_all-more, has_each}
 use Rattle.sum_table.proofs.Seated.{MarksWithin, last_frame-append, step_begins}
 
@@ -208,23 +208,6 @@ or_right : (a b : Bool) → b ≡ true → (a || b) ≡ true
 or_right true b is = refl
 or_right false b is = is
 
--- what the second of two views noted is noted in both, or a later word is
-later_note-keeps : (n o : Option ℕ) (x : ℕ) → o ≡ Some x → (m : ℕ) × (later_note n o ≡ Some m) × (rank x ≤ rank m)
-later_note-keeps None o x is = (x, is, omega arith)
-later_note-keeps (Some n) None x is = absurd (Rattle.ring_rule.specs.NoteLaws.no_note x is)
-later_note-keeps (Some n) (Some o) x is = choose (nat_lt (rank n) (rank o)) refl where
-  choose : (b : Bool) → nat_lt (rank n) (rank o) ≡ b → (m : ℕ) × (cond b (Some o) (Some n) ≡ Some m) × (rank x ≤ rank m)
-  choose true test = (x, is, omega arith)
-  choose false test =
-      let same : o ≡ x = ap (Rattle.ring_rule.specs.NoteLaws.value_or o) is in
-      (n, refl, grind (arith, nat_tests))
-
-later_notes-keeps : (ns os : List (Option ℕ)) (i x : ℕ) → get_or os i None ≡ Some x → (m : ℕ) × (get_or (later_notes ns os) i None ≡ Some m) × (rank x ≤ rank m)
-later_notes-keeps [] os i x is = (x, is, omega arith)
-later_notes-keeps (n ∷ ns) [] i x is = absurd (Rattle.ring_rule.specs.NoteLaws.no_note x is)
-later_notes-keeps (n ∷ ns) (o ∷ os) zero x is = later_note-keeps n o x is
-later_notes-keeps (n ∷ ns) (o ∷ os) (suc i) x is = later_notes-keeps ns os i x is
-
 rank-lap : (x m : ℕ) → rank x ≤ rank m → lap_of x ≤ lap_of m
 rank-lap x m up = grind (arith, up)
 
@@ -261,7 +244,7 @@ has_heard p q n slots found x ring key next position gone both told =
       noted = λ f c y now is.
           let now_view : IsNow v.key.geometry (next_at v.key.geometry track) f c = subst (λ (k : Key). IsNow k.geometry (next_at k.geometry track) f c) (sym own) now in
           let is_view : get_or w.noted (index_of v.key.geometry f c) None ≡ Some y = subst (λ (k : Key). get_or w.noted (index_of k.geometry f c) None ≡ Some y) (sym own) is in
-          let later = later_notes-keeps v.noted w.noted (index_of v.key.geometry f c) y is_view in
+          let later = later_notes-keeps v.noted w.noted (index_of v.key.geometry f c) y (inr is_view) in
           let low : lap_of later.0 ≤ lap v.key.geometry f = knows.noted later.0 f c now_view later.1 in
           subst (λ (k : Key). lap_of y ≤ lap k.geometry f) own (omega (arith, low, rank-lap y later.0 later.2));
       gone = λ is. knows.gone (or_right v.seen_gone w.seen_gone is);

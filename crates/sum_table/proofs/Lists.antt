@@ -7,7 +7,7 @@ use Rattle.std.proofs.lemmas.List.{append-nil, map-append}
 use Rattle.std.proofs.lemmas.List.Elements.{filter-append}
 use Rattle.std.proofs.lemmas.List.Folds.{list_any-append}
 use Rattle.std.proofs.lemmas.List.Sums.{fold_push}
-use Rattle.std.proofs.lemmas.Bool.{cases_lt}
+use Rattle.std.proofs.lemmas.Bool.{cases_eq, cases_lt}
 use Rattle.std.proofs.lemmas.Bool.Decides.{nat_tests}
 use Rattle.snd_base.specs.declared.geometry.Geometry.{Geometry}
 use Rattle.snd_base.specs.Places.{first_frame}
@@ -19,7 +19,6 @@ use Rattle.sum_table.specs.declared.view.Track.{Track}
 use Rattle.sum_table.specs.Exact.{IsPublished, position_at}
 use Rattle.ring_rule.specs.Positions.{Rising, last_of}
 use Rattle.ring_rule.specs.PositionLaws.{IsPosition-last}
-use Rattle.ring_rule.specs.WordLaws.{cases_eq}
 
 -- one more entry at its own frame and channel, and at another one
 pub at-more_here : (es : List Entry) (e : Entry) → at (es ++ e ∷ []) e.frame e.channel ≡ at es e.frame e.channel ++ value_of e ∷ []

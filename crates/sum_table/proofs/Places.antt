@@ -10,7 +10,8 @@ use Rattle.snd_base.specs.PlaceLaws.{first_free-behind_grows, first_free-behind_
 use Rattle.snd_base.specs.Places.{behind, first_free, next_word, slot, word_index}
 use Rattle.mix_core.specs.Sound.{IsNow}
 use Rattle.ring_rule.specs.Words.{index_of, words_of}
-use Rattle.ring_rule.specs.WordLaws.{cases_eq, index_of-lt, index_of-same}
+use Rattle.ring_rule.specs.WordLaws.{index_of-lt, index_of-same}
+use Rattle.std.proofs.lemmas.Bool.{cases_eq}
 
 -- two frames and channels that the ring has now and that have one word are one
 pub IsNow-same : (g : Geometry) (next : Cursor) (f c k d : ℕ) → IsNow g next f c → IsNow g next k d → index_of g f c ≡ index_of g k d → (f ≡ k) × (c ≡ d)

@@ -4,7 +4,7 @@ use mathlib.Core.Option.{none, some, some-injective, some-ne-none}
 use lib.ListN.{get_elem?}
 use Rattle.std.specs.List.{list_any}
 use Rattle.std.proofs.lemmas.List.Folds.{list_any-append}
-use Rattle.std.proofs.lemmas.Bool.{false≢true}
+use Rattle.std.proofs.lemmas.Bool.{cases_eq, false≢true}
 use Rattle.std.proofs.Math.Nat.{div-lt_iff_lt-mul}
 use Rattle.std.proofs.lemmas.Bool.Decides.{nat_tests}
 use Rattle.atomic_table.specs.Table.{Allows, Me, step}
@@ -31,7 +31,7 @@ use Rattle.sum_table.specs.Players.{HasTaken, player_view, track_of}
 use Rattle.sum_table.specs.Steps.{Makes, published, taken, taking, track_taken, unplugged, with_gone, with_published, with_taken}
 use Rattle.ring_rule.specs.Words.{index_of}
 use Rattle.ring_rule.specs.PositionLaws.{has_all-published, last_of-more}
-use Rattle.ring_rule.specs.WordLaws.{cases_eq, lap-le}
+use Rattle.ring_rule.specs.WordLaws.{lap-le}
 use Rattle.sum_table.proofs.Rings.{next_at-taken}
 use Rattle.ring_rule.specs.WordLaws.{suc-le-end_frame}
 use Rattle.sum_table.proofs.Seated.{step_begins}

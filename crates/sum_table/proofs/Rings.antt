@@ -10,7 +10,7 @@ use Rattle.std.proofs.lemmas.List.Elements.{All-push}
 use Rattle.std.proofs.lemmas.List.Folds.{list_any_at}
 use Rattle.snd_base.specs.declared.geometry.Geometry.{Geometry}
 use Rattle.snd_base.specs.declared.places.Cursor.{Cursor}
-use Rattle.snd_base.specs.PlaceLaws.{next_word-suc, nat_lt-behind}
+use Rattle.snd_base.specs.PlaceLaws.{nat_lt-behind, next_word-suc, suc-le-end_frame}
 use Rattle.snd_base.specs.Places.{behind, end_frame, first_frame, first_free, lap, next_word}
 use Rattle.lap_word.specs.Clamp.{clamp_of}
 use Rattle.lap_word.specs.Position.{word_of}
@@ -27,8 +27,8 @@ use Rattle.sum_table.specs.Steps.{taking, track_gone, track_published, track_tak
 use Rattle.ring_rule.specs.Words.{index_of}
 use Rattle.sum_table.proofs.Lists.{at-more_elsewhere, at-more_here, at_place, is_taken-more, place_cases, total-more_elsewhere, total-more_here}
 use Rattle.ring_rule.specs.PositionLaws.{Rising-more, last_of-more}
-use Rattle.ring_rule.specs.WordLaws.{cases_eq, suc-le-end_frame}
 use Rattle.sum_table.proofs.Places.{next_word-channel, words-taken, words-written}
+use Rattle.std.proofs.lemmas.Bool.{cases_eq}
 
 -- the words, the track, and other entries of the same sums
 pub IsRing-same : (g : Geometry) (words : List ℕ) (xs ys : List Entry) (t : Track) → SameSums xs ys → IsRing g words xs t → IsRing g words ys t

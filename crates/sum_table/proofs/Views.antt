@@ -2,7 +2,7 @@
 use Rattle.std.proofs.Common.{◌≡◌, ◌⊎◌, ℕ, suc, ◌+◌, ◌*◌, ◌%◌, ◌<◌, ◌≤◌, true, false, Some, List, [], ◌∷◌, length, get_or, set, ℤ, inl, inr, arith, subst, sym, refl, ap, ◌∙◌}
 use mathlib.Core.Option.{some}
 use lib.ListN.{get_elem?}
-use Rattle.std.proofs.lemmas.Bool.{cases_lt}
+use Rattle.std.proofs.lemmas.Bool.{cases_eq, cases_lt}
 use Rattle.std.proofs.lemmas.Bool.Decides.{nat_tests}
 use Rattle.std.proofs.lemmas.Int.{ints}
 use Rattle.std.proofs.lemmas.List.{get_or-set_same, get_or-set_other}
@@ -23,7 +23,6 @@ use Rattle.sum_table.specs.Exact.{AreViews, BeginsWith, IsPublished, IsRing, IsV
 use Rattle.sum_table.specs.Laid.{all_laid, count, places_of}
 use Rattle.sum_table.specs.Steps.{Finds, IsWord, Tells}
 use Rattle.ring_rule.specs.Words.{NotPast, index_of, rank}
-use Rattle.ring_rule.specs.WordLaws.{cases_eq}
 use Rattle.sum_table.proofs.Kept.{held_of, held_once, held_place}
 use Rattle.sum_table.proofs.Places.{now_of}
 use Rattle.sum_table.proofs.Sums.{count-append, count_few, count_room, places_set}

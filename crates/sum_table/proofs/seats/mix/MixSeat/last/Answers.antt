@@ -2,9 +2,9 @@ use Rattle.std.proofs.Common.{◌<◌, Option, ℕ, IfSome, arith, subst, sym, �
 use Rattle.snd_base.specs.Places.{end_frame}
 use Rattle.mix_core.specs.declared.port.Entry.{Entry}
 use Rattle.sum_table.specs.declared.seats.mix.MixSeat.{MixSeat}
-use Rattle.ring_rule.specs.WordLaws.{suc-le-end_frame}
 use Rattle.sum_table.proofs.Seated.{last_frame-before}
 use Rattle.sum_table.proofs.seats.mix.MixSeat.last.Goals as goal
+use Rattle.snd_base.specs.PlaceLaws.{suc-le-end_frame}
 
 pub returns-clause-before_end : goal.returns-clause-before_end
 returns-clause-before_end c =
