@@ -1,0 +1,9 @@
+pub mod Parts
+pub mod Actors
+pub mod RowLine
+pub mod Read
+pub mod Printed
+pub mod PrintedRows
+pub mod PrintedReport
+pub mod PrintedWhole
+pub mod Back

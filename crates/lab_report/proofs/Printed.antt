@@ -1,0 +1,199 @@
+-- What is printed is read back: words, numbers, and the lines of a text.
+use Rattle.std.proofs.Common.{◌≡◌, ℕ, ◌+◌, ◌*◌, ◌^◌, ◌≤◌, ◌<◌, ◌==◌, ◌&&◌, ◌||◌, Bool, true, false, not, cond, List, [], ◌∷◌, ◌++◌, length, map, take, drop, get_or, refl, ap, sym, subst, ◌∙◌, arith, zero, suc, one-add, append_assoc, Option, Some, None, Result, Ok, Err, codes, bytes_eq, nat_le, lit<}
+use Rattle.std.specs.List.{AllByRecursion, flat_map, list_all, slice_split, onto_first as piece_first, position_or_len, before_first, join_with_byte}
+use Rattle.std.specs.Char.{is_ascii_digit}
+use Rattle.std.specs.Fmt.{decimal}
+use Rattle.std.specs.Str.{all_ascii_digits}
+use Rattle.std.specs.Str.Parse.{digits_value}
+use Rattle.std.proofs.Math.Seq.{take-append_seam}
+use Rattle.std.proofs.lemmas.Bool.Decides.{nat_tests, not_from_Decides}
+use Rattle.std.proofs.lemmas.Fmt.{digits_value-decimal, digits_decimal, decimal_nonempty, decimal_digit, first_decimal}
+use Rattle.std.proofs.lemmas.List.Folds.{list_all-append}
+use Rattle.std.proofs.lemmas.List.Splits.{length-slice_split, slice_split-cons_yes, slice_split-cons_no, join_with_byte-slice_split}
+use Rattle.std.proofs.lemmas.Slice.Eq.{bytes_eq-Decides}
+use Rattle.std.proofs.lemmas.Str.Parse.{IsNumeralModel, numerals_by_value, tells_all_ascii_digits}
+use Rattle.lab_report.specs.declared.error.ReportWhy.{ReportWhy}
+use Rattle.lab_report.specs.declared.error.ReportWhy.TheVariants as why
+use Rattle.lab_report.specs.Causes.{◌>>=◌, some_or}
+use Rattle.lab_report.specs.Words.{is_feed, is_space, is_end, onto_first, lines_of, word_of, space_of, feed_of, is_plain, is_decimal, within, decimal_of, number_at, most_frames, next_number, dash_or_number, number_or_dash_at, not_word, expect_word, expect_words}
+use Rattle.lab_report.proofs.Parts.{all_digits, within-fits}
+
+-- a byte within a word
+abbrev pub in_word : ℕ → Bool
+in_word b = not (is_end b)
+
+-- a byte within a line
+abbrev pub in_line : ℕ → Bool
+in_line b = not (is_feed b)
+
+is_true : (b : Bool) → not b ≡ true → b ≡ false
+is_true true e = absurd (cc)
+is_true false e = refl
+
+both : (a b : Bool) → (a && b) ≡ true → (a ≡ true) × (b ≡ true)
+both true b e = (refl, e)
+both false b e = absurd (cc)
+
+and_true : (a b : Bool) → a ≡ true → b ≡ true → (a && b) ≡ true
+and_true true b e f = f
+and_true false b e f = absurd (cc)
+
+-- the first end of a word that is followed by one
+position_or_len-word : (w : List ℕ) (e : ℕ) (r : List ℕ) → list_all in_word w ≡ true → is_end e ≡ true → position_or_len is_end (w ++ e ∷ r) ≡ length w
+position_or_len-word [] e r h t = rw t refl
+position_or_len-word (b ∷ bs) e r h t =
+    let parts = both (in_word b) (list_all in_word bs) h in
+    rw (is_true (is_end b) parts.0, position_or_len-word bs e r parts.1 t) (one-add (length bs))
+
+word_of-some : (xs : List ℕ) → 0 < length xs → word_of xs ≡ Ok (take (position_or_len is_end xs) xs, drop (position_or_len is_end xs) xs)
+word_of-some [] h = absurd (omega arith)
+word_of-some (b ∷ bs) h = refl
+
+drop-append : (w s : List ℕ) → drop (length w) (w ++ s) ≡ s
+drop-append [] s = refl
+drop-append (b ∷ bs) s = drop-append bs s
+
+more_than : (w : List ℕ) (e : ℕ) (r : List ℕ) → 0 < length (w ++ e ∷ r)
+more_than [] e r = omega arith
+more_than (b ∷ bs) e r = omega arith
+
+-- a word is read where one of its ends follows
+pub word_of-printed : (w : List ℕ) (e : ℕ) (r : List ℕ) → list_all in_word w ≡ true → is_end e ≡ true → word_of (w ++ e ∷ r) ≡ Ok (w, e ∷ r)
+word_of-printed w e r h t =
+    word_of-some (w ++ e ∷ r) (more_than w e r)
+    ∙ ap (λ n. Ok (take n (w ++ e ∷ r), drop n (w ++ e ∷ r))) (position_or_len-word w e r h t)
+    ∙ ap (λ x. Ok (x, drop (length w) (w ++ e ∷ r))) (take-append_seam w (e ∷ r))
+    ∙ ap (λ x. Ok (w, x)) (drop-append w (e ∷ r))
+
+own : IsNumeralModel (λ ds. all_ascii_digits ds ≡ true) (digits_value 10)
+own = numerals_by_value _ tells_all_ascii_digits
+
+digit_in_word : (b : ℕ) → is_ascii_digit b ≡ true → in_word b ≡ true
+digit_in_word b e = grind (arith, nat_tests)
+
+digits_in_word : (ds : List ℕ) → list_all is_ascii_digit ds ≡ true → list_all in_word ds ≡ true
+digits_in_word [] e = refl
+digits_in_word (d ∷ ds) e =
+    let parts = both (is_ascii_digit d) (list_all is_ascii_digit ds) e in
+    and_true (in_word d) (list_all in_word ds) (digit_in_word d parts.0) (digits_in_word ds parts.1)
+
+-- a number's decimal form is digits
+pub decimal_in_word : (n : ℕ) → n < 2 ^ 64 → list_all in_word (decimal n) ≡ true
+decimal_in_word n h = digits_in_word (decimal n) (all_digits (decimal n) ∙ digits_decimal own n h)
+
+plain_of : (ds : List ℕ) → 0 < length ds → (get_or ds 0 0 ≡ 48 → length ds ≡ 1) → is_plain ds ≡ true
+plain_of [] some h = absurd (omega arith)
+plain_of (b ∷ []) some h = refl
+plain_of (b ∷ c ∷ bs) some h = plain_by b (length bs) (b == 48) refl h
+  where
+    plain_by : (b n : ℕ) (t : Bool) → (b == 48) ≡ t → (b ≡ 48 → suc (suc n) ≡ 1) → not t ≡ true
+    plain_by b n true e h = absurd (let same : b ≡ 48 = grind (arith, nat_tests) in omega (arith, h same))
+    plain_by b n false e h = refl
+
+decimal_plain : (n : ℕ) → n < 2 ^ 64 → is_plain (decimal n) ≡ true
+decimal_plain zero h = rw (decimal_digit 0 (omega arith)) refl
+decimal_plain (suc n) h =
+    plain_of (decimal (suc n)) (decimal_nonempty (suc n) h) (λ e. absurd (omega (arith, first_decimal (suc n) (omega arith) h, e)))
+
+-- a number's decimal form is read as the number
+pub decimal_of-decimal : (most n : ℕ) → n ≤ most → n < 2 ^ 64 → decimal_of most (decimal n) ≡ Some n
+decimal_of-decimal most n fits h =
+    ap (λ t. cond t (within most (digits_value 10 (decimal n))) None) (and_true (is_plain (decimal n)) (all_ascii_digits (decimal n)) (decimal_plain n h) (digits_decimal own n h))
+    ∙ ap (within most) (digits_value-decimal own n h)
+    ∙ sym (within-fits most n fits)
+
+pub number_at-printed : (most n e : ℕ) (r : List ℕ) → n ≤ most → n < 2 ^ 64 → is_end e ≡ true → number_at most (decimal n ++ e ∷ r) ≡ Ok (n, e ∷ r)
+number_at-printed most n e r fits h t =
+    rw (word_of-printed (decimal n) e r (decimal_in_word n h) t) (ap (λ o. (some_or why.Number o) >>= (λ m. Ok (m, e ∷ r))) (decimal_of-decimal most n fits h))
+
+-- a number after a space is read
+pub next_number-printed : (most n e : ℕ) (r : List ℕ) → n ≤ most → n < 2 ^ 64 → is_end e ≡ true → next_number most (32 ∷ (decimal n ++ e ∷ r)) ≡ Ok (n, e ∷ r)
+next_number-printed most n e r fits h t = number_at-printed most n e r fits h t
+
+-- digits are none of the words that aren't
+pub not_digits : (ds w : List ℕ) → all_ascii_digits ds ≡ true → all_ascii_digits w ≡ false → bytes_eq ds w ≡ false
+not_digits ds w d n = not_by (bytes_eq ds w) refl
+  where
+    not_by : (t : Bool) → bytes_eq ds w ≡ t → t ≡ false
+    not_by true e =
+        let same : ds ≡ w = (bytes_eq-Decides ds w).0 e in
+        let wrong : true ≡ false = sym (subst (λ (x : List ℕ). all_ascii_digits x ≡ true) same d) ∙ n in
+        absurd (cc)
+    not_by false e = refl
+
+-- `-` is read as no number
+pub dash-printed : (e : ℕ) (r : List ℕ) → is_end e ≡ true → number_or_dash_at (codes "-" ++ e ∷ r) ≡ Ok (None, e ∷ r)
+dash-printed e r t = ap (λ w. w >>= (λ word. (some_or why.Word (dash_or_number word.0)) >>= (λ n. Ok (n, word.1)))) (word_of-printed (codes "-") e r refl t)
+
+-- a number is read where `-` may be
+pub number-printed : (n e : ℕ) (r : List ℕ) → n < 2 ^ 64 → is_end e ≡ true → number_or_dash_at (decimal n ++ e ∷ r) ≡ Ok (Some n, e ∷ r)
+number-printed n e r h t =
+    let fits : n ≤ most_frames = omega arith in
+    rw (word_of-printed (decimal n) e r (decimal_in_word n h) t, not_digits (decimal n) (codes "-") (digits_decimal own n h) refl, decimal_of-decimal most_frames n fits h) refl
+
+bytes_eq-same : (w : List ℕ) → bytes_eq w w ≡ true
+bytes_eq-same w = (bytes_eq-Decides w w).1 refl
+
+-- the word that must follow is read
+pub expect_word-printed : (w : List ℕ) (e : ℕ) (r : List ℕ) → list_all in_word w ≡ true → is_end e ≡ true → expect_word w (w ++ e ∷ r) ≡ Ok (e ∷ r)
+expect_word-printed w e r h t = rw (word_of-printed w e r h t, bytes_eq-same w) refl
+
+-- each of some words has no end within
+abbrev pub AreWords : List (List ℕ) → Type 0
+AreWords [] = Unit {0}
+AreWords (w ∷ ws) = (list_all in_word w ≡ true) × (AreWords ws)
+
+-- words that are joined by spaces are read
+expect_words-joined : (w : List ℕ) (ws : List (List ℕ)) (r : List ℕ) → AreWords (w ∷ ws) → expect_words (w ∷ ws) (join_with_byte 32 (w ∷ ws) ++ 32 ∷ r) ≡ Ok r
+expect_words-joined w [] r h = rw (expect_word-printed w 32 r h.0 refl) refl
+expect_words-joined w (v ∷ vs) r h =
+    rw (append_assoc w (32 ∷ join_with_byte 32 (v ∷ vs)) (32 ∷ r), expect_word-printed w 32 (join_with_byte 32 (v ∷ vs) ++ 32 ∷ r) h.0 refl)
+    (expect_words-joined v vs r h.1)
+
+first_more : (b : ℕ) (ws : List (List ℕ)) → in_word b ≡ true → AreWords ws → AreWords (piece_first b ws)
+first_more b [] e h = (and_true (in_word b) true e refl, tt)
+first_more b (w ∷ ws) e h = (and_true (in_word b) (list_all in_word w) e h.0, h.1)
+
+in_word-of : (b : ℕ) → is_space b ≡ false → in_line b ≡ true → in_word b ≡ true
+in_word-of b e h = rw (e, is_true (is_feed b) h) refl
+
+words_more : (b : ℕ) (bs : List ℕ) (t : Bool) → is_space b ≡ t → in_line b ≡ true → AreWords (slice_split is_space bs) → AreWords (slice_split is_space (b ∷ bs))
+words_more b bs true e h rest = rw (slice_split-cons_yes is_space b bs e) (refl, rest)
+words_more b bs false e h rest = rw (slice_split-cons_no is_space b bs e) (first_more b (slice_split is_space bs) (in_word-of b e h) rest)
+
+-- the parts of a line between its spaces are words
+slice_split-words : (front : List ℕ) → list_all in_line front ≡ true → AreWords (slice_split is_space front)
+slice_split-words [] h = (refl, tt)
+slice_split-words (b ∷ bs) h =
+    let parts = both (in_line b) (list_all in_line bs) h in
+    words_more b bs (is_space b) refl parts.0 (slice_split-words bs parts.1)
+
+expect_by : (ws : List (List ℕ)) (front r : List ℕ) → AreWords ws → 0 < length ws → join_with_byte 32 ws ≡ front → expect_words ws (front ++ 32 ∷ r) ≡ Ok r
+expect_by [] front r h some e = absurd (omega arith)
+expect_by (w ∷ ws) front r h some e = rw (← e) (expect_words-joined w ws r h)
+
+-- the front of a row is read
+pub expect_words-printed : (front r : List ℕ) → list_all in_line front ≡ true → expect_words (slice_split is_space front) (front ++ 32 ∷ r) ≡ Ok r
+expect_words-printed front r h =
+    expect_by (slice_split is_space front) front r (slice_split-words front h) (omega (arith, length-slice_split is_space front)) (join_with_byte-slice_split 32 front)
+
+-- a text is a line: it has one line feed, at its end
+pub record IsLineText (text : List ℕ) : Type 0 where
+  pub words : List ℕ
+  pub is : text ≡ words ++ 10 ∷ []
+  pub whole : list_all in_line words ≡ true
+
+lines_of-words : (m rest : List ℕ) → list_all in_line m ≡ true → lines_of ((m ++ 10 ∷ []) ++ rest) ≡ (m ++ 10 ∷ []) ∷ lines_of rest
+lines_of-words [] rest h = refl
+lines_of-words (b ∷ bs) rest h =
+    let parts = both (in_line b) (list_all in_line bs) h in
+    rw (is_true (is_feed b) parts.0, lines_of-words bs rest parts.1) refl
+
+-- a line before a text is its first
+pub lines_of-line : (line rest : List ℕ) → IsLineText line → lines_of (line ++ rest) ≡ line ∷ lines_of rest
+lines_of-line line rest h = rw h.is (lines_of-words h.words rest h.whole)
+
+-- lines before a text are its first
+pub lines_of-lines : {X : Type 0} (f : X → List ℕ) (xs : List X) (rest : List ℕ) → AllByRecursion (λ x. IsLineText (f x)) xs → lines_of (flat_map f xs ++ rest) ≡ map f xs ++ lines_of rest
+lines_of-lines f [] rest h = refl
+lines_of-lines f (x ∷ xs) rest h = rw (append_assoc (f x) (flat_map f xs) rest, lines_of-line (f x) (flat_map f xs ++ rest) h.0, lines_of-lines f xs rest h.1) refl

@@ -1,0 +1,171 @@
+-- A report that is printed is read back.
+use Rattle.std.proofs.Common.{◌≡◌, ◌≢◌, ℕ, ◌+◌, ◌^◌, ◌≤◌, ◌<◌, ◌==◌, ◌&&◌, Bool, true, false, not, cond, List, [], ◌∷◌, ◌++◌, length, map, get_or, refl, ap, sym, subst, ◌∙◌, arith, zero, suc, append_assoc, Option, Some, None, Result, Ok, Err, codes, bytes_eq, nat_lt}
+use Rattle.std.specs.List.{All, AllPairs, AllByRecursion, flat_map, list_all, slice_get, slice_split, position, position_or_len}
+use Rattle.std.specs.Fmt.{decimal}
+use Rattle.std.specs.Option.{option_map_or}
+use Rattle.std.proofs.lemmas.Bool.Decides.{nat_tests}
+use Rattle.std.proofs.lemmas.List.{append-nil}
+use Rattle.std.proofs.lemmas.List.Elements.{recursion_from_All}
+use Rattle.std.proofs.lemmas.List.Folds.{list_all-append}
+use Rattle.std.proofs.lemmas.List.Sums.{position_or_len_is}
+use Rattle.std.proofs.lemmas.Option.{get_or_from_slice_get, slice_get_past}
+use Rattle.std.proofs.lemmas.Slice.Eq.{bytes_eq-Decides}
+use Rattle.snd_base.specs.declared.places.Segment.{Segment}
+use Rattle.lab_script.specs.declared.line.Actor.{Actor}
+use Rattle.lab_script.specs.declared.line.Actor.TheVariants.{Card, Client, Reader}
+use Rattle.lab_script.specs.declared.line.Op.{Op}
+use Rattle.lab_script.specs.declared.line.Op.TheVariants as op
+use Rattle.lab_script.specs.declared.script.ClientLine.{ClientLine}
+use Rattle.lab_script.specs.declared.script.ReaderLine.{ReaderLine}
+use Rattle.lab_script.specs.declared.script.Script.{Script}
+use Rattle.lab_script.specs.Draft.{is_client, is_reader}
+use Rattle.lab_script.specs.Limits.{IsActor, IsScript}
+use Rattle.lab_script.specs.Ops.{op_text}
+use Rattle.lab_script.specs.Word.{is_name, is_name_byte, begins_lower}
+use Rattle.lab_report.specs.declared.error.ReportError.{ReportError}
+use Rattle.lab_report.specs.declared.error.ReportWhy.{ReportWhy}
+use Rattle.lab_report.specs.declared.error.ReportWhy.TheVariants as why
+use Rattle.lab_report.specs.declared.report.Report.{Report}
+use Rattle.lab_report.specs.declared.request.Request.{Request}
+use Rattle.lab_report.specs.declared.row.Row.{Row}
+use Rattle.lab_report.specs.Causes.{◌>>=◌, some_or}
+use Rattle.lab_report.specs.Reading.{State, nothing, client_at, reader_at, row_at, segment_at, run_at, played_at, with_line, next_line, on_line, lines_after, report_of}
+use Rattle.lab_report.specs.Requests.{requests_of}
+use Rattle.lab_report.specs.Text.{client_name, reader_name, actor_name, front_text, request_of_row, row_line, segment_line, run_line, played_line, tail_text, report_text, IsRowOf, IsSegmentOf, IsRunOf, IsReportOf}
+use Rattle.lab_report.specs.Words.{most_frames, lines_of, next_number, word_of}
+use Rattle.lab_report.proofs.Printed.{in_word, in_line, word_of-printed, decimal_in_word, next_number-printed, IsLineText, lines_of-line, lines_of-lines}
+use Rattle.lab_report.specs.Ranges.{IsWide, IsSegmentInRange, IsRunInRange}
+
+both : (a b : Bool) → (a && b) ≡ true → (a ≡ true) × (b ≡ true)
+both true b e = (refl, e)
+both false b e = absurd (cc)
+
+and_true : (a b : Bool) → a ≡ true → b ≡ true → (a && b) ≡ true
+and_true true b e f = f
+and_true false b e f = absurd (cc)
+
+name_byte_in_word : (b : ℕ) → is_name_byte b ≡ true → in_word b ≡ true
+name_byte_in_word b e = grind (arith, nat_tests)
+
+name_bytes_in_word : (w : List ℕ) → list_all is_name_byte w ≡ true → list_all in_word w ≡ true
+name_bytes_in_word [] e = refl
+name_bytes_in_word (b ∷ bs) e =
+    let parts = both (is_name_byte b) (list_all is_name_byte bs) e in
+    and_true (in_word b) (list_all in_word bs) (name_byte_in_word b parts.0) (name_bytes_in_word bs parts.1)
+
+-- a name is a word
+name_in_word : (w : List ℕ) → is_name w ≡ true → list_all in_word w ≡ true
+name_in_word w e = name_bytes_in_word w (both _ (list_all is_name_byte w) (both _ _ e).0).1
+
+-- the element at a place
+element : {X : Type 0} (xs : List X) (n : ℕ) → n < length xs → (x : X) × (slice_get xs n ≡ Some x)
+element [] n h = absurd (omega (arith, h))
+element (x ∷ xs) zero h = (x, refl)
+element (x ∷ xs) (suc n) h = element xs n (omega (arith, h))
+
+at_place : {X : Type 0} (p : X → Bool) (xs : List X) (n : ℕ) → n < length xs → position_or_len p xs ≡ n → position p xs ≡ Some n
+at_place p xs n h e = rw e (at_by n (length xs) (nat_lt n (length xs)) refl h)
+  where
+    at_by : (n m : ℕ) (t : Bool) → nat_lt n m ≡ t → n < m → cond t (Some n) None ≡ Some n
+    at_by n m true e h = refl
+    at_by n m false e h = absurd (past n m e h)
+      where
+        past : (n m : ℕ) → nat_lt n m ≡ false → n < m → ⊥
+        past n m e h = grind (arith, nat_tests)
+
+differs : (a b : List ℕ) → a ≢ b → bytes_eq a b ≡ false
+differs a b n = by (bytes_eq a b) refl
+  where
+    by : (t : Bool) → bytes_eq a b ≡ t → t ≡ false
+    by true e = absurd (n ((bytes_eq-Decides a b).0 e))
+    by false e = refl
+
+same_bytes : (a b : List ℕ) → a ≡ b → bytes_eq a b ≡ true
+same_bytes a b e = (bytes_eq-Decides a b).1 e
+
+-- a client is found by its name
+pub client-found : (script : Script) (n : ℕ) → IsScript script → n < length script.clients
+    → (position (is_client (client_name script n)) script.clients ≡ Some n) × (list_all in_word (client_name script n) ≡ true)
+client-found script n valid h =
+    let c = element script.clients n h in
+    let name : client_name script n ≡ c.0.name = ap (λ o. option_map_or (λ (client : ClientLine). client.name) o []) c.1 in
+    let at : get_or script.clients n c.0 ≡ c.0 = get_or_from_slice_get script.clients n c.0 c.0 c.1 in
+    let form : is_name c.0.name ≡ true = subst (λ (x : ClientLine). is_name x.name ≡ true) at (valid.each_client n c.0 h).name in
+    let place : position_or_len (is_client c.0.name) script.clients ≡ n =
+    position_or_len_is (is_client c.0.name) script.clients n c.0 (omega (arith, h))
+    (λ k l. differs (get_or script.clients k c.0).name c.0.name (λ e. valid.clients_differ k n c.0 l h (e ∙ ap (λ (x : ClientLine). x.name) (sym at))))
+    (λ l. same_bytes (get_or script.clients n c.0).name c.0.name (ap (λ (x : ClientLine). x.name) at)) in
+    rw name (at_place (is_client c.0.name) script.clients n h place, name_in_word c.0.name form)
+
+-- a reader is found by its name
+pub reader-found : (script : Script) (n : ℕ) → IsScript script → n < length script.readers
+    → (position (is_reader (reader_name script n)) script.readers ≡ Some n) × (list_all in_word (reader_name script n) ≡ true)
+reader-found script n valid h =
+    let c = element script.readers n h in
+    let name : reader_name script n ≡ c.0.name = ap (λ o. option_map_or (λ (reader : ReaderLine). reader.name) o []) c.1 in
+    let at : get_or script.readers n c.0 ≡ c.0 = get_or_from_slice_get script.readers n c.0 c.0 c.1 in
+    let form : is_name c.0.name ≡ true = subst (λ (x : ReaderLine). is_name x.name ≡ true) at (valid.each_reader n c.0 h).name in
+    let place : position_or_len (is_reader c.0.name) script.readers ≡ n =
+    position_or_len_is (is_reader c.0.name) script.readers n c.0 (omega (arith, h))
+    (λ k l. differs (get_or script.readers k c.0).name c.0.name (λ e. valid.readers_differ k n c.0 l h (e ∙ ap (λ (x : ReaderLine). x.name) (sym at))))
+    (λ l. same_bytes (get_or script.readers n c.0).name c.0.name (ap (λ (x : ReaderLine). x.name) at)) in
+    rw name (at_place (is_reader c.0.name) script.readers n h place, name_in_word c.0.name form)
+
+-- a client's name is read
+client_at-printed : (script : Script) (n : ℕ) (r : List ℕ) → IsScript script → n < length script.clients
+    → client_at script (32 ∷ (client_name script n ++ 32 ∷ r)) ≡ Ok (n, 32 ∷ r)
+client_at-printed script n r valid h =
+    let found = client-found script n valid h in
+    ap (λ x. x >>= (λ word. (some_or why.Word (position (is_client word.0) script.clients)) >>= (λ k. Ok (k, word.1)))) (word_of-printed (client_name script n) 32 r found.1 refl)
+    ∙ ap (λ o. (some_or why.Word o) >>= (λ k. Ok (k, 32 ∷ r))) found.0
+
+-- a reader's name is read
+reader_at-printed : (script : Script) (n : ℕ) (r : List ℕ) → IsScript script → n < length script.readers
+    → reader_at script (32 ∷ (reader_name script n ++ 32 ∷ r)) ≡ Ok (n, 32 ∷ r)
+reader_at-printed script n r valid h =
+    let found = reader-found script n valid h in
+    ap (λ x. x >>= (λ word. (some_or why.Word (position (is_reader word.0) script.readers)) >>= (λ k. Ok (k, word.1)))) (word_of-printed (reader_name script n) 32 r found.1 refl)
+    ∙ ap (λ o. (some_or why.Word o) >>= (λ k. Ok (k, 32 ∷ r))) found.0
+
+wide : (n : ℕ) → IsWide n → n ≤ most_frames
+wide n h = omega arith
+
+-- a segment's line, after its first word
+abbrev pub segment_rest : Script → ℕ → Segment → List ℕ
+segment_rest script client s =
+    32 ∷ (client_name script client ++ 32 ∷ (decimal s.source ++ 32 ∷ (decimal s.card ++ 32 ∷ (decimal s.whole ++ 32 ∷ (decimal s.part ++ 10 ∷ [])))))
+
+pub segment_at-printed : (script : Script) (client : ℕ) (s : Segment) → IsScript script → client < length script.clients → IsSegmentInRange s
+    → segment_at script (segment_rest script client s) ≡ Ok (client, s)
+unfolding segment_at
+segment_at-printed script client s valid h n =
+    let small : IsWide s.part = omega (arith, n.part) in
+    rw (
+      client_at-printed script client (decimal s.source ++ 32 ∷ (decimal s.card ++ 32 ∷ (decimal s.whole ++ 32 ∷ (decimal s.part ++ 10 ∷ [])))) valid h,
+      next_number-printed most_frames s.source 32 (decimal s.card ++ 32 ∷ (decimal s.whole ++ 32 ∷ (decimal s.part ++ 10 ∷ []))) (wide s.source n.source) n.source refl,
+      next_number-printed most_frames s.card 32 (decimal s.whole ++ 32 ∷ (decimal s.part ++ 10 ∷ [])) (wide s.card n.card) n.card refl,
+      next_number-printed most_frames s.whole 32 (decimal s.part ++ 10 ∷ []) (wide s.whole n.whole) n.whole refl,
+      next_number-printed 255 s.part 10 [] n.part small refl,
+    ) refl
+
+-- a run's line, after its first word
+abbrev pub run_rest : Script → ℕ → ℕ → ℕ → List ℕ
+run_rest script reader first count = 32 ∷ (reader_name script reader ++ 32 ∷ (decimal first ++ 32 ∷ (decimal count ++ 10 ∷ [])))
+
+pub run_at-printed : (script : Script) (reader first count : ℕ) → IsScript script → reader < length script.readers → IsWide first → IsWide count
+    → run_at script (run_rest script reader first count) ≡ Ok (reader, first, count)
+unfolding run_at
+run_at-printed script reader first count valid h f c =
+    rw (
+      reader_at-printed script reader (decimal first ++ 32 ∷ (decimal count ++ 10 ∷ [])) valid h,
+      next_number-printed most_frames first 32 (decimal count ++ 10 ∷ []) (wide first f) f refl,
+      next_number-printed most_frames count 10 [] (wide count c) c refl,
+    ) refl
+
+pub played_at-printed : (first count : ℕ) → IsWide first → IsWide count → played_at (32 ∷ (decimal first ++ 32 ∷ (decimal count ++ 10 ∷ []))) ≡ Ok (first, count)
+unfolding played_at
+played_at-printed first count f c =
+    rw (
+      next_number-printed most_frames first 32 (decimal count ++ 10 ∷ []) (wide first f) f refl,
+      next_number-printed most_frames count 10 [] (wide count c) c refl,
+    ) refl

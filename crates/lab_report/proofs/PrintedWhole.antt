@@ -1,0 +1,187 @@
+-- A report that is printed is read back, line by line.
+use Rattle.std.proofs.Common.{◌≡◌, ℕ, ◌+◌, ◌^◌, ◌≤◌, ◌<◌, ◌&&◌, Bool, true, false, List, [], ◌∷◌, ◌++◌, length, map, refl, ap, sym, subst, ◌∙◌, arith, append_assoc, Option, Some, None, Result, Ok, Err, codes, zero, suc}
+use Rattle.std.specs.List.{All, AllByRecursion, flat_map, list_all, slice_get}
+use Rattle.std.specs.Fmt.{decimal}
+use Rattle.std.proofs.lemmas.List.{append-nil, map-append}
+use Rattle.std.proofs.lemmas.List.Elements.{recursion_from_All}
+use Rattle.std.proofs.lemmas.List.Folds.{list_all-append}
+use Rattle.std.proofs.lemmas.Option.{slice_get_past}
+use Rattle.snd_base.specs.declared.places.Segment.{Segment}
+use Rattle.lab_script.specs.declared.line.Actor.{Actor}
+use Rattle.lab_script.specs.declared.line.Actor.TheVariants.{Card, Client, Reader}
+use Rattle.lab_script.specs.declared.line.Op.{Op}
+use Rattle.lab_script.specs.declared.line.Op.TheVariants as op
+use Rattle.lab_script.specs.declared.script.Script.{Script}
+use Rattle.lab_script.specs.Limits.{IsActor, IsScript}
+use Rattle.lab_script.specs.Ops.{op_text}
+use Rattle.pcm_states.specs.declared.states.State.{State as PcmState}
+use Rattle.pcm_states.specs.declared.states.State.TheVariants as state
+use Rattle.pcm_states.specs.States.{state_name}
+use Rattle.snd_base.specs.declared.errors.PcmError.{PcmError}
+use Rattle.snd_base.specs.declared.errors.PcmError.TheVariants.{BadState, Xrun, Again, NoDevice, Invalid, Busy, NotSupported, LapEnd, Stopped, Memory}
+use Rattle.snd_base.specs.declared.errors.XrunWhy.{XrunWhy}
+use Rattle.snd_base.specs.declared.errors.XrunWhy.TheVariants.{Empty, Already, Avail, Late, Overtaken}
+use Rattle.lab_report.specs.declared.error.ReportError.{ReportError}
+use Rattle.lab_report.specs.declared.error.ReportWhy.{ReportWhy}
+use Rattle.lab_report.specs.declared.report.Report.{Report}
+use Rattle.lab_report.specs.declared.request.Request.{Request}
+use Rattle.lab_report.specs.declared.row.Answer.{Answer}
+use Rattle.lab_report.specs.declared.row.Answer.TheVariants.{Done, Count, Failed}
+use Rattle.lab_report.specs.declared.row.Row.{Row}
+use Rattle.lab_report.specs.Causes.{◌>>=◌}
+use Rattle.lab_report.specs.Reading.{State, nothing, row_at, segment_at, run_at, played_at, after_head, with_line, next_line, on_line, report_at, lines_after, report_of}
+use Rattle.lab_report.specs.Requests.{requests_of}
+use Rattle.lab_report.specs.Text.{client_name, reader_name, actor_name, number_or_dash, xrun_text, answer_text, front_text, request_of_row, row_line, segment_line, run_line, played_line, tail_text, report_text, HasText, IsRowOf, IsSegmentOf, IsRunOf, IsReportOf}
+use Rattle.lab_report.specs.Words.{lines_of}
+use Rattle.lab_report.proofs.Printed.{in_word, in_line, decimal_in_word, IsLineText, lines_of-line, lines_of-lines}
+use Rattle.lab_report.specs.Ranges.{IsWide, IsWideWhere, IsXrunInRange, IsAnswerInRange, IsOpInRange, IsRowInRange, IsSegmentInRange, IsRunInRange}
+use Rattle.lab_report.proofs.PrintedReport.{client-found, reader-found}
+
+both : (a b : Bool) → (a && b) ≡ true → (a ≡ true) × (b ≡ true)
+both true b e = (refl, e)
+both false b e = absurd (cc)
+
+and_true : (a b : Bool) → a ≡ true → b ≡ true → (a && b) ≡ true
+and_true true b e f = f
+and_true false b e f = absurd (cc)
+
+byte_in_line : (b : ℕ) → in_word b ≡ true → in_line b ≡ true
+byte_in_line b e = grind arith
+
+word_in_line : (w : List ℕ) → list_all in_word w ≡ true → list_all in_line w ≡ true
+word_in_line [] e = refl
+word_in_line (b ∷ bs) e =
+    let parts = both (in_word b) (list_all in_word bs) e in
+    and_true (in_line b) (list_all in_line bs) (byte_in_line b parts.0) (word_in_line bs parts.1)
+
+decimal_in_line : (n : ℕ) → IsWide n → list_all in_line (decimal n) ≡ true
+decimal_in_line n h = word_in_line (decimal n) (decimal_in_word n h)
+
+-- two parts of a line
+joined_in_line : (a b : List ℕ) → list_all in_line a ≡ true → list_all in_line b ≡ true → list_all in_line (a ++ b) ≡ true
+joined_in_line a b e f = list_all-append in_line a b ∙ and_true (list_all in_line a) (list_all in_line b) e f
+
+-- a part of a line, a space, and another part
+spaced_in_line : (a b : List ℕ) → list_all in_line a ≡ true → list_all in_line b ≡ true → list_all in_line (a ++ 32 ∷ b) ≡ true
+spaced_in_line a b e f = joined_in_line a (32 ∷ b) e f
+
+number_in_line : (o : Option ℕ) → IsWideWhere o → list_all in_line (number_or_dash o) ≡ true
+number_in_line None h = refl
+number_in_line (Some n) h = decimal_in_line n h
+
+byte_wide : (n : ℕ) → n ≤ 255 → IsWide n
+byte_wide n h = omega arith
+
+xrun_in_line : (w : XrunWhy) → IsXrunInRange w → list_all in_line (xrun_text w) ≡ true
+xrun_in_line Empty h = refl
+xrun_in_line Already h = refl
+xrun_in_line (Avail a s) h = joined_in_line (codes "avail ") (decimal a) refl (decimal_in_line a h)
+xrun_in_line (Late f c s) h = spaced_in_line (codes "late " ++ decimal f) (decimal c) (joined_in_line (codes "late ") (decimal f) refl (decimal_in_line f h.0)) (decimal_in_line c (byte_wide c h.1))
+xrun_in_line (Overtaken f c s) h = spaced_in_line (codes "overtaken " ++ decimal f) (decimal c) (joined_in_line (codes "overtaken ") (decimal f) refl (decimal_in_line f h.0)) (decimal_in_line c (byte_wide c h.1))
+
+answer_in_line : (a : Answer) → IsAnswerInRange a → list_all in_line (answer_text a) ≡ true
+answer_in_line Done h = refl
+answer_in_line (Count n) h = decimal_in_line n h
+answer_in_line (Failed BadState) h = refl
+answer_in_line (Failed (Xrun w)) h = joined_in_line (codes "EPIPE ") (xrun_text w) refl (xrun_in_line w h)
+answer_in_line (Failed Again) h = refl
+answer_in_line (Failed NoDevice) h = refl
+answer_in_line (Failed (Invalid w)) h = refl
+answer_in_line (Failed (Busy u s)) h = spaced_in_line (codes "EBUSY " ++ number_or_dash u) (decimal s) (joined_in_line (codes "EBUSY ") (number_or_dash u) refl (number_in_line u h.0)) (decimal_in_line s h.1)
+answer_in_line (Failed NotSupported) h = refl
+answer_in_line (Failed Stopped) h = refl
+answer_in_line (Failed LapEnd) h = refl
+answer_in_line (Failed Memory) h = refl
+
+state_in_line : (s : PcmState) → list_all in_line (state_name s) ≡ true
+state_in_line state.Open = refl
+state_in_line state.Setup = refl
+state_in_line state.Prepared = refl
+state_in_line state.Running = refl
+state_in_line state.Xrun = refl
+state_in_line state.Draining = refl
+state_in_line state.Paused = refl
+state_in_line state.Suspended = refl
+state_in_line state.Disconnected = refl
+
+counted_in_line : (w : List ℕ) (n : ℕ) → list_all in_line w ≡ true → IsWide n → list_all in_line (w ++ 32 ∷ decimal n) ≡ true
+counted_in_line w n e h = spaced_in_line w (decimal n) e (decimal_in_line n h)
+
+op_in_line : (o : Op) → IsOpInRange o → list_all in_line (op_text o) ≡ true
+op_in_line (op.Play n) h = counted_in_line (codes "play") n refl h
+op_in_line op.Unplug h = refl
+op_in_line (op.Write n) h = counted_in_line (codes "write") n refl h
+op_in_line (op.Read n) h = counted_in_line (codes "read") n refl h
+op_in_line op.Start h = refl
+op_in_line op.Sync h = refl
+op_in_line op.Avail h = refl
+op_in_line op.Delay h = refl
+op_in_line op.Drain h = refl
+op_in_line op.Drop h = refl
+op_in_line op.Prepare h = refl
+op_in_line op.Pause h = refl
+op_in_line op.Resume h = refl
+op_in_line (op.Rewind n) h = counted_in_line (codes "rewind") n refl h
+op_in_line op.Rewindable h = refl
+op_in_line (op.Die n) h = counted_in_line (codes "die") n refl h
+op_in_line op.Opens h = refl
+op_in_line op.Closes h = refl
+
+actor_in_line : (script : Script) (actor : Actor) → IsScript script → IsActor (length script.clients) (length script.readers) actor → list_all in_line (actor_name script actor) ≡ true
+actor_in_line script Card valid h = refl
+actor_in_line script (Client n) valid h = word_in_line (client_name script n) (client-found script n valid h).1
+actor_in_line script (Reader n) valid h = word_in_line (reader_name script n) (reader-found script n valid h).1
+
+pub front_in_line : (script : Script) (row : Row) → IsScript script → IsRowOf script row → IsRowInRange row → list_all in_line (front_text script (request_of_row row)) ≡ true
+front_in_line script row valid of n =
+    joined_in_line (decimal row.phase ++ 32 ∷ actor_name script row.actor ++ 32 ∷ op_text row.op) (codes " =")
+    (spaced_in_line (decimal row.phase ++ 32 ∷ actor_name script row.actor) (op_text row.op)
+    (spaced_in_line (decimal row.phase) (actor_name script row.actor) (decimal_in_line row.phase n.phase) (actor_in_line script row.actor valid of.actor))
+    (op_in_line row.op n.op)) refl
+
+pub row_is_line : (script : Script) (row : Row) → IsScript script → IsRowOf script row → IsRowInRange row → IsLineText (row_line script row)
+row_is_line script row valid of n = record {
+  words = front_text script (request_of_row row) ++ 32 ∷ answer_text row.answer ++ 32 ∷ state_name row.state ++ 32 ∷ number_or_dash row.seen;
+  is = refl;
+  whole =
+      spaced_in_line (front_text script (request_of_row row) ++ 32 ∷ answer_text row.answer ++ 32 ∷ state_name row.state) (number_or_dash row.seen)
+      (spaced_in_line (front_text script (request_of_row row) ++ 32 ∷ answer_text row.answer) (state_name row.state)
+      (spaced_in_line (front_text script (request_of_row row)) (answer_text row.answer) (front_in_line script row valid of n) (answer_in_line row.answer n.answer))
+      (state_in_line row.state))
+      (number_in_line row.seen n.seen);
+}
+
+pub segment_is_line : (script : Script) (client : ℕ) (s : Segment) → IsScript script → client < length script.clients → IsSegmentInRange s → IsLineText (segment_line script (client, s))
+segment_is_line script client s valid h n =
+    let name = word_in_line (client_name script client) (client-found script client valid h).1 in
+    let a : List ℕ = codes "segment " ++ client_name script client in
+    record {
+      words = a ++ 32 ∷ decimal s.source ++ 32 ∷ decimal s.card ++ 32 ∷ decimal s.whole ++ 32 ∷ decimal s.part;
+      is = refl;
+      whole =
+          spaced_in_line (a ++ 32 ∷ decimal s.source ++ 32 ∷ decimal s.card ++ 32 ∷ decimal s.whole) (decimal s.part)
+          (spaced_in_line (a ++ 32 ∷ decimal s.source ++ 32 ∷ decimal s.card) (decimal s.whole)
+          (spaced_in_line (a ++ 32 ∷ decimal s.source) (decimal s.card)
+          (spaced_in_line a (decimal s.source) (joined_in_line (codes "segment ") (client_name script client) refl name) (decimal_in_line s.source n.source))
+          (decimal_in_line s.card n.card))
+          (decimal_in_line s.whole n.whole))
+          (decimal_in_line s.part (byte_wide s.part n.part));
+    }
+
+pub run_is_line : (script : Script) (reader first count : ℕ) → IsScript script → reader < length script.readers → IsWide first → IsWide count → IsLineText (run_line script (reader, first, count))
+run_is_line script reader first count valid h f c =
+    let name = word_in_line (reader_name script reader) (reader-found script reader valid h).1 in
+    let a : List ℕ = codes "run " ++ reader_name script reader in
+    record {
+      words = a ++ 32 ∷ decimal first ++ 32 ∷ decimal count;
+      is = refl;
+      whole = spaced_in_line (a ++ 32 ∷ decimal first) (decimal count)
+          (spaced_in_line a (decimal first) (joined_in_line (codes "run ") (reader_name script reader) refl name) (decimal_in_line first f)) (decimal_in_line count c);
+    }
+
+pub played_is_line : (first frames : ℕ) → IsWide first → IsWide frames → IsLineText (played_line first frames)
+played_is_line first frames f n = record {
+  words = codes "played " ++ decimal first ++ 32 ∷ decimal frames;
+  is = refl;
+  whole = spaced_in_line (codes "played " ++ decimal first) (decimal frames) (joined_in_line (codes "played ") (decimal first) refl (decimal_in_line first f)) (decimal_in_line frames n);
+}

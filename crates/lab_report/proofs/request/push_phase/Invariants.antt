@@ -1,0 +1,6 @@
+use Rattle.std.proofs.Common.{◌≡◌, ◌++◌, map}
+use Rattle.lab_report.specs.Requests.{request_of, before_place}
+use Rattle.lab_report.proofs.request.push_phase.Given as goal
+
+abbrev pub invariant-loop-place : goal.invariant-loop-place
+invariant-loop-place l = l.requests.items ≡ l.fn.requests.items ++ map (request_of l.phase) (before_place l.lines l.place)

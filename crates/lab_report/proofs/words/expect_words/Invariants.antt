@@ -1,0 +1,10 @@
+use Rattle.std.proofs.Common.{◌≡◌, length}
+use Rattle.std.specs.List.{slice_split}
+use Rattle.lab_report.specs.Words.{is_space, expect_words}
+use Rattle.lab_report.proofs.words.expect_words.Given as goal
+
+abbrev pub invariant-loop-word : goal.invariant-loop-word
+invariant-loop-word l = expect_words (slice_split is_space l.words) l.rest ≡ expect_words (slice_split is_space l.fn.words) l.fn.rest
+
+abbrev pub decreases-loop-word : goal.decreases-loop-word
+decreases-loop-word l = length l.words

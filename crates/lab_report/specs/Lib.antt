@@ -1,0 +1,7 @@
+pub mod Requests
+pub mod Text
+pub mod Ranges
+pub mod Causes
+pub mod Words
+pub mod Answers
+pub mod Reading

@@ -1,0 +1,53 @@
+use std::alloc::{AllocError, AllocFailed};
+use thiserror::Error;
+
+/// Why a text is no report of a script.
+#[derive(Clone, Copy, Debug, PartialEq, Eq, Error)]
+pub enum ReportWhy {
+    /// A word isn't the one, or one of those, that can stand here; or the line ends before it.
+    #[error("Word")]
+    Word,
+    /// A word isn't a number in its decimal form, where a number must stand.
+    #[error("Number")]
+    Number,
+    /// The text ends before a word, a line or a line feed that must follow.
+    #[error("Ended")]
+    Ended,
+    /// A word stands behind a line that is whole, or a line behind `end`.
+    #[error("Extra")]
+    Extra,
+    /// Memory ran out.
+    #[error("Memory")]
+    Memory,
+}
+
+/// A refusal of a report: why, and the number of the line that it is about, from 1 on. It is that of
+/// the text's last line where the text ends too early, and 0 for an empty text.
+#[derive(Clone, Copy, Debug, PartialEq, Eq, Error)]
+#[error("line {line}: {why}")]
+pub struct ReportError {
+    pub line: u32,
+    pub why: ReportWhy,
+}
+
+impl From<AllocError> for ReportWhy {
+    ghost use Rattle.std.specs.Prelude.{◌≡◌};
+    ghost use Rattle.lab_report.specs.declared.error.ReportWhy.TheVariants as why;
+
+    ghost from_gives = { λ _ e. e ≡ why.Memory };
+
+    fn from(_error: AllocError) -> ReportWhy {
+        ReportWhy::Memory
+    }
+}
+
+impl<T: Drop> From<AllocFailed<T>> for ReportWhy {
+    ghost use Rattle.std.specs.Prelude.{◌≡◌};
+    ghost use Rattle.lab_report.specs.declared.error.ReportWhy.TheVariants as why;
+
+    ghost from_gives = { λ _ e. e ≡ why.Memory };
+
+    fn from(_error: AllocFailed<T>) -> ReportWhy {
+        ReportWhy::Memory
+    }
+}

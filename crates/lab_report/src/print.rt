@@ -1,0 +1,141 @@
+//! Printing a report.
+ghost use Rattle.std.specs.Prelude.{◌≡◌, ◌++◌, All, string_bytes, IfErr, IfOk, Ok, OnOk};
+ghost use Rattle.std.specs.List.{flat_map};
+ghost use Rattle.lab_script.specs.Limits.{IsScript};
+ghost use Rattle.lab_report.specs.Ranges.{IsReportInRange};
+ghost use Rattle.lab_report.specs.Reading.{report_of};
+ghost use Rattle.lab_report.specs.Text.{report_text, row_line, segment_line, run_line, tail_text, IsReportOf, IsRowOf, IsSegmentOf, IsRunOf, IsTailOf};
+
+use crate::report::Report;
+use crate::row::Row;
+use crate::text::{push_row, push_run, push_segment};
+use lab_script::Script;
+use snd_base::{PcmError, Segment};
+use std::alloc::{AllocError, Global};
+
+/// Appends the lines of rows.
+fn push_rows(text: &mut String, script: &Script, rows: &[Row]) -> Result<(), AllocError>
+    requires { All (IsRowOf script.now) rows.now }
+    ensures { OnOk result
+        (string_bytes text.new ≡ string_bytes text.old ++ flat_map (row_line script.now) rows.now) }
+{
+    for row in rows {
+        push_row(text, script, row)?;
+    }
+    Ok(())
+}
+
+/// Appends the lines of segments.
+fn push_segments(
+    text: &mut String,
+    script: &Script,
+    segments: &[(u32, Segment)],
+) -> Result<(), AllocError>
+    requires { All (IsSegmentOf script.now) segments.now }
+    ensures { OnOk result
+        (string_bytes text.new ≡ string_bytes text.old
+        ++ flat_map (segment_line script.now) segments.now) }
+{
+    for (client, segment) in segments {
+        push_segment(text, script, *client, segment)?;
+    }
+    Ok(())
+}
+
+/// Appends the lines of runs.
+fn push_runs(text: &mut String, script: &Script, runs: &[(u32, u64, u64)]) -> Result<(), AllocError>
+    requires { All (IsRunOf script.now) runs.now }
+    ensures { OnOk result
+        (string_bytes text.new ≡ string_bytes text.old ++ flat_map (run_line script.now) runs.now) }
+{
+    for (reader, first, count) in runs {
+        push_run(text, script, *reader, *first, *count)?;
+    }
+    Ok(())
+}
+
+/// Appends what is below the rows.
+fn push_tail(text: &mut String, report: &Report, script: &Script) -> Result<(), AllocError>
+    requires { IsTailOf script.now report.now }
+    ensures { OnOk result
+        (string_bytes text.new ≡ string_bytes text.old ++ tail_text script.now report.now) }
+{
+    push_segments(text, script, report.segments.as_slice())?;
+    push_runs(text, script, report.runs.as_slice())?;
+    let first = report.first;
+    let frames = report.frames;
+    write!(text, "played {first} {frames}\nend\n")
+}
+
+/// Appends the line of a row of a run of this script to the bytes of a report's text.
+///
+/// The row's actor has to be the script's, and its answer and state such as a report can tell: no answer is
+/// `PcmError::LapEnd` or `PcmError::Memory`, the cause of an `Invalid` is `Why::Config`, the field `seen` of an
+/// `Xrun` is 0, and no state is `State::Suspended`.
+///
+/// The one error is `PcmError::Memory`.
+pub fn print_row(row: &Row, script: &Script, text: &mut Vec<u8>) -> Result<(), PcmError>
+    requires { IsRowOf script.now row.now }
+    ensures ok { OnOk result (text.new.items ≡ text.old.items ++ row_line script.now row.now) }
+    ensures only { IfErr result (λ error. error ≡ PcmError.Memory) }
+{
+    let mut line = String::new(*text.allocator());
+    push_row(&mut line, script, row)?;
+    text.extend_from_slice(line.as_bytes())?;
+    Ok(())
+}
+
+/// Appends what is below the rows of a report of a run of this script to the bytes of its text: the lines of
+/// the segments, those of the runs, the frames that were played, and the end.
+///
+/// The segments and runs have to be of the script's clients and readers.
+///
+/// The one error is `PcmError::Memory`.
+pub fn print_tail(report: &Report, script: &Script, text: &mut Vec<u8>) -> Result<(), PcmError>
+    requires { IsTailOf script.now report.now }
+    ensures ok { OnOk result (text.new.items ≡ text.old.items ++ tail_text script.now report.now) }
+    ensures only { IfErr result (λ error. error ≡ PcmError.Memory) }
+{
+    let mut tail = String::new(*text.allocator());
+    push_tail(&mut tail, report, script)?;
+    text.extend_from_slice(tail.as_bytes())?;
+    Ok(())
+}
+
+/// The text of a report of a run of this script, in bytes. Its lines end with a line feed, and their
+/// words are joined by one space:
+///
+/// - `dmixlab 1`
+/// - `PHASE NAME OP = ANSWER STATE SEEN` for each row, where NAME is `card` or the name of a client or reader,
+///   OP is as in a script (`open` and `close` for an opening and a closing), STATE is as `snd_pcm_state_name`
+///   gives it, and SEEN is a position in frames, or `-` where none was seen
+/// - `segment NAME SOURCE CARD WHOLE PART` for each segment, in frames, but for PART, in channels
+/// - `run NAME FIRST COUNT` for each run, in frames
+/// - `played FIRST FRAMES`
+/// - `end`
+///
+/// An ANSWER is `ok`, a number of frames, `stopped`, or the name of the error number (errno.h) that
+/// ALSA answers in that case, and what it is about: `EBADFD`, `EPIPE empty`, `EPIPE already`,
+/// `EPIPE avail FRAMES`, `EPIPE late FRAME CHANNEL`, `EPIPE overtaken FRAME CHANNEL`, `EAGAIN`,
+/// `ENODEV`, `EINVAL`, `EIO`, and `EBUSY UNTIL SEEN`, where UNTIL is `-` if it isn't known.
+///
+/// The report has to be one of the script: its rows are those of the script's lines, in order, and such as
+/// `print_row` takes; its segments and runs are of the script's clients and readers.
+///
+/// The one error is `PcmError::Memory`.
+pub fn print_report(alloc: Global, report: &Report, script: &Script) -> Result<Vec<u8>, PcmError>
+    requires of { IsReportOf script.now report.now }
+    requires script { IsScript script.now }
+    ensures text { IfOk result (λ bytes. bytes.items ≡ report_text script.now report.now) }
+
+    // What is printed is read as the same report, where its numbers are within their types, as each report's are.
+    ensures back { IsReportInRange report.now
+        → IfOk result (λ bytes. report_of script.now bytes.items ≡ Ok report.now) }
+    ensures only { IfErr result (λ error. error ≡ PcmError.Memory) }
+{
+    let mut text = String::new(alloc);
+    writeln!(text, "dmixlab 1")?;
+    push_rows(&mut text, script, report.rows.as_slice())?;
+    push_tail(&mut text, report, script)?;
+    Ok(text.into_bytes())
+}

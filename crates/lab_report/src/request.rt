@@ -1,0 +1,113 @@
+//! What the rows of a report are about: each line of a script once, in the order of the rows.
+ghost use Rattle.std.specs.Prelude.{◌≡◌, ◌<◌, ◌∷◌, ◌++◌, [], IfOk, OnOk, length, map};
+ghost use Rattle.lab_script.specs.Limits.{IsScript};
+ghost use Rattle.lab_script.specs.Script.{phases_of};
+ghost use Rattle.lab_report.specs.Requests.{place_of, request_of, of_place, in_order, item_requests, requests_of};
+
+use lab_script::{Actor, Item, Line, Op, Script};
+use std::alloc::{AllocError, Global};
+
+/// What a row is about: an actor was asked for something. The phase is counted from 1; for an opening or
+/// a closing it is the number of phases before it.
+#[derive(Clone, Copy, Debug, PartialEq, Eq)]
+pub struct Request {
+    pub phase: u32,
+    pub actor: Actor,
+    pub op: Op,
+}
+
+/// How many places actors can have in a phase: the card's, 64 of clients and 64 of readers.
+const PLACES: u64 = 129;
+
+/// The place of an actor among the rows of a phase: the card is first, then the clients, then the readers.
+fn place_of(actor: Actor) -> u64
+    ensures { result ≡ place_of actor }
+{
+    match actor {
+        Actor::Card => 0,
+        Actor::Client(number) => 1 + u64::from(number),
+        Actor::Reader(number) => 65 + u64::from(number),
+    }
+}
+
+/// Appends the requests of those lines of a phase whose actor has this place.
+fn push_place(
+    requests: &mut Vec<Request>,
+    phase: u32,
+    place: u64,
+    lines: &[Line],
+) -> Result<(), AllocError>
+    ensures { OnOk result
+        (requests.new.items ≡ requests.old.items ++ map (request_of phase) (of_place lines.now place)) }
+{
+    for line in lines {
+        if place_of(line.actor) == place {
+            requests.push(Request {
+                phase,
+                actor: line.actor,
+                op: line.op,
+            })?;
+        }
+    }
+    Ok(())
+}
+
+/// Appends the requests of a phase.
+fn push_phase(requests: &mut Vec<Request>, phase: u32, lines: &[Line]) -> Result<(), AllocError>
+    ensures { OnOk result
+        (requests.new.items ≡ requests.old.items ++ map (request_of phase) (in_order lines.now)) }
+{
+    for place in 0..PLACES {
+        push_place(requests, phase, place, lines)?;
+    }
+    Ok(())
+}
+
+/// Appends the requests of an item of a script's body, behind so many phases.
+fn push_item(requests: &mut Vec<Request>, phases: u32, item: &Item) -> Result<(), AllocError>
+    requires { phases < 4294967295 }
+    ensures { OnOk result
+        (requests.new.items ≡ requests.old.items ++ item_requests phases item.now) }
+{
+    match item {
+        Item::Opens { actor, .. } => requests.push(Request {
+            phase: phases,
+            actor: *actor,
+            op: Op::Opens,
+        })?,
+        Item::Closes { actor, .. } => requests.push(Request {
+            phase: phases,
+            actor: *actor,
+            op: Op::Closes,
+        })?,
+        Item::Phase(phase) => push_phase(requests, phases + 1, phase.as_slice())?,
+    }
+    Ok(())
+}
+
+/// How many phases an item is.
+fn phases_in(item: &Item) -> u32
+    ensures { result ≡ length (phases_of (item.now ∷ [])) }
+{
+    match item {
+        Item::Phase(_) => 1,
+        _ => 0,
+    }
+}
+
+/// What the rows of a report of this script are about, in their order: that of the script's body, and in a
+/// phase the card's lines, then those of each client, then those of each reader.
+///
+/// The one error is that memory ran out.
+pub fn requests_of(alloc: Global, script: &Script) -> Result<Vec<Request>, AllocError>
+    requires { IsScript script.now }
+    ensures { IfOk result (λ all. all.items ≡ requests_of script.now) }
+{
+    let mut requests = Vec::new(alloc);
+    let mut phases = 0;
+    for item in script.body.as_slice() {
+        push_item(&mut requests, phases, item)?;
+        phases += phases_in(item);
+    }
+    Ok(requests)
+}
