@@ -19,21 +19,22 @@ use Rattle.dmix_client.specs.Calls.{Answered, commit_count, committed_by, end_ch
 use Rattle.dmix_client.specs.Causes.{IsCaused, IsMissed, Reaches}
 use Rattle.mix_core.specs.Port.{IsPast, OnLate, PortView}
 use Rattle.dmix_client.specs.Port.{IsCommit, IsFound, IsStep}
-use Rattle.dmix_client.specs.View.{avail_of, is_moving, queued_of}
+use Rattle.pcm_stream.specs.Status.{is_moving}
+use Rattle.dmix_client.specs.View.{avail_of, queued_of}
 use Rattle.dmix_client.proofs.Caused.{IsPlain, Says, frame_in, next-says, number_in}
 
 -- a client ended its commit there
 pub record EndsAt (at d : Plain) (x : Commit) : Type 0 where
-  pub card : d.card ≡ at.card
-  pub bindings : d.bindings ≡ at.bindings
-  pub committed : d.committed ≡ at.committed + x.frames
-  pub part : d.part ≡ x.part
+  pub card : d.stretch.card ≡ at.stretch.card
+  pub bindings : d.setup.bindings ≡ at.setup.bindings
+  pub committed : d.stretch.committed ≡ at.stretch.committed + x.frames
+  pub part : d.stretch.part ≡ x.part
 
 -- the channel at which a commit ended is the next of the client after it
-channel-same : (at d : Plain) (x : Commit) → EndsAt at d x → end_channel at x ≡ end_channel d (record { frames = 0; part = d.part; ended = x.ended })
+channel-same : (at d : Plain) (x : Commit) → EndsAt at d x → end_channel at x ≡ end_channel d (record { frames = 0; part = d.stretch.part; ended = x.ended })
 channel-same at d x ends =
     ap (λ (n : ℕ). end_channel at (record x { part = n })) (sym ends.part)
-    ∙ ap (λ (b : List ℕ). end_channel (record at { bindings = b }) (record x { part = d.part })) (sym ends.bindings)
+    ∙ ap (λ (b : List ℕ). end_channel (record at { setup = record at.setup { bindings = b } }) (record x { part = d.stretch.part })) (sym ends.bindings)
 
 -- what is told where nothing was loaded
 pub if-none : {X : Type 0} (o : Option X) {P Q : Type 0} → (P → Q) → IfNone o P → IfNone o Q
@@ -129,13 +130,13 @@ last-true true b n is = refl
 last-true false true n is = refl
 last-true false false n is = absurd (cc)
 
-IsPlain-synced : (c : Plain) (position : Position) (x : Commit) → IsCommit x.ended x.frames x.part (sync_count c position) (length c.bindings)
+IsPlain-synced : (c : Plain) (position : Position) (x : Commit) → IsCommit x.ended x.frames x.part (sync_count c position) (length c.setup.bindings)
     → IsPlain position.gone (over_of (seen_at c position) position) x.ended
 IsPlain-synced c position x is =
     let over = over_of (seen_at c position) position in
-    let count = commit_count c position.frame c.written in
+    let count = commit_count c position.frame c.stretch.written in
     let whole : sync_count c position ≡ 0 → x.ended ≡ ended.Whole =
-    λ none. none-laid x.ended x.frames x.part (length c.bindings) (subst (λ (n : ℕ). IsCommit x.ended x.frames x.part n (length c.bindings)) none is) in
+    λ none. none-laid x.ended x.frames x.part (length c.setup.bindings) (subst (λ (n : ℕ). IsCommit x.ended x.frames x.part n (length c.setup.bindings)) none is) in
     record {
       here = λ h. whole (first-true position.gone (is_some over) count h);
       below = λ a f h. whole (last-true position.gone (is_some over) count (ap (λ (o : Option (ℕ × ℕ)). is_some o) h));
@@ -156,11 +157,11 @@ both-true s t n is = by_test (is_running s) is
     by_test true e = (refl, grind (arith, nat_tests))
     by_test false e = absurd (cc)
 
-some-of : (c : Plain) (position : Position) (a f : ℕ) → c.state ≡ Running → c.params.stop_threshold ≤ a → a ≡ avail_of (seen_at c position) → f ≡ position.frame
+some-of : (c : Plain) (position : Position) (a f : ℕ) → c.status.state ≡ Running → c.setup.params.stop_threshold ≤ a → a ≡ avail_of (seen_at c position) → f ≡ position.frame
     → over_of (seen_at c position) position ≡ Some (a, f)
 some-of c position a f running low is_avail is_frame =
-    let reached : (is_running c.state && nat_le c.params.stop_threshold (avail_of (seen_at c position))) ≡ true =
-    ap (λ (s : State). is_running s && nat_le c.params.stop_threshold (avail_of (seen_at c position))) running ∙ at_threshold c.params.stop_threshold a (avail_of (seen_at c position)) low is_avail in
+    let reached : (is_running c.status.state && nat_le c.setup.params.stop_threshold (avail_of (seen_at c position))) ≡ true =
+    ap (λ (s : State). is_running s && nat_le c.setup.params.stop_threshold (avail_of (seen_at c position))) running ∙ at_threshold c.setup.params.stop_threshold a (avail_of (seen_at c position)) low is_avail in
     ap (λ (b : Bool). let o : Option (ℕ × ℕ) = (if b then Some (avail_of (seen_at c position), position.frame) else None) in o) reached
     ∙ ap (λ (n : ℕ). let o : Option (ℕ × ℕ) = Some (n, position.frame) in o) (sym is_avail)
     ∙ ap (λ (n : ℕ). let o : Option (ℕ × ℕ) = Some (a, n) in o) (sym is_frame)
@@ -173,13 +174,13 @@ reaches-over c position a f = (λ h. there h.0 h.1, λ h. (h.0, some-of c positi
   where
     there : position.gone ≡ false → over_of (seen_at c position) position ≡ Some (a, f) → Reaches c (Some position) a f
     there here is =
-        let found = if-some (is_running c.state && nat_le c.params.stop_threshold (avail_of (seen_at c position))) (avail_of (seen_at c position)) position.frame a f is in
-        let both = both-true c.state c.params.stop_threshold (avail_of (seen_at c position)) found.0 in
-        (here, running-is c.state both.0, omega (arith, both.1, found.1), found.1, found.2)
+        let found = if-some (is_running c.status.state && nat_le c.setup.params.stop_threshold (avail_of (seen_at c position))) (avail_of (seen_at c position)) position.frame a f is in
+        let both = both-true c.status.state c.setup.params.stop_threshold (avail_of (seen_at c position)) found.0 in
+        (here, running-is c.status.state both.0, omega (arith, both.1, found.1), found.1, found.2)
 
-draining-below : (c : Plain) (position : Position) → c.state ≡ Draining → over_of (seen_at c position) position ≡ None
+draining-below : (c : Plain) (position : Position) → c.status.state ≡ Draining → over_of (seen_at c position) position ≡ None
 draining-below c position is =
-    ap (λ (s : State). let o : Option (ℕ × ℕ) = (if is_running s && nat_le c.params.stop_threshold (avail_of (seen_at c position)) then Some (avail_of (seen_at c position), position.frame) else None) in o) is
+    ap (λ (s : State). let o : Option (ℕ × ℕ) = (if is_running s && nat_le c.setup.params.stop_threshold (avail_of (seen_at c position)) then Some (avail_of (seen_at c position), position.frame) else None) in o) is
 
 answer-if : (b : Bool) (x y : Answered (Unit {0})) → (if b then x else y).1 ≡ (if b then x.1 else y.1)
 answer-if true x y = refl
@@ -187,30 +188,30 @@ answer-if false x y = refl
 
 ends-if : (c : Plain) (call : Call) (position : Position) (x : Commit) (stop : Bool)
     → EndsAt c (if stop then stopped_in {T = Unit {0}} (committed_by (seen_at c position) x)
-    else settled (committed_by (seen_at c position) x) (next_of c.state call (facts_of (committed_by (seen_at c position) x) position (over_of (seen_at c position) position) (late_of (seen_at c position) x)))).0 x
+    else settled (committed_by (seen_at c position) x) (next_of c.status.state call (facts_of (committed_by (seen_at c position) x) position (over_of (seen_at c position) position) (late_of (seen_at c position) x)))).0 x
 ends-if c call position x true = record { card = refl; bindings = refl; committed = refl; part = refl }
 ends-if c call position x false = record { card = refl; bindings = refl; committed = refl; part = refl }
 
 module _ {S : Type 0} (view : S → PortView) (shows : S → ℕ → ℕ → Option ℕ) (q : S) where
-  pub IsCaused-plain : (c : Plain) (call : Call) (load : Option Position) (x : Commit) → IsStep c.state call → IfSome load (λ position. IsPlain position.gone (over_of (seen_at c position) position) x.ended)
+  pub IsCaused-plain : (c : Plain) (call : Call) (load : Option Position) (x : Commit) → IsStep c.status.state call → IfSome load (λ position. IsPlain position.gone (over_of (seen_at c position) position) x.ended)
       → IfSome load (λ position. OnLate x.ended (λ word. IsPast view shows q (end_of_commit c x) (end_channel c x) word))
       → IsCaused {X = Unit {0}} view shows q c (synced c call load x).0 load (synced c call load x).1
-  IsCaused-plain c call None x step plain shown = caused-none view shows q c (record c { stopped = true })
+  IsCaused-plain c call None x step plain shown = caused-none view shows q c (record c { status = record c.status { stopped = true } })
   IsCaused-plain c call (Some position) x step plain shown =
       let over = over_of (seen_at c position) position in
       let done = committed_by (seen_at c position) x in
-      let says = next-says c.state call (queued_of done) position.gone over x.ended (end_of_commit c x) (end_channel c x) step (draining-below c position) plain in
-      let same = answer-if (is_stop x.ended) (stopped_in done) (settled done (next_of c.state call (facts_of done position over (late_of (seen_at c position) x)))) in
+      let says = next-says c.status.state call (queued_of done) position.gone over x.ended (end_of_commit c x) (end_channel c x) step (draining-below c position) plain in
+      let same = answer-if (is_stop x.ended) (stopped_in done) (settled done (next_of c.status.state call (facts_of done position over (late_of (seen_at c position) x)))) in
       caused-some view shows q c c (synced c call (Some position) x).0 position x over (synced c call (Some position) x).1
       (subst (λ (r : Result (Unit {0}) PcmError). Says r position.gone over x.ended (end_of_commit c x) (end_channel c x)) (sym same) says)
       (reaches-over c position) (ends-if c call position x (is_stop x.ended)) shown
 
-  pub IsCaused-synced : (c : Plain) (call : Call) (load : Option Position) (x : Commit) → IsStep c.state call → IsFound load x (λ position. c) (sync_count c) (length c.bindings)
+  pub IsCaused-synced : (c : Plain) (call : Call) (load : Option Position) (x : Commit) → IsStep c.status.state call → IsFound load x (λ position. c) (sync_count c) (length c.setup.bindings)
       → IfSome load (λ position. OnLate x.ended (λ word. IsPast view shows q (end_of_commit c x) (end_channel c x) word))
       → IsCaused {X = Unit {0}} view shows q c (synced c call load x).0 load (synced c call load x).1
   IsCaused-synced c call load x step found shown = IsCaused-plain c call load x step (plain-found load found.commit_is) shown
     where
-      plain-found : (at : Option Position) → IfSome at (λ (position : Position). IsCommit x.ended x.frames x.part (sync_count c position) (length c.bindings))
+      plain-found : (at : Option Position) → IfSome at (λ (position : Position). IsCommit x.ended x.frames x.part (sync_count c position) (length c.setup.bindings))
           → IfSome at (λ position. IsPlain position.gone (over_of (seen_at c position) position) x.ended)
       plain-found None commit_is = tt
       plain-found (Some position) commit_is = IsPlain-synced c position x commit_is

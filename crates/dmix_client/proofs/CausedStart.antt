@@ -19,7 +19,7 @@ use Rattle.mix_core.specs.Port.{IsPast, OnLate, PortView}
 use Rattle.dmix_client.proofs.Caused.{Says, other-ok, other-stopped, says-late, says-other}
 use Rattle.dmix_client.proofs.CausedBy.{caused-ok, EndsAt, caused-none, caused-number, caused-some}
 
-none-reached : (c : Plain) (position : Position) (a f : ℕ) → c.state ≡ Prepared → ((position.gone ≡ false) × ((let o : Option (ℕ × ℕ) = None in o) ≡ Some (a, f))) ↔ Reaches c (Some position) a f
+none-reached : (c : Plain) (position : Position) (a f : ℕ) → c.status.state ≡ Prepared → ((position.gone ≡ false) × ((let o : Option (ℕ × ℕ) = None in o) ≡ Some (a, f))) ↔ Reaches c (Some position) a f
 none-reached c position a f waits = (λ h. let x = h.1 in cc, λ h. let x = h.1 in cc)
 
 going_on-answer : (d : Plain) (answer : Result (Unit {0}) PcmError) (state refused : State) → (going_on_by answer d state refused).1 ≡ answer
@@ -60,7 +60,7 @@ begun-ends c state cursor position x false =
 
 module _ {S : Type 0} (view : S → PortView) (shows : S → ℕ → ℕ → Option ℕ) (q : S) where
   -- the card is gone
-  caused-gone : (c d : Plain) (position : Position) → c.state ≡ Prepared → position.gone ≡ true → IsCaused {X = Unit {0}} view shows q c d (Some position) (Err NoDevice)
+  caused-gone : (c d : Plain) (position : Position) → c.status.state ≡ Prepared → position.gone ≡ true → IsCaused {X = Unit {0}} view shows q c d (Some position) (Err NoDevice)
   caused-gone c d position waits gone = record {
     unless_stopped = tt;
     of_steps = tt;
@@ -70,7 +70,7 @@ module _ {S : Type 0} (view : S → PortView) (shows : S → ℕ → ℕ → Opt
     never_lap_end = λ h. cc;
   }
 
-  caused-by_gone : (c : Plain) (state : State) (cursor : Cursor) (position : Position) (x : Commit) (gone : Bool) → position.gone ≡ gone → c.state ≡ Prepared
+  caused-by_gone : (c : Plain) (state : State) (cursor : Cursor) (position : Position) (x : Commit) (gone : Bool) → position.gone ≡ gone → c.status.state ≡ Prepared
       → OnLate x.ended (λ word. IsPast view shows q (end_of_commit (started_in c Running position cursor) x) (end_channel (started_in c Running position cursor) x) word)
       → (let a : Answered (Unit {0}) = (if gone then going_on (seen_at c position) state (next_of Prepared call.Start (found_at position None)) else begun_by c state cursor position x (is_stop x.ended)) in
       IsCaused {X = Unit {0}} view shows q c a.0 (Some position) a.1)
@@ -88,10 +88,10 @@ module _ {S : Type 0} (view : S → PortView) (shows : S → ℕ → ℕ → Opt
       (subst (λ (r : Result (Unit {0}) PcmError). Says r position.gone None x.ended (end_of_commit at x) (end_channel at x)) (sym same) says)
       (λ a f. none-reached c position a f waits) (begun-ends c state cursor position x (is_stop x.ended)) shown
 
-  pub IsCaused-started : (c : Plain) (state : State) (cursor : Cursor) (load : Option Position) (x : Commit) → c.state ≡ Prepared
+  pub IsCaused-started : (c : Plain) (state : State) (cursor : Cursor) (load : Option Position) (x : Commit) → c.status.state ≡ Prepared
       → IfSome load (λ (position : Position). OnLate x.ended (λ word. IsPast view shows q (end_of_commit (started_in c Running position cursor) x) (end_channel (started_in c Running position cursor) x) word))
       → IsCaused {X = Unit {0}} view shows q c (started c state cursor load x).0 load (started c state cursor load x).1
-  IsCaused-started c state cursor None x waits shown = caused-none view shows q c (record c { stopped = true })
+  IsCaused-started c state cursor None x waits shown = caused-none view shows q c (record c { status = record c.status { stopped = true } })
   IsCaused-started c state cursor (Some position) x waits shown = caused-by_gone c state cursor position x position.gone refl waits shown
 
   -- so does a write that starts a stream

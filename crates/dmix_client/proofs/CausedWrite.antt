@@ -23,16 +23,16 @@ moving-not_again queued false (Some (x, y)) late is = cc
 moving-not_again queued false None (Some why) is = cc
 moving-not_again queued false None None is = cc
 
-synced-not_again_by : (c : Plain) (position : Position) (x : Commit) (stop : Bool) → c.state ≡ Running
+synced-not_again_by : (c : Plain) (position : Position) (x : Commit) (stop : Bool) → c.status.state ≡ Running
     → (if stop then stopped_in {T = Unit {0}} (committed_by (seen_at c position) x)
-    else settled (committed_by (seen_at c position) x) (next_of c.state call.Transfer (facts_of (committed_by (seen_at c position) x) position (over_of (seen_at c position) position) (late_of (seen_at c position) x)))).1 ≡ Err Again → ⊥
+    else settled (committed_by (seen_at c position) x) (next_of c.status.state call.Transfer (facts_of (committed_by (seen_at c position) x) position (over_of (seen_at c position) position) (late_of (seen_at c position) x)))).1 ≡ Err Again → ⊥
 synced-not_again_by c position x true running is = cc
 synced-not_again_by c position x false running is =
     let done = committed_by (seen_at c position) x in
     moving-not_again (queued_of done) position.gone (over_of (seen_at c position) position) (late_of (seen_at c position) x)
     (subst (λ (s : State). (next_of s call.Transfer (facts_of done position (over_of (seen_at c position) position) (late_of (seen_at c position) x))).answer ≡ Err Again) running is)
 
-pub synced-not_again : (c : Plain) (load : Option Position) (x : Commit) → c.state ≡ Running → (synced c call.Transfer load x).1 ≡ Err Again → ⊥
+pub synced-not_again : (c : Plain) (load : Option Position) (x : Commit) → c.status.state ≡ Running → (synced c call.Transfer load x).1 ≡ Err Again → ⊥
 synced-not_again c None x running is = cc
 synced-not_again c (Some position) x running is = synced-not_again_by c position x (is_stop x.ended) running is
 

@@ -60,7 +60,7 @@ module _ {S : Type 0} (view : S → PortView) (shows : S → ℕ → ℕ → Opt
       → IsCaused {X = ℕ} view shows q c (written_by u n x again stop).0 load (written_by u n x again stop).1)
   caused-by load c u n frames part e true stop first shown = caused-again load c u u first
   caused-by load c u n frames part e false true first shown =
-      caused-stopped load c u (record (committed_by u (record { frames = frames; part = part; ended = e })) { stopped = true }) first
+      caused-stopped load c u (record (committed_by u (record { frames = frames; part = part; ended = e })) { status = record (committed_by u (record { frames = frames; part = part; ended = e })).status { stopped = true } }) first
   caused-by load c u n frames part ended.Whole false false first shown =
       caused-ok view shows q load c u (written_by u n (record { frames = frames; part = part; ended = ended.Whole }) false false).0 (taken_of u n) first
   caused-by load c u n frames part ended.Stopped false false first shown =

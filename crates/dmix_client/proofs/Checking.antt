@@ -24,10 +24,12 @@ use Rattle.dmix_client.specs.declared.plain.Plain.{Plain}
 use Rattle.dmix_client.specs.Calls.{Answered, committed_by, over_of, seen_at, synced}
 use Rattle.dmix_client.specs.Course.{nothing}
 use Rattle.dmix_client.specs.Growth.{AnySamples, Keeps, StandsFor, segment_entries}
-use Rattle.dmix_client.specs.Port.{CanUse, CountsFound, CountsStop, IsStep, least_channel}
+use Rattle.course.specs.Stops.{CountsStop}
+use Rattle.pcm_stream.specs.Status.{is_moving}
+use Rattle.dmix_client.specs.Port.{CanUse, CountsFound, IsStep, least_channel}
 use Rattle.dmix_client.specs.Rewind.{checks}
 use Rattle.dmix_client.specs.RewindCauses.{ExplainsCheck}
-use Rattle.dmix_client.specs.View.{IsGoing, IsSound, is_moving, queued_of}
+use Rattle.dmix_client.specs.View.{IsGoing, IsSound, queued_of}
 use Rattle.dmix_client.proofs.Advances.{Advances-synced, laid_by-none, synced-card}
 use Rattle.dmix_client.proofs.Caused.{next-says}
 use Rattle.dmix_client.proofs.CausedBy.{IsCaused-plain}
@@ -43,10 +45,10 @@ pub record Checked {S T : Type 0} (P : mixport.Ghosts S) (G : gates.Ghosts T) (s
   pub port : CanUse a.0 (P.view t.0)
   pub told : CountsStop a.1 (G.stops s.1) (G.stops t.1)
   pub goes : OnOk a.1 (IsGoing a.0)
-  pub runs : OnOk a.1 (a.0.state ≡ Running)
+  pub runs : OnOk a.1 (a.0.status.state ≡ Running)
   pub marks : (P.view t.0).marks ≡ (P.view s.0).marks
-  pub card : a.0.card ≡ c.card
-  pub advances : Advances c a.0 nothing c.written
+  pub card : a.0.stretch.card ≡ c.stretch.card
+  pub advances : Advances c a.0 nothing c.stretch.written
   pub stands : (samples : List ℤ) → StandsFor c ring samples → StandsFor a.0 ring samples
   pub segment : (samples : List ℤ) → StandsFor c ring samples → segment_entries a.0 samples ≡ segment_entries c samples
   pub explains : ExplainsCheck P G s t c (λ load. synced c call.Transfer load nothing) a
@@ -56,9 +58,9 @@ counted : (load : Option Position) (before after : ℕ) → after ≡ stops_afte
 counted None before after is = is
 counted (Some position) before after is = is
 
-near-of : (load : Option Position) (v : PortView) (c : Plain) → CanUse c v → is_moving c.state ≡ true → c.stopped ≡ false
+near-of : (load : Option Position) (v : PortView) (c : Plain) → CanUse c v → is_moving c.status.state ≡ true → c.status.stopped ≡ false
     → IfSome load (λ position. v.seen ≤ position.frame) → IfSome load (λ position. IsInRing v.geometry position.frame)
-    → IfSome load (λ position. (unwrap_or c.seen 0 ≤ position.frame) × (position.frame ≤ end_frame c.geometry))
+    → IfSome load (λ position. (unwrap_or c.seen 0 ≤ position.frame) × (position.frame ≤ end_frame c.identity.geometry))
 near-of None v c port moves going newer within = tt
 near-of (Some position) v c port moves going newer within =
     (omega (arith, port.newer moves going, newer), subst (λ (g : Geometry). position.frame ≤ end_frame g) port.same_geometry within.most)
@@ -79,34 +81,34 @@ seen-of : (load : Option Position) (v w : PortView) → w ≡ record v { seen = 
 seen-of None v w is = tt
 seen-of (Some position) v w is = ap (λ (x : PortView). x.seen) is
 
-card-of : (c : Plain) (load : Option Position) → (synced c call.Transfer load nothing).0.card ≡ c.card
+card-of : (c : Plain) (load : Option Position) → (synced c call.Transfer load nothing).0.stretch.card ≡ c.stretch.card
 card-of c None = refl
 card-of c (Some position) = synced-card c call.Transfer position nothing false
 
 -- nothing that it answers is late
-synced-timely : (c : Plain) (load : Option Position) (frame channel word : ℕ) → c.state ≡ Running → (synced c call.Transfer load nothing).1 ≡ Err (Xrun (why.Late frame channel word)) → ⊥
+synced-timely : (c : Plain) (load : Option Position) (frame channel word : ℕ) → c.status.state ≡ Running → (synced c call.Transfer load nothing).1 ≡ Err (Xrun (why.Late frame channel word)) → ⊥
 synced-timely c None frame channel word runs is = cc
 synced-timely c (Some position) frame channel word runs is =
-    let step : IsStep c.state call.Transfer = subst (λ (s : State). IsStep s call.Transfer) (sym runs) tt in
-    let says = next-says c.state call.Transfer (queued_of (committed_by (seen_at c position) nothing)) position.gone (over_of (seen_at c position) position) ended.Whole 0 0 step (λ drains. absurd (cc)) (record { here = λ gone. refl; below = λ a f over. refl }) in
+    let step : IsStep c.status.state call.Transfer = subst (λ (s : State). IsStep s call.Transfer) (sym runs) tt in
+    let says = next-says c.status.state call.Transfer (queued_of (committed_by (seen_at c position) nothing)) position.gone (over_of (seen_at c position) position) ended.Whole 0 0 step (λ drains. absurd (cc)) (record { here = λ gone. refl; below = λ a f over. refl }) in
     let late = (says.late frame channel word is).0 in
     cc
 
 module _ {S T : Type 0} (P : mixport.Ghosts S) (G : gates.Ghosts T) (laid_composes : Composes P.laid) where
-  pub checks-kept : (s t : S × T) (c : Plain) (ring : List ℤ) (a : Answered (Unit {0})) → IsSound c ring → c.state ≡ Running → c.stopped ≡ false → CanUse c (P.view s.0)
+  pub checks-kept : (s t : S × T) (c : Plain) (ring : List ℤ) (a : Answered (Unit {0})) → IsSound c ring → c.status.state ≡ Running → c.status.stopped ≡ false → CanUse c (P.view s.0)
       → TakesAt P G s (checks c) t a → Checked P G s t c ring a
   unfolding checks
   checks-kept s t c ring a sound runs going port (load, m, step, rest) =
-      let moves : is_moving c.state ≡ true = ap is_moving runs in
-      let callable : IsStep c.state call.Transfer = subst (λ (st : State). IsStep st call.Transfer) (sym runs) tt in
+      let moves : is_moving c.status.state ≡ true = ap is_moving runs in
+      let callable : IsStep c.status.state call.Transfer = subst (λ (st : State). IsStep st call.Transfer) (sym runs) tt in
       let moving = sound.moving moves going in
       let near = near-of load (P.view s.0) c port moves going step.newer step.within in
       let marks : (P.view m.0).marks ≡ (P.view s.0).marks = ap (λ (v : PortView). v.marks) step.view_is in
-      let here : IsFrom (P.view m.0).marks.cursor (c.card + (c.committed + 0)) (least_channel c.bindings) =
-      subst (λ (x : Marks). IsFrom x.cursor (c.card + (c.committed + 0)) (least_channel c.bindings)) (sym marks) (omega (arith, port.behind moves going)) in
+      let here : IsFrom (P.view m.0).marks.cursor (c.stretch.card + (c.stretch.committed + 0)) (least_channel c.setup.bindings) =
+      subst (λ (x : Marks). IsFrom x.cursor (c.stretch.card + (c.stretch.committed + 0)) (least_channel c.setup.bindings)) (sym marks) (omega (arith, port.behind moves going)) in
       let told = synced-told c call.Transfer load nothing (G.stops s.1) (G.stops m.1) going callable (counted load (G.stops s.1) (G.stops m.1) step.stopped) in
       let advances = Advances-synced c call.Transfer load nothing moving.whole (none-of load) (some-of load _ _ (λ position x. x.0) near) in
-      let within : IsWithin c nothing c.written = record { bound = (configured-moving c ring sound moves).bound; whole = moving.whole; below = omega (arith, moving.laid_most) } in
+      let within : IsWithin c nothing c.stretch.written = record { bound = (configured-moving c ring sound moves).bound; whole = moving.whole; below = omega (arith, moving.laid_most) } in
       let d : Plain = (synced c call.Transfer load nothing).0 in
       subst (λ (u : S × T). Checked P G s u c ring a) (sym rest.there) (subst (λ (b : Answered (Unit {0})). Checked P G s m c ring b) (sym rest.result) (record {
         sound = IsSound-checked c ring call.Transfer load sound moves going callable near;
@@ -118,8 +120,8 @@ module _ {S T : Type 0} (P : mixport.Ghosts S) (G : gates.Ghosts T) (laid_compos
         marks = marks;
         card = card-of c load;
         advances = advances;
-        stands = λ samples stands. StandsFor-advanced c d nothing c.written ring samples advances stands;
-        segment = λ samples stands. segment_entries-grow c d nothing c.written ring samples advances within stands
+        stands = λ samples stands. StandsFor-advanced c d nothing c.stretch.written ring samples advances stands;
+        segment = λ samples stands. segment_entries-grow c d nothing c.stretch.written ring samples advances within stands
             ∙ ap (λ (es : List Entry). segment_entries c samples ++ es) (laid_by-none c d ring nothing refl refl) ∙ append-nil (segment_entries c samples);
         explains = record {
           load = load;

@@ -13,12 +13,14 @@ use Rattle.pcm_states.specs.declared.calls.Outcome.{Outcome}
 use Rattle.pcm_states.specs.Table.{first_of, next_of, still_draining}
 use Rattle.dmix_client.specs.declared.commit.Commit.{Commit}
 use Rattle.dmix_client.specs.declared.plain.Plain.{Plain}
-use Rattle.dmix_client.specs.Calls.{Answered, committed_by, facts_of, going_on, is_stop, late_of, nothing_found, over_of, refusal_in, refusal_of, seen_at, settled, started, started_in, stopped_in, synced}
+use Rattle.pcm_stream.specs.Status.{nothing_found, refusal_in, refusal_of}
+use Rattle.pcm_stream.specs.declared.direction.Direction.TheVariants.{Playback}
+use Rattle.dmix_client.specs.Calls.{Answered, committed_by, facts_of, going_on, is_stop, late_of, over_of, seen_at, settled, started, started_in, stopped_in, synced}
 use Rattle.dmix_client.specs.View.{queued_of}
 
 -- an answer is to be made again exactly where the stream still drains
 abbrev pub IsStill : Answered (Unit {0}) → Type 0
-IsStill a = (a.1 ≡ Err Again) ↔ ((a.0.state ≡ Draining) × (a.0.stopped ≡ false))
+IsStill a = (a.1 ≡ Err Again) ↔ ((a.0.status.state ≡ Draining) × (a.0.status.stopped ≡ false))
 
 still-again : (played : Bool) → (let o : Outcome = first_of ((if played then Some (record { state = Setup; answer = Ok tt }) else None) ∷ []) (still_draining call.Drain) in (o.answer ≡ Err Again) ↔ (o.state ≡ Draining))
 still-again true = (λ h. cc, λ h. cc)
@@ -33,11 +35,11 @@ draining-again queued false over None = still-again (nat_eq queued 0)
 stopped-still : (c : Plain) → IsStill (stopped_in c)
 stopped-still c = (λ h. cc, λ h. let x = h.1 in cc)
 
-settled-still : (c : Plain) (o : Outcome) → c.stopped ≡ false → ((o.answer ≡ Err Again) ↔ (o.state ≡ Draining)) → IsStill (settled c o)
+settled-still : (c : Plain) (o : Outcome) → c.status.stopped ≡ false → ((o.answer ≡ Err Again) ↔ (o.state ≡ Draining)) → IsStill (settled c o)
 settled-still c o going still = (λ h. (still.0 h, going), λ h. still.1 h.0)
 
 -- the sync of a stream that drains
-pub synced-still : (c : Plain) (load : Option Position) (x : Commit) → c.state ≡ Draining → c.stopped ≡ false → IsStill (synced c call.Drain load x)
+pub synced-still : (c : Plain) (load : Option Position) (x : Commit) → c.status.state ≡ Draining → c.status.stopped ≡ false → IsStill (synced c call.Drain load x)
 synced-still c None x drains going = stopped-still c
 synced-still c (Some position) x drains going = by_stop (is_stop x.ended)
   where
@@ -48,7 +50,7 @@ synced-still c (Some position) x drains going = by_stop (is_stop x.ended)
     done = committed_by loaded x
 
     outcome : Outcome
-    outcome = next_of c.state call.Drain (facts_of done position (over_of loaded position) (late_of loaded x))
+    outcome = next_of c.status.state call.Drain (facts_of done position (over_of loaded position) (late_of loaded x))
 
     still : (outcome.answer ≡ Err Again) ↔ (outcome.state ≡ Draining)
     still =
@@ -61,9 +63,9 @@ synced-still c (Some position) x drains going = by_stop (is_stop x.ended)
 
 -- a start that leads to draining: it goes well, or it is refused and doesn't drain
 abbrev pub StillBegun : Plain → Answered (Unit {0}) → Type 0
-StillBegun c a = ((a.1 ≡ Ok tt) × (a.0.state ≡ Draining) × (a.0.stopped ≡ c.stopped)) ⊎ (IsStill a × ((e : PcmError) × (a.1 ≡ Err e)))
+StillBegun c a = ((a.1 ≡ Ok tt) × (a.0.status.state ≡ Draining) × (a.0.status.stopped ≡ c.status.stopped)) ⊎ (IsStill a × ((e : PcmError) × (a.1 ≡ Err e)))
 
-begun-parts : (c at done : Plain) (gone stop : Bool) (late : Option XrunWhy) → done.stopped ≡ c.stopped
+begun-parts : (c at done : Plain) (gone stop : Bool) (late : Option XrunWhy) → done.status.stopped ≡ c.status.stopped
     → (let a : Answered (Unit {0}) = if gone
     then going_on at Draining (next_of Prepared call.Start (record { capture = false; queued = 1; starts = true; gone = gone; over = None; late = None }))
     else (if stop then stopped_in done else going_on done Draining (next_of Prepared call.Start (record { capture = false; queued = 1; starts = true; gone = gone; over = None; late = late }))) in
@@ -84,5 +86,5 @@ unstopped-by : (stopped : Bool) (o : Option PcmError) → (if stopped then Some 
 unstopped-by true o is = absurd (cc)
 unstopped-by false o is = refl
 
-pub refusal_of-unstopped : (c : Plain) → refusal_of c call.Drain ≡ None → c.stopped ≡ false
-refusal_of-unstopped c admitted = unstopped-by c.stopped (refusal_in (next_of c.state call.Drain nothing_found).answer) admitted
+pub refusal_of-unstopped : (c : Plain) → refusal_of Playback c.status call.Drain ≡ None → c.status.stopped ≡ false
+refusal_of-unstopped c admitted = unstopped-by c.status.stopped (refusal_in (next_of c.status.state call.Drain (nothing_found Playback)).answer) admitted

@@ -18,9 +18,12 @@ use Rattle.dmix_client.specs.declared.commit.Commit.{Commit}
 use Rattle.mix_core.specs.declared.port.Ended.{Ended}
 use Rattle.mix_core.specs.declared.port.Ended.TheVariants as ended
 use Rattle.dmix_client.specs.declared.plain.Plain.{Plain}
-use Rattle.dmix_client.specs.Calls.{Answered, accepted_if, commit_count, start_count, committed_by, facts_of, found_at, going_on, is_refusal, is_stop, late_of, nothing_found, refusal_in, refusal_of, refused_by, over_of, seen_at, settled, started, started_in, stopped_in, synced}
-use Rattle.dmix_client.specs.Port.{CountsEnd, CountsFound, CountsStop, pass_by, pass_in, IsCommit, IsFound, IsStep}
-use Rattle.dmix_client.specs.View.{IsGoing, is_moving, queued_of}
+use Rattle.pcm_stream.specs.Status.{is_moving, is_refusal, nothing_found, refusal_in, refusal_of, refused_by}
+use Rattle.course.specs.Stops.{CountsStop, pass_by, pass_in}
+use Rattle.pcm_stream.specs.declared.direction.Direction.TheVariants.{Playback}
+use Rattle.dmix_client.specs.Calls.{Answered, accepted_if, commit_count, start_count, committed_by, facts_of, found_at, going_on, is_stop, late_of, over_of, seen_at, settled, started, started_in, stopped_in, synced, with_number}
+use Rattle.dmix_client.specs.Port.{CountsEnd, CountsFound, IsCommit, IsFound, IsStep}
+use Rattle.dmix_client.specs.View.{IsGoing, queued_of}
 
 -- an outcome that isn't a stop: it goes well only in a state that moves, or at the end
 pub record IsFair (o : Outcome) (before after : ℕ) : Type 0 where
@@ -71,30 +74,30 @@ pub record IsToldOf (a : Answered (Unit {0})) (before after : ℕ) : Type 0 wher
   pub goes : OnOk a.1 (IsGoing a.0)
   pub told : CountsStop a.1 before after
 
-settled-told : (d : Plain) (state : State) (answer : Result (Unit {0}) PcmError) (before after : ℕ) → d.stopped ≡ false
-    → OnOk answer ((state ≡ Setup → ⊥) → is_moving state ≡ true) → CountsStop answer before after → IsToldOf (record d { state = state }, answer) before after
+settled-told : (d : Plain) (state : State) (answer : Result (Unit {0}) PcmError) (before after : ℕ) → d.status.stopped ≡ false
+    → OnOk answer ((state ≡ Setup → ⊥) → is_moving state ≡ true) → CountsStop answer before after → IsToldOf (record d { status = record d.status { state = state } }, answer) before after
 settled-told d state (Ok done) before after going goes told = record { goes = record { unstopped = going; moves = goes }; told = told }
 settled-told d state (Err e) before after going goes told = record { goes = tt; told = told }
 
-synced-told_by : (c : Plain) (call : Call) (position : Position) (commit : Commit) (stop : Bool) (before after : ℕ) → is_stop commit.ended ≡ stop → c.stopped ≡ false → IsStep c.state call → CountsEnd commit.ended before after
+synced-told_by : (c : Plain) (call : Call) (position : Position) (commit : Commit) (stop : Bool) (before after : ℕ) → is_stop commit.ended ≡ stop → c.status.stopped ≡ false → IsStep c.status.state call → CountsEnd commit.ended before after
     → IsToldOf (if stop then stopped_in (committed_by (seen_at c position) commit)
-    else settled (committed_by (seen_at c position) commit) (next_of c.state call (facts_of (committed_by (seen_at c position) commit) position (over_of (seen_at c position) position) (late_of (seen_at c position) commit)))) before after
+    else settled (committed_by (seen_at c position) commit) (next_of c.status.state call (facts_of (committed_by (seen_at c position) commit) position (over_of (seen_at c position) position) (late_of (seen_at c position) commit)))) before after
 synced-told_by c call position commit true before after is going step told = record { goes = tt; told = told-stop commit.ended before after is told }
 synced-told_by c call position commit false before after is going step told =
-    let fair = next-fair c.state call (queued_of (committed_by (seen_at c position) commit)) position.gone (over_of (seen_at c position) position) (late_of (seen_at c position) commit) before after step (told-going commit.ended before after is told) in
+    let fair = next-fair c.status.state call (queued_of (committed_by (seen_at c position) commit)) position.gone (over_of (seen_at c position) position) (late_of (seen_at c position) commit) before after step (told-going commit.ended before after is told) in
     settled-told (committed_by (seen_at c position) commit) _ _ before after going fair.goes fair.told
 
-pub synced-told : (c : Plain) (call : Call) (load : Option Position) (commit : Commit) (before after : ℕ) → c.stopped ≡ false → IsStep c.state call → CountsFound load commit.ended before after
+pub synced-told : (c : Plain) (call : Call) (load : Option Position) (commit : Commit) (before after : ℕ) → c.status.stopped ≡ false → IsStep c.status.state call → CountsFound load commit.ended before after
     → IsToldOf (synced c call load commit) before after
 synced-told c call None commit before after going step told = record { goes = tt; told = told }
 synced-told c call (Some position) commit before after going step told = synced-told_by c call position commit (is_stop commit.ended) before after refl going step told
 
 -- a start that went well is in the state that it leads to
 pub record IsBegunOf (c : Plain) (state : State) (a : Answered (Unit {0})) (before after : ℕ) : Type 0 where
-  pub goes : OnOk a.1 (a.0.state ≡ state × a.0.stopped ≡ c.stopped)
+  pub goes : OnOk a.1 (a.0.status.state ≡ state × a.0.status.stopped ≡ c.status.stopped)
   pub told : CountsStop a.1 before after
 
-begun-late : (c d : Plain) (state : State) (gone : Bool) (late : Option XrunWhy) (before after : ℕ) → d.stopped ≡ c.stopped → after ≡ before
+begun-late : (c d : Plain) (state : State) (gone : Bool) (late : Option XrunWhy) (before after : ℕ) → d.status.stopped ≡ c.status.stopped → after ≡ before
     → IsBegunOf c state (going_on d state (next_of Prepared call.Start (record { capture = false; queued = 1; starts = true; gone = gone; over = None; late = late }))) before after
 begun-late c d state true late before after kept same = record { goes = tt; told = same }
 begun-late c d state false (Some why) before after kept same = record { goes = tt; told = same }
@@ -126,25 +129,31 @@ whole-none (ended.Late word) frames part channels before after is told = absurd 
 whole-none ended.Stopped frames part channels before after is told = absurd (omega (arith, is.0))
 
 pub gone-whole : (c : Plain) (cursor : Cursor) (load : Option Position) (commit : Commit) (upto before after : ℕ)
-    → IsFound load commit (λ position. started_in c Running position cursor) (λ position. start_count c cursor position upto) (length c.bindings) → CountsFound load commit.ended before after
+    → IsFound load commit (λ position. started_in c Running position cursor) (λ position. start_count c cursor position upto) (length c.setup.bindings) → CountsFound load commit.ended before after
     → IfSome load (λ (position : Position). position.gone ≡ true → after ≡ before)
 gone-whole c cursor None commit upto before after found told = tt
 gone-whole c cursor (Some position) commit upto before after found told = λ gone.
     let none : start_count c cursor position upto ≡ 0 = ap (λ (b : Bool). if b then 0 else commit_count (started_in c Running position cursor) position.frame upto) gone in
-    whole-none commit.ended commit.frames commit.part (length c.bindings) before after (subst (λ (n : ℕ). IsCommit commit.ended commit.frames commit.part n (length c.bindings)) none found.commit_is) told
+    whole-none commit.ended commit.frames commit.part (length c.setup.bindings) before after (subst (λ (n : ℕ). IsCommit commit.ended commit.frames commit.part n (length c.setup.bindings)) none found.commit_is) told
 
 pub ok-of : (r : Result (Unit {0}) PcmError) → ((e : PcmError) → r ≡ Err e → ⊥) → r ≡ Ok tt
 ok-of (Ok done) never = refl
 ok-of (Err e) never = absurd (never e refl)
 
+-- an error tells the same whether the call answers a number or none
+pub error-told : (e : PcmError) (before after : ℕ) → CountsStop {X = Unit {0}} (Err e) before after → CountsStop {X = ℕ} (Err e) before after
+error-told error.Stopped before after told = told
+error-told e before after told = told
+
 -- taking frames besides tells the same
 pub accepted_if-told : (n : ℕ) (a : Answered (Unit {0})) (before after : ℕ) → CountsStop a.1 before after → CountsStop (accepted_if n a).1 before after
 accepted_if-told n (c, Ok done) before after told = told
-accepted_if-told n (c, Err e) before after told = error-told e told
-  where
-    error-told : (e : PcmError) → CountsStop {X = Unit {0}} (Err e) before after → CountsStop {X = ℕ} (Err e) before after
-    error-told error.Stopped told = told
-    error-told e told = told
+accepted_if-told n (c, Err e) before after told = error-told e before after told
+
+-- and so does a number
+pub with_number-told : (number : Plain → ℕ) (a : Answered (Unit {0})) (before after : ℕ) → CountsStop a.1 before after → CountsStop (with_number number a).1 before after
+with_number-told number (c, Ok done) before after told = told
+with_number-told number (c, Err e) before after told = error-told e before after told
 
 -- a refusal of the state table is no stop of the gate
 go-of : (e : PcmError) → is_refusal e ≡ true → pass_in e ≡ Go
@@ -163,8 +172,8 @@ go-by true r is = absurd (cc)
 go-by false (Ok done) is = refl
 go-by false (Err e) is = go-if e (is_refusal e) refl
 
-pub refused-go : (c : Plain) (call : Call) → c.stopped ≡ false → pass_by (refused_by (refusal_of c call)) ≡ Go
-refused-go c call unstopped = go-by c.stopped (next_of c.state call nothing_found).answer unstopped
+pub refused-go : (c : Plain) (call : Call) → c.status.stopped ≡ false → pass_by (refused_by (refusal_of Playback c.status call)) ≡ Go
+refused-go c call unstopped = go-by c.status.stopped (next_of c.status.state call (nothing_found Playback)).answer unstopped
 
 -- a stream that runs still runs after a sync for a write that went well
 moving-runs : (queued : ℕ) (gone : Bool) (over : Option (ℕ × ℕ)) (late : Option XrunWhy)
@@ -174,14 +183,14 @@ moving-runs queued false (Some over) late = tt
 moving-runs queued false None (Some late) = tt
 moving-runs queued false None None = refl
 
-pub synced-runs : (c : Plain) (load : Option Position) (x : Commit) → c.state ≡ Running → OnOk (synced c call.Transfer load x).1 ((synced c call.Transfer load x).0.state ≡ Running)
+pub synced-runs : (c : Plain) (load : Option Position) (x : Commit) → c.status.state ≡ Running → OnOk (synced c call.Transfer load x).1 ((synced c call.Transfer load x).0.status.state ≡ Running)
 synced-runs c None x runs = tt
 synced-runs c (Some position) x runs = by_stop (is_stop x.ended)
   where
     done : Plain
     done = committed_by (seen_at c position) x
 
-    by_stop : (stop : Bool) → (let a : Answered (Unit {0}) = (if stop then stopped_in done else settled done (next_of c.state call.Transfer (facts_of done position (over_of (seen_at c position) position) (late_of (seen_at c position) x)))) in OnOk a.1 (a.0.state ≡ Running))
+    by_stop : (stop : Bool) → (let a : Answered (Unit {0}) = (if stop then stopped_in done else settled done (next_of c.status.state call.Transfer (facts_of done position (over_of (seen_at c position) position) (late_of (seen_at c position) x)))) in OnOk a.1 (a.0.status.state ≡ Running))
     by_stop true = tt
     by_stop false = subst (λ (s : State). let o : Outcome = next_of s call.Transfer (facts_of done position (over_of (seen_at c position) position) (late_of (seen_at c position) x)) in OnOk o.answer (o.state ≡ Running)) (sym runs)
         (moving-runs (queued_of done) position.gone (over_of (seen_at c position) position) (late_of (seen_at c position) x))

@@ -15,38 +15,38 @@ use Rattle.dmix_client.specs.View.{held, hw_of}
 
 -- a client is another one after a commit, but for its state and what it saw; it has accepted no frame from one on
 pub record Advances (c d : Plain) (x : Commit) (to : ℕ) : Type 0 where
-  pub member : d.member ≡ c.member
-  pub bindings : d.bindings ≡ c.bindings
-  pub config : d.config ≡ c.config
-  pub source : d.source ≡ c.source
-  pub card : 0 < c.committed → d.card ≡ c.card
-  pub committed : d.committed ≡ c.committed + x.frames
-  pub part : d.part ≡ x.part
-  pub least : min c.committed (hw_of c) ≤ min d.committed (hw_of d)
-  pub written : d.written ≤ to
+  pub member : d.identity.member ≡ c.identity.member
+  pub bindings : d.setup.bindings ≡ c.setup.bindings
+  pub config : d.setup.config ≡ c.setup.config
+  pub source : d.stretch.source ≡ c.stretch.source
+  pub card : 0 < c.stretch.committed → d.stretch.card ≡ c.stretch.card
+  pub committed : d.stretch.committed ≡ c.stretch.committed + x.frames
+  pub part : d.stretch.part ≡ x.part
+  pub least : min c.stretch.committed (hw_of c) ≤ min d.stretch.committed (hw_of d)
+  pub written : d.stretch.written ≤ to
 
 -- a commit is of whole frames behind those that a client laid, and of none from one on
 pub record IsWithin (c : Plain) (x : Commit) (to : ℕ) : Type 0 where
-  pub bound : AreBindings c.bindings
-  pub whole : c.part ≡ 0
-  pub below : c.committed + frames_used x.frames x.part ≤ to
+  pub bound : AreBindings c.setup.bindings
+  pub whole : c.stretch.part ≡ 0
+  pub below : c.stretch.committed + frames_used x.frames x.part ≤ to
 
 -- what a commit laid of a local ring, where the first frame stands at the card's frame of the client after it
 abbrev pub laid_by : Plain → Plain → List ℤ → Commit → List Entry
-laid_by c d ring x = run_entries c.member c.bindings (held c ring) d.card c.committed x.frames x.part
+laid_by c d ring x = run_entries c.identity.member c.setup.bindings (held c ring) d.stretch.card c.stretch.committed x.frames x.part
 
-held-same : (c d : Plain) (ring : List ℤ) (j q : ℕ) → d.config ≡ c.config → d.bindings ≡ c.bindings → d.source ≡ c.source → held d ring j q ≡ held c ring j q
+held-same : (c d : Plain) (ring : List ℤ) (j q : ℕ) → d.setup.config ≡ c.setup.config → d.setup.bindings ≡ c.setup.bindings → d.stretch.source ≡ c.stretch.source → held d ring j q ≡ held c ring j q
 held-same c d ring j q config bindings source = let b = config in let e = bindings in let s = source in cc
 
 -- the client after it stands for the same samples
 pub StandsFor-advanced : (c d : Plain) (x : Commit) (to : ℕ) (ring samples : List ℤ) → Advances c d x to → StandsUpTo c ring samples to → StandsFor d ring samples
 StandsFor-advanced c d x to ring samples step stands j q low high in_range =
-    let channels : length d.bindings ≡ length c.bindings = ap length step.bindings in
-    let there : held c ring j q ≡ sample_at samples (length c.bindings) (c.source + j) q =
+    let channels : length d.setup.bindings ≡ length c.setup.bindings = ap length step.bindings in
+    let there : held c ring j q ≡ sample_at samples (length c.setup.bindings) (c.stretch.source + j) q =
     stands j q (omega (arith, low, step.least)) (omega (arith, high, step.written)) (omega (arith, in_range, channels)) in
     held-same c d ring j q step.config step.bindings step.source ∙ there
-    ∙ ap (λ (n : ℕ). sample_at samples n (c.source + j) q) (sym channels)
-    ∙ ap (λ (n : ℕ). sample_at samples (length d.bindings) (n + j) q) (sym step.source)
+    ∙ ap (λ (n : ℕ). sample_at samples n (c.stretch.source + j) q) (sym channels)
+    ∙ ap (λ (n : ℕ). sample_at samples (length d.setup.bindings) (n + j) q) (sym step.source)
 
 -- whole frames that stand elsewhere are the same where there are none
 whole-at : (member : ℕ) (bindings : List ℕ) (s : ℕ → ℕ → ℤ) (card at n part : ℕ) → part ≡ 0 → (0 < n → at ≡ card)
@@ -65,26 +65,26 @@ whole-at member bindings s card at n part none same = elim (cases_eq n 0) [
 pub segment_entries-grow : (c d : Plain) (x : Commit) (to : ℕ) (ring samples : List ℤ) → Advances c d x to → IsWithin c x to → StandsUpTo c ring samples to
     → segment_entries d samples ≡ segment_entries c samples ++ laid_by c d ring x
 segment_entries-grow c d x to ring samples step within stands =
-    let s : ℕ → ℕ → ℤ = λ j. sample_at samples (length c.bindings) (c.source + j) in
-    let at_member : segment_entries d samples ≡ run_entries c.member d.bindings (λ j. sample_at samples (length d.bindings) (d.source + j)) d.card 0 d.committed d.part =
-    ap (λ (m : ℕ). run_entries m d.bindings (λ j. sample_at samples (length d.bindings) (d.source + j)) d.card 0 d.committed d.part) step.member in
-    let at_bindings : run_entries c.member d.bindings (λ j. sample_at samples (length d.bindings) (d.source + j)) d.card 0 d.committed d.part
-    ≡ run_entries c.member c.bindings (λ j. sample_at samples (length c.bindings) (d.source + j)) d.card 0 d.committed d.part =
-    ap (λ (b : List ℕ). run_entries c.member b (λ j. sample_at samples (length b) (d.source + j)) d.card 0 d.committed d.part) step.bindings in
-    let at_source : run_entries c.member c.bindings (λ j. sample_at samples (length c.bindings) (d.source + j)) d.card 0 d.committed d.part
-    ≡ run_entries c.member c.bindings s d.card 0 d.committed d.part =
-    ap (λ (n : ℕ). run_entries c.member c.bindings (λ j. sample_at samples (length c.bindings) (n + j)) d.card 0 d.committed d.part) step.source in
-    let at_count : run_entries c.member c.bindings s d.card 0 d.committed d.part ≡ run_entries c.member c.bindings s d.card 0 (c.committed + x.frames) x.part =
-    ap (λ (n : ℕ). run_entries c.member c.bindings s d.card 0 n d.part) step.committed ∙ ap (run_entries c.member c.bindings s d.card 0 (c.committed + x.frames)) step.part in
-    let before : run_entries c.member c.bindings s d.card 0 c.committed 0 ≡ segment_entries c samples =
-    whole-at c.member c.bindings s c.card d.card c.committed c.part within.whole step.card in
-    let rest : run_entries c.member c.bindings s d.card (0 + c.committed) x.frames x.part ≡ laid_by c d ring x =
-    ap (λ (n : ℕ). run_entries c.member c.bindings s d.card n x.frames x.part) (zero-add c.committed)
-    ∙ sym (run_entries-same c.member c.bindings (held c ring) s d.card c.committed x.frames x.part within.bound
+    let s : ℕ → ℕ → ℤ = λ j. sample_at samples (length c.setup.bindings) (c.stretch.source + j) in
+    let at_member : segment_entries d samples ≡ run_entries c.identity.member d.setup.bindings (λ j. sample_at samples (length d.setup.bindings) (d.stretch.source + j)) d.stretch.card 0 d.stretch.committed d.stretch.part =
+    ap (λ (m : ℕ). run_entries m d.setup.bindings (λ j. sample_at samples (length d.setup.bindings) (d.stretch.source + j)) d.stretch.card 0 d.stretch.committed d.stretch.part) step.member in
+    let at_bindings : run_entries c.identity.member d.setup.bindings (λ j. sample_at samples (length d.setup.bindings) (d.stretch.source + j)) d.stretch.card 0 d.stretch.committed d.stretch.part
+    ≡ run_entries c.identity.member c.setup.bindings (λ j. sample_at samples (length c.setup.bindings) (d.stretch.source + j)) d.stretch.card 0 d.stretch.committed d.stretch.part =
+    ap (λ (b : List ℕ). run_entries c.identity.member b (λ j. sample_at samples (length b) (d.stretch.source + j)) d.stretch.card 0 d.stretch.committed d.stretch.part) step.bindings in
+    let at_source : run_entries c.identity.member c.setup.bindings (λ j. sample_at samples (length c.setup.bindings) (d.stretch.source + j)) d.stretch.card 0 d.stretch.committed d.stretch.part
+    ≡ run_entries c.identity.member c.setup.bindings s d.stretch.card 0 d.stretch.committed d.stretch.part =
+    ap (λ (n : ℕ). run_entries c.identity.member c.setup.bindings (λ j. sample_at samples (length c.setup.bindings) (n + j)) d.stretch.card 0 d.stretch.committed d.stretch.part) step.source in
+    let at_count : run_entries c.identity.member c.setup.bindings s d.stretch.card 0 d.stretch.committed d.stretch.part ≡ run_entries c.identity.member c.setup.bindings s d.stretch.card 0 (c.stretch.committed + x.frames) x.part =
+    ap (λ (n : ℕ). run_entries c.identity.member c.setup.bindings s d.stretch.card 0 n d.stretch.part) step.committed ∙ ap (run_entries c.identity.member c.setup.bindings s d.stretch.card 0 (c.stretch.committed + x.frames)) step.part in
+    let before : run_entries c.identity.member c.setup.bindings s d.stretch.card 0 c.stretch.committed 0 ≡ segment_entries c samples =
+    whole-at c.identity.member c.setup.bindings s c.stretch.card d.stretch.card c.stretch.committed c.stretch.part within.whole step.card in
+    let rest : run_entries c.identity.member c.setup.bindings s d.stretch.card (0 + c.stretch.committed) x.frames x.part ≡ laid_by c d ring x =
+    ap (λ (n : ℕ). run_entries c.identity.member c.setup.bindings s d.stretch.card n x.frames x.part) (zero-add c.stretch.committed)
+    ∙ sym (run_entries-same c.identity.member c.setup.bindings (held c ring) s d.stretch.card c.stretch.committed x.frames x.part within.bound
     (λ j q least most h. stands j q (omega (arith, least)) (omega (arith, most, within.below)) h)) in
     at_member ∙ at_bindings ∙ at_source ∙ at_count
-    ∙ run_entries-append c.member c.bindings s d.card 0 c.committed x.frames x.part
-    ∙ ap (λ (es : List Entry). es ++ run_entries c.member c.bindings s d.card (0 + c.committed) x.frames x.part) before
+    ∙ run_entries-append c.identity.member c.setup.bindings s d.stretch.card 0 c.stretch.committed x.frames x.part
+    ∙ ap (λ (es : List Entry). es ++ run_entries c.identity.member c.setup.bindings s d.stretch.card (0 + c.stretch.committed) x.frames x.part) before
     ∙ ap (λ (es : List Entry). segment_entries c samples ++ es) rest
 
 module _ {S : Type 0} (laid : S → S → List Entry → Type 0) (composes : Composes laid) where
@@ -99,7 +99,7 @@ module _ {S : Type 0} (laid : S → S → List Entry → Type 0) (composes : Com
   }
 
   -- a segment that stays
-  pub Grows-none : (p q : S) (c d : Plain) (samples : List ℤ) → q ≡ p → segment_entries d samples ≡ segment_entries c samples → d.member ≡ c.member → d.bindings ≡ c.bindings
+  pub Grows-none : (p q : S) (c d : Plain) (samples : List ℤ) → q ≡ p → segment_entries d samples ≡ segment_entries c samples → d.identity.member ≡ c.identity.member → d.setup.bindings ≡ c.setup.bindings
       → Grows laid p q c d samples
   Grows-none p q c d samples stayed same same_member same_bindings = record {
     entries = [];

@@ -26,15 +26,18 @@ use Rattle.pcm_states.specs.declared.calls.Call.TheVariants as call
 use Rattle.pcm_states.specs.Table.{next_of}
 use Rattle.dmix_client.specs.declared.commit.Commit.{Commit}
 use Rattle.dmix_client.specs.declared.plain.Plain.{Plain}
-use Rattle.dmix_client.specs.Calls.{Answered, accepted, accepted_if, dropped, end_channel, end_of_commit, nothing_found, refusal_in, refusal_of, start_count, started, started_in, sync_count, synced, taken_of, with_number, written_after, written_on}
+use Rattle.pcm_stream.specs.Status.{is_moving, is_set_up, nothing_found, refusal_in, refusal_of}
+use Rattle.course.specs.Stops.{CountsStop, pass_by}
+use Rattle.pcm_stream.specs.declared.direction.Direction.TheVariants.{Playback}
+use Rattle.dmix_client.specs.Calls.{Answered, accepted, accepted_if, dropped, end_channel, end_of_commit, start_count, started, started_in, sync_count, synced, taken_of, with_number, written_after, written_on}
 use Rattle.dmix_client.specs.Causes.{Explains, ExplainsWrite, IsCaused}
 use Rattle.dmix_client.specs.Course.{commits, drains, starts, starts_taking, syncs, takes_more, write_on}
 use Rattle.dmix_client.specs.CourseLaws.{TakesAt-frames, TakesAt-step}
 use Rattle.dmix_client.specs.Growth.{AnySamples, Follows, Grows, Keeps, KeepsAccepted, StandsFor, StandsUpTo}
 use Rattle.dmix_client.specs.GrowthLaws.{Grows-joined}
-use Rattle.dmix_client.specs.Port.{CanUse, CountsStop, IsStep, TakesStep, least_channel, pass_by}
+use Rattle.dmix_client.specs.Port.{CanUse, IsStep, TakesStep, least_channel}
 use Rattle.dmix_client.specs.RingLaws.{stored-HasRoom}
-use Rattle.dmix_client.specs.View.{ClientView, avail_of, IsConfigured, IsGoing, IsLaidPast, IsSound, held, is_moving, is_set_up}
+use Rattle.dmix_client.specs.View.{ClientView, avail_of, IsConfigured, IsGoing, IsLaidPast, IsSound, held}
 use Rattle.dmix_client.specs.Writes.{count_with, ring_with, taken_after}
 use Rattle.dmix_client.proofs.Advances.{Follows-synced, accepted-none}
 use Rattle.dmix_client.proofs.CausedBy.{IsCaused-synced, caused-number}
@@ -42,7 +45,7 @@ use Rattle.dmix_client.proofs.CausedStart.{IsCaused-started, caused-accepted}
 use Rattle.dmix_client.proofs.CausedWrite.{synced-not_again, written_on-again}
 use Rattle.dmix_client.proofs.CausedWritten.{caused-moved, caused-on}
 use Rattle.dmix_client.proofs.Drained.{IsStill, StillBegun, started-begun, synced-still}
-use Rattle.dmix_client.proofs.Going.{OnOk-of, accepted_if-told, gone-whole, started-told, synced-runs, synced-told}
+use Rattle.dmix_client.proofs.Going.{OnOk-of, accepted_if-told, gone-whole, started-told, synced-runs, synced-told, with_number-told}
 use Rattle.dmix_client.proofs.Grown.{Grows-started, Grows-synced, Grows-taken, IsBegun, IsSynced, IsTaken, StandsFor-started, StandsFor-synced, StandsFor-taken, StandsUpTo-filled, configured-moving, configured-prepared}
 use Rattle.dmix_client.proofs.Growth.{Grows-none}
 use Rattle.dmix_client.proofs.Left.{IsAfter, IsLeft-started, grown-accepted}
@@ -63,7 +66,7 @@ client c ring = record { plain = c; ring = ring }
 pub record Synced {S T : Type 0} (P : mixport.Ghosts S) (G : gates.Ghosts T) (s t : S × T) (c : Plain) (ring : List ℤ) (a : Answered (Unit {0})) : Type 0 where
   pub keeps : Keeps P G s t (client c ring) (client a.0 ring) a.1 AnySamples
   pub goes : OnOk a.1 (IsGoing a.0)
-  pub past : is_moving a.0.state ≡ true → a.0.stopped ≡ false → IsLaidPast a.0
+  pub past : is_moving a.0.status.state ≡ true → a.0.status.stopped ≡ false → IsLaidPast a.0
   pub same : KeepsAccepted c a.0
   pub follows : (samples offered : List ℤ) (n : ℕ) → Follows c samples offered n → Follows a.0 samples offered n
 
@@ -72,9 +75,9 @@ pub record Begun {S T : Type 0} (P : mixport.Ghosts S) (G : gates.Ghosts T) (s t
   pub sound : IsSound (accepted_if m a).0 ring
   pub port : CanUse (accepted_if m a).0 (P.view t.0)
   pub told : CountsStop a.1 (G.stops s.1) (G.stops t.1)
-  pub goes : OnOk a.1 (a.0.state ≡ state × a.0.stopped ≡ c.stopped)
-  pub grows : (samples : List ℤ) → StandsUpTo c ring samples (c.written + m) → Grows P.laid s.0 t.0 c (accepted_if m a).0 samples
-  pub stands : (samples : List ℤ) → StandsUpTo c ring samples (c.written + m) → StandsFor (accepted_if m a).0 ring samples
+  pub goes : OnOk a.1 (a.0.status.state ≡ state × a.0.status.stopped ≡ c.status.stopped)
+  pub grows : (samples : List ℤ) → StandsUpTo c ring samples (c.stretch.written + m) → Grows P.laid s.0 t.0 c (accepted_if m a).0 samples
+  pub stands : (samples : List ℤ) → StandsUpTo c ring samples (c.stretch.written + m) → StandsFor (accepted_if m a).0 ring samples
 
 start-free : (cursor : Cursor) (position lead k c : ℕ) → k ≡ 0 → first_free cursor c ≤ max (position + lead) (first_free cursor 0) + k
 start-free cursor position lead k c none = grind (arith, nat_tests)
@@ -94,10 +97,10 @@ IsSound-ring c ring new sound same = record {
 }
 
 -- the counts of a client whose ring took frames
-pub IsSound-stored : (c : Plain) (ring samples : List ℤ) (m : ℕ) → IsSound c ring → IsConfigured c ring → m * length c.bindings ≤ length samples → IsSound c (ring_with c ring samples m)
+pub IsSound-stored : (c : Plain) (ring samples : List ℤ) (m : ℕ) → IsSound c ring → IsConfigured c ring → m * length c.setup.bindings ≤ length samples → IsSound c (ring_with c ring samples m)
 IsSound-stored c ring samples m sound k held_all =
     IsSound-ring c ring (ring_with c ring samples m) sound
-    ((stored-HasRoom c.config.buffer_size (length c.bindings) ring (c.source + c.written) samples m (record { some = k.buffer_least; room = k.room }) held_all).room ∙ sym k.room)
+    ((stored-HasRoom c.setup.config.buffer_size (length c.setup.bindings) ring (c.stretch.source + c.stretch.written) samples m (record { some = k.buffer_least; room = k.room }) held_all).room ∙ sym k.room)
 
 taken-few : (n a b : ℕ) → min n (min a b) ≤ n
 taken-few n a b = grind (arith, nat_tests)
@@ -105,10 +108,10 @@ taken-few n a b = grind (arith, nat_tests)
 taken-room : (n b w : ℕ) → w ≤ b → w + min n (min (b + 0 - w) b) ≤ b
 taken-room n b w fits = grind (arith, nat_tests)
 
-taken-waiting : (c : Plain) (n : ℕ) → c.started ≡ false → taken_of c n ≡ min n (min (c.config.buffer_size + 0 - c.written) c.config.buffer_size)
-taken-waiting c n waits = ap (λ (b : Bool). min n (min (c.config.buffer_size + (if b then unwrap_or c.seen 0 - c.card else 0) - c.written) c.config.buffer_size)) waits
+taken-waiting : (c : Plain) (n : ℕ) → c.stretch.started ≡ false → taken_of c n ≡ min n (min (c.setup.config.buffer_size + 0 - c.stretch.written) c.setup.config.buffer_size)
+taken-waiting c n waits = ap (λ (b : Bool). min n (min (c.setup.config.buffer_size + (if b then unwrap_or c.seen 0 - c.stretch.card else 0) - c.stretch.written) c.setup.config.buffer_size)) waits
 
-IsSound-filled : (c : Plain) (ring : List ℤ) (m : ℕ) → IsSound c ring → c.state ≡ Prepared → c.written + m ≤ c.config.buffer_size → IsSound (accepted c m) ring
+IsSound-filled : (c : Plain) (ring : List ℤ) (m : ℕ) → IsSound c ring → c.status.state ≡ Prepared → c.stretch.written + m ≤ c.setup.config.buffer_size → IsSound (accepted c m) ring
 IsSound-filled c ring m sound waits fits = record {
   lead = sound.lead;
   seen = sound.seen;
@@ -118,18 +121,18 @@ IsSound-filled c ring m sound waits fits = record {
   set_up = sound.set_up;
   configured = λ set. let k = sound.configured set in record { bound = k.bound; on_card = k.on_card; channels = k.channels; buffer_least = k.buffer_least; buffer_most = k.buffer_most; room = k.room };
   prepared = λ is. let p = sound.prepared is in record { waiting = p.waiting; no_frame = p.no_frame; no_part = p.no_part; fits = fits };
-  moving = λ moves going. absurd (not_prepared-moving c.state moves waits);
+  moving = λ moves going. absurd (not_prepared-moving c.status.state moves waits);
   paused = λ is. absurd (cc);
 }
 
-filled-stands : (c : Plain) (ring stored samples all : List ℤ) (n m : ℕ) → m ≡ taken_of c n → stored ≡ ring_with c ring samples m → IsSound c ring → c.state ≡ Prepared
-    → n * length c.bindings ≤ length samples → StandsFor c ring all → Follows c all samples n → StandsUpTo c stored all (c.written + m)
+filled-stands : (c : Plain) (ring stored samples all : List ℤ) (n m : ℕ) → m ≡ taken_of c n → stored ≡ ring_with c ring samples m → IsSound c ring → c.status.state ≡ Prepared
+    → n * length c.setup.bindings ≤ length samples → StandsFor c ring all → Follows c all samples n → StandsUpTo c stored all (c.stretch.written + m)
 filled-stands c ring stored samples all n m is is_stored sound waits held_all stands follows =
-    subst (λ (new : List ℤ). StandsUpTo c new all (c.written + m)) (sym is_stored)
-    (subst (λ (k : ℕ). StandsUpTo c (ring_with c ring samples k) all (c.written + k)) (sym is) (StandsUpTo-filled c ring all samples n sound waits held_all stands follows))
+    subst (λ (new : List ℤ). StandsUpTo c new all (c.stretch.written + m)) (sym is_stored)
+    (subst (λ (k : ℕ). StandsUpTo c (ring_with c ring samples k) all (c.stretch.written + k)) (sym is) (StandsUpTo-filled c ring all samples n sound waits held_all stands follows))
 
 -- a drain is admitted of a client with a configuration
-drain-set_up : (stopped : Bool) (s : State) → (let o : Option PcmError = (if stopped then Some error.Stopped else refusal_in (next_of s call.Drain nothing_found).answer) in o) ≡ None → is_set_up s ≡ true
+drain-set_up : (stopped : Bool) (s : State) → (let o : Option PcmError = (if stopped then Some error.Stopped else refusal_in (next_of s call.Drain (nothing_found Playback)).answer) in o) ≡ None → is_set_up s ≡ true
 drain-set_up true s is = absurd (cc)
 drain-set_up false Setup is = refl
 drain-set_up false Prepared is = refl
@@ -143,25 +146,25 @@ accepted-count m (c, Ok done) = refl
 accepted-count m (c, Err e) = tt
 
 module _ {S T : Type 0} (P : mixport.Ghosts S) (G : gates.Ghosts T) (laid_composes : Composes P.laid) (loaded_composes : Composes P.loaded) where
-  pub syncs-step : (s t : S × T) (c : Plain) (ring : List ℤ) (call : Call) (a : Answered (Unit {0})) → AreBindings c.bindings → TakesAt P G s (syncs c call ring) t a
-      → TakesStep P G s t ring (λ position. c) (sync_count c) (length c.bindings) (synced c call) a
+  pub syncs-step : (s t : S × T) (c : Plain) (ring : List ℤ) (call : Call) (a : Answered (Unit {0})) → AreBindings c.setup.bindings → TakesAt P G s (syncs c call ring) t a
+      → TakesStep P G s t ring (λ position. c) (sync_count c) (length c.setup.bindings) (synced c call) a
   unfolding syncs
-  syncs-step s t c ring call a bound takes = TakesAt-step P G laid_composes loaded_composes (λ position. c) (sync_count c) ring c.bindings (synced c call) s t a bound (λ position. refl) takes
+  syncs-step s t c ring call a bound takes = TakesAt-step P G laid_composes loaded_composes (λ position. c) (sync_count c) ring c.setup.bindings (synced c call) s t a bound (λ position. refl) takes
 
-  pub starts-step : (s t : S × T) (c : Plain) (ring : List ℤ) (state : State) (cursor : Cursor) (upto : ℕ) (a : Answered (Unit {0})) → AreBindings c.bindings → TakesAt P G s (starts c state cursor upto ring) t a
-      → TakesStep P G s t ring (λ position. started_in c Running position cursor) (λ position. start_count c cursor position upto) (length c.bindings) (started c state cursor) a
+  pub starts-step : (s t : S × T) (c : Plain) (ring : List ℤ) (state : State) (cursor : Cursor) (upto : ℕ) (a : Answered (Unit {0})) → AreBindings c.setup.bindings → TakesAt P G s (starts c state cursor upto ring) t a
+      → TakesStep P G s t ring (λ position. started_in c Running position cursor) (λ position. start_count c cursor position upto) (length c.setup.bindings) (started c state cursor) a
   unfolding starts
   starts-step s t c ring state cursor upto a bound takes =
-      TakesAt-step P G laid_composes loaded_composes (λ position. started_in c Running position cursor) (λ position. start_count c cursor position upto) ring c.bindings (started c state cursor) s t a bound (λ position. refl) takes
+      TakesAt-step P G laid_composes loaded_composes (λ position. started_in c Running position cursor) (λ position. start_count c cursor position upto) ring c.setup.bindings (started c state cursor) s t a bound (λ position. refl) takes
 
   -- a sync of a client that moves frames
-  pub syncs-kept : (s t : S × T) (c : Plain) (ring : List ℤ) (call : Call) (a : Answered (Unit {0})) → IsSound c ring → is_moving c.state ≡ true → c.stopped ≡ false → IsStep c.state call
+  pub syncs-kept : (s t : S × T) (c : Plain) (ring : List ℤ) (call : Call) (a : Answered (Unit {0})) → IsSound c ring → is_moving c.status.state ≡ true → c.status.stopped ≡ false → IsStep c.status.state call
       → CanUse c (P.view s.0) → TakesAt P G s (syncs c call ring) t a → Synced P G s t c ring a
   syncs-kept s t c ring call a sound moves going step port takes =
       let st = syncs-step s t c ring call a (configured-moving c ring sound moves).bound takes in
       let x = st.looked in
       let same = TakesAt-same P G s t (syncs c call ring) a takes in
-      let loaded : IfSome st.load (λ (p : Position). (unwrap_or c.seen 0 ≤ p.frame) × (p.frame ≤ end_frame c.geometry)) =
+      let loaded : IfSome st.load (λ (p : Position). (unwrap_or c.seen 0 ≤ p.frame) × (p.frame ≤ end_frame c.identity.geometry)) =
       if-some st.load _ _ (λ p near. (omega (arith, port.newer moves going, near.0), subst (λ (g : Geometry). p.frame ≤ end_frame g) port.same_geometry near.1.most)) x.near in
       let syncing : IsSyncing c ring call st.load st.commit = record { sound = sound; moves = moves; going = going; step = step; found = x.found; loaded = loaded } in
       let is : IsSynced c ring st.load st.commit = record { sound = sound; moves = moves; going = going; found = x.found; newer = if-some st.load _ _ (λ p near. near.0) loaded } in
@@ -182,15 +185,15 @@ module _ {S T : Type 0} (P : mixport.Ghosts S) (G : gates.Ghosts T) (laid_compos
       })
 
   -- a start of a client that is prepared
-  pub starts-kept : (s t : S × T) (c : Plain) (ring : List ℤ) (state : State) (m : ℕ) (a : Answered (Unit {0})) → IsSound c ring → c.state ≡ Prepared → is_moving state ≡ true
-      → c.written + m ≤ c.config.buffer_size → (P.view s.0).marks.cursor.frame ≤ end_frame c.geometry → CanUse c (P.view s.0)
-      → TakesAt P G s (starts c state (P.view s.0).marks.cursor (c.written + m) ring) t a → Begun P G s t c ring state m a
+  pub starts-kept : (s t : S × T) (c : Plain) (ring : List ℤ) (state : State) (m : ℕ) (a : Answered (Unit {0})) → IsSound c ring → c.status.state ≡ Prepared → is_moving state ≡ true
+      → c.stretch.written + m ≤ c.setup.config.buffer_size → (P.view s.0).marks.cursor.frame ≤ end_frame c.identity.geometry → CanUse c (P.view s.0)
+      → TakesAt P G s (starts c state (P.view s.0).marks.cursor (c.stretch.written + m) ring) t a → Begun P G s t c ring state m a
   starts-kept s t c ring state m a sound waits leads fits near port takes =
       let cursor = (P.view s.0).marks.cursor in
-      let st = starts-step s t c ring state cursor (c.written + m) a (configured-prepared c ring sound waits).bound takes in
+      let st = starts-step s t c ring state cursor (c.stretch.written + m) a (configured-prepared c ring sound waits).bound takes in
       let x = st.looked in
-      let same = TakesAt-same P G s t (starts c state cursor (c.written + m) ring) a takes in
-      let starting : IsStarting c ring cursor st.load st.commit (c.written + m) = record {
+      let same = TakesAt-same P G s t (starts c state cursor (c.stretch.written + m) ring) a takes in
+      let starting : IsStarting c ring cursor st.load st.commit (c.stretch.written + m) = record {
         sound = sound;
         prepared = waits;
         cursor_most = near;
@@ -202,14 +205,14 @@ module _ {S T : Type 0} (P : mixport.Ghosts S) (G : gates.Ghosts T) (laid_compos
         same_geometry = same.same_geometry ∙ port.same_geometry;
         same_member = same.same_member ∙ port.same_member;
         able = same.same_can_add ∙ port.can;
-        stayed = if-some st.load _ _ (λ p from. from (start-free cursor p.frame c.lead c.committed (least_channel c.bindings) (sound.prepared waits).no_frame)) x.stayed;
+        stayed = if-some st.load _ _ (λ p from. from (start-free cursor p.frame c.identity.lead c.stretch.committed (least_channel c.setup.bindings) (sound.prepared waits).no_frame)) x.stayed;
         saw = if-some st.load _ _ (λ p there. there.2) x.near;
       } in
-      let left = IsLeft-started c ring state leads cursor st.commit (c.written + m) (c.fed + m) (omega (arith, sound.fed)) (P.view t.0) st.load starting after in
+      let left = IsLeft-started c ring state leads cursor st.commit (c.stretch.written + m) (c.fed + m) (omega (arith, sound.fed)) (P.view t.0) st.load starting after in
       let b = started c state cursor st.load st.commit in
       let grown_is = grown-accepted c m b (KeepsAccepted-started c state cursor st.load st.commit) in
-      let told = started-told c state cursor st.load st.commit (G.stops s.1) (G.stops t.1) x.stopped (gone-whole c cursor st.load st.commit (c.written + m) (G.stops s.1) (G.stops t.1) x.found x.stopped) in
-      let is : IsBegun c ring cursor st.load st.commit (c.written + m) = record { sound = sound; prepared = waits; found = x.found } in
+      let told = started-told c state cursor st.load st.commit (G.stops s.1) (G.stops t.1) x.stopped (gone-whole c cursor st.load st.commit (c.stretch.written + m) (G.stops s.1) (G.stops t.1) x.found x.stopped) in
+      let is : IsBegun c ring cursor st.load st.commit (c.stretch.written + m) = record { sound = sound; prepared = waits; found = x.found } in
       subst (λ (d : Answered (Unit {0})). Begun P G s t c ring state m d) st.outcome (record {
         sound = subst (λ (d : Plain). IsSound d ring) (sym grown_is) left.sound;
         port = subst (λ (d : Plain). CanUse d (P.view t.0)) (sym grown_is) left.use_it;
@@ -220,11 +223,11 @@ module _ {S T : Type 0} (P : mixport.Ghosts S) (G : gates.Ghosts T) (laid_compos
       })
 
   -- of all that is written
-  pub start-kept : (s t : S × T) (c : Plain) (ring : List ℤ) (state : State) (a : Answered (Unit {0})) → IsSound c ring → c.state ≡ Prepared → is_moving state ≡ true
-      → (P.view s.0).marks.cursor.frame ≤ end_frame c.geometry → CanUse c (P.view s.0)
-      → TakesAt P G s (starts c state (P.view s.0).marks.cursor c.written ring) t a → Keeps P G s t (client c ring) (client a.0 ring) a.1 AnySamples
+  pub start-kept : (s t : S × T) (c : Plain) (ring : List ℤ) (state : State) (a : Answered (Unit {0})) → IsSound c ring → c.status.state ≡ Prepared → is_moving state ≡ true
+      → (P.view s.0).marks.cursor.frame ≤ end_frame c.identity.geometry → CanUse c (P.view s.0)
+      → TakesAt P G s (starts c state (P.view s.0).marks.cursor c.stretch.written ring) t a → Keeps P G s t (client c ring) (client a.0 ring) a.1 AnySamples
   start-kept s t c ring state a sound waits leads near port takes =
-      let all : c.written + 0 ≡ c.written = add-zero c.written in
+      let all : c.stretch.written + 0 ≡ c.stretch.written = add-zero c.stretch.written in
       let begun = starts-kept s t c ring state 0 a sound waits leads (omega (arith, (sound.prepared waits).fits)) near port
       (subst (λ (n : ℕ). TakesAt P G s (starts c state (P.view s.0).marks.cursor n ring) t a) (sym all) takes) in
       subst (λ (d : Plain). Keeps P G s t (client c ring) (client d ring) a.1 AnySamples) (accepted-none a) (record {
@@ -237,7 +240,7 @@ module _ {S T : Type 0} (P : mixport.Ghosts S) (G : gates.Ghosts T) (laid_compos
 
   -- nothing was done
   pub Keeps-none : {X : Type 0} (s : S × T) (c : ClientView) (answer : Result X PcmError) (For : List ℤ → Type 0) → IsSound c.plain c.ring → CanUse c.plain (P.view s.0)
-      → (c.plain.stopped ≡ false → pass_by answer ≡ Go) → Keeps P G s s c c answer For
+      → (c.plain.status.stopped ≡ false → pass_by answer ≡ Go) → Keeps P G s s c c answer For
   Keeps-none s c answer For sound port told = record {
     sound = sound;
     port = port;
@@ -246,9 +249,20 @@ module _ {S T : Type 0} (P : mixport.Ghosts S) (G : gates.Ghosts T) (laid_compos
     stands = λ samples stands any. stands;
   }
 
+  -- the answer is a number
+  pub Keeps-number : (s t : S × T) (c : ClientView) (number : Plain → ℕ) (a : Answered (Unit {0})) (ring : List ℤ) (answer : Result ℕ PcmError) → with_number number a ≡ (a.0, answer)
+      → Keeps P G s t c (client a.0 ring) a.1 AnySamples → Keeps P G s t c (client a.0 ring) answer AnySamples
+  Keeps-number s t c number a ring answer is keeps = record {
+    sound = keeps.sound;
+    port = keeps.port;
+    told = λ unstopped. subst (λ (b : Answered ℕ). CountsStop b.1 (G.stops s.1) (G.stops t.1)) is (with_number-told number a (G.stops s.1) (G.stops t.1) (keeps.told unstopped));
+    grows = keeps.grows;
+    stands = keeps.stands;
+  }
+
   -- one part after another
   pub Keeps-then : {X Y : Type 0} (s m t : S × T) (c d e : ClientView) (first : Result X PcmError) (answer : Result Y PcmError) (For More : List ℤ → Type 0)
-      → pass_by first ≡ Go → d.plain.stopped ≡ false → ((samples : List ℤ) → For samples → More samples)
+      → pass_by first ≡ Go → d.plain.status.stopped ≡ false → ((samples : List ℤ) → For samples → More samples)
       → Keeps P G s m c d first For → Keeps P G m t d e answer More → Keeps P G s t c e answer For
   Keeps-then s m t c d e first answer For More went going more one two = record {
     sound = two.sound;
@@ -266,16 +280,16 @@ module _ {S T : Type 0} (P : mixport.Ghosts S) (G : gates.Ghosts T) (laid_compos
     pub outcome : written_after c n last ≡ a
     pub late : OnLate last.ended (λ word. IsPast P.view P.shows t.0 (end_of_commit c last) (end_channel c last) word)
 
-  pub takes_more-kept : (s t : S × T) (c : Plain) (ring offered : List ℤ) (n : ℕ) (a : Answered ℕ) → IsSound c ring → is_moving c.state ≡ true → c.stopped ≡ false → IsLaidPast c
-      → n * length c.bindings ≤ length offered → CanUse c (P.view s.0) → TakesAt P G s (takes_more c ring offered n) t a → Taken s t c ring offered n a
+  pub takes_more-kept : (s t : S × T) (c : Plain) (ring offered : List ℤ) (n : ℕ) (a : Answered ℕ) → IsSound c ring → is_moving c.status.state ≡ true → c.status.stopped ≡ false → IsLaidPast c
+      → n * length c.setup.bindings ≤ length offered → CanUse c (P.view s.0) → TakesAt P G s (takes_more c ring offered n) t a → Taken s t c ring offered n a
   unfolding takes_more
   takes_more-kept s t c ring offered n a sound moves going past held_all port takes =
       let k = configured-moving c ring sound moves in
       let stored = ring_with c ring offered (taken_of c n) in
       let parts = Takes-parts (LoadsAt P G) (LaysAt P G) NoGet s t (commits c stored (count_with c (taken_of c n))) (λ last. ends (written_after c n last)) a takes in
       let last = parts.1 in
-      let laid = TakesAt-frames P G laid_composes loaded_composes c.member c.card c.bindings (held c stored) (count_with c (taken_of c n)) c.committed s parts.0 last k.bound parts.2 in
-      let few : taken_of c n * length c.bindings ≤ n * length c.bindings = mul-le-mul_right (length c.bindings) (taken-few n _ _) in
+      let laid = TakesAt-frames P G laid_composes loaded_composes c.identity.member c.stretch.card c.setup.bindings (held c stored) (count_with c (taken_of c n)) c.stretch.committed s parts.0 last k.bound parts.2 in
+      let few : taken_of c n * length c.setup.bindings ≤ n * length c.setup.bindings = mul-le-mul_right (length c.setup.bindings) (taken-few n _ _) in
       let same = TakesAt-same P G s parts.0 (commits c stored (count_with c (taken_of c n))) last parts.2 in
       let is : IsTaken c ring n last = record { sound = sound; moves = moves; going = going; past = past; commit_is = laid.commit_is } in
       let writing : IsWriting c stored n last (P.view parts.0.0) (G.stops s.1) (G.stops parts.0.1) = record {
@@ -286,7 +300,7 @@ module _ {S T : Type 0} (P : mixport.Ghosts S) (G : gates.Ghosts T) (laid_compos
         same_geometry = same.same_geometry ∙ port.same_geometry;
         same_member = same.same_member ∙ port.same_member;
         able = same.same_can_add ∙ port.can;
-        whole = laid.free (least_channel c.bindings) (port.behind moves going);
+        whole = laid.free (least_channel c.setup.bindings) (port.behind moves going);
         newer = subst (λ (v : PortView). unwrap_or c.seen 0 ≤ v.seen) (sym laid.view_is) (port.newer moves going);
         told = laid.stopped;
       } in
@@ -306,7 +320,7 @@ module _ {S T : Type 0} (P : mixport.Ghosts S) (G : gates.Ghosts T) (laid_compos
       }))
 
   -- why a sync and a start answered so
-  pub syncs-explained : (s t : S × T) (c : Plain) (ring : List ℤ) (call : Call) (a : Answered (Unit {0})) → AreBindings c.bindings → IsStep c.state call
+  pub syncs-explained : (s t : S × T) (c : Plain) (ring : List ℤ) (call : Call) (a : Answered (Unit {0})) → AreBindings c.setup.bindings → IsStep c.status.state call
       → TakesAt P G s (syncs c call ring) t a → Explains P G s t (client c ring) (λ position. c) (sync_count c) (synced c call) a
   syncs-explained s t c ring call a bound step takes =
       let st = syncs-step s t c ring call a bound takes in
@@ -315,7 +329,7 @@ module _ {S T : Type 0} (P : mixport.Ghosts S) (G : gates.Ghosts T) (laid_compos
         why = subst (λ (d : Answered (Unit {0})). IsCaused P.view P.shows t.0 c d.0 st.load d.1) st.outcome (IsCaused-synced P.view P.shows t.0 c call st.load st.commit step st.looked.found st.looked.shown);
       }
 
-  pub starts-explained : (s t : S × T) (c : Plain) (ring : List ℤ) (state : State) (cursor : Cursor) (upto : ℕ) (a : Answered (Unit {0})) → AreBindings c.bindings → c.state ≡ Prepared
+  pub starts-explained : (s t : S × T) (c : Plain) (ring : List ℤ) (state : State) (cursor : Cursor) (upto : ℕ) (a : Answered (Unit {0})) → AreBindings c.setup.bindings → c.status.state ≡ Prepared
       → TakesAt P G s (starts c state cursor upto ring) t a
       → Explains P G s t (client c ring) (λ position. started_in c Running position cursor) (λ position. start_count c cursor position upto) (started c state cursor) a
   starts-explained s t c ring state cursor upto a bound waits takes =
@@ -343,26 +357,26 @@ module _ {S T : Type 0} (P : mixport.Ghosts S) (G : gates.Ghosts T) (laid_compos
       })
 
   -- a drain of a stream that moves frames is to be made again exactly where it still drains
-  pub syncs-still : (s t : S × T) (c : Plain) (ring : List ℤ) (a : Answered (Unit {0})) → AreBindings c.bindings → c.state ≡ Draining → c.stopped ≡ false
+  pub syncs-still : (s t : S × T) (c : Plain) (ring : List ℤ) (a : Answered (Unit {0})) → AreBindings c.setup.bindings → c.status.state ≡ Draining → c.status.stopped ≡ false
       → TakesAt P G s (syncs c call.Drain ring) t a → IsStill a
   syncs-still s t c ring a bound drains going takes =
       let st = syncs-step s t c ring call.Drain a bound takes in
       subst IsStill st.outcome (synced-still c st.load st.commit drains going)
 
-  pub starts-begun : (s t : S × T) (c : Plain) (ring : List ℤ) (cursor : Cursor) (upto : ℕ) (a : Answered (Unit {0})) → AreBindings c.bindings
+  pub starts-begun : (s t : S × T) (c : Plain) (ring : List ℤ) (cursor : Cursor) (upto : ℕ) (a : Answered (Unit {0})) → AreBindings c.setup.bindings
       → TakesAt P G s (starts c Draining cursor upto ring) t a → StillBegun c a
   starts-begun s t c ring cursor upto a bound takes =
       let st = starts-step s t c ring Draining cursor upto a bound takes in
       subst (StillBegun c) st.outcome (started-begun c cursor st.load st.commit)
 
   -- a write into a stream that runs, by its two parts
-  pub writes-explained : (s m t : S × T) (c : Plain) (ring new_ring offered : List ℤ) (n : ℕ) (middle : Answered (Unit {0})) (a : Answered ℕ) → AreBindings c.bindings → c.state ≡ Running
+  pub writes-explained : (s m t : S × T) (c : Plain) (ring new_ring offered : List ℤ) (n : ℕ) (middle : Answered (Unit {0})) (a : Answered ℕ) → AreBindings c.setup.bindings → c.status.state ≡ Running
       → TakesAt P G s (syncs c call.Transfer ring) m middle → TakesAt P G m (write_on ring offered n middle) t a → new_ring ≡ ring_with middle.0 ring offered (taken_after middle n)
       → (last : Commit) → written_on middle n last ≡ a → OnLate last.ended (λ word. IsPast P.view P.shows t.0 (end_of_commit middle.0 last) (end_channel middle.0 last) word)
       → ((e : PcmError) → middle.1 ≡ Err e → t ≡ m)
       → ExplainsWrite P G s t c ring new_ring offered n a
   writes-explained s m t c ring new_ring offered n middle a bound runs first rest is_ring last outcome late stays =
-      let step : IsStep c.state call.Transfer = subst (λ (state : State). IsStep state call.Transfer) (sym runs) tt in
+      let step : IsStep c.status.state call.Transfer = subst (λ (state : State). IsStep state call.Transfer) (sym runs) tt in
       let one = syncs-explained s m c ring call.Transfer middle bound step first in
       let st = one.step in
       record {
@@ -378,49 +392,49 @@ module _ {S T : Type 0} (P : mixport.Ghosts S) (G : gates.Ghosts T) (laid_compos
       }
 
   -- a stream that runs still runs after a sync for a write that went well
-  pub syncs-runs : (s t : S × T) (c : Plain) (ring : List ℤ) (a : Answered (Unit {0})) → AreBindings c.bindings → c.state ≡ Running → a.1 ≡ Ok tt
-      → TakesAt P G s (syncs c call.Transfer ring) t a → a.0.state ≡ Running
+  pub syncs-runs : (s t : S × T) (c : Plain) (ring : List ℤ) (a : Answered (Unit {0})) → AreBindings c.setup.bindings → c.status.state ≡ Running → a.1 ≡ Ok tt
+      → TakesAt P G s (syncs c call.Transfer ring) t a → a.0.status.state ≡ Running
   syncs-runs s t c ring a bound runs ok takes =
       let st = syncs-step s t c ring call.Transfer a bound takes in
-      OnOk-of a.1 (a.0.state ≡ Running) ok (subst (λ (b : Answered (Unit {0})). OnOk b.1 (b.0.state ≡ Running)) st.outcome (synced-runs c st.load st.commit runs))
+      OnOk-of a.1 (a.0.status.state ≡ Running) ok (subst (λ (b : Answered (Unit {0})). OnOk b.1 (b.0.status.state ≡ Running)) st.outcome (synced-runs c st.load st.commit runs))
 
   -- the start of a drain, where it went well
   pub record Drains (s m : S × T) (c : Plain) (ring : List ℤ) (a : Answered (Unit {0})) : Type 0 where
     pub keeps : Keeps P G s m (client c ring) (client a.0 ring) a.1 AnySamples
-    pub drains : a.0.state ≡ Draining
-    pub going : a.0.stopped ≡ false
+    pub drains : a.0.status.state ≡ Draining
+    pub going : a.0.status.stopped ≡ false
 
-  begun-well : (c : Plain) (a : Answered (Unit {0})) → a.1 ≡ Ok tt → StillBegun c a → (a.0.state ≡ Draining) × (a.0.stopped ≡ c.stopped)
+  begun-well : (c : Plain) (a : Answered (Unit {0})) → a.1 ≡ Ok tt → StillBegun c a → (a.0.status.state ≡ Draining) × (a.0.status.stopped ≡ c.status.stopped)
   begun-well c a ok (inl well) = (well.1, well.2)
   begun-well c a ok (inr refused) = absurd (let is = refused.1.1 in cc)
 
-  pub drains-kept : (s m : S × T) (c : Plain) (ring : List ℤ) (a : Answered (Unit {0})) → IsSound c ring → c.state ≡ Prepared → c.stopped ≡ false
-      → (P.view s.0).marks.cursor.frame ≤ end_frame c.geometry → CanUse c (P.view s.0) → a.1 ≡ Ok tt
-      → TakesAt P G s (starts c Draining (P.view s.0).marks.cursor c.written ring) m a → Drains s m c ring a
+  pub drains-kept : (s m : S × T) (c : Plain) (ring : List ℤ) (a : Answered (Unit {0})) → IsSound c ring → c.status.state ≡ Prepared → c.status.stopped ≡ false
+      → (P.view s.0).marks.cursor.frame ≤ end_frame c.identity.geometry → CanUse c (P.view s.0) → a.1 ≡ Ok tt
+      → TakesAt P G s (starts c Draining (P.view s.0).marks.cursor c.stretch.written ring) m a → Drains s m c ring a
   drains-kept s m c ring a sound waits unstopped near port ok takes =
-      let well = begun-well c a ok (starts-begun s m c ring (P.view s.0).marks.cursor c.written a (configured-prepared c ring sound waits).bound takes) in
+      let well = begun-well c a ok (starts-begun s m c ring (P.view s.0).marks.cursor c.stretch.written a (configured-prepared c ring sound waits).bound takes) in
       record { keeps = start-kept s m c ring Draining a sound waits refl near port takes; drains = well.0; going = well.1 ∙ unstopped }
 
   begun-ill : (c : Plain) (a : Answered (Unit {0})) (e : PcmError) → a.1 ≡ Err e → StillBegun c a → IsStill a
   begun-ill c a e is (inl well) = absurd (let h = well.0 in cc)
   begun-ill c a e is (inr refused) = refused.0
 
-  pub drains-ill : (s m : S × T) (c : Plain) (ring : List ℤ) (cursor : Cursor) (a : Answered (Unit {0})) (e : PcmError) → AreBindings c.bindings → a.1 ≡ Err e
-      → TakesAt P G s (starts c Draining cursor c.written ring) m a → IsStill a
-  drains-ill s m c ring cursor a e bound is takes = begun-ill c a e is (starts-begun s m c ring cursor c.written a bound takes)
+  pub drains-ill : (s m : S × T) (c : Plain) (ring : List ℤ) (cursor : Cursor) (a : Answered (Unit {0})) (e : PcmError) → AreBindings c.setup.bindings → a.1 ≡ Err e
+      → TakesAt P G s (starts c Draining cursor c.stretch.written ring) m a → IsStill a
+  drains-ill s m c ring cursor a e bound is takes = begun-ill c a e is (starts-begun s m c ring cursor c.stretch.written a bound takes)
 
   -- a write into a prepared stream that doesn't start it
-  pub stored-kept : (s : S × T) (c : Plain) (ring stored samples : List ℤ) (n m : ℕ) → m ≡ taken_of c n → stored ≡ ring_with c ring samples m → IsSound c ring → IsSound c stored → c.state ≡ Prepared
-      → n * length c.bindings ≤ length samples → CanUse c (P.view s.0)
+  pub stored-kept : (s : S × T) (c : Plain) (ring stored samples : List ℤ) (n m : ℕ) → m ≡ taken_of c n → stored ≡ ring_with c ring samples m → IsSound c ring → IsSound c stored → c.status.state ≡ Prepared
+      → n * length c.setup.bindings ≤ length samples → CanUse c (P.view s.0)
       → Keeps P G s s (client c ring) (client (accepted c m) stored) (let r : Result ℕ PcmError = Ok m in r) (λ all. Follows c all samples n)
   stored-kept s c ring stored samples n m is is_stored sound sound_stored waits held_all port = record {
-    sound = IsSound-filled c stored m sound_stored waits (omega (arith, is, taken-room n c.config.buffer_size c.written (sound.prepared waits).fits, taken-waiting c n (sound.prepared waits).waiting));
+    sound = IsSound-filled c stored m sound_stored waits (omega (arith, is, taken-room n c.setup.config.buffer_size c.stretch.written (sound.prepared waits).fits, taken-waiting c n (sound.prepared waits).waiting));
     port = record {
       same_geometry = port.same_geometry;
       same_member = port.same_member;
       can = port.can;
-      behind = λ moves going. absurd (not_prepared-moving c.state moves waits);
-      newer = λ moves going. absurd (not_prepared-moving c.state moves waits);
+      behind = λ moves going. absurd (not_prepared-moving c.status.state moves waits);
+      newer = λ moves going. absurd (not_prepared-moving c.status.state moves waits);
     };
     told = λ unstopped. refl;
     grows = λ all stands for. Grows-none P.laid laid_composes s.0 s.0 c (accepted c m) all refl refl refl refl;
@@ -431,16 +445,16 @@ module _ {S T : Type 0} (P : mixport.Ghosts S) (G : gates.Ghosts T) (laid_compos
   pub record Filled (s t : S × T) (c : Plain) (ring stored samples : List ℤ) (n m : ℕ) (a : Answered ℕ) : Type 0 where
     pub keeps : Keeps P G s t (client c ring) (client a.0 stored) a.1 (λ all. Follows c all samples n)
     pub count : IfOk a.1 (λ k. k ≡ m)
-    pub explains : Explains P G s t (client c stored) (λ position. started_in c Running position (P.view s.0).marks.cursor) (λ position. start_count c (P.view s.0).marks.cursor position (c.written + m))
+    pub explains : Explains P G s t (client c stored) (λ position. started_in c Running position (P.view s.0).marks.cursor) (λ position. start_count c (P.view s.0).marks.cursor position (c.stretch.written + m))
         (λ load commit. accepted_if m (started c Running (P.view s.0).marks.cursor load commit)) a
 
-  pub filled-kept : (s t : S × T) (c : Plain) (ring stored samples : List ℤ) (n m : ℕ) (a : Answered ℕ) → m ≡ taken_of c n → stored ≡ ring_with c ring samples m → IsSound c ring → IsSound c stored → c.state ≡ Prepared
-      → n * length c.bindings ≤ length samples → (P.view s.0).marks.cursor.frame ≤ end_frame c.geometry → CanUse c (P.view s.0)
+  pub filled-kept : (s t : S × T) (c : Plain) (ring stored samples : List ℤ) (n m : ℕ) (a : Answered ℕ) → m ≡ taken_of c n → stored ≡ ring_with c ring samples m → IsSound c ring → IsSound c stored → c.status.state ≡ Prepared
+      → n * length c.setup.bindings ≤ length samples → (P.view s.0).marks.cursor.frame ≤ end_frame c.identity.geometry → CanUse c (P.view s.0)
       → TakesAt P G s (starts_taking c stored (P.view s.0).marks.cursor m) t a → Filled s t c ring stored samples n m a
   unfolding starts_taking
   filled-kept s t c ring stored samples n m a is is_stored sound sound_stored waits held_all near port takes =
-      let parts = Takes-parts (LoadsAt P G) (LaysAt P G) NoGet s t (starts c Running (P.view s.0).marks.cursor (c.written + m) stored) (λ done. ends (accepted_if m done)) a takes in
-      let begun = starts-kept s parts.0 c stored Running m parts.1 sound_stored waits refl (omega (arith, is, taken-room n c.config.buffer_size c.written (sound.prepared waits).fits, taken-waiting c n (sound.prepared waits).waiting)) near port parts.2 in
+      let parts = Takes-parts (LoadsAt P G) (LaysAt P G) NoGet s t (starts c Running (P.view s.0).marks.cursor (c.stretch.written + m) stored) (λ done. ends (accepted_if m done)) a takes in
+      let begun = starts-kept s parts.0 c stored Running m parts.1 sound_stored waits refl (omega (arith, is, taken-room n c.setup.config.buffer_size c.stretch.written (sound.prepared waits).fits, taken-waiting c n (sound.prepared waits).waiting)) near port parts.2 in
       subst (λ (u : S × T). Filled s u c ring stored samples n m a) (sym parts.3.there) (subst (λ (b : Answered ℕ). Filled s parts.0 c ring stored samples n m b) (sym parts.3.result) (record {
         keeps = record {
           sound = begun.sound;
@@ -450,8 +464,8 @@ module _ {S T : Type 0} (P : mixport.Ghosts S) (G : gates.Ghosts T) (laid_compos
           stands = λ all stands for. begun.stands all (filled-stands c ring stored samples all n m is is_stored sound waits held_all stands for);
         };
         count = accepted-count m parts.1;
-        explains = Explains-accepted s parts.0 (client c stored) (λ position. started_in c Running position (P.view s.0).marks.cursor) (λ position. start_count c (P.view s.0).marks.cursor position (c.written + m)) (started c Running (P.view s.0).marks.cursor) m parts.1 (accepted_if m parts.1) refl
-            (starts-explained s parts.0 c stored Running (P.view s.0).marks.cursor (c.written + m) parts.1 (configured-prepared c stored sound_stored waits).bound waits parts.2);
+        explains = Explains-accepted s parts.0 (client c stored) (λ position. started_in c Running position (P.view s.0).marks.cursor) (λ position. start_count c (P.view s.0).marks.cursor position (c.stretch.written + m)) (started c Running (P.view s.0).marks.cursor) m parts.1 (accepted_if m parts.1) refl
+            (starts-explained s parts.0 c stored Running (P.view s.0).marks.cursor (c.stretch.written + m) parts.1 (configured-prepared c stored sound_stored waits).bound waits parts.2);
       }))
 
   -- a write into a stream that runs, whose sync went well
@@ -460,14 +474,14 @@ module _ {S T : Type 0} (P : mixport.Ghosts S) (G : gates.Ghosts T) (laid_compos
     pub count : IfOk a.1 (λ taken. taken ≤ 16384)
     pub explains : ExplainsWrite P G s t c ring new offered n a
 
-  pub writes-kept : (s m t : S × T) (c d : Plain) (ring new offered : List ℤ) (n : ℕ) (a : Answered ℕ) → new ≡ ring_with d ring offered (taken_of d n) → IsSound c ring → c.state ≡ Running → c.stopped ≡ false
-      → n * length c.bindings ≤ length offered → CanUse c (P.view s.0) → TakesAt P G s (syncs c call.Transfer ring) m (d, Ok tt) → TakesAt P G m (takes_more d ring offered n) t a
+  pub writes-kept : (s m t : S × T) (c d : Plain) (ring new offered : List ℤ) (n : ℕ) (a : Answered ℕ) → new ≡ ring_with d ring offered (taken_of d n) → IsSound c ring → c.status.state ≡ Running → c.status.stopped ≡ false
+      → n * length c.setup.bindings ≤ length offered → CanUse c (P.view s.0) → TakesAt P G s (syncs c call.Transfer ring) m (d, Ok tt) → TakesAt P G m (takes_more d ring offered n) t a
       → Wrote s t c ring new offered n a
   writes-kept s m t c d ring new offered n a is_new sound runs unstopped held_all port one two =
-      let moves : is_moving c.state ≡ true = ap is_moving runs in
+      let moves : is_moving c.status.state ≡ true = ap is_moving runs in
       let bound = (configured-moving c ring sound moves).bound in
       let first = syncs-kept s m c ring call.Transfer (d, Ok tt) sound moves unstopped (subst (λ (state : State). IsStep state call.Transfer) (sym runs) tt) port one in
-      let still : d.state ≡ Running = syncs-runs s m c ring (d, Ok tt) bound runs refl one in
+      let still : d.status.state ≡ Running = syncs-runs s m c ring (d, Ok tt) bound runs refl one in
       let later = takes_more-kept m t d ring offered n a first.keeps.sound (ap is_moving still) first.goes.unstopped (first.past (ap is_moving still) first.goes.unstopped) (subst (λ (bs : List ℕ). n * length bs ≤ length offered) (sym first.same.bindings) held_all) first.keeps.port two in
       subst (λ (r : List ℤ). Wrote s t c ring r offered n a) (sym is_new) (record {
         keeps = Keeps-then s m t (client c ring) (client d ring) (client a.0 (ring_with d ring offered (taken_of d n))) (let r : Result (Unit {0}) PcmError = Ok tt in r) a.1 (λ all. Follows c all offered n) (λ all. Follows d all offered n)
@@ -478,7 +492,7 @@ module _ {S T : Type 0} (P : mixport.Ghosts S) (G : gates.Ghosts T) (laid_compos
       })
 
   -- a drain with nothing to play
-  pub dropped-kept : (s : S × T) (c : Plain) (ring : List ℤ) → IsSound c ring → refusal_of c call.Drain ≡ None → CanUse c (P.view s.0)
+  pub dropped-kept : (s : S × T) (c : Plain) (ring : List ℤ) → IsSound c ring → refusal_of Playback c.status call.Drain ≡ None → CanUse c (P.view s.0)
       → Keeps P G s s (client c ring) (client (dropped c) ring) (let r : Result (Unit {0}) PcmError = Ok tt in r) AnySamples
   dropped-kept s c ring sound admitted port = record {
     sound = record {
@@ -487,7 +501,7 @@ module _ {S T : Type 0} (P : mixport.Ghosts S) (G : gates.Ghosts T) (laid_compos
       card = sound.card;
       fed = sound.fed;
       laid = sound.laid;
-      set_up = λ is. sound.set_up (drain-set_up c.stopped c.state admitted);
+      set_up = λ is. sound.set_up (drain-set_up c.status.stopped c.status.state admitted);
       configured = λ set. let k = sound.configured set in record { bound = k.bound; on_card = k.on_card; channels = k.channels; buffer_least = k.buffer_least; buffer_most = k.buffer_most; room = k.room };
       prepared = λ is. absurd (cc);
       moving = λ moves going. absurd (cc);

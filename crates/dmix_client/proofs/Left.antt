@@ -17,22 +17,23 @@ use Rattle.dmix_client.specs.declared.plain.Plain.{Plain}
 use Rattle.dmix_client.specs.Calls.{Answered, accepted_if, commit_count, committed_by, end_channel, end_of_commit, found_at, going_on, is_stop, late_of, seen_at, start_count, started, started_in, stopped_in}
 use Rattle.mix_core.specs.Port.{OnWhole, PortView}
 use Rattle.dmix_client.specs.Port.{CanUse, least_channel}
-use Rattle.dmix_client.specs.View.{IsConfigured, IsSound, is_moving}
+use Rattle.pcm_stream.specs.Status.{is_moving}
+use Rattle.dmix_client.specs.View.{IsConfigured, IsSound}
 use Rattle.dmix_client.proofs.Sound.{OnWhole-of, whole-of}
 use Rattle.dmix_client.specs.Growth.{KeepsAccepted}
 use Rattle.dmix_client.proofs.Starting.{IsMoving-begun, IsSound-begun, IsStarting, begun}
 
 -- a client with other counts of what was accepted, where its call went well
 abbrev pub grown : ℕ → ℕ → Answered (Unit {0}) → Plain
-grown written fed (d, Ok done) = record d { written = written; fed = fed }
+grown written fed (d, Ok done) = record d { stretch = record d.stretch { written = written }; fed = fed }
 grown written fed (d, Err e) = d
 
 -- the port after a start: it is the client's, and where all was laid its cursor is where the commit ended
 pub record IsAfter (c : Plain) (cursor : Cursor) (load : Option Position) (commit : Commit) (v : PortView) : Type 0 where
-  pub same_geometry : v.geometry ≡ c.geometry
-  pub same_member : v.member ≡ c.member
+  pub same_geometry : v.geometry ≡ c.identity.geometry
+  pub same_member : v.member ≡ c.identity.member
   pub able : v.can_add ≡ true
-  pub stayed : IfSome load (λ (position : Position). OnWhole commit.ended (IsFrom v.marks.cursor (end_of_commit (started_in c Running position cursor) commit) (least_channel c.bindings)))
+  pub stayed : IfSome load (λ (position : Position). OnWhole commit.ended (IsFrom v.marks.cursor (end_of_commit (started_in c Running position cursor) commit) (least_channel c.setup.bindings)))
   pub saw : IfSome load (λ (position : Position). v.seen ≡ position.frame)
 
 pub record IsLeft (d : Plain) (ring : List ℤ) (v : PortView) : Type 0 where
@@ -40,7 +41,7 @@ pub record IsLeft (d : Plain) (ring : List ℤ) (v : PortView) : Type 0 where
   pub use_it : CanUse d v
 
 -- a port is used by a client that doesn't move frames, or is stopped
-CanUse-still : (d : Plain) (v : PortView) → v.geometry ≡ d.geometry → v.member ≡ d.member → v.can_add ≡ true → (is_moving d.state ≡ true → d.stopped ≡ false → ⊥) → CanUse d v
+CanUse-still : (d : Plain) (v : PortView) → v.geometry ≡ d.identity.geometry → v.member ≡ d.identity.member → v.can_add ≡ true → (is_moving d.status.state ≡ true → d.status.stopped ≡ false → ⊥) → CanUse d v
 CanUse-still d v same_geometry same_member able still = record {
   same_geometry = same_geometry;
   same_member = same_member;
@@ -49,19 +50,19 @@ CanUse-still d v same_geometry same_member able still = record {
   newer = λ moves going. absurd (still moves going);
 }
 
-pub IsConfigured-as : (c d : Plain) (ring : List ℤ) → d.bindings ≡ c.bindings → d.geometry ≡ c.geometry → d.config ≡ c.config → IsConfigured c ring → IsConfigured d ring
+pub IsConfigured-as : (c d : Plain) (ring : List ℤ) → d.setup.bindings ≡ c.setup.bindings → d.identity.geometry ≡ c.identity.geometry → d.setup.config ≡ c.setup.config → IsConfigured c ring → IsConfigured d ring
 IsConfigured-as c d ring same_bindings same_geometry same_config k = record {
   bound = subst AreBindings (sym same_bindings) k.bound;
-  on_card = subst (λ (bs : List ℕ). All (λ channel. channel < d.geometry.channels) bs) (sym same_bindings) (subst (λ (g : Geometry). All (λ channel. channel < g.channels) c.bindings) (sym same_geometry) k.on_card);
+  on_card = subst (λ (bs : List ℕ). All (λ channel. channel < d.identity.geometry.channels) bs) (sym same_bindings) (subst (λ (g : Geometry). All (λ channel. channel < g.channels) c.setup.bindings) (sym same_geometry) k.on_card);
   channels = ap (λ (x : Config). x.channels) same_config ∙ k.channels ∙ ap length (sym same_bindings);
   buffer_least = subst (λ (x : Config). 1 ≤ x.buffer_size) (sym same_config) k.buffer_least;
   buffer_most = subst (λ (x : Config). x.buffer_size ≤ 16384) (sym same_config) k.buffer_most;
-  room = k.room ∙ ap (λ (x : Config). x.buffer_size * length c.bindings) (sym same_config) ∙ ap (λ (bs : List ℕ). d.config.buffer_size * length bs) (sym same_bindings);
+  room = k.room ∙ ap (λ (x : Config). x.buffer_size * length c.setup.bindings) (sym same_config) ∙ ap (λ (bs : List ℕ). d.setup.config.buffer_size * length bs) (sym same_bindings);
 }
 
-module _ (c : Plain) (ring : List ℤ) (state : State) (moves_then : is_moving state ≡ true) (cursor : Cursor) (commit : Commit) (upto fed : ℕ) (sums : upto + c.source ≡ fed)
+module _ (c : Plain) (ring : List ℤ) (state : State) (moves_then : is_moving state ≡ true) (cursor : Cursor) (commit : Commit) (upto fed : ℕ) (sums : upto + c.stretch.source ≡ fed)
     (v : PortView) where
-  left-None : IsStarting c ring cursor None commit upto → IsAfter c cursor None commit v → IsLeft (record c { stopped = true }) ring v
+  left-None : IsStarting c ring cursor None commit upto → IsAfter c cursor None commit v → IsLeft (record c { status = record c.status { stopped = true } }) ring v
   left-None starting after =
       let sound = starting.sound in
       let p = sound.prepared starting.prepared in
@@ -73,19 +74,19 @@ module _ (c : Plain) (ring : List ℤ) (state : State) (moves_then : is_moving s
           fed = sound.fed;
           laid = sound.laid;
           set_up = sound.set_up;
-          configured = λ set. IsConfigured-as c (record c { stopped = true }) ring refl refl refl (sound.configured set);
+          configured = λ set. IsConfigured-as c (record c { status = record c.status { stopped = true } }) ring refl refl refl (sound.configured set);
           prepared = λ is. record { waiting = p.waiting; no_frame = p.no_frame; no_part = p.no_part; fits = p.fits };
           moving = λ moves going. absurd (cc);
           paused = λ is. absurd (let waits = starting.prepared in cc);
         };
-        use_it = CanUse-still (record c { stopped = true }) v after.same_geometry after.same_member after.able (λ moves going. cc);
+        use_it = CanUse-still (record c { status = record c.status { stopped = true } }) v after.same_geometry after.same_member after.able (λ moves going. cc);
       }
 
   left-gone : (position : Position) → IsStarting c ring cursor (Some position) commit upto → IsAfter c cursor (Some position) commit v
-      → IsLeft (record c { state = Disconnected; seen = Some position.frame }) ring v
+      → IsLeft (record c { status = record c.status { state = Disconnected }; seen = Some position.frame }) ring v
   left-gone position starting after =
       let sound = starting.sound in
-      let d : Plain = record c { state = Disconnected; seen = Some position.frame } in
+      let d : Plain = record c { status = record c.status { state = Disconnected }; seen = Some position.frame } in
       record {
         sound = record {
           lead = sound.lead;
@@ -103,10 +104,10 @@ module _ (c : Plain) (ring : List ℤ) (state : State) (moves_then : is_moving s
       }
 
   left-stopped : (position : Position) → IsStarting c ring cursor (Some position) commit upto → IsAfter c cursor (Some position) commit v
-      → IsLeft (begun c state position cursor commit true c.written c.fed) ring v
+      → IsLeft (begun c state position cursor commit true c.stretch.written c.fed) ring v
   left-stopped position starting after = record {
-    sound = IsSound-begun c ring state position cursor commit true upto c.written c.fed starting not_prepared not_paused starting.sound.fed (λ moves going. absurd (cc));
-    use_it = CanUse-still (begun c state position cursor commit true c.written c.fed) v after.same_geometry after.same_member after.able (λ moves going. cc);
+    sound = IsSound-begun c ring state position cursor commit true upto c.stretch.written c.fed starting not_prepared not_paused starting.sound.fed (λ moves going. absurd (cc));
+    use_it = CanUse-still (begun c state position cursor commit true c.stretch.written c.fed) v after.same_geometry after.same_member after.able (λ moves going. cc);
   }
     where
       not_prepared : state ≡ Prepared → ⊥
@@ -116,26 +117,26 @@ module _ (c : Plain) (ring : List ℤ) (state : State) (moves_then : is_moving s
       not_paused is = let no : is_moving Paused ≡ true = subst (λ (x : State). is_moving x ≡ true) is moves_then in cc
 
   left-late : (position : Position) → IsStarting c ring cursor (Some position) commit upto → IsAfter c cursor (Some position) commit v
-      → IsLeft (begun c Xrun position cursor commit c.stopped c.written c.fed) ring v
+      → IsLeft (begun c Xrun position cursor commit c.status.stopped c.stretch.written c.fed) ring v
   left-late position starting after = record {
-    sound = IsSound-begun c ring Xrun position cursor commit c.stopped upto c.written c.fed starting (λ is. cc) (λ is. cc) starting.sound.fed (λ moves going. absurd (cc));
-    use_it = CanUse-still (begun c Xrun position cursor commit c.stopped c.written c.fed) v after.same_geometry after.same_member after.able (λ moves going. cc);
+    sound = IsSound-begun c ring Xrun position cursor commit c.status.stopped upto c.stretch.written c.fed starting (λ is. cc) (λ is. cc) starting.sound.fed (λ moves going. absurd (cc));
+    use_it = CanUse-still (begun c Xrun position cursor commit c.status.stopped c.stretch.written c.fed) v after.same_geometry after.same_member after.able (λ moves going. cc);
   }
 
   left-whole : (position : Position) → IsStarting c ring cursor (Some position) commit upto → IsAfter c cursor (Some position) commit v
       → position.gone ≡ false → is_stop commit.ended ≡ false → late_of (started_in c state position cursor) commit ≡ None
-      → IsLeft (begun c state position cursor commit c.stopped upto fed) ring v
+      → IsLeft (begun c state position cursor commit c.status.stopped upto fed) ring v
   left-whole position starting after here unstopped in_time =
-      let whole = whole-of commit.ended commit.frames commit.part (start_count c cursor position upto) (length c.bindings) (end_of_commit (started_in c state position cursor) commit) (end_channel (started_in c state position cursor) commit) starting.found.commit_is unstopped in_time in
+      let whole = whole-of commit.ended commit.frames commit.part (start_count c cursor position upto) (length c.setup.bindings) (end_of_commit (started_in c state position cursor) commit) (end_channel (started_in c state position cursor) commit) starting.found.commit_is unstopped in_time in
       let all : commit.frames ≡ commit_count (started_in c Running position cursor) position.frame upto =
       whole.0 ∙ ap (λ (b : Bool). if b then 0 else commit_count (started_in c Running position cursor) position.frame upto) here in
       record {
-        sound = IsSound-begun c ring state position cursor commit c.stopped upto upto fed starting not_prepared not_paused sums (λ moves going. IsMoving-begun c ring state position cursor commit c.stopped upto fed starting all whole.1);
+        sound = IsSound-begun c ring state position cursor commit c.status.stopped upto upto fed starting not_prepared not_paused sums (λ moves going. IsMoving-begun c ring state position cursor commit c.status.stopped upto fed starting all whole.1);
         use_it = record {
           same_geometry = after.same_geometry;
           same_member = after.same_member;
           can = after.able;
-          behind = λ moves going. OnWhole-of commit.ended (IsFrom v.marks.cursor (end_of_commit (started_in c Running position cursor) commit) (least_channel c.bindings)) (end_of_commit (started_in c state position cursor) commit) (end_channel (started_in c state position cursor) commit) unstopped in_time after.stayed;
+          behind = λ moves going. OnWhole-of commit.ended (IsFrom v.marks.cursor (end_of_commit (started_in c Running position cursor) commit) (least_channel c.setup.bindings)) (end_of_commit (started_in c state position cursor) commit) (end_channel (started_in c state position cursor) commit) unstopped in_time after.stayed;
           newer = λ moves going. omega (arith, after.saw);
         };
       }
@@ -174,6 +175,6 @@ module _ (c : Plain) (ring : List ℤ) (state : State) (moves_then : is_moving s
   IsLeft-started (Some position) starting after = left-by_gone position position.gone refl starting after
 
 -- frames are accepted where the start went well
-pub grown-accepted : (c : Plain) (n : ℕ) (a : Answered (Unit {0})) → KeepsAccepted c a.0 → (accepted_if n a).0 ≡ grown (c.written + n) (c.fed + n) a
-grown-accepted c n (d, Ok done) keeps = ap (λ (w : ℕ). record d { written = w + n; fed = d.fed + n }) keeps.written ∙ ap (λ (f : ℕ). record d { written = c.written + n; fed = f + n }) keeps.fed
+pub grown-accepted : (c : Plain) (n : ℕ) (a : Answered (Unit {0})) → KeepsAccepted c a.0 → (accepted_if n a).0 ≡ grown (c.stretch.written + n) (c.fed + n) a
+grown-accepted c n (d, Ok done) keeps = ap (λ (w : ℕ). record d { stretch = record d.stretch { written = w + n }; fed = d.fed + n }) keeps.written ∙ ap (λ (f : ℕ). record d { stretch = record d.stretch { written = c.stretch.written + n }; fed = f + n }) keeps.fed
 grown-accepted c n (d, Err e) keeps = refl

@@ -17,7 +17,6 @@ mod Left
 mod Resuming
 mod Rewinding
 mod Rings
-mod Same
 mod Sound
 mod Started
 mod Starting

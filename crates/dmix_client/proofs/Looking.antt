@@ -15,9 +15,10 @@ use Rattle.pcm_states.specs.declared.calls.Call.{Call}
 use Rattle.pcm_states.specs.declared.calls.Call.TheVariants as call
 use Rattle.dmix_client.specs.declared.commit.Commit.{Commit}
 use Rattle.dmix_client.specs.declared.plain.Plain.{Plain}
-use Rattle.dmix_client.specs.Calls.{Answered, accepted_if, is_running, pending_of, rebased, refusal_of, refused_by, resumed, start_count, started, started_in, sync_count, synced, taken_of, with_number, written_after}
+use Rattle.pcm_stream.specs.Status.{is_moving, refusal_of, refused_by}
+use Rattle.pcm_stream.specs.declared.direction.Direction.TheVariants.{Playback}
+use Rattle.dmix_client.specs.Calls.{Answered, accepted_if, is_running, pending_of, rebased, resumed, start_count, started, started_in, sync_count, synced, taken_of, with_number, written_after}
 use Rattle.dmix_client.specs.Course.{admitted, admitted_by, commits, drain_on, drains, fills, looks, nothing, number_course, numbered, resumes, starts, starts_taking, syncs, takes_more, write_course, write_on, writes_on}
-use Rattle.dmix_client.specs.View.{is_moving}
 use Rattle.dmix_client.specs.Writes.{count_with, frames_in, ring_with}
 
 -- an answer is good
@@ -66,9 +67,9 @@ module _ {S T : Type 0} (P : mixport.Ghosts S) (G : gates.Ghosts T) where
 
   -- the drain of a client that is prepared, by its start and what follows
   pub drains-by : (s t u : S × T) (c : Plain) (ring : List ℤ) (cursor : Cursor) (begun done : Answered (Unit {0}))
-      → TakesAt P G s (starts c Draining cursor c.written ring) t begun → TakesAt P G t (drain_on ring begun) u done → TakesAt P G s (drains c ring cursor) u done
+      → TakesAt P G s (starts c Draining cursor c.stretch.written ring) t begun → TakesAt P G t (drain_on ring begun) u done → TakesAt P G s (drains c ring cursor) u done
   unfolding drains
-  drains-by s t u c ring cursor begun done one two = Takes-then (LoadsAt P G) (LaysAt P G) NoGet s t u (starts c Draining cursor c.written ring) (drain_on ring) begun done one two
+  drains-by s t u c ring cursor begun done one two = Takes-then (LoadsAt P G) (LaysAt P G) NoGet s t u (starts c Draining cursor c.stretch.written ring) (drain_on ring) begun done one two
 
   admitted_by-ok : {X : Type 0} (s t : S × T) (o : Option PcmError) (c : Plain) (m : Course (Answered X)) (done : Answered X) → IsGood (refused_by o) → TakesAt P G s m t done → TakesAt P G s (admitted_by o c m) t done
   admitted_by-ok s t None c m done good takes = takes
@@ -76,11 +77,11 @@ module _ {S T : Type 0} (P : mixport.Ghosts S) (G : gates.Ghosts T) where
 
   -- a call that is admitted
   pub admitted-ok : {X : Type 0} (s t : S × T) (c : Plain) (call : Call) (m : Course (Answered X)) (done : Answered X) (r : Result (Unit {0}) PcmError)
-      → r ≡ refused_by (refusal_of c call) → r ≡ Ok tt → TakesAt P G s m t done → TakesAt P G s (admitted c call m) t done
-  admitted-ok s t c call m done r is ok takes = admitted_by-ok s t (refusal_of c call) c m done (subst IsGood is (subst IsGood (sym ok) tt)) takes
+      → r ≡ refused_by (refusal_of Playback c.status call) → r ≡ Ok tt → TakesAt P G s m t done → TakesAt P G s (admitted c call m) t done
+  admitted-ok s t c call m done r is ok takes = admitted_by-ok s t (refusal_of Playback c.status call) c m done (subst IsGood is (subst IsGood (sym ok) tt)) takes
 
   -- the number of a client that moves frames
-  pub number-moving : (s t : S × T) (number : Plain → ℕ) (c : Plain) (ring : List ℤ) (done : Answered (Unit {0})) (x : Answered ℕ) → is_moving c.state ≡ true
+  pub number-moving : (s t : S × T) (number : Plain → ℕ) (c : Plain) (ring : List ℤ) (done : Answered (Unit {0})) (x : Answered ℕ) → is_moving c.status.state ≡ true
       → TakesAt P G s (syncs c call.Sync ring) t done → with_number number done ≡ x → TakesAt P G s (number_course number c ring) t x
   unfolding numbered
   number-moving s t number c ring done x moves takes is = rw moves (Takes-map (LoadsAt P G) (LaysAt P G) NoGet s t (syncs c call.Sync ring) (λ z. with_number number z) done x takes is)
@@ -99,17 +100,17 @@ module _ {S T : Type 0} (P : mixport.Ghosts S) (G : gates.Ghosts T) where
   writes_on-by s t u c ring samples n synced done one two = Takes-then (LoadsAt P G) (LaysAt P G) NoGet s t u (syncs c call.Transfer ring) (write_on ring samples n) synced done one two
 
   pub starts_taking-by : (s t : S × T) (c : Plain) (ring : List ℤ) (cursor : Cursor) (taken : ℕ) (begun : Answered (Unit {0})) (done : Answered ℕ)
-      → TakesAt P G s (starts c Running cursor (c.written + taken) ring) t begun → accepted_if taken begun ≡ done → TakesAt P G s (starts_taking c ring cursor taken) t done
+      → TakesAt P G s (starts c Running cursor (c.stretch.written + taken) ring) t begun → accepted_if taken begun ≡ done → TakesAt P G s (starts_taking c ring cursor taken) t done
   unfolding starts_taking
   starts_taking-by s t c ring cursor taken begun done takes is =
-      Takes-map (LoadsAt P G) (LaysAt P G) NoGet s t (starts c Running cursor (c.written + taken) ring) (λ done. accepted_if taken done) begun done takes is
+      Takes-map (LoadsAt P G) (LaysAt P G) NoGet s t (starts c Running cursor (c.stretch.written + taken) ring) (λ done. accepted_if taken done) begun done takes is
 
   -- the write of a client that runs
-  pub write-running : (s t : S × T) (c : Plain) (ring samples : List ℤ) (cursor : Cursor) (n : ℕ) (done : Answered ℕ) → is_running c.state ≡ true → n ≡ frames_in c samples
+  pub write-running : (s t : S × T) (c : Plain) (ring samples : List ℤ) (cursor : Cursor) (n : ℕ) (done : Answered ℕ) → is_running c.status.state ≡ true → n ≡ frames_in c samples
       → TakesAt P G s (writes_on c ring samples n) t done → TakesAt P G s (write_course c ring samples cursor) t done
   write-running s t c ring samples cursor n done runs is takes = rw runs (subst (λ k. TakesAt P G s (writes_on c ring samples k) t done) is takes)
 
   -- the write of a client that is prepared
-  pub write-prepared : (s t : S × T) (c : Plain) (ring samples : List ℤ) (cursor : Cursor) (n : ℕ) (done : Answered ℕ) → is_running c.state ≡ false → n ≡ frames_in c samples
+  pub write-prepared : (s t : S × T) (c : Plain) (ring samples : List ℤ) (cursor : Cursor) (n : ℕ) (done : Answered ℕ) → is_running c.status.state ≡ false → n ≡ frames_in c samples
       → TakesAt P G s (fills c ring samples cursor n) t done → TakesAt P G s (write_course c ring samples cursor) t done
   write-prepared s t c ring samples cursor n done waits is takes = rw waits (subst (λ k. TakesAt P G s (fills c ring samples cursor k) t done) is takes)

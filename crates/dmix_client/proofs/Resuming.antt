@@ -21,13 +21,15 @@ use Rattle.pcm_states.specs.declared.calls.Call.TheVariants as call
 use Rattle.pcm_states.specs.Table.{next_of}
 use Rattle.dmix_client.specs.declared.commit.Commit.{Commit}
 use Rattle.dmix_client.specs.declared.plain.Plain.{Plain}
-use Rattle.dmix_client.specs.Calls.{Answered, base_of, committed_by, end_channel, end_of_commit, found_at, going_on, is_paused, is_stop, late_of, nothing_found, paused, pending_of, rebased, refusal_in, refusal_of, resumed, seen_at, start_count, started, started_in, stopped_in}
+use Rattle.pcm_stream.specs.Status.{is_moving, is_set_up, nothing_found, refusal_in, refusal_of}
+use Rattle.pcm_stream.specs.declared.direction.Direction.TheVariants.{Playback}
+use Rattle.dmix_client.specs.Calls.{Answered, base_of, committed_by, end_channel, end_of_commit, found_at, going_on, is_paused, is_stop, late_of, paused, pending_of, rebased, resumed, seen_at, start_count, started, started_in, stopped_in}
 use Rattle.dmix_client.specs.Causes.{Explains, IsCaused}
 use Rattle.dmix_client.specs.Course.{looks, resumes}
 use Rattle.dmix_client.specs.CourseLaws.{TakesAt-looks, TakesAt-step}
 use Rattle.dmix_client.specs.Growth.{AnySamples, Keeps, segment_entries}
 use Rattle.dmix_client.specs.Port.{CanUse, entries_at}
-use Rattle.dmix_client.specs.View.{IsSound, is_moving, is_set_up}
+use Rattle.dmix_client.specs.View.{IsSound}
 use Rattle.dmix_client.proofs.CausedBy.{caused-none}
 use Rattle.dmix_client.proofs.CausedStart.{IsCaused-started}
 use Rattle.dmix_client.proofs.Growth.{Grows-none}
@@ -36,21 +38,21 @@ use Rattle.dmix_client.proofs.Left.{IsConfigured-as}
 use Rattle.dmix_client.proofs.Looking.{starts-by}
 
 -- a pause is admitted of a client that runs, and a resume of one that is paused
-pause-runs : (stopped : Bool) (s : State) → (let o : Option PcmError = (if stopped then Some error.Stopped else refusal_in (next_of s call.Pause nothing_found).answer) in o) ≡ None → (s ≡ Running) × (stopped ≡ false)
+pause-runs : (stopped : Bool) (s : State) → (let o : Option PcmError = (if stopped then Some error.Stopped else refusal_in (next_of s call.Pause (nothing_found Playback)).answer) in o) ≡ None → (s ≡ Running) × (stopped ≡ false)
 pause-runs true s is = absurd (cc)
 pause-runs false Running is = (refl, refl)
 pause-runs false s is = absurd (cc)
 
-pub refusal_of-pause : (c : Plain) → refusal_of c call.Pause ≡ None → (c.state ≡ Running) × (c.stopped ≡ false)
-refusal_of-pause c admitted = pause-runs c.stopped c.state admitted
+pub refusal_of-pause : (c : Plain) → refusal_of Playback c.status call.Pause ≡ None → (c.status.state ≡ Running) × (c.status.stopped ≡ false)
+refusal_of-pause c admitted = pause-runs c.status.stopped c.status.state admitted
 
-resume-paused : (stopped : Bool) (s : State) → (let o : Option PcmError = (if stopped then Some error.Stopped else refusal_in (next_of s call.Resume nothing_found).answer) in o) ≡ None → s ≡ Paused
+resume-paused : (stopped : Bool) (s : State) → (let o : Option PcmError = (if stopped then Some error.Stopped else refusal_in (next_of s call.Resume (nothing_found Playback)).answer) in o) ≡ None → s ≡ Paused
 resume-paused true s is = absurd (cc)
 resume-paused false Paused is = refl
 resume-paused false s is = absurd (cc)
 
-pub refusal_of-resume : (c : Plain) → refusal_of c call.Resume ≡ None → c.state ≡ Paused
-refusal_of-resume c admitted = resume-paused c.stopped c.state admitted
+pub refusal_of-resume : (c : Plain) → refusal_of Playback c.status call.Resume ≡ None → c.status.state ≡ Paused
+refusal_of-resume c admitted = resume-paused c.status.stopped c.status.state admitted
 
 -- with which counts a call begins
 still-based : (a b : Bool) (c d : Plain) → b ≡ true → (if a && not b then d else c) ≡ c
@@ -58,26 +60,26 @@ still-based a false c d is = absurd (cc)
 still-based true true c d is = refl
 still-based false true c d is = refl
 
-pub base-paused : (c d : Plain) → d.state ≡ Paused → base_of c d ≡ c
-base-paused c d is = still-based (is_paused c.state) (is_paused d.state) c (rebased c) (ap is_paused is)
+pub base-paused : (c d : Plain) → d.status.state ≡ Paused → base_of c d ≡ c
+base-paused c d is = still-based (is_paused c.status.state) (is_paused d.status.state) c (rebased c) (ap is_paused is)
 
 same-based : (a : Bool) (c d : Plain) → (if a && not a then d else c) ≡ c
 same-based true c d = refl
 same-based false c d = refl
 
-pub base-same : (c d : Plain) → d.state ≡ c.state → base_of c d ≡ c
-base-same c d is = subst (λ (s : State). (if is_paused c.state && not (is_paused s) then rebased c else c) ≡ c) (sym is) (same-based (is_paused c.state) c (rebased c))
+pub base-same : (c d : Plain) → d.status.state ≡ c.status.state → base_of c d ≡ c
+base-same c d is = subst (λ (s : State). (if is_paused c.status.state && not (is_paused s) then rebased c else c) ≡ c) (sym is) (same-based (is_paused c.status.state) c (rebased c))
 
 anew-based : (a b : Bool) (c d : Plain) → a ≡ true → b ≡ false → (if a && not b then d else c) ≡ d
 anew-based false b c d is_paused is = absurd (cc)
 anew-based true true c d is_paused is = absurd (cc)
 anew-based true false c d is_paused is = refl
 
-pub base-anew : (c d : Plain) → c.state ≡ Paused → is_paused d.state ≡ false → base_of c d ≡ rebased c
-base-anew c d is goes = anew-based (is_paused c.state) (is_paused d.state) c (rebased c) (ap is_paused is) goes
+pub base-anew : (c d : Plain) → c.status.state ≡ Paused → is_paused d.status.state ≡ false → base_of c d ≡ rebased c
+base-anew c d is goes = anew-based (is_paused c.status.state) (is_paused d.status.state) c (rebased c) (ap is_paused is) goes
 
 -- the counts of a paused client, based anew, are those of a prepared one
-pub IsSound-rebased : (c : Plain) (ring : List ℤ) → IsSound c ring → c.state ≡ Paused → IsSound (rebased c) ring
+pub IsSound-rebased : (c : Plain) (ring : List ℤ) → IsSound c ring → c.status.state ≡ Paused → IsSound (rebased c) ring
 IsSound-rebased c ring sound is =
     let m = sound.paused is in
     record {
@@ -103,7 +105,7 @@ CanUse-rebased c v port = record {
 }
 
 -- a client that is stopped while it is paused
-IsSound-still : (c : Plain) (ring : List ℤ) → IsSound c ring → c.state ≡ Paused → IsSound (record c { stopped = true }) ring
+IsSound-still : (c : Plain) (ring : List ℤ) → IsSound c ring → c.status.state ≡ Paused → IsSound (record c { status = record c.status { stopped = true } }) ring
 IsSound-still c ring sound is =
     let m = sound.paused is in
     record {
@@ -113,14 +115,14 @@ IsSound-still c ring sound is =
       fed = sound.fed;
       laid = sound.laid;
       set_up = sound.set_up;
-      configured = λ set. IsConfigured-as c (record c { stopped = true }) ring refl refl refl (sound.configured set);
+      configured = λ set. IsConfigured-as c (record c { status = record c.status { stopped = true } }) ring refl refl refl (sound.configured set);
       prepared = λ waits. absurd (cc);
       moving = λ moves going. absurd (cc);
       paused = λ still. record { started = m.started; whole = m.whole; laid_most = m.laid_most; fits = m.fits; pending = m.pending };
     }
 
 -- a client that is paused
-IsSound-paused : (c : Plain) (ring : List ℤ) → IsSound c ring → c.state ≡ Running → c.stopped ≡ false → IsSound (paused c) ring
+IsSound-paused : (c : Plain) (ring : List ℤ) → IsSound c ring → c.status.state ≡ Running → c.status.stopped ≡ false → IsSound (paused c) ring
 IsSound-paused c ring sound runs going =
     let m = sound.moving (ap is_moving runs) going in
     record {
@@ -136,7 +138,7 @@ IsSound-paused c ring sound runs going =
       paused = λ still. record { started = m.started; whole = m.whole; laid_most = m.laid_most; fits = m.fits; pending = m.pending };
     }
 
-CanUse-still : (c d : Plain) (v : PortView) → d.geometry ≡ c.geometry → d.member ≡ c.member → (is_moving d.state ≡ true → d.stopped ≡ false → ⊥) → CanUse c v → CanUse d v
+CanUse-still : (c d : Plain) (v : PortView) → d.identity.geometry ≡ c.identity.geometry → d.identity.member ≡ c.identity.member → (is_moving d.status.state ≡ true → d.status.stopped ≡ false → ⊥) → CanUse c v → CanUse d v
 CanUse-still c d v same_geometry same_member still port = record {
   same_geometry = port.same_geometry ∙ sym same_geometry;
   same_member = port.same_member ∙ sym same_member;
@@ -147,7 +149,7 @@ CanUse-still c d v same_geometry same_member still port = record {
 
 -- a start that loaded the position isn't paused
 not_paused-late : (d : Plain) (gone : Bool) (late : Option XrunWhy)
-    → is_paused (going_on d Running (next_of Prepared call.Start (record { capture = false; queued = 1; starts = true; gone = gone; over = None; late = late }))).0.state ≡ false
+    → is_paused (going_on d Running (next_of Prepared call.Start (record { capture = false; queued = 1; starts = true; gone = gone; over = None; late = late }))).0.status.state ≡ false
 not_paused-late d true late = refl
 not_paused-late d false (Some why) = refl
 not_paused-late d false None = refl
@@ -155,17 +157,17 @@ not_paused-late d false None = refl
 not_paused-by : (c : Plain) (cursor : Cursor) (position : Position) (commit : Commit) (gone stop : Bool)
     → is_paused (if gone then going_on (seen_at c position) Running (next_of Prepared call.Start (found_at position None))
     else (if stop then stopped_in {T = Unit {0}} (committed_by (started_in c Running position cursor) commit)
-    else going_on (committed_by (started_in c Running position cursor) commit) Running (next_of Prepared call.Start (found_at position (late_of (started_in c Running position cursor) commit))))).0.state ≡ false
+    else going_on (committed_by (started_in c Running position cursor) commit) Running (next_of Prepared call.Start (found_at position (late_of (started_in c Running position cursor) commit))))).0.status.state ≡ false
 not_paused-by c cursor position commit true stop = not_paused-late (seen_at c position) position.gone None
 not_paused-by c cursor position commit false true = refl
 not_paused-by c cursor position commit false false = not_paused-late (committed_by (started_in c Running position cursor) commit) position.gone (late_of (started_in c Running position cursor) commit)
 
-not_paused-started : (c : Plain) (cursor : Cursor) (position : Position) (commit : Commit) → is_paused (started c Running cursor (Some position) commit).0.state ≡ false
+not_paused-started : (c : Plain) (cursor : Cursor) (position : Position) (commit : Commit) → is_paused (started c Running cursor (Some position) commit).0.status.state ≡ false
 not_paused-started c cursor position commit = not_paused-by c cursor position commit position.gone (is_stop commit.ended)
 
 module _ {S T : Type 0} (P : mixport.Ghosts S) (G : gates.Ghosts T) (laid_composes : Composes P.laid) (loaded_composes : Composes P.loaded) where
   -- a pause
-  pub paused-kept : (s : S × T) (c : Plain) (ring : List ℤ) → IsSound c ring → refusal_of c call.Pause ≡ None → CanUse c (P.view s.0)
+  pub paused-kept : (s : S × T) (c : Plain) (ring : List ℤ) → IsSound c ring → refusal_of Playback c.status call.Pause ≡ None → CanUse c (P.view s.0)
       → Keeps P G s s (client (base_of c (paused c)) ring) (client (paused c) ring) (let r : Result (Unit {0}) PcmError = Ok tt in r) AnySamples
   paused-kept s c ring sound admitted port =
       let is = refusal_of-pause c admitted in
@@ -178,7 +180,7 @@ module _ {S T : Type 0} (P : mixport.Ghosts S) (G : gates.Ghosts T) (laid_compos
       })
 
   -- a resume without pending frames
-  pub rebased-kept : (s : S × T) (c : Plain) (ring : List ℤ) → IsSound c ring → refusal_of c call.Resume ≡ None → CanUse c (P.view s.0)
+  pub rebased-kept : (s : S × T) (c : Plain) (ring : List ℤ) → IsSound c ring → refusal_of Playback c.status call.Resume ≡ None → CanUse c (P.view s.0)
       → Keeps P G s s (client (base_of c (rebased c)) ring) (client (rebased c) ring) (let r : Result (Unit {0}) PcmError = Ok tt in r) AnySamples
   rebased-kept s c ring sound admitted port =
       let is = refusal_of-resume c admitted in
@@ -192,12 +194,12 @@ module _ {S T : Type 0} (P : mixport.Ghosts S) (G : gates.Ghosts T) (laid_compos
       subst (λ (b : Plain). Keeps P G s s (client b ring) (client c ring) answer AnySamples) (sym (base-same c c refl)) keeps
 
   -- a resume with pending frames
-  resumed-by : (s t : S × T) (c : Plain) (ring : List ℤ) (cursor : Cursor) (load : Option Position) (commit : Commit) → IsSound c ring → c.state ≡ Paused → CanUse (paused c) (P.view t.0)
+  resumed-by : (s t : S × T) (c : Plain) (ring : List ℤ) (cursor : Cursor) (load : Option Position) (commit : Commit) → IsSound c ring → c.status.state ≡ Paused → CanUse (paused c) (P.view t.0)
       → P.laid s.0 t.0 (entries_at load (λ position. started_in (rebased c) Running position cursor) ring commit)
       → Keeps P G s t (client (rebased c) ring) (client (started (rebased c) Running cursor load commit).0 ring) (started (rebased c) Running cursor load commit).1 AnySamples
       → Keeps P G s t (client (base_of c (resumed c cursor load commit).0) ring) (client (resumed c cursor load commit).0 ring) (resumed c cursor load commit).1 AnySamples
   resumed-by s t c ring cursor None commit sound is port laid_nothing keeps =
-      let d : Plain = record c { stopped = true } in
+      let d : Plain = record c { status = record c.status { stopped = true } } in
       subst (λ (b : Plain). Keeps P G s t (client b ring) (client d ring) (let r : Result (Unit {0}) PcmError = Err error.Stopped in r) AnySamples) (sym (base-same c d refl)) (record {
         sound = IsSound-still c ring sound is;
         port = CanUse-still (paused c) d (P.view t.0) refl refl (λ moves going. cc) port;
@@ -209,7 +211,7 @@ module _ {S T : Type 0} (P : mixport.Ghosts S) (G : gates.Ghosts T) (laid_compos
       subst (λ (b : Plain). Keeps P G s t (client b ring) (client (started (rebased c) Running cursor (Some position) commit).0 ring) (started (rebased c) Running cursor (Some position) commit).1 AnySamples)
       (sym (base-anew c (started (rebased c) Running cursor (Some position) commit).0 is (not_paused-started (rebased c) cursor position commit))) keeps
 
-  pub resumes-kept : (s t : S × T) (c : Plain) (ring : List ℤ) (a : Answered (Unit {0})) → IsSound c ring → c.state ≡ Paused → (P.view s.0).marks.cursor.frame ≤ end_frame c.geometry → CanUse c (P.view s.0)
+  pub resumes-kept : (s t : S × T) (c : Plain) (ring : List ℤ) (a : Answered (Unit {0})) → IsSound c ring → c.status.state ≡ Paused → (P.view s.0).marks.cursor.frame ≤ end_frame c.identity.geometry → CanUse c (P.view s.0)
       → TakesAt P G s (resumes c (P.view s.0).marks.cursor ring) t a → Keeps P G s t (client (base_of c a.0) ring) (client a.0 ring) a.1 AnySamples
   unfolding resumes
   resumes-kept s t c ring a sound is near port takes =
@@ -221,7 +223,7 @@ module _ {S T : Type 0} (P : mixport.Ghosts S) (G : gates.Ghosts T) (laid_compos
       let begun : Answered (Unit {0}) = started (rebased c) Running cursor parts.1.0 parts.1.1 in
       let keeps = start-kept P G laid_composes loaded_composes s parts.0 (rebased c) ring Running begun (IsSound-rebased c ring sound is) refl refl near (CanUse-rebased c (P.view s.0) port)
       (starts-by P G s parts.0 (rebased c) Running cursor (pending_of c) ring parts.1.0 parts.1.1 begun parts.2 refl) in
-      let looked = TakesAt-looks P G laid_composes loaded_composes at count ring c.bindings s parts.0 parts.1.0 parts.1.1 bound (λ position. refl) parts.2 in
+      let looked = TakesAt-looks P G laid_composes loaded_composes at count ring c.setup.bindings s parts.0 parts.1.0 parts.1.1 bound (λ position. refl) parts.2 in
       let same = TakesAt-same P G s parts.0 (looks at count ring) parts.1 parts.2 in
       let still : CanUse (paused c) (P.view parts.0.0) = record {
         same_geometry = same.same_geometry ∙ port.same_geometry;
@@ -237,15 +239,15 @@ module _ {S T : Type 0} (P : mixport.Ghosts S) (G : gates.Ghosts T) (laid_compos
   why-resumed : (t : S × T) (c : Plain) (cursor : Cursor) (load : Option Position) (commit : Commit)
       → IfSome load (λ position. OnLate commit.ended (λ word. IsPast P.view P.shows t.0 (end_of_commit (started_in (rebased c) Running position cursor) commit) (end_channel (started_in (rebased c) Running position cursor) commit) word))
       → IsCaused {X = Unit {0}} P.view P.shows t.0 (rebased c) (resumed c cursor load commit).0 load (resumed c cursor load commit).1
-  why-resumed t c cursor None commit shown = caused-none P.view P.shows t.0 (rebased c) (record c { stopped = true })
+  why-resumed t c cursor None commit shown = caused-none P.view P.shows t.0 (rebased c) (record c { status = record c.status { stopped = true } })
   why-resumed t c cursor (Some position) commit shown = IsCaused-started P.view P.shows t.0 (rebased c) Running cursor (Some position) commit refl shown
 
-  pub resumes-explained : (s t : S × T) (c : Plain) (ring : List ℤ) (cursor : Cursor) (a : Answered (Unit {0})) → IsSound c ring → c.state ≡ Paused → TakesAt P G s (resumes c cursor ring) t a
+  pub resumes-explained : (s t : S × T) (c : Plain) (ring : List ℤ) (cursor : Cursor) (a : Answered (Unit {0})) → IsSound c ring → c.status.state ≡ Paused → TakesAt P G s (resumes c cursor ring) t a
       → Explains P G s t (client (rebased c) ring) (λ position. started_in (rebased c) Running position cursor) (λ position. start_count (rebased c) cursor position (pending_of c)) (resumed c cursor) a
   unfolding resumes
   resumes-explained s t c ring cursor a sound is takes =
       let bound = (sound.configured (sound.set_up (ap is_set_up is))).bound in
-      let st = TakesAt-step P G laid_composes loaded_composes (λ position. started_in (rebased c) Running position cursor) (λ position. start_count (rebased c) cursor position (pending_of c)) ring c.bindings (resumed c cursor) s t a bound (λ position. refl) takes in
+      let st = TakesAt-step P G laid_composes loaded_composes (λ position. started_in (rebased c) Running position cursor) (λ position. start_count (rebased c) cursor position (pending_of c)) ring c.setup.bindings (resumed c cursor) s t a bound (λ position. refl) takes in
       record {
         step = st;
         why = subst (λ (d : Answered (Unit {0})). IsCaused P.view P.shows t.0 (rebased c) d.0 st.load d.1) st.outcome (why-resumed t c cursor st.load st.commit st.looked.shown);

@@ -25,32 +25,35 @@ use Rattle.dmix_client.specs.Expansion.{run_entries}
 use Rattle.dmix_client.specs.ExpansionLaws.{run_entries-append}
 use Rattle.hw_space.specs.declared.config.Config.{Config}
 use Rattle.dmix_client.specs.Growth.{AnySamples, Keeps, KeepsBack, StandsFor, TakesAway, segment_entries}
-use Rattle.dmix_client.specs.Port.{CanUse, CountsStop, pass_by}
+use Rattle.course.specs.Stops.{CountsStop, pass_by}
+use Rattle.pcm_stream.specs.Status.{is_moving}
+use Rattle.dmix_client.specs.Port.{CanUse}
 use Rattle.dmix_client.specs.Rewind.{checks, held_entries, rewind_on, rewindable_of, rewinds, without}
 use Rattle.dmix_client.specs.RewindCauses.{ExplainsCheck, ExplainsRewind}
-use Rattle.dmix_client.specs.View.{IsMoving, IsSound, held, hw_of, is_moving}
+use Rattle.dmix_client.specs.View.{IsMoving, IsSound, held, hw_of}
 use Rattle.dmix_client.proofs.CausedBy.{caused-number}
 use Rattle.dmix_client.proofs.Checking.{Checked, checked-keeps, checks-kept}
 use Rattle.dmix_client.proofs.Keeping.{client}
 use Rattle.dmix_client.proofs.Left.{IsConfigured-as}
 use Rattle.dmix_client.proofs.Sound.{not_prepared-moving}
 use Rattle.dmix_client.proofs.Taking.{IsBack-of, kept-err, takes_back-kept, takes_back-why}
+use Rattle.dmix_client.proofs.Going.{error-told, with_number-told}
 use Rattle.dmix_client.proofs.Withdrawn.{HoldsBy, TakesAway-joined, TakesAway-none}
 
 least-most : (k h : ℕ) → min k h ≤ k
 least-most k h = grind (arith, nat_tests)
 
 -- the frames that a ring has, of a client with the same counts and another position seen
-held_entries-same : (c d : Plain) (ring : List ℤ) → d.member ≡ c.member → d.bindings ≡ c.bindings → d.config ≡ c.config → d.source ≡ c.source → d.card ≡ c.card → d.committed ≡ c.committed
-    → held_entries d ring ≡ run_entries c.member c.bindings (held c ring) c.card (min c.committed (hw_of d)) (c.committed - min c.committed (hw_of d)) 0
+held_entries-same : (c d : Plain) (ring : List ℤ) → d.identity.member ≡ c.identity.member → d.setup.bindings ≡ c.setup.bindings → d.setup.config ≡ c.setup.config → d.stretch.source ≡ c.stretch.source → d.stretch.card ≡ c.stretch.card → d.stretch.committed ≡ c.stretch.committed
+    → held_entries d ring ≡ run_entries c.identity.member c.setup.bindings (held c ring) c.stretch.card (min c.stretch.committed (hw_of d)) (c.stretch.committed - min c.stretch.committed (hw_of d)) 0
 held_entries-same c d ring member bindings config source card committed =
     let h : ℕ = hw_of d in
-    ap (λ (k : ℕ). run_entries d.member d.bindings (held d ring) d.card (min k h) (k - min k h) 0) committed
-    ∙ ap (λ (k : ℕ). run_entries d.member d.bindings (held d ring) k (min c.committed h) (c.committed - min c.committed h) 0) card
-    ∙ ap (λ (k : ℕ). run_entries d.member d.bindings (held (record d { source = k }) ring) c.card (min c.committed h) (c.committed - min c.committed h) 0) source
-    ∙ ap (λ (x : Config). run_entries d.member d.bindings (held (record d { source = c.source; config = x }) ring) c.card (min c.committed h) (c.committed - min c.committed h) 0) config
-    ∙ ap (λ (bs : List ℕ). run_entries d.member bs (held (record d { source = c.source; config = c.config; bindings = bs }) ring) c.card (min c.committed h) (c.committed - min c.committed h) 0) bindings
-    ∙ ap (λ (k : ℕ). run_entries k c.bindings (held c ring) c.card (min c.committed h) (c.committed - min c.committed h) 0) member
+    ap (λ (k : ℕ). run_entries d.identity.member d.setup.bindings (held d ring) d.stretch.card (min k h) (k - min k h) 0) committed
+    ∙ ap (λ (k : ℕ). run_entries d.identity.member d.setup.bindings (held d ring) k (min c.stretch.committed h) (c.stretch.committed - min c.stretch.committed h) 0) card
+    ∙ ap (λ (k : ℕ). run_entries d.identity.member d.setup.bindings (held (record d { stretch = record d.stretch { source = k } }) ring) c.stretch.card (min c.stretch.committed h) (c.stretch.committed - min c.stretch.committed h) 0) source
+    ∙ ap (λ (x : Config). run_entries d.identity.member d.setup.bindings (held (record d { setup = record d.setup { config = x }; stretch = record d.stretch { source = c.stretch.source } }) ring) c.stretch.card (min c.stretch.committed h) (c.stretch.committed - min c.stretch.committed h) 0) config
+    ∙ ap (λ (bs : List ℕ). run_entries d.identity.member bs (held (record d { setup = record d.setup { config = c.setup.config; bindings = bs }; stretch = record d.stretch { source = c.stretch.source } }) ring) c.stretch.card (min c.stretch.committed h) (c.stretch.committed - min c.stretch.committed h) 0) bindings
+    ∙ ap (λ (k : ℕ). run_entries k c.setup.bindings (held c ring) c.stretch.card (min c.stretch.committed h) (c.stretch.committed - min c.stretch.committed h) 0) member
 
 few-of : (n r : ℕ) → min n r ≤ r
 few-of n r = grind (arith, nat_tests)
@@ -86,7 +89,7 @@ module _ {S T : Type 0} (P : mixport.Ghosts S) (G : gates.Ghosts T) (holds : Hol
         keeps = record {
           sound = checked.sound;
           port = checked.port;
-          told = λ unstopped. error-told e checked.told;
+          told = λ unstopped. error-told e (G.stops s.1) (G.stops m.1) checked.told;
           loses = λ samples stands. record { away = loses-checked s m c ring (d, Err e) samples checked stands; same_member = checked.advances.member; same_bindings = checked.advances.bindings };
           stands = checked.stands;
         };
@@ -99,16 +102,12 @@ module _ {S T : Type 0} (P : mixport.Ghosts S) (G : gates.Ghosts T) (holds : Hol
           why = kept-err P.view P.shows m.0 checked.explains.load c d e checked.explains.why checked.timely;
         };
       }))
-    where
-      error-told : (x : PcmError) → CountsStop {X = Unit {0}} (Err x) (G.stops s.1) (G.stops m.1) → CountsStop {X = ℕ} (Err x) (G.stops s.1) (G.stops m.1)
-      error-told error.Stopped told = told
-      error-told x told = told
 
   rewound-well : (s m t : S × T) (c d : Plain) (ring : List ℤ) (n : ℕ) (a : Answered ℕ) → Checked P G s m c ring (d, Ok tt) → TakesAt P G m (rewind_on (P.view s.0).marks.floor ring n (d, Ok tt)) t a
       → Rewound s t c ring n a
   rewound-well s m t c d ring n a checked takes =
       let floor = (P.view s.0).marks.floor in
-      let going : d.stopped ≡ false = checked.goes.unstopped in
+      let going : d.status.stopped ≡ false = checked.goes.unstopped in
       let moving : IsMoving d = checked.sound.moving (ap is_moving checked.runs) going in
       let is = IsBack-of d floor (min n (rewindable_of floor d)) moving (few-of n (rewindable_of floor d)) in
       let is_floor : (P.view m.0).marks.floor ≡ floor = ap (λ (x : Marks). x.floor) checked.marks in
@@ -144,7 +143,7 @@ module _ {S T : Type 0} (P : mixport.Ghosts S) (G : gates.Ghosts T) (holds : Hol
   rewound-by s m t c ring n (d, Ok done) a checked takes = rewound-well s m t c d ring n a checked takes
   rewound-by s m t c ring n (d, Err e) a checked takes = rewound-ill s m t c d ring n e a checked takes
 
-  pub rewinds-kept : (s t : S × T) (c : Plain) (ring : List ℤ) (n : ℕ) (a : Answered ℕ) → IsSound c ring → c.state ≡ Running → c.stopped ≡ false → CanUse c (P.view s.0)
+  pub rewinds-kept : (s t : S × T) (c : Plain) (ring : List ℤ) (n : ℕ) (a : Answered ℕ) → IsSound c ring → c.status.state ≡ Running → c.status.stopped ≡ false → CanUse c (P.view s.0)
       → TakesAt P G s (rewinds c ring (P.view s.0).marks.floor n) t a → Rewound s t c ring n a
   unfolding rewinds
   rewinds-kept s t c ring n a sound runs going port takes =
@@ -154,19 +153,19 @@ module _ {S T : Type 0} (P : mixport.Ghosts S) (G : gates.Ghosts T) (holds : Hol
   -- a port whose standing adds ended in the frames that the client's ring has still ends in those that it has behind the load
   pub standing-checked : (s t : S × T) (c : Plain) (ring : List ℤ) (a : Answered (Unit {0})) → Checked P G s t c ring a → P.ends_in s.0 (held_entries c ring) → P.ends_in t.0 (held_entries a.0 ring)
   standing-checked s t c ring a checked stand =
-      let k : ℕ = c.committed in
+      let k : ℕ = c.stretch.committed in
       let from : ℕ = min k (hw_of c) in
       let at : ℕ = min k (hw_of a.0) in
-      let same : a.0.committed ≡ k = omega (arith, checked.advances.committed) in
+      let same : a.0.stretch.committed ≡ k = omega (arith, checked.advances.committed) in
       let later : from ≤ at = subst (λ (n : ℕ). from ≤ min n (hw_of a.0)) same checked.advances.least in
       let most : at ≤ k = least-most k (hw_of a.0) in
-      let split : held_entries c ring ≡ run_entries c.member c.bindings (held c ring) c.card from (at - from) 0 ++ run_entries c.member c.bindings (held c ring) c.card at (k - at) 0 =
-      ap (λ (n : ℕ). run_entries c.member c.bindings (held c ring) c.card from n 0) (let e : k - from ≡ at - from + (k - at) = omega (arith, later, most) in e)
-      ∙ run_entries-append c.member c.bindings (held c ring) c.card from (at - from) (k - at) 0
-      ∙ ap (λ (n : ℕ). run_entries c.member c.bindings (held c ring) c.card from (at - from) 0 ++ run_entries c.member c.bindings (held c ring) c.card n (k - at) 0) (let e : from + (at - from) ≡ at = omega (arith, later) in e) in
+      let split : held_entries c ring ≡ run_entries c.identity.member c.setup.bindings (held c ring) c.stretch.card from (at - from) 0 ++ run_entries c.identity.member c.setup.bindings (held c ring) c.stretch.card at (k - at) 0 =
+      ap (λ (n : ℕ). run_entries c.identity.member c.setup.bindings (held c ring) c.stretch.card from n 0) (let e : k - from ≡ at - from + (k - at) = omega (arith, later, most) in e)
+      ∙ run_entries-append c.identity.member c.setup.bindings (held c ring) c.stretch.card from (at - from) (k - at) 0
+      ∙ ap (λ (n : ℕ). run_entries c.identity.member c.setup.bindings (held c ring) c.stretch.card from (at - from) 0 ++ run_entries c.identity.member c.setup.bindings (held c ring) c.stretch.card n (k - at) 0) (let e : from + (at - from) ≡ at = omega (arith, later) in e) in
       holds.nothing s.0 t.0 (held_entries a.0 ring) checked.explains.laid_nothing
       (subst (P.ends_in s.0) (sym (held_entries-same c a.0 ring checked.advances.member checked.advances.bindings checked.advances.config checked.advances.source checked.card same))
-      (holds.part s.0 (run_entries c.member c.bindings (held c ring) c.card from (at - from) 0) _ (subst (P.ends_in s.0) split stand)))
+      (holds.part s.0 (run_entries c.identity.member c.setup.bindings (held c ring) c.stretch.card from (at - from) 0) _ (subst (P.ends_in s.0) split stand)))
 
   pub rewinds-by : (s m t : S × T) (c : Plain) (ring : List ℤ) (floor : Cursor) (n : ℕ) (middle : Answered (Unit {0})) (a : Answered ℕ) → TakesAt P G s (checks c) m middle
       → TakesAt P G m (rewind_on floor ring n middle) t a → TakesAt P G s (rewinds c ring floor n) t a
@@ -182,19 +181,11 @@ module _ {S T : Type 0} (P : mixport.Ghosts S) (G : gates.Ghosts T) (holds : Hol
     pub keeps : Keeps P G s t (client c ring) (client b.0 ring) b.1 AnySamples
     pub explains : ExplainsCheck P G s t c (λ load. with_number number (synced c call.Transfer load nothing)) b
 
-  numbered-told : (number : Plain → ℕ) (a : Answered (Unit {0})) (before after : ℕ) → CountsStop a.1 before after → CountsStop (with_number number a).1 before after
-  numbered-told number (c, Ok done) before after told = told
-  numbered-told number (c, Err e) before after told = error-told e told
-    where
-      error-told : (x : PcmError) → CountsStop {X = Unit {0}} (Err x) before after → CountsStop {X = ℕ} (Err x) before after
-      error-told error.Stopped told = told
-      error-told x told = told
-
   numbered-as : (number : Plain → ℕ) (a : Answered (Unit {0})) → (with_number number a).0 ≡ a.0
   numbered-as number (c, Ok done) = refl
   numbered-as number (c, Err e) = refl
 
-  pub numbered-kept : (s t : S × T) (c : Plain) (ring : List ℤ) (number : Plain → ℕ) (b : Answered ℕ) → IsSound c ring → c.state ≡ Running → c.stopped ≡ false → CanUse c (P.view s.0)
+  pub numbered-kept : (s t : S × T) (c : Plain) (ring : List ℤ) (number : Plain → ℕ) (b : Answered ℕ) → IsSound c ring → c.status.state ≡ Running → c.status.stopped ≡ false → CanUse c (P.view s.0)
       → TakesAt P G s (numbered number (checks c)) t b → Numbered s t c ring number b
   unfolding numbered
   numbered-kept s t c ring number b sound runs going port takes =
@@ -203,7 +194,7 @@ module _ {S T : Type 0} (P : mixport.Ghosts S) (G : gates.Ghosts T) (holds : Hol
       let checked = checks-kept P G holds.laid_composes s parts.0 c ring a sound runs going port parts.2 in
       subst (λ (u : S × T). Numbered s u c ring number b) (sym parts.3.there) (subst (λ (x : Answered ℕ). Numbered s parts.0 c ring number x) (sym parts.3.result) (record {
         keeps = subst (λ (d : Plain). Keeps P G s parts.0 (client c ring) (client d ring) (with_number number a).1 AnySamples) (sym (numbered-as number a))
-            (checked-keeps P G holds.laid_composes s parts.0 c ring a (with_number number a).1 (numbered-told number a (G.stops s.1) (G.stops parts.0.1) checked.told) checked);
+            (checked-keeps P G holds.laid_composes s parts.0 c ring a (with_number number a).1 (with_number-told number a (G.stops s.1) (G.stops parts.0.1) checked.told) checked);
         explains = record {
           load = checked.explains.load;
           loaded_it = checked.explains.loaded_it;
@@ -214,7 +205,7 @@ module _ {S T : Type 0} (P : mixport.Ghosts S) (G : gates.Ghosts T) (holds : Hol
       }))
 
   -- a rewind of a stream that is prepared
-  pub without-kept : (s : S × T) (c : Plain) (ring : List ℤ) (n : ℕ) → IsSound c ring → c.state ≡ Prepared → n ≤ c.written → CanUse c (P.view s.0)
+  pub without-kept : (s : S × T) (c : Plain) (ring : List ℤ) (n : ℕ) → IsSound c ring → c.status.state ≡ Prepared → n ≤ c.stretch.written → CanUse c (P.view s.0)
       → KeepsBack P G s s (client c ring) (client (without c n) ring) (let r : Result ℕ PcmError = Ok n in r)
   without-kept s c ring n sound waits few port =
       let p = sound.prepared waits in
@@ -228,15 +219,15 @@ module _ {S T : Type 0} (P : mixport.Ghosts S) (G : gates.Ghosts T) (holds : Hol
           set_up = sound.set_up;
           configured = λ set. IsConfigured-as c (without c n) ring refl refl refl (sound.configured set);
           prepared = λ still. record { waiting = p.waiting; no_frame = p.no_frame; no_part = p.no_part; fits = omega (arith, p.fits) };
-          moving = λ moves going. absurd (not_prepared-moving c.state moves waits);
+          moving = λ moves going. absurd (not_prepared-moving c.status.state moves waits);
           paused = λ is. absurd (cc);
         };
         port = record {
           same_geometry = port.same_geometry;
           same_member = port.same_member;
           can = port.can;
-          behind = λ moves going. absurd (not_prepared-moving c.state moves waits);
-          newer = λ moves going. absurd (not_prepared-moving c.state moves waits);
+          behind = λ moves going. absurd (not_prepared-moving c.status.state moves waits);
+          newer = λ moves going. absurd (not_prepared-moving c.status.state moves waits);
         };
         told = λ unstopped. refl;
         loses = λ samples stands. record { away = TakesAway-none P G holds s.0 s.0 (segment_entries c samples) (holds.laid_composes.none s.0); same_member = refl; same_bindings = refl };

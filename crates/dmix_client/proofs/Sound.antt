@@ -18,7 +18,8 @@ use Rattle.dmix_client.specs.Calls.{commit_count, committed_by, end_channel, end
 use Rattle.mix_core.specs.Port.{OnWhole, PortView}
 use Rattle.dmix_client.specs.Course.{nothing}
 use Rattle.dmix_client.specs.Port.{CanUse, IsCommit, IsFound, IsStep, least_channel}
-use Rattle.dmix_client.specs.View.{IsLaidPast, IsMoving, IsSound, avail_of, hw_of, is_moving, is_set_up, queued_of}
+use Rattle.pcm_stream.specs.Status.{is_moving, is_set_up}
+use Rattle.dmix_client.specs.View.{IsLaidPast, IsMoving, IsSound, avail_of, hw_of, queued_of}
 
 -- a stream that still moves frames found nothing against it
 pub record GoesOn (state s : State) (gone : Bool) (over : Option (ℕ × ℕ)) (late : Option XrunWhy) : Type 0 where
@@ -101,46 +102,46 @@ whole-of ended.Stopped frames part count channels frame channel is going in_time
 -- what stands about a load
 pub record IsLoaded (c : Plain) (position : Position) : Type 0 where
   pub newer : unwrap_or c.seen 0 ≤ position.frame
-  pub most : position.frame ≤ end_frame c.geometry
+  pub most : position.frame ≤ end_frame c.identity.geometry
 
-count-whole : (c : Plain) (position : Position) (over : Option (ℕ × ℕ)) → position.gone ≡ false → over ≡ None → over_of (seen_at c position) position ≡ over → sync_count c position ≡ commit_count c position.frame c.written
-count-whole c position over here none is = ap (λ (b : Bool). if b then 0 else commit_count c position.frame c.written) (both position.gone (is_some (over_of (seen_at c position) position)) here (ap (λ (o : Option (ℕ × ℕ)). is_some o) (is ∙ none)))
+count-whole : (c : Plain) (position : Position) (over : Option (ℕ × ℕ)) → position.gone ≡ false → over ≡ None → over_of (seen_at c position) position ≡ over → sync_count c position ≡ commit_count c position.frame c.stretch.written
+count-whole c position over here none is = ap (λ (b : Bool). if b then 0 else commit_count c position.frame c.stretch.written) (both position.gone (is_some (over_of (seen_at c position) position)) here (ap (λ (o : Option (ℕ × ℕ)). is_some o) (is ∙ none)))
   where
     both : (a b : Bool) → a ≡ false → b ≡ false → (a || b) ≡ false
     both false false x y = refl
     both true b x y = absurd (cc)
     both false true x y = absurd (cc)
 
-pub hw-started : (c : Plain) → c.started ≡ true → hw_of c ≡ unwrap_or c.seen 0 - c.card
-hw-started c is = ap (λ (b : Bool). if b then unwrap_or c.seen 0 - c.card else 0) is
+pub hw-started : (c : Plain) → c.stretch.started ≡ true → hw_of c ≡ unwrap_or c.seen 0 - c.stretch.card
+hw-started c is = ap (λ (b : Bool). if b then unwrap_or c.seen 0 - c.stretch.card else 0) is
 
 -- a client after a commit at a position, in any state
 abbrev pub done_at : Plain → Position → Commit → State → Bool → Plain
-done_at c position commit s stopped = record c { state = s; stopped = stopped; seen = Some position.frame; committed = c.committed + commit.frames; part = commit.part }
+done_at c position commit s stopped = record c { status = record { state = s; stopped = stopped }; stretch = record c.stretch { committed = c.stretch.committed + commit.frames; part = commit.part }; seen = Some position.frame }
 
 pub IsMoving-done : (c : Plain) (position : Position) (commit : Commit) (s : State) (stopped : Bool) → IsMoving c → IsLoaded c position
-    → commit.frames ≡ commit_count c position.frame c.written → commit.part ≡ 0 → IsMoving (done_at c position commit s stopped)
+    → commit.frames ≡ commit_count c position.frame c.stretch.written → commit.part ≡ 0 → IsMoving (done_at c position commit s stopped)
 IsMoving-done c position commit s stopped m loaded all none =
-    let hw : hw_of c ≡ unwrap_or c.seen 0 - c.card = hw-started c m.started in
-    let later : hw_of (done_at c position commit s stopped) ≡ position.frame - c.card = hw-started (done_at c position commit s stopped) m.started in
+    let hw : hw_of c ≡ unwrap_or c.seen 0 - c.stretch.card = hw-started c m.started in
+    let later : hw_of (done_at c position commit s stopped) ≡ position.frame - c.stretch.card = hw-started (done_at c position commit s stopped) m.started in
     record {
       started = m.started;
       whole = none;
-      laid_most = whole_most c.written c.committed c.card commit.frames position.frame (window_end c.geometry position.frame) m.laid_most all;
+      laid_most = whole_most c.stretch.written c.stretch.committed c.stretch.card commit.frames position.frame (window_end c.identity.geometry position.frame) m.laid_most all;
       fits = omega (arith, later, hw, m.fits, loaded.newer);
       pending = omega (arith, m.pending);
     }
 
 -- it keeps its counts in order, where it is moving only after a commit of all
-IsSound-done : (c : Plain) (ring : List ℤ) (position : Position) (commit : Commit) (s : State) (stopped : Bool) → IsSound c ring → c.configured ≡ true → IsLoaded c position
-    → commit.frames ≤ commit_count c position.frame c.written → (s ≡ Prepared → ⊥) → (s ≡ Paused → ⊥) → (is_moving s ≡ true → stopped ≡ false → IsMoving (done_at c position commit s stopped))
+IsSound-done : (c : Plain) (ring : List ℤ) (position : Position) (commit : Commit) (s : State) (stopped : Bool) → IsSound c ring → c.setup.configured ≡ true → IsLoaded c position
+    → commit.frames ≤ commit_count c position.frame c.stretch.written → (s ≡ Prepared → ⊥) → (s ≡ Paused → ⊥) → (is_moving s ≡ true → stopped ≡ false → IsMoving (done_at c position commit s stopped))
     → IsSound (done_at c position commit s stopped) ring
 IsSound-done c ring position commit s stopped sound set loaded few not_prepared not_paused moves = record {
   lead = sound.lead;
   seen = loaded.most;
   card = sound.card;
   fed = sound.fed;
-  laid = laid_most c.written c.committed c.card commit.frames position.frame c.geometry.frames (end_frame c.geometry) sound.laid few;
+  laid = laid_most c.stretch.written c.stretch.committed c.stretch.card commit.frames position.frame c.identity.geometry.frames (end_frame c.identity.geometry) sound.laid few;
   set_up = λ is. set;
   configured = λ is. let k = sound.configured set in record { bound = k.bound; on_card = k.on_card; channels = k.channels; buffer_least = k.buffer_least; buffer_most = k.buffer_most; room = k.room };
   prepared = λ is. absurd (not_prepared is);
@@ -161,7 +162,7 @@ set_up-moving Draining is = refl
 set_up-moving s is = absurd (cc)
 
 -- what a client that moves frames is after a stop
-IsSound-stopped : (c : Plain) (ring : List ℤ) → IsSound c ring → is_moving c.state ≡ true → IsSound (record c { stopped = true }) ring
+IsSound-stopped : (c : Plain) (ring : List ℤ) → IsSound c ring → is_moving c.status.state ≡ true → IsSound (record c { status = record c.status { stopped = true } }) ring
 IsSound-stopped c ring sound is = record {
   lead = sound.lead;
   seen = sound.seen;
@@ -170,29 +171,29 @@ IsSound-stopped c ring sound is = record {
   laid = sound.laid;
   set_up = sound.set_up;
   configured = λ set. let k = sound.configured set in record { bound = k.bound; on_card = k.on_card; channels = k.channels; buffer_least = k.buffer_least; buffer_most = k.buffer_most; room = k.room };
-  prepared = λ prepared. absurd (not_prepared-moving c.state is prepared);
+  prepared = λ prepared. absurd (not_prepared-moving c.status.state is prepared);
   moving = λ moves going. absurd (cc);
-  paused = λ paused. absurd (not_paused-moving c.state is paused);
+  paused = λ paused. absurd (not_paused-moving c.status.state is paused);
 }
 
 -- what stands about a sync: the client moves frames, and its load and commit came to this
 pub record IsSyncing (c : Plain) (ring : List ℤ) (call : Call) (load : Option Position) (commit : Commit) : Type 0 where
   pub sound : IsSound c ring
-  pub moves : is_moving c.state ≡ true
-  pub going : c.stopped ≡ false
-  pub step : IsStep c.state call
-  pub found : IsFound load commit (λ position. c) (sync_count c) (length c.bindings)
-  pub loaded : IfSome load (λ (position : Position). (unwrap_or c.seen 0 ≤ position.frame) × (position.frame ≤ end_frame c.geometry))
+  pub moves : is_moving c.status.state ≡ true
+  pub going : c.status.stopped ≡ false
+  pub step : IsStep c.status.state call
+  pub found : IsFound load commit (λ position. c) (sync_count c) (length c.setup.bindings)
+  pub loaded : IfSome load (λ (position : Position). (unwrap_or c.seen 0 ≤ position.frame) × (position.frame ≤ end_frame c.identity.geometry))
 
 loaded-of : (c : Plain) (ring : List ℤ) (call : Call) (position : Position) (commit : Commit) → IsSyncing c ring call (Some position) commit → IsLoaded c position
 loaded-of c ring call position commit syncing = record { newer = syncing.loaded.0; most = syncing.loaded.1 }
 
-few-of : (c : Plain) (ring : List ℤ) (call : Call) (position : Position) (commit : Commit) → IsSyncing c ring call (Some position) commit → commit.frames ≤ commit_count c position.frame c.written
+few-of : (c : Plain) (ring : List ℤ) (call : Call) (position : Position) (commit : Commit) → IsSyncing c ring call (Some position) commit → commit.frames ≤ commit_count c position.frame c.stretch.written
 few-of c ring call position commit syncing =
     omega (
       arith,
-      frames-le commit.ended commit.frames commit.part (sync_count c position) (length c.bindings) syncing.found.commit_is,
-      if-le (position.gone || is_some (over_of (seen_at c position) position)) (commit_count c position.frame c.written),
+      frames-le commit.ended commit.frames commit.part (sync_count c position) (length c.setup.bindings) syncing.found.commit_is,
+      if-le (position.gone || is_some (over_of (seen_at c position) position)) (commit_count c position.frame c.stretch.written),
     )
 
 over-None : (state : State) (b : Bool) (o : ℕ × ℕ) → is_moving state ≡ true → (is_running state ≡ true → (if is_running state && b then Some o else None) ≡ None) → (if is_running state && b then Some o else None) ≡ None
@@ -202,25 +203,25 @@ over-None state b o is none = absurd (cc)
 
 -- the sync goes on only after a commit of all
 going-of : (c : Plain) (ring : List ℤ) (call : Call) (position : Position) (commit : Commit) → IsSyncing c ring call (Some position) commit → is_stop commit.ended ≡ false
-    → is_moving (next_of c.state call (facts_of (committed_by (seen_at c position) commit) position (over_of (seen_at c position) position) (late_of (seen_at c position) commit))).state ≡ true
-    → (commit.frames ≡ commit_count c position.frame c.written) × (commit.part ≡ 0)
+    → is_moving (next_of c.status.state call (facts_of (committed_by (seen_at c position) commit) position (over_of (seen_at c position) position) (late_of (seen_at c position) commit))).state ≡ true
+    → (commit.frames ≡ commit_count c position.frame c.stretch.written) × (commit.part ≡ 0)
 going-of c ring call position commit syncing unstopped is =
-    let goes = next-GoesOn c.state call (queued_of (committed_by (seen_at c position) commit)) position.gone (over_of (seen_at c position) position) (late_of (seen_at c position) commit) syncing.step in
-    let none : over_of (seen_at c position) position ≡ None = over-None c.state (nat_le c.params.stop_threshold (avail_of (seen_at c position))) (avail_of (seen_at c position), position.frame) syncing.moves (goes.below is) in
-    let all = whole-of commit.ended commit.frames commit.part (sync_count c position) (length c.bindings) (end_of_commit (seen_at c position) commit) (end_channel (seen_at c position) commit) syncing.found.commit_is unstopped (goes.in_time is) in
+    let goes = next-GoesOn c.status.state call (queued_of (committed_by (seen_at c position) commit)) position.gone (over_of (seen_at c position) position) (late_of (seen_at c position) commit) syncing.step in
+    let none : over_of (seen_at c position) position ≡ None = over-None c.status.state (nat_le c.setup.params.stop_threshold (avail_of (seen_at c position))) (avail_of (seen_at c position), position.frame) syncing.moves (goes.below is) in
+    let all = whole-of commit.ended commit.frames commit.part (sync_count c position) (length c.setup.bindings) (end_of_commit (seen_at c position) commit) (end_channel (seen_at c position) commit) syncing.found.commit_is unstopped (goes.in_time is) in
     (all.0 ∙ count-whole c position None (goes.here is) refl none, all.1)
 
 synced-by : (c : Plain) (ring : List ℤ) (call : Call) (position : Position) (commit : Commit) (stop : Bool) → is_stop commit.ended ≡ stop → IsSyncing c ring call (Some position) commit
     → IsSound (if stop then stopped_in {T = Unit {0}} (committed_by (seen_at c position) commit)
-    else settled (committed_by (seen_at c position) commit) (next_of c.state call (facts_of (committed_by (seen_at c position) commit) position (over_of (seen_at c position) position) (late_of (seen_at c position) commit)))).0 ring
+    else settled (committed_by (seen_at c position) commit) (next_of c.status.state call (facts_of (committed_by (seen_at c position) commit) position (over_of (seen_at c position) position) (late_of (seen_at c position) commit)))).0 ring
 synced-by c ring call position commit true is syncing =
-    IsSound-done c ring position commit c.state true syncing.sound (syncing.sound.set_up (set_up-moving c.state syncing.moves)) (loaded-of c ring call position commit syncing) (few-of c ring call position commit syncing)
-    (not_prepared-moving c.state syncing.moves) (not_paused-moving c.state syncing.moves) (λ moves going. absurd (cc))
+    IsSound-done c ring position commit c.status.state true syncing.sound (syncing.sound.set_up (set_up-moving c.status.state syncing.moves)) (loaded-of c ring call position commit syncing) (few-of c ring call position commit syncing)
+    (not_prepared-moving c.status.state syncing.moves) (not_paused-moving c.status.state syncing.moves) (λ moves going. absurd (cc))
 synced-by c ring call position commit false is syncing =
-    let s : State = (next_of c.state call (facts_of (committed_by (seen_at c position) commit) position (over_of (seen_at c position) position) (late_of (seen_at c position) commit))).state in
-    let goes = next-GoesOn c.state call (queued_of (committed_by (seen_at c position) commit)) position.gone (over_of (seen_at c position) position) (late_of (seen_at c position) commit) syncing.step in
-    IsSound-done c ring position commit s c.stopped syncing.sound (syncing.sound.set_up (set_up-moving c.state syncing.moves)) (loaded-of c ring call position commit syncing) (few-of c ring call position commit syncing)
-    goes.not_prepared goes.not_paused (λ moves going. let all = going-of c ring call position commit syncing is moves in IsMoving-done c position commit s c.stopped (syncing.sound.moving syncing.moves syncing.going) (loaded-of c ring call position commit syncing) all.0 all.1)
+    let s : State = (next_of c.status.state call (facts_of (committed_by (seen_at c position) commit) position (over_of (seen_at c position) position) (late_of (seen_at c position) commit))).state in
+    let goes = next-GoesOn c.status.state call (queued_of (committed_by (seen_at c position) commit)) position.gone (over_of (seen_at c position) position) (late_of (seen_at c position) commit) syncing.step in
+    IsSound-done c ring position commit s c.status.stopped syncing.sound (syncing.sound.set_up (set_up-moving c.status.state syncing.moves)) (loaded-of c ring call position commit syncing) (few-of c ring call position commit syncing)
+    goes.not_prepared goes.not_paused (λ moves going. let all = going-of c ring call position commit syncing is moves in IsMoving-done c position commit s c.status.stopped (syncing.sound.moving syncing.moves syncing.going) (loaded-of c ring call position commit syncing) all.0 all.1)
 
 -- a client keeps its counts in order over a sync
 pub IsSound-synced : (c : Plain) (ring : List ℤ) (call : Call) (load : Option Position) (commit : Commit) → IsSyncing c ring call load commit → IsSound (synced c call load commit).0 ring
@@ -230,35 +231,35 @@ IsSound-synced c ring call (Some position) commit syncing = synced-by c ring cal
 -- a load behind which nothing is committed
 IsMoving-checked : (c : Plain) (position : Position) (s : State) (stopped : Bool) → IsMoving c → IsLoaded c position → IsMoving (done_at c position nothing s stopped)
 IsMoving-checked c position s stopped m loaded =
-    let hw : hw_of c ≡ unwrap_or c.seen 0 - c.card = hw-started c m.started in
-    let later : hw_of (done_at c position nothing s stopped) ≡ position.frame - c.card = hw-started (done_at c position nothing s stopped) m.started in
+    let hw : hw_of c ≡ unwrap_or c.seen 0 - c.stretch.card = hw-started c m.started in
+    let later : hw_of (done_at c position nothing s stopped) ≡ position.frame - c.stretch.card = hw-started (done_at c position nothing s stopped) m.started in
     record { started = m.started; whole = refl; laid_most = omega (arith, m.laid_most); fits = omega (arith, later, hw, m.fits, loaded.newer); pending = omega (arith, m.pending) }
 
-pub IsSound-checked : (c : Plain) (ring : List ℤ) (call : Call) (load : Option Position) → IsSound c ring → is_moving c.state ≡ true → c.stopped ≡ false → IsStep c.state call
-    → IfSome load (λ position. (unwrap_or c.seen 0 ≤ position.frame) × (position.frame ≤ end_frame c.geometry)) → IsSound (synced c call load nothing).0 ring
+pub IsSound-checked : (c : Plain) (ring : List ℤ) (call : Call) (load : Option Position) → IsSound c ring → is_moving c.status.state ≡ true → c.status.stopped ≡ false → IsStep c.status.state call
+    → IfSome load (λ position. (unwrap_or c.seen 0 ≤ position.frame) × (position.frame ≤ end_frame c.identity.geometry)) → IsSound (synced c call load nothing).0 ring
 IsSound-checked c ring call None sound moves going step loaded = IsSound-stopped c ring sound moves
 IsSound-checked c ring call (Some position) sound moves going step loaded =
-    let s : State = (next_of c.state call (facts_of (committed_by (seen_at c position) nothing) position (over_of (seen_at c position) position) None)).state in
-    let goes = next-GoesOn c.state call (queued_of (committed_by (seen_at c position) nothing)) position.gone (over_of (seen_at c position) position) None step in
+    let s : State = (next_of c.status.state call (facts_of (committed_by (seen_at c position) nothing) position (over_of (seen_at c position) position) None)).state in
+    let goes = next-GoesOn c.status.state call (queued_of (committed_by (seen_at c position) nothing)) position.gone (over_of (seen_at c position) position) None step in
     let at : IsLoaded c position = record { newer = loaded.0; most = loaded.1 } in
-    IsSound-done c ring position nothing s c.stopped sound (sound.set_up (set_up-moving c.state moves)) at (omega arith) goes.not_prepared goes.not_paused
-    (λ still unstopped. IsMoving-checked c position s c.stopped (sound.moving moves going) at)
+    IsSound-done c ring position nothing s c.status.stopped sound (sound.set_up (set_up-moving c.status.state moves)) at (omega arith) goes.not_prepared goes.not_paused
+    (λ still unstopped. IsMoving-checked c position s c.status.stopped (sound.moving moves going) at)
 
 past-by : (c : Plain) (ring : List ℤ) (call : Call) (position : Position) (commit : Commit) (stop : Bool) → is_stop commit.ended ≡ stop → IsSyncing c ring call (Some position) commit
     → (let d : Plain = (if stop then stopped_in {T = Unit {0}} (committed_by (seen_at c position) commit)
-    else settled (committed_by (seen_at c position) commit) (next_of c.state call (facts_of (committed_by (seen_at c position) commit) position (over_of (seen_at c position) position) (late_of (seen_at c position) commit)))).0 in
-    is_moving d.state ≡ true → d.stopped ≡ false → IsLaidPast d)
+    else settled (committed_by (seen_at c position) commit) (next_of c.status.state call (facts_of (committed_by (seen_at c position) commit) position (over_of (seen_at c position) position) (late_of (seen_at c position) commit)))).0 in
+    is_moving d.status.state ≡ true → d.status.stopped ≡ false → IsLaidPast d)
 past-by c ring call position commit true is syncing moves going = absurd (cc)
 past-by c ring call position commit false is syncing moves going =
-    let s : State = (next_of c.state call (facts_of (committed_by (seen_at c position) commit) position (over_of (seen_at c position) position) (late_of (seen_at c position) commit))).state in
+    let s : State = (next_of c.status.state call (facts_of (committed_by (seen_at c position) commit) position (over_of (seen_at c position) position) (late_of (seen_at c position) commit))).state in
     let all = going-of c ring call position commit syncing is moves in
-    let later : hw_of (done_at c position commit s c.stopped) ≡ position.frame - c.card = hw-started (done_at c position commit s c.stopped) (syncing.sound.moving syncing.moves syncing.going).started in
-    subst (λ (n : ℕ). min c.written n ≤ c.committed + commit.frames) (sym later)
-    (whole_least c.written c.committed c.card commit.frames position.frame (window_end c.geometry position.frame) (window_end-above position.frame c.geometry.frames (end_frame c.geometry) syncing.loaded.1) all.0)
+    let later : hw_of (done_at c position commit s c.status.stopped) ≡ position.frame - c.stretch.card = hw-started (done_at c position commit s c.status.stopped) (syncing.sound.moving syncing.moves syncing.going).started in
+    subst (λ (n : ℕ). min c.stretch.written n ≤ c.stretch.committed + commit.frames) (sym later)
+    (whole_least c.stretch.written c.stretch.committed c.stretch.card commit.frames position.frame (window_end c.identity.geometry position.frame) (window_end-above position.frame c.identity.geometry.frames (end_frame c.identity.geometry) syncing.loaded.1) all.0)
 
 -- a client that goes on after a sync has laid what is played
 pub IsLaidPast-synced : (c : Plain) (ring : List ℤ) (call : Call) (load : Option Position) (commit : Commit) → IsSyncing c ring call load commit
-    → is_moving (synced c call load commit).0.state ≡ true → (synced c call load commit).0.stopped ≡ false → IsLaidPast (synced c call load commit).0
+    → is_moving (synced c call load commit).0.status.state ≡ true → (synced c call load commit).0.status.stopped ≡ false → IsLaidPast (synced c call load commit).0
 IsLaidPast-synced c ring call None commit syncing moves going = absurd (cc)
 IsLaidPast-synced c ring call (Some position) commit syncing moves going = past-by c ring call position commit (is_stop commit.ended) refl syncing moves going
 
@@ -268,10 +269,10 @@ OnWhole-of (ended.Late word) P frame channel going in_time is = absurd (cc)
 OnWhole-of ended.Stopped P frame channel going in_time is = absurd (cc)
 
 use_by : (c : Plain) (call : Call) (position : Position) (commit : Commit) (stop : Bool) (v : PortView)
-    → is_stop commit.ended ≡ stop → IsStep c.state call
-    → v.geometry ≡ c.geometry → v.member ≡ c.member → v.can_add ≡ true → OnWhole commit.ended (IsFrom v.marks.cursor (end_of_commit c commit) (least_channel c.bindings)) → v.seen ≡ position.frame
+    → is_stop commit.ended ≡ stop → IsStep c.status.state call
+    → v.geometry ≡ c.identity.geometry → v.member ≡ c.identity.member → v.can_add ≡ true → OnWhole commit.ended (IsFrom v.marks.cursor (end_of_commit c commit) (least_channel c.setup.bindings)) → v.seen ≡ position.frame
     → CanUse (if stop then stopped_in {T = Unit {0}} (committed_by (seen_at c position) commit)
-    else settled (committed_by (seen_at c position) commit) (next_of c.state call (facts_of (committed_by (seen_at c position) commit) position (over_of (seen_at c position) position) (late_of (seen_at c position) commit)))).0 v
+    else settled (committed_by (seen_at c position) commit) (next_of c.status.state call (facts_of (committed_by (seen_at c position) commit) position (over_of (seen_at c position) position) (late_of (seen_at c position) commit)))).0 v
 use_by c call position commit true v is step same_geometry same_member able whole saw = record {
   same_geometry = same_geometry;
   same_member = same_member;
@@ -280,18 +281,18 @@ use_by c call position commit true v is step same_geometry same_member able whol
   newer = λ moves going. absurd (cc);
 }
 use_by c call position commit false v is step same_geometry same_member able whole saw =
-    let goes = next-GoesOn c.state call (queued_of (committed_by (seen_at c position) commit)) position.gone (over_of (seen_at c position) position) (late_of (seen_at c position) commit) step in
+    let goes = next-GoesOn c.status.state call (queued_of (committed_by (seen_at c position) commit)) position.gone (over_of (seen_at c position) position) (late_of (seen_at c position) commit) step in
     record {
       same_geometry = same_geometry;
       same_member = same_member;
       can = able;
-      behind = λ moves going. OnWhole-of commit.ended (IsFrom v.marks.cursor (end_of_commit c commit) (least_channel c.bindings)) (end_of_commit (seen_at c position) commit) (end_channel (seen_at c position) commit) is (goes.in_time moves) whole;
+      behind = λ moves going. OnWhole-of commit.ended (IsFrom v.marks.cursor (end_of_commit c commit) (least_channel c.setup.bindings)) (end_of_commit (seen_at c position) commit) (end_channel (seen_at c position) commit) is (goes.in_time moves) whole;
       newer = λ moves going. omega (arith, saw);
     }
 
 -- after a sync the port is still one that the client can use
 pub CanUse-synced : (c : Plain) (call : Call) (load : Option Position) (commit : Commit) (v : PortView)
-    → IsStep c.state call → v.geometry ≡ c.geometry → v.member ≡ c.member → v.can_add ≡ true → IfSome load (λ (position : Position). OnWhole commit.ended (IsFrom v.marks.cursor (end_of_commit c commit) (least_channel c.bindings)))
+    → IsStep c.status.state call → v.geometry ≡ c.identity.geometry → v.member ≡ c.identity.member → v.can_add ≡ true → IfSome load (λ (position : Position). OnWhole commit.ended (IsFrom v.marks.cursor (end_of_commit c commit) (least_channel c.setup.bindings)))
     → IfSome load (λ (position : Position). v.seen ≡ position.frame) → CanUse (synced c call load commit).0 v
 CanUse-synced c call None commit v step same_geometry same_member able whole saw = record {
   same_geometry = same_geometry;

@@ -41,7 +41,7 @@ KeepsAccepted-started c state cursor (Some position) commit = KeepsAccepted-gone
 
 KeepsAccepted-synced_by : (c : Plain) (call : Call) (position : Position) (commit : Commit) (stop : Bool)
     → KeepsAccepted c (if stop then stopped_in {T = Unit {0}} (committed_by (seen_at c position) commit)
-    else settled (committed_by (seen_at c position) commit) (next_of c.state call (facts_of (committed_by (seen_at c position) commit) position (over_of (seen_at c position) position) (late_of (seen_at c position) commit)))).0
+    else settled (committed_by (seen_at c position) commit) (next_of c.status.state call (facts_of (committed_by (seen_at c position) commit) position (over_of (seen_at c position) position) (late_of (seen_at c position) commit)))).0
 KeepsAccepted-synced_by c call position commit true = record { written = refl; fed = refl; bindings = refl }
 KeepsAccepted-synced_by c call position commit false = record { written = refl; fed = refl; bindings = refl }
 

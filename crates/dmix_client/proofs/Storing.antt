@@ -13,25 +13,25 @@ use Rattle.dmix_client.specs.View.{IsConfigured, hw_of}
 use Rattle.dmix_client.specs.Writes.{ring_with}
 
 -- a client stands for its samples up to the frames that were stored behind those it has, where these are samples too
-pub StandsUpTo-stored : (c : Plain) (ring samples offered : List ℤ) (n m : ℕ) → IsConfigured c ring → m * length c.bindings ≤ length offered → m ≤ n → m ≤ c.config.buffer_size
-    → c.written + m ≤ min c.committed (hw_of c) + c.config.buffer_size → StandsFor c ring samples → Follows c samples offered n
-    → StandsUpTo c (ring_with c ring offered m) samples (c.written + m)
-StandsUpTo-stored c ring samples offered n m set held_all few fits near stands follows j q low high in_range = elim (cases_lt j c.written) [
+pub StandsUpTo-stored : (c : Plain) (ring samples offered : List ℤ) (n m : ℕ) → IsConfigured c ring → m * length c.setup.bindings ≤ length offered → m ≤ n → m ≤ c.setup.config.buffer_size
+    → c.stretch.written + m ≤ min c.stretch.committed (hw_of c) + c.setup.config.buffer_size → StandsFor c ring samples → Follows c samples offered n
+    → StandsUpTo c (ring_with c ring offered m) samples (c.stretch.written + m)
+StandsUpTo-stored c ring samples offered n m set held_all few fits near stands follows j q low high in_range = elim (cases_lt j c.stretch.written) [
   | inl before ↦
-      stored-old c.config.buffer_size (length c.bindings) ring (c.source + c.written) offered m (c.source + j) q has held_all (omega (arith, before)) (omega (arith, near, low)) in_range ∙ stands j q low before in_range
+      stored-old c.setup.config.buffer_size (length c.setup.bindings) ring (c.stretch.source + c.stretch.written) offered m (c.stretch.source + j) q has held_all (omega (arith, before)) (omega (arith, near, low)) in_range ∙ stands j q low before in_range
   | inr not_before ↦
-      let k : ℕ = j - c.written in
-      let at : c.written + k ≡ j = omega (arith, not_before) in
+      let k : ℕ = j - c.stretch.written in
+      let at : c.stretch.written + k ≡ j = omega (arith, not_before) in
       let within : k < m = omega (arith, high, not_before) in
-      let there : c.source + c.written + k ≡ c.source + j = omega (arith, at) in
-      let new : get_or (ring_with c ring offered m) ((c.source + c.written + k) % c.config.buffer_size * length c.bindings + q) (pos 0) ≡ get_or offered (k * length c.bindings + q) (pos 0) =
-      stored-new c.config.buffer_size (length c.bindings) ring (c.source + c.written) offered m k q has held_all fits within in_range in
-      ap (λ (i : ℕ). get_or (ring_with c ring offered m) (i % c.config.buffer_size * length c.bindings + q) (pos 0)) (sym there) ∙ new
+      let there : c.stretch.source + c.stretch.written + k ≡ c.stretch.source + j = omega (arith, at) in
+      let new : get_or (ring_with c ring offered m) ((c.stretch.source + c.stretch.written + k) % c.setup.config.buffer_size * length c.setup.bindings + q) (pos 0) ≡ get_or offered (k * length c.setup.bindings + q) (pos 0) =
+      stored-new c.setup.config.buffer_size (length c.setup.bindings) ring (c.stretch.source + c.stretch.written) offered m k q has held_all fits within in_range in
+      ap (λ (i : ℕ). get_or (ring_with c ring offered m) (i % c.setup.config.buffer_size * length c.setup.bindings + q) (pos 0)) (sym there) ∙ new
       ∙ sym (follows k q (omega (arith, within, few)) in_range)
-      ∙ ap (λ (i : ℕ). sample_at samples (length c.bindings) (c.source + i) q) at
+      ∙ ap (λ (i : ℕ). sample_at samples (length c.setup.bindings) (c.stretch.source + i) q) at
 ]
   where
-    has : HasRoom c.config.buffer_size (length c.bindings) ring
+    has : HasRoom c.setup.config.buffer_size (length c.setup.bindings) ring
     has = record { some = set.buffer_least; room = set.room }
 
 taken-near : (n b w k h m : ℕ) → m ≡ min n (min (b + h - w) b) → w ≤ h + b → min w h ≤ k → w + m ≤ min k h + b
@@ -41,11 +41,11 @@ taken-few : (n b w h m : ℕ) → m ≡ min n (min (b + h - w) b) → (m ≤ n) 
 taken-few n b w h m is = (grind (arith, nat_tests), grind (arith, nat_tests))
 
 -- so it does after a write, up to the frames that this took
-pub StandsUpTo-written : (c : Plain) (ring samples offered : List ℤ) (n : ℕ) → IsConfigured c ring → n * length c.bindings ≤ length offered → c.written ≤ hw_of c + c.config.buffer_size
-    → min c.written (hw_of c) ≤ c.committed → StandsFor c ring samples → Follows c samples offered n
-    → StandsUpTo c (ring_with c ring offered (taken_of c n)) samples (c.written + taken_of c n)
+pub StandsUpTo-written : (c : Plain) (ring samples offered : List ℤ) (n : ℕ) → IsConfigured c ring → n * length c.setup.bindings ≤ length offered → c.stretch.written ≤ hw_of c + c.setup.config.buffer_size
+    → min c.stretch.written (hw_of c) ≤ c.stretch.committed → StandsFor c ring samples → Follows c samples offered n
+    → StandsUpTo c (ring_with c ring offered (taken_of c n)) samples (c.stretch.written + taken_of c n)
 StandsUpTo-written c ring samples offered n set held_all fits low stands follows =
-    let few = taken-few n c.config.buffer_size c.written (hw_of c) (taken_of c n) refl in
-    let less : taken_of c n * length c.bindings ≤ n * length c.bindings = mul-le-mul_right (length c.bindings) few.0 in
+    let few = taken-few n c.setup.config.buffer_size c.stretch.written (hw_of c) (taken_of c n) refl in
+    let less : taken_of c n * length c.setup.bindings ≤ n * length c.setup.bindings = mul-le-mul_right (length c.setup.bindings) few.0 in
     StandsUpTo-stored c ring samples offered n (taken_of c n) set (omega (arith, less, held_all)) few.0 few.1
-    (taken-near n c.config.buffer_size c.written c.committed (hw_of c) (taken_of c n) refl fits low) stands follows
+    (taken-near n c.setup.config.buffer_size c.stretch.written c.stretch.committed (hw_of c) (taken_of c n) refl fits low) stands follows

@@ -31,7 +31,8 @@ use Rattle.dmix_client.specs.ExpansionLaws.{frames_used, run_entries-append, run
 use Rattle.dmix_client.specs.Growth.{KeepsBack, Loses, StandsFor, TakesAway, segment_entries}
 use Rattle.dmix_client.specs.Port.{CanUse, least_channel}
 use Rattle.dmix_client.specs.Rewind.{back_of, held_entries, last_channel, last_laid, rewindable_of, rewound, take_frames, taken_back, takes_back}
-use Rattle.dmix_client.specs.View.{IsMoving, IsSound, held, hw_of, is_moving, is_set_up}
+use Rattle.pcm_stream.specs.Status.{is_moving, is_set_up}
+use Rattle.dmix_client.specs.View.{IsMoving, IsSound, held, hw_of}
 use Rattle.dmix_client.proofs.CausedBy.{caused-number, if-none}
 use Rattle.dmix_client.proofs.Frames.{IsFrom-later}
 use Rattle.dmix_client.proofs.Grown.{configured-moving}
@@ -42,10 +43,10 @@ use Rattle.dmix_client.proofs.Withdrawn.{AreLeft, HoldsBy, TakesAt-back, TakesAw
 
 -- so many frames can be taken back: they are accepted, and the committed ones among them aren't played, nor before the floor
 pub record IsBack (d : Plain) (floor : Cursor) (n : ℕ) : Type 0 where
-  pub few : n ≤ d.written
-  pub back : back_of d n ≤ d.committed
-  pub from : 0 < back_of d n → max (unwrap_or d.seen 0) (first_free floor 0) ≤ d.card + (d.committed - back_of d n)
-  pub whole : 0 < back_of d n → d.written - n ≡ d.committed - back_of d n
+  pub few : n ≤ d.stretch.written
+  pub back : back_of d n ≤ d.stretch.committed
+  pub from : 0 < back_of d n → max (unwrap_or d.seen 0) (first_free floor 0) ≤ d.stretch.card + (d.stretch.committed - back_of d n)
+  pub whole : 0 < back_of d n → d.stretch.written - n ≡ d.stretch.committed - back_of d n
 
 back-few : (n w k top card : ℕ) → n ≤ w - k + (k - (top - card)) → k ≤ w → n ≤ w
 back-few n w k top card few most = omega (arith, few, most)
@@ -61,30 +62,30 @@ back-whole n w k most some = omega (arith, most, some)
 
 pub IsBack-of : (d : Plain) (floor : Cursor) (n : ℕ) → IsMoving d → n ≤ rewindable_of floor d → IsBack d floor n
 IsBack-of d floor n m few = record {
-  few = back-few n d.written d.committed (max (unwrap_or d.seen 0) (first_free floor 0)) d.card few m.laid_most;
-  back = back-most n d.written d.committed (max (unwrap_or d.seen 0) (first_free floor 0)) d.card few;
-  from = λ some. back-from n d.written d.committed (max (unwrap_or d.seen 0) (first_free floor 0)) d.card few some;
-  whole = λ some. back-whole n d.written d.committed m.laid_most some;
+  few = back-few n d.stretch.written d.stretch.committed (max (unwrap_or d.seen 0) (first_free floor 0)) d.stretch.card few m.laid_most;
+  back = back-most n d.stretch.written d.stretch.committed (max (unwrap_or d.seen 0) (first_free floor 0)) d.stretch.card few;
+  from = λ some. back-from n d.stretch.written d.stretch.committed (max (unwrap_or d.seen 0) (first_free floor 0)) d.stretch.card few some;
+  whole = λ some. back-whole n d.stretch.written d.stretch.committed m.laid_most some;
 }
 
 -- what isn't played is at or behind the first of them
 unplayed : (k b seen top card h : ℕ) → h ≡ seen - card → b ≤ k → (0 < b → max seen top ≤ card + (k - b)) → min k h ≤ k - b
 unplayed k b seen top card h is most from = grind (arith, nat_tests, from)
 
-pub first-unplayed : (d : Plain) (floor : Cursor) (n : ℕ) → IsMoving d → IsBack d floor n → min d.committed (hw_of d) ≤ d.committed - back_of d n
-first-unplayed d floor n m is = unplayed d.committed (back_of d n) (unwrap_or d.seen 0) (first_free floor 0) d.card (hw_of d) (hw-started d m.started) is.back is.from
+pub first-unplayed : (d : Plain) (floor : Cursor) (n : ℕ) → IsMoving d → IsBack d floor n → min d.stretch.committed (hw_of d) ≤ d.stretch.committed - back_of d n
+first-unplayed d floor n m is = unplayed d.stretch.committed (back_of d n) (unwrap_or d.seen 0) (first_free floor 0) d.stretch.card (hw_of d) (hw-started d m.started) is.back is.from
 
 -- the frames that are withdrawn are the last of those that the local ring has
 pub held-last : (d : Plain) (ring : List ℤ) (floor : Cursor) (n : ℕ) → IsMoving d → IsBack d floor n
-    → held_entries d ring ≡ run_entries d.member d.bindings (held d ring) d.card (min d.committed (hw_of d)) (d.committed - back_of d n - min d.committed (hw_of d)) 0
-    ++ run_entries d.member d.bindings (held d ring) d.card (d.committed - back_of d n) (back_of d n) 0
+    → held_entries d ring ≡ run_entries d.identity.member d.setup.bindings (held d ring) d.stretch.card (min d.stretch.committed (hw_of d)) (d.stretch.committed - back_of d n - min d.stretch.committed (hw_of d)) 0
+    ++ run_entries d.identity.member d.setup.bindings (held d ring) d.stretch.card (d.stretch.committed - back_of d n) (back_of d n) 0
 held-last d ring floor n m is =
     let low = first-unplayed d floor n m is in
-    let from : ℕ = min d.committed (hw_of d) in
+    let from : ℕ = min d.stretch.committed (hw_of d) in
     let b : ℕ = back_of d n in
-    ap (λ (k : ℕ). run_entries d.member d.bindings (held d ring) d.card from k 0) (let e : d.committed - from ≡ d.committed - b - from + b = omega (arith, low, is.back) in e)
-    ∙ run_entries-append d.member d.bindings (held d ring) d.card from (d.committed - b - from) b 0
-    ∙ ap (λ (k : ℕ). run_entries d.member d.bindings (held d ring) d.card from (d.committed - b - from) 0 ++ run_entries d.member d.bindings (held d ring) d.card k b 0) (let e : from + (d.committed - b - from) ≡ d.committed - b = omega (arith, low) in e)
+    ap (λ (k : ℕ). run_entries d.identity.member d.setup.bindings (held d ring) d.stretch.card from k 0) (let e : d.stretch.committed - from ≡ d.stretch.committed - b - from + b = omega (arith, low, is.back) in e)
+    ∙ run_entries-append d.identity.member d.setup.bindings (held d ring) d.stretch.card from (d.stretch.committed - b - from) b 0
+    ∙ ap (λ (k : ℕ). run_entries d.identity.member d.setup.bindings (held d ring) d.stretch.card from (d.stretch.committed - b - from) 0 ++ run_entries d.identity.member d.setup.bindings (held d ring) d.stretch.card k b 0) (let e : from + (d.stretch.committed - b - from) ≡ d.stretch.committed - b = omega (arith, low) in e)
 
 back-laid : (n w k f : ℕ) → f ≡ 0 → k ≤ w → k - (n - (w - k)) + f ≤ w - n + f
 back-laid n w k f none most = omega (arith, none, most)
@@ -94,7 +95,7 @@ back-pending n w k f b none most fits = omega (arith, none, most, fits)
 
 -- the client after it
 abbrev pub back_in : Plain → ℕ → Commit → State → Bool → Plain
-back_in d n x s stopped = record (taken_back d n x) { state = s; stopped = stopped }
+back_in d n x s stopped = record (taken_back d n x) { status = record { state = s; stopped = stopped } }
 
 pub left-few : (e : Ended) (frames part count channels : ℕ) → AreLeft e frames part count channels → (frames ≤ count) × (frames_used frames part ≤ count)
 left-few Whole frames part count channels are = (omega (arith, are.0), let none = are.0 in let whole = are.1 in grind (arith, nat_tests))
@@ -173,11 +174,11 @@ module _ {S : Type 0} (view : S → PortView) (shows : S → ℕ → ℕ → Opt
         never_lap_end = number.never_lap_end;
       }
 
-module _ (d : Plain) (ring : List ℤ) (floor : Cursor) (n : ℕ) (sound : IsSound d ring) (runs : d.state ≡ Running) (going : d.stopped ≡ false) (is : IsBack d floor n) where
+module _ (d : Plain) (ring : List ℤ) (floor : Cursor) (n : ℕ) (sound : IsSound d ring) (runs : d.status.state ≡ Running) (going : d.status.stopped ≡ false) (is : IsBack d floor n) where
   m : IsMoving d
   m = sound.moving (ap is_moving runs) going
 
-  bound : AreBindings d.bindings
+  bound : AreBindings d.setup.bindings
   bound = (configured-moving d ring sound (ap is_moving runs)).bound
 
   IsSound-back : (x : Commit) (s : State) (stopped : Bool) → x.frames ≤ back_of d n → (s ≡ Prepared → ⊥) → (s ≡ Paused → ⊥) → (is_moving s ≡ true → stopped ≡ false → IsMoving (back_in d n x s stopped))
@@ -199,45 +200,45 @@ module _ (d : Plain) (ring : List ℤ) (floor : Cursor) (n : ℕ) (sound : IsSou
   IsMoving-back x s stopped none whole = record {
     started = m.started;
     whole = whole;
-    laid_most = back-laid n d.written d.committed x.frames none m.laid_most;
+    laid_most = back-laid n d.stretch.written d.stretch.committed x.frames none m.laid_most;
     fits = omega (arith, m.fits, none);
-    pending = back-pending n d.written d.committed x.frames d.config.buffer_size none m.laid_most m.pending;
+    pending = back-pending n d.stretch.written d.stretch.committed x.frames d.setup.config.buffer_size none m.laid_most m.pending;
   }
 
   StandsFor-back : (x : Commit) (s : State) (stopped : Bool) (samples : List ℤ) → x.frames ≤ back_of d n → StandsFor d ring samples → StandsFor (back_in d n x s stopped) ring samples
   StandsFor-back x s stopped samples few stands j q low high in_range =
-      stands j q (still-low d.committed (hw_of d) (back_of d n) x.frames j (first-unplayed d floor n m is) low) (omega (arith, high, few, is.few)) in_range
+      stands j q (still-low d.stretch.committed (hw_of d) (back_of d n) x.frames j (first-unplayed d floor n m is) low) (omega (arith, high, few, is.few)) in_range
 
   -- the frames of the ring are those of the samples
   ring-samples : (samples : List ℤ) (frames part : ℕ) → frames_used frames part ≤ back_of d n → StandsFor d ring samples
-      → run_entries d.member d.bindings (held d ring) d.card (d.committed - back_of d n) frames part
-      ≡ run_entries d.member d.bindings (λ j. sample_at samples (length d.bindings) (d.source + j)) d.card (d.committed - back_of d n) frames part
+      → run_entries d.identity.member d.setup.bindings (held d ring) d.stretch.card (d.stretch.committed - back_of d n) frames part
+      ≡ run_entries d.identity.member d.setup.bindings (λ j. sample_at samples (length d.setup.bindings) (d.stretch.source + j)) d.stretch.card (d.stretch.committed - back_of d n) frames part
   ring-samples samples frames part used stands =
-      run_entries-same d.member d.bindings (held d ring) (λ j. sample_at samples (length d.bindings) (d.source + j)) d.card (d.committed - back_of d n) frames part bound
+      run_entries-same d.identity.member d.setup.bindings (held d ring) (λ j. sample_at samples (length d.setup.bindings) (d.stretch.source + j)) d.stretch.card (d.stretch.committed - back_of d n) frames part bound
       (λ j q least most h. stands j q (omega (arith, least, first-unplayed d floor n m is)) (omega (arith, most, used, is.back, m.laid_most)) h)
 
   -- the segment, before and after, by what is before the frames that are withdrawn
   segment-before : (samples : List ℤ) → StandsFor d ring samples
-      → segment_entries d samples ≡ run_entries d.member d.bindings (λ j. sample_at samples (length d.bindings) (d.source + j)) d.card 0 (d.committed - back_of d n) 0
-      ++ run_entries d.member d.bindings (held d ring) d.card (d.committed - back_of d n) (back_of d n) 0
+      → segment_entries d samples ≡ run_entries d.identity.member d.setup.bindings (λ j. sample_at samples (length d.setup.bindings) (d.stretch.source + j)) d.stretch.card 0 (d.stretch.committed - back_of d n) 0
+      ++ run_entries d.identity.member d.setup.bindings (held d ring) d.stretch.card (d.stretch.committed - back_of d n) (back_of d n) 0
   segment-before samples stands =
-      let s : ℕ → ℕ → ℤ = λ j. sample_at samples (length d.bindings) (d.source + j) in
-      let first : ℕ = d.committed - back_of d n in
-      ap (λ (p : ℕ). run_entries d.member d.bindings s d.card 0 d.committed p) m.whole
-      ∙ ap (λ (k : ℕ). run_entries d.member d.bindings s d.card 0 k 0) (let e : d.committed ≡ first + back_of d n = omega (arith, is.back) in e)
-      ∙ run_entries-append d.member d.bindings s d.card 0 first (back_of d n) 0
-      ∙ ap (λ (k : ℕ). run_entries d.member d.bindings s d.card 0 first 0 ++ run_entries d.member d.bindings s d.card k (back_of d n) 0) (let e : 0 + first ≡ first = omega arith in e)
-      ∙ ap (λ (es : List Entry). run_entries d.member d.bindings s d.card 0 first 0 ++ es) (sym (ring-samples samples (back_of d n) 0 (omega arith) stands))
+      let s : ℕ → ℕ → ℤ = λ j. sample_at samples (length d.setup.bindings) (d.stretch.source + j) in
+      let first : ℕ = d.stretch.committed - back_of d n in
+      ap (λ (p : ℕ). run_entries d.identity.member d.setup.bindings s d.stretch.card 0 d.stretch.committed p) m.whole
+      ∙ ap (λ (k : ℕ). run_entries d.identity.member d.setup.bindings s d.stretch.card 0 k 0) (let e : d.stretch.committed ≡ first + back_of d n = omega (arith, is.back) in e)
+      ∙ run_entries-append d.identity.member d.setup.bindings s d.stretch.card 0 first (back_of d n) 0
+      ∙ ap (λ (k : ℕ). run_entries d.identity.member d.setup.bindings s d.stretch.card 0 first 0 ++ run_entries d.identity.member d.setup.bindings s d.stretch.card k (back_of d n) 0) (let e : 0 + first ≡ first = omega arith in e)
+      ∙ ap (λ (es : List Entry). run_entries d.identity.member d.setup.bindings s d.stretch.card 0 first 0 ++ es) (sym (ring-samples samples (back_of d n) 0 (omega arith) stands))
 
   segment-after : (x : Commit) (t : State) (stopped : Bool) (samples : List ℤ) → frames_used x.frames x.part ≤ back_of d n → StandsFor d ring samples
-      → segment_entries (back_in d n x t stopped) samples ≡ run_entries d.member d.bindings (λ j. sample_at samples (length d.bindings) (d.source + j)) d.card 0 (d.committed - back_of d n) 0
-      ++ run_entries d.member d.bindings (held d ring) d.card (d.committed - back_of d n) x.frames x.part
+      → segment_entries (back_in d n x t stopped) samples ≡ run_entries d.identity.member d.setup.bindings (λ j. sample_at samples (length d.setup.bindings) (d.stretch.source + j)) d.stretch.card 0 (d.stretch.committed - back_of d n) 0
+      ++ run_entries d.identity.member d.setup.bindings (held d ring) d.stretch.card (d.stretch.committed - back_of d n) x.frames x.part
   segment-after x t stopped samples used stands =
-      let s : ℕ → ℕ → ℤ = λ j. sample_at samples (length d.bindings) (d.source + j) in
-      let first : ℕ = d.committed - back_of d n in
-      run_entries-append d.member d.bindings s d.card 0 first x.frames x.part
-      ∙ ap (λ (k : ℕ). run_entries d.member d.bindings s d.card 0 first 0 ++ run_entries d.member d.bindings s d.card k x.frames x.part) (let e : 0 + first ≡ first = omega arith in e)
-      ∙ ap (λ (es : List Entry). run_entries d.member d.bindings s d.card 0 first 0 ++ es) (sym (ring-samples samples x.frames x.part used stands))
+      let s : ℕ → ℕ → ℤ = λ j. sample_at samples (length d.setup.bindings) (d.stretch.source + j) in
+      let first : ℕ = d.stretch.committed - back_of d n in
+      run_entries-append d.identity.member d.setup.bindings s d.stretch.card 0 first x.frames x.part
+      ∙ ap (λ (k : ℕ). run_entries d.identity.member d.setup.bindings s d.stretch.card 0 first 0 ++ run_entries d.identity.member d.setup.bindings s d.stretch.card k x.frames x.part) (let e : 0 + first ≡ first = omega arith in e)
+      ∙ ap (λ (es : List Entry). run_entries d.identity.member d.setup.bindings s d.stretch.card 0 first 0 ++ es) (sym (ring-samples samples x.frames x.part used stands))
 
   -- what a rewind leaves at a port, by how its withdrawals ended
   module _ {S T : Type 0} (P : mixport.Ghosts S) (G : gates.Ghosts T) (holds : HoldsBy P) where
@@ -247,16 +248,16 @@ module _ (d : Plain) (ring : List ℤ) (floor : Cursor) (n : ℕ) (sound : IsSou
 
     -- what is known of the withdrawals
     abbrev Took : S × T → S × T → Commit → Type 0
-    Took s t x = TookFrames P G holds s t d.member d.card d.bindings (held d ring) (d.committed - back_of d n) (back_of d n) x
+    Took s t x = TookFrames P G holds s t d.identity.member d.stretch.card d.setup.bindings (held d ring) (d.stretch.committed - back_of d n) (back_of d n) x
 
     loses-back : (s t : S × T) (x : Commit) (st : State) (stopped : Bool) (samples : List ℤ) → frames_used x.frames x.part ≤ back_of d n
-        → TakesAway P.laid P.ends_in s.0 t.0 (run_entries d.member d.bindings (held d ring) d.card (d.committed - back_of d n) (back_of d n) 0) (run_entries d.member d.bindings (held d ring) d.card (d.committed - back_of d n) x.frames x.part)
+        → TakesAway P.laid P.ends_in s.0 t.0 (run_entries d.identity.member d.setup.bindings (held d ring) d.stretch.card (d.stretch.committed - back_of d n) (back_of d n) 0) (run_entries d.identity.member d.setup.bindings (held d ring) d.stretch.card (d.stretch.committed - back_of d n) x.frames x.part)
         → StandsFor d ring samples → Loses P.laid P.ends_in s.0 t.0 d (back_in d n x st stopped) samples
     loses-back s t x st stopped samples used away stands =
-        let early = run_entries d.member d.bindings (λ j. sample_at samples (length d.bindings) (d.source + j)) d.card 0 (d.committed - back_of d n) 0 in
+        let early = run_entries d.identity.member d.setup.bindings (λ j. sample_at samples (length d.setup.bindings) (d.stretch.source + j)) d.stretch.card 0 (d.stretch.committed - back_of d n) 0 in
         record {
           away = subst (λ (es : List Entry). TakesAway P.laid P.ends_in s.0 t.0 es (segment_entries (back_in d n x st stopped) samples)) (sym (segment-before samples stands))
-              (subst (λ (es : List Entry). TakesAway P.laid P.ends_in s.0 t.0 (early ++ run_entries d.member d.bindings (held d ring) d.card (d.committed - back_of d n) (back_of d n) 0) es) (sym (segment-after x st stopped samples used stands))
+              (subst (λ (es : List Entry). TakesAway P.laid P.ends_in s.0 t.0 (early ++ run_entries d.identity.member d.setup.bindings (held d ring) d.stretch.card (d.stretch.committed - back_of d n) (back_of d n) 0) es) (sym (segment-after x st stopped samples used stands))
               (TakesAway-behind P G holds s.0 t.0 early _ _ away));
           same_member = refl;
           same_bindings = refl;
@@ -274,22 +275,22 @@ module _ (d : Plain) (ring : List ℤ) (floor : Cursor) (n : ℕ) (sound : IsSou
 
     -- where all were withdrawn, the port's cursor is where the client goes on
     cursor-back : (s t : S × T) (x : Commit) → CanUse d (P.view s.0) → x.frames ≡ 0 → (back_of d n ≡ 0 → P.view t.0 ≡ P.view s.0)
-        → (0 < back_of d n → (P.view t.0).marks.cursor ≡ record { frame = d.card + (d.committed - back_of d n); channel = least_channel d.bindings })
-        → IsFrom (P.view t.0).marks.cursor (d.card + (d.committed - back_of d n + x.frames)) (least_channel d.bindings)
+        → (0 < back_of d n → (P.view t.0).marks.cursor ≡ record { frame = d.stretch.card + (d.stretch.committed - back_of d n); channel = least_channel d.setup.bindings })
+        → IsFrom (P.view t.0).marks.cursor (d.stretch.card + (d.stretch.committed - back_of d n + x.frames)) (least_channel d.setup.bindings)
     cursor-back s t x port none still moved = elim (cases_eq (back_of d n) 0) [
       | inl nothing_back ↦
-          subst (λ (v : PortView). IsFrom v.marks.cursor (d.card + (d.committed - back_of d n + x.frames)) (least_channel d.bindings)) (sym (still nothing_back))
+          subst (λ (v : PortView). IsFrom v.marks.cursor (d.stretch.card + (d.stretch.committed - back_of d n + x.frames)) (least_channel d.setup.bindings)) (sym (still nothing_back))
           (omega (arith, port.behind (ap is_moving runs) going, nothing_back, none))
-      | inr some ↦ omega (arith, here-from (P.view t.0).marks.cursor (d.card + (d.committed - back_of d n)) (least_channel d.bindings) (moved (omega arith)), none)
+      | inr some ↦ omega (arith, here-from (P.view t.0).marks.cursor (d.stretch.card + (d.stretch.committed - back_of d n)) (least_channel d.setup.bindings) (moved (omega arith)), none)
     ]
 
     by_end : (s t : S × T) (frames part : ℕ) (e : Ended) → CanUse d (P.view s.0) → Took s t (record { frames = frames; part = part; ended = e }) → TakenBack s t (rewound d n (record { frames = frames; part = part; ended = e }))
     by_end s t frames part Whole port took =
         let x : Commit = record { frames = frames; part = part; ended = Whole } in
-        let few = left-few Whole frames part (back_of d n) (length d.bindings) took.are_left in
+        let few = left-few Whole frames part (back_of d n) (length d.setup.bindings) took.are_left in
         record {
           keeps = record {
-            sound = IsSound-back x Running d.stopped few.0 (λ waits. cc) (λ still. cc) (λ moves unstopped. IsMoving-back x Running d.stopped took.are_left.0 took.are_left.1);
+            sound = IsSound-back x Running d.status.stopped few.0 (λ waits. cc) (λ still. cc) (λ moves unstopped. IsMoving-back x Running d.status.stopped took.are_left.0 took.are_left.1);
             port = record {
               same_geometry = ap (λ (v : PortView). v.geometry) took.view_is ∙ port.same_geometry;
               same_member = ap (λ (v : PortView). v.member) took.view_is ∙ port.same_member;
@@ -298,86 +299,86 @@ module _ (d : Plain) (ring : List ℤ) (floor : Cursor) (n : ℕ) (sound : IsSou
               newer = λ moves unstopped. omega (arith, port.newer (ap is_moving runs) going, ap (λ (v : PortView). v.seen) took.view_is);
             };
             told = λ unstopped. took.stopped;
-            loses = λ samples stands. loses-back s t x Running d.stopped samples few.1 took.away stands;
-            stands = λ samples stands. StandsFor-back x Running d.stopped samples few.0 stands;
+            loses = λ samples stands. loses-back s t x Running d.status.stopped samples few.1 took.away stands;
+            stands = λ samples stands. StandsFor-back x Running d.status.stopped samples few.0 stands;
           };
           loaded_nothing = took.loaded_nothing;
         }
     by_end s t frames part (Late word) port took =
         let x : Commit = record { frames = frames; part = part; ended = Late word } in
-        let few = left-few (Late word) frames part (back_of d n) (length d.bindings) took.are_left in
+        let few = left-few (Late word) frames part (back_of d n) (length d.setup.bindings) took.are_left in
         record {
           keeps = record {
-            sound = IsSound-back x Xrun d.stopped few.0 (λ waits. cc) (λ still. cc) (λ moves unstopped. absurd (cc));
-            port = still-used s t x Xrun d.stopped port took.view_is (λ moves unstopped. cc);
+            sound = IsSound-back x Xrun d.status.stopped few.0 (λ waits. cc) (λ still. cc) (λ moves unstopped. absurd (cc));
+            port = still-used s t x Xrun d.status.stopped port took.view_is (λ moves unstopped. cc);
             told = λ unstopped. took.stopped;
-            loses = λ samples stands. loses-back s t x Xrun d.stopped samples few.1 took.away stands;
-            stands = λ samples stands. StandsFor-back x Xrun d.stopped samples few.0 stands;
+            loses = λ samples stands. loses-back s t x Xrun d.status.stopped samples few.1 took.away stands;
+            stands = λ samples stands. StandsFor-back x Xrun d.status.stopped samples few.0 stands;
           };
           loaded_nothing = took.loaded_nothing;
         }
     by_end s t frames part Stopped port took =
         let x : Commit = record { frames = frames; part = part; ended = Stopped } in
-        let few = left-few Stopped frames part (back_of d n) (length d.bindings) took.are_left in
+        let few = left-few Stopped frames part (back_of d n) (length d.setup.bindings) took.are_left in
         record {
           keeps = record {
-            sound = IsSound-back x d.state true few.0 (λ waits. cc) (λ still. cc) (λ moves unstopped. absurd (cc));
-            port = still-used s t x d.state true port took.view_is (λ moves unstopped. cc);
+            sound = IsSound-back x d.status.state true few.0 (λ waits. cc) (λ still. cc) (λ moves unstopped. absurd (cc));
+            port = still-used s t x d.status.state true port took.view_is (λ moves unstopped. cc);
             told = λ unstopped. took.stopped;
-            loses = λ samples stands. loses-back s t x d.state true samples few.1 took.away stands;
-            stands = λ samples stands. StandsFor-back x d.state true samples few.0 stands;
+            loses = λ samples stands. loses-back s t x d.status.state true samples few.1 took.away stands;
+            stands = λ samples stands. StandsFor-back x d.status.state true samples few.0 stands;
           };
           loaded_nothing = took.loaded_nothing;
         }
 
     -- the withdrawals of a client's rewind
     took-of : (s t : S × T) (x : Commit) → (P.view s.0).marks.floor ≡ floor → CanUse d (P.view s.0)
-        → TakesAt P G s (take_frames d.member d.card d.bindings (held d ring) (d.committed - back_of d n) (back_of d n)) t x → Took s t x
+        → TakesAt P G s (take_frames d.identity.member d.stretch.card d.setup.bindings (held d ring) (d.stretch.committed - back_of d n) (back_of d n)) t x → Took s t x
     took-of s t x is_floor port takes =
-        TakesAt-back P G holds d.member d.card d.bindings (held d ring) (d.committed - back_of d n) (back_of d n) s t x bound port.same_member
-        (λ some. subst (λ (c : Cursor). IsFrom c (d.card + (d.committed - back_of d n)) (least_channel d.bindings)) (sym is_floor)
-        (IsFrom-later floor (d.card + (d.committed - back_of d n)) 0 (least_channel d.bindings) (omega arith) (floor-below (unwrap_or d.seen 0) (first_free floor 0) _ (is.from some)))) takes
+        TakesAt-back P G holds d.identity.member d.stretch.card d.setup.bindings (held d ring) (d.stretch.committed - back_of d n) (back_of d n) s t x bound port.same_member
+        (λ some. subst (λ (c : Cursor). IsFrom c (d.stretch.card + (d.stretch.committed - back_of d n)) (least_channel d.setup.bindings)) (sym is_floor)
+        (IsFrom-later floor (d.stretch.card + (d.stretch.committed - back_of d n)) 0 (least_channel d.setup.bindings) (omega arith) (floor-below (unwrap_or d.seen 0) (first_free floor 0) _ (is.from some)))) takes
 
     pub takes_back-kept : (s t : S × T) (a : Answered ℕ) → (P.view s.0).marks.floor ≡ floor → CanUse d (P.view s.0) → TakesAt P G s (takes_back d ring n) t a → TakenBack s t a
     unfolding takes_back
     takes_back-kept s t a is_floor port takes =
-        let parts = Takes-parts (LoadsAt P G) (LaysAt P G) NoGet s t (take_frames d.member d.card d.bindings (held d ring) (d.committed - back_of d n) (back_of d n)) (λ left. ends (rewound d n left)) a takes in
+        let parts = Takes-parts (LoadsAt P G) (LaysAt P G) NoGet s t (take_frames d.identity.member d.stretch.card d.setup.bindings (held d ring) (d.stretch.committed - back_of d n) (back_of d n)) (λ left. ends (rewound d n left)) a takes in
         let x = parts.1 in
         subst (λ (u : S × T). TakenBack s u a) (sym parts.3.there) (subst (λ (b : Answered ℕ). TakenBack s parts.0 b) (sym parts.3.result)
         (by_end s parts.0 x.frames x.part x.ended port (took-of s parts.0 x is_floor port parts.2)))
 
     -- why it answered so, behind a load that went well
-    why_end : (t : S × T) (c u : Plain) (load : Option Position) (frames part : ℕ) (e : Ended) → AreLeft e frames part (back_of d n) (length d.bindings)
-        → OnLate e (λ word. IsPast P.view P.shows t.0 (d.card + (d.committed - back_of d n + last_frame frames part)) (slice_index d.bindings (slice_index (rising d.bindings) (last_place part (length d.bindings)))) word)
+    why_end : (t : S × T) (c u : Plain) (load : Option Position) (frames part : ℕ) (e : Ended) → AreLeft e frames part (back_of d n) (length d.setup.bindings)
+        → OnLate e (λ word. IsPast P.view P.shows t.0 (d.stretch.card + (d.stretch.committed - back_of d n + last_frame frames part)) (slice_index d.setup.bindings (slice_index (rising d.setup.bindings) (last_place part (length d.setup.bindings)))) word)
         → IsCaused {X = Unit {0}} P.view P.shows t.0 c u load (Ok tt)
         → (let a : Answered ℕ = rewound d n (record { frames = frames; part = part; ended = e }) in IsKeptCause {X = ℕ} P.view P.shows t.0 c a.0 load a.1)
     why_end t c u load frames part Whole are late why_ok = kept-ok P.view P.shows t.0 load c u _ n why_ok
     why_end t c u load frames part Stopped are late why_ok = kept-stopped P.view P.shows t.0 load c u _ why_ok
     why_end t c u load frames part (Late word) are late why_ok =
-        let there : d.card + (d.committed - back_of d n + last_frame frames part) ≡ last_laid (back_in d n (record { frames = frames; part = part; ended = Late word }) Xrun d.stopped) =
-        ap (λ (k : ℕ). d.card + k) (frame-same (d.committed - back_of d n) frames part are.0) in
-        kept-late P.view P.shows t.0 load c u (back_in d n (record { frames = frames; part = part; ended = Late word }) Xrun d.stopped) word why_ok
-        (subst (λ (k : ℕ). IsPast P.view P.shows t.0 k (slice_index d.bindings (slice_index (rising d.bindings) (last_place part (length d.bindings)))) word) there late)
+        let there : d.stretch.card + (d.stretch.committed - back_of d n + last_frame frames part) ≡ last_laid (back_in d n (record { frames = frames; part = part; ended = Late word }) Xrun d.status.stopped) =
+        ap (λ (k : ℕ). d.stretch.card + k) (frame-same (d.stretch.committed - back_of d n) frames part are.0) in
+        kept-late P.view P.shows t.0 load c u (back_in d n (record { frames = frames; part = part; ended = Late word }) Xrun d.status.stopped) word why_ok
+        (subst (λ (k : ℕ). IsPast P.view P.shows t.0 k (slice_index d.setup.bindings (slice_index (rising d.setup.bindings) (last_place part (length d.setup.bindings)))) word) there late)
 
     pub takes_back-why : (s t : S × T) (c u : Plain) (load : Option Position) (a : Answered ℕ) → (P.view s.0).marks.floor ≡ floor → CanUse d (P.view s.0) → TakesAt P G s (takes_back d ring n) t a
         → IsCaused {X = Unit {0}} P.view P.shows t.0 c u load (Ok tt) → IsKeptCause {X = ℕ} P.view P.shows t.0 c a.0 load a.1
     unfolding takes_back
     takes_back-why s t c u load a is_floor port takes why_ok =
-        let parts = Takes-parts (LoadsAt P G) (LaysAt P G) NoGet s t (take_frames d.member d.card d.bindings (held d ring) (d.committed - back_of d n) (back_of d n)) (λ left. ends (rewound d n left)) a takes in
+        let parts = Takes-parts (LoadsAt P G) (LaysAt P G) NoGet s t (take_frames d.identity.member d.stretch.card d.setup.bindings (held d ring) (d.stretch.committed - back_of d n) (back_of d n)) (λ left. ends (rewound d n left)) a takes in
         let x = parts.1 in
         let took = took-of s parts.0 x is_floor port parts.2 in
         subst (λ (b : Answered ℕ). IsKeptCause {X = ℕ} P.view P.shows t.0 c b.0 load b.1) (sym parts.3.result)
         (why_end t c u load x.frames x.part x.ended took.are_left
-        (subst (λ (v : S × T). OnLate x.ended (λ word. IsPast P.view P.shows v.0 (d.card + (d.committed - back_of d n + last_frame x.frames x.part)) (slice_index d.bindings (slice_index (rising d.bindings) (last_place x.part (length d.bindings)))) word)) (sym parts.3.there) took.late) why_ok)
+        (subst (λ (v : S × T). OnLate x.ended (λ word. IsPast P.view P.shows v.0 (d.stretch.card + (d.stretch.committed - back_of d n + last_frame x.frames x.part)) (slice_index d.setup.bindings (slice_index (rising d.setup.bindings) (last_place x.part (length d.setup.bindings)))) word)) (sym parts.3.there) took.late) why_ok)
 
-    pub takes_back-by : (s t : S × T) (b : ℕ) (x : Commit) (done : Answered ℕ) → b ≡ back_of d n → TakesAt P G s (take_frames d.member d.card d.bindings (held d ring) (d.committed - b) b) t x → rewound d n x ≡ done
+    pub takes_back-by : (s t : S × T) (b : ℕ) (x : Commit) (done : Answered ℕ) → b ≡ back_of d n → TakesAt P G s (take_frames d.identity.member d.stretch.card d.setup.bindings (held d ring) (d.stretch.committed - b) b) t x → rewound d n x ≡ done
         → TakesAt P G s (takes_back d ring n) t done
     unfolding takes_back
     takes_back-by s t b x done is_back takes is_done =
-        Takes-map (LoadsAt P G) (LaysAt P G) NoGet s t (take_frames d.member d.card d.bindings (held d ring) (d.committed - back_of d n) (back_of d n)) (λ left. rewound d n left) x done
-        (subst (λ (k : ℕ). TakesAt P G s (take_frames d.member d.card d.bindings (held d ring) (d.committed - k) k) t x) is_back takes) is_done
+        Takes-map (LoadsAt P G) (LaysAt P G) NoGet s t (take_frames d.identity.member d.stretch.card d.setup.bindings (held d ring) (d.stretch.committed - back_of d n) (back_of d n)) (λ left. rewound d n left) x done
+        (subst (λ (k : ℕ). TakesAt P G s (take_frames d.identity.member d.stretch.card d.setup.bindings (held d ring) (d.stretch.committed - k) k) t x) is_back takes) is_done
 
     pub take_frames-took : (s t : S × T) (b : ℕ) (x : Commit) → b ≡ back_of d n → (P.view s.0).marks.floor ≡ floor → CanUse d (P.view s.0)
-        → TakesAt P G s (take_frames d.member d.card d.bindings (held d ring) (d.committed - b) b) t x → AreLeft x.ended x.frames x.part (back_of d n) (length d.bindings)
+        → TakesAt P G s (take_frames d.identity.member d.stretch.card d.setup.bindings (held d ring) (d.stretch.committed - b) b) t x → AreLeft x.ended x.frames x.part (back_of d n) (length d.setup.bindings)
     take_frames-took s t b x is_back is_floor port takes =
-        (took-of s t x is_floor port (subst (λ (k : ℕ). TakesAt P G s (take_frames d.member d.card d.bindings (held d ring) (d.committed - k) k) t x) is_back takes)).are_left
+        (took-of s t x is_floor port (subst (λ (k : ℕ). TakesAt P G s (take_frames d.identity.member d.stretch.card d.setup.bindings (held d ring) (d.stretch.committed - k) k) t x) is_back takes)).are_left

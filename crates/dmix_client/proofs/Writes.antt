@@ -16,8 +16,10 @@ use Rattle.mix_core.specs.declared.port.Ended.{Ended}
 use Rattle.dmix_client.specs.declared.plain.Plain.{Plain}
 use Rattle.dmix_client.specs.Calls.{Answered, accepted_if, commit_count, committed_by, end_channel, end_of_commit, found_at, is_stop, late_of, settled, stopped_in, taken_of, window_end, written_after}
 use Rattle.mix_core.specs.Port.{OnWhole, PortView}
-use Rattle.dmix_client.specs.Port.{CanUse, CountsEnd, CountsStop, IsCommit, least_channel}
-use Rattle.dmix_client.specs.View.{IsMoving, IsSound, avail_of, hw_of, is_moving}
+use Rattle.course.specs.Stops.{CountsStop}
+use Rattle.pcm_stream.specs.Status.{is_moving}
+use Rattle.dmix_client.specs.Port.{CanUse, CountsEnd, IsCommit, least_channel}
+use Rattle.dmix_client.specs.View.{IsMoving, IsSound, avail_of, hw_of}
 use Rattle.dmix_client.specs.Writes.{count_with}
 use Rattle.dmix_client.proofs.Going.{told-going, told-stop}
 use Rattle.dmix_client.proofs.Left.{IsConfigured-as}
@@ -26,13 +28,13 @@ use Rattle.dmix_client.proofs.Sound.{OnWhole-of, frames-le, hw-started, laid_mos
 -- a client that moves frames, with a commit of a write of n frames behind it; the port at its end
 pub record IsWriting (c : Plain) (ring : List ℤ) (n : ℕ) (last : Commit) (v : PortView) (before after : ℕ) : Type 0 where
   pub sound : IsSound c ring
-  pub moves : is_moving c.state ≡ true
-  pub going : c.stopped ≡ false
-  pub commit_is : IsCommit last.ended last.frames last.part (count_with c (taken_of c n)) (length c.bindings)
-  pub same_geometry : v.geometry ≡ c.geometry
-  pub same_member : v.member ≡ c.member
+  pub moves : is_moving c.status.state ≡ true
+  pub going : c.status.stopped ≡ false
+  pub commit_is : IsCommit last.ended last.frames last.part (count_with c (taken_of c n)) (length c.setup.bindings)
+  pub same_geometry : v.geometry ≡ c.identity.geometry
+  pub same_member : v.member ≡ c.identity.member
   pub able : v.can_add ≡ true
-  pub whole : OnWhole last.ended (IsFrom v.marks.cursor (end_of_commit c last) (least_channel c.bindings))
+  pub whole : OnWhole last.ended (IsFrom v.marks.cursor (end_of_commit c last) (least_channel c.setup.bindings))
   pub newer : unwrap_or c.seen 0 ≤ v.seen
   pub told : CountsEnd last.ended before after
 
@@ -45,25 +47,25 @@ pub record IsWritten (a : Answered ℕ) (ring : List ℤ) (v : PortView) (before
 
 -- a client behind a write, in any state, with other counts of what was accepted
 abbrev pub behind : Plain → Commit → State → Bool → ℕ → ℕ → Plain
-behind c last s stopped written fed = record c { state = s; stopped = stopped; committed = c.committed + last.frames; part = last.part; written = written; fed = fed }
+behind c last s stopped written fed = record c { status = record { state = s; stopped = stopped }; stretch = record c.stretch { committed = c.stretch.committed + last.frames; part = last.part; written = written }; fed = fed }
 
 count-le : (b : Bool) (n : ℕ) → (if b then 0 else n) ≤ n
 count-le true n = omega arith
 count-le false n = omega arith
 
 write_few : (c : Plain) (n : ℕ) (last : Commit) (channels : ℕ) → IsCommit last.ended last.frames last.part (count_with c (taken_of c n)) channels
-    → last.frames ≤ commit_count c (unwrap_or c.seen 0) (c.written + taken_of c n)
-write_few c n last channels is = omega (arith, frames-le last.ended last.frames last.part (count_with c (taken_of c n)) channels is, count-le (nat_eq (taken_of c n) 0) (commit_count c (unwrap_or c.seen 0) (c.written + taken_of c n)))
+    → last.frames ≤ commit_count c (unwrap_or c.seen 0) (c.stretch.written + taken_of c n)
+write_few c n last channels is = omega (arith, frames-le last.ended last.frames last.part (count_with c (taken_of c n)) channels is, count-le (nat_eq (taken_of c n) 0) (commit_count c (unwrap_or c.seen 0) (c.stretch.written + taken_of c n)))
 
-IsSound-behind : (c : Plain) (ring : List ℤ) (s : State) (last : Commit) (stopped : Bool) (upto written fed : ℕ) → IsSound c ring → c.configured ≡ true
-    → last.frames ≤ commit_count c (unwrap_or c.seen 0) upto → (s ≡ Prepared → ⊥) → (s ≡ Paused → ⊥) → written + c.source ≡ fed
+IsSound-behind : (c : Plain) (ring : List ℤ) (s : State) (last : Commit) (stopped : Bool) (upto written fed : ℕ) → IsSound c ring → c.setup.configured ≡ true
+    → last.frames ≤ commit_count c (unwrap_or c.seen 0) upto → (s ≡ Prepared → ⊥) → (s ≡ Paused → ⊥) → written + c.stretch.source ≡ fed
     → (is_moving s ≡ true → stopped ≡ false → IsMoving (behind c last s stopped written fed)) → IsSound (behind c last s stopped written fed) ring
 IsSound-behind c ring s last stopped upto written fed sound set few not_prepared not_paused sums moves = record {
   lead = sound.lead;
   seen = sound.seen;
   card = sound.card;
   fed = sums;
-  laid = laid_most upto c.committed c.card last.frames (unwrap_or c.seen 0) c.geometry.frames (end_frame c.geometry) sound.laid few;
+  laid = laid_most upto c.stretch.committed c.stretch.card last.frames (unwrap_or c.seen 0) c.identity.geometry.frames (end_frame c.identity.geometry) sound.laid few;
   set_up = λ is. set;
   configured = λ is. IsConfigured-as c (behind c last s stopped written fed) ring refl refl refl (sound.configured set);
   prepared = λ is. absurd (not_prepared is);
@@ -88,7 +90,7 @@ near-pending w h k b fits low = grind (arith, nat_tests)
 
 -- it moves on, where all was laid
 IsMoving-behind : (c : Plain) (ring : List ℤ) (s : State) (last : Commit) (stopped : Bool) (n fed : ℕ) (m : ℕ) → m ≡ taken_of c n → IsSound c ring → IsMoving c
-    → last.frames ≡ count_with c m → last.part ≡ 0 → IsMoving (behind c last s stopped (c.written + m) fed)
+    → last.frames ≡ count_with c m → last.part ≡ 0 → IsMoving (behind c last s stopped (c.stretch.written + m) fed)
 IsMoving-behind c ring s last stopped n fed zero is sound was all none = record {
   started = was.started;
   whole = none;
@@ -97,15 +99,15 @@ IsMoving-behind c ring s last stopped n fed zero is sound was all none = record 
   pending = omega (arith, was.pending);
 }
 IsMoving-behind c ring s last stopped n fed (suc m) is sound was all none =
-    let hw : hw_of c ≡ unwrap_or c.seen 0 - c.card = hw-started c was.started in
-    let count : last.frames ≡ commit_count c (unwrap_or c.seen 0) (c.written + suc m) = count-some (suc m) last.frames (commit_count c (unwrap_or c.seen 0) (c.written + suc m)) (omega arith) all in
+    let hw : hw_of c ≡ unwrap_or c.seen 0 - c.stretch.card = hw-started c was.started in
+    let count : last.frames ≡ commit_count c (unwrap_or c.seen 0) (c.stretch.written + suc m) = count-some (suc m) last.frames (commit_count c (unwrap_or c.seen 0) (c.stretch.written + suc m)) (omega arith) all in
     record {
       started = was.started;
       whole = none;
-      laid_most = some_most c.written (suc m) c.committed c.card last.frames (window_end c.geometry (unwrap_or c.seen 0)) was.laid_most count;
-      pending = near-pending (c.written + suc m) (unwrap_or c.seen 0 - c.card) (c.committed + last.frames) c.config.buffer_size (omega (arith, hw, (taken_fits c.written (hw_of c) c.config.buffer_size n (suc m) was.fits is).0))
-          (some_least c.written (suc m) c.committed c.card last.frames (unwrap_or c.seen 0) (window_end c.geometry (unwrap_or c.seen 0)) (window_end-above (unwrap_or c.seen 0) c.geometry.frames (end_frame c.geometry) sound.seen) count);
-      fits = (taken_fits c.written (hw_of c) c.config.buffer_size n (suc m) was.fits is).0;
+      laid_most = some_most c.stretch.written (suc m) c.stretch.committed c.stretch.card last.frames (window_end c.identity.geometry (unwrap_or c.seen 0)) was.laid_most count;
+      pending = near-pending (c.stretch.written + suc m) (unwrap_or c.seen 0 - c.stretch.card) (c.stretch.committed + last.frames) c.setup.config.buffer_size (omega (arith, hw, (taken_fits c.stretch.written (hw_of c) c.setup.config.buffer_size n (suc m) was.fits is).0))
+          (some_least c.stretch.written (suc m) c.stretch.committed c.stretch.card last.frames (unwrap_or c.seen 0) (window_end c.identity.geometry (unwrap_or c.seen 0)) (window_end-above (unwrap_or c.seen 0) c.identity.geometry.frames (end_frame c.identity.geometry) sound.seen) count);
+      fits = (taken_fits c.stretch.written (hw_of c) c.setup.config.buffer_size n (suc m) was.fits is).0;
     }
 
 taken_most : (n b hw w m : ℕ) → m ≡ min n (min (b + hw - w) b) → m ≤ b
@@ -123,7 +125,7 @@ none-of (ended.Late word) frames part channels before after is told = absurd (om
 none-of ended.Stopped frames part channels before after is told = absurd (omega (arith, is.0))
 
 module _ (c : Plain) (ring : List ℤ) (n : ℕ) (last : Commit) (v : PortView) (before after : ℕ) where
-  still_used : (d : Plain) → d.geometry ≡ c.geometry → d.member ≡ c.member → IsWriting c ring n last v before after → (is_moving d.state ≡ true → d.stopped ≡ false → ⊥) → CanUse d v
+  still_used : (d : Plain) → d.identity.geometry ≡ c.identity.geometry → d.identity.member ≡ c.identity.member → IsWriting c ring n last v before after → (is_moving d.status.state ≡ true → d.status.stopped ≡ false → ⊥) → CanUse d v
   still_used d same_geometry same_member writing still = record {
     same_geometry = writing.same_geometry ∙ sym same_geometry;
     same_member = writing.same_member ∙ sym same_member;
@@ -132,23 +134,23 @@ module _ (c : Plain) (ring : List ℤ) (n : ℕ) (last : Commit) (v : PortView) 
     newer = λ moves going. absurd (still moves going);
   }
 
-  set_of : IsWriting c ring n last v before after → c.configured ≡ true
-  set_of writing = writing.sound.set_up (set_up-moving c.state writing.moves)
+  set_of : IsWriting c ring n last v before after → c.setup.configured ≡ true
+  set_of writing = writing.sound.set_up (set_up-moving c.status.state writing.moves)
 
   written-again : IsWriting c ring n last v before after → avail_of c ≡ 0 → IsWritten (c, Err Again) ring v before after
   written-again writing none =
-      let taken : taken_of c n ≡ 0 = taken-none n c.config.buffer_size (hw_of c) c.written none in
+      let taken : taken_of c n ≡ 0 = taken-none n c.setup.config.buffer_size (hw_of c) c.stretch.written none in
       let count : count_with c (taken_of c n) ≡ 0 = ap (λ (m : ℕ). count_with c m) taken in
-      let at_end = none-of last.ended last.frames last.part (length c.bindings) before after (subst (λ (k : ℕ). IsCommit last.ended last.frames last.part k (length c.bindings)) count writing.commit_is) writing.told in
-      let here : IsFrom v.marks.cursor (end_of_commit c last) (least_channel c.bindings) = subst (λ (e : Ended). OnWhole e (IsFrom v.marks.cursor (end_of_commit c last) (least_channel c.bindings))) at_end.1 writing.whole in
-      let same : end_of_commit c last ≡ c.card + c.committed = omega (arith, at_end.0) in
+      let at_end = none-of last.ended last.frames last.part (length c.setup.bindings) before after (subst (λ (k : ℕ). IsCommit last.ended last.frames last.part k (length c.setup.bindings)) count writing.commit_is) writing.told in
+      let here : IsFrom v.marks.cursor (end_of_commit c last) (least_channel c.setup.bindings) = subst (λ (e : Ended). OnWhole e (IsFrom v.marks.cursor (end_of_commit c last) (least_channel c.setup.bindings))) at_end.1 writing.whole in
+      let same : end_of_commit c last ≡ c.stretch.card + c.stretch.committed = omega (arith, at_end.0) in
       record {
         sound = writing.sound;
         use_it = record {
           same_geometry = writing.same_geometry;
           same_member = writing.same_member;
           can = writing.able;
-          behind = λ moves going. subst (λ (f : ℕ). IsFrom v.marks.cursor f (least_channel c.bindings)) same here;
+          behind = λ moves going. subst (λ (f : ℕ). IsFrom v.marks.cursor f (least_channel c.setup.bindings)) same here;
           newer = λ moves going. writing.newer;
         };
         told = at_end.2;
@@ -157,37 +159,37 @@ module _ (c : Plain) (ring : List ℤ) (n : ℕ) (last : Commit) (v : PortView) 
 
   written-stopped : IsWriting c ring n last v before after → is_stop last.ended ≡ true → IsWritten (stopped_in (committed_by c last)) ring v before after
   written-stopped writing is = record {
-    sound = IsSound-behind c ring c.state last true (c.written + taken_of c n) c.written c.fed writing.sound (set_of writing) (write_few c n last (length c.bindings) writing.commit_is) (not_prepared-moving c.state writing.moves) (not_paused-moving c.state writing.moves) writing.sound.fed (λ moves going. absurd (cc));
-    use_it = still_used (behind c last c.state true c.written c.fed) refl refl writing (λ moves going. cc);
+    sound = IsSound-behind c ring c.status.state last true (c.stretch.written + taken_of c n) c.stretch.written c.fed writing.sound (set_of writing) (write_few c n last (length c.setup.bindings) writing.commit_is) (not_prepared-moving c.status.state writing.moves) (not_paused-moving c.status.state writing.moves) writing.sound.fed (λ moves going. absurd (cc));
+    use_it = still_used (behind c last c.status.state true c.stretch.written c.fed) refl refl writing (λ moves going. cc);
     told = told-stop last.ended before after is writing.told;
     count = tt;
   }
 
   written-late : (late : XrunWhy) → IsWriting c ring n last v before after → is_stop last.ended ≡ false
-      → IsWritten (behind c last Xrun c.stopped c.written c.fed, Err (error.Xrun late)) ring v before after
+      → IsWritten (behind c last Xrun c.status.stopped c.stretch.written c.fed, Err (error.Xrun late)) ring v before after
   written-late late writing is = record {
-    sound = IsSound-behind c ring Xrun last c.stopped (c.written + taken_of c n) c.written c.fed writing.sound (set_of writing) (write_few c n last (length c.bindings) writing.commit_is) (λ same. cc) (λ same. cc) writing.sound.fed (λ moves going. absurd (cc));
-    use_it = still_used (behind c last Xrun c.stopped c.written c.fed) refl refl writing (λ moves going. cc);
+    sound = IsSound-behind c ring Xrun last c.status.stopped (c.stretch.written + taken_of c n) c.stretch.written c.fed writing.sound (set_of writing) (write_few c n last (length c.setup.bindings) writing.commit_is) (λ same. cc) (λ same. cc) writing.sound.fed (λ moves going. absurd (cc));
+    use_it = still_used (behind c last Xrun c.status.stopped c.stretch.written c.fed) refl refl writing (λ moves going. cc);
     told = told-going last.ended before after is writing.told;
     count = tt;
   }
 
   written-whole : IsWriting c ring n last v before after → is_stop last.ended ≡ false → late_of c last ≡ None
-      → IsWritten (behind c last Running c.stopped (c.written + taken_of c n) (c.fed + taken_of c n), Ok (taken_of c n)) ring v before after
+      → IsWritten (behind c last Running c.status.stopped (c.stretch.written + taken_of c n) (c.fed + taken_of c n), Ok (taken_of c n)) ring v before after
   written-whole writing is in_time =
       let m = taken_of c n in
-      let all = whole-of last.ended last.frames last.part (count_with c (taken_of c n)) (length c.bindings) (end_of_commit c last) (end_channel c last) writing.commit_is is in_time in
-      let sums : c.written + taken_of c n + c.source ≡ c.fed + taken_of c n = omega (arith, writing.sound.fed) in
-      let buffer : c.config.buffer_size ≤ 16384 = (writing.sound.configured (set_of writing)).buffer_most in
-      let few : taken_of c n ≤ c.config.buffer_size = taken_most n c.config.buffer_size (hw_of c) c.written (taken_of c n) refl in
+      let all = whole-of last.ended last.frames last.part (count_with c (taken_of c n)) (length c.setup.bindings) (end_of_commit c last) (end_channel c last) writing.commit_is is in_time in
+      let sums : c.stretch.written + taken_of c n + c.stretch.source ≡ c.fed + taken_of c n = omega (arith, writing.sound.fed) in
+      let buffer : c.setup.config.buffer_size ≤ 16384 = (writing.sound.configured (set_of writing)).buffer_most in
+      let few : taken_of c n ≤ c.setup.config.buffer_size = taken_most n c.setup.config.buffer_size (hw_of c) c.stretch.written (taken_of c n) refl in
       record {
-        sound = IsSound-behind c ring Running last c.stopped (c.written + taken_of c n) (c.written + taken_of c n) (c.fed + taken_of c n) writing.sound (set_of writing) (write_few c n last (length c.bindings) writing.commit_is) (λ same. cc) (λ same. cc) sums
-            (λ moves going. IsMoving-behind c ring Running last c.stopped n (c.fed + taken_of c n) (taken_of c n) refl writing.sound (writing.sound.moving writing.moves writing.going) all.0 all.1);
+        sound = IsSound-behind c ring Running last c.status.stopped (c.stretch.written + taken_of c n) (c.stretch.written + taken_of c n) (c.fed + taken_of c n) writing.sound (set_of writing) (write_few c n last (length c.setup.bindings) writing.commit_is) (λ same. cc) (λ same. cc) sums
+            (λ moves going. IsMoving-behind c ring Running last c.status.stopped n (c.fed + taken_of c n) (taken_of c n) refl writing.sound (writing.sound.moving writing.moves writing.going) all.0 all.1);
         use_it = record {
           same_geometry = writing.same_geometry;
           same_member = writing.same_member;
           can = writing.able;
-          behind = λ moves going. OnWhole-of last.ended (IsFrom v.marks.cursor (end_of_commit c last) (least_channel c.bindings)) (end_of_commit c last) (end_channel c last) is in_time writing.whole;
+          behind = λ moves going. OnWhole-of last.ended (IsFrom v.marks.cursor (end_of_commit c last) (least_channel c.setup.bindings)) (end_of_commit c last) (end_channel c last) is in_time writing.whole;
           newer = λ moves going. writing.newer;
         };
         told = told-going last.ended before after is writing.told;

@@ -2,8 +2,7 @@
 -- its loads gave, and with what its commits came to.
 use Rattle.std.specs.Prelude.{ℕ, ◌+◌, ◌-◌, Bool, true, false, not, ◌&&◌, ◌||◌, nat_le, nat_lt, nat_eq, if◌then◌else◌, min, max, ℤ, List, slice_index, Option, Some, None, is_some, unwrap_or, Result, Ok, Err}
 use Rattle.snd_base.specs.declared.errors.PcmError.{PcmError}
-use Rattle.snd_base.specs.declared.errors.PcmError.TheVariants.{Again, BadState, NotSupported, Stopped}
-use Rattle.snd_base.specs.declared.errors.PcmError.TheVariants as error
+use Rattle.snd_base.specs.declared.errors.PcmError.TheVariants.{Again, Stopped}
 use Rattle.snd_base.specs.declared.errors.XrunWhy.{XrunWhy}
 use Rattle.snd_base.specs.declared.errors.XrunWhy.TheVariants as why
 use Rattle.snd_base.specs.declared.geometry.Geometry.{Geometry}
@@ -12,7 +11,7 @@ use Rattle.snd_base.specs.declared.places.Segment.{Segment}
 use Rattle.snd_base.specs.Places.{end_frame, first_free}
 use Rattle.mix_core.specs.declared.port.Entry.{Entry}
 use Rattle.mix_core.specs.declared.port.Position.{Position}
-use Rattle.bindings.specs.Bound.{identity, rising}
+use Rattle.bindings.specs.Bound.{rising}
 use Rattle.hw_space.specs.declared.config.Config.{Config}
 use Rattle.sw_limits.specs.declared.params.SwParams.{SwParams}
 use Rattle.pcm_states.specs.declared.states.State.{State}
@@ -25,7 +24,10 @@ use Rattle.pcm_states.specs.Table.{next_of}
 use Rattle.dmix_client.specs.declared.commit.Commit.{Commit}
 use Rattle.mix_core.specs.declared.port.Ended.{Ended}
 use Rattle.mix_core.specs.declared.port.Ended.TheVariants as ended
+use Rattle.pcm_stream.specs.Setup as setup
+use Rattle.pcm_stream.specs.Status as status
 use Rattle.dmix_client.specs.declared.plain.Plain.{Plain}
+use Rattle.dmix_client.specs.declared.plain.Stretch.{Stretch}
 use Rattle.dmix_client.specs.Expansion.{run_entries}
 use Rattle.dmix_client.specs.View.{avail_of, held, queued_of}
 
@@ -33,97 +35,58 @@ use Rattle.dmix_client.specs.View.{avail_of, held, queued_of}
 abbrev pub Answered : Type 0 → Type 0
 Answered T = Plain × Result T PcmError
 
+-- the client in another state
+abbrev pub in_state : Plain → State → Plain
+in_state c state = record c { status = status.in_state c.status state }
+
 -- the gate stopped the call
 abbrev pub stopped_in : {T : Type 0} → Plain → Answered T
-stopped_in c = (record c { stopped = true }, Err Stopped)
+stopped_in c = (record c { status = status.stopped_in c.status }, Err Stopped)
 
 -- the call comes to an outcome of the state table
 abbrev pub settled : Plain → Outcome → Answered (Unit {0})
-settled c outcome = (record c { state = outcome.state }, outcome.answer)
-
--- what stands whatever a call finds: that the client was stopped, or a refusal of the state table
-abbrev pub is_refusal : PcmError → Bool
-is_refusal BadState = true
-is_refusal error.NoDevice = true
-is_refusal NotSupported = true
-is_refusal (error.Xrun why.Already) = true
-is_refusal other = false
-
--- the facts of a call that finds nothing
-abbrev pub nothing_found : Facts
-nothing_found = record { capture = false; queued = 1; starts = false; gone = false; over = None; late = None }
-
--- the refusal among an answer's errors
-abbrev pub refusal_in : Result (Unit {0}) PcmError → Option PcmError
-refusal_in (Ok done) = None
-refusal_in (Err e) = if is_refusal e then Some e else None
-
--- why a call is refused before it does anything
-abbrev pub refusal_of : Plain → Call → Option PcmError
-refusal_of c call = if c.stopped then Some Stopped else refusal_in (next_of c.state call nothing_found).answer
-
--- the answer of a test: that a call isn't refused, or the refusal
-abbrev pub refused_by : Option PcmError → Result (Unit {0}) PcmError
-refused_by None = Ok tt
-refused_by (Some e) = Err e
+settled c outcome = (in_state c outcome.state, outcome.answer)
 
 -- the calls that take no step
+
+-- a stretch that waits for its start: so many frames are written, the first of them after so many others, and none is placed
+abbrev pub waiting : ℕ → ℕ → Stretch
+waiting written source = record { written = written; committed = 0; part = 0; card = 0; started = false; source = source }
 
 -- a client that is opened
 abbrev pub opened : Geometry → ℕ → ℕ → Plain
 opened g member lead = record {
-  geometry = g;
-  member = member;
-  lead = lead;
-  state = Open;
-  stopped = false;
-  configured = false;
-  config = record { channels = 1; rate = 1; period_size = 1; buffer_size = 1; periods = 1 };
-  bindings = identity 1;
-  params = record { start_threshold = 1; stop_threshold = 1; avail_min = 1 };
-  written = 0;
-  committed = 0;
-  part = 0;
-  card = 0;
-  started = false;
+  identity = record { geometry = g; member = member; lead = lead };
+  setup = setup.no_setup;
+  status = status.opened;
+  stretch = waiting 0 0;
   seen = None;
   fed = 0;
-  source = 0;
 }
 
 -- nothing is written, and nothing is laid since now
 abbrev pub prepared : Plain → Plain
-prepared c =
-    record c { state = Prepared; written = 0; committed = 0; part = 0; card = 0; started = false; source = c.fed }
+prepared c = record (in_state c Prepared) { stretch = waiting 0 c.fed }
 
 -- the client runs with a configuration, with the default thresholds
 abbrev pub configured_with : Plain → Config → List ℕ → Plain
-configured_with c config bindings = prepared (record c {
-  configured = true;
-  config = config;
-  bindings = bindings;
-  params = record { start_threshold = 1; stop_threshold = config.buffer_size; avail_min = config.period_size };
-})
+configured_with c config bindings = prepared (record c { setup = setup.setup_with config bindings })
 
 -- the client gives its configuration up
 abbrev pub freed : Plain → Plain
-freed c = record c { state = Open; configured = false }
+freed c = in_state (record c { setup = setup.freed c.setup }) Open
 
 -- the client has other software parameters
 abbrev pub with_params : Plain → SwParams → Plain
-with_params c params = record c { params = params }
+with_params c params = record c { setup = setup.with_params c.setup params }
 
 -- what is pending is given up
 abbrev pub dropped : Plain → Plain
-dropped c = record c { state = Setup }
-
--- the configuration, where there is one
-abbrev pub config_of : Plain → Option Config
-config_of c = if c.configured then Some c.config else None
+dropped c = in_state c Setup
 
 -- the segment since the last prepare
 abbrev pub segment_of : Plain → Segment
-segment_of c = record { source = c.source; card = c.card; whole = c.committed; part = c.part }
+segment_of c = record { source = c.stretch.source; card = c.stretch.card; whole = c.stretch.committed; part = c.stretch.part }
 
 -- the parts of the calls that take steps
 
@@ -133,12 +96,12 @@ seen_at c position = record c { seen = Some position.frame }
 
 -- where a start begins: past the position by the lead, and not before the port's cursor
 abbrev pub start_frame : Plain → ℕ → Cursor → ℕ
-start_frame c position cursor = max (position + c.lead) (first_free cursor 0)
+start_frame c position cursor = max (position + c.identity.lead) (first_free cursor 0)
 
 -- the stream starts, and is in a state
 abbrev pub started_in : Plain → State → Position → Cursor → Plain
 started_in c state position cursor =
-    record c { state = state; card = start_frame c position.frame cursor; started = true; seen = Some position.frame }
+    record (in_state c state) { stretch = record c.stretch { card = start_frame c position.frame cursor; started = true }; seen = Some position.frame }
 
 -- the frame that the window of a position ends before
 abbrev pub window_end : Geometry → ℕ → ℕ
@@ -146,23 +109,23 @@ window_end g position = min (position + g.frames) (end_frame g)
 
 -- how many frames a commit at a position is to lay, of those before one
 abbrev pub commit_count : Plain → ℕ → ℕ → ℕ
-commit_count c position upto = min upto (window_end c.geometry position - c.card) - c.committed
+commit_count c position upto = min upto (window_end c.identity.geometry position - c.stretch.card) - c.stretch.committed
 
 -- the client after a commit
 abbrev pub committed_by : Plain → Commit → Plain
-committed_by c commit = record c { committed = c.committed + commit.frames; part = commit.part }
+committed_by c commit = record c { stretch = record c.stretch { committed = c.stretch.committed + commit.frames; part = commit.part } }
 
 -- the frame at which a commit ended, and the card channel
 abbrev pub end_of_commit : Plain → Commit → ℕ
-end_of_commit c commit = c.card + (c.committed + commit.frames)
+end_of_commit c commit = c.stretch.card + (c.stretch.committed + commit.frames)
 
 abbrev pub end_channel : Plain → Commit → ℕ
-end_channel c commit = slice_index c.bindings (slice_index (rising c.bindings) commit.part)
+end_channel c commit = slice_index c.setup.bindings (slice_index (rising c.setup.bindings) commit.part)
 
 -- what a commit laid of the local ring
 abbrev pub commit_entries : Plain → List ℤ → Commit → List Entry
 commit_entries c ring commit =
-    run_entries c.member c.bindings (held c ring) c.card c.committed commit.frames commit.part
+    run_entries c.identity.member c.setup.bindings (held c ring) c.stretch.card c.stretch.committed commit.frames commit.part
 
 abbrev pub is_stop : Ended → Bool
 is_stop ended.Whole = false
@@ -189,7 +152,7 @@ is_running other = false
 -- the stop threshold was reached in RUNNING, at a position: the frames available
 abbrev pub over_of : Plain → Position → Option (ℕ × ℕ)
 over_of c position =
-    if is_running c.state && nat_le c.params.stop_threshold (avail_of c) then Some (avail_of c, position.frame) else None
+    if is_running c.status.state && nat_le c.setup.params.stop_threshold (avail_of c) then Some (avail_of c, position.frame) else None
 
 -- the facts for the state table: of a client after its commit, with what stood at the load
 abbrev pub facts_of : Plain → Position → Option (ℕ × ℕ) → Option XrunWhy → Facts
@@ -199,7 +162,7 @@ facts_of c position over late =
 -- how many frames the sync at a position is to commit
 abbrev pub sync_count : Plain → Position → ℕ
 sync_count c position =
-    if position.gone || is_some (over_of (seen_at c position) position) then 0 else commit_count c position.frame c.written
+    if position.gone || is_some (over_of (seen_at c position) position) then 0 else commit_count c position.frame c.stretch.written
 
 -- the sync of a client that moves frames: the load, the stop threshold, the commit
 abbrev pub synced : Plain → Call → Option Position → Commit → Answered (Unit {0})
@@ -209,7 +172,7 @@ synced c call (Some position) commit =
     let done = committed_by loaded commit in
     if is_stop commit.ended
     then stopped_in done
-    else settled done (next_of c.state call (facts_of done position (over_of loaded position) (late_of loaded commit)))
+    else settled done (next_of c.status.state call (facts_of done position (over_of loaded position) (late_of loaded commit)))
 
 -- the facts of a start, or of a commit behind a sync, that isn't empty
 abbrev pub found_at : Position → Option XrunWhy → Facts
@@ -223,8 +186,8 @@ start_count c cursor position upto =
 
 -- an answer leads to a state, or a refusal to another
 abbrev pub going_on_by : Result (Unit {0}) PcmError → Plain → State → State → Answered (Unit {0})
-going_on_by (Ok done) c state refused = (record c { state = state }, Ok tt)
-going_on_by (Err e) c state refused = (record c { state = refused }, Err e)
+going_on_by (Ok done) c state refused = (in_state c state, Ok tt)
+going_on_by (Err e) c state refused = (in_state c refused, Err e)
 
 -- the call goes on in a state, unless the table refuses it
 abbrev pub going_on : Plain → State → Outcome → Answered (Unit {0})
@@ -246,7 +209,7 @@ started c state cursor (Some position) commit =
 
 -- a running stream is paused
 abbrev pub paused : Plain → Plain
-paused c = record c { state = Paused }
+paused c = in_state c Paused
 
 abbrev pub is_paused : State → Bool
 is_paused Paused = true
@@ -254,17 +217,16 @@ is_paused other = false
 
 -- the frames that are pending: accepted, and not committed
 abbrev pub pending_of : Plain → ℕ
-pending_of c = c.written - c.committed
+pending_of c = c.stretch.written - c.stretch.committed
 
 -- the counts based anew: what is pending is all that is written, and nothing is laid since now
 abbrev pub rebased : Plain → Plain
-rebased c =
-    record c { state = Prepared; written = pending_of c; committed = 0; part = 0; card = 0; started = false; source = c.fed - pending_of c }
+rebased c = record (in_state c Prepared) { stretch = waiting (pending_of c) (c.fed - pending_of c) }
 
 -- a client that a call found as the first of these and left as the second begins with its counts based anew where it is no
 -- longer paused
 abbrev pub base_of : Plain → Plain → Plain
-base_of c d = if is_paused c.state && not (is_paused d.state) then rebased c else c
+base_of c d = if is_paused c.status.state && not (is_paused d.status.state) then rebased c else c
 
 -- the resume of a client with pending frames: a start of these, once the position was loaded
 abbrev pub resumed : Plain → Cursor → Option Position → Commit → Answered (Unit {0})
@@ -278,36 +240,36 @@ with_number number (c, Err e) = (c, Err e)
 
 -- the frames that `avail_update` answers, in the state after its sync
 abbrev pub avail_in : State → Plain → ℕ
-avail_in Setup c = c.config.buffer_size
+avail_in Setup c = c.setup.config.buffer_size
 avail_in other c = avail_of c
 
 abbrev pub avail_answer : Plain → ℕ
-avail_answer c = avail_in c.state c
+avail_answer c = avail_in c.status.state c
 
 -- the frames that `delay` answers: from the position seen to the end of what is written
 abbrev pub delay_in : State → Plain → ℕ
 delay_in Setup c = 0
-delay_in Prepared c = c.written
-delay_in other c = c.card + c.written - unwrap_or c.seen 0
+delay_in Prepared c = c.stretch.written
+delay_in other c = c.stretch.card + c.stretch.written - unwrap_or c.seen 0
 
 abbrev pub delay_answer : Plain → ℕ
-delay_answer c = delay_in c.state c
+delay_answer c = delay_in c.status.state c
 
 -- the stream drains
 abbrev pub draining : Plain → Plain
-draining c = record c { state = Draining }
+draining c = in_state c Draining
 
 -- a prepared stream has frames to play
 abbrev pub has_frames : Plain → Bool
-has_frames c = is_prepared c.state && nat_lt 0 c.written
+has_frames c = is_prepared c.status.state && nat_lt 0 c.stretch.written
 
 -- how many frames a write of n takes
 abbrev pub taken_of : Plain → ℕ → ℕ
-taken_of c n = min n (min (avail_of c) c.config.buffer_size)
+taken_of c n = min n (min (avail_of c) c.setup.config.buffer_size)
 
 -- frames were accepted
 abbrev pub accepted : Plain → ℕ → Plain
-accepted c n = record c { written = c.written + n; fed = c.fed + n }
+accepted c n = record c { stretch = record c.stretch { written = c.stretch.written + n }; fed = c.fed + n }
 
 -- frames that were taken are accepted where the call goes well
 abbrev pub accepted_if : ℕ → Answered (Unit {0}) → Answered ℕ

@@ -15,8 +15,10 @@ use Rattle.pcm_states.specs.declared.calls.Call.{Call}
 use Rattle.pcm_states.specs.declared.calls.Call.TheVariants as call
 use Rattle.dmix_client.specs.declared.commit.Commit.{Commit}
 use Rattle.dmix_client.specs.declared.plain.Plain.{Plain}
-use Rattle.dmix_client.specs.Calls.{Answered, accepted, accepted_if, draining, dropped, has_frames, is_running, nothing_found, paused, pending_of, rebased, refusal_of, resumed, settled, start_count, started, started_in, sync_count, synced, taken_of, with_number, written_after}
-use Rattle.dmix_client.specs.View.{held, is_moving}
+use Rattle.pcm_stream.specs.Status.{is_moving, nothing_found, refusal_of}
+use Rattle.pcm_stream.specs.declared.direction.Direction.TheVariants.{Playback}
+use Rattle.dmix_client.specs.Calls.{Answered, accepted, accepted_if, draining, dropped, has_frames, is_running, paused, pending_of, rebased, resumed, settled, start_count, started, started_in, sync_count, synced, taken_of, with_number, written_after}
+use Rattle.dmix_client.specs.View.{held}
 use Rattle.dmix_client.specs.Writes.{count_with, frames_in, ring_with, starts_with}
 
 -- the samples of a frame are laid one after the other, by client channels, up to the first that isn't: how many were, and how
@@ -56,7 +58,7 @@ lay_frames member card bindings samples (suc count) first =
 
 -- the commit of so many frames
 abbrev pub commits : Plain → List ℤ → ℕ → Course Commit
-commits c ring count = lay_frames c.member c.card c.bindings (held c ring) count c.committed
+commits c ring count = lay_frames c.identity.member c.stretch.card c.setup.bindings (held c ring) count c.stretch.committed
 
 -- a commit behind a load, of a client as it is then
 abbrev pub commit_at : (Position → Plain) → (Position → ℕ) → List ℤ → Option Position → Course Commit
@@ -80,12 +82,12 @@ starts c state cursor upto ring =
 -- the calls, each of a client that isn't refused before
 
 abbrev pub sync_course : Plain → List ℤ → Course (Answered (Unit {0}))
-sync_course c ring = if is_moving c.state then syncs c call.Sync ring else ends (c, Ok tt)
+sync_course c ring = if is_moving c.status.state then syncs c call.Sync ring else ends (c, Ok tt)
 
 abbrev pub start_course : Plain → List ℤ → Cursor → Course (Answered (Unit {0}))
-start_course c ring cursor = if nat_eq c.written 0
-    then ends (settled c (next_of c.state call.Start (record nothing_found { queued = 0 })))
-    else starts c Running cursor c.written ring
+start_course c ring cursor = if nat_eq c.stretch.written 0
+    then ends (settled c (next_of c.status.state call.Start (record (nothing_found Playback) { queued = 0 })))
+    else starts c Running cursor c.stretch.written ring
 
 abbrev pub drain_on : List ℤ → Answered (Unit {0}) → Course (Answered (Unit {0}))
 drain_on ring (c, Ok done) = syncs c call.Drain ring
@@ -93,11 +95,11 @@ drain_on ring (c, Err e) = ends (c, Err e)
 
 -- the start of a drain, and its sync
 unfoldable pub drains : Plain → List ℤ → Cursor → Course (Answered (Unit {0}))
-drains c ring cursor = starts c Draining cursor c.written ring >>= drain_on ring
+drains c ring cursor = starts c Draining cursor c.stretch.written ring >>= drain_on ring
 
 abbrev pub drain_course : Plain → List ℤ → Cursor → Course (Answered (Unit {0}))
 drain_course c ring cursor =
-    if is_moving c.state then syncs (draining c) call.Drain ring else
+    if is_moving c.status.state then syncs (draining c) call.Drain ring else
     (if has_frames c then drains c ring cursor else ends (dropped c, Ok tt))
 
 -- the resume of a client with pending frames: the load, and the commit of these from where the stream starts
@@ -119,14 +121,14 @@ admitted_by None c course = course
 admitted_by (Some e) c course = ends (c, Err e)
 
 abbrev pub admitted : {X : Type 0} → Plain → Call → Course (Answered X) → Course (Answered X)
-admitted c call course = admitted_by (refusal_of c call) c course
+admitted c call course = admitted_by (refusal_of Playback c.status call) c course
 
 -- a call's answer with a number
 unfoldable pub numbered : (Plain → ℕ) → Course (Answered (Unit {0})) → Course (Answered ℕ)
 numbered number course = course >>= λ done. ends (with_number number done)
 
 abbrev pub number_course : (Plain → ℕ) → Plain → List ℤ → Course (Answered ℕ)
-number_course number c ring = if is_moving c.state then numbered number (syncs c call.Sync ring) else ends (c, Ok (number c))
+number_course number c ring = if is_moving c.status.state then numbered number (syncs c call.Sync ring) else ends (c, Ok (number c))
 
 -- a write behind its sync: frames are taken, stored and committed
 unfoldable pub takes_more : Plain → List ℤ → List ℤ → ℕ → Course (Answered ℕ)
@@ -142,7 +144,7 @@ writes_on c ring samples n = syncs c call.Transfer ring >>= write_on ring sample
 
 -- a write that starts the stream with frames that are stored
 unfoldable pub starts_taking : Plain → List ℤ → Cursor → ℕ → Course (Answered ℕ)
-starts_taking c ring cursor taken = starts c Running cursor (c.written + taken) ring >>= λ done. ends (accepted_if taken done)
+starts_taking c ring cursor taken = starts c Running cursor (c.stretch.written + taken) ring >>= λ done. ends (accepted_if taken done)
 
 abbrev pub fills : Plain → List ℤ → List ℤ → Cursor → ℕ → Course (Answered ℕ)
 fills c ring samples cursor n = if starts_with c n
@@ -151,4 +153,4 @@ fills c ring samples cursor n = if starts_with c n
 
 abbrev pub write_course : Plain → List ℤ → List ℤ → Cursor → Course (Answered ℕ)
 write_course c ring samples cursor =
-    if is_running c.state then writes_on c ring samples (frames_in c samples) else fills c ring samples cursor (frames_in c samples)
+    if is_running c.status.state then writes_on c ring samples (frames_in c samples) else fills c ring samples cursor (frames_in c samples)

@@ -223,7 +223,7 @@ module _ {S T : Type 0} (P : mixport.Ghosts S) (G : gates.Ghosts T) (laid_compos
 
   -- a load, and the commit behind it
   pub TakesAt-looks : (at : Position → Plain) (count : Position → ℕ) (ring : List ℤ) (bindings : List ℕ) (s t : S × T) (load : Option Position) (commit : Commit)
-      → AreBindings bindings → ((position : Position) → (at position).bindings ≡ bindings)
+      → AreBindings bindings → ((position : Position) → (at position).setup.bindings ≡ bindings)
       → TakesAt P G s (looks at count ring) t (load, commit) → Looked P G s t ring at count (length bindings) load commit
   unfolding looks ◌>>=◌
   TakesAt-looks at count ring bindings s t load commit are same (None, m, step, rest) =
@@ -241,25 +241,25 @@ module _ {S T : Type 0} (P : mixport.Ghosts S) (G : gates.Ghosts T) (laid_compos
       let parts = Takes-parts (LoadsAt P G) (LaysAt P G) NoGet m t (commits (at position) ring (count position)) (λ x. ends (let found : Option Position × Commit = (Some position, x) in found)) (load, commit) rest in
       let c = at position in
       let x = parts.1 in
-      let laid = TakesAt-frames c.member c.card c.bindings (held c ring) (count position) c.committed m parts.0 x (subst AreBindings (sym (same position)) are) parts.2 in
+      let laid = TakesAt-frames c.identity.member c.stretch.card c.setup.bindings (held c ring) (count position) c.stretch.committed m parts.0 x (subst AreBindings (sym (same position)) are) parts.2 in
       subst (λ (u : S × T). Looked P G s u ring at count (length bindings) load commit) (sym parts.3.there)
       (subst (λ (r : Option Position × Commit). Looked P G s parts.0 ring at count (length bindings) r.0 r.1) (sym parts.3.result) (record {
         found = record {
           nothing = tt;
           commit_is = subst (λ (b : List ℕ). IsCommit x.ended x.frames x.part (count position) (length b)) (same position) laid.commit_is;
-          in_time = λ some. subst (λ (v : PortView). v.seen ≤ c.card + c.committed) step.view_is (laid.not_before_seen some);
+          in_time = λ some. subst (λ (v : PortView). v.seen ≤ c.stretch.card + c.stretch.committed) step.view_is (laid.not_before_seen some);
         };
         loaded_them = loaded_composes.joined s.0 m.0 parts.0.0 (position ∷ []) [] step.loaded_it laid.loaded_nothing;
         laid_them = laid_composes.joined s.0 m.0 parts.0.0 [] (commit_entries c ring x) step.laid_nothing laid.laid_them;
         shown = laid.late;
         stopped = laid.stopped ∙ ap (stops_after (pass_of_end x.ended)) step.stopped;
         near = (step.newer, step.within, ap (λ (v : PortView). v.seen) laid.view_is ∙ ap (λ (v : PortView). v.seen) step.view_is);
-        stayed = λ from. laid.free (least_channel c.bindings) (subst (λ (v : PortView). first_free v.marks.cursor (least_channel c.bindings) ≤ c.card + c.committed) (sym step.view_is) from);
+        stayed = λ from. laid.free (least_channel c.setup.bindings) (subst (λ (v : PortView). first_free v.marks.cursor (least_channel c.setup.bindings) ≤ c.stretch.card + c.stretch.committed) (sym step.view_is) from);
       }))
 
   -- and the call by what they found
   pub TakesAt-step : {X : Type 0} (at : Position → Plain) (count : Position → ℕ) (ring : List ℤ) (bindings : List ℕ) (call : Option Position → Commit → Answered X) (s t : S × T) (done : Answered X)
-      → AreBindings bindings → ((position : Position) → (at position).bindings ≡ bindings)
+      → AreBindings bindings → ((position : Position) → (at position).setup.bindings ≡ bindings)
       → TakesAt P G s (looks at count ring >>= λ found. ends (call found.0 found.1)) t done → TakesStep P G s t ring at count (length bindings) call done
   TakesAt-step at count ring bindings call s t done are same takes =
       let parts = Takes-parts (LoadsAt P G) (LaysAt P G) NoGet s t (looks at count ring) (λ found. ends (call found.0 found.1)) done takes in

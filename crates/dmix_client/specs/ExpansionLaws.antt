@@ -39,7 +39,7 @@ run_entries-append member bindings sample_of card first n k part =
 
 -- a list of accepted frames, of which those from one to before another stand in the local ring
 abbrev pub Holds : Plain → List ℤ → List ℤ → ℕ → ℕ → Type 0
-Holds c ring samples from to = (j q : ℕ) → from ≤ j → j < to → q < length c.bindings → held c ring j q ≡ sample_at samples (length c.bindings) j q
+Holds c ring samples from to = (j q : ℕ) → from ≤ j → j < to → q < length c.setup.bindings → held c ring j q ≡ sample_at samples (length c.setup.bindings) j q
 
 -- two functions that agree on a list's elements give one list
 pub map-same : {X : Type 0} (f g : ℕ → X) (xs : List ℕ) → ((k : ℕ) → k < length xs → f (get_or xs k 0) ≡ g (get_or xs k 0)) → map f xs ≡ map g xs
@@ -90,21 +90,21 @@ run_entries-same member bindings s t card first whole part are same =
     ∙ ap (λ (es : List Entry). flat_map (λ j. frame_entries member bindings (t j) (length bindings) (card + j)) (range_with_len first whole) ++ es) last
 
 -- what a commit laid of the local ring is what it laid of the accepted frames
-pub commit_entries-accepted : (c : Plain) (ring samples : List ℤ) (commit : Commit) (to : ℕ) → AreBindings c.bindings → Holds c ring samples c.committed to
-    → c.committed + frames_used commit.frames commit.part ≤ to
-    → commit_entries c ring commit ≡ run_entries c.member c.bindings (sample_at samples (length c.bindings)) c.card c.committed commit.frames commit.part
+pub commit_entries-accepted : (c : Plain) (ring samples : List ℤ) (commit : Commit) (to : ℕ) → AreBindings c.setup.bindings → Holds c ring samples c.stretch.committed to
+    → c.stretch.committed + frames_used commit.frames commit.part ≤ to
+    → commit_entries c ring commit ≡ run_entries c.identity.member c.setup.bindings (sample_at samples (length c.setup.bindings)) c.stretch.card c.stretch.committed commit.frames commit.part
 commit_entries-accepted c ring samples commit to are holds within =
-    run_entries-same c.member c.bindings (held c ring) (sample_at samples (length c.bindings)) c.card c.committed commit.frames commit.part are
+    run_entries-same c.identity.member c.setup.bindings (held c ring) (sample_at samples (length c.setup.bindings)) c.stretch.card c.stretch.committed commit.frames commit.part are
     (λ j q least most h. holds j q least (omega (arith, most, within)) h)
 
 -- the entries of a segment grow by exactly what a commit laid
-pub expand-grows : (c : Plain) (ring samples : List ℤ) (commit : Commit) (to : ℕ) → AreBindings c.bindings → Holds c ring samples c.committed to
-    → c.committed + frames_used commit.frames commit.part ≤ to → c.part ≡ 0
-    → run_entries c.member c.bindings (sample_at samples (length c.bindings)) c.card 0 (c.committed + commit.frames) commit.part
-    ≡ run_entries c.member c.bindings (sample_at samples (length c.bindings)) c.card 0 c.committed c.part ++ commit_entries c ring commit
+pub expand-grows : (c : Plain) (ring samples : List ℤ) (commit : Commit) (to : ℕ) → AreBindings c.setup.bindings → Holds c ring samples c.stretch.committed to
+    → c.stretch.committed + frames_used commit.frames commit.part ≤ to → c.stretch.part ≡ 0
+    → run_entries c.identity.member c.setup.bindings (sample_at samples (length c.setup.bindings)) c.stretch.card 0 (c.stretch.committed + commit.frames) commit.part
+    ≡ run_entries c.identity.member c.setup.bindings (sample_at samples (length c.setup.bindings)) c.stretch.card 0 c.stretch.committed c.stretch.part ++ commit_entries c ring commit
 expand-grows c ring samples commit to are holds within whole =
-    let s : ℕ → ℕ → ℤ = sample_at samples (length c.bindings) in
-    run_entries-append c.member c.bindings s c.card 0 c.committed commit.frames commit.part
-    ∙ ap (λ (n : ℕ). run_entries c.member c.bindings s c.card 0 c.committed 0 ++ run_entries c.member c.bindings s c.card n commit.frames commit.part) (zero-add c.committed)
-    ∙ ap (λ (es : List Entry). run_entries c.member c.bindings s c.card 0 c.committed 0 ++ es) (sym (commit_entries-accepted c ring samples commit to are holds within))
-    ∙ ap (λ (p : ℕ). run_entries c.member c.bindings s c.card 0 c.committed p ++ commit_entries c ring commit) (sym whole)
+    let s : ℕ → ℕ → ℤ = sample_at samples (length c.setup.bindings) in
+    run_entries-append c.identity.member c.setup.bindings s c.stretch.card 0 c.stretch.committed commit.frames commit.part
+    ∙ ap (λ (n : ℕ). run_entries c.identity.member c.setup.bindings s c.stretch.card 0 c.stretch.committed 0 ++ run_entries c.identity.member c.setup.bindings s c.stretch.card n commit.frames commit.part) (zero-add c.stretch.committed)
+    ∙ ap (λ (es : List Entry). run_entries c.identity.member c.setup.bindings s c.stretch.card 0 c.stretch.committed 0 ++ es) (sym (commit_entries-accepted c ring samples commit to are holds within))
+    ∙ ap (λ (p : ℕ). run_entries c.identity.member c.setup.bindings s c.stretch.card 0 c.stretch.committed p ++ commit_entries c ring commit) (sym whole)

@@ -8,37 +8,38 @@ use Rattle.mix_core.specs.Laid.{stand_after}
 use Rattle.dmix_client.specs.declared.plain.Plain.{Plain}
 use Rattle.dmix_client.specs.Calls.{segment_of}
 use Rattle.dmix_client.specs.Expansion.{expand, sample_at}
-use Rattle.dmix_client.specs.Port.{CanUse, CountsStop}
+use Rattle.course.specs.Stops.{CountsStop}
+use Rattle.dmix_client.specs.Port.{CanUse}
 use Rattle.dmix_client.specs.View.{ClientView, IsSound, held, hw_of}
 
 -- of some samples, interleaved, the frames of a client before one that are not both laid and played stand in its local
 -- ring: frame j since the last prepare is frame `source + j` of the samples
 abbrev pub StandsUpTo : Plain → List ℤ → List ℤ → ℕ → Type 0
 StandsUpTo c ring samples to =
-    (j q : ℕ) → min c.committed (hw_of c) ≤ j → j < to → q < length c.bindings
-    → held c ring j q ≡ sample_at samples (length c.bindings) (c.source + j) q
+    (j q : ℕ) → min c.stretch.committed (hw_of c) ≤ j → j < to → q < length c.setup.bindings
+    → held c ring j q ≡ sample_at samples (length c.setup.bindings) (c.stretch.source + j) q
 
 -- a client stands for some samples: its accepted frames are theirs, as far as it still needs them
 abbrev pub StandsFor : Plain → List ℤ → List ℤ → Type 0
-StandsFor c ring samples = StandsUpTo c ring samples c.written
+StandsFor c ring samples = StandsUpTo c ring samples c.stretch.written
 
 -- some samples have n frames that are offered behind those that a client accepted
 abbrev pub Follows : Plain → List ℤ → List ℤ → ℕ → Type 0
 Follows c samples offered n =
-    (k q : ℕ) → k < n → q < length c.bindings
-    → sample_at samples (length c.bindings) (c.source + (c.written + k)) q ≡ sample_at offered (length c.bindings) k q
+    (k q : ℕ) → k < n → q < length c.setup.bindings
+    → sample_at samples (length c.setup.bindings) (c.stretch.source + (c.stretch.written + k)) q ≡ sample_at offered (length c.setup.bindings) k q
 
 -- the entries of a client's segment, by its samples
 abbrev pub segment_entries : Plain → List ℤ → List Entry
-segment_entries c samples = expand c.member (segment_of c) samples c.bindings
+segment_entries c samples = expand c.identity.member (segment_of c) samples c.setup.bindings
 
 -- a port laid exactly the entries by which a client's segment grew, by some samples
 pub record Grows {S : Type 0} (laid : S → S → List Entry → Type 0) (p q : S) (c d : Plain) (samples : List ℤ) : Type 0 where
   pub entries : List Entry
   pub laid_them : laid p q entries
   pub grown : segment_entries d samples ≡ segment_entries c samples ++ entries
-  pub same_member : d.member ≡ c.member
-  pub same_bindings : d.bindings ≡ c.bindings
+  pub same_member : d.identity.member ≡ c.identity.member
+  pub same_bindings : d.setup.bindings ≡ c.setup.bindings
 
 -- what every call that takes steps at a port keeps: the client's counts fit each other and its ring, it can use the port again,
 -- the gate's count rose exactly where it answers `Stopped`, and for each list of samples which the client represents, and for which
@@ -46,7 +47,7 @@ pub record Grows {S : Type 0} (laid : S → S → List Entry → Type 0) (p q : 
 pub record Keeps {S T X : Type 0} (P : mixport.Ghosts S) (G : gates.Ghosts T) (s t : S × T) (c d : ClientView) (answer : Result X PcmError) (For : List ℤ → Type 0) : Type 0 where
   pub sound : IsSound d.plain d.ring
   pub port : CanUse d.plain (P.view t.0)
-  pub told : c.plain.stopped ≡ false → CountsStop answer (G.stops s.1) (G.stops t.1)
+  pub told : c.plain.status.stopped ≡ false → CountsStop answer (G.stops s.1) (G.stops t.1)
   pub grows : (samples : List ℤ) → StandsFor c.plain c.ring samples → For samples → Grows P.laid s.0 t.0 c.plain d.plain samples
   pub stands : (samples : List ℤ) → StandsFor c.plain c.ring samples → For samples → StandsFor d.plain d.ring samples
 
@@ -61,15 +62,15 @@ pub record TakesAway {S : Type 0} (laid : S → S → List Entry → Type 0) (en
 -- it lost exactly what a client's segment lost, by some samples
 pub record Loses {S : Type 0} (laid : S → S → List Entry → Type 0) (ends_in : S → List Entry → Type 0) (p q : S) (c d : Plain) (samples : List ℤ) : Type 0 where
   pub away : TakesAway laid ends_in p q (segment_entries c samples) (segment_entries d samples)
-  pub same_member : d.member ≡ c.member
-  pub same_bindings : d.bindings ≡ c.bindings
+  pub same_member : d.identity.member ≡ c.identity.member
+  pub same_bindings : d.setup.bindings ≡ c.setup.bindings
 
 -- what a rewind keeps: as every call that takes steps, but that for each list of samples its segment lost exactly what the port
 -- lost at the end of its standing adds
 pub record KeepsBack {S T X : Type 0} (P : mixport.Ghosts S) (G : gates.Ghosts T) (s t : S × T) (c d : ClientView) (answer : Result X PcmError) : Type 0 where
   pub sound : IsSound d.plain d.ring
   pub port : CanUse d.plain (P.view t.0)
-  pub told : c.plain.stopped ≡ false → CountsStop answer (G.stops s.1) (G.stops t.1)
+  pub told : c.plain.status.stopped ≡ false → CountsStop answer (G.stops s.1) (G.stops t.1)
   pub loses : (samples : List ℤ) → StandsFor c.plain c.ring samples → Loses P.laid P.ends_in s.0 t.0 c.plain d.plain samples
   pub stands : (samples : List ℤ) → StandsFor c.plain c.ring samples → StandsFor d.plain d.ring samples
 
@@ -84,6 +85,6 @@ AnySamples samples = ⊤
 
 -- the counts of what was accepted are the same
 pub record KeepsAccepted (c d : Plain) : Type 0 where
-  pub written : d.written ≡ c.written
+  pub written : d.stretch.written ≡ c.stretch.written
   pub fed : d.fed ≡ c.fed
-  pub bindings : d.bindings ≡ c.bindings
+  pub bindings : d.setup.bindings ≡ c.setup.bindings

@@ -12,17 +12,17 @@ use Rattle.dmix_client.specs.Growth.{Grows, StandsFor, segment_entries}
 use Rattle.dmix_client.specs.View.{IsSound}
 
 -- a client with nothing written, as after `hw_params` and `prepare`, stands for all samples
-pub StandsFor-nothing : (c : Plain) (ring samples : List ℤ) → c.written ≡ 0 → StandsFor c ring samples
+pub StandsFor-nothing : (c : Plain) (ring samples : List ℤ) → c.stretch.written ≡ 0 → StandsFor c ring samples
 StandsFor-nothing c ring samples none j q low high in_range = absurd (omega (arith, high, none))
 
 -- a paused client that stands for some samples does so with its counts based anew
-pub StandsFor-rebased : (c : Plain) (ring samples : List ℤ) → IsSound c ring → c.state ≡ Paused → StandsFor c ring samples → StandsFor (rebased c) ring samples
+pub StandsFor-rebased : (c : Plain) (ring samples : List ℤ) → IsSound c ring → c.status.state ≡ Paused → StandsFor c ring samples → StandsFor (rebased c) ring samples
 StandsFor-rebased c ring samples sound is stands j q low high in_range =
     let most = (sound.paused is).laid_most in
-    let at : c.fed - (c.written - c.committed) + j ≡ c.source + (c.committed + j) = omega (arith, sound.fed, most, high) in
-    ap (λ (n : ℕ). get_or ring (n % c.config.buffer_size * length c.bindings + q) (pos 0)) at
-    ∙ stands (c.committed + j) q (grind (arith, nat_tests)) (omega (arith, high)) in_range
-    ∙ ap (λ (n : ℕ). sample_at samples (length c.bindings) n q) (sym at)
+    let at : c.fed - (c.stretch.written - c.stretch.committed) + j ≡ c.stretch.source + (c.stretch.committed + j) = omega (arith, sound.fed, most, high) in
+    ap (λ (n : ℕ). get_or ring (n % c.setup.config.buffer_size * length c.setup.bindings + q) (pos 0)) at
+    ∙ stands (c.stretch.committed + j) q (grind (arith, nat_tests)) (omega (arith, high)) in_range
+    ∙ ap (λ (n : ℕ). sample_at samples (length c.setup.bindings) n q) (sym at)
 
 -- the growths of two calls, one after the other, are one
 pub Grows-joined : {S : Type 0} (laid : S → S → List Entry → Type 0) (composes : Composes laid) (p q r : S) (c d e : Plain) (samples : List ℤ)

@@ -1,6 +1,5 @@
 pub mod Calls
 pub mod Causes
-pub mod Checked
 pub mod Course
 pub mod CourseLaws
 pub mod Expansion

@@ -2,12 +2,11 @@
 use Rattle.std.specs.Prelude.{◌≡◌, ℕ, ◌+◌, ◌<◌, ◌≤◌, true, false, ℤ, List, [], Option, None, Some, IfNone, IfSome, Result, Ok, Err, ⊤, All, slice_index, unwrap_or}
 use Rattle.std.specs.Option.{option_to_list}
 use Rattle.snd_base.specs.declared.errors.PcmError.{PcmError}
-use Rattle.snd_base.specs.declared.errors.PcmError.TheVariants as error
 use Rattle.snd_base.specs.declared.geometry.Geometry.{Geometry}
 use Rattle.snd_base.specs.Places.{IsFrom, IsWithin}
 use Rattle.mix_core.specs.declared.gate.Gate as gates
 use Rattle.mix_core.specs.declared.gate.Pass.{Pass}
-use Rattle.mix_core.specs.declared.gate.Pass.TheVariants.{Go, Stop}
+use Rattle.mix_core.specs.declared.gate.Pass.TheVariants.{Stop}
 use Rattle.mix_core.specs.declared.port.Ended.{Ended}
 use Rattle.mix_core.specs.declared.port.Ended.TheVariants.{Whole, Late, Stopped}
 use Rattle.mix_core.specs.declared.port.Entry.{Entry}
@@ -23,21 +22,9 @@ use Rattle.pcm_states.specs.declared.calls.Call.TheVariants.{Sync, Transfer, Dra
 use Rattle.dmix_client.specs.declared.commit.Commit.{Commit}
 use Rattle.dmix_client.specs.declared.plain.Plain.{Plain}
 use Rattle.dmix_client.specs.Calls.{Answered, commit_entries, end_channel, end_of_commit}
-use Rattle.dmix_client.specs.View.{is_moving}
+use Rattle.pcm_stream.specs.Status.{is_moving}
 
--- an answer of a call that took its steps: the gate stopped it exactly where it is `Stopped`
-abbrev pub pass_in : PcmError → Pass
-pass_in error.Stopped = Stop
-pass_in other = Go
-
-abbrev pub pass_by : {X : Type 0} → Result X PcmError → Pass
-pass_by (Ok x) = Go
-pass_by (Err e) = pass_in e
-
--- the gate's count of stops rose by one where the answer is `Stopped`, and else it stayed
-abbrev pub CountsStop : {X : Type 0} → Result X PcmError → ℕ → ℕ → Type 0
-CountsStop answer before after = after ≡ stops_after (pass_by answer) before
-
+-- the gate's count of stops rose by one where some steps ended at a stop, and else it stayed
 abbrev pub CountsEnd : Ended → ℕ → ℕ → Type 0
 CountsEnd ended before after = after ≡ stops_after (pass_of_end ended) before
 
@@ -73,11 +60,11 @@ IsStep state call = ⊥
 -- a port that a client can use: it is the client's, it can add, and where the client moves frames nobody else has used
 -- it since the start
 pub record CanUse (c : Plain) (v : PortView) : Type 0 where
-  pub same_geometry : v.geometry ≡ c.geometry
-  pub same_member : v.member ≡ c.member
+  pub same_geometry : v.geometry ≡ c.identity.geometry
+  pub same_member : v.member ≡ c.identity.member
   pub can : v.can_add ≡ true
-  pub behind : is_moving c.state ≡ true → c.stopped ≡ false → IsFrom v.marks.cursor (c.card + c.committed) (least_channel c.bindings)
-  pub newer : is_moving c.state ≡ true → c.stopped ≡ false → unwrap_or c.seen 0 ≤ v.seen
+  pub behind : is_moving c.status.state ≡ true → c.status.stopped ≡ false → IsFrom v.marks.cursor (c.stretch.card + c.stretch.committed) (least_channel c.setup.bindings)
+  pub newer : is_moving c.status.state ≡ true → c.status.stopped ≡ false → unwrap_or c.seen 0 ≤ v.seen
 
 -- what a load and the commit behind it laid, by the client at the commit
 abbrev pub entries_at : Option Position → (Position → Plain) → List ℤ → Commit → List Entry
@@ -96,7 +83,7 @@ CountsFound load ended before after = after ≡ stops_after (pass_of_found load 
 pub record IsFound (load : Option Position) (commit : Commit) (at : Position → Plain) (count : Position → ℕ) (channels : ℕ) : Type 0 where
   pub nothing : IfNone load (commit ≡ record { frames = 0; part = 0; ended = Whole })
   pub commit_is : IfSome load (λ (position : Position). IsCommit commit.ended commit.frames commit.part (count position) channels)
-  pub in_time : IfSome load (λ (position : Position). 0 < commit.frames + commit.part → position.frame ≤ (at position).card + (at position).committed)
+  pub in_time : IfSome load (λ (position : Position). 0 < commit.frames + commit.part → position.frame ≤ (at position).stretch.card + (at position).stretch.committed)
 
 -- what one load and the commit behind it did at a port and its gate
 pub record Looked {S T : Type 0} (P : mixport.Ghosts S) (G : gates.Ghosts T) (s t : S × T) (ring : List ℤ) (at : Position → Plain) (count : Position → ℕ) (channels : ℕ)
@@ -107,8 +94,8 @@ pub record Looked {S T : Type 0} (P : mixport.Ghosts S) (G : gates.Ghosts T) (s 
   pub shown : IfSome load (λ position. OnLate commit.ended (λ word. IsPast P.view P.shows t.0 (end_of_commit (at position) commit) (end_channel (at position) commit) word))
   pub stopped : CountsFound load commit.ended (G.stops s.1) (G.stops t.1)
   pub near : IfSome load (λ position. ((P.view s.0).seen ≤ position.frame) × IsWithin (P.view s.0).geometry position.frame × ((P.view t.0).seen ≡ position.frame))
-  pub stayed : IfSome load (λ position. IsFrom (P.view s.0).marks.cursor ((at position).card + (at position).committed) (least_channel (at position).bindings)
-      → OnWhole commit.ended (IsFrom (P.view t.0).marks.cursor (end_of_commit (at position) commit) (least_channel (at position).bindings)))
+  pub stayed : IfSome load (λ position. IsFrom (P.view s.0).marks.cursor ((at position).stretch.card + (at position).stretch.committed) (least_channel (at position).setup.bindings)
+      → OnWhole commit.ended (IsFrom (P.view t.0).marks.cursor (end_of_commit (at position) commit) (least_channel (at position).setup.bindings)))
 
 -- a call made one load and the commit behind it, and came to this by what they found
 pub record TakesStep {S T X : Type 0} (P : mixport.Ghosts S) (G : gates.Ghosts T) (s t : S × T) (ring : List ℤ) (at : Position → Plain) (count : Position → ℕ) (channels : ℕ)

@@ -21,7 +21,7 @@ use Rattle.dmix_client.specs.View.{held, hw_of}
 -- how many frames a client can take back at a port that withdraws nothing before a floor: what is pending, and the committed
 -- frames that are at or past the position seen and whose channel 0 isn't before the floor
 abbrev pub rewindable_of : Cursor → Plain → ℕ
-rewindable_of floor c = pending_of c + (c.committed - (max (unwrap_or c.seen 0) (first_free floor 0) - c.card))
+rewindable_of floor c = pending_of c + (c.stretch.committed - (max (unwrap_or c.seen 0) (first_free floor 0) - c.stretch.card))
 
 -- how many of the last n frames are committed
 abbrev pub back_of : Plain → ℕ → ℕ
@@ -29,23 +29,18 @@ back_of c n = n - pending_of c
 
 -- a client without its last n frames, which were pending
 abbrev pub without : Plain → ℕ → Plain
-without c n = record c { written = c.written - n; fed = c.fed - n }
+without c n = record c { stretch = record c.stretch { written = c.stretch.written - n }; fed = c.fed - n }
 
 -- a client of whose last n frames the pending ones were taken back, and of the committed ones all but what is left
 abbrev pub taken_back : Plain → ℕ → Commit → Plain
-taken_back c n left = record c {
-  written = c.written - n + left.frames;
-  committed = c.committed - back_of c n + left.frames;
-  part = left.part;
-  fed = c.fed - n + left.frames;
-}
+taken_back c n left = record c { stretch = record c.stretch { written = c.stretch.written - n + left.frames; committed = c.stretch.committed - back_of c n + left.frames; part = left.part }; fed = c.fed - n + left.frames }
 
 -- the last sample that a client has in the card's ring: its frame, and its card channel
 abbrev pub last_laid : Plain → ℕ
-last_laid c = c.card + (if nat_eq c.part 0 then c.committed - 1 else c.committed)
+last_laid c = c.stretch.card + (if nat_eq c.stretch.part 0 then c.stretch.committed - 1 else c.stretch.committed)
 
 abbrev pub last_channel : Plain → ℕ
-last_channel c = slice_index c.bindings (slice_index (rising c.bindings) ((if nat_eq c.part 0 then length c.bindings else c.part) - 1))
+last_channel c = slice_index c.setup.bindings (slice_index (rising c.setup.bindings) ((if nat_eq c.stretch.part 0 then length c.setup.bindings else c.stretch.part) - 1))
 
 -- a rewind of n frames, by what is left of the committed ones
 abbrev pub rewound : Plain → ℕ → Commit → Answered ℕ
@@ -89,12 +84,12 @@ unfoldable pub checks : Plain → Course (Answered (Unit {0}))
 checks c = loads (λ load. ends (synced c call.Transfer load nothing))
 
 abbrev pub rewindable_course : Plain → Cursor → Course (Answered ℕ)
-rewindable_course c floor = if is_running c.state then numbered (rewindable_of floor) (checks c) else ends (c, Ok c.written)
+rewindable_course c floor = if is_running c.status.state then numbered (rewindable_of floor) (checks c) else ends (c, Ok c.stretch.written)
 
 -- the withdrawals of a rewind of n frames
 unfoldable pub takes_back : Plain → List ℤ → ℕ → Course (Answered ℕ)
 takes_back c ring n =
-    take_frames c.member c.card c.bindings (held c ring) (c.committed - back_of c n) (back_of c n) >>= λ left. ends (rewound c n left)
+    take_frames c.identity.member c.stretch.card c.setup.bindings (held c ring) (c.stretch.committed - back_of c n) (back_of c n) >>= λ left. ends (rewound c n left)
 
 abbrev pub rewind_on : Cursor → List ℤ → ℕ → Answered (Unit {0}) → Course (Answered ℕ)
 rewind_on floor ring n (c, Ok done) = takes_back c ring (min n (rewindable_of floor c))
@@ -104,9 +99,9 @@ unfoldable pub rewinds : Plain → List ℤ → Cursor → ℕ → Course (Answe
 rewinds c ring floor n = checks c >>= rewind_on floor ring n
 
 abbrev pub rewind_course : Plain → List ℤ → Cursor → ℕ → Course (Answered ℕ)
-rewind_course c ring floor n = if is_running c.state then rewinds c ring floor n else ends (without c (min n c.written), Ok (min n c.written))
+rewind_course c ring floor n = if is_running c.status.state then rewinds c ring floor n else ends (without c (min n c.stretch.written), Ok (min n c.stretch.written))
 
 -- the committed frames of a client that its local ring still has: those that aren't played, as far as it saw
 abbrev pub held_entries : Plain → List ℤ → List Entry
 held_entries c ring =
-    run_entries c.member c.bindings (held c ring) c.card (min c.committed (hw_of c)) (c.committed - min c.committed (hw_of c)) 0
+    run_entries c.identity.member c.setup.bindings (held c ring) c.stretch.card (min c.stretch.committed (hw_of c)) (c.stretch.committed - min c.stretch.committed (hw_of c)) 0

@@ -19,7 +19,8 @@ use Rattle.dmix_client.specs.ExpansionLaws.{run_entries-append, run_entries-same
 use Rattle.dmix_client.specs.Growth.{IsBacked, Keeps, KeepsBack, segment_entries}
 use Rattle.dmix_client.specs.GrowthLaws.{StandsFor-rebased}
 use Rattle.dmix_client.specs.Rewind.{held_entries}
-use Rattle.dmix_client.specs.View.{ClientView, IsSound, held, hw_of, is_moving, is_set_up}
+use Rattle.pcm_stream.specs.Status.{is_moving, is_set_up}
+use Rattle.dmix_client.specs.View.{ClientView, IsSound, held, hw_of}
 
 -- a segment's entries are adds
 AreAdds-append : (es fs : List Entry) → AreAdds es → AreAdds fs → AreAdds (es ++ fs)
@@ -44,17 +45,17 @@ AreAdds-frames frame adds a (suc n) = AreAdds-append (frame a) (flat_map frame (
 AreAdds-segment : (c : Plain) (samples : List ℤ) → AreAdds (segment_entries c samples)
 AreAdds-segment c samples =
     AreAdds-append _ _
-    (AreAdds-frames _ (λ j. AreAdds-frame c.member c.bindings (λ q. sample_at samples (length c.bindings) (c.source + j) q) (length c.bindings) (c.card + j)) 0 c.committed)
-    (AreAdds-frame c.member c.bindings (λ q. sample_at samples (length c.bindings) (c.source + (0 + c.committed)) q) c.part (c.card + (0 + c.committed)))
+    (AreAdds-frames _ (λ j. AreAdds-frame c.identity.member c.setup.bindings (λ q. sample_at samples (length c.setup.bindings) (c.stretch.source + j) q) (length c.setup.bindings) (c.stretch.card + j)) 0 c.stretch.committed)
+    (AreAdds-frame c.identity.member c.setup.bindings (λ q. sample_at samples (length c.setup.bindings) (c.stretch.source + (0 + c.stretch.committed)) q) c.stretch.part (c.stretch.card + (0 + c.stretch.committed)))
 
 module _ {S T : Type 0} (P : mixport.Ghosts S) (G : gates.Ghosts T) where
   -- a client that laid nothing and has nothing written, at a port whose standing adds end in nothing
-  pub IsBacked-new : (p : S) (c : ClientView) (samples : List ℤ) → c.plain.written ≡ 0 → c.plain.committed ≡ 0 → c.plain.part ≡ 0 → P.ends_in p [] → IsBacked P.ends_in p c samples
+  pub IsBacked-new : (p : S) (c : ClientView) (samples : List ℤ) → c.plain.stretch.written ≡ 0 → c.plain.stretch.committed ≡ 0 → c.plain.stretch.part ≡ 0 → P.ends_in p [] → IsBacked P.ends_in p c samples
   IsBacked-new p c samples none no_frame no_part stand = record {
     stands = λ j q low high in_range. absurd (omega (arith, high, none));
     segment = subst (P.ends_in p) (sym (
-        ap (λ (k : ℕ). run_entries c.plain.member c.plain.bindings (λ j. sample_at samples (length c.plain.bindings) (c.plain.source + j)) c.plain.card 0 k c.plain.part) no_frame
-        ∙ ap (λ (k : ℕ). run_entries c.plain.member c.plain.bindings (λ j. sample_at samples (length c.plain.bindings) (c.plain.source + j)) c.plain.card 0 0 k) no_part
+        ap (λ (k : ℕ). run_entries c.plain.identity.member c.plain.setup.bindings (λ j. sample_at samples (length c.plain.setup.bindings) (c.plain.stretch.source + j)) c.plain.stretch.card 0 k c.plain.stretch.part) no_frame
+        ∙ ap (λ (k : ℕ). run_entries c.plain.identity.member c.plain.setup.bindings (λ j. sample_at samples (length c.plain.setup.bindings) (c.plain.stretch.source + j)) c.plain.stretch.card 0 0 k) no_part
         )) stand;
   }
 
@@ -78,7 +79,7 @@ module _ {S T : Type 0} (P : mixport.Ghosts S) (G : gates.Ghosts T) where
   }
 
   -- with its counts based anew
-  pub IsBacked-rebased : (p : S) (c : Plain) (ring samples : List ℤ) → ((q : S) (xs ys : List Entry) → P.ends_in q (xs ++ ys) → P.ends_in q ys) → IsSound c ring → c.state ≡ Paused
+  pub IsBacked-rebased : (p : S) (c : Plain) (ring samples : List ℤ) → ((q : S) (xs ys : List Entry) → P.ends_in q (xs ++ ys) → P.ends_in q ys) → IsSound c ring → c.status.state ≡ Paused
       → IsBacked P.ends_in p (record { plain = c; ring = ring }) samples → IsBacked P.ends_in p (record { plain = rebased c; ring = ring }) samples
   IsBacked-rebased p c ring samples part sound pauses is = record {
     stands = StandsFor-rebased c ring samples sound pauses is.stands;
@@ -89,20 +90,20 @@ module _ {S T : Type 0} (P : mixport.Ghosts S) (G : gates.Ghosts T) where
   low-most k h = grind (arith, nat_tests)
 
   -- what a rewind asks
-  pub IsBacked-held : (p : S) (c : ClientView) (samples : List ℤ) → ((q : S) (xs ys : List Entry) → P.ends_in q (xs ++ ys) → P.ends_in q ys) → IsSound c.plain c.ring → c.plain.state ≡ Running → c.plain.stopped ≡ false
+  pub IsBacked-held : (p : S) (c : ClientView) (samples : List ℤ) → ((q : S) (xs ys : List Entry) → P.ends_in q (xs ++ ys) → P.ends_in q ys) → IsSound c.plain c.ring → c.plain.status.state ≡ Running → c.plain.status.stopped ≡ false
       → IsBacked P.ends_in p c samples → P.ends_in p (held_entries c.plain c.ring)
   IsBacked-held p c samples part sound runs going is =
       let d = c.plain in
       let m = sound.moving (ap is_moving runs) going in
       let bound = (sound.configured (sound.set_up (ap is_set_up runs))).bound in
-      let s : ℕ → ℕ → ℤ = λ j. sample_at samples (length d.bindings) (d.source + j) in
-      let from : ℕ = min d.committed (hw_of d) in
-      let most : from ≤ d.committed = low-most d.committed (hw_of d) in
-      let split : segment_entries d samples ≡ run_entries d.member d.bindings s d.card 0 from 0 ++ run_entries d.member d.bindings s d.card from (d.committed - from) 0 =
-      ap (λ (k : ℕ). run_entries d.member d.bindings s d.card 0 d.committed k) m.whole
-      ∙ ap (λ (k : ℕ). run_entries d.member d.bindings s d.card 0 k 0) (let e : d.committed ≡ from + (d.committed - from) = omega (arith, most) in e)
-      ∙ run_entries-append d.member d.bindings s d.card 0 from (d.committed - from) 0
-      ∙ ap (λ (k : ℕ). run_entries d.member d.bindings s d.card 0 from 0 ++ run_entries d.member d.bindings s d.card k (d.committed - from) 0) (let e : 0 + from ≡ from = omega arith in e) in
-      let same : held_entries d c.ring ≡ run_entries d.member d.bindings s d.card from (d.committed - from) 0 =
-      run_entries-same d.member d.bindings (held d c.ring) s d.card from (d.committed - from) 0 bound (λ j q least below h. is.stands j q least (omega (arith, below, most, m.laid_most)) h) in
-      subst (P.ends_in p) (sym same) (part p (run_entries d.member d.bindings s d.card 0 from 0) _ (subst (P.ends_in p) split is.segment))
+      let s : ℕ → ℕ → ℤ = λ j. sample_at samples (length d.setup.bindings) (d.stretch.source + j) in
+      let from : ℕ = min d.stretch.committed (hw_of d) in
+      let most : from ≤ d.stretch.committed = low-most d.stretch.committed (hw_of d) in
+      let split : segment_entries d samples ≡ run_entries d.identity.member d.setup.bindings s d.stretch.card 0 from 0 ++ run_entries d.identity.member d.setup.bindings s d.stretch.card from (d.stretch.committed - from) 0 =
+      ap (λ (k : ℕ). run_entries d.identity.member d.setup.bindings s d.stretch.card 0 d.stretch.committed k) m.whole
+      ∙ ap (λ (k : ℕ). run_entries d.identity.member d.setup.bindings s d.stretch.card 0 k 0) (let e : d.stretch.committed ≡ from + (d.stretch.committed - from) = omega (arith, most) in e)
+      ∙ run_entries-append d.identity.member d.setup.bindings s d.stretch.card 0 from (d.stretch.committed - from) 0
+      ∙ ap (λ (k : ℕ). run_entries d.identity.member d.setup.bindings s d.stretch.card 0 from 0 ++ run_entries d.identity.member d.setup.bindings s d.stretch.card k (d.stretch.committed - from) 0) (let e : 0 + from ≡ from = omega arith in e) in
+      let same : held_entries d c.ring ≡ run_entries d.identity.member d.setup.bindings s d.stretch.card from (d.stretch.committed - from) 0 =
+      run_entries-same d.identity.member d.setup.bindings (held d c.ring) s d.stretch.card from (d.stretch.committed - from) 0 bound (λ j q least below h. is.stands j q least (omega (arith, below, most, m.laid_most)) h) in
+      subst (P.ends_in p) (sym same) (part p (run_entries d.identity.member d.setup.bindings s d.stretch.card 0 from 0) _ (subst (P.ends_in p) split is.segment))

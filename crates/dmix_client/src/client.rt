@@ -1,8 +1,10 @@
 //! The client: a PCM stream for playback that is mixed with others in the card's ring.
 ghost use Rattle.std.specs.Prelude.{◌≡◌, ℕ, ◌+◌, ◌*◌, ◌^◌, ◌<◌, ◌≤◌, ◌⊎◌, true, false, pos, replicate, All, IfErr, OnErr, OnOk, [], List, length, unwrap_or};
 ghost use Rattle.pcm_states.specs.declared.calls.Call.TheVariants as call;
-ghost use Rattle.dmix_client.specs.Calls.{config_of, configured_with, dropped, freed, opened, prepared, refusal_of, segment_of, with_params};
-ghost use Rattle.dmix_client.specs.Checked.{Checks};
+ghost use Rattle.pcm_stream.specs.Setup.{Checks, config_of};
+ghost use Rattle.pcm_stream.specs.Status.{refusal_of};
+ghost use Rattle.pcm_stream.specs.declared.direction.Direction.{Direction};
+ghost use Rattle.dmix_client.specs.Calls.{configured_with, dropped, freed, opened, prepared, segment_of, with_params};
 ghost use Rattle.dmix_client.specs.View.{ClientView, IsSound};
 ghost use Rattle.sw_limits.specs.Boundary.{IsBoundary};
 
@@ -10,6 +12,7 @@ use crate::plain::Plain;
 use bindings::Bindings;
 use hw_space::Config;
 use pcm_states::{Call, State};
+use pcm_stream::Direction;
 use snd_base::{Geometry, PcmError, Segment};
 use std::alloc::Global;
 use std::marker::Model;
@@ -65,27 +68,23 @@ impl Client {
 
     /// The state of the stream (`snd_pcm_state`).
     pub fn state(&self) -> State
-        ensures { result ≡ self.now.plain.state }
+        ensures { result ≡ self.now.plain.status.state }
     {
-        self.plain.state
+        self.plain.status.state
     }
 
     /// Whether the gate has stopped the client. Every later call is then refused with `Stopped`.
     pub fn is_stopped(&self) -> bool
-        ensures { result ≡ self.now.plain.stopped }
+        ensures { result ≡ self.now.plain.status.stopped }
     {
-        self.plain.stopped
+        self.plain.status.stopped
     }
 
     /// The configuration that `hw_params` set, until `hw_free` (`snd_pcm_hw_params_current`).
     pub fn config(&self) -> Option<Config>
-        ensures { result ≡ config_of self.now.plain }
+        ensures { result ≡ config_of self.now.plain.setup }
     {
-        if self.plain.configured {
-            Some(self.plain.config)
-        } else {
-            None
-        }
+        self.plain.setup.config()
     }
 
     /// The position of the card, a frame number, that this client loaded last.
@@ -122,15 +121,17 @@ impl Client {
         bindings: Bindings,
     ) -> Result<(), PcmError>
         requires channels { length bindings ≡ config.channels }
-        requires on_card { All (λ channel. channel < self.old.plain.geometry.channels) bindings }
+        requires on_card { All (λ channel. channel < self.old.plain.identity.geometry.channels) bindings }
         requires buffer_least { 1 ≤ config.buffer_size }
         requires buffer_most { config.buffer_size ≤ 16384 }
-        ensures refused { (e : PcmError) → refusal_of self.old.plain call.HwParams ≡ Some e → result ≡ Err e }
+        ensures refused { (e : PcmError) → refusal_of Direction.Playback self.old.plain.status call.HwParams ≡ Some e → result ≡ Err e }
         ensures ok { OnOk result (self.new ≡ record { plain = configured_with self.old.plain config bindings; ring = replicate (config.buffer_size * length bindings) (pos 0) }) }
         ensures err { OnErr result (self.new ≡ self.old) }
-        ensures only { IfErr result (λ e. (refusal_of self.old.plain call.HwParams ≡ Some e) ⊎ (e ≡ PcmError.Memory)) }
+        ensures only { IfErr result (λ e. (refusal_of Direction.Playback self.old.plain.status call.HwParams ≡ Some e) ⊎ (e ≡ PcmError.Memory)) }
     {
-        self.plain.admit(Call::HwParams)?;
+        self.plain
+            .status
+            .admit(Direction::Playback, Call::HwParams)?;
         let room = config.buffer_size as usize * bindings.len() as usize;
         let ring = vec![in alloc; 0i16; room]?;
         self.ring = ring;
@@ -140,10 +141,10 @@ impl Client {
 
     /// Gives the configuration up (`snd_pcm_hw_free`): OPEN, from SETUP or PREPARED. A refused call changes nothing.
     pub fn hw_free(&mut self) -> Result<(), PcmError>
-        ensures refused { (e : PcmError) → refusal_of self.old.plain call.HwFree ≡ Some e → (result ≡ Err e) × (self.new ≡ self.old) }
-        ensures freed { refusal_of self.old.plain call.HwFree ≡ None → (result ≡ Ok tt) × (self.new ≡ record { plain = freed self.old.plain; ring = [] }) }
+        ensures refused { (e : PcmError) → refusal_of Direction.Playback self.old.plain.status call.HwFree ≡ Some e → (result ≡ Err e) × (self.new ≡ self.old) }
+        ensures freed { refusal_of Direction.Playback self.old.plain.status call.HwFree ≡ None → (result ≡ Ok tt) × (self.new ≡ record { plain = freed self.old.plain; ring = [] }) }
     {
-        self.plain.admit(Call::HwFree)?;
+        self.plain.status.admit(Direction::Playback, Call::HwFree)?;
         self.plain = self.plain.freed();
         self.ring.clear();
         Ok(())
@@ -152,26 +153,24 @@ impl Client {
     /// Sets the software parameters (`snd_pcm_sw_params`), in every state but OPEN and DISCONNECTED. `Invalid` comes
     /// exactly where they have a defect, with the first one. A refused call changes nothing.
     pub fn sw_params(&mut self, params: SwParams) -> Result<(), PcmError>
-        ensures refused { (e : PcmError) → refusal_of self.old.plain call.SwParams ≡ Some e → (result ≡ Err e) × (self.new ≡ self.old) }
-        ensures checked { refusal_of self.old.plain call.SwParams ≡ None → (b : ℕ) × IsBoundary self.old.plain.config.buffer_size b × Checks result params b }
+        ensures refused { (e : PcmError) → refusal_of Direction.Playback self.old.plain.status call.SwParams ≡ Some e → (result ≡ Err e) × (self.new ≡ self.old) }
+        ensures checked { refusal_of Direction.Playback self.old.plain.status call.SwParams ≡ None → (b : ℕ) × IsBoundary self.old.plain.setup.config.buffer_size b × Checks result params b }
         ensures ok { OnOk result (self.new ≡ record { plain = with_params self.old.plain params; ring = self.old.ring }) }
         ensures err { OnErr result (self.new ≡ self.old) }
     {
-        self.plain.admit(Call::SwParams)?;
-        if let Err(why) = params.check(&self.plain.config) {
-            return Err(PcmError::Invalid(why));
-        }
-        self.plain = self.plain.with_params(params);
-        Ok(())
+        self.plain
+            .status
+            .admit(Direction::Playback, Call::SwParams)?;
+        self.plain.setup.set_params(params)
     }
 
     /// Prepares the stream (`snd_pcm_prepare`): what is pending is discarded, and nothing is written or laid since now.
     /// PREPARED, from SETUP, PREPARED or XRUN. A refused call changes nothing.
     pub fn prepare(&mut self) -> Result<(), PcmError>
-        ensures refused { (e : PcmError) → refusal_of self.old.plain call.Prepare ≡ Some e → (result ≡ Err e) × (self.new ≡ self.old) }
-        ensures prepared { refusal_of self.old.plain call.Prepare ≡ None → (result ≡ Ok tt) × (self.new ≡ record { plain = prepared self.old.plain; ring = self.old.ring }) }
+        ensures refused { (e : PcmError) → refusal_of Direction.Playback self.old.plain.status call.Prepare ≡ Some e → (result ≡ Err e) × (self.new ≡ self.old) }
+        ensures prepared { refusal_of Direction.Playback self.old.plain.status call.Prepare ≡ None → (result ≡ Ok tt) × (self.new ≡ record { plain = prepared self.old.plain; ring = self.old.ring }) }
     {
-        self.plain.admit(Call::Prepare)?;
+        self.plain.status.admit(Direction::Playback, Call::Prepare)?;
         self.plain = self.plain.prepared();
         Ok(())
     }
@@ -180,10 +179,10 @@ impl Client {
     /// DISCONNECTED. Unlike ALSA's `snd_pcm_drop` it leaves what was committed in the card's ring. A refused call changes
     /// nothing.
     pub fn drop_pending(&mut self) -> Result<(), PcmError>
-        ensures refused { (e : PcmError) → refusal_of self.old.plain call.Drop ≡ Some e → (result ≡ Err e) × (self.new ≡ self.old) }
-        ensures dropped { refusal_of self.old.plain call.Drop ≡ None → (result ≡ Ok tt) × (self.new ≡ record { plain = dropped self.old.plain; ring = self.old.ring }) }
+        ensures refused { (e : PcmError) → refusal_of Direction.Playback self.old.plain.status call.Drop ≡ Some e → (result ≡ Err e) × (self.new ≡ self.old) }
+        ensures dropped { refusal_of Direction.Playback self.old.plain.status call.Drop ≡ None → (result ≡ Ok tt) × (self.new ≡ record { plain = dropped self.old.plain; ring = self.old.ring }) }
     {
-        self.plain.admit(Call::Drop)?;
+        self.plain.status.admit(Direction::Playback, Call::Drop)?;
         self.plain = self.plain.dropped();
         Ok(())
     }

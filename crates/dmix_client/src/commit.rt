@@ -6,7 +6,8 @@ ghost use Rattle.course.specs.AtPort.{LaysAt, TakesAt};
 ghost use Rattle.dmix_client.specs.Calls.{start_count, started_in, sync_count, window_end};
 ghost use Rattle.dmix_client.specs.Course.{commits, lay_frame, looks};
 ghost use Rattle.dmix_client.specs.Port.{CanUse, IsFound, IsOnCard, least_channel};
-ghost use Rattle.dmix_client.specs.View.{IsSound, is_moving};
+ghost use Rattle.pcm_stream.specs.Status.{is_moving};
+ghost use Rattle.dmix_client.specs.View.{IsSound};
 
 use crate::plain::Plain;
 use bindings::Bindings;
@@ -136,20 +137,31 @@ pub(crate) fn lay_frames<P: MixPort, G: Gate>(
     count: u64,
 ) -> Commit
     requires can_add { (P.view port.old).can_add ≡ true }
-    requires member { (P.view port.old).member ≡ plain.now.member }
-    requires bound { IsOnCard plain.now.bindings (P.view port.old).geometry }
-    requires buffer { 1 ≤ plain.now.config.buffer_size }
-    requires room { length ring.now ≡ plain.now.config.buffer_size * length plain.now.bindings }
-    requires from_cursor { IsFrom (P.view port.old).marks.cursor (plain.now.card + plain.now.committed) (least_channel plain.now.bindings) }
-    requires ahead { 0 < count → plain.now.card + (plain.now.committed + count) ≤ window_end (P.view port.old).geometry (P.view port.old).seen }
+    requires member { (P.view port.old).member ≡ plain.now.identity.member }
+    requires bound { IsOnCard plain.now.setup.bindings (P.view port.old).geometry }
+    requires buffer { 1 ≤ plain.now.setup.config.buffer_size }
+    requires room { length ring.now ≡ plain.now.setup.config.buffer_size * length plain.now.setup.bindings }
+    requires from_cursor { IsFrom (P.view port.old).marks.cursor (plain.now.stretch.card + plain.now.stretch.committed) (least_channel plain.now.setup.bindings) }
+    requires ahead { 0 < count → plain.now.stretch.card + (plain.now.stretch.committed + count) ≤ window_end (P.view port.old).geometry (P.view port.old).seen }
     ensures { TakesAt P.MixPort G.Gate (port.old, gate.old) (commits plain.now ring.now count) (port.new, gate.new) result }
 {
-    let channels = plain.bindings.len();
+    let channels = plain.setup.bindings.len();
     for frame in 0..count {
-        let number = plain.committed + frame;
-        let slot = slot_of(plain.source, number, plain.config.buffer_size, channels);
+        let number = plain.stretch.committed + frame;
+        let slot = slot_of(
+            plain.stretch.source,
+            number,
+            plain.setup.config.buffer_size,
+            channels,
+        );
         let samples = frame_of(ring, slot, channels);
-        let placed = place_frame(port, gate, &plain.bindings, plain.card + number, samples);
+        let placed = place_frame(
+            port,
+            gate,
+            &plain.setup.bindings,
+            plain.stretch.card + number,
+            samples,
+        );
         match placed.ended {
             Ended::Whole => {}
             ended => {
@@ -176,13 +188,13 @@ pub(crate) fn look_and_commit<P: MixPort, G: Gate>(
     gate: &mut G,
 ) -> Found
     requires sound { IsSound plain.now ring.now }
-    requires moving { is_moving plain.now.state ≡ true }
-    requires unstopped { plain.now.stopped ≡ false }
+    requires moving { is_moving plain.now.status.state ≡ true }
+    requires unstopped { plain.now.status.stopped ≡ false }
     requires port { CanUse plain.now (P.view port.old) }
     ensures takes { TakesAt P.MixPort G.Gate (port.old, gate.old) (looks (λ position. plain.now) (sync_count plain.now) ring.now)
         (port.new, gate.new) (result.load, result.commit) }
-    ensures found { IsFound result.load result.commit (λ position. plain.now) (sync_count plain.now) (length plain.now.bindings) }
-    ensures near { IfSome result.load (λ position. (unwrap_or plain.now.seen 0 ≤ position.frame) × (position.frame ≤ end_frame plain.now.geometry)) }
+    ensures found { IsFound result.load result.commit (λ position. plain.now) (sync_count plain.now) (length plain.now.setup.bindings) }
+    ensures near { IfSome result.load (λ position. (unwrap_or plain.now.seen 0 ≤ position.frame) × (position.frame ≤ end_frame plain.now.identity.geometry)) }
 {
     let Ok(position) = port.position(gate) else {
         return Found::NOTHING;
@@ -205,15 +217,15 @@ pub(crate) fn look_and_start<P: MixPort, G: Gate>(
     upto: u64,
 ) -> Found
     requires cursor { cursor ≡ (P.view port.old).marks.cursor }
-    requires cursor_most { cursor.frame ≤ end_frame plain.now.geometry }
+    requires cursor_most { cursor.frame ≤ end_frame plain.now.identity.geometry }
     requires sound { IsSound plain.now ring.now }
-    requires prepared { plain.now.state ≡ State.Prepared }
+    requires prepared { plain.now.status.state ≡ State.Prepared }
     requires port { CanUse plain.now (P.view port.old) }
     ensures takes { TakesAt P.MixPort G.Gate (port.old, gate.old)
         (looks (λ position. started_in plain.now State.Running position cursor) (λ position. start_count plain.now cursor position upto) ring.now)
         (port.new, gate.new) (result.load, result.commit) }
-    ensures found { IsFound result.load result.commit (λ position. started_in plain.now State.Running position cursor) (λ position. start_count plain.now cursor position upto) (length plain.now.bindings) }
-    ensures near { IfSome result.load (λ position. position.frame ≤ end_frame plain.now.geometry) }
+    ensures found { IsFound result.load result.commit (λ position. started_in plain.now State.Running position cursor) (λ position. start_count plain.now cursor position upto) (length plain.now.setup.bindings) }
+    ensures near { IfSome result.load (λ position. position.frame ≤ end_frame plain.now.identity.geometry) }
 {
     let Ok(position) = port.position(gate) else {
         return Found::NOTHING;

@@ -3,12 +3,14 @@ ghost use Rattle.std.specs.Prelude.{◌≡◌, ◌↔◌, ℕ, ◌<◌, ◌≤�
 ghost use Rattle.pcm_states.specs.declared.calls.Call.TheVariants as call;
 ghost use Rattle.snd_base.specs.Places.{end_frame};
 ghost use Rattle.course.specs.AtPort.{TakesAt};
-ghost use Rattle.dmix_client.specs.Calls.{draining, refusal_of, start_count, started, started_in, sync_count, synced};
+ghost use Rattle.pcm_stream.specs.Status.{is_moving, refusal_of};
+ghost use Rattle.pcm_stream.specs.declared.direction.Direction.{Direction};
+ghost use Rattle.dmix_client.specs.Calls.{draining, start_count, started, started_in, sync_count, synced};
 ghost use Rattle.dmix_client.specs.Causes.{Explains};
 ghost use Rattle.dmix_client.specs.Course.{admitted, drain_course, drains, start_course, starts};
 ghost use Rattle.dmix_client.specs.Growth.{AnySamples, Keeps, KeepsAccepted};
 ghost use Rattle.dmix_client.specs.Port.{CanUse};
-ghost use Rattle.dmix_client.specs.View.{IsSound, is_moving};
+ghost use Rattle.dmix_client.specs.View.{IsSound};
 
 use crate::client::Client;
 use crate::commit::look_and_start;
@@ -17,6 +19,7 @@ use crate::status::sync_call;
 use crate::steps::started;
 use mix_core::{Gate, MixPort};
 use pcm_states::{Call, State};
+use pcm_stream::Direction;
 use snd_base::{Cursor, PcmError, XrunWhy};
 
 /// The start, to `state`, of a client that is prepared and has frames, those before `upto`, from the port's cursor on.
@@ -29,11 +32,11 @@ pub(crate) fn begin<P: MixPort, G: Gate>(
     upto: u64,
 ) -> (Plain, Result<(), PcmError>)
     requires sound { IsSound plain.now ring.now }
-    requires prepared { plain.now.state ≡ State.Prepared }
-    requires fits { upto ≤ plain.now.config.buffer_size }
+    requires prepared { plain.now.status.state ≡ State.Prepared }
+    requires fits { upto ≤ plain.now.setup.config.buffer_size }
     requires port { CanUse plain.now (P.view port.old) }
     ensures takes { TakesAt P.MixPort G.Gate (port.old, gate.old) (starts plain.now state (P.view port.old).marks.cursor upto ring.now) (port.new, gate.new) result }
-    ensures near { (P.view port.old).marks.cursor.frame ≤ end_frame plain.now.geometry }
+    ensures near { (P.view port.old).marks.cursor.frame ≤ end_frame plain.now.identity.geometry }
     ensures same { KeepsAccepted plain.now result.0 }
 {
     let cursor = port.cursor();
@@ -49,15 +52,22 @@ pub(crate) fn start_and_drain<P: MixPort, G: Gate>(
     gate: &mut G,
 ) -> Result<(), PcmError>
     requires sound { IsSound plain.old ring.now }
-    requires prepared { plain.old.state ≡ State.Prepared }
-    requires unstopped { plain.old.stopped ≡ false }
+    requires prepared { plain.old.status.state ≡ State.Prepared }
+    requires unstopped { plain.old.status.stopped ≡ false }
     requires port { CanUse plain.old (P.view port.old) }
     ensures takes { TakesAt P.MixPort G.Gate (port.old, gate.old) (drains plain.old ring.now (P.view port.old).marks.cursor) (port.new, gate.new) (plain.new, result) }
     ensures sound { IsSound plain.new ring.now }
     ensures keeps { Keeps P.MixPort G.Gate (port.old, gate.old) (port.new, gate.new) (record { plain = plain.old; ring = ring.now }) (record { plain = plain.new; ring = ring.now }) result AnySamples }
-    ensures again { (result ≡ Err PcmError.Again) ↔ ((plain.new.state ≡ State.Draining) × (plain.new.stopped ≡ false)) }
+    ensures again { (result ≡ Err PcmError.Again) ↔ ((plain.new.status.state ≡ State.Draining) × (plain.new.status.stopped ≡ false)) }
 {
-    let (begun, answer) = begin(plain, ring, port, gate, State::Draining, plain.written);
+    let (begun, answer) = begin(
+        plain,
+        ring,
+        port,
+        gate,
+        State::Draining,
+        plain.stretch.written,
+    );
     *plain = begun;
     if let Err(error) = answer {
         return Err(error);
@@ -77,19 +87,19 @@ impl Client {
         requires { CanUse self.old.plain (P.view port.old) }
         ensures takes { TakesAt P.MixPort G.Gate (port.old, gate.old) (admitted self.old.plain call.Start
             (start_course self.old.plain self.old.ring (P.view port.old).marks.cursor)) (port.new, gate.new) (self.new.plain, result) }
-        ensures refused { (e : PcmError) → refusal_of self.old.plain call.Start ≡ Some e → (result ≡ Err e) × (self.new ≡ self.old) × (port.new ≡ port.old) × (gate.new ≡ gate.old) }
+        ensures refused { (e : PcmError) → refusal_of Direction.Playback self.old.plain.status call.Start ≡ Some e → (result ≡ Err e) × (self.new ≡ self.old) × (port.new ≡ port.old) × (gate.new ≡ gate.old) }
         ensures ring { self.new.ring ≡ self.old.ring }
         ensures keeps { Keeps P.MixPort G.Gate (port.old, gate.old) (port.new, gate.new) self.old self.new result AnySamples }
-        ensures causes { refusal_of self.old.plain call.Start ≡ None → 0 < self.old.plain.written →
+        ensures causes { refusal_of Direction.Playback self.old.plain.status call.Start ≡ None → 0 < self.old.plain.stretch.written →
             Explains P.MixPort G.Gate (port.old, gate.old) (port.new, gate.new) self.old (λ position. started_in self.old.plain State.Running position (P.view port.old).marks.cursor)
-            (λ position. start_count self.old.plain (P.view port.old).marks.cursor position self.old.plain.written) (started self.old.plain State.Running (P.view port.old).marks.cursor) (self.new.plain, result) }
+            (λ position. start_count self.old.plain (P.view port.old).marks.cursor position self.old.plain.stretch.written) (started self.old.plain State.Running (P.view port.old).marks.cursor) (self.new.plain, result) }
     {
-        self.plain.admit(Call::Start)?;
-        if self.plain.written == 0 {
+        self.plain.status.admit(Direction::Playback, Call::Start)?;
+        if self.plain.stretch.written == 0 {
             return Err(PcmError::Xrun(XrunWhy::Empty));
         }
         let ring = self.ring.as_slice();
-        let written = self.plain.written;
+        let written = self.plain.stretch.written;
         let (begun, answer) = begin(&self.plain, ring, port, gate, State::Running, written);
         self.plain = begun;
         answer
@@ -105,17 +115,17 @@ impl Client {
         requires { CanUse self.old.plain (P.view port.old) }
         ensures takes { TakesAt P.MixPort G.Gate (port.old, gate.old) (admitted self.old.plain call.Drain
             (drain_course self.old.plain self.old.ring (P.view port.old).marks.cursor)) (port.new, gate.new) (self.new.plain, result) }
-        ensures refused { (e : PcmError) → refusal_of self.old.plain call.Drain ≡ Some e → (result ≡ Err e) × (self.new ≡ self.old) × (port.new ≡ port.old) × (gate.new ≡ gate.old) }
+        ensures refused { (e : PcmError) → refusal_of Direction.Playback self.old.plain.status call.Drain ≡ Some e → (result ≡ Err e) × (self.new ≡ self.old) × (port.new ≡ port.old) × (gate.new ≡ gate.old) }
         ensures ring { self.new.ring ≡ self.old.ring }
         ensures keeps { Keeps P.MixPort G.Gate (port.old, gate.old) (port.new, gate.new) self.old self.new result AnySamples }
-        ensures again { refusal_of self.old.plain call.Drain ≡ None → (result ≡ Err PcmError.Again) ↔ ((self.new.plain.state ≡ State.Draining) × (self.new.plain.stopped ≡ false)) }
-        ensures causes { refusal_of self.old.plain call.Drain ≡ None → is_moving self.old.plain.state ≡ true →
+        ensures again { refusal_of Direction.Playback self.old.plain.status call.Drain ≡ None → (result ≡ Err PcmError.Again) ↔ ((self.new.plain.status.state ≡ State.Draining) × (self.new.plain.status.stopped ≡ false)) }
+        ensures causes { refusal_of Direction.Playback self.old.plain.status call.Drain ≡ None → is_moving self.old.plain.status.state ≡ true →
             Explains P.MixPort G.Gate (port.old, gate.old) (port.new, gate.new) (record { plain = draining self.old.plain; ring = self.old.ring }) (λ position. draining self.old.plain)
             (sync_count (draining self.old.plain)) (synced (draining self.old.plain) call.Drain) (self.new.plain, result) }
     {
-        self.plain.admit(Call::Drain)?;
+        self.plain.status.admit(Direction::Playback, Call::Drain)?;
         let ring = self.ring.as_slice();
-        if self.plain.is_moving() {
+        if self.plain.status.is_moving() {
             self.plain = self.plain.draining();
             return sync_call(&mut self.plain, ring, port, gate, Call::Drain);
         }

@@ -3,7 +3,9 @@ ghost use Rattle.std.specs.Prelude.{◌≡◌, ℕ, ◌<◌, ◌≤◌, true, fa
 ghost use Rattle.snd_base.specs.Places.{end_frame};
 ghost use Rattle.pcm_states.specs.declared.calls.Call.TheVariants as call;
 ghost use Rattle.course.specs.AtPort.{TakesAt};
-ghost use Rattle.dmix_client.specs.Calls.{base_of, paused, pending_of, rebased, refusal_of, resumed, start_count, started_in};
+ghost use Rattle.pcm_stream.specs.Status.{refusal_of};
+ghost use Rattle.pcm_stream.specs.declared.direction.Direction.{Direction};
+ghost use Rattle.dmix_client.specs.Calls.{base_of, paused, pending_of, rebased, resumed, start_count, started_in};
 ghost use Rattle.dmix_client.specs.Causes.{Explains};
 ghost use Rattle.dmix_client.specs.Course.{admitted, pause_call, pause_course, resumes};
 ghost use Rattle.dmix_client.specs.Growth.{AnySamples, Keeps};
@@ -16,6 +18,7 @@ use crate::plain::Plain;
 use crate::steps::resumed;
 use mix_core::{Gate, MixPort};
 use pcm_states::{Call, State};
+use pcm_stream::Direction;
 use snd_base::PcmError;
 
 /// The resume of a client that has pending frames.
@@ -26,14 +29,14 @@ fn resume<P: MixPort, G: Gate>(
     gate: &mut G,
 ) -> Result<(), PcmError>
     requires sound { IsSound plain.old ring.now }
-    requires paused { plain.old.state ≡ State.Paused }
+    requires paused { plain.old.status.state ≡ State.Paused }
     requires port { CanUse plain.old (P.view port.old) }
     ensures takes { TakesAt P.MixPort G.Gate (port.old, gate.old) (resumes plain.old (P.view port.old).marks.cursor ring.now) (port.new, gate.new) (plain.new, result) }
-    ensures near { (P.view port.old).marks.cursor.frame ≤ end_frame plain.old.geometry }
+    ensures near { (P.view port.old).marks.cursor.frame ≤ end_frame plain.old.identity.geometry }
 {
     let cursor = port.cursor();
     let from = plain.rebased();
-    let found = look_and_start(&from, ring, port, gate, cursor, from.written);
+    let found = look_and_start(&from, ring, port, gate, cursor, from.stretch.written);
     let (after, answer) = resumed(*plain, cursor, found.load, found.commit);
     *plain = after;
     answer
@@ -62,20 +65,20 @@ impl Client {
         requires { CanUse self.old.plain (P.view port.old) }
         ensures takes { TakesAt P.MixPort G.Gate (port.old, gate.old) (admitted self.old.plain (pause_call on)
             (pause_course on self.old.plain self.old.ring (P.view port.old).marks.cursor)) (port.new, gate.new) (self.new.plain, result) }
-        ensures refused { (e : PcmError) → refusal_of self.old.plain (pause_call on) ≡ Some e → (result ≡ Err e) × (self.new ≡ self.old) × (port.new ≡ port.old) × (gate.new ≡ gate.old) }
-        ensures pauses { on ≡ true → refusal_of self.old.plain call.Pause ≡ None → (result ≡ Ok tt) × (self.new ≡ record { plain = paused self.old.plain; ring = self.old.ring }) × (port.new ≡ port.old) × (gate.new ≡ gate.old) }
+        ensures refused { (e : PcmError) → refusal_of Direction.Playback self.old.plain.status (pause_call on) ≡ Some e → (result ≡ Err e) × (self.new ≡ self.old) × (port.new ≡ port.old) × (gate.new ≡ gate.old) }
+        ensures pauses { on ≡ true → refusal_of Direction.Playback self.old.plain.status call.Pause ≡ None → (result ≡ Ok tt) × (self.new ≡ record { plain = paused self.old.plain; ring = self.old.ring }) × (port.new ≡ port.old) × (gate.new ≡ gate.old) }
         ensures ring { self.new.ring ≡ self.old.ring }
         ensures keeps { Keeps P.MixPort G.Gate (port.old, gate.old) (port.new, gate.new) (record { plain = base_of self.old.plain self.new.plain; ring = self.old.ring }) self.new result AnySamples }
-        ensures causes { refusal_of self.old.plain (pause_call on) ≡ None → on ≡ false → 0 < pending_of self.old.plain →
+        ensures causes { refusal_of Direction.Playback self.old.plain.status (pause_call on) ≡ None → on ≡ false → 0 < pending_of self.old.plain →
             Explains P.MixPort G.Gate (port.old, gate.old) (port.new, gate.new) (record { plain = rebased self.old.plain; ring = self.old.ring }) (λ position. started_in (rebased self.old.plain) State.Running position (P.view port.old).marks.cursor)
             (λ position. start_count (rebased self.old.plain) (P.view port.old).marks.cursor position (pending_of self.old.plain)) (resumed self.old.plain (P.view port.old).marks.cursor) (self.new.plain, result) }
     {
         if on {
-            self.plain.admit(Call::Pause)?;
+            self.plain.status.admit(Direction::Playback, Call::Pause)?;
             self.plain = self.plain.paused();
             return Ok(());
         }
-        self.plain.admit(Call::Resume)?;
+        self.plain.status.admit(Direction::Playback, Call::Resume)?;
         if self.plain.pending() == 0 {
             self.plain = self.plain.rebased();
             return Ok(());

@@ -1,34 +1,40 @@
 //! What a client is at a moment, but for the samples in its local ring.
-use bindings::Bindings;
-use hw_space::Config;
-use pcm_states::State;
+use pcm_stream::{Setup, Status};
 use snd_base::Geometry;
-use sw_limits::SwParams;
 
-/// A client at a moment, but for the samples in its local ring. All counts are in frames, and never wrap.
-///
-/// `member` is the number of its port, `lead` how far past the position a start begins. `config`, `bindings` and `params`
-/// mean something where it is `configured`. Since the last `prepare`, `written` frames were accepted and `committed` of
-/// them laid whole, with `part` channels of the next one; the first frame is at the card's frame `card`, once it is
-/// `started`. A resume bases these counts anew: what was pending is all that is written then. `seen` is the position that
-/// the client loaded last. `fed` frames were accepted in all, of which `source` are before those that these counts tell of.
+/// Who a client is: the geometry of its ring, the number of its port, and how many frames past the position a start begins.
 #[derive(Clone, Copy, Debug, PartialEq, Eq)]
-pub struct Plain {
+pub struct Identity {
     pub geometry: Geometry,
     pub member: u32,
     pub lead: u32,
-    pub state: State,
-    pub stopped: bool,
-    pub configured: bool,
-    pub config: Config,
-    pub bindings: Bindings,
-    pub params: SwParams,
+}
+
+/// What a client has written and placed since the last `prepare`. All counts are in frames, and never wrap.
+///
+/// `written` frames were accepted and `committed` of them placed whole, with `part` channels of the next one. The first frame
+/// is at the card's frame `card`, once it is `started`; of all frames that the client accepted it is the one after `source`
+/// others. A resume bases these counts anew: what was pending is all that is written then.
+#[derive(Clone, Copy, Debug, PartialEq, Eq)]
+pub struct Stretch {
     pub written: u64,
     pub committed: u64,
     pub part: u8,
     pub card: u64,
     pub started: bool,
+    pub source: u64,
+}
+
+/// A client at a moment, but for the samples in its local ring: who it is, what it is set up with, its state, and what it has
+/// written and placed.
+///
+/// `seen` is the position, a frame number, that it loaded last, and `fed` how many frames it accepted in all.
+#[derive(Clone, Copy, Debug, PartialEq, Eq)]
+pub struct Plain {
+    pub identity: Identity,
+    pub setup: Setup,
+    pub status: Status,
+    pub stretch: Stretch,
     pub seen: Option<u64>,
     pub fed: u64,
-    pub source: u64,
 }

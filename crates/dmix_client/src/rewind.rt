@@ -3,7 +3,9 @@ ghost use Rattle.std.specs.Prelude.{◌≡◌, ℕ, ◌+◌, ◌-◌, ◌^◌, �
 ghost use Rattle.snd_base.specs.Places.{end_frame};
 ghost use Rattle.pcm_states.specs.declared.calls.Call.TheVariants as call;
 ghost use Rattle.course.specs.AtPort.{LoadsAt, TakesAt};
-ghost use Rattle.dmix_client.specs.Calls.{refusal_of, synced, with_number};
+ghost use Rattle.pcm_stream.specs.Status.{refusal_of};
+ghost use Rattle.pcm_stream.specs.declared.direction.Direction.{Direction};
+ghost use Rattle.dmix_client.specs.Calls.{synced, with_number};
 ghost use Rattle.dmix_client.specs.Course.{admitted, nothing, numbered};
 ghost use Rattle.dmix_client.specs.Growth.{AnySamples, Keeps, KeepsBack};
 ghost use Rattle.dmix_client.specs.Port.{CanUse};
@@ -19,6 +21,7 @@ use crate::steps::synced;
 use crate::withdraw::take_frames;
 use mix_core::{Gate, MixPort, Position};
 use pcm_states::{Call, State};
+use pcm_stream::Direction;
 use snd_base::{Cursor, PcmError};
 
 /// Loads the position, or none where the gate stops the load.
@@ -34,8 +37,8 @@ fn load<P: MixPort, G: Gate>(port: &mut P, gate: &mut G) -> Option<Position>
 /// Loads the position for a client that runs, as a sync does, and commits nothing.
 fn check<P: MixPort, G: Gate>(plain: &mut Plain, port: &mut P, gate: &mut G) -> Result<(), PcmError>
     requires sound { (ring : List ℤ) × IsSound plain.old ring }
-    requires running { plain.old.state ≡ State.Running }
-    requires unstopped { plain.old.stopped ≡ false }
+    requires running { plain.old.status.state ≡ State.Running }
+    requires unstopped { plain.old.status.stopped ≡ false }
     requires port { CanUse plain.old (P.view port.old) }
     ensures { TakesAt P.MixPort G.Gate (port.old, gate.old) (checks plain.old) (port.new, gate.new) (plain.new, result) }
 {
@@ -54,8 +57,8 @@ fn take_back<P: MixPort, G: Gate>(
     frames: u64,
 ) -> Result<u64, PcmError>
     requires sound { IsSound plain.old ring.now }
-    requires running { plain.old.state ≡ State.Running }
-    requires unstopped { plain.old.stopped ≡ false }
+    requires running { plain.old.status.state ≡ State.Running }
+    requires unstopped { plain.old.status.stopped ≡ false }
     requires port { CanUse plain.old (P.view port.old) }
     requires few { frames ≤ rewindable_of (P.view port.old).marks.floor plain.old }
     requires standing { P.ends_in port.old (held_entries plain.old ring.now) }
@@ -74,8 +77,8 @@ fn rewindable_running<P: MixPort, G: Gate>(
     gate: &mut G,
 ) -> Result<u64, PcmError>
     requires sound { (ring : List ℤ) × IsSound plain.old ring }
-    requires running { plain.old.state ≡ State.Running }
-    requires unstopped { plain.old.stopped ≡ false }
+    requires running { plain.old.status.state ≡ State.Running }
+    requires unstopped { plain.old.status.stopped ≡ false }
     requires port { CanUse plain.old (P.view port.old) }
     ensures { TakesAt P.MixPort G.Gate (port.old, gate.old) (numbered (rewindable_of (P.view port.old).marks.floor) (checks plain.old)) (port.new, gate.new) (plain.new, result) }
 {
@@ -93,8 +96,8 @@ fn rewind_running<P: MixPort, G: Gate>(
     frames: u64,
 ) -> Result<u64, PcmError>
     requires sound { IsSound plain.old ring.now }
-    requires running { plain.old.state ≡ State.Running }
-    requires unstopped { plain.old.stopped ≡ false }
+    requires running { plain.old.status.state ≡ State.Running }
+    requires unstopped { plain.old.status.stopped ≡ false }
     requires port { CanUse plain.old (P.view port.old) }
     requires standing { P.ends_in port.old (held_entries plain.old ring.now) }
     ensures { TakesAt P.MixPort G.Gate (port.old, gate.old) (rewinds plain.old ring.now (P.view port.old).marks.floor frames) (port.new, gate.new) (plain.new, result) }
@@ -125,18 +128,20 @@ impl Client {
         requires { CanUse self.old.plain (P.view port.old) }
         ensures takes { TakesAt P.MixPort G.Gate (port.old, gate.old) (admitted self.old.plain call.Transfer
             (rewindable_course self.old.plain (P.view port.old).marks.floor)) (port.new, gate.new) (self.new.plain, result) }
-        ensures refused { (e : PcmError) → refusal_of self.old.plain call.Transfer ≡ Some e → (result ≡ Err e) × (self.new ≡ self.old) × (port.new ≡ port.old) × (gate.new ≡ gate.old) }
+        ensures refused { (e : PcmError) → refusal_of Direction.Playback self.old.plain.status call.Transfer ≡ Some e → (result ≡ Err e) × (self.new ≡ self.old) × (port.new ≡ port.old) × (gate.new ≡ gate.old) }
         ensures ring { self.new.ring ≡ self.old.ring }
         ensures keeps { Keeps P.MixPort G.Gate (port.old, gate.old) (port.new, gate.new) self.old self.new result AnySamples }
-        ensures causes { refusal_of self.old.plain call.Transfer ≡ None → self.old.plain.state ≡ State.Running →
+        ensures causes { refusal_of Direction.Playback self.old.plain.status call.Transfer ≡ None → self.old.plain.status.state ≡ State.Running →
             ExplainsCheck P.MixPort G.Gate (port.old, gate.old) (port.new, gate.new) self.old.plain
             (λ load. with_number (rewindable_of (P.view port.old).marks.floor) (synced self.old.plain call.Transfer load nothing)) (self.new.plain, result) }
     {
-        self.plain.admit(Call::Transfer)?;
-        if self.plain.state == State::Running {
+        self.plain
+            .status
+            .admit(Direction::Playback, Call::Transfer)?;
+        if self.plain.status.state == State::Running {
             return rewindable_running(&mut self.plain, port, gate);
         }
-        Ok(self.plain.written)
+        Ok(self.plain.stretch.written)
     }
 
     /// Takes back the last `frames` frames, or as many as `rewindable` says, and answers how many (`snd_pcm_rewind`).
@@ -159,21 +164,23 @@ impl Client {
         frames: u64,
     ) -> Result<u64, PcmError>
         requires port { CanUse self.old.plain (P.view port.old) }
-        requires standing { self.old.plain.state ≡ State.Running → self.old.plain.stopped ≡ false → P.ends_in port.old (held_entries self.old.plain self.old.ring) }
+        requires standing { self.old.plain.status.state ≡ State.Running → self.old.plain.status.stopped ≡ false → P.ends_in port.old (held_entries self.old.plain self.old.ring) }
         ensures takes { TakesAt P.MixPort G.Gate (port.old, gate.old) (admitted self.old.plain call.Transfer
             (rewind_course self.old.plain self.old.ring (P.view port.old).marks.floor frames)) (port.new, gate.new) (self.new.plain, result) }
-        ensures refused { (e : PcmError) → refusal_of self.old.plain call.Transfer ≡ Some e → (result ≡ Err e) × (self.new ≡ self.old) × (port.new ≡ port.old) × (gate.new ≡ gate.old) }
+        ensures refused { (e : PcmError) → refusal_of Direction.Playback self.old.plain.status call.Transfer ≡ Some e → (result ≡ Err e) × (self.new ≡ self.old) × (port.new ≡ port.old) × (gate.new ≡ gate.old) }
         ensures ring { self.new.ring ≡ self.old.ring }
         ensures keeps { KeepsBack P.MixPort G.Gate (port.old, gate.old) (port.new, gate.new) self.old self.new result }
-        ensures causes { refusal_of self.old.plain call.Transfer ≡ None → self.old.plain.state ≡ State.Running →
+        ensures causes { refusal_of Direction.Playback self.old.plain.status call.Transfer ≡ None → self.old.plain.status.state ≡ State.Running →
             ExplainsRewind P.MixPort G.Gate (port.old, gate.old) (port.new, gate.new) self.old.plain self.old.ring (P.view port.old).marks.floor frames (self.new.plain, result) }
     {
-        self.plain.admit(Call::Transfer)?;
-        if self.plain.state == State::Running {
+        self.plain
+            .status
+            .admit(Direction::Playback, Call::Transfer)?;
+        if self.plain.status.state == State::Running {
             let ring = self.ring.as_slice();
             return rewind_running(&mut self.plain, ring, port, gate, frames);
         }
-        let taken = frames.min(self.plain.written);
+        let taken = frames.min(self.plain.stretch.written);
         self.plain = self.plain.without(taken);
         Ok(taken)
     }

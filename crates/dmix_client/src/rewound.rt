@@ -5,7 +5,7 @@ ghost use Rattle.dmix_client.specs.Calls.{late_at, with_number};
 ghost use Rattle.dmix_client.specs.Rewind.{back_of, last_channel, last_laid, rewindable_of, rewound, taken_back, without};
 
 use crate::commit::Commit;
-use crate::plain::Plain;
+use crate::plain::{Plain, Stretch};
 use crate::steps::{Answered, found_at, is_stop, settled, stopped_in};
 use mix_core::{Ended, Position};
 use pcm_states::{Call, State, next};
@@ -18,10 +18,13 @@ impl Plain {
         ensures { result ≡ rewindable_of floor self.now }
     {
         let from = self.seen.unwrap_or(0).max(floor.first_free(0));
-        self.pending()
-            + self
-                .committed
-                .saturating_sub(from.saturating_sub(self.card))
+        let Stretch {
+            written,
+            committed,
+            card,
+            ..
+        } = self.stretch;
+        written.saturating_sub(committed) + committed.saturating_sub(from.saturating_sub(card))
     }
 
     /// How many of the last `frames` frames are committed.
@@ -36,7 +39,10 @@ impl Plain {
         ensures { result ≡ without self.now frames }
     {
         Plain {
-            written: self.written.saturating_sub(frames),
+            stretch: Stretch {
+                written: self.stretch.written.saturating_sub(frames),
+                ..self.stretch
+            },
             fed: self.fed.saturating_sub(frames),
             ..*self
         }
@@ -45,16 +51,19 @@ impl Plain {
     /// Of the last `frames` frames the pending ones are taken back, and of the committed ones all but what is left.
     pub(crate) fn taken_back(&self, frames: u64, left: Commit) -> Plain
         requires few { left.frames ≤ frames }
-        requires fits { frames ≤ self.now.written }
-        requires fed { self.now.written ≤ self.now.fed }
+        requires fits { frames ≤ self.now.stretch.written }
+        requires fed { self.now.stretch.written ≤ self.now.fed }
         requires committed { left.frames ≤ back_of self.now frames }
-        requires back { back_of self.now frames ≤ self.now.committed }
+        requires back { back_of self.now frames ≤ self.now.stretch.committed }
         ensures { result ≡ taken_back self.now frames left }
     {
         Plain {
-            written: self.written - (frames - left.frames),
-            committed: self.committed - (self.back(frames) - left.frames),
-            part: left.part,
+            stretch: Stretch {
+                written: self.stretch.written - (frames - left.frames),
+                committed: self.stretch.committed - (self.back(frames) - left.frames),
+                part: left.part,
+                ..self.stretch
+            },
             fed: self.fed - (frames - left.frames),
             ..*self
         }
@@ -62,33 +71,35 @@ impl Plain {
 
     /// The card's frame of the last sample that is laid.
     fn last_laid(&self) -> u64
-        requires { self.now.card + self.now.committed < 2 ^ 64 }
+        requires { self.now.stretch.card + self.now.stretch.committed < 2 ^ 64 }
         ensures { result ≡ last_laid self.now }
     {
-        if self.part == 0 {
-            self.card + self.committed.saturating_sub(1)
+        if self.stretch.part == 0 {
+            self.stretch.card + self.stretch.committed.saturating_sub(1)
         } else {
-            self.card + self.committed
+            self.stretch.card + self.stretch.committed
         }
     }
 
     /// The card's channel of the last sample that is laid.
     fn last_channel(&self) -> u8
-        requires { self.now.part < length self.now.bindings }
+        requires { self.now.stretch.part < length self.now.setup.bindings }
         ensures { result ≡ last_channel self.now }
     {
-        let last = if self.part == 0 {
-            self.bindings.len()
+        let last = if self.stretch.part == 0 {
+            self.setup.bindings.len()
         } else {
-            self.part
+            self.stretch.part
         };
-        self.bindings.card_channel(self.bindings.rising(last - 1))
+        self.setup
+            .bindings
+            .card_channel(self.setup.bindings.rising(last - 1))
     }
 
     /// Why withdrawals were late, where they were.
     fn late_withdrawal(&self, ended: Ended) -> Option<XrunWhy>
-        requires fits { self.now.card + self.now.committed < 2 ^ 64 }
-        requires part { OnLate ended (λ _. self.now.part < length self.now.bindings) }
+        requires fits { self.now.stretch.card + self.now.stretch.committed < 2 ^ 64 }
+        requires part { OnLate ended (λ _. self.now.stretch.part < length self.now.setup.bindings) }
         ensures { result ≡ late_at ended (last_laid self.now) (last_channel self.now) }
     {
         match ended {
@@ -105,12 +116,12 @@ impl Plain {
 /// A rewind of `frames` frames, by what is left of the committed ones.
 pub(crate) fn rewound(plain: Plain, frames: u64, left: Commit) -> Answered<u64>
     requires few { left.frames ≤ frames }
-    requires written { frames ≤ plain.written }
-    requires fed { plain.written ≤ plain.fed }
+    requires written { frames ≤ plain.stretch.written }
+    requires fed { plain.stretch.written ≤ plain.fed }
     requires committed { left.frames ≤ back_of plain frames }
-    requires back { back_of plain frames ≤ plain.committed }
-    requires fits { plain.card + plain.committed < 2 ^ 64 }
-    requires part { OnLate left.ended (λ _. left.part < length plain.bindings) }
+    requires back { back_of plain frames ≤ plain.stretch.committed }
+    requires fits { plain.stretch.card + plain.stretch.committed < 2 ^ 64 }
+    requires part { OnLate left.ended (λ _. left.part < length plain.setup.bindings) }
     ensures { result ≡ rewound plain frames left }
 {
     let done = plain.taken_back(frames, left);

@@ -2,12 +2,14 @@
 ghost use Rattle.std.specs.Prelude.{◌≡◌, ℕ, true, false, OnOk, Option};
 ghost use Rattle.pcm_states.specs.declared.calls.Call.TheVariants as call;
 ghost use Rattle.course.specs.AtPort.{TakesAt};
-ghost use Rattle.dmix_client.specs.Calls.{avail_answer, delay_answer, refusal_of, sync_count, synced, with_number};
+ghost use Rattle.pcm_stream.specs.Status.{is_moving, refusal_of};
+ghost use Rattle.pcm_stream.specs.declared.direction.Direction.{Direction};
+ghost use Rattle.dmix_client.specs.Calls.{avail_answer, delay_answer, sync_count, synced, with_number};
 ghost use Rattle.dmix_client.specs.Causes.{Explains};
 ghost use Rattle.dmix_client.specs.Course.{admitted, number_course, sync_course, syncs};
 ghost use Rattle.dmix_client.specs.Growth.{AnySamples, Keeps, KeepsAccepted};
 ghost use Rattle.dmix_client.specs.Port.{CanUse, IsStep};
-ghost use Rattle.dmix_client.specs.View.{IsGoing, IsSound, is_moving};
+ghost use Rattle.dmix_client.specs.View.{IsGoing, IsSound};
 
 use crate::client::Client;
 use crate::commit::look_and_commit;
@@ -15,6 +17,7 @@ use crate::plain::Plain;
 use crate::steps::{synced, with_avail, with_delay};
 use mix_core::{Gate, MixPort};
 use pcm_states::Call;
+use pcm_stream::Direction;
 use snd_base::PcmError;
 
 /// The sync of a client that moves frames.
@@ -26,9 +29,9 @@ pub(crate) fn sync_call<P: MixPort, G: Gate>(
     call: Call,
 ) -> Result<(), PcmError>
     requires sound { IsSound plain.old ring.now }
-    requires moving { is_moving plain.old.state ≡ true }
-    requires unstopped { plain.old.stopped ≡ false }
-    requires step { IsStep plain.old.state call }
+    requires moving { is_moving plain.old.status.state ≡ true }
+    requires unstopped { plain.old.status.stopped ≡ false }
+    requires step { IsStep plain.old.status.state call }
     requires port { CanUse plain.old (P.view port.old) }
     ensures takes { TakesAt P.MixPort G.Gate (port.old, gate.old) (syncs plain.old call ring.now) (port.new, gate.new) (plain.new, result) }
     ensures keeps { Keeps P.MixPort G.Gate (port.old, gate.old) (port.new, gate.new) (record { plain = plain.old; ring = ring.now }) (record { plain = plain.new; ring = ring.now }) result AnySamples }
@@ -58,14 +61,14 @@ impl Client {
         requires { CanUse self.old.plain (P.view port.old) }
         ensures takes { TakesAt P.MixPort G.Gate (port.old, gate.old) (admitted self.old.plain call.Sync
             (sync_course self.old.plain self.old.ring)) (port.new, gate.new) (self.new.plain, result) }
-        ensures refused { (e : PcmError) → refusal_of self.old.plain call.Sync ≡ Some e → (result ≡ Err e) × (self.new ≡ self.old) × (port.new ≡ port.old) × (gate.new ≡ gate.old) }
+        ensures refused { (e : PcmError) → refusal_of Direction.Playback self.old.plain.status call.Sync ≡ Some e → (result ≡ Err e) × (self.new ≡ self.old) × (port.new ≡ port.old) × (gate.new ≡ gate.old) }
         ensures ring { self.new.ring ≡ self.old.ring }
         ensures keeps { Keeps P.MixPort G.Gate (port.old, gate.old) (port.new, gate.new) self.old self.new result AnySamples }
-        ensures causes { refusal_of self.old.plain call.Sync ≡ None → is_moving self.old.plain.state ≡ true →
+        ensures causes { refusal_of Direction.Playback self.old.plain.status call.Sync ≡ None → is_moving self.old.plain.status.state ≡ true →
             Explains P.MixPort G.Gate (port.old, gate.old) (port.new, gate.new) self.old (λ position. self.old.plain) (sync_count self.old.plain) (synced self.old.plain call.Sync) (self.new.plain, result) }
     {
-        self.plain.admit(Call::Sync)?;
-        if !self.plain.is_moving() {
+        self.plain.status.admit(Direction::Playback, Call::Sync)?;
+        if !self.plain.status.is_moving() {
             return Ok(());
         }
         let ring = self.ring.as_slice();
@@ -83,14 +86,14 @@ impl Client {
         requires { CanUse self.old.plain (P.view port.old) }
         ensures takes { TakesAt P.MixPort G.Gate (port.old, gate.old) (admitted self.old.plain call.Sync
             (number_course avail_answer self.old.plain self.old.ring)) (port.new, gate.new) (self.new.plain, result) }
-        ensures refused { (e : PcmError) → refusal_of self.old.plain call.Sync ≡ Some e → (result ≡ Err e) × (self.new ≡ self.old) × (port.new ≡ port.old) × (gate.new ≡ gate.old) }
+        ensures refused { (e : PcmError) → refusal_of Direction.Playback self.old.plain.status call.Sync ≡ Some e → (result ≡ Err e) × (self.new ≡ self.old) × (port.new ≡ port.old) × (gate.new ≡ gate.old) }
         ensures ring { self.new.ring ≡ self.old.ring }
         ensures keeps { Keeps P.MixPort G.Gate (port.old, gate.old) (port.new, gate.new) self.old self.new result AnySamples }
-        ensures causes { refusal_of self.old.plain call.Sync ≡ None → is_moving self.old.plain.state ≡ true →
+        ensures causes { refusal_of Direction.Playback self.old.plain.status call.Sync ≡ None → is_moving self.old.plain.status.state ≡ true →
             Explains P.MixPort G.Gate (port.old, gate.old) (port.new, gate.new) self.old (λ position. self.old.plain) (sync_count self.old.plain) (λ load commit. with_number avail_answer (synced self.old.plain call.Sync load commit)) (self.new.plain, result) }
     {
-        self.plain.admit(Call::Sync)?;
-        if !self.plain.is_moving() {
+        self.plain.status.admit(Direction::Playback, Call::Sync)?;
+        if !self.plain.status.is_moving() {
             return Ok(self.plain.avail_answer());
         }
         let ring = self.ring.as_slice();
@@ -109,14 +112,14 @@ impl Client {
         requires { CanUse self.old.plain (P.view port.old) }
         ensures takes { TakesAt P.MixPort G.Gate (port.old, gate.old) (admitted self.old.plain call.Sync
             (number_course delay_answer self.old.plain self.old.ring)) (port.new, gate.new) (self.new.plain, result) }
-        ensures refused { (e : PcmError) → refusal_of self.old.plain call.Sync ≡ Some e → (result ≡ Err e) × (self.new ≡ self.old) × (port.new ≡ port.old) × (gate.new ≡ gate.old) }
+        ensures refused { (e : PcmError) → refusal_of Direction.Playback self.old.plain.status call.Sync ≡ Some e → (result ≡ Err e) × (self.new ≡ self.old) × (port.new ≡ port.old) × (gate.new ≡ gate.old) }
         ensures ring { self.new.ring ≡ self.old.ring }
         ensures keeps { Keeps P.MixPort G.Gate (port.old, gate.old) (port.new, gate.new) self.old self.new result AnySamples }
-        ensures causes { refusal_of self.old.plain call.Sync ≡ None → is_moving self.old.plain.state ≡ true →
+        ensures causes { refusal_of Direction.Playback self.old.plain.status call.Sync ≡ None → is_moving self.old.plain.status.state ≡ true →
             Explains P.MixPort G.Gate (port.old, gate.old) (port.new, gate.new) self.old (λ position. self.old.plain) (sync_count self.old.plain) (λ load commit. with_number delay_answer (synced self.old.plain call.Sync load commit)) (self.new.plain, result) }
     {
-        self.plain.admit(Call::Sync)?;
-        if !self.plain.is_moving() {
+        self.plain.status.admit(Direction::Playback, Call::Sync)?;
+        if !self.plain.status.is_moving() {
             return Ok(self.plain.delay_answer());
         }
         let ring = self.ring.as_slice();

@@ -1,30 +1,58 @@
 //! What a client is after each part of a call, by what the part found.
 ghost use Rattle.std.specs.Prelude.{◌≡◌, ℕ, ◌+◌, ◌*◌, ◌^◌, ◌<◌, ◌≤◌, IfSome, OnOk, length, unwrap_or};
-ghost use Rattle.dmix_client.specs.Calls.{is_refusal, refusal_of, refused_by, with_params, draining, has_frames, with_number, configured_with, dropped, freed, opened, accepted, accepted_if, written_after, avail_answer, commit_count, committed_by, delay_answer, facts_of, found_at, going_on, is_stop, late_of, over_of, paused, pending_of, prepared, rebased, resumed, seen_at, segment_of, settled, start_count, start_frame, started, started_in, stopped_in, sync_count, synced, taken_of, window_end};
+ghost use Rattle.dmix_client.specs.Calls.{in_state, waiting, draining, has_frames, with_number, configured_with, dropped, freed, opened, accepted, accepted_if, written_after, avail_answer, commit_count, committed_by, delay_answer, facts_of, found_at, going_on, is_stop, late_of, over_of, paused, pending_of, prepared, rebased, resumed, seen_at, segment_of, settled, start_count, start_frame, started, started_in, stopped_in, sync_count, synced, taken_of, window_end};
 ghost use Rattle.mix_core.specs.Port.{OnLate};
 ghost use Rattle.dmix_client.specs.Writes.{count_with};
-ghost use Rattle.dmix_client.specs.View.{is_moving, IsReady, IsReadyAt, avail_of, hw_of, queued_of};
+ghost use Rattle.dmix_client.specs.View.{IsReady, IsReadyAt, avail_of, hw_of, queued_of};
 
 use crate::commit::Commit;
-use crate::plain::Plain;
+use crate::plain::{Identity, Plain, Stretch};
 use bindings::Bindings;
 use hw_space::Config;
 use mix_core::{Ended, Position};
 use pcm_states::{Call, Facts, Outcome, State, next};
+use pcm_stream::{Setup, Status};
 use ring_pointers::Pointers;
 use snd_base::{Cursor, Geometry, PcmError, Segment, XrunWhy};
-use sw_limits::{SwParams, boundary};
+use sw_limits::boundary;
 
 /// A client after a part of a call, and the call's answer so far.
 pub(crate) type Answered<T> = (Plain, Result<T, PcmError>);
 
+impl Stretch {
+    /// A stretch that waits for its start: `written` frames are written, the first of them after `source` others, and none is
+    /// placed.
+    fn waiting(written: u64, source: u64) -> Stretch
+        ensures { result ≡ waiting written source }
+    {
+        Stretch {
+            written,
+            committed: 0,
+            part: 0,
+            card: 0,
+            started: false,
+            source,
+        }
+    }
+}
+
 impl Plain {
+    /// The client in another state.
+    fn in_state(&self, state: State) -> Plain
+        ensures { result ≡ in_state self.now state }
+    {
+        Plain {
+            status: self.status.in_state(state),
+            ..*self
+        }
+    }
+
     /// The frames that the card has played since the start, as far as the client saw.
     pub(crate) fn hw(&self) -> u64
         ensures { result ≡ hw_of self.now }
     {
-        if self.started {
-            self.seen.unwrap_or(0).saturating_sub(self.card)
+        if self.stretch.started {
+            self.seen.unwrap_or(0).saturating_sub(self.stretch.card)
         } else {
             0
         }
@@ -35,17 +63,23 @@ impl Plain {
         requires { IsReady self.now }
         ensures { result ≡ avail_of self.now }
     {
-        let size = self.config.buffer_size;
+        let size = self.setup.config.buffer_size;
         let boundary = boundary(size);
         let hw = self.hw();
-        Pointers::at(size, boundary, hw % boundary, self.written % boundary).avail_playback()
+        Pointers::at(
+            size,
+            boundary,
+            hw % boundary,
+            self.stretch.written % boundary,
+        )
+        .avail_playback()
     }
 
     /// The frames that are written and not played.
     pub(crate) fn queued(&self) -> u64
         ensures { result ≡ queued_of self.now }
     {
-        self.written.saturating_sub(self.hw())
+        self.stretch.written.saturating_sub(self.hw())
     }
 
     /// A position was loaded.
@@ -60,12 +94,15 @@ impl Plain {
 
     /// A commit laid frames.
     pub(crate) fn committed_by(&self, commit: Commit) -> Plain
-        requires { self.now.committed + commit.frames < 2 ^ 64 }
+        requires { self.now.stretch.committed + commit.frames < 2 ^ 64 }
         ensures { result ≡ committed_by self.now commit }
     {
         Plain {
-            committed: self.committed + commit.frames,
-            part: commit.part,
+            stretch: Stretch {
+                committed: self.stretch.committed + commit.frames,
+                part: commit.part,
+                ..self.stretch
+            },
             ..*self
         }
     }
@@ -76,7 +113,7 @@ impl Plain {
         ensures { result ≡ over_of self.now position }
     {
         let avail = self.avail();
-        if self.state == State::Running && self.params.stop_threshold <= avail {
+        if self.status.state == State::Running && self.setup.params.stop_threshold <= avail {
             Some((avail, position.frame))
         } else {
             None
@@ -85,16 +122,17 @@ impl Plain {
 
     /// Why a commit was late, where it was.
     pub(crate) fn late(&self, commit: Commit) -> Option<XrunWhy>
-        requires fits { self.now.card + (self.now.committed + commit.frames) < 2 ^ 64 }
-        requires part { OnLate commit.ended (λ _. commit.part < length self.now.bindings) }
+        requires fits { self.now.stretch.card + (self.now.stretch.committed + commit.frames) < 2 ^ 64 }
+        requires part { OnLate commit.ended (λ _. commit.part < length self.now.setup.bindings) }
         ensures { result ≡ late_of self.now commit }
     {
         match commit.ended {
             Ended::Late { seen } => Some(XrunWhy::Late {
-                frame: self.card + (self.committed + commit.frames),
+                frame: self.stretch.card + (self.stretch.committed + commit.frames),
                 channel: self
+                    .setup
                     .bindings
-                    .card_channel(self.bindings.rising(commit.part)),
+                    .card_channel(self.setup.bindings.rising(commit.part)),
                 seen,
             }),
             _ => None,
@@ -106,9 +144,11 @@ impl Plain {
         requires { position < 2 ^ 63 }
         ensures { result ≡ commit_count self.now position upto }
     {
-        let window_end = (position + self.geometry.frames as u64).min(self.geometry.end_frame());
-        upto.min(window_end.saturating_sub(self.card))
-            .saturating_sub(self.committed)
+        let window_end = (position + self.identity.geometry.frames as u64).min(
+            self.identity.geometry.end_frame(),
+        );
+        upto.min(window_end.saturating_sub(self.stretch.card))
+            .saturating_sub(self.stretch.committed)
     }
 
     /// How many frames the sync at a position is to commit.
@@ -120,7 +160,7 @@ impl Plain {
         if position.gone || self.seen_at(position).over(position).is_some() {
             0
         } else {
-            self.commit_count(position.frame, self.written)
+            self.commit_count(position.frame, self.stretch.written)
         }
     }
 
@@ -129,14 +169,8 @@ impl Plain {
         ensures { result ≡ prepared self.now }
     {
         Plain {
-            state: State::Prepared,
-            written: 0,
-            committed: 0,
-            part: 0,
-            card: 0,
-            started: false,
-            source: self.fed,
-            ..*self
+            stretch: Stretch::waiting(0, self.fed),
+            ..self.in_state(State::Prepared)
         }
     }
 
@@ -145,10 +179,10 @@ impl Plain {
         ensures { result ≡ segment_of self.now }
     {
         Segment {
-            source: self.source,
-            card: self.card,
-            whole: self.committed,
-            part: self.part,
+            source: self.stretch.source,
+            card: self.stretch.card,
+            whole: self.stretch.committed,
+            part: self.stretch.part,
         }
     }
 }
@@ -168,7 +202,7 @@ pub(crate) fn stopped_in<T>(plain: Plain) -> Answered<T>
     ensures { result ≡ stopped_in plain }
 {
     let stopped = Plain {
-        stopped: true,
+        status: plain.status.stop(),
         ..plain
     };
     (stopped, Err(PcmError::Stopped))
@@ -178,11 +212,7 @@ pub(crate) fn stopped_in<T>(plain: Plain) -> Answered<T>
 pub(crate) fn settled(plain: Plain, outcome: Outcome) -> Answered<()>
     ensures { result ≡ settled plain outcome }
 {
-    let after = Plain {
-        state: outcome.state,
-        ..plain
-    };
-    (after, outcome.answer)
+    (plain.in_state(outcome.state), outcome.answer)
 }
 
 /// The sync of a client that moves frames, by what its load and its commit found.
@@ -193,8 +223,8 @@ pub(crate) fn synced(
     commit: Commit,
 ) -> Answered<()>
     requires ready { IsReadyAt plain load }
-    requires fits { plain.card + (plain.committed + commit.frames) < 2 ^ 64 }
-    requires part { OnLate commit.ended (λ _. commit.part < length plain.bindings) }
+    requires fits { plain.stretch.card + (plain.stretch.committed + commit.frames) < 2 ^ 64 }
+    requires part { OnLate commit.ended (λ _. commit.part < length plain.setup.bindings) }
     ensures { result ≡ synced plain call load commit }
 {
     let Some(position) = load else {
@@ -213,7 +243,7 @@ pub(crate) fn synced(
         over: loaded.over(position),
         late: loaded.late(commit),
     };
-    settled(done, next(plain.state, call, facts))
+    settled(done, next(plain.status.state, call, facts))
 }
 
 /// The call goes on in `state`, unless the table refuses it.
@@ -221,14 +251,8 @@ fn going_on(plain: Plain, state: State, outcome: Outcome) -> Answered<()>
     ensures { result ≡ going_on plain state outcome }
 {
     match outcome.answer {
-        Ok(()) => (Plain { state, ..plain }, Ok(())),
-        Err(error) => {
-            let refused = Plain {
-                state: outcome.state,
-                ..plain
-            };
-            (refused, Err(error))
-        }
+        Ok(()) => (plain.in_state(state), Ok(())),
+        Err(error) => (plain.in_state(outcome.state), Err(error)),
     }
 }
 
@@ -253,7 +277,7 @@ impl Plain {
         requires cursor { cursor.frame < 2 ^ 63 }
         ensures { result ≡ start_frame self.now position cursor }
     {
-        (position + self.lead as u64).max(cursor.first_free(0))
+        (position + self.identity.lead as u64).max(cursor.first_free(0))
     }
 
     /// The stream starts, and is in `state`.
@@ -263,11 +287,13 @@ impl Plain {
         ensures { result ≡ started_in self.now state position cursor }
     {
         Plain {
-            state,
-            card: self.start_frame(position.frame, cursor),
-            started: true,
+            stretch: Stretch {
+                card: self.start_frame(position.frame, cursor),
+                started: true,
+                ..self.stretch
+            },
             seen: Some(position.frame),
-            ..*self
+            ..self.in_state(state)
         }
     }
 
@@ -290,17 +316,20 @@ impl Plain {
         requires { IsReady self.now }
         ensures { result ≡ taken_of self.now frames }
     {
-        frames.min(self.avail().min(self.config.buffer_size as u64))
+        frames.min(self.avail().min(self.setup.config.buffer_size as u64))
     }
 
     /// Frames were accepted.
     pub(crate) fn accepted(&self, frames: u64) -> Plain
-        requires written { self.now.written + frames < 2 ^ 64 }
+        requires written { self.now.stretch.written + frames < 2 ^ 64 }
         requires fed { self.now.fed + frames < 2 ^ 64 }
         ensures { result ≡ accepted self.now frames }
     {
         Plain {
-            written: self.written + frames,
+            stretch: Stretch {
+                written: self.stretch.written + frames,
+                ..self.stretch
+            },
             fed: self.fed + frames,
             ..*self
         }
@@ -308,24 +337,24 @@ impl Plain {
 
     /// The frames that `avail_update` answers after its sync.
     pub(crate) fn avail_answer(&self) -> u64
-        requires { (self.now.state ≡ State.Setup → ⊥) → IsReady self.now }
+        requires { (self.now.status.state ≡ State.Setup → ⊥) → IsReady self.now }
         ensures { result ≡ avail_answer self.now }
     {
-        match self.state {
-            State::Setup => self.config.buffer_size as u64,
+        match self.status.state {
+            State::Setup => self.setup.config.buffer_size as u64,
             _ => self.avail(),
         }
     }
 
     /// The frames that `delay` answers after its sync.
     pub(crate) fn delay_answer(&self) -> u64
-        requires { (self.now.state ≡ State.Setup → ⊥) → self.now.card + self.now.written < 2 ^ 64 }
+        requires { (self.now.status.state ≡ State.Setup → ⊥) → self.now.stretch.card + self.now.stretch.written < 2 ^ 64 }
         ensures { result ≡ delay_answer self.now }
     {
-        match self.state {
+        match self.status.state {
             State::Setup => 0,
-            State::Prepared => self.written,
-            _ => (self.card + self.written).saturating_sub(self.seen.unwrap_or(0)),
+            State::Prepared => self.stretch.written,
+            _ => (self.stretch.card + self.stretch.written).saturating_sub(self.seen.unwrap_or(0)),
         }
     }
 }
@@ -340,8 +369,8 @@ pub(crate) fn started(
 ) -> Answered<()>
     requires position { IfSome load (λ position. position.frame < 2 ^ 63) }
     requires cursor { cursor.frame < 2 ^ 63 }
-    requires fits { plain.committed + commit.frames < 2 ^ 62 }
-    requires part { OnLate commit.ended (λ _. commit.part < length plain.bindings) }
+    requires fits { plain.stretch.committed + commit.frames < 2 ^ 62 }
+    requires part { OnLate commit.ended (λ _. commit.part < length plain.setup.bindings) }
     ensures { result ≡ started plain state cursor load commit }
 {
     let Some(position) = load else {
@@ -369,17 +398,14 @@ impl Plain {
     pub(crate) fn paused(&self) -> Plain
         ensures { result ≡ paused self.now }
     {
-        Plain {
-            state: State::Paused,
-            ..*self
-        }
+        self.in_state(State::Paused)
     }
 
     /// The frames that are accepted and not committed.
     pub(crate) fn pending(&self) -> u64
         ensures { result ≡ pending_of self.now }
     {
-        self.written.saturating_sub(self.committed)
+        self.stretch.written.saturating_sub(self.stretch.committed)
     }
 
     /// What is pending is all that is written, and nothing is laid since now.
@@ -388,14 +414,8 @@ impl Plain {
     {
         let pending = self.pending();
         Plain {
-            state: State::Prepared,
-            written: pending,
-            committed: 0,
-            part: 0,
-            card: 0,
-            started: false,
-            source: self.fed.saturating_sub(pending),
-            ..*self
+            stretch: Stretch::waiting(pending, self.fed.saturating_sub(pending)),
+            ..self.in_state(State::Prepared)
         }
     }
 }
@@ -410,7 +430,7 @@ pub(crate) fn resumed(
     requires position { IfSome load (λ position. position.frame < 2 ^ 63) }
     requires cursor { cursor.frame < 2 ^ 63 }
     requires fits { commit.frames < 2 ^ 62 }
-    requires part { OnLate commit.ended (λ _. commit.part < length plain.bindings) }
+    requires part { OnLate commit.ended (λ _. commit.part < length plain.setup.bindings) }
     ensures { result ≡ resumed plain cursor load commit }
 {
     match load {
@@ -427,7 +447,7 @@ pub(crate) fn resumed(
 
 /// Frames that were taken are accepted where the call went well.
 pub(crate) fn accepted_if(frames: u64, answered: Answered<()>) -> Answered<u64>
-    requires written { answered.0.written + frames < 2 ^ 64 }
+    requires written { answered.0.stretch.written + frames < 2 ^ 64 }
     requires fed { answered.0.fed + frames < 2 ^ 64 }
     ensures { result ≡ accepted_if frames answered }
 {
@@ -441,9 +461,9 @@ pub(crate) fn accepted_if(frames: u64, answered: Answered<()>) -> Answered<u64>
 /// A write of `frames` into a stream that runs, after its sync.
 pub(crate) fn written_after(plain: Plain, frames: u64, commit: Commit) -> Answered<u64>
     requires ready { IsReady plain }
-    requires fits { plain.card + (plain.committed + commit.frames) < 2 ^ 64 }
-    requires part { OnLate commit.ended (λ _. commit.part < length plain.bindings) }
-    requires written { plain.written + frames < 2 ^ 64 }
+    requires fits { plain.stretch.card + (plain.stretch.committed + commit.frames) < 2 ^ 64 }
+    requires part { OnLate commit.ended (λ _. commit.part < length plain.setup.bindings) }
+    requires written { plain.stretch.written + frames < 2 ^ 64 }
     requires fed { plain.fed + frames < 2 ^ 64 }
     ensures { result ≡ written_after plain frames commit }
 {
@@ -471,33 +491,16 @@ impl Plain {
         ensures { result ≡ opened geometry member lead }
     {
         Plain {
-            geometry,
-            member,
-            lead,
-            state: State::Open,
-            stopped: false,
-            configured: false,
-            config: Config {
-                channels: 1,
-                rate: 1,
-                period_size: 1,
-                buffer_size: 1,
-                periods: 1,
+            identity: Identity {
+                geometry,
+                member,
+                lead,
             },
-            bindings: Bindings::identity(1),
-            params: SwParams {
-                start_threshold: 1,
-                stop_threshold: 1,
-                avail_min: 1,
-            },
-            written: 0,
-            committed: 0,
-            part: 0,
-            card: 0,
-            started: false,
+            setup: Setup::none(),
+            status: Status::opened(),
+            stretch: Stretch::waiting(0, 0),
             seen: None,
             fed: 0,
-            source: 0,
         }
     }
 
@@ -506,14 +509,7 @@ impl Plain {
         ensures { result ≡ configured_with self.now config bindings }
     {
         Plain {
-            configured: true,
-            config,
-            bindings,
-            params: SwParams {
-                start_threshold: 1,
-                stop_threshold: config.buffer_size as u64,
-                avail_min: config.period_size as u64,
-            },
+            setup: Setup::with(config, bindings),
             ..self.prepared()
         }
     }
@@ -523,9 +519,8 @@ impl Plain {
         ensures { result ≡ freed self.now }
     {
         Plain {
-            state: State::Open,
-            configured: false,
-            ..*self
+            setup: self.setup.freed(),
+            ..self.in_state(State::Open)
         }
     }
 
@@ -533,16 +528,13 @@ impl Plain {
     pub(crate) fn dropped(&self) -> Plain
         ensures { result ≡ dropped self.now }
     {
-        Plain {
-            state: State::Setup,
-            ..*self
-        }
+        self.in_state(State::Setup)
     }
 }
 
 /// The frames available after a sync that went well.
 pub(crate) fn with_avail(plain: &Plain, answer: Result<(), PcmError>) -> Result<u64, PcmError>
-    requires { OnOk answer ((plain.now.state ≡ State.Setup → ⊥) → IsReady plain.now) }
+    requires { OnOk answer ((plain.now.status.state ≡ State.Setup → ⊥) → IsReady plain.now) }
     ensures { with_number avail_answer (plain.now, answer) ≡ (plain.now, result) }
 {
     match answer {
@@ -553,7 +545,7 @@ pub(crate) fn with_avail(plain: &Plain, answer: Result<(), PcmError>) -> Result<
 
 /// The frames until the end of what is written, after a sync that went well.
 pub(crate) fn with_delay(plain: &Plain, answer: Result<(), PcmError>) -> Result<u64, PcmError>
-    requires { OnOk answer ((plain.now.state ≡ State.Setup → ⊥) → plain.now.card + plain.now.written < 2 ^ 64) }
+    requires { OnOk answer ((plain.now.status.state ≡ State.Setup → ⊥) → plain.now.stretch.card + plain.now.stretch.written < 2 ^ 64) }
     ensures { with_number delay_answer (plain.now, answer) ≡ (plain.now, result) }
 {
     match answer {
@@ -567,84 +559,28 @@ impl Plain {
     pub(crate) fn draining(&self) -> Plain
         ensures { result ≡ draining self.now }
     {
-        Plain {
-            state: State::Draining,
-            ..*self
-        }
+        self.in_state(State::Draining)
     }
 
     /// Whether the stream is prepared and has frames to play.
     pub(crate) fn has_frames(&self) -> bool
         ensures { result ≡ has_frames self.now }
     {
-        self.state == State::Prepared && self.written > 0
+        self.status.state == State::Prepared && self.stretch.written > 0
     }
 }
 
 impl Plain {
     /// How many frames are to be committed where a write took some, at the position that was seen.
     pub(crate) fn count_with(&self, taken: u64) -> u64
-        requires written { self.now.written + taken < 2 ^ 64 }
+        requires written { self.now.stretch.written + taken < 2 ^ 64 }
         requires seen { unwrap_or self.now.seen 0 < 2 ^ 63 }
         ensures { result ≡ count_with self.now taken }
     {
         if taken == 0 {
             0
         } else {
-            self.commit_count(self.seen.unwrap_or(0), self.written + taken)
-        }
-    }
-}
-
-impl Plain {
-    /// The client has other software parameters.
-    pub(crate) fn with_params(&self, params: SwParams) -> Plain
-        ensures { result ≡ with_params self.now params }
-    {
-        Plain { params, ..*self }
-    }
-}
-
-/// Whether the state table refuses a call by this error whatever the call finds.
-fn is_refusal(error: PcmError) -> bool
-    ensures { result ≡ is_refusal error }
-{
-    match error {
-        PcmError::BadState | PcmError::NoDevice | PcmError::NotSupported => true,
-        PcmError::Xrun(XrunWhy::Already) => true,
-        _ => false,
-    }
-}
-
-impl Plain {
-    /// Tests whether a call may be made: the client is not stopped, and the state table admits the call.
-    pub(crate) fn admit(&self, call: Call) -> Result<(), PcmError>
-        ensures { result ≡ refused_by (refusal_of self.now call) }
-    {
-        if self.stopped {
-            return Err(PcmError::Stopped);
-        }
-        let facts = Facts {
-            capture: false,
-            queued: 1,
-            starts: false,
-            gone: false,
-            over: None,
-            late: None,
-        };
-        match next(self.state, call, facts).answer {
-            Err(error) if is_refusal(error) => Err(error),
-            _ => Ok(()),
-        }
-    }
-
-    /// Whether the client moves frames.
-    pub(crate) fn is_moving(&self) -> bool
-        ensures { result ≡ is_moving self.now.state }
-    {
-        match self.state {
-            State::Running | State::Draining => true,
-            _ => false,
+            self.commit_count(self.seen.unwrap_or(0), self.stretch.written + taken)
         }
     }
 }

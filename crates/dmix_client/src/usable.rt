@@ -7,31 +7,28 @@ ghost use Rattle.dmix_client.specs.Writes.{IsOffer};
 use crate::client::Client;
 use crate::plain::Plain;
 use mix_core::MixPort;
+use pcm_stream::is_same_ring;
 
 /// Whether a port has the geometry and the member of a client.
 fn is_own<P: MixPort>(plain: &Plain, port: &P) -> bool
-    ensures { IsTrue result ↔ ((P.view port.now).geometry ≡ plain.now.geometry) × ((P.view port.now).member ≡ plain.now.member) }
+    ensures { IsTrue result ↔ ((P.view port.now).geometry ≡ plain.now.identity.geometry) × ((P.view port.now).member ≡ plain.now.identity.member) }
 {
-    let here = port.geometry();
-    let own = plain.geometry;
-    if here.frames != own.frames
-        || here.channels != own.channels
-        || here.first_lap != own.first_lap
-    {
-        return false;
-    }
-    port.member() == plain.member
+    is_same_ring(&port.geometry(), &plain.identity.geometry)
+        && port.member() == plain.identity.member
 }
 
 /// Whether the port's cursor and its position are where a client that moves frames left them.
 fn is_behind<P: MixPort>(client: &Client, port: &P) -> bool
-    ensures { IsTrue result ↔ IsFrom (P.view port.now).marks.cursor (client.now.plain.card + client.now.plain.committed) (least_channel client.now.plain.bindings) × unwrap_or client.now.plain.seen 0 ≤ (P.view port.now).seen }
+    ensures { IsTrue result ↔ IsFrom (P.view port.now).marks.cursor (client.now.plain.stretch.card + client.now.plain.stretch.committed) (least_channel client.now.plain.setup.bindings) × unwrap_or client.now.plain.seen 0 ≤ (P.view port.now).seen }
 {
     let plain = &client.plain;
-    let _channels = plain.bindings.len();
-    let least = plain.bindings.card_channel(plain.bindings.rising(0));
+    let _channels = plain.setup.bindings.len();
+    let least = plain
+        .setup
+        .bindings
+        .card_channel(plain.setup.bindings.rising(0));
     let free = port.cursor().first_free(least);
-    free <= plain.card + plain.committed && plain.seen.unwrap_or(0) <= port.seen()
+    free <= plain.stretch.card + plain.stretch.committed && plain.seen.unwrap_or(0) <= port.seen()
 }
 
 impl Client {
@@ -43,7 +40,7 @@ impl Client {
         if !port.can_add() || !is_own(&self.plain, port) {
             return false;
         }
-        if self.plain.is_moving() && !self.plain.stopped {
+        if self.plain.status.is_moving() && !self.plain.status.stopped {
             return is_behind(self, port);
         }
         true
@@ -54,7 +51,7 @@ impl Client {
     pub fn can_offer(&self, samples: &[i16]) -> bool
         ensures { IsTrue result ↔ IsOffer self.now.plain samples.now }
     {
-        let channels = self.plain.bindings.len() as usize;
+        let channels = self.plain.setup.bindings.len() as usize;
         samples.len() % channels == 0
             && samples.len() / channels <= 4194304
             && self.plain.fed < 9223372036854775808

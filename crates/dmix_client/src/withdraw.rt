@@ -96,24 +96,35 @@ pub(crate) fn take_frames<P: MixPort, G: Gate>(
     ring: &[i16],
     count: u64,
 ) -> Commit
-    requires member { (P.view port.old).member ≡ plain.now.member }
-    requires bound { IsOnCard plain.now.bindings (P.view port.old).geometry }
-    requires buffer { 1 ≤ plain.now.config.buffer_size }
-    requires room { length ring.now ≡ plain.now.config.buffer_size * length plain.now.bindings }
-    requires few { count ≤ plain.now.committed }
-    requires fits { plain.now.card + plain.now.committed < 2 ^ 64 }
-    requires from_floor { 0 < count → IsFrom (P.view port.old).marks.floor (plain.now.card + (plain.now.committed - count)) (least_channel plain.now.bindings) }
-    requires held { P.ends_in port.old (run_entries plain.now.member plain.now.bindings (held plain.now ring.now) plain.now.card (plain.now.committed - count) count 0) }
+    requires member { (P.view port.old).member ≡ plain.now.identity.member }
+    requires bound { IsOnCard plain.now.setup.bindings (P.view port.old).geometry }
+    requires buffer { 1 ≤ plain.now.setup.config.buffer_size }
+    requires room { length ring.now ≡ plain.now.setup.config.buffer_size * length plain.now.setup.bindings }
+    requires few { count ≤ plain.now.stretch.committed }
+    requires fits { plain.now.stretch.card + plain.now.stretch.committed < 2 ^ 64 }
+    requires from_floor { 0 < count → IsFrom (P.view port.old).marks.floor (plain.now.stretch.card + (plain.now.stretch.committed - count)) (least_channel plain.now.setup.bindings) }
+    requires held { P.ends_in port.old (run_entries plain.now.identity.member plain.now.setup.bindings (held plain.now ring.now) plain.now.stretch.card (plain.now.stretch.committed - count) count 0) }
     ensures { TakesAt P.MixPort G.Gate (port.old, gate.old)
-        (take_frames plain.now.member plain.now.card plain.now.bindings (held plain.now ring.now) (plain.now.committed - count) count) (port.new, gate.new) result }
+        (take_frames plain.now.identity.member plain.now.stretch.card plain.now.setup.bindings (held plain.now ring.now) (plain.now.stretch.committed - count) count) (port.new, gate.new) result }
 {
-    let channels = plain.bindings.len();
-    let first = plain.committed - count;
+    let channels = plain.setup.bindings.len();
+    let first = plain.stretch.committed - count;
     for frame in (0..count).rev() {
         let number = first + frame;
-        let slot = slot_of(plain.source, number, plain.config.buffer_size, channels);
+        let slot = slot_of(
+            plain.stretch.source,
+            number,
+            plain.setup.config.buffer_size,
+            channels,
+        );
         let samples = frame_of(ring, slot, channels);
-        let left = take_frame(port, gate, &plain.bindings, plain.card + number, samples);
+        let left = take_frame(
+            port,
+            gate,
+            &plain.setup.bindings,
+            plain.stretch.card + number,
+            samples,
+        );
         match left.ended {
             Ended::Whole => {}
             ended => return left_of(frame, left.channels, channels, ended),

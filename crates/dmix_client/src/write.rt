@@ -3,12 +3,14 @@ ghost use Rattle.std.specs.Prelude.{◌≡◌, ℕ, ◌+◌, ◌*◌, ◌/◌, �
 ghost use Rattle.snd_base.specs.Places.{end_frame};
 ghost use Rattle.pcm_states.specs.declared.calls.Call.TheVariants as call;
 ghost use Rattle.course.specs.AtPort.{TakesAt};
-ghost use Rattle.dmix_client.specs.Calls.{accepted_if, refusal_of, start_count, started, started_in, taken_of};
+ghost use Rattle.pcm_stream.specs.Status.{is_moving, refusal_of};
+ghost use Rattle.pcm_stream.specs.declared.direction.Direction.{Direction};
+ghost use Rattle.dmix_client.specs.Calls.{accepted_if, start_count, started, started_in, taken_of};
 ghost use Rattle.dmix_client.specs.Causes.{Explains, ExplainsWrite};
 ghost use Rattle.dmix_client.specs.Course.{admitted, commits, fills, starts_taking, takes_more, write_course, writes_on};
 ghost use Rattle.dmix_client.specs.Growth.{Follows, Keeps};
 ghost use Rattle.dmix_client.specs.Port.{CanUse, IsCommit};
-ghost use Rattle.dmix_client.specs.View.{IsSound, is_moving};
+ghost use Rattle.dmix_client.specs.View.{IsSound};
 ghost use Rattle.dmix_client.specs.Writes.{IsOffer, count_with, frames_in, ring_with, starts_with};
 
 use crate::client::Client;
@@ -20,6 +22,7 @@ use crate::status::sync_call;
 use crate::steps::{accepted_if, written_after};
 use mix_core::{Gate, MixPort};
 use pcm_states::{Call, State};
+use pcm_stream::Direction;
 use snd_base::PcmError;
 
 /// Commits, of a client that moves frames, what it has with `taken` frames behind what is written, at the position that it
@@ -32,12 +35,12 @@ fn commit_taken<P: MixPort, G: Gate>(
     taken: u64,
 ) -> Commit
     requires sound { IsSound plain.now ring.now }
-    requires moving { is_moving plain.now.state ≡ true }
-    requires unstopped { plain.now.stopped ≡ false }
+    requires moving { is_moving plain.now.status.state ≡ true }
+    requires unstopped { plain.now.status.stopped ≡ false }
     requires few { taken ≤ 16384 }
     requires port { CanUse plain.now (P.view port.old) }
     ensures takes { TakesAt P.MixPort G.Gate (port.old, gate.old) (commits plain.now ring.now (count_with plain.now taken)) (port.new, gate.new) result }
-    ensures commit { IsCommit result.ended result.frames result.part (count_with plain.now taken) (length plain.now.bindings) }
+    ensures commit { IsCommit result.ended result.frames result.part (count_with plain.now taken) (length plain.now.setup.bindings) }
 {
     let count = plain.count_with(taken);
     lay_frames(port, gate, plain, ring, count)
@@ -53,9 +56,9 @@ fn write_taken<P: MixPort, G: Gate>(
     frames: u64,
 ) -> Result<u64, PcmError>
     requires sound { IsSound plain.old ring.old }
-    requires moving { is_moving plain.old.state ≡ true }
-    requires unstopped { plain.old.stopped ≡ false }
-    requires held { frames * length plain.old.bindings ≤ length samples.now }
+    requires moving { is_moving plain.old.status.state ≡ true }
+    requires unstopped { plain.old.status.stopped ≡ false }
+    requires held { frames * length plain.old.setup.bindings ≤ length samples.now }
     requires few { frames ≤ 4194304 }
     requires fed { plain.old.fed < 2 ^ 63 }
     requires port { CanUse plain.old (P.view port.old) }
@@ -73,15 +76,15 @@ fn write_taken<P: MixPort, G: Gate>(
 /// Stores the first `taken` frames of some samples behind what is written.
 fn store_taken(plain: &Plain, ring: &mut [i16], samples: &[i16], taken: u64)
     requires sound { IsSound plain.now ring.old }
-    requires configured { plain.now.configured ≡ true }
-    requires held { taken * length plain.now.bindings ≤ length samples.now }
+    requires configured { plain.now.setup.configured ≡ true }
+    requires held { taken * length plain.now.setup.bindings ≤ length samples.now }
     ensures ring { ring.new ≡ ring_with plain.now ring.old samples.now taken }
     ensures sound { IsSound plain.now ring.new }
 {
     store(
         ring,
-        plain.config.buffer_size,
-        plain.bindings.len(),
+        plain.setup.config.buffer_size,
+        plain.setup.bindings.len(),
         plain.fed,
         samples,
         taken,
@@ -98,9 +101,9 @@ fn write_running<P: MixPort, G: Gate>(
     frames: u64,
 ) -> Result<u64, PcmError>
     requires sound { IsSound plain.old ring.old }
-    requires running { plain.old.state ≡ State.Running }
-    requires unstopped { plain.old.stopped ≡ false }
-    requires held { frames * length plain.old.bindings ≤ length samples.now }
+    requires running { plain.old.status.state ≡ State.Running }
+    requires unstopped { plain.old.status.stopped ≡ false }
+    requires held { frames * length plain.old.setup.bindings ≤ length samples.now }
     requires few { frames ≤ 4194304 }
     requires fed { plain.old.fed < 2 ^ 63 }
     requires port { CanUse plain.old (P.view port.old) }
@@ -127,14 +130,14 @@ fn start_write<P: MixPort, G: Gate>(
     taken: u64,
 ) -> Result<u64, PcmError>
     requires sound { IsSound plain.old ring.now }
-    requires prepared { plain.old.state ≡ State.Prepared }
-    requires fits { plain.old.written + taken ≤ plain.old.config.buffer_size }
+    requires prepared { plain.old.status.state ≡ State.Prepared }
+    requires fits { plain.old.stretch.written + taken ≤ plain.old.setup.config.buffer_size }
     requires fed { plain.old.fed < 2 ^ 63 }
     requires port { CanUse plain.old (P.view port.old) }
     ensures takes { TakesAt P.MixPort G.Gate (port.old, gate.old) (starts_taking plain.old ring.now (P.view port.old).marks.cursor taken) (port.new, gate.new) (plain.new, result) }
-    ensures near { (P.view port.old).marks.cursor.frame ≤ end_frame plain.old.geometry }
+    ensures near { (P.view port.old).marks.cursor.frame ≤ end_frame plain.old.identity.geometry }
 {
-    let upto = plain.written + taken;
+    let upto = plain.stretch.written + taken;
     let begun = begin(plain, ring, port, gate, State::Running, upto);
     let (after, answer) = accepted_if(taken, begun);
     *plain = after;
@@ -151,8 +154,8 @@ fn write_prepared<P: MixPort, G: Gate>(
     frames: u64,
 ) -> Result<u64, PcmError>
     requires sound { IsSound plain.old ring.old }
-    requires prepared { plain.old.state ≡ State.Prepared }
-    requires held { frames * length plain.old.bindings ≤ length samples.now }
+    requires prepared { plain.old.status.state ≡ State.Prepared }
+    requires held { frames * length plain.old.setup.bindings ≤ length samples.now }
     requires few { frames ≤ 4194304 }
     requires fed { plain.old.fed < 2 ^ 63 }
     requires port { CanUse plain.old (P.view port.old) }
@@ -164,12 +167,12 @@ fn write_prepared<P: MixPort, G: Gate>(
         (λ all. Follows plain.old all samples.now frames) }
     ensures explains { starts_with plain.old frames ≡ true →
         Explains P.MixPort G.Gate (port.old, gate.old) (port.new, gate.new) (record { plain = plain.old; ring = ring.new }) (λ position. started_in plain.old State.Running position (P.view port.old).marks.cursor)
-        (λ position. start_count plain.old (P.view port.old).marks.cursor position (plain.old.written + taken_of plain.old frames))
+        (λ position. start_count plain.old (P.view port.old).marks.cursor position (plain.old.stretch.written + taken_of plain.old frames))
         (λ load commit. accepted_if (taken_of plain.old frames) (started plain.old State.Running (P.view port.old).marks.cursor load commit)) (plain.new, result) }
 {
     let taken = plain.taken(frames);
     store_taken(plain, ring, samples, taken);
-    if plain.params.start_threshold > plain.written + taken {
+    if plain.setup.params.start_threshold > plain.stretch.written + taken {
         *plain = plain.accepted(taken);
         return Ok(taken);
     }
@@ -216,26 +219,28 @@ impl Client {
         gate: &mut G,
         samples: &[i16],
     ) -> Result<u32, PcmError>
-        requires offer { self.old.plain.configured ≡ true → IsOffer self.old.plain samples.now }
+        requires offer { self.old.plain.setup.configured ≡ true → IsOffer self.old.plain samples.now }
         requires port { CanUse self.old.plain (P.view port.old) }
         ensures takes { TakesAt P.MixPort G.Gate (port.old, gate.old) (admitted self.old.plain call.Transfer
             (write_course self.old.plain self.old.ring samples.now (P.view port.old).marks.cursor)) (port.new, gate.new) (self.new.plain, result) }
-        ensures refused { (e : PcmError) → refusal_of self.old.plain call.Transfer ≡ Some e → (result ≡ Err e) × (self.new ≡ self.old) × (port.new ≡ port.old) × (gate.new ≡ gate.old) }
+        ensures refused { (e : PcmError) → refusal_of Direction.Playback self.old.plain.status call.Transfer ≡ Some e → (result ≡ Err e) × (self.new ≡ self.old) × (port.new ≡ port.old) × (gate.new ≡ gate.old) }
         ensures keeps { Keeps P.MixPort G.Gate (port.old, gate.old) (port.new, gate.new) self.old self.new result
             (λ all. Follows self.old.plain all samples.now (frames_in self.old.plain samples.now)) }
-        ensures stores { refusal_of self.old.plain call.Transfer ≡ None → self.old.plain.state ≡ State.Prepared →
+        ensures stores { refusal_of Direction.Playback self.old.plain.status call.Transfer ≡ None → self.old.plain.status.state ≡ State.Prepared →
             self.new.ring ≡ ring_with self.old.plain self.old.ring samples.now (taken_of self.old.plain (frames_in self.old.plain samples.now)) }
-        ensures starts { refusal_of self.old.plain call.Transfer ≡ None → self.old.plain.state ≡ State.Prepared → starts_with self.old.plain (frames_in self.old.plain samples.now) ≡ true →
+        ensures starts { refusal_of Direction.Playback self.old.plain.status call.Transfer ≡ None → self.old.plain.status.state ≡ State.Prepared → starts_with self.old.plain (frames_in self.old.plain samples.now) ≡ true →
             Explains P.MixPort G.Gate (port.old, gate.old) (port.new, gate.new) (record { plain = self.old.plain; ring = self.new.ring }) (λ position. started_in self.old.plain State.Running position (P.view port.old).marks.cursor)
-            (λ position. start_count self.old.plain (P.view port.old).marks.cursor position (self.old.plain.written + taken_of self.old.plain (frames_in self.old.plain samples.now)))
+            (λ position. start_count self.old.plain (P.view port.old).marks.cursor position (self.old.plain.stretch.written + taken_of self.old.plain (frames_in self.old.plain samples.now)))
             (λ load commit. accepted_if (taken_of self.old.plain (frames_in self.old.plain samples.now)) (started self.old.plain State.Running (P.view port.old).marks.cursor load commit)) (self.new.plain, result) }
-        ensures again { refusal_of self.old.plain call.Transfer ≡ None → self.old.plain.state ≡ State.Running →
+        ensures again { refusal_of Direction.Playback self.old.plain.status call.Transfer ≡ None → self.old.plain.status.state ≡ State.Running →
             ExplainsWrite P.MixPort G.Gate (port.old, gate.old) (port.new, gate.new) self.old.plain self.old.ring self.new.ring samples.now (frames_in self.old.plain samples.now) (self.new.plain, result) }
     {
-        self.plain.admit(Call::Transfer)?;
-        let frames = whole_frames(samples, self.plain.bindings.len());
+        self.plain
+            .status
+            .admit(Direction::Playback, Call::Transfer)?;
+        let frames = whole_frames(samples, self.plain.setup.bindings.len());
         let ring = self.ring.as_mut_slice();
-        if self.plain.state == State::Running {
+        if self.plain.status.state == State::Running {
             let answer = write_running(&mut self.plain, ring, port, gate, samples, frames);
             return few_frames(answer);
         }

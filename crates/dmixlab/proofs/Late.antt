@@ -20,9 +20,11 @@ use Rattle.pcm_states.specs.Table.{Cell, to, ebadfd, enodev, eio, already, start
 use Rattle.dmix_client.specs.declared.commit.Commit.{Commit}
 use Rattle.mix_core.specs.declared.port.Ended.TheVariants as ended
 use Rattle.dmix_client.specs.declared.plain.Plain.{Plain}
-use Rattle.dmix_client.specs.Calls.{Answered, accepted, accepted_if, avail_answer, committed_by, delay_answer, dropped, facts_of, found_at, going_on, going_on_by, has_frames, is_running, late_of, nothing_found, over_of, paused, prepared, refusal_of, seen_at, settled, start_count, started, started_in, sync_count, synced, taken_of, with_number, written_after}
+use Rattle.pcm_stream.specs.Status.{is_moving, nothing_found, refusal_of}
+use Rattle.pcm_stream.specs.declared.direction.Direction.TheVariants.{Playback}
+use Rattle.dmix_client.specs.Calls.{Answered, accepted, accepted_if, avail_answer, committed_by, delay_answer, dropped, facts_of, found_at, going_on, going_on_by, has_frames, is_running, late_of, over_of, paused, prepared, seen_at, settled, start_count, started, started_in, sync_count, synced, taken_of, with_number, written_after}
 use Rattle.dmix_client.specs.Calls.{draining as draining_of}
-use Rattle.dmix_client.specs.View.{avail_of, is_moving}
+use Rattle.dmix_client.specs.View.{avail_of}
 use Rattle.dmix_client.specs.Writes.{count_with, starts_with}
 use Rattle.wav_io.specs.Sound.{Sound}
 use Rattle.short_script.specs.declared.line.Actor.{Actor}
@@ -135,13 +137,13 @@ next_of-timely state asked f none = outcome_of-timely (row_of f.capture asked st
 
 -- a client has laid what another has
 record IsLaidAs (c d : Plain) : Type 0 where
-  pub source : d.source ≡ c.source
-  pub card : d.card ≡ c.card
-  pub committed : d.committed ≡ c.committed
+  pub source : d.stretch.source ≡ c.stretch.source
+  pub card : d.stretch.card ≡ c.stretch.card
+  pub committed : d.stretch.committed ≡ c.stretch.committed
 
 -- after a call of a client nothing is laid in part, and where it was late nothing was laid
 record Stays {T : Type 0} (c : Plain) (after : Answered T) : Type 0 where
-  pub whole : after.0.part ≡ 0
+  pub whole : after.0.stretch.part ≡ 0
   pub laid : IsLateIn after.1 → IsLaidAs c after.0
 
 -- a commit that lays all its frames, and one that is late at its first
@@ -155,15 +157,15 @@ abbrev commit_by : Bool → ℕ → Commit
 commit_by b n = if b then all_of n else late_one
 
 -- a client that isn't changed
-refused-Stays : {T : Type 0} (c : Plain) (e : PcmError) → c.part ≡ 0 → Stays {T = T} c (c, Err e)
+refused-Stays : {T : Type 0} (c : Plain) (e : PcmError) → c.stretch.part ≡ 0 → Stays {T = T} c (c, Err e)
 refused-Stays c e whole = record { whole = whole; laid = λ late. record { source = refl; card = refl; committed = refl } }
 
 -- a call that is done
-done-Stays : {T : Type 0} (c d : Plain) (x : T) → d.part ≡ 0 → Stays {T = T} c (d, Ok x)
+done-Stays : {T : Type 0} (c d : Plain) (x : T) → d.stretch.part ≡ 0 → Stays {T = T} c (d, Ok x)
 done-Stays c d x whole = record { whole = whole; laid = λ late. absurd late }
 
 -- a call that comes to an outcome that isn't late
-settled-Stays : (c d : Plain) (outcome : Outcome) → d.part ≡ 0 → IsTimely outcome → Stays c (settled d outcome)
+settled-Stays : (c d : Plain) (outcome : Outcome) → d.stretch.part ≡ 0 → IsTimely outcome → Stays c (settled d outcome)
 settled-Stays c d outcome whole timely = record { whole = whole; laid = λ late. absurd (timely.not_late late) }
 
 -- a sync
@@ -172,7 +174,7 @@ synced-Stays p c asked true n =
     let loaded = seen_at c (resting p) in
     let done = committed_by loaded (all_of n) in
     let found = facts_of done (resting p) (over_of loaded (resting p)) None in
-    settled-Stays c done (next_of c.state asked found) refl (next_of-timely c.state asked found refl)
+    settled-Stays c done (next_of c.status.state asked found) refl (next_of-timely c.status.state asked found refl)
 synced-Stays p c asked false n = record { whole = refl; laid = λ late. record { source = refl; card = refl; committed = omega arith } }
 
 with_number-Stays : (c : Plain) (number : Plain → ℕ) (after : Answered (Unit {0})) → Stays c after → Stays c (with_number number after)
@@ -187,11 +189,11 @@ accepted_if-Stays c n (d, Err e) stays = record { whole = stays.whole; laid = st
 
 -- a start is in time
 record IsInTime (p : ℕ) (after : Answered (Unit {0})) : Type 0 where
-  pub whole : after.0.part ≡ 0
+  pub whole : after.0.stretch.part ≡ 0
   pub not_late : IsLateIn after.1 → ⊥
-  pub at : IsOk after.1 → p ≤ after.0.card
+  pub at : IsOk after.1 → p ≤ after.0.stretch.card
 
-going_on-IsInTime : (p : ℕ) (c : Plain) (state : State) (outcome : Outcome) → c.part ≡ 0 → p ≤ c.card → IsTimely outcome → IsInTime p (going_on c state outcome)
+going_on-IsInTime : (p : ℕ) (c : Plain) (state : State) (outcome : Outcome) → c.stretch.part ≡ 0 → p ≤ c.stretch.card → IsTimely outcome → IsInTime p (going_on c state outcome)
 going_on-IsInTime p c state outcome whole after timely = by_answer outcome.answer timely.not_late
   where
     by_answer : (r : Result (Unit {0}) PcmError) → (IsLateIn r → ⊥) → IsInTime p (going_on_by r c state outcome.state)
@@ -201,7 +203,7 @@ going_on-IsInTime p c state outcome whole after timely = by_answer outcome.answe
 started-IsInTime : (p : ℕ) (c : Plain) (state : State) (free upto : ℕ)
     → IsInTime p (started c state (cursor_at free) (Some (resting p)) (start_commit p c free upto))
 started-IsInTime p c state free upto =
-    by_test (nat_eq n 0 || nat_le p (begun.card + begun.committed)) (grind (arith, nat_tests))
+    by_test (nat_eq n 0 || nat_le p (begun.stretch.card + begun.stretch.committed)) (grind (arith, nat_tests))
   where
     begun : Plain
     begun = started_in c Running (resting p) (cursor_at free)
@@ -222,25 +224,25 @@ IsInTime-Stays p c after is = record { whole = is.whole; laid = λ late. absurd 
 
 -- ---- calls at a position
 
-sync_at-Stays : (p : ℕ) (c : Plain) → c.part ≡ 0 → Stays c (sync_at p c)
+sync_at-Stays : (p : ℕ) (c : Plain) → c.stretch.part ≡ 0 → Stays c (sync_at p c)
 sync_at-Stays p c whole =
     let n = sync_count c (resting p) in
-    if-both (Stays {T = Unit {0}} c) (is_moving c.state) (synced c call.Sync (Some (resting p)) (sync_commit p c)) (c, Ok tt)
-    (synced-Stays p c call.Sync (nat_eq n 0 || nat_le p (c.card + c.committed)) n) (done-Stays c c tt whole)
+    if-both (Stays {T = Unit {0}} c) (is_moving c.status.state) (synced c call.Sync (Some (resting p)) (sync_commit p c)) (c, Ok tt)
+    (synced-Stays p c call.Sync (nat_eq n 0 || nat_le p (c.stretch.card + c.stretch.committed)) n) (done-Stays c c tt whole)
 
-start_at-Stays : (p : ℕ) (c : Plain) (free : ℕ) → c.part ≡ 0 → Stays c (start_at p c free)
+start_at-Stays : (p : ℕ) (c : Plain) (free : ℕ) → c.stretch.part ≡ 0 → Stays c (start_at p c free)
 start_at-Stays p c free whole =
-    let empty = next_of c.state call.Start (record nothing_found { queued = 0 }) in
-    let begun = started c Running (cursor_at free) (Some (resting p)) (start_commit p c free c.written) in
-    if-both (Stays {T = Unit {0}} c) (nat_eq c.written 0) (settled c empty) begun
-    (settled-Stays c c empty whole (next_of-timely c.state call.Start (record nothing_found { queued = 0 }) refl))
-    (IsInTime-Stays p c begun (started-IsInTime p c Running free c.written))
+    let empty = next_of c.status.state call.Start (record (nothing_found Playback) { queued = 0 }) in
+    let begun = started c Running (cursor_at free) (Some (resting p)) (start_commit p c free c.stretch.written) in
+    if-both (Stays {T = Unit {0}} c) (nat_eq c.stretch.written 0) (settled c empty) begun
+    (settled-Stays c c empty whole (next_of-timely c.status.state call.Start (record (nothing_found Playback) { queued = 0 }) refl))
+    (IsInTime-Stays p c begun (started-IsInTime p c Running free c.stretch.written))
 
 -- a drain that started goes on in time
 drained_at-Stays : (p : ℕ) (c : Plain) (after : Answered (Unit {0})) → IsInTime p after
     → Stays c (drained_at p after)
 drained_at-Stays p c (d, Ok done) is =
-    by_test (nat_eq n 0 || nat_le p (d.card + d.committed)) (let after : p ≤ d.card = is.at refl in grind (arith, nat_tests))
+    by_test (nat_eq n 0 || nat_le p (d.stretch.card + d.stretch.committed)) (let after : p ≤ d.stretch.card = is.at refl in grind (arith, nat_tests))
   where
     n : ℕ
     n = sync_count d (resting p)
@@ -250,7 +252,7 @@ drained_at-Stays p c (d, Ok done) is =
         let loaded = seen_at d (resting p) in
         let after = committed_by loaded (all_of n) in
         let found = facts_of after (resting p) (over_of loaded (resting p)) None in
-        settled-Stays c after (next_of d.state call.Drain found) refl (next_of-timely d.state call.Drain found refl)
+        settled-Stays c after (next_of d.status.state call.Drain found) refl (next_of-timely d.status.state call.Drain found refl)
     by_test false same = absurd (cc)
 drained_at-Stays p c (d, Err e) is = record { whole = is.whole; laid = λ late. absurd (is.not_late late) }
 
@@ -266,21 +268,21 @@ abbrev drain_by : ℕ → Plain → ℕ → Bool → Answered (Unit {0})
 drain_by p c free moves =
     if moves then synced (draining_of c) call.Drain (Some (resting p)) (sync_commit p (draining_of c)) else
     (if has_frames c
-    then drained_at p (started c Draining (cursor_at free) (Some (resting p)) (start_commit p c free c.written))
+    then drained_at p (started c Draining (cursor_at free) (Some (resting p)) (start_commit p c free c.stretch.written))
     else (dropped c, Ok tt))
 
-drain_by-Stays : (p : ℕ) (c : Plain) (free : ℕ) (moves : Bool) → c.part ≡ 0 → Stays c (drain_by p c free moves)
+drain_by-Stays : (p : ℕ) (c : Plain) (free : ℕ) (moves : Bool) → c.stretch.part ≡ 0 → Stays c (drain_by p c free moves)
 drain_by-Stays p c free true whole =
     let n = sync_count (draining_of c) (resting p) in
     let after = synced (draining_of c) call.Drain (Some (resting p)) (sync_commit p (draining_of c)) in
-    draining-Stays c after (synced-Stays p (draining_of c) call.Drain (nat_eq n 0 || nat_le p (c.card + c.committed)) n)
+    draining-Stays c after (synced-Stays p (draining_of c) call.Drain (nat_eq n 0 || nat_le p (c.stretch.card + c.stretch.committed)) n)
 drain_by-Stays p c free false whole =
-    let begun = started c Draining (cursor_at free) (Some (resting p)) (start_commit p c free c.written) in
+    let begun = started c Draining (cursor_at free) (Some (resting p)) (start_commit p c free c.stretch.written) in
     if-both (Stays {T = Unit {0}} c) (has_frames c) (drained_at p begun) (dropped c, Ok tt)
-    (drained_at-Stays p c begun (started-IsInTime p c Draining free c.written)) (done-Stays c (dropped c) tt whole)
+    (drained_at-Stays p c begun (started-IsInTime p c Draining free c.stretch.written)) (done-Stays c (dropped c) tt whole)
 
-drain_at-Stays : (p : ℕ) (c : Plain) (free : ℕ) → c.part ≡ 0 → Stays c (drain_at p c free)
-drain_at-Stays p c free whole = drain_by-Stays p c free (is_moving c.state) whole
+drain_at-Stays : (p : ℕ) (c : Plain) (free : ℕ) → c.stretch.part ≡ 0 → Stays c (drain_at p c free)
+drain_at-Stays p c free whole = drain_by-Stays p c free (is_moving c.status.state) whole
 
 -- ---- writes
 
@@ -290,8 +292,8 @@ written_at-Stays p c (d, Ok done) n stays more = more
 written_at-Stays p c (d, Err e) n stays more = record { whole = stays.whole; laid = stays.laid }
 
 -- the second commit of a write
-written_after-Stays : (c d : Plain) (n : ℕ) (b : Bool) (m : ℕ) → d.part ≡ 0 → d.source ≡ c.source → d.card ≡ c.card
-    → (b ≡ false → d.committed ≡ c.committed) → Stays c (written_after d n (commit_by b m))
+written_after-Stays : (c d : Plain) (n : ℕ) (b : Bool) (m : ℕ) → d.stretch.part ≡ 0 → d.stretch.source ≡ c.stretch.source → d.stretch.card ≡ c.stretch.card
+    → (b ≡ false → d.stretch.committed ≡ c.stretch.committed) → Stays c (written_after d n (commit_by b m))
 written_after-Stays c d n true m whole source card committed =
     let found = found_at (record { frame = 0; gone = false }) None in
     let after = settled (committed_by d (all_of m)) (next_of Running call.Transfer found) in
@@ -310,31 +312,31 @@ abbrev running_write : ℕ → Plain → ℕ → Commit → Answered ℕ
 running_write p c n first =
     written_at p n (synced c call.Transfer (Some (resting p)) first)
 
-running_write-Stays : (p : ℕ) (c : Plain) (n : ℕ) (b : Bool) (m : ℕ) → b ≡ (nat_eq m 0 || nat_le p (c.card + c.committed))
+running_write-Stays : (p : ℕ) (c : Plain) (n : ℕ) (b : Bool) (m : ℕ) → b ≡ (nat_eq m 0 || nat_le p (c.stretch.card + c.stretch.committed))
     → Stays c (running_write p c n (commit_by b m))
 running_write-Stays p c n true m is =
     let after = synced c call.Transfer (Some (resting p)) (all_of m) in
     let k = count_with after.0 (taken_of after.0 n) in
     written_at-Stays p c after n (synced-Stays p c call.Transfer true m)
-    (written_after-Stays c after.0 n (nat_eq k 0 || nat_le p (c.card + (c.committed + m))) k refl refl refl (λ late. grind (arith, nat_tests)))
+    (written_after-Stays c after.0 n (nat_eq k 0 || nat_le p (c.stretch.card + (c.stretch.committed + m))) k refl refl refl (λ late. grind (arith, nat_tests)))
 running_write-Stays p c n false m is =
     let after = synced c call.Transfer (Some (resting p)) late_one in
     let k = count_with after.0 (taken_of after.0 n) in
     written_at-Stays p c after n (synced-Stays p c call.Transfer false m)
-    (written_after-Stays c after.0 n (nat_eq k 0 || nat_le p (c.card + (c.committed + 0))) k refl refl refl (λ late. omega arith))
+    (written_after-Stays c after.0 n (nat_eq k 0 || nat_le p (c.stretch.card + (c.stretch.committed + 0))) k refl refl refl (λ late. omega arith))
 
 -- a write into a prepared stream
 abbrev filling_at : ℕ → Plain → ℕ → ℕ → Answered ℕ
 filling_at p c free n = if starts_with c n
-    then accepted_if (taken_of c n) (started c Running (cursor_at free) (Some (resting p)) (start_commit p c free (c.written + taken_of c n)))
+    then accepted_if (taken_of c n) (started c Running (cursor_at free) (Some (resting p)) (start_commit p c free (c.stretch.written + taken_of c n)))
     else (accepted c (taken_of c n), Ok (taken_of c n))
 
-filling-Stays : (p : ℕ) (c : Plain) (free n : ℕ) → c.part ≡ 0
+filling-Stays : (p : ℕ) (c : Plain) (free n : ℕ) → c.stretch.part ≡ 0
     → Stays c (filling_at p c free n)
 filling-Stays p c free n whole =
-    let begun = started c Running (cursor_at free) (Some (resting p)) (start_commit p c free (c.written + taken_of c n)) in
-    if-both (Stays {T = ℕ} c) (nat_le c.params.start_threshold (c.written + taken_of c n)) (accepted_if (taken_of c n) begun) (accepted c (taken_of c n), Ok (taken_of c n))
-    (accepted_if-Stays c (taken_of c n) begun (IsInTime-Stays p c begun (started-IsInTime p c Running free (c.written + taken_of c n))))
+    let begun = started c Running (cursor_at free) (Some (resting p)) (start_commit p c free (c.stretch.written + taken_of c n)) in
+    if-both (Stays {T = ℕ} c) (nat_le c.setup.params.start_threshold (c.stretch.written + taken_of c n)) (accepted_if (taken_of c n) begun) (accepted c (taken_of c n), Ok (taken_of c n))
+    (accepted_if-Stays c (taken_of c n) begun (IsInTime-Stays p c begun (started-IsInTime p c Running free (c.stretch.written + taken_of c n))))
     (done-Stays c (accepted c (taken_of c n)) (taken_of c n) whole)
 
 -- a write, by whether the stream runs
@@ -342,22 +344,22 @@ abbrev writei_by : ℕ → Plain → ℕ → ℕ → Bool → Answered ℕ
 writei_by p c free n runs =
     if runs then running_write p c n (sync_commit p c) else filling_at p c free n
 
-writei_by-Stays : (p : ℕ) (c : Plain) (free n : ℕ) (runs : Bool) → c.part ≡ 0 → Stays c (writei_by p c free n runs)
+writei_by-Stays : (p : ℕ) (c : Plain) (free n : ℕ) (runs : Bool) → c.stretch.part ≡ 0 → Stays c (writei_by p c free n runs)
 writei_by-Stays p c free n true whole =
-    let m = sync_count c (resting p) in running_write-Stays p c n (nat_eq m 0 || nat_le p (c.card + c.committed)) m refl
+    let m = sync_count c (resting p) in running_write-Stays p c n (nat_eq m 0 || nat_le p (c.stretch.card + c.stretch.committed)) m refl
 writei_by-Stays p c free n false whole = filling-Stays p c free n whole
 
-writei_at-Stays : (p : ℕ) (c : Plain) (free n : ℕ) → c.part ≡ 0 → Stays c (writei_at p c free n)
-writei_at-Stays p c free n whole = writei_by-Stays p c free n (is_running c.state) whole
+writei_at-Stays : (p : ℕ) (c : Plain) (free n : ℕ) → c.stretch.part ≡ 0 → Stays c (writei_at p c free n)
+writei_at-Stays p c free n whole = writei_by-Stays p c free n (is_running c.status.state) whole
 
 -- ---- lines
 
 -- after a line of a client nothing is laid in part, and where it was answered late nothing was laid
 record LineStays (c : Plain) (after : Plain × Answer) : Type 0 where
-  pub whole : after.0.part ≡ 0
+  pub whole : after.0.stretch.part ≡ 0
   pub laid : IsLate after.1 → IsLaidAs c after.0
 
-refused_or-Stays : {T : Type 0} (o : Option PcmError) (c : Plain) (after : Answered T) → c.part ≡ 0 → Stays c after → Stays c (refused_or o c after)
+refused_or-Stays : {T : Type 0} (o : Option PcmError) (c : Plain) (after : Answered T) → c.stretch.part ≡ 0 → Stays c after → Stays c (refused_or o c after)
 refused_or-Stays None c after whole stays = stays
 refused_or-Stays (Some e) c after whole stays = refused-Stays c e whole
 
@@ -385,18 +387,18 @@ counted_of-Stays : (c : Plain) (after : Answered ℕ) → Stays c after → Line
 counted_of-Stays c (d, Ok n) stays = record { whole = stays.whole; laid = λ late. absurd late }
 counted_of-Stays c (d, Err e) stays = record { whole = stays.whole; laid = λ late. stays.laid (told-late e late) }
 
-done-LineStays : (c : Plain) (asked : Call) (after : Answered (Unit {0})) → c.part ≡ 0 → Stays c after → LineStays c (done_of (unless_refused c asked after))
+done-LineStays : (c : Plain) (asked : Call) (after : Answered (Unit {0})) → c.stretch.part ≡ 0 → Stays c after → LineStays c (done_of (unless_refused c asked after))
 done-LineStays c asked after whole stays =
-    done_of-Stays c (unless_refused c asked after) (refused_or-Stays (refusal_of c asked) c after whole stays)
+    done_of-Stays c (unless_refused c asked after) (refused_or-Stays (refusal_of Playback c.status asked) c after whole stays)
 
-counted-LineStays : (c : Plain) (asked : Call) (after : Answered ℕ) → c.part ≡ 0 → Stays c after → LineStays c (counted_of (unless_refused c asked after))
+counted-LineStays : (c : Plain) (asked : Call) (after : Answered ℕ) → c.stretch.part ≡ 0 → Stays c after → LineStays c (counted_of (unless_refused c asked after))
 counted-LineStays c asked after whole stays =
-    counted_of-Stays c (unless_refused c asked after) (refused_or-Stays (refusal_of c asked) c after whole stays)
+    counted_of-Stays c (unless_refused c asked after) (refused_or-Stays (refusal_of Playback c.status asked) c after whole stays)
 
-unchanged : (c : Plain) (answer : Answer) → c.part ≡ 0 → LineStays c (c, answer)
+unchanged : (c : Plain) (answer : Answer) → c.stretch.part ≡ 0 → LineStays c (c, answer)
 unchanged c answer whole = record { whole = whole; laid = λ late. record { source = refl; card = refl; committed = refl } }
 
-called-Stays : (p : ℕ) (wav : Sound) (own : Own) (asked : Op) → own.plain.part ≡ 0 → LineStays own.plain (called p wav own asked)
+called-Stays : (p : ℕ) (wav : Sound) (own : Own) (asked : Op) → own.plain.stretch.part ≡ 0 → LineStays own.plain (called p wav own asked)
 called-Stays p wav own (op.Write frames) whole =
     let n = min frames (frames_of wav - own.plain.fed) in
     counted-LineStays own.plain call.Transfer (writei_at p own.plain own.free n) whole (writei_at-Stays p own.plain own.free n whole)
@@ -443,12 +445,12 @@ abbrev laid_from : ℕ → ℕ → ℕ → ℕ → List Segment
 laid_from source card committed part =
     if nat_eq committed 0 && nat_eq part 0 then [] else record { source = source; card = card; whole = committed; part = part } ∷ []
 
-laid_in-same : (c d : Plain) → c.part ≡ 0 → d.part ≡ 0 → IsLaidAs c d → laid_in d ≡ laid_in c
+laid_in-same : (c d : Plain) → c.stretch.part ≡ 0 → d.stretch.part ≡ 0 → IsLaidAs c d → laid_in d ≡ laid_in c
 laid_in-same c d c_whole d_whole same =
-    ap (λ n. laid_from n d.card d.committed d.part) same.source
-    ∙ ap (λ n. laid_from c.source n d.committed d.part) same.card
-    ∙ ap (λ n. laid_from c.source c.card n d.part) same.committed
-    ∙ ap (λ n. laid_from c.source c.card c.committed n) (d_whole ∙ sym c_whole)
+    ap (λ n. laid_from n d.stretch.card d.stretch.committed d.stretch.part) same.source
+    ∙ ap (λ n. laid_from c.stretch.source n d.stretch.committed d.stretch.part) same.card
+    ∙ ap (λ n. laid_from c.stretch.source c.stretch.card n d.stretch.part) same.committed
+    ∙ ap (λ n. laid_from c.stretch.source c.stretch.card c.stretch.committed n) (d_whole ∙ sym c_whole)
 
 -- the segments of a client, where it is open
 abbrev segments_at : Option Own → List Segment
@@ -458,7 +460,7 @@ segments_at (Some own) = segments_of own
 -- a client, where it is open, has laid nothing in part
 abbrev IsWhole : Option Own → Type 0
 IsWhole None = ⊤
-IsWhole (Some own) = own.plain.part ≡ 0
+IsWhole (Some own) = own.plain.stretch.part ≡ 0
 
 -- a client after its line
 record OwnStays (own : Option Own) (after : Option Own × Answer) : Type 0 where

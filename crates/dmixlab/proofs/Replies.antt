@@ -17,9 +17,11 @@ use Rattle.pcm_states.specs.declared.calls.Outcome.{Outcome}
 use Rattle.pcm_states.specs.Table.{Cell, to, ebadfd, enodev, eio, already, starting, filling, moving, draining, resuming, done_in, first_of, if_empty, if_gone, if_late, if_none_left, if_over, if_played, next_of, outcome_of, refused_in, row_of, still_draining}
 use Rattle.dmix_client.specs.declared.commit.Commit.{Commit}
 use Rattle.dmix_client.specs.declared.plain.Plain.{Plain}
-use Rattle.dmix_client.specs.Calls.{Answered, accepted, accepted_if, avail_answer, committed_by, delay_answer, dropped, facts_of, found_at, has_frames, going_on, going_on_by, is_refusal, is_running, is_stop, late_of, nothing_found, over_of, paused, prepared, refusal_in, refusal_of, seen_at, settled, started, started_in, stopped_in, synced, taken_of, with_number, written_after}
+use Rattle.pcm_stream.specs.Status.{is_moving, is_refusal, nothing_found, refusal_in, refusal_of}
+use Rattle.pcm_stream.specs.declared.direction.Direction.TheVariants.{Playback}
+use Rattle.dmix_client.specs.Calls.{Answered, accepted, accepted_if, avail_answer, committed_by, delay_answer, dropped, facts_of, found_at, has_frames, going_on, going_on_by, is_running, is_stop, late_of, over_of, paused, prepared, seen_at, settled, started, started_in, stopped_in, synced, taken_of, with_number, written_after}
 use Rattle.dmix_client.specs.Calls.{draining as draining_of}
-use Rattle.dmix_client.specs.View.{avail_of, is_moving}
+use Rattle.dmix_client.specs.View.{avail_of}
 use Rattle.wav_io.specs.Sound.{Sound}
 use Rattle.short_script.specs.declared.line.Op.{Op}
 use Rattle.short_script.specs.declared.line.Op.TheVariants as op
@@ -165,8 +167,8 @@ synced-Replies c call (Some position) commit =
     let loaded = seen_at c position in
     let done = committed_by loaded commit in
     let found = facts_of done position (over_of loaded position) (late_of loaded commit) in
-    if-both (Replies {T = Unit {0}}) (is_stop commit.ended) (stopped_in done) (settled done (next_of c.state call found))
-    (at_stop done) (settled-Replies done c.state call found)
+    if-both (Replies {T = Unit {0}}) (is_stop commit.ended) (stopped_in done) (settled done (next_of c.status.state call found))
+    (at_stop done) (settled-Replies done c.status.state call found)
 
 started-Replies : (c : Plain) (state : State) (cursor : Cursor) (load : Option Position) (commit : Commit) → Replies (started c state cursor load commit)
 started-Replies c state cursor None commit = at_stop c
@@ -211,17 +213,17 @@ refusal_in-words : (r : Result (Unit {0}) PcmError) → Worded r → IfSome (ref
 refusal_in-words (Ok done) words = tt
 refusal_in-words (Err e) words = if-both (λ (o : Option PcmError). IfSome o HasErrorWords) (is_refusal e) (Some e) None words.words tt
 
-refusal_of-words : (c : Plain) (call : Call) → IfSome (refusal_of c call) HasErrorWords
+refusal_of-words : (c : Plain) (call : Call) → IfSome (refusal_of Playback c.status call) HasErrorWords
 refusal_of-words c call =
-    if-both (λ (o : Option PcmError). IfSome o HasErrorWords) c.stopped (Some Stopped) _ tt
-    (refusal_in-words (next_of c.state call nothing_found).answer (next_of-Worded c.state call nothing_found))
+    if-both (λ (o : Option PcmError). IfSome o HasErrorWords) c.status.stopped (Some Stopped) _ tt
+    (refusal_in-words (next_of c.status.state call (nothing_found Playback)).answer (next_of-Worded c.status.state call (nothing_found Playback)))
 
 refused_or-Replies : {T : Type 0} (o : Option PcmError) (c : Plain) (answered : Answered T) → IfSome o HasErrorWords → Replies answered → Replies (refused_or o c answered)
 refused_or-Replies None c answered refusal words = words
 refused_or-Replies (Some e) c answered refusal words = with_error c e refusal
 
 unless_refused-Replies : {T : Type 0} (c : Plain) (call : Call) (answered : Answered T) → Replies answered → Replies (unless_refused c call answered)
-unless_refused-Replies c call answered words = refused_or-Replies (refusal_of c call) c answered (refusal_of-words c call) words
+unless_refused-Replies c call answered words = refused_or-Replies (refusal_of Playback c.status call) c answered (refusal_of-words c call) words
 
 -- ---- answers in a report
 
@@ -253,31 +255,31 @@ counted_of-HasWords (c, Err e) words = told-words e words.worded.words
 
 sync_at-Replies : (p : ℕ) (c : Plain) → Replies (sync_at p c)
 sync_at-Replies p c =
-    if-both (Replies {T = Unit {0}}) (is_moving c.state) (synced c Sync (Some (resting p)) (sync_commit p c)) (c, Ok tt) (synced-Replies c Sync (Some (resting p)) (sync_commit p c)) (fine c tt)
+    if-both (Replies {T = Unit {0}}) (is_moving c.status.state) (synced c Sync (Some (resting p)) (sync_commit p c)) (c, Ok tt) (synced-Replies c Sync (Some (resting p)) (sync_commit p c)) (fine c tt)
 
 start_at-Replies : (p : ℕ) (c : Plain) (free : ℕ) → Replies (start_at p c free)
 start_at-Replies p c free =
-    if-both (Replies {T = Unit {0}}) (nat_eq c.written 0) _ _ (settled-Replies c c.state Start _)
-    (started-Replies c Running (cursor_at free) (Some (resting p)) (start_commit p c free c.written))
+    if-both (Replies {T = Unit {0}}) (nat_eq c.stretch.written 0) _ _ (settled-Replies c c.status.state Start _)
+    (started-Replies c Running (cursor_at free) (Some (resting p)) (start_commit p c free c.stretch.written))
 
 drain_at-Replies : (p : ℕ) (c : Plain) (free : ℕ) → Replies (drain_at p c free)
 drain_at-Replies p c free =
-    let begun = started c Draining (cursor_at free) (Some (resting p)) (start_commit p c free c.written) in
+    let begun = started c Draining (cursor_at free) (Some (resting p)) (start_commit p c free c.stretch.written) in
     let synced_one = synced (draining_of c) Drain (Some (resting p)) (sync_commit p (draining_of c)) in
-    if-both (Replies {T = Unit {0}}) (is_moving c.state) synced_one (if has_frames c then drained_at p begun else (dropped c, Ok tt))
+    if-both (Replies {T = Unit {0}}) (is_moving c.status.state) synced_one (if has_frames c then drained_at p begun else (dropped c, Ok tt))
     (synced-Replies (draining_of c) Drain (Some (resting p)) (sync_commit p (draining_of c)))
     (if-both (Replies {T = Unit {0}}) (has_frames c) (drained_at p begun) (dropped c, Ok tt)
-    (drained_at-Replies p begun (started-Replies c Draining (cursor_at free) (Some (resting p)) (start_commit p c free c.written))) (fine (dropped c) tt))
+    (drained_at-Replies p begun (started-Replies c Draining (cursor_at free) (Some (resting p)) (start_commit p c free c.stretch.written))) (fine (dropped c) tt))
 
 writei_at-Replies : (p : ℕ) (c : Plain) (free n : ℕ) → Replies (writei_at p c free n)
 writei_at-Replies p c free n =
     let taken = taken_of c n in
     let running = synced c Transfer (Some (resting p)) (sync_commit p c) in
-    let begun = started c Running (cursor_at free) (Some (resting p)) (start_commit p c free (c.written + taken)) in
-    if-both (Replies {T = ℕ}) (is_running c.state) (written_at p n running) (if starts_with c n then accepted_if taken begun else (accepted c taken, Ok taken))
+    let begun = started c Running (cursor_at free) (Some (resting p)) (start_commit p c free (c.stretch.written + taken)) in
+    if-both (Replies {T = ℕ}) (is_running c.status.state) (written_at p n running) (if starts_with c n then accepted_if taken begun else (accepted c taken, Ok taken))
     (written_at-Replies p n running (synced-Replies c Transfer (Some (resting p)) (sync_commit p c)))
     (if-both (Replies {T = ℕ}) (starts_with c n) (accepted_if taken begun) (accepted c taken, Ok taken)
-    (accepted_if-Replies taken begun (started-Replies c Running (cursor_at free) (Some (resting p)) (start_commit p c free (c.written + taken)))) (fine (accepted c taken) taken))
+    (accepted_if-Replies taken begun (started-Replies c Running (cursor_at free) (Some (resting p)) (start_commit p c free (c.stretch.written + taken)))) (fine (accepted c taken) taken))
 
 -- a call that is done or refused, and one with a number, has an answer with words
 done-HasWords : (c : Plain) (call : Call) (answered : Answered (Unit {0})) → Replies answered → HasWords (done_of (unless_refused c call answered)).1

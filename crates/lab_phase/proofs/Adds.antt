@@ -37,8 +37,8 @@ flat-adds f (j ∷ js) adds = AreAdds-append (f j) (flat_map f js) (adds j) (fla
 -- the entries of a stretch
 pub stretch-adds : (c : Plain) (samples : List ℤ) → AreAdds (stretch c samples)
 stretch-adds c samples = AreAdds-append _ _
-    (flat-adds _ (range_with_len 0 c.committed) (λ j. frame-adds c.member c.bindings _ (length c.bindings) _))
-    (frame-adds c.member c.bindings _ c.part _)
+    (flat-adds _ (range_with_len 0 c.stretch.committed) (λ j. frame-adds c.identity.member c.setup.bindings _ (length c.setup.bindings) _))
+    (frame-adds c.identity.member c.setup.bindings _ c.stretch.part _)
 
 add-continues : (k : Kind) (g : Geometry) (members : ℕ) (h : List Row) (m f c : ℕ) (s : ℤ) → k ≡ Added → continues k g members h m f c s
 add-continues k g members h m f c s is = subst (λ (x : Kind). continues x g members h m f c s) (let back : Added ≡ k = cc in back) tt

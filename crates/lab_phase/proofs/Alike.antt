@@ -97,7 +97,7 @@ pub next_of-late : (s : State) (c : Call) (f : Facts) (frame channel word seen :
 next_of-late s c f frame channel word seen = outcome_of-late (row_of f.capture c s) s c f frame channel word seen
 
 pub settled-AreSame : (c : Plain) (o u : Outcome) → AreAlike o u → AreSame (settled c o) (settled c u)
-settled-AreSame c o u alike = record { client = ap (λ (s : State). let d : Plain = record c { state = s } in d) alike.state; answer = alike.answer }
+settled-AreSame c o u alike = record { client = ap (λ (s : State). let d : Plain = record c { status = record c.status { state = s } } in d) alike.state; answer = alike.answer }
 
 -- two answers that are told alike both go well, or neither does
 going_on_by-AreSame : (c : Plain) (s t v : State) (r q : Result (Unit {0}) PcmError) → t ≡ v → told_by r ≡ told_by q → AreSame (going_on_by r c s t) (going_on_by q c s v)
@@ -105,7 +105,7 @@ going_on_by-AreSame c s t v (Ok x) (Ok y) states answers = record { client = ref
 going_on_by-AreSame c s t v (Ok x) (Err e) states answers = absurd (cc)
 going_on_by-AreSame c s t v (Err e) (Ok y) states answers = absurd (cc)
 going_on_by-AreSame c s t v (Err e) (Err d) states answers =
-    record { client = ap (λ (x : State). let d : Plain = record c { state = x } in d) states; answer = cc }
+    record { client = ap (λ (x : State). let d : Plain = record c { status = record c.status { state = x } } in d) states; answer = cc }
 
 pub going_on-AreSame : (c : Plain) (s : State) (o u : Outcome) → AreAlike o u → AreSame (going_on c s o) (going_on c s u)
 going_on-AreSame c s o u alike = going_on_by-AreSame c s o.state u.state o.answer u.answer alike.state alike.answer
@@ -143,7 +143,7 @@ synced-AreSame c what position x y (is_late frames part word seen) =
     let z : Commit = record { frames = frames; part = part; ended = ended.Late word } in
     let done = committed_by loaded z in
     settled-AreSame done _ _
-    (next_of-late c.state what (facts_of done position (over_of loaded position) None) (end_of_commit loaded z) (end_channel loaded z) word seen)
+    (next_of-late c.status.state what (facts_of done position (over_of loaded position) None) (end_of_commit loaded z) (end_channel loaded z) word seen)
 
 started_late : (gone : Bool) (c : Plain) (s : State) (cursor : Cursor) (frame frames part word seen : ℕ)
     → AreSame (started c s cursor (Some (record { frame = frame; gone = gone })) (record { frames = frames; part = part; ended = ended.Late word }))

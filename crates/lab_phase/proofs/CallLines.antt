@@ -15,7 +15,9 @@ use Rattle.pcm_states.specs.declared.states.State.TheVariants.{Open, Setup, Prep
 use Rattle.pcm_states.specs.declared.calls.Call.TheVariants as call
 use Rattle.pcm_states.specs.Table.{next_of}
 use Rattle.dmix_client.specs.declared.plain.Plain.{Plain}
-use Rattle.dmix_client.specs.Calls.{Answered, avail_answer, delay_answer, is_running, nothing_found, refusal_in, refusal_of, with_number}
+use Rattle.pcm_stream.specs.Status.{nothing_found, refusal_in, refusal_of}
+use Rattle.pcm_stream.specs.declared.direction.Direction.TheVariants.{Playback}
+use Rattle.dmix_client.specs.Calls.{Answered, avail_answer, delay_answer, is_running, with_number}
 use Rattle.dmix_client.specs.Course.{admitted, drain_course, number_course, start_course, sync_course, write_course}
 use Rattle.dmix_client.specs.Growth.{AnySamples, Follows, Keeps}
 use Rattle.dmix_client.specs.View.{ClientView}
@@ -40,10 +42,10 @@ told_count : (a b : Answered ℕ) → AreSame a b → tell count_answer a ≡ te
 told_count (c, r) (d, q) same = counted_of-AreSame (c, r) (d, q) same
 
 -- only a prepared stream can start
-start-prepared : (c : Plain) → refusal_of c call.Start ≡ None → c.state ≡ Prepared
-start-prepared c admitted = by_parts c.stopped c.state admitted
+start-prepared : (c : Plain) → refusal_of Playback c.status call.Start ≡ None → c.status.state ≡ Prepared
+start-prepared c admitted = by_parts c.status.stopped c.status.state admitted
   where
-    by_parts : (stopped : Bool) (s : State) → (if stopped then Some error.Stopped else refusal_in (next_of s call.Start nothing_found).answer) ≡ None → s ≡ Prepared
+    by_parts : (stopped : Bool) (s : State) → (if stopped then Some error.Stopped else refusal_in (next_of s call.Start (nothing_found Playback)).answer) ≡ None → s ≡ Prepared
     by_parts true s is = absurd (cc)
     by_parts false Open is = absurd (cc)
     by_parts false Setup is = absurd (cc)
@@ -56,10 +58,10 @@ start-prepared c admitted = by_parts c.stopped c.state admitted
     by_parts false Disconnected is = absurd (cc)
 
 -- only a prepared stream and one that runs take frames
-transfer-prepared : (c : Plain) → refusal_of c call.Transfer ≡ None → is_running c.state ≡ false → c.state ≡ Prepared
-transfer-prepared c admitted waits = by_parts c.stopped c.state admitted waits
+transfer-prepared : (c : Plain) → refusal_of Playback c.status call.Transfer ≡ None → is_running c.status.state ≡ false → c.status.state ≡ Prepared
+transfer-prepared c admitted waits = by_parts c.status.stopped c.status.state admitted waits
   where
-    by_parts : (stopped : Bool) (s : State) → (if stopped then Some error.Stopped else refusal_in (next_of s call.Transfer nothing_found).answer) ≡ None → is_running s ≡ false → s ≡ Prepared
+    by_parts : (stopped : Bool) (s : State) → (if stopped then Some error.Stopped else refusal_in (next_of s call.Transfer (nothing_found Playback)).answer) ≡ None → is_running s ≡ false → s ≡ Prepared
     by_parts true s is waits = absurd (cc)
     by_parts false Open is waits = absurd (cc)
     by_parts false Setup is waits = absurd (cc)
@@ -132,7 +134,7 @@ module _ {T : Type 0} (P : mixport.Ghosts Turn) (G : gates.Ghosts T) (is_turn : 
       (λ goes more. drain-rests p own.free after own.plain v.ring cursor (w.plain, result) is.on_card.bound (IsOwn-behind wav own v is) is.prepared cursor_is more) taken)
       refl told_done (λ answer. refl) (none_more wav own.plain is.fed)
 
-  pub write-called : (frames : ℕ) (offer : List ℤ) (result : Result ℕ PcmError) → Offers wav v.plain offer (min frames (frames_of wav - v.plain.fed)) → v.plain.written + v.plain.source ≡ v.plain.fed
+  pub write-called : (frames : ℕ) (offer : List ℤ) (result : Result ℕ PcmError) → Offers wav v.plain offer (min frames (frames_of wav - v.plain.fed)) → v.plain.stretch.written + v.plain.stretch.source ≡ v.plain.fed
       → TakesAt P G (t, g) (admitted v.plain call.Transfer (write_course v.plain v.ring offer (P.view t).marks.cursor)) (u, h) (w.plain, result)
       → Keeps P G (t, g) (u, h) v w result (λ all. Follows v.plain all offer (frames_in v.plain offer)) → HasCalled members p wav own (op.Write frames) w t u (count_answer result)
   write-called frames offer result offers fed takes keeps =

@@ -39,14 +39,14 @@ tell told_answer a = (a.0, told_answer a.1)
 pub IsOwn-behind : (wav : Sound) (own : Own) (v : ClientView) → IsOwn wav own v → IsBehind own.free own.plain
 IsOwn-behind wav own v is = record { whole = is.whole; going = is.going; behind = is.behind }
 
-free_after-some : (free : ℕ) (d : Plain) → d.part ≡ 0 → 0 < d.committed → free_after free d ≡ d.card + d.committed
+free_after-some : (free : ℕ) (d : Plain) → d.stretch.part ≡ 0 → 0 < d.stretch.committed → free_after free d ≡ d.stretch.card + d.stretch.committed
 free_after-some free d whole some = grind (arith, nat_tests)
 
 free_after-moves : (free after : ℕ) (c d : Plain) (frames : ℕ) → Moves free after c d frames → after ≡ free_after free d
 free_after-moves free after c d frames moves =
     let whole = moves.is_behind.whole in
     let behind = moves.is_behind.behind in
-    let none : d.committed ≡ 0 → after ≡ free = λ no_frame. (moves.none no_frame).1 in
+    let none : d.stretch.committed ≡ 0 → after ≡ free = λ no_frame. (moves.none no_frame).1 in
     grind (arith, nat_tests, behind, none)
 
 module _ {T : Type 0} (P : mixport.Ghosts Turn) (G : gates.Ghosts T) (is_turn : IsTurn P G) (views : (t : Turn) → P.view t ≡ view_of_turn t) where
@@ -79,8 +79,8 @@ module _ {T : Type 0} (P : mixport.Ghosts Turn) (G : gates.Ghosts T) (is_turn : 
       grows : Grows P.laid t u v.plain d wav.samples
       grows = keeps.grows wav.samples stands for_it
 
-      at_end : TakesRest p (first_free (cursor_of_turn t) 0) course (first_free (cursor_of_turn u) 0) (d, result) × RestsAt own.plain.geometry members p (core_of u)
-      at_end = TakesAt-rests P G is_turn own.plain.geometry members p (t, g) (u, h) course (d, result) at.rests takes
+      at_end : TakesRest p (first_free (cursor_of_turn t) 0) course (first_free (cursor_of_turn u) 0) (d, result) × RestsAt own.plain.identity.geometry members p (core_of u)
+      at_end = TakesAt-rests P G is_turn own.plain.identity.geometry members p (t, g) (u, h) course (d, result) at.rests takes
 
       came : Rests own.free (first_free (cursor_of_turn u) 0) own.plain frames (d, result) at_rest
       came = rests (first_free (cursor_of_turn u) 0) (subst (λ (free : ℕ). TakesRest p free course (first_free (cursor_of_turn u) 0) (d, result)) at.free at_end.0)
@@ -88,13 +88,13 @@ module _ {T : Type 0} (P : mixport.Ghosts Turn) (G : gates.Ghosts T) (is_turn : 
       is_call : called p wav own asked ≡ (d, told_answer result)
       is_call = is_called ∙ sym (alike (d, result) at_rest came.same)
 
-      bindings : d.bindings ≡ own.plain.bindings
-      bindings = grows.same_bindings ∙ ap (λ (c : Plain). c.bindings) is.same
+      bindings : d.setup.bindings ≡ own.plain.setup.bindings
+      bindings = grows.same_bindings ∙ ap (λ (c : Plain). c.setup.bindings) is.same
 
       usable : CanUse d (view_of_turn u)
       usable = subst (λ (x : PortView). CanUse d x) (views u) keeps.port
 
-      geometry : d.geometry ≡ own.plain.geometry
+      geometry : d.identity.geometry ≡ own.plain.identity.geometry
       geometry = sym usable.same_geometry ∙ at_end.1.geometry
 
       own_after : IsOwn wav (after_call own asked (d, told_answer result)).0 w
@@ -105,7 +105,7 @@ module _ {T : Type 0} (P : mixport.Ghosts Turn) (G : gates.Ghosts T) (is_turn : 
         channels = ap length bindings ∙ is.channels;
         stands = keeps.stands wav.samples stands for_it;
         behind = free_after-some own.free d came.moves.is_behind.whole;
-        on_card = subst (λ (b : List ℕ). IsOnCard b d.geometry) (sym bindings) (subst (λ (x : Geometry). IsOnCard own.plain.bindings x) (sym geometry) is.on_card);
+        on_card = subst (λ (b : List ℕ). IsOnCard b d.identity.geometry) (sym bindings) (subst (λ (x : Geometry). IsOnCard own.plain.setup.bindings x) (sym geometry) is.on_card);
         prepared = λ waits. (keeps.sound.prepared waits).no_frame;
         fed = omega (arith, came.moves.fed, few);
       }

@@ -135,7 +135,7 @@ pub record CommitRests (p free after : ℕ) (c : Plain) (count : ℕ) (x : Commi
   pub like : IsLike x (commit_at p c count)
   pub whole : x.part ≡ 0
   pub going : x.ended ≡ Stopped → ⊥
-  pub free_is : after ≡ (if nat_eq x.frames 0 then free else c.card + (c.committed + x.frames))
+  pub free_is : after ≡ (if nat_eq x.frames 0 then free else c.stretch.card + (c.stretch.committed + x.frames))
 
 first_channel : (bindings : List ℕ) → AreBindings bindings → (q : ℕ) × (qs : List ℕ) × (rising bindings ≡ q ∷ qs)
 first_channel bindings are = by_list (rising bindings) refl
@@ -144,7 +144,7 @@ first_channel bindings are = by_list (rising bindings) refl
     by_list [] is = absurd (omega (arith, are.some, length-rising bindings are, ap (λ (xs : List ℕ). length xs) is))
     by_list (q ∷ qs) is = (q, qs, is)
 
-at_rest-whole : (p : ℕ) (c : Plain) (count : ℕ) → (count ≡ 0) ⊎ (p ≤ c.card + c.committed) → commit_at p c count ≡ record { frames = count; part = 0; ended = Whole }
+at_rest-whole : (p : ℕ) (c : Plain) (count : ℕ) → (count ≡ 0) ⊎ (p ≤ c.stretch.card + c.stretch.committed) → commit_at p c count ≡ record { frames = count; part = 0; ended = Whole }
 at_rest-whole p c count (inl none) = grind (arith, nat_tests)
 at_rest-whole p c count (inr in_time) = grind (arith, nat_tests)
 
@@ -152,7 +152,7 @@ free_run-if : (free count card committed : ℕ) → free_run free count (card + 
 free_run-if free zero card committed = refl
 free_run-if free (suc count) card committed = grind (arith, nat_tests)
 
-commit-laid : (p free after : ℕ) (c : Plain) (count : ℕ) (x : Commit) → (count ≡ 0) ⊎ (p ≤ c.card + c.committed) → RunInTime free after count (c.card + c.committed) x
+commit-laid : (p free after : ℕ) (c : Plain) (count : ℕ) (x : Commit) → (count ≡ 0) ⊎ (p ≤ c.stretch.card + c.stretch.committed) → RunInTime free after count (c.stretch.card + c.stretch.committed) x
     → CommitRests p free after c count x
 commit-laid p free after c count x when run =
     let is : x ≡ record { frames = count; part = 0; ended = Whole } = run.commit_is in
@@ -160,10 +160,10 @@ commit-laid p free after c count x when run =
       like = subst (λ (y : Commit). IsLike x y) (is ∙ sym (at_rest-whole p c count when)) (is_same x);
       whole = ap (λ (y : Commit). y.part) is;
       going = λ stop. absurd (let e = ap (λ (y : Commit). y.ended) is in cc);
-      free_is = run.free_is ∙ free_run-if free count c.card c.committed ∙ ap (λ (n : ℕ). if nat_eq n 0 then free else c.card + (c.committed + n)) (sym (ap (λ (y : Commit). y.frames) is));
+      free_is = run.free_is ∙ free_run-if free count c.stretch.card c.stretch.committed ∙ ap (λ (n : ℕ). if nat_eq n 0 then free else c.stretch.card + (c.stretch.committed + n)) (sym (ap (λ (y : Commit). y.frames) is));
     }
 
-commit-late : (p free after : ℕ) (c : Plain) (count word : ℕ) (x : Commit) → 0 < count → c.card + c.committed < p → x ≡ record { frames = 0; part = 0; ended = Late word }
+commit-late : (p free after : ℕ) (c : Plain) (count word : ℕ) (x : Commit) → 0 < count → c.stretch.card + c.stretch.committed < p → x ≡ record { frames = 0; part = 0; ended = Late word }
     → after ≡ free → CommitRests p free after c count x
 commit-late p free after c count word x some late is same =
     let played : commit_at p c count ≡ record { frames = 0; part = 0; ended = Late 0 } = grind (arith, nat_tests) in
@@ -171,25 +171,25 @@ commit-late p free after c count word x some late is same =
       like = subst (λ (y : Commit). IsLike y (commit_at p c count)) (sym is) (subst (λ (y : Commit). IsLike (record { frames = 0; part = 0; ended = Late word }) y) (sym played) (is_late 0 0 word 0));
       whole = ap (λ (y : Commit). y.part) is;
       going = λ stop. absurd (let e = ap (λ (y : Commit). y.ended) is in cc);
-      free_is = same ∙ ap (λ (n : ℕ). if nat_eq n 0 then free else c.card + (c.committed + n)) (sym (ap (λ (y : Commit). y.frames) is));
+      free_is = same ∙ ap (λ (n : ℕ). if nat_eq n 0 then free else c.stretch.card + (c.stretch.committed + n)) (sym (ap (λ (y : Commit). y.frames) is));
     }
 
-pub commits-rest : (p free after : ℕ) (c : Plain) (ring : List ℤ) (count : ℕ) (x : Commit) → AreBindings c.bindings → TakesRest p free (commits c ring count) after x
+pub commits-rest : (p free after : ℕ) (c : Plain) (ring : List ℤ) (count : ℕ) (x : Commit) → AreBindings c.setup.bindings → TakesRest p free (commits c ring count) after x
     → CommitRests p free after c count x
 unfolding lay_frames
 commits-rest p free after c ring count x are takes =
-    let first = first_channel c.bindings are in
+    let first = first_channel c.setup.bindings are in
     by_count count takes first.0 first.1 first.2
   where
-    by_count : (count : ℕ) → TakesRest p free (commits c ring count) after x → (q : ℕ) (qs : List ℕ) → rising c.bindings ≡ q ∷ qs → CommitRests p free after c count x
+    by_count : (count : ℕ) → TakesRest p free (commits c ring count) after x → (q : ℕ) (qs : List ℕ) → rising c.setup.bindings ≡ q ∷ qs → CommitRests p free after c count x
     by_count zero takes q qs channels = commit-laid p free after c 0 x (inl refl) (record { commit_is = takes.result; free_is = takes.there })
-    by_count (suc count) takes q qs channels = elim (cases_lt (c.card + c.committed) p) [
+    by_count (suc count) takes q qs channels = elim (cases_lt (c.stretch.card + c.stretch.committed) p) [
       | inl late ↦
-          let run = frames-late p c.member c.card c.bindings (held c ring) q qs channels count c.committed free after x late takes in
+          let run = frames-late p c.identity.member c.stretch.card c.setup.bindings (held c ring) q qs channels count c.stretch.committed free after x late takes in
           commit-late p free after c (suc count) run.word x (omega arith) late run.commit_is run.free_is
       | inr not_late ↦
-          let in_time : p ≤ c.card + c.committed = omega (arith, not_late) in
-          commit-laid p free after c (suc count) x (inr in_time) (frames-in_time p c.member c.card c.bindings (held c ring) q qs channels (suc count) c.committed free after x in_time takes)
+          let in_time : p ≤ c.stretch.card + c.stretch.committed = omega (arith, not_late) in
+          commit-laid p free after c (suc count) x (inr in_time) (frames-in_time p c.identity.member c.stretch.card c.setup.bindings (held c ring) q qs channels (suc count) c.stretch.committed free after x in_time takes)
     ]
 
 -- ---- a load and the commit behind it
@@ -230,12 +230,12 @@ step-rest p free after at count ring call done are takes =
       rests = subst (λ (f : ℕ). CommitRests p free f (at (resting p)) (count (resting p)) look.commit) (sym two.3.there) look.rests;
     }
 
-pub syncs-rest : (p free after : ℕ) (c : Plain) (what : Call) (ring : List ℤ) (done : Answered (Unit {0})) → AreBindings c.bindings → TakesRest p free (syncs c what ring) after done
+pub syncs-rest : (p free after : ℕ) (c : Plain) (what : Call) (ring : List ℤ) (done : Answered (Unit {0})) → AreBindings c.setup.bindings → TakesRest p free (syncs c what ring) after done
     → StepRests p free after (λ position. c) (sync_count c) (synced c what) done
 unfolding syncs
 syncs-rest p free after c what ring done are takes = step-rest p free after (λ position. c) (sync_count c) ring (synced c what) done are takes
 
-pub starts-rest : (p free after : ℕ) (c : Plain) (state : State) (cursor : Cursor) (upto : ℕ) (ring : List ℤ) (done : Answered (Unit {0})) → AreBindings c.bindings
+pub starts-rest : (p free after : ℕ) (c : Plain) (state : State) (cursor : Cursor) (upto : ℕ) (ring : List ℤ) (done : Answered (Unit {0})) → AreBindings c.setup.bindings
     → TakesRest p free (starts c state cursor upto ring) after done
     → StepRests p free after (λ position. started_in c Running position cursor) (λ position. start_count c cursor position upto) (started c state cursor) done
 unfolding starts

@@ -122,22 +122,22 @@ ended_after-ending own op.Drop answer ends = absurd (cc)
 ended_after-ending own op.Pause answer ends = absurd (cc)
 ended_after-ending own op.Opens answer ends = absurd (cc)
 
-laid_in-nothing : (c : Plain) → c.committed ≡ 0 → c.part ≡ 0 → laid_in c ≡ []
+laid_in-nothing : (c : Plain) → c.stretch.committed ≡ 0 → c.stretch.part ≡ 0 → laid_in c ≡ []
 laid_in-nothing c none whole =
-    ap (λ (n : ℕ). if nat_eq n 0 && nat_eq c.part 0 then [] else segment_of c ∷ []) none ∙ ap (λ (n : ℕ). if nat_eq n 0 then [] else segment_of c ∷ []) whole
+    ap (λ (n : ℕ). if nat_eq n 0 && nat_eq c.stretch.part 0 then [] else segment_of c ∷ []) none ∙ ap (λ (n : ℕ). if nat_eq n 0 then [] else segment_of c ∷ []) whole
 
 -- the stretch of a client of these bindings and this number
-stretch-bound : (c : Plain) (client : ℕ) (bound : List ℕ) (samples : List ℤ) → c.member ≡ client → c.bindings ≡ bound → stretch c samples ≡ expand client (segment_of c) samples bound
+stretch-bound : (c : Plain) (client : ℕ) (bound : List ℕ) (samples : List ℤ) → c.identity.member ≡ client → c.setup.bindings ≡ bound → stretch c samples ≡ expand client (segment_of c) samples bound
 stretch-bound c client bound samples member bindings =
-    ap (λ (m : ℕ). expand m (segment_of c) samples c.bindings) member ∙ ap (λ (b : List ℕ). expand client (segment_of c) samples b) bindings
+    ap (λ (m : ℕ). expand m (segment_of c) samples c.setup.bindings) member ∙ ap (λ (b : List ℕ). expand client (segment_of c) samples b) bindings
 
 -- a client laid in all what it had laid before, and the entries of its call
 own_total-called : (wavs : List Sound) (all : List (List ℕ)) (client : ℕ) (wav : Sound) (own new : Own) (asked : Op) (answer : Answer) (es : List Entry) (f c : ℕ)
-    → slice_get wavs client ≡ Some wav → own.plain.member ≡ client → new.plain.member ≡ client
-    → own.plain.bindings ≡ slice_index_or all client [] → new.plain.bindings ≡ slice_index_or all client []
+    → slice_get wavs client ≡ Some wav → own.plain.identity.member ≡ client → new.plain.identity.member ≡ client
+    → own.plain.setup.bindings ≡ slice_index_or all client [] → new.plain.setup.bindings ≡ slice_index_or all client []
     → new.ended ≡ ended_after own asked answer
     → (ends_stretch asked answer ≡ false → stretch new.plain wav.samples ≡ stretch own.plain wav.samples ++ es)
-    → (ends_stretch asked answer ≡ true → (es ≡ []) × (new.plain.committed ≡ 0) × (new.plain.part ≡ 0))
+    → (ends_stretch asked answer ≡ true → (es ≡ []) × (new.plain.stretch.committed ≡ 0) × (new.plain.stretch.part ≡ 0))
     → own_total wavs all client new f c ≡ own_total wavs all client own f c +ℤ total es f c
 own_total-called wavs all client wav own new asked answer es f c file member member_after bound bound_after ended grown ending = elim (cases_Bool (ends_stretch asked answer)) [
   | inl ends ↦
@@ -170,12 +170,12 @@ IsSeated-other : (members p client m : ℕ) (wav : Sound) (bound : List ℕ) (v 
 IsSeated-other members p client m wav bound v w es seat x laid other seated = record {
   is_own = subst (λ (n : ℕ). IsOwn wav (record { plain = x.plain; free = n; ended = seat.ended.items }) x) (sym free) seated.is_own;
   at = record {
-    rests = RestsAt-kept x.plain.geometry members p v w laid.rest seated.at.rests;
+    rests = RestsAt-kept x.plain.identity.geometry members p v w laid.rest seated.at.rests;
     usable = record {
       same_geometry = laid.rest.geometry ∙ seated.at.usable.same_geometry;
       same_member = seated.at.usable.same_member;
       can = refl;
-      behind = λ moving going. subst (λ (k : Marks). IsFrom k.cursor (x.plain.card + x.plain.committed) (least_channel x.plain.bindings)) (sym marks) (seated.at.usable.behind moving going);
+      behind = λ moving going. subst (λ (k : Marks). IsFrom k.cursor (x.plain.stretch.card + x.plain.stretch.committed) (least_channel x.plain.setup.bindings)) (sym marks) (seated.at.usable.behind moving going);
       newer = λ moving going. omega (arith, seated.at.usable.newer moving going, laid.rest.position);
     };
     free = ap (λ (k : Marks). first_free k.cursor 0) marks ∙ seated.at.free ∙ sym free;
@@ -390,7 +390,7 @@ IsSeated-played members p frames client wav bound v w seat x rests same within s
       same_geometry = now.geometry;
       same_member = seated.at.usable.same_member;
       can = refl;
-      behind = λ moving going. subst (λ (k : Marks). IsFrom k.cursor (x.plain.card + x.plain.committed) (least_channel x.plain.bindings)) (sym marks) (seated.at.usable.behind moving going);
+      behind = λ moving going. subst (λ (k : Marks). IsFrom k.cursor (x.plain.stretch.card + x.plain.stretch.committed) (least_channel x.plain.setup.bindings)) (sym marks) (seated.at.usable.behind moving going);
       newer = λ moving going. omega (arith, seated.at.usable.newer moving going, seated.at.rests.published, now.published);
     };
     free = ap (λ (k : Marks). first_free k.cursor 0) marks ∙ seated.at.free ∙ sym free;
@@ -398,8 +398,8 @@ IsSeated-played members p frames client wav bound v w seat x rests same within s
   bindings = seated.bindings;
 }
   where
-    now : RestsAt x.plain.geometry members (p + frames) w
-    now = rests x.plain.geometry members p seated.at.rests
+    now : RestsAt x.plain.identity.geometry members (p + frames) w
+    now = rests x.plain.identity.geometry members p seated.at.rests
 
     marks : marks_at w client ≡ marks_at v client
     marks =

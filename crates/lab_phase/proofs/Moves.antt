@@ -22,23 +22,23 @@ use Rattle.lab_phase.proofs.Courses.{CommitRests}
 
 -- a client at a port: it laid whole frames, was not stopped, and the first frame that the port may still lay into whole is behind them
 pub record IsBehind (free : ℕ) (c : Plain) : Type 0 where
-  pub whole : c.part ≡ 0
-  pub going : c.stopped ≡ false
-  pub behind : 0 < c.committed → free ≡ c.card + c.committed
+  pub whole : c.stretch.part ≡ 0
+  pub going : c.status.stopped ≡ false
+  pub behind : 0 < c.stretch.committed → free ≡ c.stretch.card + c.stretch.committed
 
 -- a client after a call that accepted at most so many frames
 pub record Moves (free after : ℕ) (c d : Plain) (frames : ℕ) : Type 0 where
   pub is_behind : IsBehind after d
-  pub none : d.committed ≡ 0 → (c.committed ≡ 0) × (after ≡ free)
+  pub none : d.stretch.committed ≡ 0 → (c.stretch.committed ≡ 0) × (after ≡ free)
   pub fed : d.fed ≤ c.fed + frames
 
 -- the counts that a call changes
 pub record Counts (c d : Plain) (x : Commit) (frames : ℕ) : Type 0 where
-  pub committed : d.committed ≡ c.committed + x.frames
-  pub part : d.part ≡ x.part
-  pub card : d.card ≡ c.card
-  pub stopped : d.stopped ≡ c.stopped
-  pub bindings : d.bindings ≡ c.bindings
+  pub committed : d.stretch.committed ≡ c.stretch.committed + x.frames
+  pub part : d.stretch.part ≡ x.part
+  pub card : d.stretch.card ≡ c.stretch.card
+  pub stopped : d.status.stopped ≡ c.status.stopped
+  pub bindings : d.setup.bindings ≡ c.setup.bindings
   pub fed : d.fed ≤ c.fed + frames
 
 pub Counts-Moves : (p free after : ℕ) (c d : Plain) (count : ℕ) (x : Commit) (frames : ℕ) → IsBehind free c → CommitRests p free after c count x → Counts c d x frames
@@ -69,7 +69,7 @@ Moves-joined free between after c d e n k first second = record {
 }
 
 -- a client in another state
-pub Moves-state : (free after : ℕ) (c d : Plain) (s : State) (n : ℕ) → Moves free after c d n → Moves free after c (record d { state = s }) n
+pub Moves-state : (free after : ℕ) (c d : Plain) (s : State) (n : ℕ) → Moves free after c d n → Moves free after c (record d { status = record d.status { state = s } }) n
 Moves-state free after c d s n moves = record {
   is_behind = record { whole = moves.is_behind.whole; going = moves.is_behind.going; behind = moves.is_behind.behind };
   none = moves.none;
@@ -91,7 +91,7 @@ pub synced-Counts : (c : Plain) (what : Call) (p : ℕ) (x : Commit) → (x.ende
 synced-Counts c what p x going =
     let loaded = seen_at c (resting p) in
     let done = committed_by loaded x in
-    let o : Outcome = next_of c.state what (facts_of done (resting p) (over_of loaded (resting p)) (late_of loaded x)) in
+    let o : Outcome = next_of c.status.state what (facts_of done (resting p) (over_of loaded (resting p)) (late_of loaded x)) in
     let is : synced c what (Some (resting p)) x ≡ settled done o = if-false (is_stop x.ended) (stopped_in done) (settled done o) (not_stop x.ended going) in
     subst (λ (a : Answered (Unit {0})). Counts c a.0 x 0) (sym is) (record { committed = refl; part = refl; card = refl; stopped = refl; bindings = refl; fed = omega arith })
 

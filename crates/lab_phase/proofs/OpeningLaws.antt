@@ -78,7 +78,7 @@ pub IsOwn-opened : (wav : Sound) (g : Geometry) (client lead : ℕ) (config : Co
     → v.plain ≡ configured_with (opened g client lead) config bindings → IsSound v.plain v.ring → length bindings ≡ wav.channels
     → IsOwn wav (record { plain = configured_with (opened g client lead) config bindings; free = 0; ended = [] }) v
 IsOwn-opened wav g client lead config bindings v same sound channels =
-    let set_up : IsConfigured v.plain v.ring = sound.configured (ap (λ (c : Plain). c.configured) same) in
+    let set_up : IsConfigured v.plain v.ring = sound.configured (ap (λ (c : Plain). c.setup.configured) same) in
     record {
       same = same;
       whole = refl;
@@ -86,7 +86,7 @@ IsOwn-opened wav g client lead config bindings v same sound channels =
       channels = channels;
       stands = λ j q low high within. absurd (omega (arith, high));
       behind = λ some. absurd (omega (arith, some));
-      on_card = subst (λ (c : Plain). IsOnCard c.bindings c.geometry) same (record { bound = set_up.bound; below = set_up.on_card });
+      on_card = subst (λ (c : Plain). IsOnCard c.setup.bindings c.identity.geometry) same (record { bound = set_up.bound; below = set_up.on_card });
       prepared = λ waits. refl;
       fed = omega arith;
     }

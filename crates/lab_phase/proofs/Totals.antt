@@ -73,7 +73,7 @@ expand-nothing client s samples bindings no_frame no_part =
 -- the entries of a stretch are those of its segment, whether it is listed or not
 pub laid_in-entries : (wavs : List Sound) (bindings : List (List ℕ)) (client : ℕ) (c : Plain) (wav : Sound) → slice_get wavs client ≡ Some wav
     → entries_of wavs bindings (numbered_segments client (laid_in c)) ≡ expand client (segment_of c) wav.samples (slice_index_or bindings client [])
-laid_in-entries wavs bindings client c wav file = elim (cases_Bool (nat_eq c.committed 0 && nat_eq c.part 0)) [
+laid_in-entries wavs bindings client c wav file = elim (cases_Bool (nat_eq c.stretch.committed 0 && nat_eq c.stretch.part 0)) [
   | inl nothing ↦
       ap (λ (none : Bool). entries_of wavs bindings (numbered_segments client (if none then [] else segment_of c ∷ []))) nothing
       ∙ sym (expand-nothing client (segment_of c) wav.samples (slice_index_or bindings client []) (grind (arith, nat_tests)) (grind (arith, nat_tests)))

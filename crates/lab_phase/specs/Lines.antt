@@ -13,7 +13,9 @@ use Rattle.short_script.specs.declared.line.Op.TheVariants as op
 use Rattle.short_report.specs.declared.row.Answer.{Answer}
 use Rattle.short_report.specs.declared.row.Answer.TheVariants.{Done, Count, Failed}
 use Rattle.dmix_client.specs.declared.plain.Plain.{Plain}
-use Rattle.dmix_client.specs.Calls.{Answered, avail_answer, delay_answer, dropped, paused, prepared, refusal_of, segment_of, with_number}
+use Rattle.pcm_stream.specs.Status.{refusal_of}
+use Rattle.pcm_stream.specs.declared.direction.Direction.TheVariants.{Playback}
+use Rattle.dmix_client.specs.Calls.{Answered, avail_answer, delay_answer, dropped, paused, prepared, segment_of, with_number}
 use Rattle.lab_phase.specs.Rest.{drain_at, start_at, sync_at, writei_at}
 
 -- the frames of a WAV
@@ -52,12 +54,12 @@ pub record Own : Type 0 where
 
 -- the segment of a stretch, where something was laid in it
 abbrev pub laid_in : Plain → List Segment
-laid_in c = if nat_eq c.committed 0 && nat_eq c.part 0 then [] else segment_of c ∷ []
+laid_in c = if nat_eq c.stretch.committed 0 && nat_eq c.stretch.part 0 then [] else segment_of c ∷ []
 
 -- the first frame that a client may still lay into whole: behind what it laid since its last prepare, if anything
 abbrev pub free_after : ℕ → Plain → ℕ
 free_after free c =
-    if nat_eq c.committed 0 && nat_eq c.part 0 then free else c.card + c.committed + (if nat_eq c.part 0 then 0 else 1)
+    if nat_eq c.stretch.committed 0 && nat_eq c.stretch.part 0 then free else c.stretch.card + c.stretch.committed + (if nat_eq c.stretch.part 0 then 0 else 1)
 
 -- the segments of the stretches that ended, after a line: a prepare that isn't refused ends one
 abbrev pub ended_after : Own → Op → Answer → List Segment
@@ -70,7 +72,7 @@ refused_or None c done = done
 refused_or (Some e) c done = (c, Err e)
 
 abbrev pub unless_refused : {T : Type 0} → Plain → Call → Answered T → Answered T
-unless_refused c call done = refused_or (refusal_of c call) c done
+unless_refused c call done = refused_or (refusal_of Playback c.status call) c done
 
 -- the call that a client's line names, while the card rests at a position: a write offers the next frames of the client's
 -- file, or those that are left of it

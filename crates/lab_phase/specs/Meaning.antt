@@ -44,7 +44,7 @@ client_row phase client asked (Some own) answer = record {
   actor = Client client;
   op = asked;
   answer = answer;
-  state = own.plain.state;
+  state = own.plain.status.state;
   seen = own.plain.seen;
 }
 

@@ -9,8 +9,9 @@ use Rattle.pcm_states.specs.declared.calls.Call.TheVariants as call
 use Rattle.pcm_states.specs.Table.{next_of}
 use Rattle.dmix_client.specs.declared.commit.Commit.{Commit}
 use Rattle.dmix_client.specs.declared.plain.Plain.{Plain}
-use Rattle.dmix_client.specs.Calls.{Answered, accepted, accepted_if, draining, dropped, has_frames, is_running, nothing_found, settled, start_count, started, started_in, sync_count, synced, taken_of, written_after}
-use Rattle.dmix_client.specs.View.{is_moving}
+use Rattle.pcm_stream.specs.Status.{is_moving, nothing_found}
+use Rattle.pcm_stream.specs.declared.direction.Direction.TheVariants.{Playback}
+use Rattle.dmix_client.specs.Calls.{Answered, accepted, accepted_if, draining, dropped, has_frames, is_running, settled, start_count, started, started_in, sync_count, synced, taken_of, written_after}
 use Rattle.dmix_client.specs.Writes.{count_with, starts_with}
 
 -- what a load gives
@@ -20,7 +21,7 @@ resting p = record { frame = p; gone = false }
 -- a commit that is to lay so many frames lays them all, unless the first of them was played
 abbrev pub commit_at : ℕ → Plain → ℕ → Commit
 commit_at p c count =
-    if nat_eq count 0 || nat_le p (c.card + c.committed)
+    if nat_eq count 0 || nat_le p (c.stretch.card + c.stretch.committed)
     then record { frames = count; part = 0; ended = ended.Whole }
     else record { frames = 0; part = 0; ended = ended.Late 0 }
 
@@ -39,13 +40,13 @@ start_commit p c free upto =
 
 -- `sync`
 abbrev pub sync_at : ℕ → Plain → Answered (Unit {0})
-sync_at p c = if is_moving c.state then synced c call.Sync (Some (resting p)) (sync_commit p c) else (c, Ok tt)
+sync_at p c = if is_moving c.status.state then synced c call.Sync (Some (resting p)) (sync_commit p c) else (c, Ok tt)
 
 -- `start`
 abbrev pub start_at : ℕ → Plain → ℕ → Answered (Unit {0})
-start_at p c free = if nat_eq c.written 0
-    then settled c (next_of c.state call.Start (record nothing_found { queued = 0 }))
-    else started c Running (cursor_at free) (Some (resting p)) (start_commit p c free c.written)
+start_at p c free = if nat_eq c.stretch.written 0
+    then settled c (next_of c.status.state call.Start (record (nothing_found Playback) { queued = 0 }))
+    else started c Running (cursor_at free) (Some (resting p)) (start_commit p c free c.stretch.written)
 
 -- the sync of a drain, behind its start
 abbrev pub drained_at : ℕ → Answered (Unit {0}) → Answered (Unit {0})
@@ -55,9 +56,9 @@ drained_at p (c, Err e) = (c, Err e)
 -- `drain`: a stream that moves frames syncs, and one that is prepared starts and then syncs
 abbrev pub drain_at : ℕ → Plain → ℕ → Answered (Unit {0})
 drain_at p c free =
-    if is_moving c.state then synced (draining c) call.Drain (Some (resting p)) (sync_commit p (draining c)) else
+    if is_moving c.status.state then synced (draining c) call.Drain (Some (resting p)) (sync_commit p (draining c)) else
     (if has_frames c
-    then drained_at p (started c Draining (cursor_at free) (Some (resting p)) (start_commit p c free c.written))
+    then drained_at p (started c Draining (cursor_at free) (Some (resting p)) (start_commit p c free c.stretch.written))
     else (dropped c, Ok tt))
 
 -- a write of n frames behind its sync
@@ -68,7 +69,7 @@ written_at p n (c, Err e) = (c, Err e)
 -- `writei` of n frames: a stream that runs syncs, and one that is prepared starts where its threshold is reached
 abbrev pub writei_at : ℕ → Plain → ℕ → ℕ → Answered ℕ
 writei_at p c free n =
-    if is_running c.state then written_at p n (synced c call.Transfer (Some (resting p)) (sync_commit p c)) else
+    if is_running c.status.state then written_at p n (synced c call.Transfer (Some (resting p)) (sync_commit p c)) else
     (if starts_with c n
-    then accepted_if (taken_of c n) (started c Running (cursor_at free) (Some (resting p)) (start_commit p c free (c.written + taken_of c n)))
+    then accepted_if (taken_of c n) (started c Running (cursor_at free) (Some (resting p)) (start_commit p c free (c.stretch.written + taken_of c n)))
     else (accepted c (taken_of c n), Ok (taken_of c n)))

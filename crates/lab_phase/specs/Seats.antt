@@ -23,24 +23,24 @@ use Rattle.lab_phase.specs.Mixes.{RestsAt}
 -- a client as a report has it, and its stream
 pub record IsOwn (wav : Sound) (own : Own) (v : ClientView) : Type 0 where
   pub same : v.plain ≡ own.plain
-  pub whole : own.plain.part ≡ 0
-  pub going : own.plain.stopped ≡ false
-  pub channels : length own.plain.bindings ≡ wav.channels
+  pub whole : own.plain.stretch.part ≡ 0
+  pub going : own.plain.status.stopped ≡ false
+  pub channels : length own.plain.setup.bindings ≡ wav.channels
   pub stands : StandsFor own.plain v.ring wav.samples
-  pub behind : 0 < own.plain.committed → own.free ≡ own.plain.card + own.plain.committed
-  pub on_card : IsOnCard own.plain.bindings own.plain.geometry
-  pub prepared : own.plain.state ≡ Prepared → own.plain.committed ≡ 0
+  pub behind : 0 < own.plain.stretch.committed → own.free ≡ own.plain.stretch.card + own.plain.stretch.committed
+  pub on_card : IsOnCard own.plain.setup.bindings own.plain.identity.geometry
+  pub prepared : own.plain.status.state ≡ Prepared → own.plain.stretch.committed ≡ 0
   pub fed : own.plain.fed ≤ frames_of wav
 
 -- a client's port, while the card rests at a position
 pub record IsAtPort (members p : ℕ) (own : Own) (t : Turn) : Type 0 where
-  pub rests : RestsAt own.plain.geometry members p (core_of t)
+  pub rests : RestsAt own.plain.identity.geometry members p (core_of t)
   pub usable : CanUse own.plain (view_of_turn t)
   pub free : first_free (cursor_of_turn t) 0 ≡ own.free
 
 -- the entries of a client's stretch so far, by its file
 abbrev pub stretch : Plain → List ℤ → List Entry
-stretch c samples = expand c.member (segment_of c) samples c.bindings
+stretch c samples = expand c.identity.member (segment_of c) samples c.setup.bindings
 
 -- a line whose answer ends a stretch: a prepare that isn't refused
 abbrev pub ends_stretch : Op → Answer → Bool
@@ -54,8 +54,8 @@ pub record HasCalled (members p : ℕ) (wav : Sound) (own : Own) (asked : Op) (w
   pub laid : TurnLaid t u entries
   pub adds : AreAdds entries
   pub outcome : (w.plain, answer) ≡ called p wav own asked
-  pub bindings : w.plain.bindings ≡ own.plain.bindings
+  pub bindings : w.plain.setup.bindings ≡ own.plain.setup.bindings
   pub grown : ends_stretch asked answer ≡ false → stretch w.plain wav.samples ≡ stretch own.plain wav.samples ++ entries
-  pub ending : ends_stretch asked answer ≡ true → (entries ≡ []) × (w.plain.committed ≡ 0) × (w.plain.part ≡ 0)
+  pub ending : ends_stretch asked answer ≡ true → (entries ≡ []) × (w.plain.stretch.committed ≡ 0) × (w.plain.stretch.part ≡ 0)
   pub own_after : IsOwn wav (line_done p wav own asked).0 w
   pub port_after : IsAtPort members p (line_done p wav own asked).0 u

@@ -76,7 +76,7 @@ port_view v client = record { geometry = v.geometry; member = client; can_add = 
 
 -- the port of a client's number over a core that rests at a position
 pub record IsAtSeat (members p client : ℕ) (own : Own) (v : View) : Type 0 where
-  pub rests : RestsAt own.plain.geometry members p v
+  pub rests : RestsAt own.plain.identity.geometry members p v
   pub usable : CanUse own.plain (port_view v client)
   pub free : first_free (cursor_at v client) 0 ≡ own.free
 
@@ -84,7 +84,7 @@ pub record IsAtSeat (members p client : ℕ) (own : Own) (v : View) : Type 0 whe
 pub record IsSeated (members p client : ℕ) (wav : Sound) (bound : List ℕ) (core : View) (own : Own) (v : ClientView) : Type 0 where
   pub is_own : IsOwn wav own v
   pub at : IsAtSeat members p client own core
-  pub bindings : own.plain.bindings ≡ bound
+  pub bindings : own.plain.setup.bindings ≡ bound
 
 -- the client of a seat that is open
 abbrev pub own_at : List Marks → ℕ → Seat → ClientView → Own
@@ -130,7 +130,7 @@ pub record HasOpened (script : Script) (wavs : List Sound) (body : Body) : Type 
 pub record IsOpenPort (core : View) (client : ℕ) (wav : Sound) (seat : Seat) : Type 0 where
   pub member : client < length core.marks
   pub usable : (v : ClientView) → seat.client ≡ Some v → CanUse v.plain (port_view core client)
-  pub channels : (v : ClientView) → seat.client ≡ Some v → length v.plain.bindings ≡ wav.channels
+  pub channels : (v : ClientView) → seat.client ≡ Some v → length v.plain.setup.bindings ≡ wav.channels
   pub fed : (v : ClientView) → seat.client ≡ Some v → v.plain.fed ≤ frames_of wav
 
 -- a write asks for at most the frames that a script can ask for
@@ -158,9 +158,9 @@ pub record HasCalledAt (members p client : ℕ) (wav : Sound) (own : Own) (asked
   pub entries : List Entry
   pub laid : LaysAt client v w entries
   pub outcome : (x.plain, answer) ≡ called p wav own asked
-  pub bindings : x.plain.bindings ≡ own.plain.bindings
+  pub bindings : x.plain.setup.bindings ≡ own.plain.setup.bindings
   pub grown : ends_stretch asked answer ≡ false → stretch x.plain wav.samples ≡ stretch own.plain wav.samples ++ entries
-  pub ending : ends_stretch asked answer ≡ true → (entries ≡ []) × (x.plain.committed ≡ 0) × (x.plain.part ≡ 0)
+  pub ending : ends_stretch asked answer ≡ true → (entries ≡ []) × (x.plain.stretch.committed ≡ 0) × (x.plain.stretch.part ≡ 0)
   pub own_after : IsOwn wav (line_done p wav own asked).0 x
   pub at : IsAtSeat members p client (line_done p wav own asked).0 w
 

@@ -168,7 +168,7 @@ fn next_frames(wav: &Wav, fed: u64, frames: u32) -> &[i16]
 fn write_line(client: &mut Client, port: &mut Turn<'_>, wav: &Wav, frames: u32) -> Answer
     requires few { frames ≤ 4194304 }
     requires usable { CanUse client.old.plain (view_of_turn port.old) }
-    requires channels { length client.old.plain.bindings ≡ wav.now.channels }
+    requires channels { length client.old.plain.setup.bindings ≡ wav.now.channels }
     requires fed { client.old.plain.fed ≤ frames_of wav.now }
     ensures { (members p : ℕ) (own : Own) (h : List Row) → IsOwn wav.now own client.old → IsAtPort members p own port.old → Stands (core_of port.old) h
         → HasCalled members p wav.now own (Op.Write frames) client.new port.old port.new result }
@@ -184,7 +184,7 @@ fn write_line(client: &mut Client, port: &mut Turn<'_>, wav: &Wav, frames: u32) 
 pub(crate) fn call_line(client: &mut Client, port: &mut Turn<'_>, wav: &Wav, asked: Op) -> Answer
     requires asked { IsAsked asked }
     requires usable { CanUse client.old.plain (view_of_turn port.old) }
-    requires channels { length client.old.plain.bindings ≡ wav.now.channels }
+    requires channels { length client.old.plain.setup.bindings ≡ wav.now.channels }
     requires fed { client.old.plain.fed ≤ frames_of wav.now }
     ensures { (members p : ℕ) (own : Own) (h : List Row) → IsOwn wav.now own client.old → IsAtPort members p own port.old → Stands (core_of port.old) h
         → HasCalled members p wav.now own asked client.new port.old port.new result }

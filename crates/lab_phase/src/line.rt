@@ -67,7 +67,7 @@ fn keep_ended(
 fn open_line(core: &mut Core, client: &mut Client, number: u32, wav: &Wav, asked: Op) -> Answer
     requires member { number < length core.old.marks }
     requires usable { CanUse client.old.plain (port_view core.old number) }
-    requires channels { length client.old.plain.bindings ≡ wav.now.channels }
+    requires channels { length client.old.plain.setup.bindings ≡ wav.now.channels }
     requires fed { client.old.plain.fed ≤ frames_of wav.now }
     requires asked { IsAsked asked }
     ensures { (members p : ℕ) (own : Own) (h : List Event) → IsOwn wav.now own client.old → IsAtSeat members p number own core.old → Stands core.old h

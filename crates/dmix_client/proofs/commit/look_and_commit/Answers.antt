@@ -21,6 +21,6 @@ returns-clause-takes g c =
 
 pub returns-clause-found : goal.returns-clause-found
 returns-clause-found g c =
-    (TakesAt-looks g.P.MixPort g.G.Gate g.met.P.MixPort.laid_composes g.met.P.MixPort.loaded_composes (λ position. c.args.plain.now) (sync_count c.args.plain.now) c.args.ring.now c.args.plain.now.bindings
+    (TakesAt-looks g.P.MixPort g.G.Gate g.met.P.MixPort.laid_composes g.met.P.MixPort.loaded_composes (λ position. c.args.plain.now) (sync_count c.args.plain.now) c.args.ring.now c.args.plain.now.setup.bindings
     (c.args.port.now, c.args.gate.now) (c.lay_frames-commit.new.port, c.lay_frames-commit.new.gate) (Some c.in-Ok.position) c.lay_frames-commit.result
     (configured-moving c.args.plain.now c.args.ring.now c.requires.sound c.requires.moving).bound (λ position. refl) (returns-clause-takes g c)).found

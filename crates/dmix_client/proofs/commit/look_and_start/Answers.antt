@@ -22,6 +22,6 @@ returns-clause-takes g c =
 
 pub returns-clause-found : goal.returns-clause-found
 returns-clause-found g c =
-    (TakesAt-looks g.P.MixPort g.G.Gate g.met.P.MixPort.laid_composes g.met.P.MixPort.loaded_composes (λ position. started_in c.args.plain.now Running position c.args.cursor) (λ position. start_count c.args.plain.now c.args.cursor position c.args.upto) c.args.ring.now c.args.plain.now.bindings
+    (TakesAt-looks g.P.MixPort g.G.Gate g.met.P.MixPort.laid_composes g.met.P.MixPort.loaded_composes (λ position. started_in c.args.plain.now Running position c.args.cursor) (λ position. start_count c.args.plain.now c.args.cursor position c.args.upto) c.args.ring.now c.args.plain.now.setup.bindings
     (c.args.port.now, c.args.gate.now) (c.lay_frames-commit.new.port, c.lay_frames-commit.new.gate) (Some c.in-Ok.position) c.lay_frames-commit.result
     (configured-prepared c.args.plain.now c.args.ring.now c.requires.sound c.requires.prepared).bound (λ position. refl) (returns-clause-takes g c)).found

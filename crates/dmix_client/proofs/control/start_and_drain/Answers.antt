@@ -6,7 +6,7 @@ use Rattle.pcm_states.specs.declared.states.State.TheVariants.{Draining}
 use Rattle.pcm_states.specs.declared.calls.Call.TheVariants as call
 use Rattle.dmix_client.specs.Growth.{AnySamples, Keeps}
 use Rattle.dmix_client.specs.Port.{IsStep}
-use Rattle.dmix_client.specs.View.{is_moving}
+use Rattle.pcm_stream.specs.Status.{is_moving}
 use Rattle.dmix_client.proofs.Drained.{IsStill}
 use Rattle.dmix_client.proofs.Going.{ok-of}
 use Rattle.dmix_client.proofs.Grown.{configured-moving, configured-prepared}

@@ -14,5 +14,5 @@ returns-clause-takes g c =
     let plain = c.args.plain.now in
     subst (λ (cursor : Cursor). TakesAt g.P.MixPort g.G.Gate (c.args.port.now, c.args.gate.now) (resumes plain cursor c.args.ring.now) (c.look_and_start-found.new.port, c.look_and_start-found.new.gate) c.resumed-after.result) c.cursor-cursor.ensures.value
     (resumes-by g.P.MixPort g.G.Gate (c.args.port.now, c.args.gate.now) (c.look_and_start-found.new.port, c.look_and_start-found.new.gate) plain c.cursor-cursor.result c.args.ring.now found.load found.commit c.resumed-after.result
-    (subst (λ (d : Plain). TakesAt g.P.MixPort g.G.Gate (c.args.port.now, c.args.gate.now) (looks (λ position. started_in d Running position c.cursor-cursor.result) (λ position. start_count d c.cursor-cursor.result position d.written) c.args.ring.now) (c.look_and_start-found.new.port, c.look_and_start-found.new.gate) (found.load, found.commit)) c.rebased-from.ensures c.look_and_start-found.ensures.takes)
+    (subst (λ (d : Plain). TakesAt g.P.MixPort g.G.Gate (c.args.port.now, c.args.gate.now) (looks (λ position. started_in d Running position c.cursor-cursor.result) (λ position. start_count d c.cursor-cursor.result position d.stretch.written) c.args.ring.now) (c.look_and_start-found.new.port, c.look_and_start-found.new.gate) (found.load, found.commit)) c.rebased-from.ensures c.look_and_start-found.ensures.takes)
     (sym c.resumed-after.ensures))

@@ -32,7 +32,7 @@ take_back-requires-clause-port g c =
 
 pub take_back-requires-clause-running : goal.take_back-requires-clause-running
 take_back-requires-clause-running g c =
-    OnOk-of c.check-checked.result (c.check-checked.new.plain.state ≡ Running) (ok-of c.check-checked.result c.in_default.not-Err)
+    OnOk-of c.check-checked.result (c.check-checked.new.plain.status.state ≡ Running) (ok-of c.check-checked.result c.in_default.not-Err)
     (checks-kept g.P.MixPort g.G.Gate g.met.P.MixPort.laid_composes (c.args.port.now, c.args.gate.now) (c.check-checked.new.port, c.check-checked.new.gate) c.args.plain.now c.args.ring.now (c.check-checked.new.plain, c.check-checked.result)
     c.requires.sound c.requires.running c.requires.unstopped c.requires.port c.check-checked.ensures).runs
 

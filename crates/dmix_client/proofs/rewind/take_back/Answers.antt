@@ -13,7 +13,7 @@ take_frames-left-requires-clause-held g c =
     let floor = (port.view c.args.port.now).marks.floor in
     let m : IsMoving d = c.requires.sound.moving (rw c.requires.running refl) c.requires.unstopped in
     let is : IsBack d floor c.args.frames = IsBack-of d floor c.args.frames m c.requires.few in
-    subst (λ (b : ℕ). port.ends_in c.args.port.now (run_entries d.member d.bindings (held d c.args.ring.now) d.card (d.committed - b) b 0)) (sym c.back.ensures)
+    subst (λ (b : ℕ). port.ends_in c.args.port.now (run_entries d.identity.member d.setup.bindings (held d c.args.ring.now) d.stretch.card (d.stretch.committed - b) b 0)) (sym c.back.ensures)
     (g.met.P.MixPort.ends_in_part c.args.port.now _ _ (subst (port.ends_in c.args.port.now) (held-last d c.args.ring.now floor c.args.frames m is) c.requires.standing))
 
 pub rewound-after-requires-clause-committed : goal.rewound-after-requires-clause-committed
@@ -26,7 +26,7 @@ rewound-after-requires-clause-committed g c =
     let x = c.take_frames-left.result in
     let are = take_frames-took d c.args.ring.now floor c.args.frames c.requires.sound c.requires.running c.requires.unstopped (IsBack-of d floor c.args.frames m c.requires.few) port g.G.Gate holds
     (c.args.port.now, c.args.gate.now) (c.take_frames-left.new.port, c.take_frames-left.new.gate) c.back.result x c.back.ensures refl c.requires.port c.take_frames-left.ensures in
-    (left-few x.ended x.frames x.part (back_of d c.args.frames) (length d.bindings) are).0
+    (left-few x.ended x.frames x.part (back_of d c.args.frames) (length d.setup.bindings) are).0
 
 pub rewound-after-requires-clause-few : goal.rewound-after-requires-clause-few
 rewound-after-requires-clause-few g c =
@@ -38,7 +38,7 @@ rewound-after-requires-clause-few g c =
     let x = c.take_frames-left.result in
     let are = take_frames-took d c.args.ring.now floor c.args.frames c.requires.sound c.requires.running c.requires.unstopped (IsBack-of d floor c.args.frames m c.requires.few) port g.G.Gate holds
     (c.args.port.now, c.args.gate.now) (c.take_frames-left.new.port, c.take_frames-left.new.gate) c.back.result x c.back.ensures refl c.requires.port c.take_frames-left.ensures in
-    let few : x.frames ≤ back_of d c.args.frames = (left-few x.ended x.frames x.part (back_of d c.args.frames) (length d.bindings) are).0 in
+    let few : x.frames ≤ back_of d c.args.frames = (left-few x.ended x.frames x.part (back_of d c.args.frames) (length d.setup.bindings) are).0 in
     omega (arith, few)
 
 pub rewound-after-requires-clause-part : goal.rewound-after-requires-clause-part
@@ -51,7 +51,7 @@ rewound-after-requires-clause-part g c =
     let x = c.take_frames-left.result in
     let are = take_frames-took d c.args.ring.now floor c.args.frames c.requires.sound c.requires.running c.requires.unstopped (IsBack-of d floor c.args.frames m c.requires.few) port g.G.Gate holds
     (c.args.port.now, c.args.gate.now) (c.take_frames-left.new.port, c.take_frames-left.new.gate) c.back.result x c.back.ensures refl c.requires.port c.take_frames-left.ensures in
-    left-part x.ended x.frames x.part (back_of d c.args.frames) (length d.bindings) are
+    left-part x.ended x.frames x.part (back_of d c.args.frames) (length d.setup.bindings) are
 
 pub returns : goal.returns
 returns g c =

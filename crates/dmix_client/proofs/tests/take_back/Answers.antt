@@ -19,8 +19,8 @@ use Rattle.dmix_client.proofs.tests.take_back.Goals as goal
 -- what a call of a new client lays is what the port's standing adds end in
 held-first : {S T X : Type 0} (P : mixport.Ghosts S) (G : gates.Ghosts T) (s t : S × T) (c d : ClientView) (answer : Result X PcmError) (For : List ℤ → Type 0) (samples : List ℤ)
     → ((p q : S) (xs es : List Entry) → AreAdds es → P.laid p q es → P.ends_in p xs → P.ends_in q (xs ++ es)) → ((q : S) (xs ys : List Entry) → P.ends_in q (xs ++ ys) → P.ends_in q ys)
-    → Keeps P G s t c d answer For → For samples → c.plain.written ≡ 0 → c.plain.committed ≡ 0 → c.plain.part ≡ 0 → P.ends_in s.0 []
-    → IsSound d.plain d.ring → d.plain.state ≡ Running → d.plain.stopped ≡ false → P.ends_in t.0 (held_entries d.plain d.ring)
+    → Keeps P G s t c d answer For → For samples → c.plain.stretch.written ≡ 0 → c.plain.stretch.committed ≡ 0 → c.plain.stretch.part ≡ 0 → P.ends_in s.0 []
+    → IsSound d.plain d.ring → d.plain.status.state ≡ Running → d.plain.status.stopped ≡ false → P.ends_in t.0 (held_entries d.plain d.ring)
 held-first P G s t c d answer For samples held_laid part keeps for none no_frame no_part stand sound runs going =
     IsBacked-held P G t.0 d samples part sound runs going (IsBacked-grows P G s t c d answer For samples held_laid keeps for (IsBacked-new P G s.0 c samples none no_frame no_part stand))
 
@@ -29,11 +29,11 @@ rewind-answer-requires-clause-standing g c runs going =
     let samples = c.args.samples.now in
     let v : ClientView = c.hw_params.new.self in
     let ok = c.in_ok-hw_params.ensures.ok in
-    let none : v.plain.written ≡ 0 = ap (λ (x : ClientView). x.plain.written) ok in
-    let no_frame : v.plain.committed ≡ 0 = ap (λ (x : ClientView). x.plain.committed) ok in
-    let no_part : v.plain.part ≡ 0 = ap (λ (x : ClientView). x.plain.part) ok in
-    let source : v.plain.source ≡ 0 = ap (λ (x : ClientView). x.plain.source) ok ∙ ap (λ (x : ClientView). x.plain.fed) c.new-client.ensures in
+    let none : v.plain.stretch.written ≡ 0 = ap (λ (x : ClientView). x.plain.stretch.written) ok in
+    let no_frame : v.plain.stretch.committed ≡ 0 = ap (λ (x : ClientView). x.plain.stretch.committed) ok in
+    let no_part : v.plain.stretch.part ≡ 0 = ap (λ (x : ClientView). x.plain.stretch.part) ok in
+    let source : v.plain.stretch.source ≡ 0 = ap (λ (x : ClientView). x.plain.stretch.source) ok ∙ ap (λ (x : ClientView). x.plain.fed) c.new-client.ensures in
     let start : Stands c.turn-turn.result.core.now [] = subst (λ (w : View). Stands w []) (sym c.turn-turn.ensures.value) c.in_ok-core.ensures.ok.stands in
     held-first _ _ _ _ v c.writei.new.self c.writei.result _ samples TurnEndsIn-laid TurnEndsIn-part c.writei.ensures.keeps
-    (λ k q low in_range. ap (λ (n : ℕ). sample_at samples (length v.plain.bindings) n q) (let e : v.plain.source + (v.plain.written + k) ≡ k = omega (arith, none, source) in e))
+    (λ k q low in_range. ap (λ (n : ℕ). sample_at samples (length v.plain.setup.bindings) n q) (let e : v.plain.stretch.source + (v.plain.stretch.written + k) ≡ k = omega (arith, none, source) in e))
     none no_frame no_part ([], (start, ([], refl))) c.counts_are_sound.ensures runs going

@@ -23,48 +23,48 @@ take_frame-left-requires-clause-held g c =
     let port = g.P.MixPort in
     let plain = c.args.plain.now in
     let before = c.loop-frame.invariant in
-    let first : ℕ = plain.committed - c.args.count in
+    let first : ℕ = plain.stretch.committed - c.args.count in
     let n : ℕ = c.loop-frame.frame - 1 in
-    let is_slot : c.slot_of-slot.result ≡ (plain.source + (first + n)) % plain.config.buffer_size * length plain.bindings =
-    c.slot_of-slot.ensures.value ∙ ap (λ (k : ℕ). (plain.source + (first + n)) % plain.config.buffer_size * k) c.len-channels.ensures.value in
-    let same : (k : ℕ) → k < length plain.bindings → slice_index_or c.frame_of-samples.result.now k (pos 0) ≡ held plain c.args.ring.now (first + n) k =
+    let is_slot : c.slot_of-slot.result ≡ (plain.stretch.source + (first + n)) % plain.setup.config.buffer_size * length plain.setup.bindings =
+    c.slot_of-slot.ensures.value ∙ ap (λ (k : ℕ). (plain.stretch.source + (first + n)) % plain.setup.config.buffer_size * k) c.len-channels.ensures.value in
+    let same : (k : ℕ) → k < length plain.setup.bindings → slice_index_or c.frame_of-samples.result.now k (pos 0) ≡ held plain c.args.ring.now (first + n) k =
     λ k within. c.frame_of-samples.ensures.samples k (omega (arith, c.len-channels.ensures.value)) ∙ ap (λ (i : ℕ). slice_index_or c.args.ring.now (i + k) (pos 0)) is_slot in
     let counted : c.loop-frame.frame ≡ n + 1 = omega (arith, c.loop-frame-test.true) in
-    let last = g.met.P.MixPort.ends_in_part c.loop-frame.port (run_entries plain.member plain.bindings (held plain c.args.ring.now) plain.card first n 0) (frame_entries plain.member plain.bindings (held plain c.args.ring.now (first + n)) (length plain.bindings) (plain.card + (first + n)))
-    (subst (port.ends_in c.loop-frame.port) (ap (λ (k : ℕ). run_entries plain.member plain.bindings (held plain c.args.ring.now) plain.card first k 0) counted ∙ run_entries-last plain.member plain.bindings (held plain c.args.ring.now) plain.card first n) before.stand) in
-    subst (λ (m : ℕ). port.ends_in c.loop-frame.port (frame_entries m plain.bindings (λ q. slice_index_or c.frame_of-samples.result.now q (pos 0)) (length plain.bindings) (plain.card + (first + n)))) (sym before.member)
-    (subst (port.ends_in c.loop-frame.port) (sym (frame_entries-same plain.member plain.bindings (λ q. slice_index_or c.frame_of-samples.result.now q (pos 0)) (held plain c.args.ring.now (first + n)) (length plain.bindings) (plain.card + (first + n)) before.bound.bound same)) last)
+    let last = g.met.P.MixPort.ends_in_part c.loop-frame.port (run_entries plain.identity.member plain.setup.bindings (held plain c.args.ring.now) plain.stretch.card first n 0) (frame_entries plain.identity.member plain.setup.bindings (held plain c.args.ring.now (first + n)) (length plain.setup.bindings) (plain.stretch.card + (first + n)))
+    (subst (port.ends_in c.loop-frame.port) (ap (λ (k : ℕ). run_entries plain.identity.member plain.setup.bindings (held plain c.args.ring.now) plain.stretch.card first k 0) counted ∙ run_entries-last plain.identity.member plain.setup.bindings (held plain c.args.ring.now) plain.stretch.card first n) before.stand) in
+    subst (λ (m : ℕ). port.ends_in c.loop-frame.port (frame_entries m plain.setup.bindings (λ q. slice_index_or c.frame_of-samples.result.now q (pos 0)) (length plain.setup.bindings) (plain.stretch.card + (first + n)))) (sym before.member)
+    (subst (port.ends_in c.loop-frame.port) (sym (frame_entries-same plain.identity.member plain.setup.bindings (λ q. slice_index_or c.frame_of-samples.result.now q (pos 0)) (held plain c.args.ring.now (first + n)) (length plain.setup.bindings) (plain.stretch.card + (first + n)) before.bound.bound same)) last)
 
 pub loop-frame-preserved : goal.loop-frame-preserved
 loop-frame-preserved g c =
     let port = g.P.MixPort in
     let plain = c.args.plain.now in
     let before = c.loop-frame.invariant in
-    let first : ℕ = plain.committed - c.args.count in
+    let first : ℕ = plain.stretch.committed - c.args.count in
     let n : ℕ = c.loop-frame.frame - 1 in
     let counted : c.loop-frame.frame ≡ n + 1 = omega (arith, c.loop-frame-test.true) in
-    let is_slot : c.slot_of-slot.result ≡ (plain.source + (first + n)) % plain.config.buffer_size * length plain.bindings =
-    c.slot_of-slot.ensures.value ∙ ap (λ (k : ℕ). (plain.source + (first + n)) % plain.config.buffer_size * k) c.len-channels.ensures.value in
-    let same : (k : ℕ) → k < length plain.bindings → slice_index_or c.frame_of-samples.result.now k (pos 0) ≡ held plain c.args.ring.now (first + n) k =
+    let is_slot : c.slot_of-slot.result ≡ (plain.stretch.source + (first + n)) % plain.setup.config.buffer_size * length plain.setup.bindings =
+    c.slot_of-slot.ensures.value ∙ ap (λ (k : ℕ). (plain.stretch.source + (first + n)) % plain.setup.config.buffer_size * k) c.len-channels.ensures.value in
+    let same : (k : ℕ) → k < length plain.setup.bindings → slice_index_or c.frame_of-samples.result.now k (pos 0) ≡ held plain c.args.ring.now (first + n) k =
     λ k within. c.frame_of-samples.ensures.samples k (omega (arith, c.len-channels.ensures.value)) ∙ ap (λ (i : ℕ). slice_index_or c.args.ring.now (i + k) (pos 0)) is_slot in
-    let given : TakesAt port g.G.Gate (c.loop-frame.port, c.loop-frame.gate) (take_each plain.member (plain.card + (first + n)) plain.bindings (λ q. slice_index_or c.frame_of-samples.result.now q (pos 0)) (length plain.bindings)) (c.take_frame-left.new.port, c.take_frame-left.new.gate) (c.take_frame-left.result.channels, Whole) =
-    subst (λ (m : ℕ). TakesAt port g.G.Gate (c.loop-frame.port, c.loop-frame.gate) (take_each m (plain.card + (first + n)) plain.bindings (λ q. slice_index_or c.frame_of-samples.result.now q (pos 0)) (length plain.bindings)) (c.take_frame-left.new.port, c.take_frame-left.new.gate) (c.take_frame-left.result.channels, Whole)) before.member
-    (subst (λ (e : Ended). TakesAt port g.G.Gate (c.loop-frame.port, c.loop-frame.gate) (take_each (port.view c.loop-frame.port).member (plain.card + (first + n)) plain.bindings (λ q. slice_index_or c.frame_of-samples.result.now q (pos 0)) (length plain.bindings)) (c.take_frame-left.new.port, c.take_frame-left.new.gate) (c.take_frame-left.result.channels, e)) c.in-Whole.is c.take_frame-left.ensures) in
-    let step = each-taken port g.G.Gate plain.member plain.card (first + n) (plain.card + (first + n)) c.take_frame-left.result.channels plain.bindings (held plain c.args.ring.now) (λ q. slice_index_or c.frame_of-samples.result.now q (pos 0))
+    let given : TakesAt port g.G.Gate (c.loop-frame.port, c.loop-frame.gate) (take_each plain.identity.member (plain.stretch.card + (first + n)) plain.setup.bindings (λ q. slice_index_or c.frame_of-samples.result.now q (pos 0)) (length plain.setup.bindings)) (c.take_frame-left.new.port, c.take_frame-left.new.gate) (c.take_frame-left.result.channels, Whole) =
+    subst (λ (m : ℕ). TakesAt port g.G.Gate (c.loop-frame.port, c.loop-frame.gate) (take_each m (plain.stretch.card + (first + n)) plain.setup.bindings (λ q. slice_index_or c.frame_of-samples.result.now q (pos 0)) (length plain.setup.bindings)) (c.take_frame-left.new.port, c.take_frame-left.new.gate) (c.take_frame-left.result.channels, Whole)) before.member
+    (subst (λ (e : Ended). TakesAt port g.G.Gate (c.loop-frame.port, c.loop-frame.gate) (take_each (port.view c.loop-frame.port).member (plain.stretch.card + (first + n)) plain.setup.bindings (λ q. slice_index_or c.frame_of-samples.result.now q (pos 0)) (length plain.setup.bindings)) (c.take_frame-left.new.port, c.take_frame-left.new.gate) (c.take_frame-left.result.channels, e)) c.in-Whole.is c.take_frame-left.ensures) in
+    let step = each-taken port g.G.Gate plain.identity.member plain.stretch.card (first + n) (plain.stretch.card + (first + n)) c.take_frame-left.result.channels plain.setup.bindings (held plain c.args.ring.now) (λ q. slice_index_or c.frame_of-samples.result.now q (pos 0))
     (c.loop-frame.port, c.loop-frame.gate) (c.take_frame-left.new.port, c.take_frame-left.new.gate) Whole before.bound.bound refl same given in
     let holds : HoldsBy port = record { laid_composes = g.met.P.MixPort.laid_composes; loaded_composes = g.met.P.MixPort.loaded_composes; part = g.met.P.MixPort.ends_in_part; nothing = g.met.P.MixPort.held_nothing; back = g.met.P.MixPort.held_back } in
-    let floor : IsFrom (port.view c.loop-frame.port).marks.floor (plain.card + first) (least_channel plain.bindings) = before.from_floor (omega (arith, before.few, c.loop-frame-test.true)) in
-    let took = TakesAt-took port g.G.Gate holds plain.member (plain.card + (first + n)) plain.bindings (held plain c.args.ring.now (first + n)) (length plain.bindings) (c.loop-frame.port, c.loop-frame.gate) (c.take_frame-left.new.port, c.take_frame-left.new.gate)
+    let floor : IsFrom (port.view c.loop-frame.port).marks.floor (plain.stretch.card + first) (least_channel plain.setup.bindings) = before.from_floor (omega (arith, before.few, c.loop-frame-test.true)) in
+    let took = TakesAt-took port g.G.Gate holds plain.identity.member (plain.stretch.card + (first + n)) plain.setup.bindings (held plain c.args.ring.now (first + n)) (length plain.setup.bindings) (c.loop-frame.port, c.loop-frame.gate) (c.take_frame-left.new.port, c.take_frame-left.new.gate)
     c.take_frame-left.result.channels Whole before.bound.bound (omega arith) before.member (omega (arith, floor)) step in
     record {
       member = ap (λ (v : PortView). v.member) took.view_is ∙ before.member;
-      bound = subst (λ (x : Geometry). IsOnCard plain.bindings x) (sym (ap (λ (v : PortView). v.geometry) took.view_is)) before.bound;
-      from_floor = λ some. subst (λ (x : Cursor). IsFrom x (plain.card + first) (least_channel plain.bindings)) (sym took.same_floor) floor;
+      bound = subst (λ (x : Geometry). IsOnCard plain.setup.bindings x) (sym (ap (λ (v : PortView). v.geometry) took.view_is)) before.bound;
+      from_floor = λ some. subst (λ (x : Cursor). IsFrom x (plain.stretch.card + first) (least_channel plain.setup.bindings)) (sym took.same_floor) floor;
       few = omega (arith, before.few);
-      stand = subst (port.ends_in c.take_frame-left.new.port) (ap (λ (k : ℕ). run_entries plain.member plain.bindings (held plain c.args.ring.now) plain.card first n 0 ++ frame_entries plain.member plain.bindings (held plain c.args.ring.now (first + n)) k (plain.card + (first + n))) took.is_left ∙ append-nil (run_entries plain.member plain.bindings (held plain c.args.ring.now) plain.card first n 0))
-          (took.away.held (run_entries plain.member plain.bindings (held plain c.args.ring.now) plain.card first n 0)
-          (subst (port.ends_in c.loop-frame.port) (ap (λ (k : ℕ). run_entries plain.member plain.bindings (held plain c.args.ring.now) plain.card first k 0) counted ∙ run_entries-last plain.member plain.bindings (held plain c.args.ring.now) plain.card first n) before.stand));
-      takes = BackFrames-next port g.G.Gate plain.member plain.card plain.bindings (held plain c.args.ring.now) first c.args.count (c.args.port.now, c.args.gate.now) (c.loop-frame.port, c.loop-frame.gate) (c.take_frame-left.new.port, c.take_frame-left.new.gate)
+      stand = subst (port.ends_in c.take_frame-left.new.port) (ap (λ (k : ℕ). run_entries plain.identity.member plain.setup.bindings (held plain c.args.ring.now) plain.stretch.card first n 0 ++ frame_entries plain.identity.member plain.setup.bindings (held plain c.args.ring.now (first + n)) k (plain.stretch.card + (first + n))) took.is_left ∙ append-nil (run_entries plain.identity.member plain.setup.bindings (held plain c.args.ring.now) plain.stretch.card first n 0))
+          (took.away.held (run_entries plain.identity.member plain.setup.bindings (held plain c.args.ring.now) plain.stretch.card first n 0)
+          (subst (port.ends_in c.loop-frame.port) (ap (λ (k : ℕ). run_entries plain.identity.member plain.setup.bindings (held plain c.args.ring.now) plain.stretch.card first k 0) counted ∙ run_entries-last plain.identity.member plain.setup.bindings (held plain c.args.ring.now) plain.stretch.card first n) before.stand));
+      takes = BackFrames-next port g.G.Gate plain.identity.member plain.stretch.card plain.setup.bindings (held plain c.args.ring.now) first c.args.count (c.args.port.now, c.args.gate.now) (c.loop-frame.port, c.loop-frame.gate) (c.take_frame-left.new.port, c.take_frame-left.new.gate)
           n c.loop-frame.frame c.take_frame-left.result.channels counted before.takes step;
     }
 
@@ -73,27 +73,27 @@ returns-in_default g c =
     let port = g.P.MixPort in
     let plain = c.args.plain.now in
     let before = c.loop-frame.invariant in
-    let first : ℕ = plain.committed - c.args.count in
+    let first : ℕ = plain.stretch.committed - c.args.count in
     let n : ℕ = c.loop-frame.frame - 1 in
     let counted : c.loop-frame.frame ≡ n + 1 = omega (arith, c.loop-frame-test.true) in
-    let is_slot : c.slot_of-slot.result ≡ (plain.source + (first + n)) % plain.config.buffer_size * length plain.bindings =
-    c.slot_of-slot.ensures.value ∙ ap (λ (k : ℕ). (plain.source + (first + n)) % plain.config.buffer_size * k) c.len-channels.ensures.value in
-    let same : (k : ℕ) → k < length plain.bindings → slice_index_or c.frame_of-samples.result.now k (pos 0) ≡ held plain c.args.ring.now (first + n) k =
+    let is_slot : c.slot_of-slot.result ≡ (plain.stretch.source + (first + n)) % plain.setup.config.buffer_size * length plain.setup.bindings =
+    c.slot_of-slot.ensures.value ∙ ap (λ (k : ℕ). (plain.stretch.source + (first + n)) % plain.setup.config.buffer_size * k) c.len-channels.ensures.value in
+    let same : (k : ℕ) → k < length plain.setup.bindings → slice_index_or c.frame_of-samples.result.now k (pos 0) ≡ held plain c.args.ring.now (first + n) k =
     λ k within. c.frame_of-samples.ensures.samples k (omega (arith, c.len-channels.ensures.value)) ∙ ap (λ (i : ℕ). slice_index_or c.args.ring.now (i + k) (pos 0)) is_slot in
-    let given : TakesAt port g.G.Gate (c.loop-frame.port, c.loop-frame.gate) (take_each plain.member (plain.card + (first + n)) plain.bindings (λ q. slice_index_or c.frame_of-samples.result.now q (pos 0)) (length plain.bindings)) (c.take_frame-left.new.port, c.take_frame-left.new.gate) (c.take_frame-left.result.channels, c.take_frame-left.result.ended) =
-    subst (λ (m : ℕ). TakesAt port g.G.Gate (c.loop-frame.port, c.loop-frame.gate) (take_each m (plain.card + (first + n)) plain.bindings (λ q. slice_index_or c.frame_of-samples.result.now q (pos 0)) (length plain.bindings)) (c.take_frame-left.new.port, c.take_frame-left.new.gate) (c.take_frame-left.result.channels, c.take_frame-left.result.ended)) before.member c.take_frame-left.ensures in
-    let step = each-taken port g.G.Gate plain.member plain.card (first + n) (plain.card + (first + n)) c.take_frame-left.result.channels plain.bindings (held plain c.args.ring.now) (λ q. slice_index_or c.frame_of-samples.result.now q (pos 0))
+    let given : TakesAt port g.G.Gate (c.loop-frame.port, c.loop-frame.gate) (take_each plain.identity.member (plain.stretch.card + (first + n)) plain.setup.bindings (λ q. slice_index_or c.frame_of-samples.result.now q (pos 0)) (length plain.setup.bindings)) (c.take_frame-left.new.port, c.take_frame-left.new.gate) (c.take_frame-left.result.channels, c.take_frame-left.result.ended) =
+    subst (λ (m : ℕ). TakesAt port g.G.Gate (c.loop-frame.port, c.loop-frame.gate) (take_each m (plain.stretch.card + (first + n)) plain.setup.bindings (λ q. slice_index_or c.frame_of-samples.result.now q (pos 0)) (length plain.setup.bindings)) (c.take_frame-left.new.port, c.take_frame-left.new.gate) (c.take_frame-left.result.channels, c.take_frame-left.result.ended)) before.member c.take_frame-left.ensures in
+    let step = each-taken port g.G.Gate plain.identity.member plain.stretch.card (first + n) (plain.stretch.card + (first + n)) c.take_frame-left.result.channels plain.setup.bindings (held plain c.args.ring.now) (λ q. slice_index_or c.frame_of-samples.result.now q (pos 0))
     (c.loop-frame.port, c.loop-frame.gate) (c.take_frame-left.new.port, c.take_frame-left.new.gate) c.take_frame-left.result.ended before.bound.bound refl same given in
-    subst (λ (x : Commit). TakesAt port g.G.Gate (c.args.port.now, c.args.gate.now) (take_frames plain.member plain.card plain.bindings (held plain c.args.ring.now) first c.args.count) (c.take_frame-left.new.port, c.take_frame-left.new.gate) x)
+    subst (λ (x : Commit). TakesAt port g.G.Gate (c.args.port.now, c.args.gate.now) (take_frames plain.identity.member plain.stretch.card plain.setup.bindings (held plain c.args.ring.now) first c.args.count) (c.take_frame-left.new.port, c.take_frame-left.new.gate) x)
     (let e = c.left_of.ensures in let l = c.len-channels.ensures.value in cc)
-    (BackFrames-ended port g.G.Gate plain.member plain.card plain.bindings (held plain c.args.ring.now) first c.args.count (c.args.port.now, c.args.gate.now) (c.loop-frame.port, c.loop-frame.gate) (c.take_frame-left.new.port, c.take_frame-left.new.gate)
+    (BackFrames-ended port g.G.Gate plain.identity.member plain.stretch.card plain.setup.bindings (held plain c.args.ring.now) first c.args.count (c.args.port.now, c.args.gate.now) (c.loop-frame.port, c.loop-frame.gate) (c.take_frame-left.new.port, c.take_frame-left.new.gate)
     n c.loop-frame.frame c.take_frame-left.result.channels c.take_frame-left.result.ended counted c.in_default.not-Whole before.takes step)
 
 pub returns : goal.returns
 returns g c =
     let port = g.P.MixPort in
     let plain = c.args.plain.now in
-    let first : ℕ = plain.committed - c.args.count in
+    let first : ℕ = plain.stretch.committed - c.args.count in
     let none : c.loop-frame.frame ≡ 0 = omega (arith, c.loop-frame-test.false) in
-    BackFrames-all port g.G.Gate plain.member plain.card plain.bindings (held plain c.args.ring.now) first c.args.count (c.args.port.now, c.args.gate.now) (c.loop-frame.port, c.loop-frame.gate)
-    (λ t x takes. c.loop-frame.invariant.takes t x (subst (λ (k : ℕ). TakesAt port g.G.Gate (c.loop-frame.port, c.loop-frame.gate) (take_frames plain.member plain.card plain.bindings (held plain c.args.ring.now) first k) t x) (sym none) takes))
+    BackFrames-all port g.G.Gate plain.identity.member plain.stretch.card plain.setup.bindings (held plain c.args.ring.now) first c.args.count (c.args.port.now, c.args.gate.now) (c.loop-frame.port, c.loop-frame.gate)
+    (λ t x takes. c.loop-frame.invariant.takes t x (subst (λ (k : ℕ). TakesAt port g.G.Gate (c.loop-frame.port, c.loop-frame.gate) (take_frames plain.identity.member plain.stretch.card plain.setup.bindings (held plain c.args.ring.now) first k) t x) (sym none) takes))

@@ -14,5 +14,5 @@ returns-clause-takes g c =
 pub returns-clause-commit : goal.returns-clause-commit
 returns-clause-commit g c =
     let plain = c.args.plain.now in
-    (TakesAt-frames g.P.MixPort g.G.Gate g.met.P.MixPort.laid_composes g.met.P.MixPort.loaded_composes plain.member plain.card plain.bindings (held plain c.args.ring.now) (count_with plain c.args.taken) plain.committed
+    (TakesAt-frames g.P.MixPort g.G.Gate g.met.P.MixPort.laid_composes g.met.P.MixPort.loaded_composes plain.identity.member plain.stretch.card plain.setup.bindings (held plain c.args.ring.now) (count_with plain c.args.taken) plain.stretch.committed
     (c.args.port.now, c.args.gate.now) (c.lay_frames.new.port, c.lay_frames.new.gate) c.lay_frames.result (configured-moving plain c.args.ring.now c.requires.sound c.requires.moving).bound (returns-clause-takes g c)).commit_is

@@ -38,6 +38,6 @@ pub returns-clause-explains : goal.returns-clause-explains
 returns-clause-explains g c starts =
     let plain = c.args.plain.now in
     subst (λ (m : ℕ). Explains g.P.MixPort g.G.Gate (c.args.port.now, c.args.gate.now) (c.start_write.new.port, c.start_write.new.gate) (client plain c.store_taken.new.ring) (λ position. started_in plain Running position (g.P.MixPort.view c.args.port.now).marks.cursor)
-    (λ position. start_count plain (g.P.MixPort.view c.args.port.now).marks.cursor position (plain.written + m)) (λ load commit. accepted_if m (started plain Running (g.P.MixPort.view c.args.port.now).marks.cursor load commit)) (c.start_write.new.plain, c.start_write.result)) c.taken-taken.ensures
+    (λ position. start_count plain (g.P.MixPort.view c.args.port.now).marks.cursor position (plain.stretch.written + m)) (λ load commit. accepted_if m (started plain Running (g.P.MixPort.view c.args.port.now).marks.cursor load commit)) (c.start_write.new.plain, c.start_write.result)) c.taken-taken.ensures
     (filled-kept g.P.MixPort g.G.Gate g.met.P.MixPort.laid_composes g.met.P.MixPort.loaded_composes (c.args.port.now, c.args.gate.now) (c.start_write.new.port, c.start_write.new.gate) c.args.plain.now c.args.ring.now c.store_taken.new.ring c.args.samples.now c.args.frames c.taken-taken.result
     (c.start_write.new.plain, c.start_write.result) c.taken-taken.ensures c.store_taken.ensures.ring c.requires.sound c.store_taken.ensures.sound c.requires.prepared c.requires.held c.start_write.ensures.near c.requires.port c.start_write.ensures.takes).explains

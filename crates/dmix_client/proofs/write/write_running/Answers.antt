@@ -7,7 +7,7 @@ use Rattle.pcm_states.specs.declared.calls.Call.TheVariants as call
 use Rattle.course.specs.AtPort.{TakesAt}
 use Rattle.dmix_client.specs.Course.{syncs}
 use Rattle.dmix_client.specs.Growth.{AnySamples, Keeps}
-use Rattle.dmix_client.specs.View.{is_moving}
+use Rattle.pcm_stream.specs.Status.{is_moving}
 use Rattle.dmix_client.proofs.Going.{ok-of}
 use Rattle.dmix_client.proofs.Grown.{configured-moving}
 use Rattle.dmix_client.proofs.Keeping.{client, syncs-runs, writes-explained, writes-kept}

@@ -30,7 +30,7 @@ returns c = λ members p own h is at stands.
     let plain = c.args.client.now.plain in
     let wav = c.args.wav.now in
     let n = min c.args.frames (frames_of wav - plain.fed) in
-    let some : 1 ≤ length plain.bindings = subst (λ (d : Plain). 1 ≤ length d.bindings) (sym is.same) is.on_card.bound.some in
+    let some : 1 ≤ length plain.setup.bindings = subst (λ (d : Plain). 1 ≤ length d.setup.bindings) (sym is.same) is.on_card.bound.some in
     let offers : Offers wav plain c.next_frames-offer.result.now n =
     subst (λ (samples : List ℤ). Offers wav plain samples n)
     (sym (offered wav plain c.next_frames-offer.result.now c.fed.result c.args.frames c.fed.ensures c.next_frames-offer.ensures.frames))

@@ -11,7 +11,7 @@ use Rattle.dmix_client.specs.Course.{admitted, number_course, syncs}
 use Rattle.dmix_client.specs.View.{ClientView}
 use Rattle.dmix_client.proofs.CausedBy.{step-sync}
 use Rattle.dmix_client.proofs.Grown.{configured-moving}
-use Rattle.dmix_client.proofs.Keeping.{Explains-number, Keeps-none, client, syncs-explained}
+use Rattle.dmix_client.proofs.Keeping.{Explains-number, Keeps-none, Keeps-number, client, syncs-explained}
 use Rattle.dmix_client.proofs.Looking.{admitted-ok, number-moving}
 use Rattle.dmix_client.proofs.client.Client.avail_update.Goals as goal
 
@@ -20,7 +20,7 @@ returns-clause-takes g c =
     let plain = c.self.inside.plain in
     let ring : List ℤ = c.self.inside.ring.items in
     subst (λ (v : ClientView). TakesAt g.P.MixPort g.G.Gate (c.args.port.now, c.args.gate.now) (admitted v.plain call.Sync (number_course avail_answer v.plain v.ring)) (c.sync_call-answer.new.port, c.sync_call-answer.new.gate) (c.sync_call-answer.new.plain, c.with_avail.result)) c.self.view_is
-    (admitted-ok g.P.MixPort g.G.Gate (c.args.port.now, c.args.gate.now) (c.sync_call-answer.new.port, c.sync_call-answer.new.gate) plain call.Sync (number_course avail_answer plain ring) (c.sync_call-answer.new.plain, c.with_avail.result) c.admit.result c.admit.ensures c.in_ok-admit.was
+    (admitted-ok g.P.MixPort g.G.Gate (c.args.port.now, c.args.gate.now) (c.sync_call-answer.new.port, c.sync_call-answer.new.gate) plain call.Sync (number_course avail_answer plain ring) (c.sync_call-answer.new.plain, c.with_avail.result) c.admit.result c.admit.ensures.answer c.in_ok-admit.was
     (number-moving g.P.MixPort g.G.Gate (c.args.port.now, c.args.gate.now) (c.sync_call-answer.new.port, c.sync_call-answer.new.gate) avail_answer plain ring (c.sync_call-answer.new.plain, c.sync_call-answer.result) (c.sync_call-answer.new.plain, c.with_avail.result) (search rules)
     (subst (λ (r : List ℤ). TakesAt g.P.MixPort g.G.Gate (c.args.port.now, c.args.gate.now) (syncs plain call.Sync r) (c.sync_call-answer.new.port, c.sync_call-answer.new.gate) (c.sync_call-answer.new.plain, c.sync_call-answer.result)) c.as_slice-ring.ensures.value c.sync_call-answer.ensures.takes) c.with_avail.ensures))
 
@@ -31,9 +31,14 @@ returns-clause-causes g c admitted moves =
     (subst (λ (r : List ℤ). Explains g.P.MixPort g.G.Gate (c.args.port.now, c.args.gate.now) (c.sync_call-answer.new.port, c.sync_call-answer.new.gate) (client plain r) (λ position. plain) (sync_count plain) (λ load commit. with_number avail_answer (synced plain call.Sync load commit)) (c.sync_call-answer.new.plain, c.with_avail.result)) c.as_slice-ring.ensures.value
     (Explains-number g.P.MixPort g.G.Gate g.met.P.MixPort.laid_composes g.met.P.MixPort.loaded_composes (c.args.port.now, c.args.gate.now) (c.sync_call-answer.new.port, c.sync_call-answer.new.gate) (client plain c.as_slice-ring.result.now) (λ position. plain) (sync_count plain) (synced plain call.Sync) avail_answer (c.sync_call-answer.new.plain, c.sync_call-answer.result) (c.sync_call-answer.new.plain, c.with_avail.result) c.with_avail.ensures
     (syncs-explained g.P.MixPort g.G.Gate g.met.P.MixPort.laid_composes g.met.P.MixPort.loaded_composes (c.args.port.now, c.args.gate.now) (c.sync_call-answer.new.port, c.sync_call-answer.new.gate) plain c.as_slice-ring.result.now call.Sync (c.sync_call-answer.new.plain, c.sync_call-answer.result)
-    (configured-moving plain c.self.inside.ring.items c.self.invariant (search rules)).bound (step-sync plain.state (search rules)) c.sync_call-answer.ensures.takes)))
+    (configured-moving plain c.self.inside.ring.items c.self.invariant (search rules)).bound (step-sync plain.status.state (search rules)) c.sync_call-answer.ensures.takes)))
 
 pub returns-then-not-is_moving-clause-keeps : goal.returns-then-not-is_moving-clause-keeps
 returns-then-not-is_moving-clause-keeps g c =
     rw (← c.self.view_is) (Keeps-none g.P.MixPort g.G.Gate g.met.P.MixPort.laid_composes g.met.P.MixPort.loaded_composes (c.args.port.now, c.args.gate.now) (client c.self.inside.plain c.self.inside.ring.items) (let r : Result (ℕ) PcmError = Ok c.avail_answer.result in r) AnySamples
     c.self.invariant (subst (λ (v : ClientView). CanUse v.plain (g.P.MixPort.view c.args.port.now)) (sym c.self.view_is) c.requires) (λ unstopped. refl))
+
+pub returns-clause-keeps : goal.returns-clause-keeps
+returns-clause-keeps g c =
+    rw (← c.self.view_is, ← c.as_slice-ring.ensures.value) (Keeps-number g.P.MixPort g.G.Gate g.met.P.MixPort.laid_composes g.met.P.MixPort.loaded_composes (c.args.port.now, c.args.gate.now) (c.sync_call-answer.new.port, c.sync_call-answer.new.gate) (client c.self.inside.plain c.as_slice-ring.result.now)
+    avail_answer (c.sync_call-answer.new.plain, c.sync_call-answer.result) c.as_slice-ring.result.now c.with_avail.result c.with_avail.ensures c.sync_call-answer.ensures.keeps)

@@ -4,7 +4,9 @@ use Rattle.snd_base.specs.declared.errors.PcmError.{PcmError}
 use Rattle.pcm_states.specs.declared.calls.Call.TheVariants as call
 use Rattle.course.specs.AtPort.{TakesAt}
 use Rattle.dmix_client.specs.declared.plain.Plain.{Plain}
-use Rattle.dmix_client.specs.Calls.{draining, refusal_of, sync_count, synced}
+use Rattle.pcm_stream.specs.Status.{refusal_of}
+use Rattle.pcm_stream.specs.declared.direction.Direction.TheVariants.{Playback}
+use Rattle.dmix_client.specs.Calls.{draining, sync_count, synced}
 use Rattle.dmix_client.specs.Causes.{Explains}
 use Rattle.dmix_client.specs.Course.{syncs}
 use Rattle.dmix_client.specs.Growth.{AnySamples, Keeps}
@@ -27,7 +29,7 @@ returns-then-is_moving-clause-again g c admitted =
     let plain = c.self.inside.plain in
     let bound = (configured-moving plain c.self.inside.ring.items c.self.invariant (search rules)).bound in
     syncs-still g.P.MixPort g.G.Gate g.met.P.MixPort.laid_composes g.met.P.MixPort.loaded_composes (c.args.port.now, c.args.gate.now) (c.sync_call.new.port, c.sync_call.new.gate) (draining plain) c.as_slice-ring.result.now (c.sync_call.new.plain, c.sync_call.result)
-    bound refl (refusal_of-unstopped plain (subst (λ (v : ClientView). refusal_of v.plain call.Drain ≡ None) (sym c.self.view_is) admitted))
+    bound refl (refusal_of-unstopped plain (subst (λ (v : ClientView). refusal_of Playback v.plain.status call.Drain ≡ None) (sym c.self.view_is) admitted))
     (subst (λ (d : Plain). TakesAt g.P.MixPort g.G.Gate (c.args.port.now, c.args.gate.now) (syncs d call.Drain c.as_slice-ring.result.now) (c.sync_call.new.port, c.sync_call.new.gate) (c.sync_call.new.plain, c.sync_call.result)) c.draining-self-inside.ensures c.sync_call.ensures.takes)
 
 pub returns-then-is_moving-clause-causes : goal.returns-then-is_moving-clause-causes
@@ -42,7 +44,7 @@ returns-then-is_moving-clause-causes g c admitted moves =
 pub returns-then-not-has_frames-clause-keeps : goal.returns-then-not-has_frames-clause-keeps
 returns-then-not-has_frames-clause-keeps g c =
     let plain = c.self.inside.plain in
-    let admitted : refusal_of plain call.Drain ≡ None = search rules in
+    let admitted : refusal_of Playback plain.status call.Drain ≡ None = search rules in
     let k = dropped-kept g.P.MixPort g.G.Gate g.met.P.MixPort.laid_composes g.met.P.MixPort.loaded_composes (c.args.port.now, c.args.gate.now) plain c.self.inside.ring.items c.self.invariant admitted
     (subst (λ (v : ClientView). CanUse v.plain (g.P.MixPort.view c.args.port.now)) (sym c.self.view_is) c.requires) in
     rw (← c.self.view_is) (subst (λ (d : Plain). Keeps g.P.MixPort g.G.Gate (c.args.port.now, c.args.gate.now) (c.args.port.now, c.args.gate.now) (client plain c.self.inside.ring.items) (client d c.self.inside.ring.items) (let r : Result (Unit {0}) PcmError = Ok tt in r) AnySamples) (sym c.dropped-self-inside.ensures) k)

@@ -5,7 +5,9 @@ use Rattle.pcm_states.specs.declared.states.State.TheVariants.{Running}
 use Rattle.pcm_states.specs.declared.calls.Call.TheVariants as call
 use Rattle.course.specs.AtPort.{TakesAt}
 use Rattle.dmix_client.specs.declared.plain.Plain.{Plain}
-use Rattle.dmix_client.specs.Calls.{base_of, pending_of, rebased, refusal_of, resumed, start_count, started_in}
+use Rattle.pcm_stream.specs.Status.{refusal_of}
+use Rattle.pcm_stream.specs.declared.direction.Direction.TheVariants.{Playback}
+use Rattle.dmix_client.specs.Calls.{base_of, pending_of, rebased, resumed, start_count, started_in}
 use Rattle.dmix_client.specs.Causes.{Explains}
 use Rattle.dmix_client.specs.Course.{resumes}
 use Rattle.dmix_client.specs.Growth.{AnySamples, Keeps}
@@ -30,7 +32,7 @@ returns-in_err-admit-2-clause-keeps g c =
 pub returns-then-on-clause-keeps : goal.returns-then-on-clause-keeps
 returns-then-on-clause-keeps g c =
     let plain = c.self.inside.plain in
-    let admitted : refusal_of plain call.Pause ≡ None = search rules in
+    let admitted : refusal_of Playback plain.status call.Pause ≡ None = search rules in
     let k = paused-kept g.P.MixPort g.G.Gate g.met.P.MixPort.laid_composes g.met.P.MixPort.loaded_composes (c.args.port.now, c.args.gate.now) plain c.self.inside.ring.items c.self.invariant admitted
     (subst (λ (v : ClientView). CanUse v.plain (g.P.MixPort.view c.args.port.now)) (sym c.self.view_is) c.requires) in
     rw (← c.self.view_is) (subst (λ (d : Plain). Keeps g.P.MixPort g.G.Gate (c.args.port.now, c.args.gate.now) (c.args.port.now, c.args.gate.now) (client (base_of plain d) c.self.inside.ring.items) (client d c.self.inside.ring.items) (let r : Result (Unit {0}) PcmError = Ok tt in r) AnySamples) (sym c.paused-self-inside.ensures) k)
@@ -38,7 +40,7 @@ returns-then-on-clause-keeps g c =
 pub returns-then-pending-eq0-clause-keeps : goal.returns-then-pending-eq0-clause-keeps
 returns-then-pending-eq0-clause-keeps g c =
     let plain = c.self.inside.plain in
-    let admitted : refusal_of plain call.Resume ≡ None = search rules in
+    let admitted : refusal_of Playback plain.status call.Resume ≡ None = search rules in
     let k = rebased-kept g.P.MixPort g.G.Gate g.met.P.MixPort.laid_composes g.met.P.MixPort.loaded_composes (c.args.port.now, c.args.gate.now) plain c.self.inside.ring.items c.self.invariant admitted
     (subst (λ (v : ClientView). CanUse v.plain (g.P.MixPort.view c.args.port.now)) (sym c.self.view_is) c.requires) in
     rw (← c.self.view_is) (subst (λ (d : Plain). Keeps g.P.MixPort g.G.Gate (c.args.port.now, c.args.gate.now) (c.args.port.now, c.args.gate.now) (client (base_of plain d) c.self.inside.ring.items) (client d c.self.inside.ring.items) (let r : Result (Unit {0}) PcmError = Ok tt in r) AnySamples) (sym c.rebased-self-inside.ensures) k)
@@ -47,7 +49,7 @@ pub returns-clause-keeps : goal.returns-clause-keeps
 returns-clause-keeps g c =
     let plain = c.self.inside.plain in
     let ring : List ℤ = c.self.inside.ring.items in
-    let admitted : refusal_of plain call.Resume ≡ None = search rules in
+    let admitted : refusal_of Playback plain.status call.Resume ≡ None = search rules in
     rw (← c.self.view_is) (resumes-kept g.P.MixPort g.G.Gate g.met.P.MixPort.laid_composes g.met.P.MixPort.loaded_composes (c.args.port.now, c.args.gate.now) (c.resume.new.port, c.resume.new.gate)
     plain ring (c.resume.new.plain, c.resume.result) c.self.invariant (refusal_of-resume plain admitted) c.resume.ensures.near (subst (λ (v : ClientView). CanUse v.plain (g.P.MixPort.view c.args.port.now)) (sym c.self.view_is) c.requires)
     (subst (λ (r : List ℤ). TakesAt g.P.MixPort g.G.Gate (c.args.port.now, c.args.gate.now) (resumes plain (g.P.MixPort.view c.args.port.now).marks.cursor r) (c.resume.new.port, c.resume.new.gate) (c.resume.new.plain, c.resume.result)) c.as_slice-ring.ensures.value c.resume.ensures.takes))
@@ -60,7 +62,7 @@ returns-clause-causes g c not_refused off some =
     let plain = c.self.inside.plain in
     let ring : List ℤ = c.self.inside.ring.items in
     let cursor = (g.P.MixPort.view c.args.port.now).marks.cursor in
-    let admitted : refusal_of plain call.Resume ≡ None = search rules in
+    let admitted : refusal_of Playback plain.status call.Resume ≡ None = search rules in
     subst (λ (v : ClientView). Explains g.P.MixPort g.G.Gate (c.args.port.now, c.args.gate.now) (c.resume.new.port, c.resume.new.gate) (client (rebased v.plain) v.ring) (λ position. started_in (rebased v.plain) Running position cursor)
     (λ position. start_count (rebased v.plain) cursor position (pending_of v.plain)) (resumed v.plain cursor) (c.resume.new.plain, c.resume.result)) c.self.view_is
     (resumes-explained g.P.MixPort g.G.Gate g.met.P.MixPort.laid_composes g.met.P.MixPort.loaded_composes (c.args.port.now, c.args.gate.now) (c.resume.new.port, c.resume.new.gate) plain ring cursor (c.resume.new.plain, c.resume.result) c.self.invariant (refusal_of-resume plain admitted)

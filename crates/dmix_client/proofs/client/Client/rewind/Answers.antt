@@ -22,8 +22,8 @@ returns-then-eq-clause-keeps g c =
     let holds : HoldsBy g.P.MixPort = record { laid_composes = g.met.P.MixPort.laid_composes; loaded_composes = g.met.P.MixPort.loaded_composes; part = g.met.P.MixPort.ends_in_part; nothing = g.met.P.MixPort.held_nothing; back = g.met.P.MixPort.held_back } in
     let plain = c.self.inside.plain in
     let ring : List ℤ = c.self.inside.ring.items in
-    let runs : plain.state ≡ Running = same_true the_type (search rules) _ _ (sym c.if-eq.ensures) in
-    let going : plain.stopped ≡ false = search rules in
+    let runs : plain.status.state ≡ Running = same_true the_type (search rules) _ _ (sym c.if-eq.ensures) in
+    let going : plain.status.stopped ≡ false = search rules in
     rw (← c.self.view_is) (rewinds-kept g.P.MixPort g.G.Gate holds (c.args.port.now, c.args.gate.now) (c.rewind_running.new.port, c.rewind_running.new.gate) plain ring c.args.frames (c.rewind_running.new.plain, c.rewind_running.result)
     c.self.invariant runs going (subst (λ (v : ClientView). CanUse v.plain (g.P.MixPort.view c.args.port.now)) (sym c.self.view_is) c.requires.port)
     (subst (λ (r : List ℤ). TakesAt g.P.MixPort g.G.Gate (c.args.port.now, c.args.gate.now) (rewinds plain r (g.P.MixPort.view c.args.port.now).marks.floor c.args.frames) (c.rewind_running.new.port, c.rewind_running.new.gate) (c.rewind_running.new.plain, c.rewind_running.result)) c.as_slice-ring.ensures.value c.rewind_running.ensures)).keeps
@@ -36,8 +36,8 @@ returns-then-eq-clause-causes g c admitted running =
     let holds : HoldsBy g.P.MixPort = record { laid_composes = g.met.P.MixPort.laid_composes; loaded_composes = g.met.P.MixPort.loaded_composes; part = g.met.P.MixPort.ends_in_part; nothing = g.met.P.MixPort.held_nothing; back = g.met.P.MixPort.held_back } in
     let plain = c.self.inside.plain in
     let ring : List ℤ = c.self.inside.ring.items in
-    let runs : plain.state ≡ Running = same_true the_type (search rules) _ _ (sym c.if-eq.ensures) in
-    let going : plain.stopped ≡ false = search rules in
+    let runs : plain.status.state ≡ Running = same_true the_type (search rules) _ _ (sym c.if-eq.ensures) in
+    let going : plain.status.stopped ≡ false = search rules in
     subst (λ (v : ClientView). ExplainsRewind g.P.MixPort g.G.Gate (c.args.port.now, c.args.gate.now) (c.rewind_running.new.port, c.rewind_running.new.gate) v.plain v.ring (g.P.MixPort.view c.args.port.now).marks.floor c.args.frames (c.rewind_running.new.plain, c.rewind_running.result)) c.self.view_is
     (rewinds-kept g.P.MixPort g.G.Gate holds (c.args.port.now, c.args.gate.now) (c.rewind_running.new.port, c.rewind_running.new.gate) plain ring c.args.frames (c.rewind_running.new.plain, c.rewind_running.result)
     c.self.invariant runs going (subst (λ (v : ClientView). CanUse v.plain (g.P.MixPort.view c.args.port.now)) (sym c.self.view_is) c.requires.port)
@@ -50,7 +50,7 @@ pub returns-clause-keeps : goal.returns-clause-keeps
 returns-clause-keeps g c =
     let holds : HoldsBy g.P.MixPort = record { laid_composes = g.met.P.MixPort.laid_composes; loaded_composes = g.met.P.MixPort.loaded_composes; part = g.met.P.MixPort.ends_in_part; nothing = g.met.P.MixPort.held_nothing; back = g.met.P.MixPort.held_back } in
     let plain = c.self.inside.plain in
-    let waits : plain.state ≡ Prepared = search rules in
-    let few : c.min-taken.result ≤ plain.written = subst (λ (k : ℕ). k ≤ plain.written) (sym c.min-taken.ensures) (few-of c.args.frames plain.written) in
+    let waits : plain.status.state ≡ Prepared = search rules in
+    let few : c.min-taken.result ≤ plain.stretch.written = subst (λ (k : ℕ). k ≤ plain.stretch.written) (sym c.min-taken.ensures) (few-of c.args.frames plain.stretch.written) in
     rw (← c.self.view_is) (subst (λ (d : Plain). KeepsBack g.P.MixPort g.G.Gate (c.args.port.now, c.args.gate.now) (c.args.port.now, c.args.gate.now) (client plain c.self.inside.ring.items) (client d c.self.inside.ring.items) (let r : Result ℕ PcmError = Ok c.min-taken.result in r)) (sym c.without-self-inside.ensures)
     (without-kept g.P.MixPort g.G.Gate holds (c.args.port.now, c.args.gate.now) plain c.self.inside.ring.items c.min-taken.result c.self.invariant waits few (subst (λ (v : ClientView). CanUse v.plain (g.P.MixPort.view c.args.port.now)) (sym c.self.view_is) c.requires.port)))

@@ -22,8 +22,8 @@ returns-then-eq-clause-keeps g c =
     let holds : HoldsBy g.P.MixPort = record { laid_composes = g.met.P.MixPort.laid_composes; loaded_composes = g.met.P.MixPort.loaded_composes; part = g.met.P.MixPort.ends_in_part; nothing = g.met.P.MixPort.held_nothing; back = g.met.P.MixPort.held_back } in
     let plain = c.self.inside.plain in
     let ring : List ℤ = c.self.inside.ring.items in
-    let runs : plain.state ≡ Running = same_true the_type (search rules) _ _ (sym c.if-eq.ensures) in
-    let going : plain.stopped ≡ false = search rules in
+    let runs : plain.status.state ≡ Running = same_true the_type (search rules) _ _ (sym c.if-eq.ensures) in
+    let going : plain.status.stopped ≡ false = search rules in
     rw (← c.self.view_is) (numbered-kept g.P.MixPort g.G.Gate holds (c.args.port.now, c.args.gate.now) (c.rewindable_running.new.port, c.rewindable_running.new.gate) plain ring (rewindable_of (g.P.MixPort.view c.args.port.now).marks.floor) (c.rewindable_running.new.plain, c.rewindable_running.result)
     c.self.invariant runs going (subst (λ (v : ClientView). CanUse v.plain (g.P.MixPort.view c.args.port.now)) (sym c.self.view_is) c.requires) c.rewindable_running.ensures).keeps
 
@@ -35,8 +35,8 @@ returns-then-eq-clause-causes g c admitted running =
     let holds : HoldsBy g.P.MixPort = record { laid_composes = g.met.P.MixPort.laid_composes; loaded_composes = g.met.P.MixPort.loaded_composes; part = g.met.P.MixPort.ends_in_part; nothing = g.met.P.MixPort.held_nothing; back = g.met.P.MixPort.held_back } in
     let plain = c.self.inside.plain in
     let ring : List ℤ = c.self.inside.ring.items in
-    let runs : plain.state ≡ Running = same_true the_type (search rules) _ _ (sym c.if-eq.ensures) in
-    let going : plain.stopped ≡ false = search rules in
+    let runs : plain.status.state ≡ Running = same_true the_type (search rules) _ _ (sym c.if-eq.ensures) in
+    let going : plain.status.stopped ≡ false = search rules in
     subst (λ (v : ClientView). ExplainsCheck g.P.MixPort g.G.Gate (c.args.port.now, c.args.gate.now) (c.rewindable_running.new.port, c.rewindable_running.new.gate) v.plain
     (λ load. with_number (rewindable_of (g.P.MixPort.view c.args.port.now).marks.floor) (synced v.plain call.Transfer load nothing)) (c.rewindable_running.new.plain, c.rewindable_running.result)) c.self.view_is
     (numbered-kept g.P.MixPort g.G.Gate holds (c.args.port.now, c.args.gate.now) (c.rewindable_running.new.port, c.rewindable_running.new.gate) plain ring (rewindable_of (g.P.MixPort.view c.args.port.now).marks.floor) (c.rewindable_running.new.plain, c.rewindable_running.result)
@@ -44,5 +44,5 @@ returns-then-eq-clause-causes g c admitted running =
 
 pub returns-clause-keeps : goal.returns-clause-keeps
 returns-clause-keeps g c =
-    rw (← c.self.view_is) (Keeps-none g.P.MixPort g.G.Gate g.met.P.MixPort.laid_composes g.met.P.MixPort.loaded_composes (c.args.port.now, c.args.gate.now) (client c.self.inside.plain c.self.inside.ring.items) (let r : Result ℕ PcmError = Ok c.self.inside.plain.written in r) AnySamples
+    rw (← c.self.view_is) (Keeps-none g.P.MixPort g.G.Gate g.met.P.MixPort.laid_composes g.met.P.MixPort.loaded_composes (c.args.port.now, c.args.gate.now) (client c.self.inside.plain c.self.inside.ring.items) (let r : Result ℕ PcmError = Ok c.self.inside.plain.stretch.written in r) AnySamples
     c.self.invariant (subst (λ (v : ClientView). CanUse v.plain (g.P.MixPort.view c.args.port.now)) (sym c.self.view_is) c.requires) (λ unstopped. refl))

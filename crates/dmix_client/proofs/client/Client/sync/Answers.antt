@@ -21,7 +21,7 @@ returns-clause-causes g c admitted moves =
     let here : _ = subst (λ (v : ClientView). Explains g.P.MixPort g.G.Gate (c.args.port.now, c.args.gate.now) (c.sync_call.new.port, c.sync_call.new.gate) v (λ position. v.plain) (sync_count v.plain) (synced v.plain call.Sync) (c.sync_call.new.plain, c.sync_call.result)) c.self.view_is
     (subst (λ (r : List ℤ). Explains g.P.MixPort g.G.Gate (c.args.port.now, c.args.gate.now) (c.sync_call.new.port, c.sync_call.new.gate) (client plain r) (λ position. plain) (sync_count plain) (synced plain call.Sync) (c.sync_call.new.plain, c.sync_call.result)) c.as_slice-ring.ensures.value
     (syncs-explained g.P.MixPort g.G.Gate g.met.P.MixPort.laid_composes g.met.P.MixPort.loaded_composes (c.args.port.now, c.args.gate.now) (c.sync_call.new.port, c.sync_call.new.gate) plain c.as_slice-ring.result.now call.Sync (c.sync_call.new.plain, c.sync_call.result)
-    (configured-moving plain c.self.inside.ring.items c.self.invariant (search rules)).bound (step-sync plain.state (search rules)) c.sync_call.ensures.takes)) in
+    (configured-moving plain c.self.inside.ring.items c.self.invariant (search rules)).bound (step-sync plain.status.state (search rules)) c.sync_call.ensures.takes)) in
     here
 
 pub returns-then-not-is_moving-clause-keeps : goal.returns-then-not-is_moving-clause-keeps
