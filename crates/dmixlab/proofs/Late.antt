@@ -35,10 +35,10 @@ use Rattle.short_script.specs.declared.line.Op.TheVariants as op
 use Rattle.short_script.specs.declared.script.Script.{Script}
 use Rattle.short_report.specs.declared.row.Answer.{Answer}
 use Rattle.short_report.specs.declared.row.Answer.TheVariants.{Done, Count, Failed}
-use Rattle.lab_phase.specs.Lines.{Own, called, counted_of, done_of, ended_after, frames_of, laid_in, refused_or, segments_of, told, unless_refused}
-use Rattle.lab_phase.specs.Meaning.{Stage, client_line, client_row, first_stage, line_by, numbered}
-use Rattle.lab_phase.specs.Opening.{Setup, opened_with}
-use Rattle.lab_phase.specs.Rest.{commit_at, cursor_at, drain_at, drained_at, resting, start_at, start_commit, sync_at, sync_commit, writei_at, written_at}
+use Rattle.short_lab.specs.Lines.{Own, called, counted_of, done_of, ended_after, frames_of, laid_in, refused_or, segments_of, told, unless_refused}
+use Rattle.short_lab.specs.Meaning.{Stage, client_line, client_row, first_stage, line_by, numbered}
+use Rattle.short_lab.specs.Opening.{Setup, opened_with}
+use Rattle.short_lab.specs.Rest.{commit_at, cursor_at, drain_at, drained_at, resting, start_at, start_commit, sync_at, sync_commit, writei_at, written_at}
 use Rattle.dmixlab.proofs.Replies.{if-both}
 use Rattle.dmixlab.specs.Late.{IsLate, LateLaysNothing}
 

@@ -20,8 +20,8 @@ use Rattle.short_script.specs.declared.script.CardLine.{CardLine}
 use Rattle.short_script.specs.declared.script.ClientLine.{ClientLine}
 use Rattle.short_script.specs.declared.script.Script.{Script}
 use Rattle.short_report.specs.declared.report.Report.{Report}
-use Rattle.lab_phase.specs.Meaning.{IsRun, bindings_of, entries_of, lines_of, mixed, mixed_at, report_of}
-use Rattle.lab_phase.specs.Opening.{IsChosen, IsOpening, IsRingOf, Setup}
+use Rattle.short_lab.specs.Meaning.{IsRun, bindings_of, entries_of, lines_of, mixed, mixed_at, report_of}
+use Rattle.short_lab.specs.Opening.{IsChosen, IsOpening, IsRingOf, Setup}
 use Rattle.short_report.specs.Text.{report_text}
 use Rattle.lab_shelf.specs.Files.{Files, with_file}
 use Rattle.lap_word.specs.Clamp.{clamp_of}

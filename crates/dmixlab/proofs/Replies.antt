@@ -26,9 +26,9 @@ use Rattle.wav_io.specs.Sound.{Sound}
 use Rattle.short_script.specs.declared.line.Op.{Op}
 use Rattle.short_script.specs.declared.line.Op.TheVariants as op
 use Rattle.short_report.specs.Text.{HasErrorWords, HasWords}
-use Rattle.lab_phase.specs.Lines.{Own, called, counted_of, done_of, frames_of, refused_or, told, unless_refused}
+use Rattle.short_lab.specs.Lines.{Own, called, counted_of, done_of, frames_of, refused_or, told, unless_refused}
 use Rattle.dmix_client.specs.Writes.{count_with, starts_with}
-use Rattle.lab_phase.specs.Rest.{commit_at, cursor_at, drain_at, drained_at, resting, start_at, start_commit, sync_at, sync_commit, writei_at, written_at}
+use Rattle.short_lab.specs.Rest.{commit_at, cursor_at, drain_at, drained_at, resting, start_at, start_commit, sync_at, sync_commit, writei_at, written_at}
 
 -- an answer's error has words, if it has one
 record Worded {T : Type 0} (r : Result T PcmError) : Type 0 where

@@ -19,9 +19,9 @@ use Rattle.short_script.specs.Script.{IsActor, IsLine, IsPhase, IsScript, frames
 use Rattle.short_report.specs.declared.report.Report.{Report}
 use Rattle.short_report.specs.declared.row.Answer.{Answer}
 use Rattle.short_report.specs.Text.{HasWords, IsReportOf, IsRowOf, IsSegmentOf}
-use Rattle.lab_phase.specs.Lines.{Own, segments_of}
-use Rattle.lab_phase.specs.Meaning.{IsRun, Stage, bindings_of, client_line, client_row, entries_of, first_stage, line_by, lines_of, mixed_at, numbered, numbered_lines, open_row, report_of, rows_of, stage_after}
-use Rattle.lab_phase.specs.Opening.{Setup, open_answer, opened_with}
+use Rattle.short_lab.specs.Lines.{Own, segments_of}
+use Rattle.short_lab.specs.Meaning.{IsRun, Stage, bindings_of, client_line, client_row, entries_of, first_stage, line_by, lines_of, mixed_at, numbered, numbered_lines, open_row, report_of, rows_of, stage_after}
+use Rattle.short_lab.specs.Opening.{Setup, open_answer, opened_with}
 use Rattle.wav_io.specs.Sound.{Sound}
 use Rattle.dmixlab.proofs.Replies.{called-HasWords}
 

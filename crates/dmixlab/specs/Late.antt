@@ -5,7 +5,7 @@ use Rattle.snd_base.specs.declared.errors.XrunWhy.TheVariants.{Late}
 use Rattle.short_script.specs.declared.line.Line.{Line}
 use Rattle.short_report.specs.declared.row.Answer.{Answer}
 use Rattle.short_report.specs.declared.row.Answer.TheVariants.{Failed}
-use Rattle.lab_phase.specs.Meaning.{Stage, line_by, numbered}
+use Rattle.short_lab.specs.Meaning.{Stage, line_by, numbered}
 use Rattle.wav_io.specs.Sound.{Sound}
 
 -- an answer that names a frame and channel that came too late

@@ -7,7 +7,7 @@ use Rattle.short_script.specs.declared.script.CardLine.{CardLine}
 use Rattle.short_script.specs.declared.script.Script.{Script}
 use Rattle.short_report.specs.declared.report.Report.{Report}
 use Rattle.short_report.specs.Text.{report_text}
-use Rattle.lab_phase.specs.Meaning.{IsRun, bindings_of, entries_of, first_stage, lines_of}
+use Rattle.short_lab.specs.Meaning.{IsRun, bindings_of, entries_of, first_stage, lines_of}
 use Rattle.lap_word.specs.Clamp.{clamp_of}
 use Rattle.mix_core.specs.declared.port.Entry.{Entry}
 use Rattle.mix_core.specs.Laid.{total}

@@ -2,7 +2,7 @@
 ghost use Rattle.std.specs.Prelude.{◌≡◌, ◌≤◌, IfOk, All, length, vec_len};
 ghost use Rattle.std.specs.Option.{ForSome};
 ghost use Rattle.short_script.specs.Script.{IsScript};
-ghost use Rattle.lab_phase.specs.Meaning.{AreFiles};
+ghost use Rattle.short_lab.specs.Meaning.{AreFiles};
 ghost use Rattle.wav_io.specs.Reading.{wav_file, Reads};
 ghost use Rattle.dmixlab.specs.Input.{SpelledIn, fetched, input_in, most_of_run, script_in, sound_in, sounds_in, within_run};
 ghost use Rattle.dmixlab.specs.Stops.{FetchFaults, Follows, Misses};

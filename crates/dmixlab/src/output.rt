@@ -2,7 +2,7 @@
 ghost use Rattle.std.specs.Prelude.{◌≡◌, ◌⊎◌, ◌≢◌, ◌≤◌, ◌%◌, ◌++◌, Err, IfOk, IfErr, OnOk, OnErr, length, codes};
 ghost use Rattle.short_script.specs.Script.{IsCardLine, IsScript};
 ghost use Rattle.short_report.specs.Text.{IsReportOf, report_text};
-ghost use Rattle.lab_phase.specs.Meaning.{IsRun};
+ghost use Rattle.short_lab.specs.Meaning.{IsRun};
 ghost use Rattle.lab_shelf.specs.Changes.{Changes, PartOf};
 ghost use Rattle.lab_shelf.specs.Files.{with_file, TookPart};
 ghost use Rattle.std.specs.Option.{option_map};
@@ -12,8 +12,8 @@ ghost use Rattle.dmixlab.specs.Run.{IsOutput, wav_of};
 ghost use Rattle.dmixlab.specs.Stops.{IsWriteStop, OutputFaults, WriteFaults};
 
 use crate::stop::Stop;
-use lab_phase::Outcome;
 use lab_shelf::{Shelf, ShelfFault, Sink};
+use short_lab::Outcome;
 use short_report::{Report, print_report};
 use short_script::{CardLine, Script};
 use std::alloc::Global;

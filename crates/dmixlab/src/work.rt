@@ -1,12 +1,12 @@
 //! The run itself.
 ghost use Rattle.std.specs.Prelude.{◌≡◌, ◌≤◌, ◌%◌, IfOk, IfErr, length};
 ghost use Rattle.short_script.specs.Script.{IsScript};
-ghost use Rattle.lab_phase.specs.Meaning.{AreFiles, IsRun};
+ghost use Rattle.short_lab.specs.Meaning.{AreFiles, IsRun};
 ghost use Rattle.short_report.specs.Text.{IsReportOf};
 ghost use Rattle.dmixlab.specs.declared.stop.Stop.TheVariants as stops;
 
 use crate::stop::Stop;
-use lab_phase::{Outcome, run_script};
+use short_lab::{Outcome, run_script};
 use short_script::Script;
 use std::alloc::Global;
 use wav_io::Wav;
