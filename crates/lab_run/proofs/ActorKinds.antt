@@ -1,0 +1,138 @@
+-- Clients and readers are kinds of actors whose lines load a position before they lay or get anything, and begin where they were.
+use Rattle.std.proofs.Common.{◌≡◌, ℕ, refl, Option, Some, None}
+use Rattle.std.specs.Prelude.{Bool, true, false, ◌-◌, min, [], Result}
+use Rattle.snd_base.specs.declared.errors.PcmError.{PcmError}
+use Rattle.mix_core.specs.declared.marks.Marks.{Marks}
+use Rattle.pcm_states.specs.declared.calls.Call.{Call}
+use Rattle.pcm_states.specs.declared.calls.Call.TheVariants as call
+use Rattle.wav_io.specs.Sound.{Sound}
+use Rattle.course.specs.Course.{Course, ends}
+use Rattle.dmix_client.specs.declared.plain.Plain.{Plain}
+use Rattle.dmix_client.specs.Calls.{Answered, avail_answer, delay_answer}
+use Rattle.dmix_client.specs.Course.{admitted}
+use Rattle.dsnoop_client.specs.declared.plain.Plain as reading
+use Rattle.dsnoop_client.specs.Calls as reading_calls
+use Rattle.dsnoop_client.specs.Course as reading_course
+use Rattle.lab_script.specs.declared.line.Op.{Op}
+use Rattle.lab_script.specs.declared.line.Op.TheVariants as op
+use Rattle.lab_report.specs.declared.row.Answer.{Answer}
+use Rattle.lab_run.specs.Client.{Client, after_call, answered, begins, call_of, client_kind, count_answer, dies_if, done_answer, frames_of, line_by, line_if}
+use Rattle.lab_run.specs.Lines.{Kind}
+use Rattle.lab_run.specs.Reader.{Reader, reader_kind}
+use Rattle.lab_run.specs.Reader as readers
+use Rattle.lab_run.specs.Rules.{AtPort}
+use Rattle.lab_run.proofs.ClientLeads as client_leads
+use Rattle.lab_run.proofs.Leads.{LoadsFirst, first-then}
+use Rattle.lab_run.proofs.ReaderLeads as reader_leads
+use Rattle.lab_run.proofs.RewindLeads as rewind_leads
+
+-- what the laws need of a kind of actor
+pub record IsKind {S : Type 0} (kind : Kind S) : Type 0 where
+  pub first : (a : AtPort) (s : S) (asked : Op) → LoadsFirst false (kind.course a s asked)
+  pub seen : (s : S) (asked : Op) (a : AtPort) → (kind.begins s asked a).seen ≡ a.seen
+  pub by_gate : (s : S) (asked : Op) (a : AtPort) → (kind.begins s asked a).by_gate ≡ a.by_gate
+
+-- ---- clients
+
+answered-first : {X : Type 0} (answer : Result X PcmError → Answer) (c : Plain) (call : Call) (course : Course (Answered X)) → LoadsFirst false course
+    → LoadsFirst false (answered answer (admitted c call course))
+answered-first answer c call course led =
+    first-then false (admitted c call course) (λ done. ends (done.0, answer done.1)) (client_leads.admitted-first c call course led) (λ l x. tt)
+
+call-first : (wav : Sound) (marks : Marks) (c : Plain) (asked : Op) → LoadsFirst false (call_of wav marks c asked)
+call-first wav marks c (op.Write n) = answered-first count_answer c call.Transfer _ (client_leads.write-first c marks.cursor (min n (frames_of wav - c.fed)))
+call-first wav marks c op.Start = answered-first done_answer c call.Start _ (client_leads.start-first c [] marks.cursor)
+call-first wav marks c op.Sync = answered-first done_answer c call.Sync _ (client_leads.sync-first c [])
+call-first wav marks c op.Avail = answered-first count_answer c call.Sync _ (client_leads.number-first avail_answer c [])
+call-first wav marks c op.Delay = answered-first count_answer c call.Sync _ (client_leads.number-first delay_answer c [])
+call-first wav marks c op.Drain = answered-first done_answer c call.Drain _ (client_leads.drain-first c [] marks.cursor)
+call-first wav marks c op.Drop = answered-first done_answer c call.Drop (ends _) tt
+call-first wav marks c op.Prepare = answered-first done_answer c call.Prepare (ends _) tt
+call-first wav marks c op.Pause = answered-first done_answer c call.Pause _ (client_leads.pause-first true c [] marks.cursor)
+call-first wav marks c op.Resume = answered-first done_answer c call.Resume _ (client_leads.pause-first false c [] marks.cursor)
+call-first wav marks c (op.Rewind n) = answered-first count_answer c call.Transfer _ (rewind_leads.rewind-first c [] marks.floor n)
+call-first wav marks c op.Rewindable = answered-first count_answer c call.Transfer _ (rewind_leads.rewindable-first c marks.floor)
+call-first wav marks c (op.Die k) = tt
+call-first wav marks c (op.Play k) = tt
+call-first wav marks c (op.Read k) = tt
+call-first wav marks c op.Unplug = tt
+call-first wav marks c op.Opens = tt
+call-first wav marks c op.Closes = tt
+
+line_if-first : (stopped : Bool) (wav : Sound) (marks : Marks) (client : Client) (c : Plain) (asked : Op) → LoadsFirst false (line_if stopped wav marks client c asked)
+line_if-first true wav marks client c asked = tt
+line_if-first false wav marks client c (op.Die k) = tt
+line_if-first false wav marks client c asked =
+    first-then false (call_of wav marks c asked) (λ done. ends (after_call client c asked done)) (call-first wav marks c asked) (λ l x. tt)
+
+line_by-first : (wav : Sound) (marks : Marks) (client : Client) (own : Option Plain) (asked : Op) → LoadsFirst false (line_by wav marks client own asked)
+line_by-first wav marks client None asked = tt
+line_by-first wav marks client (Some c) asked = line_if-first c.status.stopped wav marks client c asked
+
+-- a `die` changes nothing but what it lets pass
+record IsSame (a b : AtPort) : Type 0 where
+  pub seen : b.seen ≡ a.seen
+  pub by_gate : b.by_gate ≡ a.by_gate
+
+dies_if-same : (stopped : Bool) (asked : Op) (a : AtPort) → IsSame a (dies_if stopped asked a)
+dies_if-same false (op.Die k) a = record { seen = refl; by_gate = refl }
+dies_if-same stopped asked a = record { seen = refl; by_gate = refl }
+
+begins-same : (own : Option Plain) (asked : Op) (a : AtPort) → IsSame a (begins own asked a)
+begins-same None asked a = record { seen = refl; by_gate = refl }
+begins-same (Some c) asked a = dies_if-same c.status.stopped asked a
+
+pub client-IsKind : (phase : ℕ) (wav : Sound) (number : ℕ) → IsKind (client_kind phase wav number)
+client-IsKind phase wav number = record {
+  first = λ a client asked. line_by-first wav a.marks client client.own asked;
+  seen = λ client asked a. (begins-same client.own asked a).seen;
+  by_gate = λ client asked a. (begins-same client.own asked a).by_gate;
+}
+
+-- ---- readers
+
+read-first : {X : Type 0} (answer : Result X PcmError → Answer) (r : reading.Plain) (call : Call) (course : Course (reading_calls.Answered X)) → LoadsFirst false course
+    → LoadsFirst false (readers.answered answer (reading_course.admitted r call course))
+read-first answer r call course led =
+    first-then false (reading_course.admitted r call course) (λ done. ends (done.0, answer done.1)) (reader_leads.admitted-first r call course led) (λ l x. tt)
+
+reader_call-first : (r : reading.Plain) (asked : Op) → LoadsFirst false (readers.call_of r asked)
+reader_call-first r (op.Read n) = read-first count_answer r call.Transfer _ (reader_leads.read-first r n)
+reader_call-first r op.Start = read-first done_answer r call.Start _ (reader_leads.start-first r)
+reader_call-first r op.Sync = read-first done_answer r call.Sync _ (reader_leads.sync-first r)
+reader_call-first r op.Avail = read-first count_answer r call.Sync _ (reader_leads.avail-first r)
+reader_call-first r op.Drop = read-first done_answer r call.Drop (ends _) tt
+reader_call-first r op.Prepare = read-first done_answer r call.Prepare (ends _) tt
+reader_call-first r op.Pause = tt
+reader_call-first r op.Resume = tt
+reader_call-first r op.Drain = tt
+reader_call-first r op.Delay = tt
+reader_call-first r (op.Die k) = tt
+reader_call-first r (op.Play k) = tt
+reader_call-first r (op.Write k) = tt
+reader_call-first r (op.Rewind k) = tt
+reader_call-first r op.Rewindable = tt
+reader_call-first r op.Unplug = tt
+reader_call-first r op.Opens = tt
+reader_call-first r op.Closes = tt
+
+reader_line-first : (stopped : Bool) (reader : Reader) (r : reading.Plain) (asked : Op) → LoadsFirst false (readers.line_if stopped reader r asked)
+reader_line-first true reader r asked = tt
+reader_line-first false reader r (op.Die k) = tt
+reader_line-first false reader r asked =
+    first-then false (readers.call_of r asked) (λ done. ends (readers.after_call reader asked done)) (reader_call-first r asked) (λ l x. tt)
+
+reader_by-first : (reader : Reader) (own : Option reading.Plain) (asked : Op) → LoadsFirst false (readers.line_by reader own asked)
+reader_by-first reader None asked = tt
+reader_by-first reader (Some r) asked = reader_line-first r.status.stopped reader r asked
+
+reader_begins-same : (own : Option reading.Plain) (asked : Op) (a : AtPort) → IsSame a (readers.begins own asked a)
+reader_begins-same None asked a = record { seen = refl; by_gate = refl }
+reader_begins-same (Some r) asked a = dies_if-same r.status.stopped asked a
+
+pub reader-IsKind : (phase number : ℕ) → IsKind (reader_kind phase number)
+reader-IsKind phase number = record {
+  first = λ a reader asked. reader_by-first reader reader.own asked;
+  seen = λ reader asked a. (reader_begins-same reader.own asked a).seen;
+  by_gate = λ reader asked a. (reader_begins-same reader.own asked a).by_gate;
+}

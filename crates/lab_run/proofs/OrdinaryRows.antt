@@ -1,0 +1,73 @@
+-- A worked example of an ordinary session, by computation.
+use Rattle.std.proofs.Common.{◌≡◌, refl, arith, Some, None}
+use Rattle.std.specs.Prelude.{List, [], ◌∷◌}
+use Rattle.snd_base.specs.declared.errors.PcmError.TheVariants as error
+use Rattle.bindings.specs.Bound
+use Rattle.pcm_states.specs.declared.states.State.TheVariants as state
+use Rattle.course.specs.Course.{◌>>=◌}
+use Rattle.dmix_client.specs.Course as client_calls
+use Rattle.dsnoop_client.specs.Course as reader_calls
+use Rattle.lab_script.specs.declared.line.Item.{Item}
+use Rattle.lab_script.specs.declared.line.Item.TheVariants as item
+use Rattle.lab_script.specs.declared.line.Op.TheVariants as op
+use Rattle.lab_script.specs.declared.script.Share.TheVariants as share
+use Rattle.lab_report.specs.declared.row.Answer.TheVariants.{Count, Done, Failed}
+use Rattle.lab_run.specs.CourseText.{course_text}
+use Rattle.lab_run.specs.LabRun.{lab_text}
+use Rattle.dmix_client.specs.Rewind as rewinding
+use Rattle.lab_run.specs.Stage.{Session}
+use Rattle.lab_run.proofs.Sessions.{a, b, c, card, mono, row, r, setup, silence, some, stereo, the_card, line}
+
+-- a card of 512 frames with a period of 64, and a stereo client with 576 frames
+music : Session
+music = record {
+  card = record { number = 1; channels = 2; rate = 48000; period = 64; ring = 512; places = 64; lap = 0; capture = None; share = share.Dmix };
+  ring = record {
+    frames = 512;
+    channels = 2;
+    first_lap = 0;
+    frames_least = omega arith;
+    frames_most = omega arith;
+    channels_least = omega arith;
+    channels_most = omega arith;
+    first_lap_most = omega arith;
+  };
+  sounds = silence 2 576 ∷ [];
+  clients = Some (record {
+    config = record { channels = 2; rate = 48000; period_size = 64; buffer_size = 512; periods = 8 };
+    bindings = 0 ∷ 1 ∷ [];
+    params = record { start_threshold = 1; stop_threshold = 512; avail_min = 64 };
+    lead = 64;
+  }) ∷ [];
+  readers = [];
+}
+
+-- a client plays its file to the end
+plays_to_the_end : List Item
+plays_to_the_end =
+    item.Opens 0 a
+    ∷ item.Phase (line a (op.Write 512) ∷ [])
+    ∷ item.Phase (line the_card (op.Play 64) ∷ [])
+    ∷ item.Phase (line a (op.Write 64) ∷ [])
+    ∷ item.Phase (line the_card (op.Play 64) ∷ [])
+    ∷ item.Phase (line a (op.Write 64) ∷ line a op.Drain ∷ [])
+    ∷ item.Phase (line the_card (op.Play 512) ∷ [])
+    ∷ item.Phase (line a op.Drain ∷ []) ∷ []
+
+plays_to_the_end_report : (lab_text music None plays_to_the_end).report ≡ record {
+  rows = row 0 a op.Opens Done state.Prepared None
+      ∷ row 1 a (op.Write 512) (Count 512) state.Running (Some 0)
+      ∷ row 2 the_card (op.Play 64) (Count 64) state.Running (Some 64)
+      ∷ row 3 a (op.Write 64) (Failed error.Again) state.Running (Some 64)
+      ∷ row 4 the_card (op.Play 64) (Count 64) state.Running (Some 128)
+      ∷ row 5 a (op.Write 64) (Count 64) state.Running (Some 128)
+      ∷ row 5 a op.Drain (Failed error.Again) state.Draining (Some 128)
+      ∷ row 6 the_card (op.Play 512) (Count 512) state.Running (Some 640)
+      ∷ row 7 a op.Drain Done state.Setup (Some 640) ∷ [];
+  segments = (0, record { source = 0; card = 64; whole = 576; part = 0 }) ∷ [];
+  runs = [];
+  first = 0;
+  frames = 640;
+}
+unfolding plays_to_the_end music course_text ◌>>=◌ Bound.rising client_calls.lay_each client_calls.lay_frames client_calls.looks client_calls.syncs client_calls.starts client_calls.drains client_calls.numbered client_calls.takes_more client_calls.writes_on client_calls.starts_taking client_calls.resumes reader_calls.gets_frames reader_calls.starts reader_calls.syncs reader_calls.transfers reader_calls.reads_on reader_calls.reads_first reader_calls.counts rewinding.take_each rewinding.take_frames rewinding.checks rewinding.takes_back rewinding.rewinds a b c r card mono stereo row setup silence some the_card line
+plays_to_the_end_report = refl

@@ -1,0 +1,169 @@
+-- Worked examples of places and of channels with one owner, by computation.
+use Rattle.std.proofs.Common.{◌≡◌, refl, Some, None}
+use Rattle.std.specs.Prelude.{List, [], ◌∷◌}
+use Rattle.snd_base.specs.declared.errors.PcmError.TheVariants as error
+use Rattle.bindings.specs.Bound
+use Rattle.pcm_states.specs.declared.states.State.TheVariants as state
+use Rattle.course.specs.Course.{◌>>=◌}
+use Rattle.dmix_client.specs.Course as client_calls
+use Rattle.dsnoop_client.specs.Course as reader_calls
+use Rattle.lab_script.specs.declared.line.Item.{Item}
+use Rattle.lab_script.specs.declared.line.Item.TheVariants as item
+use Rattle.lab_script.specs.declared.line.Op.TheVariants as op
+use Rattle.lab_script.specs.declared.script.Share.TheVariants as share
+use Rattle.lab_report.specs.declared.row.Answer.TheVariants.{Count, Done, Failed}
+use Rattle.lab_run.specs.CourseText.{course_text}
+use Rattle.lab_run.specs.LabRun.{lab_text}
+use Rattle.dmix_client.specs.Rewind as rewinding
+use Rattle.lab_run.specs.Stage.{Session}
+use Rattle.lab_run.proofs.Sessions.{a, b, c, card, mono, row, r, setup, silence, some, stereo, the_card, line}
+
+-- two clients and one place
+one_place : Session
+one_place = record {
+  card = card 1 1 share.Dmix;
+  ring = mono;
+  sounds = silence 1 64 ∷ silence 1 64 ∷ [];
+  clients = some (0 ∷ []) ∷ some (0 ∷ []) ∷ [];
+  readers = [];
+}
+
+-- three stereo clients and two places
+two_places : Session
+two_places = record {
+  card = card 2 2 share.Dmix;
+  ring = stereo;
+  sounds = silence 2 64 ∷ silence 2 64 ∷ silence 2 64 ∷ [];
+  clients = some (0 ∷ 1 ∷ []) ∷ some (0 ∷ 1 ∷ []) ∷ some (0 ∷ 1 ∷ []) ∷ [];
+  readers = [];
+}
+
+-- three mono clients of a stereo card whose channels have one owner, two of them of the same channel
+owners : Session
+owners = record {
+  card = card 2 64 share.Dshare;
+  ring = stereo;
+  sounds = silence 1 64 ∷ silence 1 64 ∷ silence 1 64 ∷ [];
+  clients = some (0 ∷ []) ∷ some (1 ∷ []) ∷ some (0 ∷ []) ∷ [];
+  readers = [];
+}
+
+-- a place is handed out again once it is silent
+silent : List Item
+silent =
+    item.Opens 0 a
+    ∷ item.Phase (line a (op.Write 64) ∷ [])
+    ∷ item.Closes 0 a
+    ∷ item.Opens 0 b
+    ∷ item.Phase (line the_card (op.Play 128) ∷ [])
+    ∷ item.Opens 0 b ∷ []
+
+silent_report : (lab_text one_place None silent).report ≡ record {
+  rows = row 0 a op.Opens Done state.Prepared None
+      ∷ row 1 a (op.Write 64) (Count 64) state.Running (Some 0)
+      ∷ row 1 a op.Closes Done state.Open (Some 0)
+      ∷ row 1 b op.Opens (Failed (error.Busy (Some 128) 0)) state.Open None
+      ∷ row 2 the_card (op.Play 128) (Count 128) state.Running (Some 128)
+      ∷ row 2 b op.Opens Done state.Prepared None ∷ [];
+  segments = (0, record { source = 0; card = 64; whole = 64; part = 0 }) ∷ [];
+  runs = [];
+  first = 0;
+  frames = 128;
+}
+unfolding silent one_place course_text ◌>>=◌ Bound.rising client_calls.lay_each client_calls.lay_frames client_calls.looks client_calls.syncs client_calls.starts client_calls.drains client_calls.numbered client_calls.takes_more client_calls.writes_on client_calls.starts_taking client_calls.resumes reader_calls.gets_frames reader_calls.starts reader_calls.syncs reader_calls.transfers reader_calls.reads_on reader_calls.reads_first reader_calls.counts rewinding.take_each rewinding.take_frames rewinding.checks rewinding.takes_back rewinding.rewinds a b c r card mono stereo row setup silence some the_card line
+silent_report = refl
+
+-- so is that of a client that was reaped
+reaped : List Item
+reaped =
+    item.Opens 0 a
+    ∷ item.Opens 0 b
+    ∷ item.Phase (line a (op.Die 3) ∷ line a (op.Write 64) ∷ [])
+    ∷ item.Opens 0 c
+    ∷ item.Phase (line b (op.Write 64) ∷ [])
+    ∷ item.Phase (line the_card (op.Play 128) ∷ [])
+    ∷ item.Opens 0 c ∷ []
+
+reaped_report : (lab_text two_places None reaped).report ≡ record {
+  rows = row 0 a op.Opens Done state.Prepared None
+      ∷ row 0 b op.Opens Done state.Prepared None
+      ∷ row 1 a (op.Die 3) Done state.Prepared None
+      ∷ row 1 a (op.Write 64) (Failed error.Stopped) state.Running (Some 0)
+      ∷ row 1 c op.Opens (Failed (error.Busy (Some 65) 0)) state.Open None
+      ∷ row 2 b (op.Write 64) (Count 64) state.Running (Some 0)
+      ∷ row 3 the_card (op.Play 128) (Count 128) state.Running (Some 128)
+      ∷ row 3 c op.Opens Done state.Prepared None ∷ [];
+  segments = (0, record { source = 0; card = 64; whole = 0; part = 1 }) ∷ (1, record { source = 0; card = 64; whole = 64; part = 0 }) ∷ [];
+  runs = [];
+  first = 0;
+  frames = 128;
+}
+unfolding reaped two_places course_text ◌>>=◌ Bound.rising client_calls.lay_each client_calls.lay_frames client_calls.looks client_calls.syncs client_calls.starts client_calls.drains client_calls.numbered client_calls.takes_more client_calls.writes_on client_calls.starts_taking client_calls.resumes reader_calls.gets_frames reader_calls.starts reader_calls.syncs reader_calls.transfers reader_calls.reads_on reader_calls.reads_first reader_calls.counts rewinding.take_each rewinding.take_frames rewinding.checks rewinding.takes_back rewinding.rewinds a b c r card mono stereo row setup silence some the_card line
+reaped_report = refl
+
+-- no place is free
+full : List Item
+full =
+    item.Opens 0 a
+    ∷ item.Phase (line the_card (op.Play 64) ∷ [])
+    ∷ item.Opens 0 b
+    ∷ item.Opens 0 a ∷ []
+
+full_report : (lab_text one_place None full).report ≡ record {
+  rows = row 0 a op.Opens Done state.Prepared None
+      ∷ row 1 the_card (op.Play 64) (Count 64) state.Running (Some 64)
+      ∷ row 1 b op.Opens (Failed (error.Busy None 0)) state.Open None
+      ∷ row 1 a op.Opens (Failed error.BadState) state.Prepared None ∷ [];
+  segments = [];
+  runs = [];
+  first = 0;
+  frames = 64;
+}
+unfolding full one_place course_text ◌>>=◌ Bound.rising client_calls.lay_each client_calls.lay_frames client_calls.looks client_calls.syncs client_calls.starts client_calls.drains client_calls.numbered client_calls.takes_more client_calls.writes_on client_calls.starts_taking client_calls.resumes reader_calls.gets_frames reader_calls.starts reader_calls.syncs reader_calls.transfers reader_calls.reads_on reader_calls.reads_first reader_calls.counts rewinding.take_each rewinding.take_frames rewinding.checks rewinding.takes_back rewinding.rewinds a b c r card mono stereo row setup silence some the_card line
+full_report = refl
+
+-- a channel has one owner
+owned : List Item
+owned =
+    item.Opens 0 a
+    ∷ item.Opens 0 b
+    ∷ item.Opens 0 c ∷ []
+
+owned_report : (lab_text owners None owned).report ≡ record {
+  rows = row 0 a op.Opens Done state.Prepared None
+      ∷ row 0 b op.Opens Done state.Prepared None
+      ∷ row 0 c op.Opens (Failed (error.Busy None 0)) state.Open None ∷ [];
+  segments = [];
+  runs = [];
+  first = 0;
+  frames = 0;
+}
+unfolding owned owners course_text ◌>>=◌ Bound.rising client_calls.lay_each client_calls.lay_frames client_calls.looks client_calls.syncs client_calls.starts client_calls.drains client_calls.numbered client_calls.takes_more client_calls.writes_on client_calls.starts_taking client_calls.resumes reader_calls.gets_frames reader_calls.starts reader_calls.syncs reader_calls.transfers reader_calls.reads_on reader_calls.reads_first reader_calls.counts rewinding.take_each rewinding.take_frames rewinding.checks rewinding.takes_back rewinding.rewinds a b c r card mono stereo row setup silence some the_card line
+owned_report = refl
+
+-- a released channel can be claimed once it is silent
+released : List Item
+released =
+    item.Opens 0 a
+    ∷ item.Opens 0 b
+    ∷ item.Phase (line a (op.Write 64) ∷ [])
+    ∷ item.Closes 0 a
+    ∷ item.Opens 0 c
+    ∷ item.Phase (line the_card (op.Play 128) ∷ [])
+    ∷ item.Opens 0 c ∷ []
+
+released_report : (lab_text owners None released).report ≡ record {
+  rows = row 0 a op.Opens Done state.Prepared None
+      ∷ row 0 b op.Opens Done state.Prepared None
+      ∷ row 1 a (op.Write 64) (Count 64) state.Running (Some 0)
+      ∷ row 1 a op.Closes Done state.Open (Some 0)
+      ∷ row 1 c op.Opens (Failed (error.Busy (Some 128) 0)) state.Open None
+      ∷ row 2 the_card (op.Play 128) (Count 128) state.Running (Some 128)
+      ∷ row 2 c op.Opens Done state.Prepared None ∷ [];
+  segments = (0, record { source = 0; card = 64; whole = 64; part = 0 }) ∷ [];
+  runs = [];
+  first = 0;
+  frames = 128;
+}
+unfolding released owners course_text ◌>>=◌ Bound.rising client_calls.lay_each client_calls.lay_frames client_calls.looks client_calls.syncs client_calls.starts client_calls.drains client_calls.numbered client_calls.takes_more client_calls.writes_on client_calls.starts_taking client_calls.resumes reader_calls.gets_frames reader_calls.starts reader_calls.syncs reader_calls.transfers reader_calls.reads_on reader_calls.reads_first reader_calls.counts rewinding.take_each rewinding.take_frames rewinding.checks rewinding.takes_back rewinding.rewinds a b c r card mono stereo row setup silence some the_card line
+released_report = refl

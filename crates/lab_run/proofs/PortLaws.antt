@@ -1,0 +1,247 @@
+-- A course that was taken at a port and its gate is a part of an actor.
+use Rattle.std.proofs.Common.{◌≡◌, ℕ, zero, suc, ◌/◌, ◌<◌, ◌≤◌, refl, sym, ◌∙◌, ap, subst, arith, inl, inr, Option, Some, None}
+use Rattle.std.proofs.lemmas.Bool.Decides.{nat_tests}
+use Rattle.std.specs.Prelude.{Bool, true, false, nat_le, List, [], ◌∷◌, ◌++◌, replicate}
+use Rattle.snd_base.specs.declared.geometry.Geometry.{Geometry}
+use Rattle.snd_base.specs.Relations.{Composes, Composes-none_after}
+use Rattle.lap_word.specs.Word.{lap_of}
+use Rattle.mix_core.specs.declared.gate.Gate as gates
+use Rattle.mix_core.specs.declared.gate.Pass.{Pass}
+use Rattle.mix_core.specs.declared.gate.Pass.TheVariants.{Go, Stop}
+use Rattle.mix_core.specs.declared.gate.StepKind.{StepKind}
+use Rattle.mix_core.specs.declared.gate.StepKind.TheVariants.{Again, Position}
+use Rattle.mix_core.specs.declared.marks.Marks.{Marks}
+use Rattle.mix_core.specs.declared.port.Ended.{Ended}
+use Rattle.mix_core.specs.declared.port.Ended.TheVariants.{Whole, Late, Stopped}
+use Rattle.mix_core.specs.declared.port.Entry.{Entry}
+use Rattle.mix_core.specs.declared.port.MixPort as mixport
+use Rattle.mix_core.specs.declared.port.Position as positions
+use Rattle.mix_core.specs.Gate.{placing}
+use Rattle.mix_core.specs.Laid.{marked, marks_after, without_last}
+use Rattle.mix_core.specs.Port.{IsPast, PortView, ShowsFrom, entry_if}
+use Rattle.course.specs.AtPort.{LaysAt, LoadsAt, NoGet, TakesAt}
+use Rattle.course.specs.Course.{Course}
+use Rattle.lab_run.specs.ActorPart.{DoesGet, DoesLay, DoesLoad, Doing, Each, with_late, with_position}
+use Rattle.lab_run.specs.Alike.{Alike, IsFromOn, IsSamePlace}
+use Rattle.lab_run.specs.PortSteps.{CountsDown, IsAnswered, IsAtPort, IsPart, counted, last_kind, with_gate}
+use Rattle.lab_run.specs.Rules.{AtPort, left_after, lets_pass, with_asks, with_gate_stop, with_stop}
+use Rattle.lab_run.proofs.MarksLaws.{entry-alike}
+use Rattle.lab_run.proofs.AlikeLaws.{Takes-alike, without_word}
+
+-- ---- asks
+
+again-counted : (n : ℕ) → counted (replicate n Again) ≡ 0
+again-counted zero = refl
+again-counted (suc n) = omega (arith, again-counted n)
+
+-- a placement that was done, or late, counts two asks at most
+placing-counted : (n : ℕ) → 2 ≤ n → counted (placing n) ≡ 2
+placing-counted zero some = absurd (omega (arith, some))
+placing-counted (suc zero) some = absurd (omega (arith, some))
+placing-counted (suc (suc n)) some = omega (arith, again-counted n)
+
+pub no-asks : (a : AtPort) → with_asks 0 a ≡ a
+no-asks a = ap (λ (l : Option ℕ). let b : AtPort = record a { left = l } in b) (same a.left)
+  where
+    same : (left : Option ℕ) → left_after 0 left ≡ left
+    same None = refl
+    same (Some n) = ap Some (omega arith)
+
+-- all asks of a placement but the last
+again-before : (n : ℕ) → without_last (replicate (suc n) Again) ≡ replicate n Again
+again-before zero = refl
+again-before (suc n) = ap (λ kinds. Again ∷ kinds) (again-before n)
+
+again-last : (n : ℕ) → last_kind (replicate (suc n) Again) ≡ Again
+again-last zero = refl
+again-last (suc n) = again-last n
+
+-- an actor whose gate is this one
+pub gate-same : {T : Type 0} (left : T → Option ℕ) (by_gate : T → ℕ) (g : T) (a : AtPort) → a.left ≡ left g → a.by_gate ≡ by_gate g → with_gate left by_gate g a ≡ a
+gate-same left by_gate g a left_is by_gate_is = λ i. record { seen = a.seen; marks = a.marks; left = sym left_is i; by_gate = sym by_gate_is i }
+
+-- ---- what is shown
+
+lap-rises : (word now : ℕ) → word / 16777216 ≤ now / 16777216 → lap_of word ≤ lap_of now
+lap-rises word now rises = omega arith
+
+pub Each-more : {X : Type 0} (R : X → Type 0) (xs : List X) (x : X) → Each R xs → R x → Each R (xs ++ x ∷ [])
+Each-more R [] x each one = (one, tt)
+Each-more R (y ∷ ys) x each one = (each.0, Each-more R ys x each.1 one)
+
+-- the asks of a step that was late or stopped, where its frame isn't below the position seen if it made more than one
+asked-on : (n seen port_seen frame : ℕ) → (frame < port_seen → suc (suc n) ≡ 1) → seen ≤ port_seen → seen ≤ frame
+asked-on n seen port_seen frame once low = by_test (nat_le port_seen frame) refl
+  where
+    by_test : (test : Bool) → nat_le port_seen frame ≡ test → seen ≤ frame
+    by_test true is = grind (arith, nat_tests)
+    by_test false is = let below : frame < port_seen = grind (arith, nat_tests) in absurd (omega (arith, once below))
+
+module _ {S T : Type 0} (P : mixport.Ghosts S) (G : gates.Ghosts T) (shown_laid : (p q : S) (es : List Entry) (f c word : ℕ) → P.laid p q es → P.shows p f c ≡ Some word → ShowsFrom P.shows q f c word)
+    (composes : Composes P.loaded) (left : T → Option ℕ) (by_gate : T → ℕ) (counts : CountsDown G.asked left by_gate) (first : S) (ring : Geometry) (from : ℕ) where
+  past-stays : (p q : S) (es : List Entry) (frame channel word : ℕ) → P.laid p q es → (P.view q).geometry ≡ (P.view p).geometry
+      → IsPast P.view P.shows p frame channel word → (now : ℕ) × IsPast P.view P.shows q frame channel now
+  past-stays p q es frame channel word laid same past =
+      let shown = shown_laid p q es frame channel word laid past.shown in (
+        shown.now,
+        record {
+          channel = rw same (past.channel);
+          shown = shown.shown;
+          past = rw same (omega (arith, past.past, lap-rises word shown.now shown.not_before));
+        },
+      )
+
+  all_past-stays : (p q : S) (es : List Entry) (places : List (ℕ × ℕ)) → P.laid p q es → (P.view q).geometry ≡ (P.view p).geometry
+      → Each (λ (place : ℕ × ℕ). (word : ℕ) × IsPast P.view P.shows p place.0 place.1 word) places
+      → Each (λ (place : ℕ × ℕ). (word : ℕ) × IsPast P.view P.shows q place.0 place.1 word) places
+  all_past-stays p q es [] laid same each = tt
+  all_past-stays p q es (place ∷ places) laid same each =
+      (past-stays p q es place.0 place.1 each.0.0 laid same each.0.1, all_past-stays p q es places laid same each.1)
+
+  -- what asks that were answered make of the actor, by its own fields
+  told : (g h : T) (kinds : List StepKind) (pass : Pass) (a : AtPort) → a.left ≡ left g → a.by_gate ≡ by_gate g → G.asked g h kinds pass
+      → IsAnswered kinds pass a (with_gate left by_gate h a)
+  told g h kinds pass a left_is by_gate_is asked =
+      subst (λ x. IsAnswered kinds pass x (with_gate left by_gate h a)) (gate-same left by_gate g a left_is by_gate_is) (counts.tells g h kinds pass a asked)
+
+  load-part : (s t : S × T) (w : Doing) (load : Option positions.Position) → IsAtPort P left by_gate first ring from s w → LoadsAt P G s load t
+      → (v : Doing) × DoesLoad w load v × IsAtPort P left by_gate first ring from t v
+  load-part s t (a, found) None at step =
+      let answered = told s.1 t.1 (Position ∷ []) Stop a at.left_is at.by_gate_is step.asked_it in
+      let same : (P.view t.0).geometry ≡ (P.view s.0).geometry = ap (λ (v : PortView). v.geometry) step.view_is in (
+        (with_gate left by_gate t.1 a, found),
+        (answered.1 ∙ ap with_stop (no-asks a), refl),
+        record {
+          geometry = same ∙ at.geometry;
+          after = rw (ap (λ (v : PortView). v.seen) step.view_is) (at.after);
+          seen = rw (ap (λ (v : PortView). v.seen) step.view_is) (at.seen);
+          marks = rw (ap (λ (v : PortView). v.marks) step.view_is) (at.marks);
+          left_is = refl;
+          by_gate_is = refl;
+          loads = Composes-none_after P.loaded first s.0 t.0 found.loads composes at.loads step.loaded_it;
+          late = all_past-stays s.0 t.0 [] found.late step.laid_nothing same at.late;
+          overtaken = at.overtaken;
+        },
+      )
+  load-part s t (a, found) (Some position) at step =
+      let answered = told s.1 t.1 (Position ∷ []) Go a at.left_is at.by_gate_is step.asked_it in
+      let same : (P.view t.0).geometry ≡ (P.view s.0).geometry = ap (λ (v : PortView). v.geometry) step.view_is in
+      let b : AtPort = record (with_gate left by_gate t.1 a) { seen = position.frame } in (
+        (b, with_position position found),
+        (answered.0, omega (arith, at.seen, step.newer), ap (λ (x : AtPort). let y : AtPort = record x { seen = position.frame } in y) answered.1, refl),
+        record {
+          geometry = same ∙ at.geometry;
+          after = rw (ap (λ (v : PortView). v.seen) step.view_is) (omega (arith, at.after, step.newer));
+          seen = rw (ap (λ (v : PortView). v.seen) step.view_is) (omega arith);
+          marks = rw (ap (λ (v : PortView). v.marks) step.view_is) (at.marks);
+          left_is = refl;
+          by_gate_is = refl;
+          loads = composes.joined first s.0 t.0 found.loads (position ∷ []) at.loads step.loaded_it;
+          late = all_past-stays s.0 t.0 [] found.late step.laid_nothing same at.late;
+          overtaken = at.overtaken;
+        },
+      )
+
+  -- the marks after an entry at the same place
+  marks-same : (marks : Marks) (g : Geometry) (e d : Entry) → IsSamePlace e d → g ≡ ring → marks_after g marks e ≡ marks_after ring marks d
+  marks-same marks g e d place same = λ i. marked (place.kind i) (same i) marks (place.frame i) (place.channel i)
+
+  lay-part : (s t : S × T) (w : Doing) (e d : Entry) (ended : Ended) → IsSamePlace e d → IsAtPort P left by_gate first ring from s w → LaysAt P G s e ended t
+      → (v : Doing) × DoesLay ring w d (without_word ended) v × IsAtPort P left by_gate first ring from t v
+  lay-part s t (a, found) e d Whole place at step =
+      let answered = told s.1 t.1 (placing step.asks) Go a at.left_is at.by_gate_is step.asked_them in
+      let two : counted (placing step.asks) ≡ 2 = placing-counted step.asks step.asks_number in
+      let same : (P.view t.0).geometry ≡ (P.view s.0).geometry = ap (λ (v : PortView). v.geometry) step.view_is in
+      let b : AtPort = record (with_gate left by_gate t.1 a) { marks = marks_after ring a.marks d } in
+      let passes : lets_pass 2 a.left ≡ true = rw two at answered.0 in
+      let after : with_gate left by_gate t.1 a ≡ with_asks 2 a = rw two at answered.1 in (
+        (b, found),
+        (omega (arith, at.seen, step.not_before_seen, place.frame), passes, ap (λ (x : AtPort). let y : AtPort = record x { marks = marks_after ring a.marks d } in y) after, refl),
+        record {
+          geometry = same ∙ at.geometry;
+          after = rw (ap (λ (v : PortView). v.seen) step.view_is) (at.after);
+          seen = rw (ap (λ (v : PortView). v.seen) step.view_is) (at.seen);
+          marks = rw (ap (λ (v : PortView). v.marks) step.view_is, marks-same (P.view s.0).marks (P.view s.0).geometry e d place at.geometry)
+              (entry-alike ring from d a.marks (P.view s.0).marks (omega (arith, at.after, step.not_before_seen, place.frame)) at.marks);
+          left_is = refl;
+          by_gate_is = refl;
+          loads = Composes-none_after P.loaded first s.0 t.0 found.loads composes at.loads step.loaded_nothing;
+          late = all_past-stays s.0 t.0 (entry_if Whole e) found.late step.laid_it same at.late;
+          overtaken = at.overtaken;
+        },
+      )
+  lay-part s t (a, found) e d (Late word) place at step =
+      let same : (P.view t.0).geometry ≡ (P.view s.0).geometry = ap (λ (v : PortView). v.geometry) step.view_is in
+      let past : IsPast P.view P.shows t.0 d.frame d.channel word = rw (sym place.frame, sym place.channel) step.shown in (
+        (with_gate left by_gate t.1 a, with_late d.frame d.channel found),
+        by_asks step.asks step.asks_number (told s.1 t.1 (placing step.asks) Go a at.left_is at.by_gate_is step.asked_them),
+        record {
+          geometry = same ∙ at.geometry;
+          after = rw (ap (λ (v : PortView). v.seen) step.view_is) (at.after);
+          seen = rw (ap (λ (v : PortView). v.seen) step.view_is) (at.seen);
+          marks = rw (ap (λ (v : PortView). v.marks) step.view_is) (at.marks);
+          left_is = refl;
+          by_gate_is = refl;
+          loads = Composes-none_after P.loaded first s.0 t.0 found.loads composes at.loads step.loaded_nothing;
+          late = Each-more _ found.late (d.frame, d.channel) (all_past-stays s.0 t.0 (entry_if (Late word) e) found.late step.laid_it same at.late) (word, past);
+          overtaken = at.overtaken;
+        },
+      )
+    where
+      by_asks : (n : ℕ) → (1 ≤ n) × (e.frame < (P.view s.0).seen → n ≡ 1) → IsAnswered (placing n) Go a (with_gate left by_gate t.1 a)
+          → DoesLay ring (a, found) d (Late 0) (with_gate left by_gate t.1 a, with_late d.frame d.channel found)
+      by_asks zero number answered = absurd (omega (arith, number.0))
+      by_asks (suc zero) number answered = (0, refl, inl refl, answered.0, answered.1, refl)
+      by_asks (suc (suc n)) number answered =
+          let two : counted (placing (suc (suc n))) ≡ 2 = placing-counted (suc (suc n)) (omega arith) in
+          let low : a.seen ≤ d.frame = asked-on n a.seen (P.view s.0).seen d.frame (λ below. number.1 (rw place.frame below)) at.seen in
+          let passes : lets_pass 2 a.left ≡ true = rw two at answered.0 in
+          let after : with_gate left by_gate t.1 a ≡ with_asks 2 a = rw two at answered.1 in
+          (1, refl, inr (refl, low), passes, after, refl)
+  lay-part s t (a, found) e d Stopped place at step =
+      let same : (P.view t.0).geometry ≡ (P.view s.0).geometry = ap (λ (v : PortView). v.geometry) step.view_is in (
+        (with_gate left by_gate t.1 a, found),
+        by_asks step.asks step.asks_number (told s.1 t.1 (placing step.asks) Stop a at.left_is at.by_gate_is step.asked_them),
+        record {
+          geometry = same ∙ at.geometry;
+          after = rw (ap (λ (v : PortView). v.seen) step.view_is) (at.after);
+          seen = rw (ap (λ (v : PortView). v.seen) step.view_is) (at.seen);
+          marks = rw (ap (λ (v : PortView). v.marks) step.view_is) (at.marks);
+          left_is = refl;
+          by_gate_is = refl;
+          loads = Composes-none_after P.loaded first s.0 t.0 found.loads composes at.loads step.loaded_nothing;
+          late = all_past-stays s.0 t.0 (entry_if Stopped e) found.late step.laid_it same at.late;
+          overtaken = at.overtaken;
+        },
+      )
+    where
+      by_asks : (n : ℕ) → (1 ≤ n) × (e.frame < (P.view s.0).seen → n ≡ 1) → IsAnswered (placing n) Stop a (with_gate left by_gate t.1 a)
+          → DoesLay ring (a, found) d Stopped (with_gate left by_gate t.1 a, found)
+      by_asks zero number answered = absurd (omega (arith, number.0))
+      by_asks (suc zero) number answered = (inl (0, inl refl, answered.0, answered.1), refl)
+      by_asks (suc (suc zero)) number answered =
+          let low : a.seen ≤ d.frame = asked-on 0 a.seen (P.view s.0).seen d.frame (λ below. number.1 (rw place.frame below)) at.seen in
+          (inl (1, inr (refl, low), answered.0, answered.1), refl)
+      by_asks (suc (suc (suc n))) number answered =
+          let low : a.seen ≤ d.frame = asked-on (suc n) a.seen (P.view s.0).seen d.frame (λ below. number.1 (rw place.frame below)) at.seen in
+          let two : counted (without_last (placing (suc (suc (suc n))))) ≡ 2 = omega (arith, ap counted (again-before n), again-counted n) in
+          let again : last_kind (placing (suc (suc (suc n)))) ≡ Again = again-last n in
+          let passes : lets_pass 2 a.left ≡ true = rw two at answered.0 in
+          let after : with_gate left by_gate t.1 a ≡ with_gate_stop (with_asks 2 a) = rw (two, again) at answered.1 in
+          (inr (low, passes, after), refl)
+
+  -- a course that was taken, and one that is like it
+  pub course-part : {X Y : Type 0} (R : X → Y → Type 0) (s t : S × T) (w : Doing) (m : Course X) (n : Course Y) (x : X) → Alike from R m n
+      → IsAtPort P left by_gate first ring from s w → TakesAt P G s m t x → IsPart P left by_gate first ring from R t w n x
+  course-part R s t w m n x alike at takes =
+      let part = Takes-alike (LoadsAt P G) (LaysAt P G) NoGet DoesLoad (DoesLay ring) (DoesGet ring) (IsAtPort P left by_gate first ring from) from R
+      load-at lay-part (λ s t w frame g at step. absurd step) s t w m n x alike at takes in
+      record { after = part.0; result = part.1; does = part.2; at = part.3; alike = part.4 }
+    where
+      after-seen : (s t : S × T) (w : Doing) (load : Option positions.Position) → IsAtPort P left by_gate first ring from s w → LoadsAt P G s load t → IsFromOn from load
+      after-seen s t w None at step = tt
+      after-seen s t w (Some position) at step = omega (arith, at.after, step.newer)
+
+      load-at : (s t : S × T) (w : Doing) (load : Option positions.Position) → IsAtPort P left by_gate first ring from s w → LoadsAt P G s load t
+          → (v : Doing) × DoesLoad w load v × IsAtPort P left by_gate first ring from t v × IsFromOn from load
+      load-at s t w load at step = let part = load-part s t w load at step in (part.0, part.1, part.2, after-seen s t w load at step)

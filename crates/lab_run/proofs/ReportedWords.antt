@@ -1,0 +1,146 @@
+-- What a call gives, as a report has it, doesn't depend on the word that a late sample found.
+use Rattle.std.proofs.Common.{◌≡◌, ℕ, List, [], ◌∷◌, refl, ap, Option, Some, None}
+use Rattle.std.specs.Prelude.{Bool, true, false, ◌&&◌, nat_eq, nat_lt, if◌then◌else◌, Result, Ok, Err}
+use Rattle.snd_base.specs.declared.errors.PcmError.{PcmError}
+use Rattle.snd_base.specs.declared.errors.XrunWhy.TheVariants as why
+use Rattle.snd_base.specs.declared.places.Cursor.{Cursor}
+use Rattle.mix_core.specs.declared.port.Ended.{Ended}
+use Rattle.mix_core.specs.declared.port.Ended.TheVariants.{Whole, Late, Stopped}
+use Rattle.mix_core.specs.declared.port.Position.{Position}
+use Rattle.pcm_states.specs.declared.states.State.{State}
+use Rattle.pcm_states.specs.declared.states.State.TheVariants.{Prepared, Running}
+use Rattle.pcm_states.specs.declared.calls.Call.{Call}
+use Rattle.pcm_states.specs.declared.calls.Call.TheVariants as call
+use Rattle.pcm_states.specs.declared.calls.Facts.{Facts}
+use Rattle.pcm_states.specs.declared.calls.Outcome.{Outcome}
+use Rattle.pcm_states.specs.Table.{Cell, already, done_in, draining, ebadfd, eio, enodev, filling, first_of, if_empty, if_gone, if_none_left, if_over, moving, next_of, outcome_of, resuming, row_of, starting, stopped_by, to}
+use Rattle.dmix_client.specs.declared.commit.Commit.{Commit}
+use Rattle.dmix_client.specs.declared.plain.Plain.{Plain}
+use Rattle.dmix_client.specs.Calls.{Answered, accepted, accepted_if, committed_by, end_channel, end_of_commit, facts_of, found_at, going_on, going_on_by, over_of, rebased, resumed, seen_at, settled, started, synced, taken_of, with_number, written_after}
+use Rattle.dmix_client.specs.Rewind.{rewound}
+use Rattle.dmix_client.specs.View.{avail_of}
+use Rattle.lab_run.specs.Alike.{SameAnswer}
+use Rattle.lab_run.specs.Client.{count_answer, done_answer}
+use Rattle.lab_run.proofs.AlikeLaws.{without_word}
+
+-- two outcomes leave the same state, and are answered alike in a report
+record SameOutcome (o u : Outcome) : Type 0 where
+  pub state : o.state ≡ u.state
+  pub answer : done_answer o.answer ≡ done_answer u.answer
+
+same : (o : Outcome) → SameOutcome o o
+same o = record { state = refl; answer = refl }
+
+first-more : (o : Option Outcome) (xs ys : List (Option Outcome)) (d e : Outcome) → SameOutcome (first_of xs d) (first_of ys e)
+    → SameOutcome (first_of (o ∷ xs) d) (first_of (o ∷ ys) e)
+first-more None xs ys d e rest = rest
+first-more (Some o) xs ys d e rest = same o
+
+late-word : (frame channel word : ℕ) → SameOutcome (stopped_by (why.Late frame channel word)) (stopped_by (why.Late frame channel 0))
+late-word frame channel word = record { state = refl; answer = refl }
+
+-- the facts with a late sample that found a word
+abbrev with_late : Facts → ℕ → ℕ → ℕ → Facts
+with_late f frame channel word = record f { late = Some (why.Late frame channel word) }
+
+cell-word : (cell : Cell) (s : State) (c : Call) (f : Facts) (frame channel word : ℕ)
+    → SameOutcome (outcome_of cell s c (with_late f frame channel word)) (outcome_of cell s c (with_late f frame channel 0))
+cell-word (to t) s c f frame channel word = same _
+cell-word ebadfd s c f frame channel word = same _
+cell-word enodev s c f frame channel word = same _
+cell-word eio s c f frame channel word = same _
+cell-word already s c f frame channel word = same _
+cell-word starting s c f frame channel word = first-more (if_empty f) _ _ _ _ (first-more (if_gone f) _ _ _ _ (late-word frame channel word))
+cell-word filling s c f frame channel word = by_start f.starts
+  where
+    by_start : (b : Bool) → SameOutcome (if b then first_of (if_gone f ∷ Some (stopped_by (why.Late frame channel word)) ∷ []) (done_in Running) else done_in Prepared)
+        (if b then first_of (if_gone f ∷ Some (stopped_by (why.Late frame channel 0)) ∷ []) (done_in Running) else done_in Prepared)
+    by_start true = first-more (if_gone f) (Some (stopped_by (why.Late frame channel word)) ∷ []) (Some (stopped_by (why.Late frame channel 0)) ∷ []) (done_in Running) (done_in Running)
+        (late-word frame channel word)
+    by_start false = same (done_in Prepared)
+cell-word moving s c f frame channel word = first-more (if_gone f) _ _ _ _ (first-more (if_over f) _ _ _ _ (late-word frame channel word))
+cell-word draining s c f frame channel word = first-more (if_gone f) _ _ _ _ (late-word frame channel word)
+cell-word resuming s c f frame channel word = first-more (if_none_left f) _ _ _ _ (first-more (if_gone f) _ _ _ _ (late-word frame channel word))
+
+next-word : (s : State) (c : Call) (f : Facts) (frame channel word : ℕ) → SameOutcome (next_of s c (with_late f frame channel word)) (next_of s c (with_late f frame channel 0))
+next-word s c f frame channel word = cell-word (row_of f.capture c s) s c f frame channel word
+
+-- a commit without its word
+abbrev pub commit_without_word : Commit → Commit
+commit_without_word x = record x { ended = without_word x.ended }
+
+settled-alike : (c : Plain) (o u : Outcome) → SameOutcome o u → SameAnswer done_answer (settled c o) (settled c u)
+settled-alike c o u is = record { client = ap (λ s. let d : Plain = record c { status = record c.status { state = s } } in d) is.state; answer_is = is.answer }
+
+going_on-alike : (c : Plain) (state : State) (o u : Outcome) → SameOutcome o u → SameAnswer done_answer (going_on c state o) (going_on c state u)
+going_on-alike c state o u is = by_answer o.answer u.answer is.answer
+  where
+    by_answer : (r s : Result (Unit {0}) PcmError) → done_answer r ≡ done_answer s → SameAnswer done_answer (going_on_by r c state o.state) (going_on_by s c state u.state)
+    by_answer (Ok x) (Ok y) same_answer = record { client = refl; answer_is = refl }
+    by_answer (Err e) (Err f) same_answer = record { client = ap (λ s. let d : Plain = record c { status = record c.status { state = s } } in d) is.state; answer_is = same_answer }
+    by_answer (Ok x) (Err f) same_answer = absurd (cc)
+    by_answer (Err e) (Ok y) same_answer = absurd (cc)
+
+-- the parts of the calls, by a load and a commit
+
+pub synced-word : (c : Plain) (call : Call) (load : Option Position) (x : Commit) → SameAnswer done_answer (synced c call load x) (synced c call load (commit_without_word x))
+synced-word c call None x = record { client = refl; answer_is = refl }
+synced-word c call (Some p) x = by_end x.ended
+  where
+    by_end : (e : Ended) → SameAnswer done_answer (synced c call (Some p) (record x { ended = e })) (synced c call (Some p) (record x { ended = without_word e }))
+    by_end Whole = record { client = refl; answer_is = refl }
+    by_end Stopped = record { client = refl; answer_is = refl }
+    by_end (Late w) = settled-alike (committed_by (seen_at c p) x) _ _
+        (next-word c.status.state call (facts_of (committed_by (seen_at c p) x) p (over_of (seen_at c p) p) None) (end_of_commit (seen_at c p) x) (end_channel (seen_at c p) x) w)
+
+pub started-word : (c : Plain) (state : State) (cursor : Cursor) (load : Option Position) (x : Commit)
+    → SameAnswer done_answer (started c state cursor load x) (started c state cursor load (commit_without_word x))
+started-word c state cursor None x = record { client = refl; answer_is = refl }
+started-word c state cursor (Some p) x = by_gone p.gone refl x.ended
+  where
+    with_gone : Bool → Position
+    with_gone g = record { frame = p.frame; gone = g }
+
+    by_gone : (g : Bool) → p.gone ≡ g → (e : Ended)
+        → SameAnswer done_answer (started c state cursor (Some p) (record x { ended = e })) (started c state cursor (Some p) (record x { ended = without_word e }))
+    by_gone true is e = rw is (record { client = refl; answer_is = refl })
+    by_gone false is Whole = record { client = refl; answer_is = refl }
+    by_gone false is Stopped = record { client = refl; answer_is = refl }
+    by_gone false is (Late w) = rw is (record { client = refl; answer_is = refl })
+
+pub resumed-word : (c : Plain) (cursor : Cursor) (load : Option Position) (x : Commit)
+    → SameAnswer done_answer (resumed c cursor load x) (resumed c cursor load (commit_without_word x))
+resumed-word c cursor None x = record { client = refl; answer_is = refl }
+resumed-word c cursor (Some p) x = started-word (rebased c) Running cursor (Some p) x
+
+pub accepted_if-alike : (n : ℕ) (a b : Answered (Unit {0})) → SameAnswer done_answer a b → SameAnswer count_answer (accepted_if n a) (accepted_if n b)
+accepted_if-alike n (c, Ok x) (d, Ok y) is = record { client = ap (λ e. accepted e n) is.client; answer_is = refl }
+accepted_if-alike n (c, Err e) (d, Err f) is = record { client = is.client; answer_is = is.answer_is }
+accepted_if-alike n (c, Ok x) (d, Err f) is = let wrong = is.answer_is in absurd (cc)
+accepted_if-alike n (c, Err e) (d, Ok y) is = let wrong = is.answer_is in absurd (cc)
+
+pub with_number-alike : (number : Plain → ℕ) (a b : Answered (Unit {0})) → SameAnswer done_answer a b
+    → SameAnswer count_answer (with_number number a) (with_number number b)
+with_number-alike number (c, Ok x) (d, Ok y) is = record { client = is.client; answer_is = ap (λ e. count_answer (Ok (number e))) is.client }
+with_number-alike number (c, Err e) (d, Err f) is = record { client = is.client; answer_is = is.answer_is }
+with_number-alike number (c, Ok x) (d, Err f) is = let wrong = is.answer_is in absurd (cc)
+with_number-alike number (c, Err e) (d, Ok y) is = let wrong = is.answer_is in absurd (cc)
+
+pub written_after-word : (c : Plain) (n : ℕ) (x : Commit) → SameAnswer count_answer (written_after c n x) (written_after c n (commit_without_word x))
+written_after-word c n x = by_again (nat_lt 0 n && nat_eq (avail_of c) 0) refl x.ended
+  where
+    by_again : (again : Bool) → (nat_lt 0 n && nat_eq (avail_of c) 0) ≡ again → (e : Ended)
+        → SameAnswer count_answer (written_after c n (record x { ended = e })) (written_after c n (record x { ended = without_word e }))
+    by_again true is e = rw is (record { client = refl; answer_is = refl })
+    by_again false is Whole = record { client = refl; answer_is = refl }
+    by_again false is Stopped = record { client = refl; answer_is = refl }
+    by_again false is (Late w) = rw is (accepted_if-alike (taken_of c n) _ _ (settled-alike (committed_by c x) _ _
+        (next-word Running call.Transfer (found_at (record { frame = 0; gone = false }) None) (end_of_commit c x) (end_channel c x) w)))
+
+pub rewound-word : (c : Plain) (n : ℕ) (left : Commit) → SameAnswer count_answer (rewound c n left) (rewound c n (commit_without_word left))
+rewound-word c n left = by_end left.ended
+  where
+    by_end : (e : Ended) → SameAnswer count_answer (rewound c n (record left { ended = e })) (rewound c n (record left { ended = without_word e }))
+    by_end Whole = record { client = refl; answer_is = refl }
+    by_end Stopped = record { client = refl; answer_is = refl }
+    by_end (Late w) = record { client = refl; answer_is = refl }

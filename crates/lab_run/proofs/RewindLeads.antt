@@ -1,0 +1,74 @@
+-- Each rewind of a client loads a position before it withdraws anything.
+use Rattle.std.proofs.Common.{◌≡◌, ℕ, ◌+◌, refl, Option, Some, None}
+use Rattle.std.specs.Prelude.{Bool, true, false, List, ℤ, zero, suc, min, length, Ok, Err, ◌-◌}
+use Rattle.snd_base.specs.declared.places.Cursor.{Cursor}
+use Rattle.mix_core.specs.declared.port.Ended.{Ended}
+use Rattle.mix_core.specs.declared.port.Ended.TheVariants.{Whole, Late, Stopped}
+use Rattle.mix_core.specs.declared.port.Position.{Position}
+use Rattle.pcm_states.specs.declared.calls.Call.TheVariants as call
+use Rattle.course.specs.Course.{Course, ends}
+use Rattle.dmix_client.specs.declared.commit.Commit.{Commit}
+use Rattle.dmix_client.specs.declared.plain.Plain.{Plain}
+use Rattle.dmix_client.specs.Calls.{Answered, is_running, synced, with_number}
+use Rattle.dmix_client.specs.Course.{nothing, numbered}
+use Rattle.dmix_client.specs.Rewind.{back_of, back_on, checks, rewind_course, rewind_on, rewindable_course, rewindable_of, rewinds, rewound, take_each, take_frames, take_on, takes_back}
+use Rattle.dmix_client.specs.View.{held}
+use Rattle.lab_run.proofs.Leads.{Anything, IsLed, Led, Led-if, Led-then, LoadsFirst, OkLed, first-of, first-then, is_loaded, on-ok}
+
+checks-led : (c : Plain) (loaded : Bool) → Led OkLed loaded (checks c)
+unfolding checks
+checks-led c loaded = by_load
+  where
+    by_load : (load : Option Position) → OkLed (is_loaded loaded load) (synced c call.Transfer load nothing)
+    by_load None = tt
+    by_load (Some position) = on-ok true (synced c call.Transfer (Some position) nothing).1 refl
+
+numbered-first : (number : Plain → ℕ) (course : Course (Answered (Unit {0}))) → LoadsFirst false course → LoadsFirst false (numbered number course)
+unfolding numbered
+numbered-first number course led = first-then false course (λ done. ends (with_number number done)) led (λ l x. tt)
+
+pub rewindable-first : (c : Plain) (floor : Cursor) → LoadsFirst false (rewindable_course c floor)
+rewindable-first c floor = Led-if Anything false (is_running c.status.state) (numbered (rewindable_of floor) (checks c)) (ends _)
+    (numbered-first (rewindable_of floor) (checks c) (first-of OkLed false _ (checks-led c false))) tt
+
+take_on-led : (ended : Ended) (n : ℕ) (rest : Course (ℕ × Ended)) → Led IsLed true rest → Led IsLed true (take_on ended n rest)
+take_on-led Whole n rest led = led
+take_on-led (Late word) n rest led = refl
+take_on-led Stopped n rest led = refl
+
+take_each-led : (member frame : ℕ) (bindings : List ℕ) (sample_of : ℕ → ℤ) (n : ℕ) → Led IsLed true (take_each member frame bindings sample_of n)
+unfolding take_each
+take_each-led member frame bindings sample_of zero = refl
+take_each-led member frame bindings sample_of (suc n) =
+    (refl, λ ended. take_on-led ended (suc n) (take_each member frame bindings sample_of n) (take_each-led member frame bindings sample_of n))
+
+back_on-led : (end : ℕ × Ended) (n channels : ℕ) (l : Bool) (rest : Course Commit) → l ≡ true → Led IsLed true rest → Led IsLed l (back_on end n channels rest)
+back_on-led (left, Whole) n channels l rest is led = rw is led
+back_on-led (left, Late word) n channels l rest is led = is
+back_on-led (left, Stopped) n channels l rest is led = is
+
+take_frames-led : (member card : ℕ) (bindings : List ℕ) (samples : ℕ → ℕ → ℤ) (first n : ℕ) → Led IsLed true (take_frames member card bindings samples first n)
+unfolding take_frames
+take_frames-led member card bindings samples first zero = refl
+take_frames-led member card bindings samples first (suc n) =
+    Led-then IsLed IsLed true (take_each member (card + (first + n)) bindings (samples (first + n)) (length bindings))
+    (λ end. back_on end n (length bindings) (take_frames member card bindings samples first n))
+    (take_each-led member (card + (first + n)) bindings (samples (first + n)) (length bindings))
+    (λ l end is. back_on-led end n (length bindings) l (take_frames member card bindings samples first n) is (take_frames-led member card bindings samples first n))
+
+takes_back-first : (c : Plain) (ring : List ℤ) (n : ℕ) → LoadsFirst true (takes_back c ring n)
+unfolding takes_back
+takes_back-first c ring n =
+    Led-then IsLed Anything true (take_frames c.identity.member c.stretch.card c.setup.bindings (held c ring) (c.stretch.committed - back_of c n) (back_of c n)) (λ left. ends (rewound c n left))
+    (take_frames-led c.identity.member c.stretch.card c.setup.bindings (held c ring) (c.stretch.committed - back_of c n) (back_of c n)) (λ l x is. tt)
+
+rewind_on-first : (floor : Cursor) (ring : List ℤ) (n : ℕ) (l : Bool) (done : Answered (Unit {0})) → OkLed l done → LoadsFirst l (rewind_on floor ring n done)
+rewind_on-first floor ring n l (c, Ok x) led = rw led (takes_back-first c ring (min n (rewindable_of floor c)))
+rewind_on-first floor ring n l (c, Err e) led = tt
+
+rewinds-first : (c : Plain) (ring : List ℤ) (floor : Cursor) (n : ℕ) → LoadsFirst false (rewinds c ring floor n)
+unfolding rewinds
+rewinds-first c ring floor n = Led-then OkLed Anything false (checks c) (rewind_on floor ring n) (checks-led c false) (rewind_on-first floor ring n)
+
+pub rewind-first : (c : Plain) (ring : List ℤ) (floor : Cursor) (n : ℕ) → LoadsFirst false (rewind_course c ring floor n)
+rewind-first c ring floor n = Led-if Anything false (is_running c.status.state) (rewinds c ring floor n) (ends _) (rewinds-first c ring floor n) tt

@@ -1,0 +1,10 @@
+use Rattle.lab_run.proofs.laws.parts_are_runs.Goals as goal
+use Rattle.lab_run.proofs.PartLaws.{parts-are_runs}
+use Rattle.lab_run.specs.Client.{client_kind}
+use Rattle.lab_run.specs.Reader.{reader_kind}
+
+pub returns : goal.returns
+returns c = record {
+  clients = λ phase wav number rules. parts-are_runs (client_kind phase wav number) rules;
+  readers = λ phase number rules. parts-are_runs (reader_kind phase number) rules;
+}

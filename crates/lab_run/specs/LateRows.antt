@@ -1,0 +1,35 @@
+-- What a row that is answered late names: the place right behind the client's segment.
+use Rattle.std.specs.Prelude.{◌≡◌, ℕ, ◌+◌, Bool, true, false, slice_index, Some}
+use Rattle.snd_base.specs.declared.errors.PcmError.TheVariants.{Xrun}
+use Rattle.snd_base.specs.declared.errors.XrunWhy.TheVariants.{Late}
+use Rattle.bindings.specs.Bound.{rising}
+use Rattle.wav_io.specs.Sound.{Sound}
+use Rattle.dmix_client.specs.declared.plain.Plain.{Plain}
+use Rattle.lab_script.specs.declared.line.Op.{Op}
+use Rattle.lab_script.specs.declared.line.Op.TheVariants as op
+use Rattle.lab_report.specs.declared.row.Answer.{Answer}
+use Rattle.lab_report.specs.declared.row.Answer.TheVariants.{Failed}
+use Rattle.lab_run.specs.Client.{Client, client_kind}
+use Rattle.lab_run.specs.Lines.{LineMay}
+use Rattle.lab_run.specs.Rules.{AtPort, Rules}
+
+-- a frame and channel are those of the first sample that a client hasn't laid
+abbrev pub IsNext : Plain → ℕ → ℕ → Type 0
+IsNext c frame channel = (frame ≡ c.stretch.card + c.stretch.committed) × (channel ≡ slice_index c.setup.bindings (slice_index (rising c.setup.bindings) c.stretch.part))
+
+-- a rewind names the last sample that it couldn't take back instead
+abbrev pub is_rewind : Op → Bool
+is_rewind (op.Rewind n) = true
+is_rewind other = false
+
+-- an open client after a line: where it was late, the row names the first sample that isn't laid
+pub record NamesNext (after : Client) (answer : Answer) : Type 0 where
+  pub own : Plain
+  pub is_own : after.own ≡ Some own
+  pub late : (frame channel : ℕ) → answer ≡ Failed (Xrun (Late frame channel 0)) → IsNext own frame channel
+
+-- each line but a rewind that a phase allows to an open client
+abbrev pub LateRowsNameNext : Rules → ℕ → Sound → ℕ → Type 0
+LateRowsNameNext rules phase wav number =
+    (a b : AtPort) (client after : Client) (c : Plain) (asked : Op) (answer : Answer) → client.own ≡ Some c → is_rewind asked ≡ false
+    → LineMay (client_kind phase wav number) rules (a, client) asked (b, after) answer → NamesNext after answer

@@ -1,0 +1,92 @@
+-- The places of a ring: who holds each, and the last frame that was laid in through it.
+use Rattle.std.specs.Prelude.{ℕ, zero, suc, ◌+◌, ◌-◌, ◌&&◌, Bool, true, false, nat_lt, nat_eq, min, if◌then◌else◌, is_none, List, [], ◌∷◌, map, replicate, Option, Some, None, Result, Ok, Err}
+use Rattle.std.specs.List.{list_any, position}
+use Rattle.snd_base.specs.declared.errors.PcmError.{PcmError}
+use Rattle.snd_base.specs.declared.errors.PcmError.TheVariants.{Busy}
+use Rattle.snd_base.specs.declared.geometry.Geometry.{Geometry}
+use Rattle.snd_base.specs.declared.places.Cursor.{Cursor}
+use Rattle.mix_core.specs.declared.marks.Marks.{Marks}
+use Rattle.mix_core.specs.Marks.{is_before, start_of}
+
+-- a place: the number of the client that holds it, if one does, and the last frame that was laid in through it, if one was
+pub record Place : Type 0 where
+  pub holder : Option ℕ
+  pub last : Option ℕ
+
+-- the places, and the position that an attach loaded last, or the first frame
+pub record Lobby : Type 0 where
+  pub places : List Place
+  pub seen : ℕ
+
+-- so many places, at the first frame
+abbrev pub new_lobby : ℕ → ℕ → Lobby
+new_lobby places first = record { places = replicate places (record { holder = None; last = None }); seen = first }
+
+abbrev pub is_free : Place → Bool
+is_free place = is_none place.holder
+
+-- a frame is below a position, if there is one
+abbrev pub is_below : Option ℕ → ℕ → Bool
+is_below None position = true
+is_below (Some last) position = nat_lt last position
+
+-- a place can be handed out at a position: it is free, and nothing was laid through it at the position or past it
+abbrev pub is_silent : ℕ → Place → Bool
+is_silent position place = is_free place && is_below place.last position
+
+-- the least last frame of free places
+abbrev pub least : Option ℕ → Option ℕ → Option ℕ
+least None b = b
+least (Some a) None = Some a
+least (Some a) (Some b) = Some (min a b)
+
+abbrev pub last_if_free : Place → Option ℕ
+last_if_free place = if is_free place then place.last else None
+
+abbrev pub least_last : List Place → Option ℕ
+least_last [] = None
+least_last (place ∷ places) = least (last_if_free place) (least_last places)
+
+abbrev pub next_of : Option ℕ → Option ℕ
+next_of None = None
+next_of (Some last) = Some (last + 1)
+
+-- a client holds the place of a number, counted from 0
+abbrev pub held_by : ℕ → ℕ → List Place → List Place
+held_by client place [] = []
+held_by client zero (first ∷ places) = record first { holder = Some client } ∷ places
+held_by client (suc place) (first ∷ places) = first ∷ held_by client place places
+
+-- a client attaches at a position: it gets the first place that can be handed out; where none is free no position is loaded
+abbrev pub attached_by : Option ℕ → ℕ → ℕ → Lobby → Lobby × Result (Unit {0}) PcmError
+attached_by (Some place) client position lobby = (record { places = held_by client place lobby.places; seen = position }, Ok tt)
+attached_by None client position lobby = (record lobby { seen = position }, Err (Busy (next_of (least_last lobby.places)) position))
+
+abbrev pub attached : ℕ → ℕ → Lobby → Lobby × Result (Unit {0}) PcmError
+attached client at lobby =
+    if list_any is_free lobby.places then attached_by (position (is_silent at) lobby.places) client at lobby
+    else (lobby, Err (Busy None lobby.seen))
+
+-- the last frame before a cursor, in whole or in part
+abbrev pub last_before : Cursor → ℕ
+last_before at = if nat_eq at.channel 0 then at.frame - 1 else at.frame
+
+-- the last frame in which an actor with these marks laid a sample, withdrawn or not, if it laid one
+abbrev pub last_laid : Geometry → Marks → Option ℕ
+last_laid ring marks = if is_before (start_of ring) marks.high then Some (last_before marks.high) else None
+
+-- a client that laid so gives its place back
+abbrev pub is_held_by : ℕ → Option ℕ → Bool
+is_held_by client None = false
+is_held_by client (Some holder) = nat_eq holder client
+
+abbrev pub last_of : Option ℕ → Option ℕ → Option ℕ
+last_of None before = before
+last_of (Some last) before = Some last
+
+abbrev pub left_place : ℕ → Option ℕ → Place → Place
+left_place client last place =
+    if is_held_by client place.holder then record { holder = None; last = last_of last place.last } else place
+
+abbrev pub left_by : ℕ → Option ℕ → Lobby → Lobby
+left_by client last lobby = record lobby { places = map (left_place client last) lobby.places }

@@ -1,0 +1,88 @@
+-- A client's part in a phase, by what it did at a mix port and a gate.
+use Rattle.std.specs.Prelude.{◌≡◌, ℕ, ◌+◌, ◌≤◌, true, List, [], ◌∷◌, Option, ◌⊎◌}
+use Rattle.snd_base.specs.declared.geometry.Geometry.{Geometry}
+use Rattle.snd_base.specs.declared.places.Cursor.{Cursor}
+use Rattle.snd_base.specs.Places.{first_free}
+use Rattle.mix_core.specs.declared.marks.Marks.{Marks}
+use Rattle.mix_core.specs.declared.gate.Pass.{Pass}
+use Rattle.mix_core.specs.declared.gate.Pass.TheVariants.{Go, Stop}
+use Rattle.mix_core.specs.declared.gate.StepKind.{StepKind}
+use Rattle.mix_core.specs.declared.gate.StepKind.TheVariants.{Again, Position}
+use Rattle.mix_core.specs.declared.port.MixPort as mixport
+use Rattle.mix_core.specs.Laid.{without_last}
+use Rattle.mix_core.specs.Port.{IsPast}
+use Rattle.course.specs.Course.{Course, Takes}
+use Rattle.lab_run.specs.ActorPart.{DoesGet, DoesLay, DoesLoad, Doing, Each}
+use Rattle.lab_run.specs.Rules.{AtPort, lets_pass, with_asks, with_gate_stop, with_stop}
+
+-- how many of some asks a `die` counts: all but those of kind Again
+abbrev pub is_counted : StepKind → ℕ
+is_counted Again = 0
+is_counted other = 1
+
+abbrev pub counted : List StepKind → ℕ
+counted [] = 0
+counted (kind ∷ kinds) = is_counted kind + counted kinds
+
+-- the kind of the last of some asks
+abbrev pub last_kind : List StepKind → StepKind
+last_kind [] = Position
+last_kind (kind ∷ []) = kind
+last_kind (kind ∷ other ∷ kinds) = last_kind (other ∷ kinds)
+
+-- after a stop at an ask of a kind
+abbrev pub stop_at : StepKind → AtPort → AtPort
+stop_at Again a = with_gate_stop a
+stop_at other a = with_stop a
+
+-- what asks that were answered so make of an actor at its port
+abbrev pub IsAnswered : List StepKind → Pass → AtPort → AtPort → Type 0
+IsAnswered kinds Go a b = (lets_pass (counted kinds) a.left ≡ true) × (b ≡ with_asks (counted kinds) a)
+IsAnswered kinds Stop a b =
+    (lets_pass (counted (without_last kinds)) a.left ≡ true) × (b ≡ stop_at (last_kind kinds) (with_asks (counted (without_last kinds)) a))
+
+-- an actor at its port, by its gate
+abbrev pub with_gate : {T : Type 0} → (T → Option ℕ) → (T → ℕ) → T → AtPort → AtPort
+with_gate left by_gate g a = record a { left = left g; by_gate = by_gate g }
+
+-- a gate that counts asks down for a `die` in front of an actor's own gate
+pub record CountsDown {T : Type 0} (asked : T → T → List StepKind → Pass → Type 0) (left : T → Option ℕ) (by_gate : T → ℕ) : Type 0 where
+  pub tells : (g h : T) (kinds : List StepKind) (pass : Pass) (a : AtPort) → asked g h kinds pass
+      → IsAnswered kinds pass (with_gate left by_gate g a) (with_gate left by_gate h a)
+
+-- a cursor isn't past a frame
+abbrev pub IsLow : ℕ → Cursor → Type 0
+IsLow from at = first_free at 0 ≤ from
+
+pub record AreLow (from : ℕ) (marks : Marks) : Type 0 where
+  pub cursor : IsLow from marks.cursor
+  pub floor : IsLow from marks.floor
+  pub high : IsLow from marks.high
+
+-- The marks of an actor, and those of its port, which others may have used before, up to a frame. Neither was moved since; or a withdrawal
+-- moved the cursor alone; or a sample was laid.
+pub data MarksAlike (from : ℕ) (own port : Marks) : Type 0 where
+  untouched : AreLow from own → AreLow from port → MarksAlike from own port
+  moved : own.cursor ≡ port.cursor → IsLow from own.floor → IsLow from port.floor → IsLow from own.high → IsLow from port.high → MarksAlike from own port
+  laid : own.cursor ≡ port.cursor → own.high ≡ port.high → (own.floor ≡ port.floor) ⊎ (IsLow from own.floor × IsLow from port.floor) → MarksAlike from own port
+
+-- an actor at a port, which others used up to a frame, with what it found since a first state of the port
+pub record IsAtPort {S T : Type 0} (P : mixport.Ghosts S) (left : T → Option ℕ) (by_gate : T → ℕ) (first : S) (ring : Geometry) (from : ℕ) (s : S × T) (doing : Doing) : Type 0 where
+  pub geometry : (P.view s.0).geometry ≡ ring
+  pub after : from ≤ (P.view s.0).seen
+  pub seen : doing.0.seen ≤ (P.view s.0).seen
+  pub marks : MarksAlike from doing.0.marks (P.view s.0).marks
+  pub left_is : doing.0.left ≡ left s.1
+  pub by_gate_is : doing.0.by_gate ≡ by_gate s.1
+  pub loads : P.loaded first s.0 doing.1.loads
+  pub late : Each (λ (place : ℕ × ℕ). (word : ℕ) × IsPast P.view P.shows s.0 place.0 place.1 word) doing.1.late
+  pub overtaken : doing.1.overtaken ≡ []
+
+-- a course that was taken at a port and its gate is a part of an actor: one that is like it was done so, from how the actor was to how it is
+pub record IsPart {S T X Y : Type 0} (P : mixport.Ghosts S) (left : T → Option ℕ) (by_gate : T → ℕ) (first : S) (ring : Geometry) (from : ℕ) (R : X → Y → Type 0)
+    (t : S × T) (before : Doing) (n : Course Y) (x : X) : Type 0 where
+  pub after : Doing
+  pub result : Y
+  pub does : Takes DoesLoad (DoesLay ring) (DoesGet ring) before n after result
+  pub at : IsAtPort P left by_gate first ring from t after
+  pub alike : R x result

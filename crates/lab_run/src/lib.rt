@@ -1,0 +1,13 @@
+//! What a run of a whole script may be: which reports it may have, and which samples may be played and read.
+//!
+//! `specs/Rules.antt` has the rules of a phase, `specs/LabRun.antt` the runs of a script. The crate has no code that runs: its
+//! functions are laws, as facts for contracts.
+#![tactic(auto)]
+
+mod laws;
+
+pub use laws::{
+    actors_are_alone, calls_are_alike, claims_are_of_owners, client_lines_are_parts,
+    late_rows_name_next, lines_without_calls, one_run, parts_are_runs, parts_grow,
+    reader_lines_are_parts, readers_read_on, runs_go_on,
+};
