@@ -88,7 +88,8 @@ pub(crate) fn open_client(
     requires card { IsCardLine card.now }
     requires bound { IsBound card.now.channels line.now.bindings }
     requires ring { IsRingOf card.now geometry }
-    ensures ok { IfOk result (λ client. IsOpenedAs card.now geometry number line.now wav.now client) }
+    ensures ok { IfOk result
+        (λ client. IsOpenedAs card.now geometry number line.now wav.now client) }
     ensures only { IfErr result (λ e. e ≡ PcmError.Memory) }
 {
     match (configuration(card, wav), bindings_of(line, wav)) {
