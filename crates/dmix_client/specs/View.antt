@@ -99,7 +99,8 @@ pub record IsSound (c : Plain) (ring : List ℤ) : Type 0 where
   pub seen : unwrap_or c.seen 0 ≤ end_frame c.identity.geometry
   pub card : c.stretch.card ≤ end_frame c.identity.geometry + c.identity.geometry.frames
   pub fed : c.stretch.written + c.stretch.source ≡ c.fed
-  pub laid : c.stretch.card + c.stretch.committed ≤ end_frame c.identity.geometry + c.identity.geometry.frames
+  pub laid : c.stretch.card + c.stretch.committed
+      ≤ end_frame c.identity.geometry + c.identity.geometry.frames
   pub set_up : is_set_up c.status.state ≡ true → c.setup.configured ≡ true
   pub configured : c.setup.configured ≡ true → IsConfigured c ring
   pub prepared : c.status.state ≡ state.Prepared → IsPrepared c
@@ -108,4 +109,6 @@ pub record IsSound (c : Plain) (ring : List ℤ) : Type 0 where
 
 -- the sample of a frame and client channel in the local ring
 abbrev pub held : Plain → List ℤ → ℕ → ℕ → ℤ
-held c ring frame channel = slice_index_or ring ((c.stretch.source + frame) % c.setup.config.buffer_size * channels_of c + channel) (pos 0)
+held c ring frame channel =
+    slice_index_or ring ((c.stretch.source + frame) % c.setup.config.buffer_size * channels_of
+    c + channel) (pos 0)
