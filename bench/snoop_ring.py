@@ -20,7 +20,7 @@ from pathlib import Path
 TOP = Path(__file__).resolve().parent.parent
 CRATE = TOP / "crates/snoop_bench"
 COMPILED = CRATE / "out/snoop_bench.o"
-FRAMES, ROUNDS = 16384, 2
+FRAMES, ROUNDS = 16384, 1
 CHANNELS = (1, 2, 8)
 PLACES = range(1, 33, 3)
 KIT = Path(os.environ.get("RATTLE", "/opt/rattle"))
