@@ -12,6 +12,7 @@ use Rattle.pcm_states.specs.declared.states.State.TheVariants.{Prepared, Running
 use Rattle.pcm_states.specs.declared.calls.Call.{Call}
 use Rattle.pcm_states.specs.declared.calls.Call.TheVariants as call
 use Rattle.pcm_states.specs.Table.{next_of}
+use Rattle.pcm_stream.specs.declared.status.Status.{Status}
 use Rattle.dmix_client.specs.declared.commit.Commit.{Commit}
 use Rattle.mix_core.specs.declared.port.Ended.{Ended}
 use Rattle.mix_core.specs.declared.port.Ended.TheVariants as ended
@@ -65,31 +66,25 @@ Advances-nothing c d x to no_frame no_part whole fits member bindings config sou
 
 -- ---- a sync
 
+-- behind the load and the commit of a sync, in any status
+Advances-loaded : (c : Plain) (position : Position) (commit : Commit) (s : Status) → unwrap_or c.seen 0 ≤ position.frame → Advances c (record (committed_by (seen_at c position) commit) { status = s }) commit c.stretch.written
+Advances-loaded c position commit s newer = record {
+  member = refl;
+  bindings = refl;
+  config = refl;
+  source = refl;
+  card = λ some. refl;
+  committed = refl;
+  part = refl;
+  least = min-later c.stretch.committed (hw_of c) commit.frames (if c.stretch.started then position.frame - c.stretch.card else 0) (hw-later c.stretch.started (unwrap_or c.seen 0) position.frame c.stretch.card newer);
+  written = omega arith;
+}
+
 synced-by_stop : (c : Plain) (call : Call) (position : Position) (commit : Commit) (stop : Bool) → unwrap_or c.seen 0 ≤ position.frame
     → Advances c (if stop then stopped_in {T = Unit {0}} (committed_by (seen_at c position) commit)
     else settled (committed_by (seen_at c position) commit) (next_of c.status.state call (facts_of (committed_by (seen_at c position) commit) position (over_of (seen_at c position) position) (late_of (seen_at c position) commit)))).0 commit c.stretch.written
-synced-by_stop c call position commit true newer = record {
-  member = refl;
-  bindings = refl;
-  config = refl;
-  source = refl;
-  card = λ some. refl;
-  committed = refl;
-  part = refl;
-  least = min-later c.stretch.committed (hw_of c) commit.frames (if c.stretch.started then position.frame - c.stretch.card else 0) (hw-later c.stretch.started (unwrap_or c.seen 0) position.frame c.stretch.card newer);
-  written = omega arith;
-}
-synced-by_stop c call position commit false newer = record {
-  member = refl;
-  bindings = refl;
-  config = refl;
-  source = refl;
-  card = λ some. refl;
-  committed = refl;
-  part = refl;
-  least = min-later c.stretch.committed (hw_of c) commit.frames (if c.stretch.started then position.frame - c.stretch.card else 0) (hw-later c.stretch.started (unwrap_or c.seen 0) position.frame c.stretch.card newer);
-  written = omega arith;
-}
+synced-by_stop c call position commit true newer = Advances-loaded c position commit _ newer
+synced-by_stop c call position commit false newer = Advances-loaded c position commit _ newer
 
 pub Advances-synced : (c : Plain) (call : Call) (load : Option Position) (commit : Commit) → c.stretch.part ≡ 0 → IfNone load (commit ≡ nothing)
     → IfSome load (λ (position : Position). unwrap_or c.seen 0 ≤ position.frame) → Advances c (synced c call load commit).0 commit c.stretch.written
@@ -132,30 +127,23 @@ none-of ended.Whole frames part channels is = is
 none-of (ended.Late word) frames part channels is = absurd (omega (arith, is.0))
 none-of ended.Stopped frames part channels is = absurd (omega (arith, is.0))
 
--- a client in another state
+-- a client in another status
+Advances-status : (c d : Plain) (x : Commit) (to : ℕ) (s : Status) → Advances c d x to → Advances c (record d { status = s }) x to
+Advances-status c d x to s step = record {
+  member = step.member;
+  bindings = step.bindings;
+  config = step.config;
+  source = step.source;
+  card = step.card;
+  committed = step.committed;
+  part = step.part;
+  least = step.least;
+  written = step.written;
+}
+
 Advances-going_on : (c d : Plain) (x : Commit) (to : ℕ) (answer : Result (Unit {0}) PcmError) (state refused : State) → Advances c d x to → Advances c (going_on_by answer d state refused).0 x to
-Advances-going_on c d x to (Ok done) state refused step = record {
-  member = step.member;
-  bindings = step.bindings;
-  config = step.config;
-  source = step.source;
-  card = step.card;
-  committed = step.committed;
-  part = step.part;
-  least = step.least;
-  written = step.written;
-}
-Advances-going_on c d x to (Err e) state refused step = record {
-  member = step.member;
-  bindings = step.bindings;
-  config = step.config;
-  source = step.source;
-  card = step.card;
-  committed = step.committed;
-  part = step.part;
-  least = step.least;
-  written = step.written;
-}
+Advances-going_on c d x to (Ok done) state refused step = Advances-status c d x to _ step
+Advances-going_on c d x to (Err e) state refused step = Advances-status c d x to _ step
 
 -- a client with nothing laid, after a commit
 Advances-first : (c d : Plain) (x : Commit) (to : ℕ) → c.stretch.committed ≡ 0 → c.stretch.written ≤ to → d.identity.member ≡ c.identity.member → d.setup.bindings ≡ c.setup.bindings → d.setup.config ≡ c.setup.config → d.stretch.source ≡ c.stretch.source

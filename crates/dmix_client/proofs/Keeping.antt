@@ -49,7 +49,7 @@ use Rattle.dmix_client.proofs.Going.{OnOk-of, accepted_if-told, gone-whole, star
 use Rattle.dmix_client.proofs.Grown.{Grows-started, Grows-synced, Grows-taken, IsBegun, IsSynced, IsTaken, StandsFor-started, StandsFor-synced, StandsFor-taken, StandsUpTo-filled, configured-moving, configured-prepared}
 use Rattle.dmix_client.proofs.Growth.{Grows-none}
 use Rattle.dmix_client.proofs.Left.{IsAfter, IsLeft-started, grown-accepted}
-use Rattle.dmix_client.proofs.Sound.{CanUse-synced, IsLaidPast-synced, IsSound-synced, IsSyncing, not_prepared-moving}
+use Rattle.dmix_client.proofs.Sound.{CanUse-still, CanUse-synced, IsLaidPast-synced, IsSound-status, IsSound-synced, IsSyncing, not_prepared-moving}
 use Rattle.dmix_client.proofs.Started.{KeepsAccepted-started, KeepsAccepted-synced}
 use Rattle.dmix_client.proofs.Starting.{IsStarting}
 use Rattle.dmix_client.proofs.Writes.{IsWriting, IsWritten-after}
@@ -119,7 +119,7 @@ IsSound-filled c ring m sound waits fits = record {
   fed = omega (arith, sound.fed);
   laid = sound.laid;
   set_up = sound.set_up;
-  configured = λ set. let k = sound.configured set in record { bound = k.bound; on_card = k.on_card; channels = k.channels; buffer_least = k.buffer_least; buffer_most = k.buffer_most; room = k.room };
+  configured = sound.configured;
   prepared = λ is. let p = sound.prepared is in record { waiting = p.waiting; no_frame = p.no_frame; no_part = p.no_part; fits = fits };
   moving = λ moves going. absurd (not_prepared-moving c.status.state moves waits);
   paused = λ is. absurd (cc);
@@ -429,13 +429,7 @@ module _ {S T : Type 0} (P : mixport.Ghosts S) (G : gates.Ghosts T) (laid_compos
       → Keeps P G s s (client c ring) (client (accepted c m) stored) (let r : Result ℕ PcmError = Ok m in r) (λ all. Follows c all samples n)
   stored-kept s c ring stored samples n m is is_stored sound sound_stored waits held_all port = record {
     sound = IsSound-filled c stored m sound_stored waits (omega (arith, is, taken-room n c.setup.config.buffer_size c.stretch.written (sound.prepared waits).fits, taken-waiting c n (sound.prepared waits).waiting));
-    port = record {
-      same_geometry = port.same_geometry;
-      same_member = port.same_member;
-      can = port.can;
-      behind = λ moves going. absurd (not_prepared-moving c.status.state moves waits);
-      newer = λ moves going. absurd (not_prepared-moving c.status.state moves waits);
-    };
+    port = CanUse-still (accepted c m) (P.view s.0) port.same_geometry port.same_member port.can (λ moves going. not_prepared-moving c.status.state moves waits);
     told = λ unstopped. refl;
     grows = λ all stands for. Grows-none P.laid laid_composes s.0 s.0 c (accepted c m) all refl refl refl refl;
     stands = λ all stands for. filled-stands c ring stored samples all n m is is_stored sound waits held_all stands for;
@@ -495,25 +489,8 @@ module _ {S T : Type 0} (P : mixport.Ghosts S) (G : gates.Ghosts T) (laid_compos
   pub dropped-kept : (s : S × T) (c : Plain) (ring : List ℤ) → IsSound c ring → refusal_of Playback c.status call.Drain ≡ None → CanUse c (P.view s.0)
       → Keeps P G s s (client c ring) (client (dropped c) ring) (let r : Result (Unit {0}) PcmError = Ok tt in r) AnySamples
   dropped-kept s c ring sound admitted port = record {
-    sound = record {
-      lead = sound.lead;
-      seen = sound.seen;
-      card = sound.card;
-      fed = sound.fed;
-      laid = sound.laid;
-      set_up = λ is. sound.set_up (drain-set_up c.status.stopped c.status.state admitted);
-      configured = λ set. let k = sound.configured set in record { bound = k.bound; on_card = k.on_card; channels = k.channels; buffer_least = k.buffer_least; buffer_most = k.buffer_most; room = k.room };
-      prepared = λ is. absurd (cc);
-      moving = λ moves going. absurd (cc);
-      paused = λ is. absurd (cc);
-    };
-    port = record {
-      same_geometry = port.same_geometry;
-      same_member = port.same_member;
-      can = port.can;
-      behind = λ moves going. absurd (cc);
-      newer = λ moves going. absurd (cc);
-    };
+    sound = IsSound-status c (record c.status { state = Setup }) ring sound (λ is. sound.set_up (drain-set_up c.status.stopped c.status.state admitted)) (λ is. absurd (cc)) (λ moves going. absurd (cc)) (λ is. absurd (cc));
+    port = CanUse-still (dropped c) (P.view s.0) port.same_geometry port.same_member port.can (λ moves going. cc);
     told = λ unstopped. refl;
     grows = λ samples stands any. Grows-none P.laid laid_composes s.0 s.0 c (dropped c) samples refl refl refl refl;
     stands = λ samples stands any. stands;

@@ -19,7 +19,7 @@ use Rattle.mix_core.specs.Port.{OnWhole, PortView}
 use Rattle.dmix_client.specs.Port.{CanUse, least_channel}
 use Rattle.pcm_stream.specs.Status.{is_moving}
 use Rattle.dmix_client.specs.View.{IsConfigured, IsSound}
-use Rattle.dmix_client.proofs.Sound.{OnWhole-of, whole-of}
+use Rattle.dmix_client.proofs.Sound.{CanUse-still, IsSound-status, OnWhole-of, whole-of}
 use Rattle.dmix_client.specs.Growth.{KeepsAccepted}
 use Rattle.dmix_client.proofs.Starting.{IsMoving-begun, IsSound-begun, IsStarting, begun}
 
@@ -40,26 +40,6 @@ pub record IsLeft (d : Plain) (ring : List ℤ) (v : PortView) : Type 0 where
   pub sound : IsSound d ring
   pub use_it : CanUse d v
 
--- a port is used by a client that doesn't move frames, or is stopped
-CanUse-still : (d : Plain) (v : PortView) → v.geometry ≡ d.identity.geometry → v.member ≡ d.identity.member → v.can_add ≡ true → (is_moving d.status.state ≡ true → d.status.stopped ≡ false → ⊥) → CanUse d v
-CanUse-still d v same_geometry same_member able still = record {
-  same_geometry = same_geometry;
-  same_member = same_member;
-  can = able;
-  behind = λ moves going. absurd (still moves going);
-  newer = λ moves going. absurd (still moves going);
-}
-
-pub IsConfigured-as : (c d : Plain) (ring : List ℤ) → d.setup.bindings ≡ c.setup.bindings → d.identity.geometry ≡ c.identity.geometry → d.setup.config ≡ c.setup.config → IsConfigured c ring → IsConfigured d ring
-IsConfigured-as c d ring same_bindings same_geometry same_config k = record {
-  bound = subst AreBindings (sym same_bindings) k.bound;
-  on_card = subst (λ (bs : List ℕ). All (λ channel. channel < d.identity.geometry.channels) bs) (sym same_bindings) (subst (λ (g : Geometry). All (λ channel. channel < g.channels) c.setup.bindings) (sym same_geometry) k.on_card);
-  channels = ap (λ (x : Config). x.channels) same_config ∙ k.channels ∙ ap length (sym same_bindings);
-  buffer_least = subst (λ (x : Config). 1 ≤ x.buffer_size) (sym same_config) k.buffer_least;
-  buffer_most = subst (λ (x : Config). x.buffer_size ≤ 16384) (sym same_config) k.buffer_most;
-  room = k.room ∙ ap (λ (x : Config). x.buffer_size * length c.setup.bindings) (sym same_config) ∙ ap (λ (bs : List ℕ). d.setup.config.buffer_size * length bs) (sym same_bindings);
-}
-
 module _ (c : Plain) (ring : List ℤ) (state : State) (moves_then : is_moving state ≡ true) (cursor : Cursor) (commit : Commit) (upto fed : ℕ) (sums : upto + c.stretch.source ≡ fed)
     (v : PortView) where
   left-None : IsStarting c ring cursor None commit upto → IsAfter c cursor None commit v → IsLeft (record c { status = record c.status { stopped = true } }) ring v
@@ -67,18 +47,7 @@ module _ (c : Plain) (ring : List ℤ) (state : State) (moves_then : is_moving s
       let sound = starting.sound in
       let p = sound.prepared starting.prepared in
       record {
-        sound = record {
-          lead = sound.lead;
-          seen = sound.seen;
-          card = sound.card;
-          fed = sound.fed;
-          laid = sound.laid;
-          set_up = sound.set_up;
-          configured = λ set. IsConfigured-as c (record c { status = record c.status { stopped = true } }) ring refl refl refl (sound.configured set);
-          prepared = λ is. record { waiting = p.waiting; no_frame = p.no_frame; no_part = p.no_part; fits = p.fits };
-          moving = λ moves going. absurd (cc);
-          paused = λ is. absurd (let waits = starting.prepared in cc);
-        };
+        sound = IsSound-status c (record c.status { stopped = true }) ring sound sound.set_up (λ is. p) (λ moves going. absurd (cc)) (λ is. absurd (let waits = starting.prepared in cc));
         use_it = CanUse-still (record c { status = record c.status { stopped = true } }) v after.same_geometry after.same_member after.able (λ moves going. cc);
       }
 
@@ -95,7 +64,7 @@ module _ (c : Plain) (ring : List ℤ) (state : State) (moves_then : is_moving s
           fed = sound.fed;
           laid = sound.laid;
           set_up = λ is. absurd (cc);
-          configured = λ set. IsConfigured-as c d ring refl refl refl (sound.configured set);
+          configured = sound.configured;
           prepared = λ is. absurd (cc);
           moving = λ moves going. absurd (cc);
           paused = λ is. absurd (cc);

@@ -34,8 +34,8 @@ use Rattle.dmix_client.proofs.CausedBy.{caused-none}
 use Rattle.dmix_client.proofs.CausedStart.{IsCaused-started}
 use Rattle.dmix_client.proofs.Growth.{Grows-none}
 use Rattle.dmix_client.proofs.Keeping.{Keeps-none, client, start-kept}
-use Rattle.dmix_client.proofs.Left.{IsConfigured-as}
 use Rattle.dmix_client.proofs.Looking.{starts-by}
+use Rattle.dmix_client.proofs.Sound.{CanUse-still, IsSound-status}
 
 -- a pause is admitted of a client that runs, and a resume of one that is paused
 pause-runs : (stopped : Bool) (s : State) → (let o : Option PcmError = (if stopped then Some error.Stopped else refusal_in (next_of s call.Pause (nothing_found Playback)).answer) in o) ≡ None → (s ≡ Running) × (stopped ≡ false)
@@ -89,63 +89,24 @@ IsSound-rebased c ring sound is =
       fed = omega (arith, sound.fed);
       laid = omega arith;
       set_up = λ set. sound.set_up (ap is_set_up is);
-      configured = λ set. IsConfigured-as c (rebased c) ring refl refl refl (sound.configured set);
+      configured = sound.configured;
       prepared = λ waits. record { waiting = refl; no_frame = refl; no_part = refl; fits = omega (arith, m.pending) };
       moving = λ moves going. absurd (cc);
       paused = λ still. absurd (cc);
     }
 
 pub CanUse-rebased : (c : Plain) (v : PortView) → CanUse c v → CanUse (rebased c) v
-CanUse-rebased c v port = record {
-  same_geometry = port.same_geometry;
-  same_member = port.same_member;
-  can = port.can;
-  behind = λ moves going. absurd (cc);
-  newer = λ moves going. absurd (cc);
-}
+CanUse-rebased c v port = CanUse-still (rebased c) v port.same_geometry port.same_member port.can (λ moves going. cc)
 
 -- a client that is stopped while it is paused
 IsSound-still : (c : Plain) (ring : List ℤ) → IsSound c ring → c.status.state ≡ Paused → IsSound (record c { status = record c.status { stopped = true } }) ring
 IsSound-still c ring sound is =
-    let m = sound.paused is in
-    record {
-      lead = sound.lead;
-      seen = sound.seen;
-      card = sound.card;
-      fed = sound.fed;
-      laid = sound.laid;
-      set_up = sound.set_up;
-      configured = λ set. IsConfigured-as c (record c { status = record c.status { stopped = true } }) ring refl refl refl (sound.configured set);
-      prepared = λ waits. absurd (cc);
-      moving = λ moves going. absurd (cc);
-      paused = λ still. record { started = m.started; whole = m.whole; laid_most = m.laid_most; fits = m.fits; pending = m.pending };
-    }
+    IsSound-status c (record c.status { stopped = true }) ring sound sound.set_up (λ waits. absurd (cc)) (λ moves going. absurd (cc)) sound.paused
 
 -- a client that is paused
 IsSound-paused : (c : Plain) (ring : List ℤ) → IsSound c ring → c.status.state ≡ Running → c.status.stopped ≡ false → IsSound (paused c) ring
 IsSound-paused c ring sound runs going =
-    let m = sound.moving (ap is_moving runs) going in
-    record {
-      lead = sound.lead;
-      seen = sound.seen;
-      card = sound.card;
-      fed = sound.fed;
-      laid = sound.laid;
-      set_up = λ set. sound.set_up (ap is_set_up runs);
-      configured = λ set. IsConfigured-as c (paused c) ring refl refl refl (sound.configured set);
-      prepared = λ waits. absurd (cc);
-      moving = λ moves still. absurd (cc);
-      paused = λ still. record { started = m.started; whole = m.whole; laid_most = m.laid_most; fits = m.fits; pending = m.pending };
-    }
-
-CanUse-still : (c d : Plain) (v : PortView) → d.identity.geometry ≡ c.identity.geometry → d.identity.member ≡ c.identity.member → (is_moving d.status.state ≡ true → d.status.stopped ≡ false → ⊥) → CanUse c v → CanUse d v
-CanUse-still c d v same_geometry same_member still port = record {
-  same_geometry = port.same_geometry ∙ sym same_geometry;
-  same_member = port.same_member ∙ sym same_member;
-  can = port.can;
-  behind = λ moves going. absurd (still moves going);
-  newer = λ moves going. absurd (still moves going);
-}
+    IsSound-status c (record c.status { state = Paused }) ring sound (λ set. sound.set_up (ap is_set_up runs)) (λ waits. absurd (cc)) (λ moves still. absurd (cc)) (λ still. sound.moving (ap is_moving runs) going)
 
 -- a start that loaded the position isn't paused
 not_paused-late : (d : Plain) (gone : Bool) (late : Option XrunWhy)
@@ -173,7 +134,7 @@ module _ {S T : Type 0} (P : mixport.Ghosts S) (G : gates.Ghosts T) (laid_compos
       let is = refusal_of-pause c admitted in
       subst (λ (b : Plain). Keeps P G s s (client b ring) (client (paused c) ring) (let r : Result (Unit {0}) PcmError = Ok tt in r) AnySamples) (sym (base-paused c (paused c) refl)) (record {
         sound = IsSound-paused c ring sound is.0 is.1;
-        port = CanUse-still c (paused c) (P.view s.0) refl refl (λ moves going. cc) port;
+        port = CanUse-still (paused c) (P.view s.0) port.same_geometry port.same_member port.can (λ moves going. cc);
         told = λ unstopped. refl;
         grows = λ samples stands any. Grows-none P.laid laid_composes s.0 s.0 c (paused c) samples refl refl refl refl;
         stands = λ samples stands any. stands;
@@ -202,7 +163,7 @@ module _ {S T : Type 0} (P : mixport.Ghosts S) (G : gates.Ghosts T) (laid_compos
       let d : Plain = record c { status = record c.status { stopped = true } } in
       subst (λ (b : Plain). Keeps P G s t (client b ring) (client d ring) (let r : Result (Unit {0}) PcmError = Err error.Stopped in r) AnySamples) (sym (base-same c d refl)) (record {
         sound = IsSound-still c ring sound is;
-        port = CanUse-still (paused c) d (P.view t.0) refl refl (λ moves going. cc) port;
+        port = CanUse-still d (P.view t.0) port.same_geometry port.same_member port.can (λ moves going. cc);
         told = keeps.told;
         grows = λ samples stands any. record { entries = []; laid_them = laid_nothing; grown = sym (append-nil (segment_entries c samples)); same_member = refl; same_bindings = refl };
         stands = λ samples stands any. stands;

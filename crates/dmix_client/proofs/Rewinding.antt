@@ -34,8 +34,7 @@ use Rattle.dmix_client.specs.View.{IsMoving, IsSound, held, hw_of}
 use Rattle.dmix_client.proofs.CausedBy.{caused-number}
 use Rattle.dmix_client.proofs.Checking.{Checked, checked-keeps, checks-kept}
 use Rattle.dmix_client.proofs.Keeping.{client}
-use Rattle.dmix_client.proofs.Left.{IsConfigured-as}
-use Rattle.dmix_client.proofs.Sound.{not_prepared-moving}
+use Rattle.dmix_client.proofs.Sound.{CanUse-still, not_prepared-moving}
 use Rattle.dmix_client.proofs.Taking.{IsBack-of, kept-err, takes_back-kept, takes_back-why}
 use Rattle.dmix_client.proofs.Going.{error-told, with_number-told}
 use Rattle.dmix_client.proofs.Withdrawn.{HoldsBy, TakesAway-joined, TakesAway-none}
@@ -217,18 +216,12 @@ module _ {S T : Type 0} (P : mixport.Ghosts S) (G : gates.Ghosts T) (holds : Hol
           fed = omega (arith, sound.fed, few);
           laid = sound.laid;
           set_up = sound.set_up;
-          configured = λ set. IsConfigured-as c (without c n) ring refl refl refl (sound.configured set);
+          configured = sound.configured;
           prepared = λ still. record { waiting = p.waiting; no_frame = p.no_frame; no_part = p.no_part; fits = omega (arith, p.fits) };
           moving = λ moves going. absurd (not_prepared-moving c.status.state moves waits);
           paused = λ is. absurd (cc);
         };
-        port = record {
-          same_geometry = port.same_geometry;
-          same_member = port.same_member;
-          can = port.can;
-          behind = λ moves going. absurd (not_prepared-moving c.status.state moves waits);
-          newer = λ moves going. absurd (not_prepared-moving c.status.state moves waits);
-        };
+        port = CanUse-still (without c n) (P.view s.0) port.same_geometry port.same_member port.can (λ moves going. not_prepared-moving c.status.state moves waits);
         told = λ unstopped. refl;
         loses = λ samples stands. record { away = TakesAway-none P G holds s.0 s.0 (segment_entries c samples) (holds.laid_composes.none s.0); same_member = refl; same_bindings = refl };
         stands = λ samples stands j q low high in_range. stands j q low (omega (arith, high)) in_range;

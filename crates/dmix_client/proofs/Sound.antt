@@ -10,6 +10,7 @@ use Rattle.pcm_states.specs.declared.states.State.TheVariants.{Setup, Prepared, 
 use Rattle.pcm_states.specs.declared.calls.Call.{Call}
 use Rattle.pcm_states.specs.declared.calls.Call.TheVariants as call
 use Rattle.pcm_states.specs.Table.{draining, first_of, moving, next_of, outcome_of, still_draining}
+use Rattle.pcm_stream.specs.declared.status.Status.{Status}
 use Rattle.dmix_client.specs.declared.commit.Commit.{Commit}
 use Rattle.mix_core.specs.declared.port.Ended.{Ended}
 use Rattle.mix_core.specs.declared.port.Ended.TheVariants as ended
@@ -19,7 +20,7 @@ use Rattle.mix_core.specs.Port.{OnWhole, PortView}
 use Rattle.dmix_client.specs.Course.{nothing}
 use Rattle.dmix_client.specs.Port.{CanUse, IsCommit, IsFound, IsStep, least_channel}
 use Rattle.pcm_stream.specs.Status.{is_moving, is_set_up}
-use Rattle.dmix_client.specs.View.{IsLaidPast, IsMoving, IsSound, avail_of, hw_of, queued_of}
+use Rattle.dmix_client.specs.View.{IsLaidPast, IsMoving, IsPrepared, IsSound, avail_of, hw_of, queued_of}
 
 -- a stream that still moves frames found nothing against it
 pub record GoesOn (state s : State) (gone : Bool) (over : Option (ℕ × ℕ)) (late : Option XrunWhy) : Type 0 where
@@ -143,7 +144,7 @@ IsSound-done c ring position commit s stopped sound set loaded few not_prepared 
   fed = sound.fed;
   laid = laid_most c.stretch.written c.stretch.committed c.stretch.card commit.frames position.frame c.identity.geometry.frames (end_frame c.identity.geometry) sound.laid few;
   set_up = λ is. set;
-  configured = λ is. let k = sound.configured set in record { bound = k.bound; on_card = k.on_card; channels = k.channels; buffer_least = k.buffer_least; buffer_most = k.buffer_most; room = k.room };
+  configured = λ is. sound.configured set;
   prepared = λ is. absurd (not_prepared is);
   moving = moves;
   paused = λ is. absurd (not_paused is);
@@ -161,19 +162,36 @@ set_up-moving Running is = refl
 set_up-moving Draining is = refl
 set_up-moving s is = absurd (cc)
 
--- what a client that moves frames is after a stop
-IsSound-stopped : (c : Plain) (ring : List ℤ) → IsSound c ring → is_moving c.status.state ≡ true → IsSound (record c { status = record c.status { stopped = true } }) ring
-IsSound-stopped c ring sound is = record {
+-- a client in another status, where its counts are as that status asks
+pub IsSound-status : (c : Plain) (s : Status) (ring : List ℤ) → IsSound c ring → (is_set_up s.state ≡ true → c.setup.configured ≡ true) → (s.state ≡ Prepared → IsPrepared c)
+    → (is_moving s.state ≡ true → s.stopped ≡ false → IsMoving c) → (s.state ≡ Paused → IsMoving c) → IsSound (record c { status = s }) ring
+IsSound-status c s ring sound is_set waits moves rests = record {
   lead = sound.lead;
   seen = sound.seen;
   card = sound.card;
   fed = sound.fed;
   laid = sound.laid;
-  set_up = sound.set_up;
-  configured = λ set. let k = sound.configured set in record { bound = k.bound; on_card = k.on_card; channels = k.channels; buffer_least = k.buffer_least; buffer_most = k.buffer_most; room = k.room };
-  prepared = λ prepared. absurd (not_prepared-moving c.status.state is prepared);
-  moving = λ moves going. absurd (cc);
-  paused = λ paused. absurd (not_paused-moving c.status.state is paused);
+  set_up = is_set;
+  configured = sound.configured;
+  prepared = waits;
+  moving = moves;
+  paused = rests;
+}
+
+-- what a client that moves frames is after a stop
+IsSound-stopped : (c : Plain) (ring : List ℤ) → IsSound c ring → is_moving c.status.state ≡ true → IsSound (record c { status = record c.status { stopped = true } }) ring
+IsSound-stopped c ring sound is =
+    IsSound-status c (record c.status { stopped = true }) ring sound sound.set_up (λ prepared. absurd (not_prepared-moving c.status.state is prepared)) (λ moves going. absurd (cc))
+    (λ paused. absurd (not_paused-moving c.status.state is paused))
+
+-- a port can be used by a client that doesn't move frames, or is stopped
+pub CanUse-still : (d : Plain) (v : PortView) → v.geometry ≡ d.identity.geometry → v.member ≡ d.identity.member → v.can_add ≡ true → (is_moving d.status.state ≡ true → d.status.stopped ≡ false → ⊥) → CanUse d v
+CanUse-still d v same_geometry same_member able still = record {
+  same_geometry = same_geometry;
+  same_member = same_member;
+  can = able;
+  behind = λ moves going. absurd (still moves going);
+  newer = λ moves going. absurd (still moves going);
 }
 
 -- what stands about a sync: the client moves frames, and its load and commit came to this

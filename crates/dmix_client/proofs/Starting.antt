@@ -69,7 +69,7 @@ IsSound-begun c ring s position cursor commit stopped upto written fed starting 
       fed = sums;
       laid = laid_start c.stretch.committed upto (start_frame c position.frame cursor) commit.frames position.frame c.identity.geometry.frames (end_frame c.identity.geometry) (sound.prepared starting.prepared).no_frame most (start_few c ring cursor position commit upto starting);
       set_up = λ is. set;
-      configured = λ is. let k = sound.configured set in record { bound = k.bound; on_card = k.on_card; channels = k.channels; buffer_least = k.buffer_least; buffer_most = k.buffer_most; room = k.room };
+      configured = λ is. sound.configured set;
       prepared = λ is. absurd (not_prepared is);
       moving = moves;
       paused = λ is. absurd (not_paused is);

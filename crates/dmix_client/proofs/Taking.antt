@@ -37,7 +37,6 @@ use Rattle.dmix_client.proofs.CausedBy.{caused-number, if-none}
 use Rattle.dmix_client.proofs.Frames.{IsFrom-later}
 use Rattle.dmix_client.proofs.Grown.{configured-moving}
 use Rattle.dmix_client.proofs.Keeping.{client}
-use Rattle.dmix_client.proofs.Left.{IsConfigured-as}
 use Rattle.dmix_client.proofs.Sound.{hw-started}
 use Rattle.dmix_client.proofs.Withdrawn.{AreLeft, HoldsBy, TakesAt-back, TakesAway-behind, TookFrames, last_frame, last_place}
 
@@ -190,7 +189,7 @@ module _ (d : Plain) (ring : List ℤ) (floor : Cursor) (n : ℕ) (sound : IsSou
     fed = omega (arith, sound.fed, is.few);
     laid = omega (arith, sound.laid, few, is.back);
     set_up = λ set. sound.set_up (ap is_set_up runs);
-    configured = λ set. IsConfigured-as d (back_in d n x s stopped) ring refl refl refl (sound.configured set);
+    configured = sound.configured;
     prepared = λ waits. absurd (not_prepared waits);
     moving = moves;
     paused = λ still. absurd (not_paused still);

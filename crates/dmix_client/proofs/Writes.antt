@@ -22,7 +22,6 @@ use Rattle.dmix_client.specs.Port.{CanUse, CountsEnd, IsCommit, least_channel}
 use Rattle.dmix_client.specs.View.{IsMoving, IsSound, avail_of, hw_of}
 use Rattle.dmix_client.specs.Writes.{count_with}
 use Rattle.dmix_client.proofs.Going.{told-going, told-stop}
-use Rattle.dmix_client.proofs.Left.{IsConfigured-as}
 use Rattle.dmix_client.proofs.Sound.{OnWhole-of, frames-le, hw-started, laid_most, not_paused-moving, not_prepared-moving, set_up-moving, whole-of, window_end-above}
 
 -- a client that moves frames, with a commit of a write of n frames behind it; the port at its end
@@ -67,7 +66,7 @@ IsSound-behind c ring s last stopped upto written fed sound set few not_prepared
   fed = sums;
   laid = laid_most upto c.stretch.committed c.stretch.card last.frames (unwrap_or c.seen 0) c.identity.geometry.frames (end_frame c.identity.geometry) sound.laid few;
   set_up = λ is. set;
-  configured = λ is. IsConfigured-as c (behind c last s stopped written fed) ring refl refl refl (sound.configured set);
+  configured = λ is. sound.configured set;
   prepared = λ is. absurd (not_prepared is);
   moving = moves;
   paused = λ is. absurd (not_paused is);
