@@ -1,5 +1,5 @@
 //! The laws of runs: facts for contracts.
-ghost use Rattle.std.specs.Prelude.{List, Option, ℕ, ℤ};
+ghost use Rattle.std.specs.Prelude.{Bool, List, Option, ℕ, ℤ};
 ghost use Rattle.snd_base.specs.declared.geometry.Geometry.{Geometry};
 ghost use Rattle.lab_run.specs.ClientAtPort.{ClientLinesAreParts, ClientLinesWithoutCall};
 ghost use Rattle.lab_run.specs.PortSteps.{CountsDown};
@@ -7,7 +7,10 @@ ghost use Rattle.snd_base.specs.declared.places.Cursor.{Cursor};
 ghost use Rattle.wav_io.specs.Sound.{Sound};
 ghost use Rattle.dmix_client.specs.declared.plain.Plain.{Plain};
 ghost use Rattle.dsnoop_client.specs.declared.plain.Plain as reading;
+ghost use Rattle.lab_script.specs.declared.line.Actor.{Actor};
 ghost use Rattle.lab_script.specs.declared.line.Item.{Item};
+ghost use Rattle.lab_script.specs.declared.script.Script.{Script};
+ghost use Rattle.lab_script.specs.Limits.{IsScript};
 ghost use Rattle.dshare.specs.Owners as owners;
 ghost use Rattle.lab_run.specs.ActorPart.{PartsAreRuns, PartsGrow};
 ghost use Rattle.lab_run.specs.Alike.{CallsAreAlike, ReadsAreAlike, SameFrom};
@@ -15,13 +18,15 @@ ghost use Rattle.lab_run.specs.Claims.{ClaimIsOwners};
 ghost use Rattle.lab_run.specs.Client.{client_kind};
 ghost use Rattle.lab_run.specs.Items.{ItemsMay};
 ghost use Rattle.lab_run.specs.LabRun.{GoesOn, IsOneRun};
-ghost use Rattle.lab_run.specs.OwnRows.{AreAlone};
-ghost use Rattle.lab_run.specs.LateRows.{LateRowsNameNext};
+ghost use Rattle.lab_run.specs.OwnRows.{AreAlone, HaveLines};
+ghost use Rattle.lab_run.specs.LateRows.{LateRewindsNameLast, LateRowsNameNext};
 ghost use Rattle.lab_run.specs.Reader.{reader_kind};
 ghost use Rattle.lab_run.specs.ReaderAtPort.{ReaderLinesAreParts, ReaderLinesWithoutCall};
 ghost use Rattle.lab_run.specs.Rules.{Rules};
+ghost use Rattle.lab_run.specs.ScriptWords.{PhasesAreOfScripts, StagesAreOfScripts};
 ghost use Rattle.lab_run.specs.Slices.{LinesGetSlices, ReadersReadOn};
 ghost use Rattle.lab_run.specs.Stage.{Session, Stage, first_stage};
+ghost use Rattle.lab_run.specs.Stretches.{ReadersReadInSlices};
 
 use mix_core::{Gate, MixPort};
 use snoop_core::SnoopPort;
@@ -93,21 +98,26 @@ pub fn lines_without_calls()
 {}
 
 /// The frames that a line of a reader gets are one slice. While the reader runs, each line's slice begins where the last one ended, until a
-/// line that is answered by an xrun or by a card that is gone, or a drop.
+/// line that is answered by an xrun or by a card that is gone, or a drop. So over a whole run the frames of a stretch are one slice, and a
+/// stretch ends only at an xrun, a drop, a close, or where the reader was stopped.
 ///
 /// It does nothing.
 pub fn readers_read_on()
     ensures slices { (rules : Rules) (phase number : ℕ) → LinesGetSlices rules phase number }
     ensures goes_on { (rules : Rules) (phase number : ℕ) → ReadersReadOn rules phase number }
+    ensures runs { (session : Session) (capture : Option Sound) (body : List Item) →
+        ReadersReadInSlices session capture body }
 {}
 
 /// A row of a client that is answered late names the frame and channel of the first sample of its stretch that isn't laid; where it is of a
-/// rewind it names another.
+/// rewind it names the last one, which the rewind couldn't take back.
 ///
 /// It does nothing.
-pub fn late_rows_name_next()
-    ensures { (rules : Rules) (phase : ℕ) (wav : Sound) (number : ℕ) →
+pub fn late_rows_name_samples()
+    ensures next { (rules : Rules) (phase : ℕ) (wav : Sound) (number : ℕ) →
         LateRowsNameNext rules phase wav number }
+    ensures last { (rules : Rules) (phase : ℕ) (wav : Sound) (number : ℕ) →
+        LateRewindsNameLast rules phase wav number }
 {}
 
 /// A claim of a card's channels is granted exactly where they have no owner and are silent.
@@ -133,4 +143,15 @@ pub fn client_lines_are_parts<P: MixPort, G: Gate>()
 pub fn reader_lines_are_parts<P: SnoopPort, G: Gate>()
     ensures { (left : G → Option ℕ) (by_gate : G → ℕ) (first : P) (ring : Geometry) → CountsDown G.asked left by_gate →
         ReaderLinesAreParts P.SnoopPort G.Gate left by_gate first ring }
+{}
+
+/// A stage of a run of a script is where the script has it after as many phases; and what the next phase allows is what the script has of that
+/// phase: its end, whether the card is gone, and the positions that the card publishes. No line of a phase opens an actor.
+///
+/// It does nothing.
+pub fn runs_are_of_scripts()
+    ensures stages { StagesAreOfScripts }
+    ensures phases { PhasesAreOfScripts }
+    ensures lines { (script : Script) (is_theirs : Actor → Bool) →
+        IsScript script → HaveLines is_theirs script.body }
 {}
