@@ -20,9 +20,9 @@ from pathlib import Path
 TOP = Path(__file__).resolve().parent.parent
 CRATE = TOP / "crates/snoop_bench"
 COMPILED = CRATE / "out/snoop_bench.o"
-FRAMES, ROUNDS = 16384, 1
+FRAMES, ROUNDS = 16384, 3
 CHANNELS = (1, 2, 8)
-PLACES = range(1, 33, 3)
+PLACES = range(1, 33, 4)
 KIT = Path(os.environ.get("RATTLE", "/opt/rattle"))
 LIBRARIES = [KIT / "c/libos_c.a", KIT / "c/liblibc_c.a", "-lm", "-lpthread"]
 
