@@ -13,7 +13,7 @@ use Rattle.mix_core.specs.Laid.{marked, marks_after}
 use Rattle.mix_core.specs.Marks.{floor_after, is_before, later_of, start_of}
 use Rattle.lab_run.specs.Alike.{SameFrom}
 use Rattle.lab_run.specs.Places.{last_before, last_laid, last_of}
-use Rattle.lab_run.specs.PortSteps.{HasLaidNone, HasOwnLast, IsLow, IsPastFrame, MarksAlike, laid, last_from, moved, untouched}
+use Rattle.lab_run.specs.PortSteps.{HasLaidNone, HasOwnLast, IsLastSince, IsLow, IsPastFrame, MarksAlike, laid, last_from, moved, untouched}
 
 low-same : (from : ℕ) (one other : Cursor) → IsLow from one → IsLow from other → SameFrom from one other
 low-same from one other low low_other position after = low_max one low ∙ sym (low_max other low_other)
@@ -223,18 +223,34 @@ still-none ring from before own port n = record {
   port_floor = n.port_floor;
 }
 
+none-since : (ring : Geometry) (from : ℕ) (before own port : Marks) → HasLaidNone ring from before.high own port → (opening : Option ℕ)
+    → IsLastSince from opening (last_laid ring before) → IsLastSince from opening (last_laid ring port)
+none-since ring from before own port none opening = subst (IsLastSince from opening) (sym (high-last ring port before none.port_high))
+
 pub marks-last : (ring : Geometry) (from : ℕ) (before own port : Marks) → MarksAlike ring from before.high own port → HasOwnLast ring from before own port
 marks-last ring from before own port (untouched none low low_port) =
     let lasts = none-last ring from before own port none in
-    record { port_last = lasts.0; own_last = lasts.1; again = untouched (still-none ring from before.high own port none) low low_port }
+    record {
+      port_last = lasts.0;
+      own_last = lasts.1;
+      again = untouched (still-none ring from before.high own port none) low low_port;
+      since = none-since ring from before own port none;
+    }
 marks-last ring from before own port (moved none same) =
     let lasts = none-last ring from before own port none in
-    record { port_last = lasts.0; own_last = lasts.1; again = moved (still-none ring from before.high own port none) same }
+    record {
+      port_last = lasts.0;
+      own_last = lasts.1;
+      again = moved (still-none ring from before.high own port none) same;
+      since = none-since ring from before own port none;
+    }
 marks-last ring from before own port (laid same high past floor) =
     let own_is = past-last ring from own past in
     let port_is : last_laid ring port ≡ Some (last_before own.high) = sym (high-last ring own port high) ∙ own_is in
+    let since_is : last_from from (last_laid ring port) ≡ Some (last_before own.high) = ap (last_from from) port_is ∙ past-from from own.high past.after_frame in
     record {
       port_last = rw own_is port_is;
-      own_last = own_is ∙ sym (ap (last_from from) port_is ∙ past-from from own.high past.after_frame);
+      own_last = own_is ∙ sym since_is;
       again = laid same high past floor;
+      since = λ opening before_is. port_is ∙ sym (ap (λ last. last_of last opening) since_is);
     }

@@ -84,12 +84,18 @@ abbrev pub last_from : ℕ → Option ℕ → Option ℕ
 last_from from None = None
 last_from from (Some last) = if nat_le from last then Some last else None
 
--- what is known of the last frames of an actor and of its port where their marks are alike. The port's is the actor's own, or else the one before;
--- the actor's own is the port's, unless that is below the frame. From the marks of the port as they are now on, they are alike again.
+-- the last frame of a port is the one at an opening, unless it was laid since, and so isn't below a frame
+abbrev pub IsLastSince : ℕ → Option ℕ → Option ℕ → Type 0
+IsLastSince from opening last = last ≡ last_of (last_from from last) opening
+
+-- What is known of the last frames of an actor and of its port where their marks are alike. The port's is the actor's own, or else the one before;
+-- the actor's own is the port's, unless that is below the frame. So it stays from phase to phase: from the marks of the port as they are now on, the
+-- marks are alike again, and the port's last frame is still the one at the opening, or the actor's own.
 pub record HasOwnLast (ring : Geometry) (from : ℕ) (before own port : Marks) : Type 0 where
   pub port_last : last_laid ring port ≡ last_of (last_laid ring own) (last_laid ring before)
   pub own_last : last_laid ring own ≡ last_from from (last_laid ring port)
   pub again : MarksAlike ring from port.high own port
+  pub since : (opening : Option ℕ) → IsLastSince from opening (last_laid ring before) → IsLastSince from opening (last_laid ring port)
 
 -- An actor at a port, which others used up to a frame, with what it found since a first state of the port. Where it laid no sample yet, the port's
 -- high is that of the first state.

@@ -85,7 +85,7 @@ pub fn members_are_unreported()
 
 /// At a port which others used up to a frame, the last frame that was laid is an actor's own, or,
 /// where it laid none, the last one before it. So an actor's own is the port's, unless that is
-/// below the frame.
+/// below the frame. This stays from phase to phase.
 ///
 /// It does nothing.
 pub fn last_frames_are_own()
