@@ -4,7 +4,7 @@ use Rattle.std.proofs.lemmas.List.{map-append}
 use Rattle.std.specs.Prelude.{Bool, true, false, ℤ, ◌++◌, length, map, filter, take}
 use Rattle.std.specs.List.{flat_map, range_with_len}
 use Rattle.mix_core.specs.declared.port.Entry.{Entry}
-use Rattle.mix_core.specs.Laid.{is_at, sum_of_samples, total, value_of}
+use Rattle.mix_core.specs.Laid.{is_at, sum_of_samples, value_of}
 use Rattle.bindings.specs.Bound.{rising}
 use Rattle.dmix_client.specs.declared.plain.Plain.{Plain}
 use Rattle.dmix_client.specs.Expansion.{frame_entries, run_entries, sample_at}
