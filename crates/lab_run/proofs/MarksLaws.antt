@@ -1,7 +1,7 @@
 -- Marks of a port that others used before are to an actor those of a new one.
-use Rattle.std.proofs.Common.{◌≡◌, ℕ, ◌+◌, ◌-◌, ◌<◌, ◌≤◌, ◌⊎◌, refl, sym, ◌∙◌, ap, subst, arith, inl, inr, Option, Some, None}
+use Rattle.std.proofs.Common.{◌≡◌, ℕ, ◌+◌, ◌<◌, ◌≤◌, ◌⊎◌, refl, sym, ◌∙◌, ap, subst, arith, inl, inr, Option, Some, None}
 use Rattle.std.proofs.lemmas.Bool.Decides.{nat_tests}
-use Rattle.std.specs.Prelude.{Bool, true, false, ◌==◌, ◌&&◌, ◌||◌, nat_eq, nat_le, nat_lt, max, if◌then◌else◌}
+use Rattle.std.specs.Prelude.{Bool, true, false, nat_le, nat_lt, max, if◌then◌else◌}
 use Rattle.snd_base.specs.declared.geometry.Geometry.{Geometry}
 use Rattle.snd_base.specs.declared.places.Cursor.{Cursor}
 use Rattle.snd_base.specs.Places.{behind, first_free}
@@ -63,11 +63,7 @@ low-floor from cursor floor high low_floor low_high = by_test (is_before cursor 
 
 -- the high after an add at the frame or past it
 behind-past_frame : (ring : Geometry) (from frame channel : ℕ) → from ≤ frame → from < first_free (behind ring frame channel) 0
-behind-past_frame ring from frame channel after = by_end (nat_lt (channel + 1) ring.channels) refl
-  where
-    by_end : (more : Bool) → nat_lt (channel + 1) ring.channels ≡ more → from < first_free (behind ring frame channel) 0
-    by_end true is = rw is (grind (arith, nat_tests))
-    by_end false is = rw is (grind (arith, nat_tests))
+behind-past_frame ring from frame channel after = grind (arith, nat_tests)
 
 first-past : (ring : Geometry) (from frame channel : ℕ) (high : Cursor) → high ≡ start_of ring → IsLow from high → from ≤ frame
     → IsPastFrame ring from (later_of high (behind ring frame channel))
@@ -78,27 +74,9 @@ first-past ring from frame channel high is low after =
       after_frame = behind-past_frame ring from frame channel after;
     })
 
--- a cursor is before another by its frame, or in the same frame by its channel
-before-by : (a b : Cursor) → is_before a b ≡ true → (a.frame < b.frame) ⊎ ((a.frame ≡ b.frame) × (a.channel < b.channel))
-before-by a b is = by_tests (nat_lt a.frame b.frame) refl (a.frame == b.frame) refl (nat_lt a.channel b.channel) refl is
-  where
-    by_tests : (less : Bool) → nat_lt a.frame b.frame ≡ less → (same : Bool) → (a.frame == b.frame) ≡ same → (low : Bool) → nat_lt a.channel b.channel ≡ low
-        → (less || (same && low)) ≡ true → (a.frame < b.frame) ⊎ ((a.frame ≡ b.frame) × (a.channel < b.channel))
-    by_tests true less_is same same_is low low_is all = inl (grind (arith, nat_tests))
-    by_tests false less_is true same_is true low_is all = inr (grind (arith, nat_tests), grind (arith, nat_tests))
-    by_tests false less_is true same_is false low_is all = absurd (cc)
-    by_tests false less_is false same_is low low_is all = absurd (cc)
-
 -- a cursor before another is before each that is later
 before-later : (a b c : Cursor) → is_before a b ≡ true → is_before b c ≡ true → is_before a c ≡ true
-before-later a b c first second = by_cases (before-by a b first) (before-by b c second)
-  where
-    by_cases : (a.frame < b.frame) ⊎ ((a.frame ≡ b.frame) × (a.channel < b.channel)) → (b.frame < c.frame) ⊎ ((b.frame ≡ c.frame) × (b.channel < c.channel))
-        → is_before a c ≡ true
-    by_cases (inl less) (inl more) = grind (arith, nat_tests)
-    by_cases (inl less) (inr (same, low)) = grind (arith, nat_tests)
-    by_cases (inr (same, low)) (inl more) = grind (arith, nat_tests)
-    by_cases (inr (same, low)) (inr (equal, lower)) = grind (arith, nat_tests)
+before-later a b c first second = grind (arith, nat_tests)
 
 later-past : (ring : Geometry) (from frame channel : ℕ) (high : Cursor) → IsPastFrame ring from high → from ≤ frame
     → IsPastFrame ring from (later_of high (behind ring frame channel))
@@ -167,23 +145,14 @@ start-last ring marks is = rw (is, not_before (start_of ring)) refl
     not_before at = grind (arith, nat_tests)
 
 -- the last frame before a cursor that isn't past a frame is below it
-last-below : (from : ℕ) (start high : Cursor) → IsLow from high → (start.frame < high.frame) ⊎ ((start.frame ≡ high.frame) × (start.channel < high.channel))
-    → nat_le from (last_before high) ≡ false
-last-below from start high low after = by_channel (nat_lt 0 high.channel) refl (nat_eq high.channel 0) refl low after
-  where
-    by_channel : (part : Bool) → nat_lt 0 high.channel ≡ part → (whole : Bool) → nat_eq high.channel 0 ≡ whole → (if part then high.frame + 1 else high.frame) ≤ from
-        → (start.frame < high.frame) ⊎ ((start.frame ≡ high.frame) × (start.channel < high.channel)) → nat_le from (if whole then high.frame - 1 else high.frame) ≡ false
-    by_channel true part_is true whole_is less place = absurd (grind (arith, nat_tests))
-    by_channel true part_is false whole_is less place = grind (arith, nat_tests)
-    by_channel false part_is true whole_is less (inl place) = grind (arith, nat_tests)
-    by_channel false part_is true whole_is less (inr place) = absurd (grind (arith, nat_tests, place.1))
-    by_channel false part_is false whole_is less place = absurd (grind (arith, nat_tests))
+last-below : (from : ℕ) (start high : Cursor) → IsLow from high → is_before start high ≡ true → nat_le from (last_before high) ≡ false
+last-below from start high low after = grind (arith, nat_tests)
 
 low-last : (ring : Geometry) (from : ℕ) (marks : Marks) → IsLow from marks.high → last_from from (last_laid ring marks) ≡ None
 low-last ring from marks low = by_test (is_before (start_of ring) marks.high) refl
   where
     below : is_before (start_of ring) marks.high ≡ true → nat_le from (last_before marks.high) ≡ false
-    below is = last-below from (start_of ring) marks.high low (before-by (start_of ring) marks.high is)
+    below is = last-below from (start_of ring) marks.high low is
 
     by_test : (test : Bool) → is_before (start_of ring) marks.high ≡ test
         → last_from from (if test then Some (last_before marks.high) else None) ≡ None
@@ -194,14 +163,10 @@ past-last : (ring : Geometry) (from : ℕ) (marks : Marks) → IsPastFrame ring 
 past-last ring from marks past = rw (past.after_start) refl
 
 past-from : (from : ℕ) (high : Cursor) → from < first_free high 0 → last_from from (Some (last_before high)) ≡ Some (last_before high)
-past-from from high past = rw (from_on (nat_lt 0 high.channel) refl (nat_eq high.channel 0) refl past) refl
+past-from from high past = rw from_on refl
   where
-    from_on : (part : Bool) → nat_lt 0 high.channel ≡ part → (whole : Bool) → nat_eq high.channel 0 ≡ whole → from < (if part then high.frame + 1 else high.frame)
-        → nat_le from (last_before high) ≡ true
-    from_on true part_is true whole_is more = absurd (grind (arith, nat_tests))
-    from_on true part_is false whole_is more = rw whole_is (grind (arith, nat_tests))
-    from_on false part_is true whole_is more = rw whole_is (grind (arith, nat_tests))
-    from_on false part_is false whole_is more = absurd (grind (arith, nat_tests))
+    from_on : nat_le from (last_before high) ≡ true
+    from_on = grind (arith, nat_tests)
 
 high-last : (ring : Geometry) (one other : Marks) → one.high ≡ other.high → last_laid ring one ≡ last_laid ring other
 high-last ring one other same = ap (λ (at : Cursor). if is_before (start_of ring) at then Some (last_before at) else None) same
