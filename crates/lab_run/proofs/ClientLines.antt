@@ -1,9 +1,10 @@
 -- A client's line, as the client did it at its port, is a part of that client.
 use Rattle.std.proofs.Common.{◌≡◌, ℕ, refl, sym, ◌∙◌, ap, subst}
-use Rattle.std.specs.Prelude.{true, false, ℤ, List, Option, Some, Result}
+use Rattle.std.specs.Prelude.{true, false, ℤ, List, ◌++◌, Option, Some, Result}
 use Rattle.snd_base.specs.declared.errors.PcmError.{PcmError}
 use Rattle.snd_base.specs.declared.geometry.Geometry.{Geometry}
 use Rattle.snd_base.specs.declared.places.Cursor.{Cursor}
+use Rattle.snd_base.specs.declared.places.Segment.{Segment}
 use Rattle.snd_base.specs.Relations.{Composes}
 use Rattle.mix_core.specs.declared.gate.Gate as gates
 use Rattle.mix_core.specs.declared.marks.Marks.{Marks}
@@ -25,13 +26,14 @@ use Rattle.lab_report.specs.declared.row.Answer.{Answer}
 use Rattle.lab_run.specs.ActorPart.{DoesGet, DoesLay, DoesLoad, Doing}
 use Rattle.lab_run.specs.Alike.{Alike, CallsAreAlike, SameButMember, SameFrom}
 use Rattle.lab_run.specs.Client.{Client, after_call, answered, begins, call_of, count_answer, dies_if, done_answer, line_by, line_if, write_course}
-use Rattle.lab_run.specs.ClientAtPort.{ClientLinesAreParts, IsOffered, MakesCall, is_die, made_call}
+use Rattle.lab_run.specs.ClientAtPort.{ClientLinesAreParts, IsOffered, MakesCall, after_seat_call, is_die, made_call}
 use Rattle.lab_run.specs.Members.{with_member}
 use Rattle.lab_run.specs.PortSteps.{CountsDown, MarksAlike}
 use Rattle.lab_run.specs.Rules.{AtPort}
 use Rattle.lab_run.proofs.AlikeLaws.{Alike-then}
 use Rattle.lab_run.proofs.CallsAlike.{calls-alike}
 use Rattle.lab_run.proofs.MarksLaws.{cursor-same, floor-same}
+use Rattle.lab_run.proofs.MemberLaws.{ended-member}
 use Rattle.lab_run.proofs.PortLaws.{course-part}
 
 -- a client and an answer, and those of the client with another member
@@ -115,10 +117,13 @@ module _ {S T : Type 0} (P : mixport.Ghosts S) (G : gates.Ghosts T) (shown_laid 
       Takes-map (LoadsAt P G) (LaysAt P G) NoGet s t (made_call held samples (P.view s.0).marks c asked) taken (after, answer) (taken (after, answer)) takes refl in
       let part = course-part P G shown_laid composes left by_gate counts first ring from (λ (x y : Client × Answer). x ≡ y) s t (a, found) made line
       (taken (after, answer)) alike at took in
+      let left : Client = after_seat_call number client c asked after answer in
+      let same : part.result ≡ (left, answer) =
+      sym part.alike ∙ ap (λ (segments : List Segment). let end : Client = record { own = Some (with_member number after); ended = client.ended ++ segments } in (end, answer)) (ended-member number asked answer c after) in
       record {
         doing = part.after;
-        done = subst (λ (b : AtPort). Done ring (b, found) (line_by wav b.marks client client.own asked) part.after (taken (after, answer))) (sym (begins-same client own asked a makes))
-            (subst (λ m. Done ring (a, found) m part.after (taken (after, answer))) (sym (line-is_call wav a.marks client own asked makes))
-            (subst (λ y. Done ring (a, found) line part.after y) (sym part.alike) part.does));
+        done = subst (λ (b : AtPort). Done ring (b, found) (line_by wav b.marks client client.own asked) part.after (left, answer)) (sym (begins-same client own asked a makes))
+            (subst (λ m. Done ring (a, found) m part.after (left, answer)) (sym (line-is_call wav a.marks client own asked makes))
+            (subst (λ y. Done ring (a, found) line part.after y) same part.does));
         at = part.at;
       }

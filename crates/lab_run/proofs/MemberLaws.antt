@@ -15,7 +15,7 @@ use Rattle.lab_report.specs.declared.row.Answer.TheVariants.{Done}
 use Rattle.lab_run.specs.Client.{ended_by}
 use Rattle.lab_run.specs.Members.{MembersAreUnreported, MembersLayAlike, of_member, with_member}
 
-ended-member : (member : ℕ) (asked : Op) (answer : Answer) (c d : Plain) → ended_by asked answer (with_member member c) (with_member member d) ≡ ended_by asked answer c d
+pub ended-member : (member : ℕ) (asked : Op) (answer : Answer) (c d : Plain) → ended_by asked answer (with_member member c) (with_member member d) ≡ ended_by asked answer c d
 ended-member member op.Prepare Done c d = refl
 ended-member member op.Prepare other c d = refl
 ended-member member op.Resume answer c d = refl

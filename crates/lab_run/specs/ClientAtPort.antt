@@ -1,5 +1,5 @@
 -- A client's line, as the client did it at its port: the part that it has of a run.
-use Rattle.std.specs.Prelude.{◌≡◌, ℕ, ◌-◌, min, Bool, true, false, ℤ, List, Option, Some, None, Ok, ⊤}
+use Rattle.std.specs.Prelude.{◌≡◌, ℕ, ◌-◌, min, Bool, true, false, ℤ, List, ◌++◌, Option, Some, None, Ok, ⊤}
 use Rattle.snd_base.specs.declared.geometry.Geometry.{Geometry}
 use Rattle.mix_core.specs.declared.gate.Gate as gates
 use Rattle.mix_core.specs.declared.marks.Marks.{Marks}
@@ -19,7 +19,7 @@ use Rattle.lab_report.specs.declared.row.Answer.{Answer}
 use Rattle.lab_report.specs.declared.row.Answer.TheVariants.{Done, Failed}
 use Rattle.snd_base.specs.declared.errors.PcmError.TheVariants.{BadState, Stopped}
 use Rattle.lab_run.specs.ActorPart.{Doing, Findings, LineDone}
-use Rattle.lab_run.specs.Client.{Client, after_call, answered, client_kind, count_answer, done_answer, frames_of}
+use Rattle.lab_run.specs.Client.{Client, answered, client_kind, count_answer, done_answer, ended_by, frames_of}
 use Rattle.lab_run.specs.Members.{with_member}
 use Rattle.lab_run.specs.PortSteps.{IsAtPort}
 use Rattle.lab_run.specs.Rules.{AtPort}
@@ -56,10 +56,10 @@ pub record MakesCall (client : Client) (c : Plain) (asked : Op) : Type 0 where
   pub goes : c.status.stopped ≡ false
   pub asks : is_die asked ≡ false
 
--- a client of a run after a call of its seat's client, which found and left that one so
+-- a client of a run, which has its own number as member, after a call that left the client at its seat so
 abbrev pub after_seat_call : ℕ → Client → Plain → Op → Plain → Answer → Client
 after_seat_call number client c asked after answer =
-    (after_call client (with_member number c) asked (with_member number after, answer)).0
+    record { own = Some (with_member number after); ended = client.ended ++ ended_by asked answer c after }
 
 -- a line of a client was done at a port, after which it is so
 pub record IsClientLine {S T : Type 0} (P : mixport.Ghosts S) (left : T → Option ℕ) (by_gate : T → ℕ) (first : S) (ring : Geometry) (from : ℕ) (t : S × T)
