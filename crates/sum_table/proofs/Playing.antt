@@ -10,6 +10,7 @@ use Rattle.std.proofs.lemmas.Bool.Decides.{nat_tests}
 use Rattle.atomic_table.specs.Table.{Allows, Me, step}
 use Rattle.snd_base.specs.declared.geometry.Geometry.{Geometry}
 use Rattle.snd_base.specs.declared.places.Cursor.{Cursor}
+use Rattle.snd_base.specs.PlaceLaws.{suc-le-end_frame}
 use Rattle.snd_base.specs.Places.{behind, end_frame, first_frame, lap}
 use Rattle.lap_word.specs.Clamp.{clamp_of}
 use Rattle.lap_word.specs.Position.{word_of}
@@ -33,7 +34,6 @@ use Rattle.ring_rule.specs.Words.{index_of}
 use Rattle.ring_rule.specs.PositionLaws.{has_all-published, last_of-more}
 use Rattle.ring_rule.specs.WordLaws.{lap-le}
 use Rattle.sum_table.proofs.Rings.{next_at-taken}
-use Rattle.ring_rule.specs.WordLaws.{suc-le-end_frame}
 use Rattle.sum_table.proofs.Seated.{step_begins}
 use Rattle.sum_table.proofs.Takes.{publishes, takes, unplugs}
 

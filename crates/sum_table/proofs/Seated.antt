@@ -11,6 +11,7 @@ use Rattle.std.proofs.lemmas.Bool.{cases_eq}
 use Rattle.std.proofs.Common.{append_assoc}
 use Rattle.atomic_table.specs.Table.{Allows, Me, step}
 use Rattle.snd_base.specs.declared.geometry.Geometry.{Geometry}
+use Rattle.snd_base.specs.PlaceLaws.{suc-le-end_frame}
 use Rattle.snd_base.specs.Places.{IsFrom, IsWithin, end_frame, first_frame, first_free, lap}
 use Rattle.lap_word.specs.Position.{gone_in, position_in, word_of-fields}
 use Rattle.lap_word.specs.Word.{StandsFor, count_of, lap_of, sum_of}
@@ -35,7 +36,6 @@ use Rattle.sum_table.proofs.Kept.{IsHeldAt, IsLaid-later, held_laid, laid_more}
 use Rattle.ring_rule.specs.NoteLaws.{noted_set}
 use Rattle.std.proofs.lemmas.Bool.Decides.{nat_tests}
 use Rattle.ring_rule.specs.WordLaws.{index_of-lt}
-use Rattle.ring_rule.specs.WordLaws.{suc-le-end_frame}
 
 -- the steps at the ring's key, which is the view's
 pub locates_at : (k : Key) (slots id : ℕ) (m : Me Entry View) → m.0.key ≡ k → m.0.ended ≡ false
