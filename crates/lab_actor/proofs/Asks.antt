@@ -30,7 +30,7 @@ no-asks : (a : AtPort) (left : Option ℕ) (n : ℕ) → with_asks 0 (at_gate a 
 no-asks a left n = same-at a (left_after 0 left) left n n (left_after-none left) refl
 
 stop-counted : (step : StepKind) (a : AtPort) → is_counted step ≡ 1 → stop_at step a ≡ with_stop a
-stop-counted Again a is = absurd (cc)
+stop-counted Again a is = absurd (omega (arith, is))
 stop-counted Position a is = refl
 stop-counted Look a is = refl
 stop-counted Exchange a is = refl

@@ -1,5 +1,5 @@
 -- How the segments of a client grow and end by what its port laid.
-use Rattle.std.proofs.Common.{◌≡◌, ℕ, List, [], ◌∷◌, ◌++◌, refl, sym, ◌∙◌, ap, subst, append_assoc, length}
+use Rattle.std.proofs.Common.{◌≡◌, ℕ, List, [], ◌∷◌, ◌++◌, refl, sym, ◌∙◌, ap, subst, arith, append_assoc, length}
 use Rattle.std.proofs.lemmas.Bool.Decides.{nat_tests}
 use Rattle.std.proofs.lemmas.List.{append-nil}
 use Rattle.std.proofs.lemmas.List.Sums.{fold-append}
@@ -32,7 +32,7 @@ stretch-entries c samples = by_test (nat_eq c.stretch.committed 0 && nat_eq c.st
   where
     by_test : (test : Bool) → (nat_eq c.stretch.committed 0 && nat_eq c.stretch.part 0) ≡ test
         → flat_map (entries_by c samples) (if test then [] else segment_of c ∷ []) ≡ segment_entries c samples
-    by_test true none = sym (none-laid c samples (grind (nat_tests, none)) (grind (nat_tests, none)))
+    by_test true none = sym (none-laid c samples (grind (arith, nat_tests, none)) (grind (arith, nat_tests, none)))
     by_test false some = append-nil (segment_entries c samples)
 
 -- the entries of segments are the same for a client of the same member and bindings

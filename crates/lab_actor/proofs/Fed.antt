@@ -1,9 +1,9 @@
 -- How many frames a client has accepted after a call: at most those that it was offered are more.
 use Rattle.std.proofs.Common.{◌≡◌, ℕ, ◌≤◌, ◌+◌, refl, subst, sym, ap, ◌∙◌, arith, zero, suc}
 use Rattle.std.proofs.lemmas.Bool.Decides.{nat_tests}
-use Rattle.std.specs.Prelude.{◌-◌, ◌×◌, Bool, true, false, ℤ, List, length, Option, Some, None, Result, Ok, Err, if◌then◌else◌, min, nat_lt, nat_eq, nat_le, ◌&&◌}
+use Rattle.std.specs.Prelude.{◌-◌, Bool, true, false, ℤ, List, length, Option, Some, None, Result, Ok, Err, if◌then◌else◌, min, nat_lt, nat_eq, nat_le, ◌&&◌}
 use Rattle.snd_base.specs.declared.errors.PcmError.{PcmError}
-use Rattle.snd_base.specs.declared.errors.PcmError.TheVariants.{BadState}
+use Rattle.snd_base.specs.declared.errors.PcmError.TheVariants.{Again}
 use Rattle.snd_base.specs.declared.places.Cursor.{Cursor}
 use Rattle.mix_core.specs.declared.port.Ended.{Ended}
 use Rattle.mix_core.specs.declared.port.Ended.TheVariants.{Whole, Late, Stopped}
@@ -12,16 +12,17 @@ use Rattle.pcm_states.specs.declared.calls.Call.{Call}
 use Rattle.pcm_states.specs.declared.calls.Call.TheVariants as call
 use Rattle.pcm_states.specs.declared.calls.Outcome.{Outcome}
 use Rattle.pcm_states.specs.declared.states.State.{State}
-use Rattle.pcm_states.specs.declared.states.State.TheVariants.{Running}
+use Rattle.pcm_states.specs.declared.states.State.TheVariants.{Prepared, Running}
+use Rattle.pcm_states.specs.Table.{next_of}
 use Rattle.course.specs.Course.{◌>>=◌, Course, ends}
 use Rattle.pcm_stream.specs.Status.{refusal_of, is_moving}
 use Rattle.pcm_stream.specs.declared.direction.Direction.TheVariants.{Playback}
 use Rattle.dmix_client.specs.declared.commit.Commit.{Commit}
 use Rattle.dmix_client.specs.declared.plain.Plain.{Plain}
-use Rattle.dmix_client.specs.Calls.{Answered, accepted, accepted_if, avail_of, committed_by, draining, dropped, going_on, going_on_by, has_frames, is_running, is_stop, paused, pending_of, prepared, rebased, resumed, seen_at, settled, started, started_in, stopped_in, synced, taken_of, with_number, written_after}
+use Rattle.dmix_client.specs.Calls.{Answered, accepted, accepted_if, committed_by, draining, dropped, found_at, going_on, going_on_by, has_frames, is_running, is_stop, late_at, late_of, paused, pending_of, prepared, rebased, resumed, seen_at, settled, started, started_in, stopped_in, synced, taken_of, with_number, written_after}
 use Rattle.dmix_client.specs.Course.{admitted, admitted_by, drain_course, drain_on, drains, fills, looks, number_course, numbered, pause_course, resumes, start_course, starts, starts_taking, sync_course, syncs, takes_more, write_course, write_on, writes_on}
-use Rattle.dmix_client.specs.Rewind.{back_of, back_on, checks, left_of, rewind_course, rewind_on, rewindable_course, rewindable_of, rewinds, rewound, take_each, take_frames, takes_back, without}
-use Rattle.dmix_client.specs.View.{IsMoving, IsSound}
+use Rattle.dmix_client.specs.Rewind.{back_of, back_on, checks, last_channel, last_laid, left_of, rewind_course, rewind_on, rewindable_course, rewindable_of, rewinds, rewound, take_each, take_frames, taken_back, takes_back, without}
+use Rattle.dmix_client.specs.View.{IsSound, avail_of}
 use Rattle.dmix_client.specs.Writes.{frames_in, starts_with}
 use Rattle.lab_actor.proofs.Gives.{Gives, Gives-behind, Gives-then, Gives-weaker}
 
@@ -51,7 +52,13 @@ going_on-fed c state o = by_answer o.answer
 started-fed : (c : Plain) (state : State) (cursor : Cursor) (load : Option Position) (commit : Commit) → IsSame c.fed (started c state cursor load commit)
 started-fed c state cursor None commit = record { same = refl }
 started-fed c state cursor (Some position) commit =
-    by_test c.fed position.gone _ _ (going_on-fed _ state _) (by_test c.fed (is_stop commit.ended) _ _ (record { same = refl }) (going_on-fed _ state _))
+    let from : Plain = started_in c state position cursor in
+    let done : Plain = committed_by from commit in
+    let lost : Outcome = next_of Prepared call.Start (found_at position None) in
+    let begun : Outcome = next_of Prepared call.Start (found_at position (late_of from commit)) in
+    let stopped : Answered (Unit {0}) = stopped_in done in
+    by_test c.fed position.gone (going_on (seen_at c position) state lost) (if is_stop commit.ended then stopped else going_on done state begun) (going_on-fed (seen_at c position) state lost)
+    (by_test c.fed (is_stop commit.ended) stopped (going_on done state begun) (record { same = refl }) (going_on-fed done state begun))
 
 resumed-fed : (c : Plain) (cursor : Cursor) (load : Option Position) (commit : Commit) → IsSame c.fed (resumed c cursor load commit)
 resumed-fed c cursor None commit = record { same = refl }
@@ -107,9 +114,13 @@ fed-test most false one other first second = second
 
 written_after-fed : (c : Plain) (n : ℕ) (commit : Commit) → IsFed (c.fed + n) (written_after c n commit)
 written_after-fed c n commit =
-    fed-test (c.fed + n) (nat_lt 0 n && nat_eq (avail_of c) 0) _ _ (record { most = omega arith })
-    (fed-test (c.fed + n) (is_stop commit.ended) _ _ (record { most = omega arith })
-    (let few = taken_of-most c n in let done = (accepted_if-fed c.fed (taken_of c n) (settled (committed_by c commit) _) (record { same = refl })).most in record { most = omega (arith, few, done) }))
+    let o : Outcome = next_of Running call.Transfer (found_at (record { frame = 0; gone = false }) (late_of c commit)) in
+    let stopped : Answered ℕ = stopped_in (committed_by c commit) in
+    let taken : Answered ℕ = accepted_if (taken_of c n) (settled (committed_by c commit) o) in
+    let few = taken_of-most c n in
+    let done = (accepted_if-fed c.fed (taken_of c n) (settled (committed_by c commit) o) (record { same = refl })).most in
+    fed-test (c.fed + n) (nat_lt 0 n && nat_eq (avail_of c) 0) (c, Err Again) (if is_stop commit.ended then stopped else taken) (record { most = omega arith })
+    (fed-test (c.fed + n) (is_stop commit.ended) stopped taken (record { most = omega arith }) (record { most = omega (arith, few, done) }))
 
 write_on-fed : (n : ℕ) (ring samples : List ℤ) (frames : ℕ) (done : Answered (Unit {0})) → IsSame n done → Gives (IsFed (n + frames)) (write_on ring samples frames done)
 unfolding takes_more
@@ -172,10 +183,13 @@ rewindable-fed c floor = admitted-gives c call.Transfer _ (IsSame c.fed) (by_cou
 
 -- a rewind: what is left of the frames that it was to withdraw is no more than these, and these the client had accepted
 
+abbrev commit_of : ℕ → ℕ → Ended → Commit
+commit_of frames part ended = record { frames = frames; part = part; ended = ended }
+
 left_of-few : (n left channels : ℕ) (ended : Ended) → (left_of n left channels ended).frames ≤ suc n
 left_of-few n left channels ended = by_bool (nat_eq left channels)
   where
-    by_bool : (test : Bool) → (if test then record { frames = n + 1; part = 0; ended = ended } else (let it : Commit = record { frames = n; part = left; ended = ended } in it)).frames ≤ suc n
+    by_bool : (test : Bool) → (if test then commit_of (n + 1) 0 ended else commit_of n left ended).frames ≤ suc n
     by_bool true = omega arith
     by_bool false = omega arith
 
@@ -191,12 +205,17 @@ take_frames-few member card bindings samples first (suc n) = Gives-behind (λ (l
     (λ end. back_on-few end n (length bindings) _ (take_frames-few member card bindings samples first n))
 
 rewound-fed : (c : Plain) (n : ℕ) (left : Commit) → IsSame (c.fed - n + left.frames) (rewound c n left)
-rewound-fed c n left = by_test (c.fed - n + left.frames) (is_stop left.ended) _ _ (record { same = refl }) (with_number-fed (λ d. n) (c.fed - n + left.frames) _ (record { same = refl }))
+rewound-fed c n left =
+    let done : Plain = taken_back c n left in
+    let o : Outcome = next_of Running call.Transfer (found_at (record { frame = 0; gone = false }) (late_at left.ended (last_laid done) (last_channel done))) in
+    let stopped : Answered ℕ = stopped_in done in
+    by_test (c.fed - n + left.frames) (is_stop left.ended) stopped (with_number (λ d. n) (settled done o)) (record { same = refl })
+    (with_number-fed (λ d. n) (c.fed - n + left.frames) (settled done o) (record { same = refl }))
 
 takes_back-fed : (c : Plain) (ring : List ℤ) (n : ℕ) → n ≤ c.fed → Gives (IsFed c.fed) (takes_back c ring n)
 unfolding takes_back
 takes_back-fed c ring n few = Gives-then (λ (left : Commit). left.frames ≤ back_of c n) (IsFed c.fed) _ _ (take_frames-few _ _ _ _ _ (back_of c n))
-    (λ left fits. let same = (rewound-fed c n left).same in record { most = omega (arith, same, fits, few) })
+    (λ left fits. let same = (rewound-fed c n left).same in let less : back_of c n ≤ n = omega arith in record { most = omega (arith, same, fits, few, less) })
 
 -- the load of a rewind leaves the counts as they are
 record HasChecked (c : Plain) (done : Answered (Unit {0})) : Type 0 where
@@ -210,7 +229,10 @@ checks-same c None = record { fed = refl; written = refl; committed = refl }
 checks-same c (Some position) = record { fed = refl; written = refl; committed = omega arith }
 
 rewindable-few : (floor : Cursor) (c : Plain) (n : ℕ) → c.stretch.committed ≤ c.stretch.written → min n (rewindable_of floor c) ≤ c.stretch.written
-rewindable-few floor c n laid = grind (arith, nat_tests, laid)
+rewindable-few floor c n laid =
+    let most : rewindable_of floor c ≤ c.stretch.written = omega (arith, laid) in
+    let low : min n (rewindable_of floor c) ≤ rewindable_of floor c = grind (arith, nat_tests) in
+    omega (arith, most, low)
 
 rewind_on-fed : (c : Plain) (floor : Cursor) (ring : List ℤ) (n : ℕ) (done : Answered (Unit {0})) → c.stretch.committed ≤ c.stretch.written → c.stretch.written ≤ c.fed
     → HasChecked c done → Gives (IsFed c.fed) (rewind_on floor ring n done)
@@ -218,6 +240,10 @@ rewind_on-fed c floor ring n (d, Ok done) laid written is =
     subst (λ (k : ℕ). Gives (IsFed k) (takes_back d ring (min n (rewindable_of floor d)))) is.fed
     (takes_back-fed d ring (min n (rewindable_of floor d)) (let few = rewindable-few floor d n (let one = is.written in let two = is.committed in omega (arith, one, two, laid)) in let one = is.written in let two = is.fed in omega (arith, few, one, two, written)))
 rewind_on-fed c floor ring n (d, Err e) laid written is = let same = is.fed in record { most = omega (arith, same) }
+
+running-moves : (state : State) → is_running state ≡ true → is_moving state ≡ true
+running-moves Running runs = refl
+running-moves other runs = absurd (cc)
 
 pub rewind-fed : (c : Plain) (ring : List ℤ) (floor : Cursor) (n : ℕ) → IsSound c ring → c.status.stopped ≡ false → Gives (IsFed c.fed) (admitted c call.Transfer (rewind_course c ring floor n))
 unfolding rewinds
@@ -228,10 +254,6 @@ rewind-fed c ring floor n sound going = admitted-gives c call.Transfer _ (IsFed 
 
     laid : is_running c.status.state ≡ true → c.stretch.committed ≤ c.stretch.written
     laid runs = (sound.moving (running-moves c.status.state runs) going).laid_most
-      where
-        running-moves : (state : State) → is_running state ≡ true → is_moving state ≡ true
-        running-moves Running runs = refl
-        running-moves other runs = absurd (cc)
 
     by_running : (test : Bool) → is_running c.status.state ≡ test
         → Gives (IsFed c.fed) (if test then rewinds c ring floor n else ends (without c (min n c.stretch.written), Ok (min n c.stretch.written)))

@@ -13,6 +13,10 @@ use Rattle.course.specs.AtPort.{LaysAt, LoadsAt, TakesAt}
 use Rattle.course.specs.Course.{Course}
 use Rattle.course.specs.CourseLaws.{Takes-keeps}
 
+-- a port and a gate
+abbrev pub both : {S T : Type 0} → S → T → S × T
+both port gate = (port, gate)
+
 -- what each ask keeps, a course keeps
 pub TakesAt-gate : {S T X : Type 0} (P : mixport.Ghosts S) (G : gates.Ghosts T) (K : T → T → Type 0) → ((g : T) → K g g) → ((g h k : T) → K g h → K h k → K g k)
     → ((g h : T) (kinds : List StepKind) (pass : Pass) → G.asked g h kinds pass → K g h)

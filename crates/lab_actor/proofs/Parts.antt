@@ -1,7 +1,8 @@
 -- An actor's lines, one after the other.
-use Rattle.std.proofs.Common.{◌≡◌, ℕ, ◌+◌, ◌<◌, ◌≤◌, List, [], ◌∷◌, ◌++◌, refl, sym, ◌∙◌, ap, subst, arith, append_assoc, length, get_or, take, drop}
+use Rattle.std.proofs.Common.{◌≡◌, ℕ, ◌+◌, ◌<◌, ◌≤◌, List, [], ◌∷◌, ◌++◌, refl, sym, ◌∙◌, ap, subst, arith, append_assoc, length, get_or, take, drop, suc}
 use Rattle.std.proofs.Math.Seq.{take-suc}
 use Rattle.std.proofs.lemmas.List.{append-nil, length-append, take-append-drop}
+use mir.Val.{bool_byte}
 use Rattle.std.specs.Prelude.{Bool, true, false, Option, Some, if◌then◌else◌}
 use Rattle.snd_base.specs.declared.geometry.Geometry.{Geometry}
 use Rattle.snd_base.specs.declared.places.Segment.{Segment}
@@ -14,11 +15,12 @@ use Rattle.lab_script.specs.declared.line.Op.{Op}
 use Rattle.lab_report.specs.declared.row.Answer.{Answer}
 use Rattle.lab_report.specs.declared.row.Row.{Row}
 use Rattle.lab_run.specs.ActorPart.{Doing, PartsGrow}
-use Rattle.lab_run.specs.Client.{client_kind, row_by}
+use Rattle.lab_run.specs.Client.{Client, client_kind, row_by}
 use Rattle.lab_run.specs.ClientAtPort.{IsClientLine}
 use Rattle.lab_run.specs.Phases.{ops_by}
 use Rattle.lab_run.specs.PortSteps.{IsAtPort}
 use Rattle.lab_actor.specs.declared.client.ClientActor.{ClientActor}
+use Rattle.dmix_client.specs.View.{ClientView}
 use Rattle.lab_actor.specs.ClientLines.{Extends}
 use Rattle.lab_actor.specs.ClientPart.{ClientLine, ClientPart, HasDone, client_of}
 use Rattle.lab_actor.specs.Room.{RoomLeft}
@@ -34,7 +36,8 @@ ops_by-append mine (x ∷ xs) ys =
 next-line : (mine : Actor → Bool) (lines : List Line) (k : ℕ) (line : Line) → k < length lines → get_or lines k line ≡ line
     → ops_by mine (take (k + 1) lines) ≡ ops_by mine (take k lines) ++ ((if mine line.actor then line.op ∷ [] else []) ++ [])
 next-line mine lines k line within is =
-    ap (ops_by mine) (take-suc lines k line within ∙ ap (λ (x : Line). take k lines ++ x ∷ []) is)
+    ap (λ (j : ℕ). ops_by mine (take j lines)) (let e : k + 1 ≡ suc k = omega arith in e)
+    ∙ ap (ops_by mine) (take-suc lines k line within ∙ ap (λ (x : Line). take k lines ++ x ∷ []) is)
     ∙ ops_by-append mine (take k lines) (line ∷ [])
 
 pub own-line : (mine : Actor → Bool) (lines : List Line) (k : ℕ) (line : Line) → k < length lines → get_or lines k line ≡ line → mine line.actor ≡ true
@@ -121,24 +124,24 @@ IsAtPort-shared P left by_gate other_left by_other first ring from p g h doing s
 pub ClientPart-shared : {S T U : Type 0} (P : mixport.Ghosts S) (left : T → Option ℕ) (by_gate : T → ℕ) (other_left : U → Option ℕ) (by_other : U → ℕ)
     (p q : S) (g h : T) (k m : U) (phase : ℕ) (wav : Sound) (a b c : ClientActor) (ops : List Op)
     → left g ≡ other_left k → by_gate g ≡ by_other k → left h ≡ other_left m → by_gate h ≡ by_other m
-    → c.rows ≡ b.rows → c.ended ≡ b.ended → c.client ≡ b.client → c.number ≡ b.number
+    → c.rows.items ≡ b.rows.items → c.ended.items ≡ b.ended.items → c.client ≡ b.client → c.number ≡ b.number
     → ClientPart P left by_gate (p, g) (q, h) phase wav a b ops → ClientPart P other_left by_other (p, k) (q, m) phase wav a c ops
 ClientPart-shared P left by_gate other_left by_other p q g h k m phase wav a b c ops left_before gate_before left_after gate_after rows ended client number part =
-    let same : client_of b ≡ client_of c = λ i. record { own = Some ((sym client) i).plain; ended = ((sym ended) i).items } in
+    let same : client_of b ≡ client_of c = λ i. record { own = Some ((sym client) i).plain; ended = (sym ended) i } in
     record {
       rows = part.rows;
-      rows_are = ap (λ v. v.items) rows ∙ part.rows_are;
+      rows_are = rows ∙ part.rows_are;
       part = λ first ring from before at.
           let done = part.part first ring from before
           (IsAtPort-shared P other_left by_other left by_gate first ring from p k g before (sym left_before) (sym gate_before) at) in
-          subst (λ own. HasDone P other_left by_other first ring from (q, m) phase wav a.number before (client_of a) ops own part.rows) same (record {
+          subst (λ (own : Client). HasDone P other_left by_other first ring from (q, m) phase wav a.number before (client_of a) ops own part.rows) same (record {
             doing = done.doing;
             done = done.done;
             at = IsAtPort-shared P left by_gate other_left by_other first ring from q h m done.doing left_after gate_after done.at;
           });
       ended = part.ended;
-      ended_are = ap (λ v. v.items) ended ∙ part.ended_are;
-      extends = subst (λ v. Extends P wav.samples p q a.client.plain v.plain part.ended) (sym client) part.extends;
+      ended_are = ended ∙ part.ended_are;
+      extends = subst (λ (v : ClientView). Extends P wav.samples p q a.client.plain v.plain part.ended) (sym client) part.extends;
       same = number ∙ part.same;
     }
 
@@ -149,16 +152,16 @@ pub ClientPart-next : {S T : Type 0} (P : mixport.Ghosts S) (composes : Composes
     → ClientPart P left by_gate s t phase wav a x (ops_by mine (take k lines))
     → (mine line.actor ≡ true → ClientLine P left by_gate t u phase wav x b line.op) → (mine line.actor ≡ false → (b ≡ x) × (u.0 ≡ t.0) × (u.1 ≡ t.1))
     → ClientPart P left by_gate s u phase wav a b (ops_by mine (take (k + 1) lines))
-ClientPart-next P composes left by_gate grow s t u phase wav a x b mine lines k line within is part own others = by_test (mine line.actor) refl
+ClientPart-next {S = S} {T = T} P composes left by_gate grow s t u phase wav a x b mine lines k line within is part own others = by_test (mine line.actor) refl
   where
     by_test : (test : Bool) → mine line.actor ≡ test → ClientPart P left by_gate s u phase wav a b (ops_by mine (take (k + 1) lines))
-    by_test true yes = subst (λ (ops : List Op). ClientPart P left by_gate s u phase wav a b ops) (sym (own-line mine lines k line within is yes))
-        (ClientPart-more P composes left by_gate grow s t u phase wav a x b (ops_by mine (take k lines)) line.op part (own yes))
-    by_test false no =
-        let r = others no in
-        subst (λ (ops : List Op). ClientPart P left by_gate s u phase wav a b ops) (sym (other-line mine lines k line within is no))
+    by_test true own_is = subst (λ (ops : List Op). ClientPart P left by_gate s u phase wav a b ops) (sym (own-line mine lines k line within is own_is))
+        (ClientPart-more P composes left by_gate grow s t u phase wav a x b (ops_by mine (take k lines)) line.op part (own own_is))
+    by_test false other_is =
+        let r = others other_is in
+        subst (λ (ops : List Op). ClientPart P left by_gate s u phase wav a b ops) (sym (other-line mine lines k line within is other_is))
         (subst (λ (y : ClientActor). ClientPart P left by_gate s u phase wav a y (ops_by mine (take k lines))) (sym r.0)
-        (let same : t ≡ u = λ i. ((sym r.1) i, (sym r.2) i) in subst (λ v. ClientPart P left by_gate s v phase wav a x (ops_by mine (take k lines))) same part))
+        (let same : t ≡ u = λ i. ((sym r.1) i, (sym r.2) i) in subst (λ (v : S × T). ClientPart P left by_gate s v phase wav a x (ops_by mine (take k lines))) same part))
 
 -- the room that is left then
 pub room-next : (mine : Actor → Bool) (lines : List Line) (k : ℕ) (line : Line) (len room len_after room_after : ℕ) → k < length lines → get_or lines k line ≡ line
@@ -168,17 +171,27 @@ pub room-next : (mine : Actor → Bool) (lines : List Line) (k : ℕ) (line : Li
 room-next mine lines k line len room len_after room_after within is before own others = by_test (mine line.actor) refl
   where
     by_test : (test : Bool) → mine line.actor ≡ test → len_after + length (ops_by mine lines) ≤ room_after + length (ops_by mine (take (k + 1) lines))
-    by_test true yes =
-        let few = (own yes).few in
-        let kept = (own yes).kept in
-        omega (arith, before, few, kept, own-size mine lines k line within is yes)
-    by_test false no =
-        let one = (others no).0 in
-        let two = (others no).1 in
-        omega (arith, before, one, two, ap length (other-line mine lines k line within is no))
+    by_test true own_is =
+        let few = (own own_is).few in
+        let kept = (own own_is).kept in
+        omega (arith, before, few, kept, own-size mine lines k line within is own_is)
+    by_test false other_is =
+        let one = (others other_is).0 in
+        let two = (others other_is).1 in
+        omega (arith, before, one, two, ap length (other-line mine lines k line within is other_is))
 
 -- there is room for an own line
 pub room-own : (mine : Actor → Bool) (lines : List Line) (k : ℕ) (line : Line) (len room : ℕ) → k < length lines → get_or lines k line ≡ line
     → len + length (ops_by mine lines) ≤ room + length (ops_by mine (take k lines)) → mine line.actor ≡ true → len < room
-room-own mine lines k line len room within is before yes =
-    omega (arith, before, own-size mine lines k line within is yes, few-lines mine lines (k + 1))
+room-own mine lines k line len room within is before own_is =
+    omega (arith, before, own-size mine lines k line within is own_is, few-lines mine lines (k + 1))
+
+-- how many lines of an actor's there are up to the next one
+pub counted-next : (mine : Actor → Bool) (lines : List Line) (k : ℕ) (line : Line) → k < length lines → get_or lines k line ≡ line → (test : Bool) → test ≡ mine line.actor
+    → length (ops_by mine (take k lines)) + bool_byte test ≡ length (ops_by mine (take (k + 1) lines))
+counted-next mine lines k line within is true same = sym (own-size mine lines k line within is (sym same))
+counted-next mine lines k line within is false same = let size = ap length (other-line mine lines k line within is (sym same)) in omega (arith, size)
+
+pub bool_byte-most : (test : Bool) → bool_byte test ≤ 1
+bool_byte-most true = omega arith
+bool_byte-most false = omega arith

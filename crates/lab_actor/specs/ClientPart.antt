@@ -1,5 +1,5 @@
 -- What the lines of an open client did in a phase: its part of a run, its rows, and its segments.
-use Rattle.std.specs.Prelude.{◌≡◌, ℕ, ◌×◌, List, [], ◌∷◌, ◌++◌, Option, Some}
+use Rattle.std.specs.Prelude.{◌≡◌, ℕ, List, [], ◌∷◌, ◌++◌, Option, Some}
 use Rattle.snd_base.specs.declared.geometry.Geometry.{Geometry}
 use Rattle.snd_base.specs.declared.places.Segment.{Segment}
 use Rattle.mix_core.specs.declared.port.MixPort as mixport

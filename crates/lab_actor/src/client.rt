@@ -233,7 +233,7 @@ impl ClientActor {
     {
         let mut countdown: Countdown<'_, G, L> = Countdown::new(gate, self.left, blank);
         self.do_lines(port, &mut countdown, wav, phase, lines);
-        self.left = countdown.left();
+        self.left = countdown.end();
     }
 
     /// Does the lines of a phase that are this client's, in order, at its port and behind its gate.

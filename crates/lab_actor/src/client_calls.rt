@@ -45,7 +45,6 @@ fn write<P: MixPort, G: Gate>(
 }
 
 /// The call that a line of an open client names. A write offers the next frames of the client's file, or those that are left.
-#[tactic(none)]
 pub(crate) fn call<P: MixPort, G: Gate>(
     client: &mut Client,
     port: &mut P,
@@ -72,6 +71,8 @@ pub(crate) fn call<P: MixPort, G: Gate>(
         Op::Resume => done(client.pause(port, gate, false)),
         Op::Rewind(frames) => counted(client.rewind(port, gate, frames as u64)),
         Op::Rewindable => counted(client.rewindable(port, gate)),
-        _ => Answer::Failed(PcmError::BadState),
+        Op::Play(_) | Op::Unplug | Op::Read(_) | Op::Die(_) | Op::Opens | Op::Closes => {
+            Answer::Failed(PcmError::BadState)
+        }
     }
 }

@@ -77,11 +77,13 @@ impl<'g, G: Gate, L: Ledger> Countdown<'g, G, L> {
         self.gate.pass(step)
     }
 
-    /// How many asks more a `die` lets pass, where there was one.
-    pub fn left(&self) -> Option<u32>
-        ensures { result ≡ left_of self.now }
+    /// Gives the actor's gate back, and answers how many asks more a `die` lets pass, where there was one.
+    pub fn end(self) -> Option<u32>
+        ensures left { result ≡ left_of self.entry }
+        ensures gate { self.exit.0.now ≡ self.entry.gate.now }
     {
-        self.left
+        let Countdown { left, .. } = self;
+        left
     }
 }
 

@@ -2,15 +2,15 @@ use Rattle.std.proofs.Common.{refl, ◌∙◌}
 use Rattle.lab_actor.specs.Countdown.{IsSameGate, by_gate_of, left_of}
 use Rattle.lab_actor.specs.CountdownLaws.{CountsAsks-down}
 use Rattle.lab_actor.proofs.Answered.{answered-call}
-use Rattle.lab_actor.proofs.Gates.{TakesAt-gate}
+use Rattle.lab_actor.proofs.Gates.{TakesAt-gate, both}
 use Rattle.lab_actor.proofs.client.call_line.Goals as goal
 
 pub returns : goal.returns
 returns g c =
     let P = g.P.MixPort in
     let stops = g.G.Gate.stops in
-    let s = (c.args.port.now, c.args.gate.now) in
-    let t = (c.call.new.port, c.call.new.gate) in
+    let s = both c.args.port.now c.args.gate.now in
+    let t = both c.call.new.port c.call.new.gate in
     record {
       answered = answered-call P g.met.P.MixPort.laid_composes left_of (by_gate_of stops) _
           (λ first ring from. c.client_lines_are_parts.ensures left_of (by_gate_of stops) first ring from (CountsAsks-down stops))

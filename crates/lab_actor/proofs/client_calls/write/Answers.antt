@@ -12,6 +12,7 @@ use Rattle.lab_actor.proofs.Called.{answer-taken, called-keeps}
 use Rattle.lab_actor.proofs.Fed.{IsFed, write-fed}
 use Rattle.lab_actor.proofs.Gives.{Gives-taken}
 use Rattle.lab_actor.proofs.Offering.{Offers, Offers-Follows, Offers-IsOffer, slice-Offers}
+use Rattle.lab_actor.proofs.Gates.{both}
 use Rattle.lab_actor.proofs.client_calls.write.Goals as goal
 
 -- the frames that are offered, of the client's own count of frames
@@ -36,8 +37,8 @@ returns g c =
     let wav = c.args.wav.now in
     let offer = c.next_frames-offer.result.now in
     let n = min c.args.frames (frames_of wav - plain.fed) in
-    let s = (c.args.port.now, c.args.gate.now) in
-    let t = (c.writei-answer.new.port, c.writei-answer.new.gate) in
+    let s = both c.args.port.now c.args.gate.now in
+    let t = both c.writei-answer.new.port c.writei-answer.new.gate in
     let most : plain.fed + n ≤ frames_of wav = let fed = c.requires.ready.fed in grind (arith, nat_tests) in
     let some : 1 ≤ length plain.setup.bindings = subst (λ (k : ℕ). 1 ≤ k) (sym c.requires.ready.channels) c.next_frames-offer.ensures.some in
     let offers : Offers wav plain offer n =

@@ -9,6 +9,7 @@ use Rattle.lab_actor.specs.ClientLines.{ends_stretch, laid_of}
 use Rattle.lab_actor.specs.ClientPart.{client_of}
 use Rattle.lab_actor.specs.Countdown.{by_gate_of, left_of}
 use Rattle.lab_actor.proofs.Answered.{ended_by-test}
+use Rattle.lab_actor.proofs.Gates.{both}
 use Rattle.lab_actor.proofs.client.ClientActor.do_line.Goals as goal
 
 pub returns : goal.returns
@@ -20,7 +21,7 @@ returns g c =
     let answer = c.answer_line-answer.result in
     let d = c.answer_line-answer.new.client in
     let answered = c.answer_line-answer.ensures.answered in
-    let t = (c.answer_line-answer.new.port, c.answer_line-answer.new.gate) in
+    let t = both c.answer_line-answer.new.port c.answer_line-answer.new.gate in
     let ended : List Segment = ended_by asked answer a.client.plain d.plain in
     let ends = c.ends_stretch-ends.ensures
         ∙ (λ i. ends_stretch asked answer (c.is_paused-was_paused.ensures i) (c.is_paused-paused.ensures i)) in

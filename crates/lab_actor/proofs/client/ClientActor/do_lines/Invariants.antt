@@ -9,9 +9,9 @@ use Rattle.lab_actor.proofs.client.ClientActor.do_lines.Given as goal
 
 abbrev pub invariant-loop-index : goal.invariant-loop-index
 invariant-loop-index g l = record {
-  part : ClientPart g.P.MixPort left_of (by_gate_of g.G.Gate.stops) (l.fn.port, l.fn.gate) (l.port, l.gate) l.phase l.wav.now l.fn.self l.self (ops_by (is_client l.fn.self.number) (take l.index l.lines.now));
-  ready : IsReady g.P.MixPort l.wav.now l.port l.self.client;
+  part : ClientPart g.P.MixPort left_of (by_gate_of g.G.Gate.stops) (l.fn.port, l.fn.gate) (l.port, l.gate) l.phase l.wav l.fn.self l.self (ops_by (is_client l.fn.self.number) (take l.index l.lines));
+  ready : IsReady g.P.MixPort l.wav l.port l.self.client;
   same_gate : IsSameGate l.fn.gate l.gate;
-  rows_room : vec_len l.self.rows + line_count (actor.Client l.fn.self.number) l.lines.now ≤ vec_capacity l.self.rows + length (ops_by (is_client l.fn.self.number) (take l.index l.lines.now));
-  ended_room : vec_len l.self.ended + line_count (actor.Client l.fn.self.number) l.lines.now ≤ vec_capacity l.self.ended + length (ops_by (is_client l.fn.self.number) (take l.index l.lines.now));
+  rows_room : vec_len l.self.rows + line_count (actor.Client l.fn.self.number) l.lines ≤ vec_capacity l.self.rows + length (ops_by (is_client l.fn.self.number) (take l.index l.lines));
+  ended_room : vec_len l.self.ended + line_count (actor.Client l.fn.self.number) l.lines ≤ vec_capacity l.self.ended + length (ops_by (is_client l.fn.self.number) (take l.index l.lines));
 }
