@@ -5,8 +5,13 @@ usage: bench/snoop_ring.py      from the top of the repository; wants cc, and pr
 
 The C program has the ring's length as a constant. It is compiled twice: with functions that are called for each frame, and with
 these inlined. All programs store and load a ring of 16,384 frames lap by lap, and give for each measurement the time on the clock
-of the fastest of 400 laps. They are run in turn, ROUNDS times each, and the least time counts.
+of the fastest of 400 laps.
+
+On some processors a loop takes up to twice the time where one of its jumps touches a border of 32 bytes, and compilers place loops
+at multiples of 16. So each program is linked anew with its code moved by each of PLACES bytes. All are run in turn, ROUNDS times each,
+and the least time of a program counts, wherever its code was.
 """
+import os
 import subprocess
 import sys
 import tempfile
@@ -14,21 +19,38 @@ from pathlib import Path
 
 TOP = Path(__file__).resolve().parent.parent
 CRATE = TOP / "crates/snoop_bench"
-PROGRAM = CRATE / "out/snoop_bench"
-FRAMES, ROUNDS = 16384, 5
+COMPILED = CRATE / "out/snoop_bench.o"
+FRAMES, ROUNDS = 16384, 1
 CHANNELS = (1, 2, 8)
+PLACES = range(1, 33, 3)
+KIT = Path(os.environ.get("RATTLE", "/opt/rattle"))
+LIBRARIES = [KIT / "c/libos_c.a", KIT / "c/liblibc_c.a", "-lm", "-lpthread"]
+
+
+def linked(folder, name, compiled, section, libraries):
+    """A program, linked with the code of one section at each of PLACES."""
+    moved = folder / f"{name}.o"
+    subprocess.run(["objcopy", f"--set-section-alignment={section}=1", compiled, moved], check=True)
+    programs = []
+    for place in PLACES:
+        head, program = folder / f"{name}{place}.s", folder / f"{name}{place}"
+        head.write_text(f'.section {section},"ax",@progbits\n.balign 32\n.skip {place}, 0x90\n.section .note.GNU-stack,"",@progbits\n')
+        subprocess.run(["cc", "-o", program, head, moved, *libraries], check=True)
+        programs.append(program)
+    return programs
 
 
 def build(folder):
     """The C programs, which are compiled anew; the crate is proved and built only where it has changed."""
-    by_hand = []
-    for name, flags in (("called", ["-DCALLED=__attribute__((noinline))"]), ("inlined", [])):
-        subprocess.run(["cc", "-O2", *flags, "-o", folder / name, TOP / "bench/snoop_ring.c"], check=True)
-        by_hand.append(folder / name)
     subprocess.run(["rt", "run"], cwd=CRATE, stdout=subprocess.DEVNULL, stderr=subprocess.DEVNULL)
-    if not PROGRAM.exists():
+    if not COMPILED.exists():
         sys.exit("crates/snoop_bench isn't built: see `rt run` there")
-    return [PROGRAM, *by_hand]
+    kinds = [linked(folder, "ring", COMPILED, ".text.snoop_bench::main+start", LIBRARIES)]
+    for name, section, flags in (("called", ".text", ["-DCALLED=__attribute__((noinline))"]), ("inlined", ".text.startup", [])):
+        compiled = folder / f"{name}_c.o"
+        subprocess.run(["cc", "-O2", *flags, "-c", "-o", compiled, TOP / "bench/snoop_ring.c"], check=True)
+        kinds.append(linked(folder, name, compiled, section, []))
+    return kinds
 
 
 def measure(program, best):
@@ -49,10 +71,11 @@ def main():
     """Builds and runs the programs, and prints the table."""
     times = [{}, {}, {}]
     with tempfile.TemporaryDirectory() as name:
-        programs = build(Path(name))
+        kinds = build(Path(name))
         for _ in range(ROUNDS):
-            for program, best in zip(programs, times):
-                measure(program, best)
+            for programs, best in zip(kinds, times):
+                for program in programs:
+                    measure(program, best)
     for step, what in (("store", "ns a channel of `store_frame`"), ("load", "ns a channel of `load_frame`")):
         print(f"| {what} | the ring | C, called | C, inlined | ratio | ratio to the inlined |")
         print("|---|---|---|---|---|---|")

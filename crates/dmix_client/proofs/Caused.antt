@@ -1,139 +1,370 @@
--- Which errors a sync and a start answer, and why.
-use Rattle.std.proofs.Common.{◌≡◌, ℕ, ◌∙◌, ap, refl, [], ◌∷◌}
-use Rattle.std.specs.Prelude.{IfErr, Bool, true, false, ◌↔◌, nat_eq, if◌then◌else◌, Option, Some, None, Result, Ok, Err}
+-- Why a sync, a start and a write answered an error: by the position that they loaded, and by where their commits ended.
+use Rattle.std.proofs.Common.{◌≡◌, ℕ, ◌+◌, ◌<◌, ◌≤◌, ◌∙◌, ap, sym, refl, subst, arith, List, length}
+use Rattle.std.proofs.lemmas.Bool.Decides.{nat_tests}
+use Rattle.std.specs.Prelude.{IfErr, IfNone, Bool, true, false, ◌&&◌, ◌||◌, ◌↔◌, nat_le, if◌then◌else◌, Option, Some, None, IfSome, is_some, Result, Ok, Err}
 use Rattle.snd_base.specs.declared.errors.PcmError.{PcmError}
-use Rattle.snd_base.specs.declared.errors.PcmError.TheVariants.{LapEnd, NoDevice, Stopped, Xrun}
+use Rattle.snd_base.specs.declared.errors.PcmError.TheVariants.{Again, LapEnd, NoDevice, Stopped, Xrun}
+use Rattle.snd_base.specs.declared.errors.XrunWhy.{XrunWhy}
 use Rattle.snd_base.specs.declared.errors.XrunWhy.TheVariants.{Avail, Late}
+use Rattle.snd_base.specs.declared.places.Cursor.{Cursor}
+use Rattle.mix_core.specs.declared.port.Position.{Position}
 use Rattle.pcm_states.specs.declared.states.State.{State}
-use Rattle.pcm_states.specs.declared.states.State.TheVariants.{Setup, Running, Draining}
+use Rattle.pcm_states.specs.declared.states.State.TheVariants.{Draining, Prepared, Running}
 use Rattle.pcm_states.specs.declared.calls.Call.{Call}
 use Rattle.pcm_states.specs.declared.calls.Call.TheVariants as call
-use Rattle.pcm_states.specs.declared.calls.Facts.{Facts}
-use Rattle.pcm_states.specs.Table.{draining, first_of, moving, next_of, outcome_of, still_draining}
+use Rattle.pcm_states.specs.declared.calls.Outcome.{Outcome}
+use Rattle.dmix_client.specs.declared.commit.Commit.{Commit}
 use Rattle.mix_core.specs.declared.port.Ended.{Ended}
 use Rattle.mix_core.specs.declared.port.Ended.TheVariants as ended
-use Rattle.dmix_client.specs.Causes.{IsOfSteps}
-use Rattle.dmix_client.specs.Calls.{is_stop, late_at}
-use Rattle.dmix_client.specs.Port.{IsStep}
+use Rattle.dmix_client.specs.declared.plain.Plain.{Plain}
+use Rattle.dmix_client.specs.Calls.{Answered, accepted, accepted_if, commit_count, committed_by, end_channel, end_of_commit, is_running, is_stop, late_at, late_of, over_of, seen_at, settled, started, started_in, sync_count, synced, taken_of, with_number, written_on}
+use Rattle.dmix_client.specs.Causes.{IsCaused, IsGone, IsMissed, IsOfSteps, Reaches}
+use Rattle.mix_core.specs.Port.{IsPast, OnLate, PortView}
+use Rattle.dmix_client.specs.Port.{IsCommit, IsFound, IsStep}
+use Rattle.pcm_stream.specs.Status.{is_moving}
+use Rattle.dmix_client.specs.View.{avail_of, queued_of}
+use Rattle.dmix_client.proofs.Ends.{by-test, next-ends, started-ends, written-ends}
 
--- what an answer says of what was found: the card gone, the stop threshold reached, and how the commit ended, and where
-pub record Says (answer : Result (Unit {0}) PcmError) (gone : Bool) (over : Option (ℕ × ℕ)) (e : Ended) (frame channel : ℕ) : Type 0 where
-  pub no_device : (answer ≡ Err NoDevice) ↔ (gone ≡ true)
-  pub reached : (a f : ℕ) → (answer ≡ Err (Xrun (Avail a f))) ↔ ((gone ≡ false) × (over ≡ Some (a, f)))
-  pub late : (f c word : ℕ) → answer ≡ Err (Xrun (Late f c word)) → (e ≡ ended.Late word) × (f ≡ frame) × (c ≡ channel)
-  pub never : answer ≡ Err LapEnd → ⊥
-  pub of_steps : IfErr answer IsOfSteps
+-- a client ended its commit there
+pub record EndsAt (at d : Plain) (x : Commit) : Type 0 where
+  pub card : d.stretch.card ≡ at.stretch.card
+  pub bindings : d.setup.bindings ≡ at.setup.bindings
+  pub committed : d.stretch.committed ≡ at.stretch.committed + x.frames
+  pub part : d.stretch.part ≡ x.part
 
--- nothing was to be laid where the card is gone or the threshold reached
-pub record IsPlain (gone : Bool) (over : Option (ℕ × ℕ)) (e : Ended) : Type 0 where
-  pub here : gone ≡ true → e ≡ ended.Whole
-  pub below : (a f : ℕ) → over ≡ Some (a, f) → e ≡ ended.Whole
+-- the channel at which a commit ended is the next of the client after it
+channel-same : (at d : Plain) (x : Commit) → EndsAt at d x → end_channel at x ≡ end_channel d (record { frames = 0; part = d.stretch.part; ended = x.ended })
+channel-same at d x ends =
+    ap (λ (n : ℕ). end_channel at (record x { part = n })) (sym ends.part)
+    ∙ ap (λ (b : List ℕ). end_channel (record at { setup = record at.setup { bindings = b } }) (record x { part = d.stretch.part })) (sym ends.bindings)
 
-pub says-gone : (over : Option (ℕ × ℕ)) (e : Ended) (frame channel : ℕ) → Says (Err NoDevice) true over e frame channel
-says-gone over e frame channel = record {
-  no_device = (λ h. refl, λ h. refl);
-  reached = λ a f. (λ h. cc, λ h. let x = h.0 in cc);
-  late = λ f c word h. cc;
-  never = λ h. cc;
-  of_steps = tt;
-}
+-- what is told where nothing was loaded
+pub if-none : {X : Type 0} (o : Option X) {P Q : Type 0} → (P → Q) → IfNone o P → IfNone o Q
+if-none None follows told = follows told
+if-none (Some x) follows told = tt
 
-abbrev pub number_in : Option (ℕ × ℕ) → ℕ
-number_in None = 0
-number_in (Some (x, y)) = x
-
-abbrev pub frame_in : Option (ℕ × ℕ) → ℕ
-frame_in None = 0
-frame_in (Some (x, y)) = y
-
-pair-same : (x y a f : ℕ) → x ≡ a → y ≡ f → (let o : Option (ℕ × ℕ) = Some (x, y) in o) ≡ Some (a, f)
-pair-same x y a f first last = ap (λ (n : ℕ). let o : Option (ℕ × ℕ) = Some (n, y) in o) first ∙ ap (λ (n : ℕ). let o : Option (ℕ × ℕ) = Some (a, n) in o) last
-
-xrun-same : (x y a f : ℕ) → x ≡ a → y ≡ f → (let r : Result (Unit {0}) PcmError = Err (Xrun (Avail x y)) in r) ≡ Err (Xrun (Avail a f))
-xrun-same x y a f first last = cc
-
-says-over : (x y : ℕ) (e : Ended) (frame channel : ℕ) → Says (Err (Xrun (Avail x y))) false (Some (x, y)) e frame channel
-says-over x y e frame channel = record {
-  no_device = (λ h. cc, λ h. cc);
-  reached = λ a f. (λ h. (refl, pair-same x y a f (cc) (cc)), λ h. xrun-same x y a f (ap (λ o. number_in o) h.1) (ap (λ o. frame_in o) h.1));
-  late = λ f c word h. cc;
-  never = λ h. cc;
-  of_steps = tt;
-}
-
-pub says-late : (word frame channel : ℕ) → Says (Err (Xrun (Late frame channel word))) false None (ended.Late word) frame channel
-says-late word frame channel = record {
-  no_device = (λ h. cc, λ h. cc);
-  reached = λ a f. (λ h. cc, λ h. let z = h.1 in cc);
-  late = λ f c w h. (cc, cc, cc);
-  never = λ h. cc;
-  of_steps = tt;
-}
-
--- any other answer
-pub record IsOther (answer : Result (Unit {0}) PcmError) : Type 0 where
+-- an answer that isn't one of a position's, nor a late one
+pub record IsOther {X : Type 0} (answer : Result X PcmError) : Type 0 where
   pub here : answer ≡ Err NoDevice → ⊥
   pub below : (a f : ℕ) → answer ≡ Err (Xrun (Avail a f)) → ⊥
   pub in_time : (f c word : ℕ) → answer ≡ Err (Xrun (Late f c word)) → ⊥
   pub never : answer ≡ Err LapEnd → ⊥
   pub of_steps : IfErr answer IsOfSteps
 
-pub says-other : (answer : Result (Unit {0}) PcmError) (e : Ended) (frame channel : ℕ) → IsOther answer → Says answer false None e frame channel
-says-other answer e frame channel other = record {
-  no_device = (λ h. absurd (other.here h), λ h. cc);
-  reached = λ a f. (λ h. absurd (other.below a f h), λ h. let z = h.1 in cc);
-  late = λ f c word h. absurd (other.in_time f c word h);
-  never = λ h. other.never h;
-  of_steps = other.of_steps;
-}
+pub other-ok : {X : Type 0} (x : X) → IsOther {X = X} (Ok x)
+other-ok x = record { here = λ h. cc; below = λ a f h. cc; in_time = λ f c word h. cc; never = λ h. cc; of_steps = tt }
 
-pub other-ok : IsOther (Ok tt)
-other-ok = record { here = λ h. cc; below = λ a f h. cc; in_time = λ f c word h. cc; never = λ h. cc; of_steps = tt }
-
-pub other-stopped : IsOther (Err Stopped)
+pub other-stopped : {X : Type 0} → IsOther {X = X} (Err Stopped)
 other-stopped = record { here = λ h. cc; below = λ a f h. cc; in_time = λ f c word h. cc; never = λ h. cc; of_steps = tt }
 
-other-still : (call : Call) → IsStep Draining call → IsOther (still_draining call).answer
-other-still call.Sync step = other-ok
-other-still call.Drain step = record { here = λ h. cc; below = λ a f h. cc; in_time = λ f c word h. cc; never = λ h. cc; of_steps = tt }
-other-still call step = absurd step
+pub other-again : {X : Type 0} → IsOther {X = X} (Err Again)
+other-again = record { here = λ h. cc; below = λ a f h. cc; in_time = λ f c word h. cc; never = λ h. cc; of_steps = tt }
 
-other-played : (call : Call) (played : Bool) → IsStep Draining call → IsOther (first_of ((if played then Some (record { state = Setup; answer = Ok tt }) else None) ∷ []) (still_draining call)).answer
-other-played call true step = other-ok
-other-played call false step = other-still call step
+-- a position was loaded, and nothing about it is against the call
+pub record IsFree (c : Plain) (load : Option Position) : Type 0 where
+  pub loaded : IfNone load ⊥
+  pub here : IsGone load → ⊥
+  pub below : (a f : ℕ) → Reaches c load a f → ⊥
 
-abbrev facts : ℕ → Bool → Option (ℕ × ℕ) → Ended → ℕ → ℕ → Facts
-facts queued gone over e frame channel = record { capture = false; queued = queued; starts = true; gone = gone; over = over; late = late_at e frame channel }
+-- how a late commit ended
+late-found : (e : Ended) (frame channel : ℕ) (w : XrunWhy) (P : ℕ → Type 0) → late_at e frame channel ≡ Some w → OnLate e P → (word : ℕ) × (w ≡ Late frame channel word) × P word
+late-found ended.Whole frame channel w P is late = absurd (cc)
+late-found (ended.Late word) frame channel w P is late = (word, cc, late)
+late-found ended.Stopped frame channel w P is late = absurd (cc)
 
-moving-says : (call : Call) (queued : ℕ) (gone : Bool) (over : Option (ℕ × ℕ)) (e : Ended) (frame channel : ℕ) → IsPlain gone over e
-    → Says (if is_stop e then Err Stopped else (outcome_of moving Running call (facts queued gone over e frame channel)).answer) gone over e frame channel
-moving-says call queued true over ended.Whole frame channel plain = says-gone over ended.Whole frame channel
-moving-says call queued false (Some (x, y)) ended.Whole frame channel plain = says-over x y ended.Whole frame channel
-moving-says call queued false None ended.Whole frame channel plain = says-other (Ok tt) ended.Whole frame channel other-ok
-moving-says call queued true over (ended.Late word) frame channel plain = absurd (let h = plain.here refl in cc)
-moving-says call queued false (Some (x, y)) (ended.Late word) frame channel plain = absurd (let h = plain.below x y refl in cc)
-moving-says call queued false None (ended.Late word) frame channel plain = says-late word frame channel
-moving-says call queued true over ended.Stopped frame channel plain = absurd (let h = plain.here refl in cc)
-moving-says call queued false (Some (x, y)) ended.Stopped frame channel plain = absurd (let h = plain.below x y refl in cc)
-moving-says call queued false None ended.Stopped frame channel plain = says-other (Err Stopped) ended.Stopped frame channel other-stopped
+module _ {S : Type 0} (view : S → PortView) (shows : S → ℕ → ℕ → Option ℕ) (q : S) where
+  pub missed-of : (at d : Plain) (x : Commit) (frame channel word : ℕ) → EndsAt at d x → frame ≡ end_of_commit at x → channel ≡ end_channel at x
+      → IsPast view shows q (end_of_commit at x) (end_channel at x) word → IsMissed view shows q d frame channel word
+  missed-of at d x frame channel word ends is_frame is_channel past = record {
+    frame_is = omega (arith, is_frame, ends.card, ends.committed);
+    channel_is = is_channel ∙ channel-same at d x ends;
+    past = subst (λ (c : ℕ). IsPast view shows q frame c word) (sym is_channel) (subst (λ (f : ℕ). IsPast view shows q f (end_channel at x) word) (sym is_frame) past);
+  }
 
-draining-says : (call : Call) (queued : ℕ) (gone : Bool) (e : Ended) (frame channel : ℕ) → IsStep Draining call → IsPlain gone None e
-    → Says (if is_stop e then Err Stopped else (outcome_of draining Draining call (facts queued gone None e frame channel)).answer) gone None e frame channel
-draining-says call queued true ended.Whole frame channel step plain = says-gone None ended.Whole frame channel
-draining-says call queued false ended.Whole frame channel step plain =
-    says-other (first_of ((if nat_eq queued 0 then Some (record { state = Setup; answer = Ok tt }) else None) ∷ []) (still_draining call)).answer ended.Whole frame channel (other-played call (nat_eq queued 0) step)
-draining-says call queued true (ended.Late word) frame channel step plain = absurd (let h = plain.here refl in cc)
-draining-says call queued false (ended.Late word) frame channel step plain = says-late word frame channel
-draining-says call queued true ended.Stopped frame channel step plain = absurd (let h = plain.here refl in cc)
-draining-says call queued false ended.Stopped frame channel step plain = says-other (Err Stopped) ended.Stopped frame channel other-stopped
+  -- the gate stopped the load
+  pub caused-none : (c d : Plain) → IsCaused {X = Unit {0}} view shows q c d None (Err Stopped)
+  caused-none c d = record {
+    unless_stopped = refl;
+    of_steps = tt;
+    no_device = (λ h. cc, λ h. absurd h);
+    reached = λ a f. (λ h. cc, λ h. absurd h);
+    late = λ frame channel word h. cc;
+    never_lap_end = λ h. cc;
+  }
 
--- a step of a stream that moves frames
-pub next-says : (state : State) (call : Call) (queued : ℕ) (gone : Bool) (over : Option (ℕ × ℕ)) (e : Ended) (frame channel : ℕ) → IsStep state call → (state ≡ Draining → over ≡ None) → IsPlain gone over e
-    → Says (if is_stop e then Err Stopped else (next_of state call (facts queued gone over e frame channel)).answer) gone over e frame channel
-next-says Running call.Sync queued gone over e frame channel step none plain = moving-says call.Sync queued gone over e frame channel plain
-next-says Running call.Transfer queued gone over e frame channel step none plain = moving-says call.Transfer queued gone over e frame channel plain
-next-says Draining call.Sync queued gone None e frame channel step none plain = draining-says call.Sync queued gone e frame channel step plain
-next-says Draining call.Drain queued gone None e frame channel step none plain = draining-says call.Drain queued gone e frame channel step plain
-next-says Draining call.Sync queued gone (Some x) e frame channel step none plain = absurd (let h = none refl in cc)
-next-says Draining call.Drain queued gone (Some x) e frame channel step none plain = absurd (let h = none refl in cc)
-next-says state call queued gone over e frame channel step none plain = absurd step
+  -- the card is gone
+  caused-gone : (c d : Plain) (position : Position) → position.gone ≡ true → IsCaused {X = Unit {0}} view shows q c d (Some position) (Err NoDevice)
+  caused-gone c d position gone = record {
+    unless_stopped = tt;
+    of_steps = tt;
+    no_device = (λ h. gone, λ h. refl);
+    reached = λ a f. (λ h. cc, λ h. absurd (let x = h.0 in cc));
+    late = λ frame channel word h. cc;
+    never_lap_end = λ h. cc;
+  }
+
+  -- the stop threshold is reached
+  caused-over : (c d : Plain) (position : Position) (x y : ℕ) → Reaches c (Some position) x y → IsCaused {X = Unit {0}} view shows q c d (Some position) (Err (Xrun (Avail x y)))
+  caused-over c d position x y reaches = record {
+    unless_stopped = tt;
+    of_steps = tt;
+    no_device = (λ h. cc, λ h. absurd (let here = reaches.0 in cc));
+    reached = λ a f. (
+      λ h. (let is_avail : x ≡ a = cc in let is_frame : y ≡ f = cc in subst (λ (k : ℕ). Reaches c (Some position) a k) is_frame (subst (λ (k : ℕ). Reaches c (Some position) k y) is_avail reaches)),
+      λ h. (let one = reaches.3 in let two = reaches.4 in let is_avail = h.3 in let is_frame = h.4 in cc),
+    );
+    late = λ frame channel word h. cc;
+    never_lap_end = λ h. cc;
+  }
+
+  -- any other answer
+  pub caused-other : {X : Type 0} (c d : Plain) (load : Option Position) (answer : Result X PcmError) → IsFree c load → IsOther answer → IsCaused view shows q c d load answer
+  caused-other c d load answer free other = record {
+    unless_stopped = if-none load (λ h. absurd h) free.loaded;
+    of_steps = other.of_steps;
+    no_device = (λ h. absurd (other.here h), λ h. absurd (free.here h));
+    reached = λ a f. (λ h. absurd (other.below a f h), λ h. absurd (free.below a f h));
+    late = λ frame channel word h. absurd (other.in_time frame channel word h);
+    never_lap_end = other.never;
+  }
+
+  -- a late one, where the commit ended in the client that it left
+  caused-late : {X : Type 0} (c at d : Plain) (load : Option Position) (x : Commit) (w : XrunWhy) → IsFree c load → EndsAt at d x → late_of at x ≡ Some w
+      → OnLate x.ended (λ word. IsPast view shows q (end_of_commit at x) (end_channel at x) word) → IsCaused {X = X} view shows q c d load (Err (Xrun w))
+  caused-late {X = X} c at d load x w free ends is shown =
+      let found = late-found x.ended (end_of_commit at x) (end_channel at x) w (λ word. IsPast view shows q (end_of_commit at x) (end_channel at x) word) is shown in
+      subst (λ (v : XrunWhy). IsCaused {X = X} view shows q c d load (Err (Xrun v))) (sym found.1) (record {
+        unless_stopped = if-none load (λ h. absurd h) free.loaded;
+        of_steps = tt;
+        no_device = (λ h. cc, λ h. absurd (free.here h));
+        reached = λ a f. (λ h. cc, λ h. absurd (free.below a f h));
+        late = λ frame channel word h.
+            let is_word : found.0 ≡ word = cc in
+            missed-of at d x frame channel word ends (cc) (cc) (subst (λ (k : ℕ). IsPast view shows q (end_of_commit at x) (end_channel at x) k) is_word found.2);
+        never_lap_end = λ h. cc;
+      })
+
+  -- behind a load that went well
+  pub free-by : (c u : Plain) (load : Option Position) → IsCaused {X = Unit {0}} view shows q c u load (Ok tt) → IsFree c load
+  free-by c u load why = record {
+    loaded = if-none load (λ h. cc) why.unless_stopped;
+    here = λ h. let x = why.no_device.1 h in cc;
+    below = λ a f h. let x = (why.reached a f).1 h in cc;
+  }
+
+  -- an error has the same causes whatever the call would answer
+  caused-error : {Y : Type 0} (load : Option Position) (c d : Plain) (e : PcmError) → IsCaused {X = Unit {0}} view shows q c d load (Err e) → IsCaused {X = Y} view shows q c d load (Err e)
+  caused-error {Y = Y} load c d e why = record {
+    unless_stopped = if-none load (λ h. there e Stopped h) why.unless_stopped;
+    of_steps = why.of_steps;
+    no_device = (λ h. why.no_device.0 (back e NoDevice h), λ h. there e NoDevice (why.no_device.1 h));
+    reached = λ a f. (λ h. (why.reached a f).0 (back e (Xrun (Avail a f)) h), λ h. there e (Xrun (Avail a f)) ((why.reached a f).1 h));
+    late = λ frame channel word h. why.late frame channel word (back e (Xrun (Late frame channel word)) h);
+    never_lap_end = λ h. why.never_lap_end (back e LapEnd h);
+  }
+    where
+      same_error : {T : Type 0} (e f : PcmError) → (let r : Result T PcmError = Err e in r) ≡ Err f → e ≡ f
+      same_error e f h = cc
+
+      back : (e f : PcmError) → (let r : Result Y PcmError = Err e in r) ≡ Err f → (let r : Result (Unit {0}) PcmError = Err e in r) ≡ Err f
+      back e f h = ap (λ (x : PcmError). let r : Result (Unit {0}) PcmError = Err x in r) (same_error {T = Y} e f h)
+
+      there : (e f : PcmError) → (let r : Result (Unit {0}) PcmError = Err e in r) ≡ Err f → (let r : Result Y PcmError = Err e in r) ≡ Err f
+      there e f h = ap (λ (x : PcmError). let r : Result Y PcmError = Err x in r) (same_error {T = Unit {0}} e f h)
+
+  -- so has an answer with a number, and that of a write that starts a stream
+  pub caused-number : (load : Option Position) (c : Plain) (number : Plain → ℕ) (a : Answered (Unit {0})) → IsCaused {X = Unit {0}} view shows q c a.0 load a.1
+      → IsCaused {X = ℕ} view shows q c (with_number number a).0 load (with_number number a).1
+  caused-number load c number (d, Ok done) why = caused-other c d load (Ok (number d)) (free-by c d load why) (other-ok (number d))
+  caused-number load c number (d, Err e) why = caused-error load c d e why
+
+  pub caused-accepted : (load : Option Position) (c : Plain) (m : ℕ) (a : Answered (Unit {0})) → IsCaused {X = Unit {0}} view shows q c a.0 load a.1
+      → IsCaused {X = ℕ} view shows q c (accepted_if m a).0 load (accepted_if m a).1
+  caused-accepted load c m (d, Ok done) why = caused-other c (accepted d m) load (Ok m) (free-by c d load why) (other-ok m)
+  caused-accepted load c m (d, Err e) why = caused-error load c d e why
+
+-- ---- a sync
+
+-- nothing was to be laid where the card is gone or the threshold reached
+pub record IsPlain (gone : Bool) (over : Option (ℕ × ℕ)) (e : Ended) : Type 0 where
+  pub here : gone ≡ true → e ≡ ended.Whole
+  pub below : (a f : ℕ) → over ≡ Some (a, f) → e ≡ ended.Whole
+
+none-laid : (e : Ended) (frames part channels : ℕ) → IsCommit e frames part 0 channels → e ≡ ended.Whole
+none-laid ended.Whole frames part channels is = refl
+none-laid (ended.Late word) frames part channels is = absurd (omega (arith, is.0))
+none-laid ended.Stopped frames part channels is = absurd (omega (arith, is.0))
+
+first-true : (a b : Bool) (n : ℕ) → a ≡ true → (if a || b then 0 else n) ≡ 0
+first-true true b n is = refl
+first-true false b n is = absurd (cc)
+
+last-true : (a b : Bool) (n : ℕ) → b ≡ true → (if a || b then 0 else n) ≡ 0
+last-true true b n is = refl
+last-true false true n is = refl
+last-true false false n is = absurd (cc)
+
+IsPlain-synced : (c : Plain) (position : Position) (x : Commit) → IsCommit x.ended x.frames x.part (sync_count c position) (length c.setup.bindings)
+    → IsPlain position.gone (over_of (seen_at c position) position) x.ended
+IsPlain-synced c position x is =
+    let over = over_of (seen_at c position) position in
+    let count = commit_count c position.frame c.stretch.written in
+    let whole : sync_count c position ≡ 0 → x.ended ≡ ended.Whole =
+    λ none. none-laid x.ended x.frames x.part (length c.setup.bindings) (subst (λ (n : ℕ). IsCommit x.ended x.frames x.part n (length c.setup.bindings)) none is) in
+    record {
+      here = λ h. whole (first-true position.gone (is_some over) count h);
+      below = λ a f h. whole (last-true position.gone (is_some over) count (ap (λ (o : Option (ℕ × ℕ)). is_some o) h));
+    }
+
+running-is : (s : State) → is_running s ≡ true → s ≡ Running
+running-is Running is = refl
+running-is s is = absurd (cc)
+
+abbrev number_in : Option (ℕ × ℕ) → ℕ
+number_in None = 0
+number_in (Some (x, y)) = x
+
+abbrev frame_in : Option (ℕ × ℕ) → ℕ
+frame_in None = 0
+frame_in (Some (x, y)) = y
+
+if-some : (b : Bool) (x y a f : ℕ) → (let o : Option (ℕ × ℕ) = (if b then Some (x, y) else None) in o) ≡ Some (a, f) → (b ≡ true) × (a ≡ x) × (f ≡ y)
+if-some true x y a f is = (refl, sym (ap (λ o. number_in o) is), sym (ap (λ o. frame_in o) is))
+if-some false x y a f is = absurd (cc)
+
+both-true : (s : State) (t n : ℕ) → (is_running s && nat_le t n) ≡ true → (is_running s ≡ true) × (t ≤ n)
+both-true s t n is = by_test (is_running s) is
+  where
+    by_test : (b : Bool) → (b && nat_le t n) ≡ true → (b ≡ true) × (t ≤ n)
+    by_test true e = (refl, grind (arith, nat_tests))
+    by_test false e = absurd (cc)
+
+some-of : (c : Plain) (position : Position) (a f : ℕ) → c.status.state ≡ Running → c.setup.params.stop_threshold ≤ a → a ≡ avail_of (seen_at c position) → f ≡ position.frame
+    → over_of (seen_at c position) position ≡ Some (a, f)
+some-of c position a f running low is_avail is_frame =
+    let reached : (is_running c.status.state && nat_le c.setup.params.stop_threshold (avail_of (seen_at c position))) ≡ true =
+    ap (λ (s : State). is_running s && nat_le c.setup.params.stop_threshold (avail_of (seen_at c position))) running ∙ at_threshold c.setup.params.stop_threshold a (avail_of (seen_at c position)) low is_avail in
+    ap (λ (b : Bool). let o : Option (ℕ × ℕ) = (if b then Some (avail_of (seen_at c position), position.frame) else None) in o) reached
+    ∙ ap (λ (n : ℕ). let o : Option (ℕ × ℕ) = Some (n, position.frame) in o) (sym is_avail)
+    ∙ ap (λ (n : ℕ). let o : Option (ℕ × ℕ) = Some (a, n) in o) (sym is_frame)
+  where
+    at_threshold : (t a n : ℕ) → t ≤ a → a ≡ n → nat_le t n ≡ true
+    at_threshold t a n low is = grind (arith, nat_tests)
+
+-- what the threshold reached says
+reaches-of : (c : Plain) (position : Position) (a f : ℕ) → position.gone ≡ false → over_of (seen_at c position) position ≡ Some (a, f) → Reaches c (Some position) a f
+reaches-of c position a f here is =
+    let found = if-some (is_running c.status.state && nat_le c.setup.params.stop_threshold (avail_of (seen_at c position))) (avail_of (seen_at c position)) position.frame a f is in
+    let both = both-true c.status.state c.setup.params.stop_threshold (avail_of (seen_at c position)) found.0 in
+    (here, running-is c.status.state both.0, omega (arith, both.1, found.1), found.1, found.2)
+
+free-at : (c : Plain) (position : Position) → position.gone ≡ false → (c.status.state ≡ Running → over_of (seen_at c position) position ≡ None) → IsFree c (Some position)
+free-at c position here none = record {
+  loaded = tt;
+  here = λ gone. let is : position.gone ≡ true = gone in cc;
+  below = λ a f h. let is = some-of c position a f h.1 h.2 h.3 h.4 in let no = none h.1 in cc;
+}
+
+free-waiting : (c : Plain) (position : Position) → position.gone ≡ false → c.status.state ≡ Prepared → IsFree c (Some position)
+free-waiting c position here waits = free-at c position here (λ runs. absurd (cc))
+
+module _ {S : Type 0} (view : S → PortView) (shows : S → ℕ → ℕ → Option ℕ) (q : S) where
+  pub IsCaused-plain : (c : Plain) (call : Call) (load : Option Position) (x : Commit) → IsStep c.status.state call → IfSome load (λ position. IsPlain position.gone (over_of (seen_at c position) position) x.ended)
+      → IfSome load (λ position. OnLate x.ended (λ word. IsPast view shows q (end_of_commit c x) (end_channel c x) word))
+      → IsCaused {X = Unit {0}} view shows q c (synced c call load x).0 load (synced c call load x).1
+  IsCaused-plain c call None x step plain shown = caused-none view shows q c (record c { status = record c.status { stopped = true } })
+  IsCaused-plain c call (Some position) x step plain shown =
+      let done : Plain = committed_by (seen_at c position) x in
+      by-test (λ (a : Answered (Unit {0})). IsCaused {X = Unit {0}} view shows q c a.0 (Some position) a.1) (is_stop x.ended) _ _
+      (λ stop. caused-other view shows q c _ (Some position) (Err Stopped) (record {
+        loaded = tt;
+        here = λ gone. let no : is_stop ended.Whole ≡ true = subst (λ (e : Ended). is_stop e ≡ true) (plain.here gone) stop in cc;
+        below = λ a f h. let no : is_stop ended.Whole ≡ true = subst (λ (e : Ended). is_stop e ≡ true) (plain.below a f (some-of c position a f h.1 h.2 h.3 h.4)) stop in cc;
+      }) other-stopped)
+      (λ going. next-ends (λ (o : Outcome). IsCaused {X = Unit {0}} view shows q c (settled done o).0 (Some position) o.answer) c.status.state call (queued_of done) position.gone (over_of (seen_at c position) position) (late_of (seen_at c position) x) step
+      (λ gone. caused-gone view shows q c _ position gone)
+      (λ a f here runs is. caused-over view shows q c _ position a f (reaches-of c position a f here is))
+      (λ w here none is. caused-late view shows q c c _ (Some position) x w (free-at c position here none) (record { card = refl; bindings = refl; committed = refl; part = refl }) is shown)
+      (λ here runs none in_time. caused-other view shows q c _ (Some position) _ (free-at c position here (λ same. none)) (other-ok tt))
+      (λ here drains in_time. caused-other view shows q c _ (Some position) _ (free-at c position here (λ runs. absurd (cc))) (other-ok tt))
+      (λ here drains in_time same. caused-other view shows q c _ (Some position) _ (free-at c position here (λ runs. absurd (cc))) (other-ok tt))
+      (λ here drains in_time same. caused-other view shows q c _ (Some position) _ (free-at c position here (λ runs. absurd (cc))) other-again))
+
+  pub IsCaused-synced : (c : Plain) (call : Call) (load : Option Position) (x : Commit) → IsStep c.status.state call → IsFound load x (λ position. c) (sync_count c) (length c.setup.bindings)
+      → IfSome load (λ position. OnLate x.ended (λ word. IsPast view shows q (end_of_commit c x) (end_channel c x) word))
+      → IsCaused {X = Unit {0}} view shows q c (synced c call load x).0 load (synced c call load x).1
+  IsCaused-synced c call load x step found shown = IsCaused-plain c call load x step (plain-found load found.commit_is) shown
+    where
+      plain-found : (at : Option Position) → IfSome at (λ (position : Position). IsCommit x.ended x.frames x.part (sync_count c position) (length c.setup.bindings))
+          → IfSome at (λ position. IsPlain position.gone (over_of (seen_at c position) position) x.ended)
+      plain-found None commit_is = tt
+      plain-found (Some position) commit_is = IsPlain-synced c position x commit_is
+
+  -- ---- a start
+
+  pub IsCaused-started : (c : Plain) (state : State) (cursor : Cursor) (load : Option Position) (x : Commit) → c.status.state ≡ Prepared
+      → IfSome load (λ (position : Position). OnLate x.ended (λ word. IsPast view shows q (end_of_commit (started_in c Running position cursor) x) (end_channel (started_in c Running position cursor) x) word))
+      → IsCaused {X = Unit {0}} view shows q c (started c state cursor load x).0 load (started c state cursor load x).1
+  IsCaused-started c state cursor None x waits shown = caused-none view shows q c (record c { status = record c.status { stopped = true } })
+  IsCaused-started c state cursor (Some position) x waits shown =
+      started-ends (λ (a : Answered (Unit {0})). IsCaused {X = Unit {0}} view shows q c a.0 (Some position) a.1) c state cursor position x
+      (λ gone. caused-gone view shows q c _ position gone)
+      (λ here stop. caused-other view shows q c _ (Some position) (Err Stopped) (free-waiting c position here waits) other-stopped)
+      (λ w here going is. caused-late view shows q c (started_in c Running position cursor) _ (Some position) x w (free-waiting c position here waits) (record { card = refl; bindings = refl; committed = refl; part = refl }) is shown)
+      (λ here going in_time. caused-other view shows q c _ (Some position) _ (free-waiting c position here waits) (other-ok tt))
+
+  -- ---- a write behind its sync
+
+  pub caused-on : (load : Option Position) (c : Plain) (a : Answered (Unit {0})) (n : ℕ) (last : Commit) → IsCaused {X = Unit {0}} view shows q c a.0 load a.1
+      → OnLate last.ended (λ word. IsPast view shows q (end_of_commit a.0 last) (end_channel a.0 last) word)
+      → IsCaused {X = ℕ} view shows q c (written_on a n last).0 load (written_on a n last).1
+  caused-on load c (u, Ok done) n last first shown =
+      let free = free-by view shows q c u load first in
+      written-ends (λ (a : Answered ℕ). IsCaused {X = ℕ} view shows q c a.0 load a.1) u n last
+      (λ some none. caused-other view shows q c u load (Err Again) free other-again)
+      (λ full stop. caused-other view shows q c _ load (Err Stopped) free other-stopped)
+      (λ w full going is. caused-late view shows q c u _ load last w free (record { card = refl; bindings = refl; committed = refl; part = refl }) is shown)
+      (λ full going in_time. caused-other view shows q c _ load _ free (other-ok (taken_of u n)))
+  caused-on load c (u, Err e) n last first shown = caused-error view shows q load c u e first
+
+-- what was found of a sync that went well holds at later states of the port too
+pub caused-moved : {S : Type 0} (view : S → PortView) (shows : S → ℕ → ℕ → Option ℕ) (q r : S) (load : Option Position) (c : Plain) (a : Answered (Unit {0}))
+    → IsCaused {X = Unit {0}} view shows q c a.0 load a.1 → ((e : PcmError) → a.1 ≡ Err e → r ≡ q) → IsCaused {X = Unit {0}} view shows r c a.0 load a.1
+caused-moved view shows q r load c (d, Err e) first same = subst (λ s. IsCaused {X = Unit {0}} view shows s c d load (Err e)) (sym (same e refl)) first
+caused-moved view shows q r load c (d, Ok done) first same = record {
+  unless_stopped = first.unless_stopped;
+  of_steps = first.of_steps;
+  no_device = first.no_device;
+  reached = first.reached;
+  late = λ frame channel word h. cc;
+  never_lap_end = first.never_lap_end;
+}
+
+-- ---- when a write is to be made again
+
+pub synced-not_again : (c : Plain) (load : Option Position) (x : Commit) → c.status.state ≡ Running → (synced c call.Transfer load x).1 ≡ Err Again → ⊥
+synced-not_again c None x running = λ is. cc
+synced-not_again c (Some position) x running =
+    by-test (λ (a : Answered (Unit {0})). a.1 ≡ Err Again → ⊥) (is_stop x.ended) _ _ (λ stop is. cc)
+    (λ going. next-ends (λ (o : Outcome). o.answer ≡ Err Again → ⊥) c.status.state call.Transfer (queued_of (committed_by (seen_at c position) x)) position.gone (over_of (seen_at c position) position) (late_of (seen_at c position) x)
+    (subst (λ (s : State). IsStep s call.Transfer) (sym running) tt) (λ gone is. cc) (λ a f here runs over is. cc) (λ w here none late is. cc) (λ here runs none in_time is. cc) (λ here drains in_time is. cc) (λ here drains in_time same is. cc) (λ here drains in_time same. absurd (cc)))
+
+-- a write says so exactly where its sync went well, frames were offered and none can be taken
+pub written_on-again : (a : Answered (Unit {0})) (n : ℕ) (last : Commit) → (a.1 ≡ Err Again → ⊥) → ((written_on a n last).1 ≡ Err Again) ↔ ((a.1 ≡ Ok tt) × (0 < n) × (avail_of a.0 ≡ 0))
+written_on-again (c, Ok done) n last other =
+    written-ends (λ (a : Answered ℕ). (a.1 ≡ Err Again) ↔ (((let r : Result (Unit {0}) PcmError = Ok done in r) ≡ Ok tt) × (0 < n) × (avail_of c ≡ 0))) c n last
+    (λ some none. (λ h. (refl, some, none), λ h. refl)) (λ full stop. (λ h. cc, λ h. absurd (full h.1 h.2)))
+    (λ w full going late. (λ h. cc, λ h. absurd (full h.1 h.2))) (λ full going in_time. (λ h. cc, λ h. absurd (full h.1 h.2)))
+written_on-again (c, Err e) n last other = (λ h. absurd (other (same-error e h)), λ h. let x = h.0 in cc)
+  where
+    error-of : (e : PcmError) → (let r : Result ℕ PcmError = Err e in r) ≡ Err Again → e ≡ Again
+    error-of e h = cc
+
+    same-error : (e : PcmError) → (let r : Result ℕ PcmError = Err e in r) ≡ Err Again → (let r : Result (Unit {0}) PcmError = Err e in r) ≡ Err Again
+    same-error e h = ap (λ (x : PcmError). let r : Result (Unit {0}) PcmError = Err x in r) (error-of e h)
+
+-- the calls of a stream that moves frames
+pub step-sync : (s : State) → is_moving s ≡ true → IsStep s call.Sync
+step-sync Running is = tt
+step-sync Draining is = tt
+step-sync s is = absurd (cc)

@@ -1,62 +1,44 @@
--- What an answer tells: that the client goes on, or that the gate stopped it.
-use Rattle.std.proofs.Common.{◌≡◌, ℕ, ◌+◌, [], ◌∷◌, ap, refl, subst, sym, arith}
-use Rattle.std.specs.Prelude.{Bool, true, false, nat_eq, if◌then◌else◌, length, IfSome, Option, Some, None, OnOk, Result, Ok, Err}
+-- What an answer says: that the client goes on, that the gate stopped it, or that a drain is to be made again.
+use Rattle.std.proofs.Common.{◌≡◌, ℕ, ◌+◌, ap, refl, subst, sym, arith, ◌⊎◌, inl, inr}
+use Rattle.std.specs.Prelude.{Bool, true, false, if◌then◌else◌, length, IfSome, Option, Some, None, OnOk, Result, Ok, Err, ◌↔◌}
 use Rattle.snd_base.specs.declared.errors.PcmError.{PcmError}
-use Rattle.snd_base.specs.declared.errors.PcmError.TheVariants as error
 use Rattle.snd_base.specs.declared.errors.XrunWhy.{XrunWhy}
 use Rattle.snd_base.specs.declared.places.Cursor.{Cursor}
-use Rattle.snd_base.specs.declared.errors.XrunWhy.TheVariants as why
 use Rattle.mix_core.specs.declared.gate.Pass.TheVariants.{Go}
 use Rattle.mix_core.specs.declared.port.Position.{Position}
 use Rattle.pcm_states.specs.declared.states.State.{State}
-use Rattle.pcm_states.specs.declared.states.State.TheVariants.{Setup, Prepared, Running, Draining}
+use Rattle.pcm_states.specs.declared.states.State.TheVariants.{Setup, Running, Draining}
 use Rattle.pcm_states.specs.declared.calls.Call.{Call}
-use Rattle.pcm_states.specs.declared.calls.Call.TheVariants as call
 use Rattle.pcm_states.specs.declared.calls.Outcome.{Outcome}
-use Rattle.pcm_states.specs.Table.{draining, first_of, moving, next_of, outcome_of, still_draining}
+use Rattle.pcm_states.specs.Table.{next_of}
 use Rattle.dmix_client.specs.declared.commit.Commit.{Commit}
 use Rattle.mix_core.specs.declared.port.Ended.{Ended}
-use Rattle.mix_core.specs.declared.port.Ended.TheVariants as ended
 use Rattle.dmix_client.specs.declared.plain.Plain.{Plain}
 use Rattle.pcm_stream.specs.Status.{is_moving, is_refusal, nothing_found, refusal_in, refusal_of, refused_by}
 use Rattle.course.specs.Stops.{CountsStop, pass_by, pass_in}
 use Rattle.pcm_stream.specs.declared.direction.Direction.TheVariants.{Playback}
-use Rattle.dmix_client.specs.Calls.{Answered, accepted_if, commit_count, start_count, committed_by, facts_of, found_at, going_on, is_stop, late_of, over_of, seen_at, settled, started, started_in, stopped_in, synced, with_number}
+use Rattle.dmix_client.specs.Calls.{Answered, accepted_if, commit_count, start_count, committed_by, is_stop, late_of, over_of, seen_at, started, started_in, synced, with_number, settled, stopped_in}
 use Rattle.dmix_client.specs.Port.{CountsEnd, CountsFound, IsCommit, IsFound, IsStep}
 use Rattle.dmix_client.specs.View.{IsGoing, queued_of}
+use Rattle.snd_base.specs.declared.errors.PcmError.TheVariants.{Again, Stopped}
+use Rattle.snd_base.specs.declared.errors.PcmError.TheVariants as error
+use Rattle.snd_base.specs.declared.errors.XrunWhy.TheVariants as why
+use Rattle.pcm_states.specs.declared.calls.Call.TheVariants as call
+use Rattle.mix_core.specs.declared.port.Ended.TheVariants as ended
+use Rattle.dmix_client.proofs.Ends.{by-test, next-ends, started-ends}
 
 -- an outcome that isn't a stop: it goes well only in a state that moves, or at the end
 pub record IsFair (o : Outcome) (before after : ℕ) : Type 0 where
   pub goes : OnOk o.answer ((o.state ≡ Setup → ⊥) → is_moving o.state ≡ true)
   pub told : CountsStop o.answer before after
 
-moving-fair : (call : Call) (queued : ℕ) (gone : Bool) (over : Option (ℕ × ℕ)) (late : Option XrunWhy) (before after : ℕ) → after ≡ before
-    → IsFair (outcome_of moving Running call (record { capture = false; queued = queued; starts = true; gone = gone; over = over; late = late })) before after
-moving-fair call queued true over late before after same = record { goes = tt; told = same }
-moving-fair call queued false (Some over) late before after same = record { goes = tt; told = same }
-moving-fair call queued false None (Some late) before after same = record { goes = tt; told = same }
-moving-fair call queued false None None before after same = record { goes = λ other. refl; told = same }
-
-played-fair : (call : Call) (played : Bool) (before after : ℕ) → IsStep Draining call → after ≡ before
-    → IsFair (first_of ((if played then Some (record { state = Setup; answer = Ok tt }) else None) ∷ []) (still_draining call)) before after
-played-fair call true before after step same = record { goes = λ other. absurd (other refl); told = same }
-played-fair call.Sync false before after step same = record { goes = λ other. refl; told = same }
-played-fair call.Drain false before after step same = record { goes = tt; told = same }
-played-fair call false before after step same = absurd step
-
-draining-fair : (call : Call) (queued : ℕ) (gone : Bool) (over : Option (ℕ × ℕ)) (late : Option XrunWhy) (before after : ℕ) → IsStep Draining call → after ≡ before
-    → IsFair (outcome_of draining Draining call (record { capture = false; queued = queued; starts = true; gone = gone; over = over; late = late })) before after
-draining-fair call queued true over late before after step same = record { goes = tt; told = same }
-draining-fair call queued false over (Some late) before after step same = record { goes = tt; told = same }
-draining-fair call queued false over None before after step same = played-fair call (nat_eq queued 0) before after step same
-
 next-fair : (state : State) (call : Call) (queued : ℕ) (gone : Bool) (over : Option (ℕ × ℕ)) (late : Option XrunWhy) (before after : ℕ) → IsStep state call → after ≡ before
     → IsFair (next_of state call (record { capture = false; queued = queued; starts = true; gone = gone; over = over; late = late })) before after
-next-fair Running call.Sync queued gone over late before after step same = moving-fair call.Sync queued gone over late before after same
-next-fair Running call.Transfer queued gone over late before after step same = moving-fair call.Transfer queued gone over late before after same
-next-fair Draining call.Sync queued gone over late before after step same = draining-fair call.Sync queued gone over late before after step same
-next-fair Draining call.Drain queued gone over late before after step same = draining-fair call.Drain queued gone over late before after step same
-next-fair state call queued gone over late before after step same = absurd step
+next-fair state call queued gone over late before after step same =
+    next-ends (λ (o : Outcome). IsFair o before after) state call queued gone over late step
+    (λ is. record { goes = tt; told = same }) (λ a f here runs is. record { goes = tt; told = same }) (λ w here none is. record { goes = tt; told = same })
+    (λ here runs none in_time. record { goes = λ other. refl; told = same }) (λ here drains in_time. record { goes = λ other. absurd (other refl); told = same })
+    (λ here drains in_time is. record { goes = λ other. refl; told = same }) (λ here drains in_time is. record { goes = tt; told = same })
 
 -- the gate stopped exactly where the commit ended so
 pub told-stop : (e : Ended) (before after : ℕ) → is_stop e ≡ true → CountsEnd e before after → after ≡ before + 1
@@ -79,48 +61,28 @@ settled-told : (d : Plain) (state : State) (answer : Result (Unit {0}) PcmError)
 settled-told d state (Ok done) before after going goes told = record { goes = record { unstopped = going; moves = goes }; told = told }
 settled-told d state (Err e) before after going goes told = record { goes = tt; told = told }
 
-synced-told_by : (c : Plain) (call : Call) (position : Position) (commit : Commit) (stop : Bool) (before after : ℕ) → is_stop commit.ended ≡ stop → c.status.stopped ≡ false → IsStep c.status.state call → CountsEnd commit.ended before after
-    → IsToldOf (if stop then stopped_in (committed_by (seen_at c position) commit)
-    else settled (committed_by (seen_at c position) commit) (next_of c.status.state call (facts_of (committed_by (seen_at c position) commit) position (over_of (seen_at c position) position) (late_of (seen_at c position) commit)))) before after
-synced-told_by c call position commit true before after is going step told = record { goes = tt; told = told-stop commit.ended before after is told }
-synced-told_by c call position commit false before after is going step told =
-    let fair = next-fair c.status.state call (queued_of (committed_by (seen_at c position) commit)) position.gone (over_of (seen_at c position) position) (late_of (seen_at c position) commit) before after step (told-going commit.ended before after is told) in
-    settled-told (committed_by (seen_at c position) commit) _ _ before after going fair.goes fair.told
-
 pub synced-told : (c : Plain) (call : Call) (load : Option Position) (commit : Commit) (before after : ℕ) → c.status.stopped ≡ false → IsStep c.status.state call → CountsFound load commit.ended before after
     → IsToldOf (synced c call load commit) before after
 synced-told c call None commit before after going step told = record { goes = tt; told = told }
-synced-told c call (Some position) commit before after going step told = synced-told_by c call position commit (is_stop commit.ended) before after refl going step told
+synced-told c call (Some position) commit before after going step told =
+    let done : Plain = committed_by (seen_at c position) commit in
+    by-test (λ (a : Answered (Unit {0})). IsToldOf a before after) (is_stop commit.ended) _ _ (λ stop. record { goes = tt; told = told-stop commit.ended before after stop told })
+    (λ goes.
+    let fair = next-fair c.status.state call (queued_of done) position.gone (over_of (seen_at c position) position) (late_of (seen_at c position) commit) before after step (told-going commit.ended before after goes told) in
+    settled-told done _ _ before after going fair.goes fair.told)
 
 -- a start that went well is in the state that it leads to
 pub record IsBegunOf (c : Plain) (state : State) (a : Answered (Unit {0})) (before after : ℕ) : Type 0 where
   pub goes : OnOk a.1 (a.0.status.state ≡ state × a.0.status.stopped ≡ c.status.stopped)
   pub told : CountsStop a.1 before after
 
-begun-late : (c d : Plain) (state : State) (gone : Bool) (late : Option XrunWhy) (before after : ℕ) → d.status.stopped ≡ c.status.stopped → after ≡ before
-    → IsBegunOf c state (going_on d state (next_of Prepared call.Start (record { capture = false; queued = 1; starts = true; gone = gone; over = None; late = late }))) before after
-begun-late c d state true late before after kept same = record { goes = tt; told = same }
-begun-late c d state false (Some why) before after kept same = record { goes = tt; told = same }
-begun-late c d state false None before after kept same = record { goes = (refl, kept); told = same }
-
-begun-by_stop : (c : Plain) (state : State) (cursor : Cursor) (position : Position) (commit : Commit) (stop : Bool) (before after : ℕ) → is_stop commit.ended ≡ stop → CountsEnd commit.ended before after
-    → IsBegunOf c state (if stop then stopped_in (committed_by (started_in c state position cursor) commit)
-    else going_on (committed_by (started_in c state position cursor) commit) state (next_of Prepared call.Start (found_at position (late_of (started_in c state position cursor) commit)))) before after
-begun-by_stop c state cursor position commit true before after is told = record { goes = tt; told = told-stop commit.ended before after is told }
-begun-by_stop c state cursor position commit false before after is told =
-    begun-late c (committed_by (started_in c state position cursor) commit) state position.gone (late_of (started_in c state position cursor) commit) before after refl (told-going commit.ended before after is told)
-
-begun-by_gone : (c : Plain) (state : State) (cursor : Cursor) (position : Position) (commit : Commit) (gone : Bool) (before after : ℕ) → CountsEnd commit.ended before after → (gone ≡ true → after ≡ before)
-    → IsBegunOf c state (if gone then going_on (seen_at c position) state (next_of Prepared call.Start (found_at position None))
-    else (if is_stop commit.ended then stopped_in (committed_by (started_in c state position cursor) commit)
-    else going_on (committed_by (started_in c state position cursor) commit) state (next_of Prepared call.Start (found_at position (late_of (started_in c state position cursor) commit))))) before after
-begun-by_gone c state cursor position commit true before after told whole = begun-late c (seen_at c position) state position.gone None before after refl (whole refl)
-begun-by_gone c state cursor position commit false before after told whole = begun-by_stop c state cursor position commit (is_stop commit.ended) before after refl told
-
 pub started-told : (c : Plain) (state : State) (cursor : Cursor) (load : Option Position) (commit : Commit) (before after : ℕ) → CountsFound load commit.ended before after
     → IfSome load (λ (position : Position). position.gone ≡ true → after ≡ before) → IsBegunOf c state (started c state cursor load commit) before after
 started-told c state cursor None commit before after told whole = record { goes = tt; told = told }
-started-told c state cursor (Some position) commit before after told whole = begun-by_gone c state cursor position commit position.gone before after told whole
+started-told c state cursor (Some position) commit before after told whole =
+    started-ends (λ (a : Answered (Unit {0})). IsBegunOf c state a before after) c state cursor position commit (λ gone. record { goes = tt; told = whole gone })
+    (λ here stop. record { goes = tt; told = told-stop commit.ended before after stop told }) (λ w here going late. record { goes = tt; told = told-going commit.ended before after going told })
+    (λ here going in_time. record { goes = (refl, refl); told = told-going commit.ended before after going told })
 
 -- a commit that had nothing to lay wasn't stopped
 whole-none : (e : Ended) (frames part channels before after : ℕ) → IsCommit e frames part 0 channels → CountsEnd e before after → after ≡ before
@@ -176,25 +138,50 @@ pub refused-go : (c : Plain) (call : Call) → c.status.stopped ≡ false → pa
 refused-go c call unstopped = go-by c.status.stopped (next_of c.status.state call (nothing_found Playback)).answer unstopped
 
 -- a stream that runs still runs after a sync for a write that went well
-moving-runs : (queued : ℕ) (gone : Bool) (over : Option (ℕ × ℕ)) (late : Option XrunWhy)
-    → (let o : Outcome = next_of Running call.Transfer (record { capture = false; queued = queued; starts = true; gone = gone; over = over; late = late }) in OnOk o.answer (o.state ≡ Running))
-moving-runs queued true over late = tt
-moving-runs queued false (Some over) late = tt
-moving-runs queued false None (Some late) = tt
-moving-runs queued false None None = refl
-
 pub synced-runs : (c : Plain) (load : Option Position) (x : Commit) → c.status.state ≡ Running → OnOk (synced c call.Transfer load x).1 ((synced c call.Transfer load x).0.status.state ≡ Running)
 synced-runs c None x runs = tt
-synced-runs c (Some position) x runs = by_stop (is_stop x.ended)
-  where
-    done : Plain
-    done = committed_by (seen_at c position) x
-
-    by_stop : (stop : Bool) → (let a : Answered (Unit {0}) = (if stop then stopped_in done else settled done (next_of c.status.state call.Transfer (facts_of done position (over_of (seen_at c position) position) (late_of (seen_at c position) x)))) in OnOk a.1 (a.0.status.state ≡ Running))
-    by_stop true = tt
-    by_stop false = subst (λ (s : State). let o : Outcome = next_of s call.Transfer (facts_of done position (over_of (seen_at c position) position) (late_of (seen_at c position) x)) in OnOk o.answer (o.state ≡ Running)) (sym runs)
-        (moving-runs (queued_of done) position.gone (over_of (seen_at c position) position) (late_of (seen_at c position) x))
+synced-runs c (Some position) x runs =
+    by-test (λ (a : Answered (Unit {0})). OnOk a.1 (a.0.status.state ≡ Running)) (is_stop x.ended) _ _ (λ stop. tt)
+    (λ going. next-ends (λ (o : Outcome). OnOk o.answer (o.state ≡ Running)) c.status.state call.Transfer (queued_of (committed_by (seen_at c position) x)) position.gone (over_of (seen_at c position) position) (late_of (seen_at c position) x)
+    (subst (λ (s : State). IsStep s call.Transfer) (sym runs) tt) (λ gone. tt) (λ a f here same is. tt) (λ w here none is. tt) (λ here same none in_time. refl) (λ here drains in_time. absurd (cc)) (λ here drains in_time same. absurd (cc)) (λ here drains in_time same. tt))
 
 pub OnOk-of : (r : Result (Unit {0}) PcmError) (Y : Type 0) → r ≡ Ok tt → OnOk r Y → Y
 OnOk-of (Ok done) Y is y = y
 OnOk-of (Err e) Y is y = absurd (cc)
+
+-- ---- when a drain is to be made again
+
+-- an answer is to be made again exactly where the stream still drains
+abbrev pub IsStill : Answered (Unit {0}) → Type 0
+IsStill a = (a.1 ≡ Err Again) ↔ ((a.0.status.state ≡ Draining) × (a.0.status.stopped ≡ false))
+
+stopped-still : (c : Plain) → IsStill (stopped_in c)
+stopped-still c = (λ h. cc, λ h. let x = h.1 in cc)
+
+-- the sync of a stream that drains
+pub synced-still : (c : Plain) (load : Option Position) (x : Commit) → c.status.state ≡ Draining → c.status.stopped ≡ false → IsStill (synced c call.Drain load x)
+synced-still c None x drains going = stopped-still c
+synced-still c (Some position) x drains going =
+    let done : Plain = committed_by (seen_at c position) x in
+    by-test IsStill (is_stop x.ended) _ _ (λ stop. stopped-still done)
+    (λ goes. next-ends (λ (o : Outcome). IsStill (settled done o)) c.status.state call.Drain (queued_of done) position.gone (over_of (seen_at c position) position) (late_of (seen_at c position) x)
+    (subst (λ (s : State). IsStep s call.Drain) (sym drains) tt) (λ gone. (λ h. cc, λ h. let y = h.0 in cc)) (λ a f here runs is. absurd (cc)) (λ w here none is. (λ h. cc, λ h. let y = h.0 in cc))
+    (λ here runs none in_time. absurd (cc)) (λ here same in_time. (λ h. cc, λ h. let y = h.0 in cc)) (λ here same in_time is. absurd (cc)) (λ here same in_time is. (λ h. (refl, going), λ h. refl)))
+
+-- a start that leads to draining: it goes well, or it is refused and doesn't drain
+abbrev pub StillBegun : Plain → Answered (Unit {0}) → Type 0
+StillBegun c a = ((a.1 ≡ Ok tt) × (a.0.status.state ≡ Draining) × (a.0.status.stopped ≡ c.status.stopped)) ⊎ (IsStill a × ((e : PcmError) × (a.1 ≡ Err e)))
+
+pub started-begun : (c : Plain) (cursor : Cursor) (load : Option Position) (x : Commit) → StillBegun c (started c Draining cursor load x)
+started-begun c cursor None x = inr (stopped-still c, (Stopped, refl))
+started-begun c cursor (Some position) x =
+    started-ends (StillBegun c) c Draining cursor position x (λ gone. inr ((λ h. cc, λ h. let y = h.0 in cc), (_, refl))) (λ here stop. inr (stopped-still (committed_by (started_in c Draining position cursor) x), (Stopped, refl)))
+    (λ w here going late. inr ((λ h. cc, λ h. let y = h.0 in cc), (_, refl))) (λ here going in_time. inl (refl, refl, refl))
+
+-- a client whose call is admitted isn't stopped
+unstopped-by : (stopped : Bool) (o : Option PcmError) → (if stopped then Some Stopped else o) ≡ None → stopped ≡ false
+unstopped-by true o is = absurd (cc)
+unstopped-by false o is = refl
+
+pub refusal_of-unstopped : (c : Plain) → refusal_of Playback c.status call.Drain ≡ None → c.status.stopped ≡ false
+refusal_of-unstopped c admitted = unstopped-by c.status.stopped (refusal_in (next_of c.status.state call.Drain (nothing_found Playback)).answer) admitted

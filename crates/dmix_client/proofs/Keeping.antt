@@ -1,17 +1,15 @@
 -- What the parts of calls keep, by the courses that they took, and why they answered so.
-use Rattle.std.proofs.Common.{◌≡◌, ℕ, ◌+◌, ◌-◌, ◌*◌, ◌≤◌, ◌<◌, List, ◌∙◌, ap, sym, refl, subst, arith, length, add-zero, inl, inr}
+use Rattle.std.proofs.Common.{◌≡◌, ℕ, ◌+◌, ◌-◌, ◌*◌, ◌≤◌, ◌<◌, List, ◌∙◌, ap, sym, refl, subst, arith, length, add-zero, inl, inr, []}
 use Rattle.std.proofs.Math.Nat.{mul-le-mul_right}
 use Rattle.std.proofs.lemmas.Bool.Decides.{nat_tests}
-use Rattle.std.specs.Prelude.{Bool, true, false, ◌↔◌, max, min, if◌then◌else◌, ℤ, Option, Some, None, IfOk, IfSome, OnOk, Result, Ok, Err, unwrap_or}
+use Rattle.std.specs.Prelude.{Bool, true, false, ◌↔◌, max, min, if◌then◌else◌, ℤ, Option, Some, None, IfOk, IfSome, OnOk, Result, Ok, Err, unwrap_or, not, ◌&&◌}
+use Rattle.std.proofs.lemmas.List.{append-nil}
 use Rattle.snd_base.specs.declared.errors.PcmError.{PcmError}
-use Rattle.snd_base.specs.declared.errors.PcmError.TheVariants as error
 use Rattle.snd_base.specs.declared.geometry.Geometry.{Geometry}
 use Rattle.snd_base.specs.declared.places.Cursor.{Cursor}
 use Rattle.snd_base.specs.Places.{end_frame, first_free}
 use Rattle.snd_base.specs.Relations.{Composes}
-use Rattle.mix_core.specs.declared.gate.Gate as gates
 use Rattle.mix_core.specs.declared.gate.Pass.TheVariants.{Go}
-use Rattle.mix_core.specs.declared.port.MixPort as mixport
 use Rattle.mix_core.specs.declared.port.Position.{Position}
 use Rattle.mix_core.specs.Gate.{stops_after}
 use Rattle.mix_core.specs.Port.{IsPast, OnLate, PortView}
@@ -20,39 +18,34 @@ use Rattle.course.specs.Course.{ends}
 use Rattle.course.specs.CourseLaws.{Takes-parts}
 use Rattle.bindings.specs.Bound.{AreBindings}
 use Rattle.pcm_states.specs.declared.states.State.{State}
-use Rattle.pcm_states.specs.declared.states.State.TheVariants.{Draining, Prepared, Running, Setup, Xrun}
+use Rattle.pcm_states.specs.declared.states.State.TheVariants.{Draining, Prepared, Running, Setup, Xrun, Paused}
 use Rattle.pcm_states.specs.declared.calls.Call.{Call}
-use Rattle.pcm_states.specs.declared.calls.Call.TheVariants as call
 use Rattle.pcm_states.specs.Table.{next_of}
 use Rattle.dmix_client.specs.declared.commit.Commit.{Commit}
 use Rattle.dmix_client.specs.declared.plain.Plain.{Plain}
 use Rattle.pcm_stream.specs.Status.{is_moving, is_set_up, nothing_found, refusal_in, refusal_of}
 use Rattle.course.specs.Stops.{CountsStop, pass_by}
 use Rattle.pcm_stream.specs.declared.direction.Direction.TheVariants.{Playback}
-use Rattle.dmix_client.specs.Calls.{Answered, accepted, accepted_if, dropped, end_channel, end_of_commit, start_count, started, started_in, sync_count, synced, taken_of, with_number, written_after, written_on}
+use Rattle.dmix_client.specs.Calls.{Answered, accepted, accepted_if, dropped, end_channel, end_of_commit, start_count, started, started_in, sync_count, synced, taken_of, with_number, written_after, written_on, base_of, is_paused, paused, pending_of, rebased, resumed}
 use Rattle.dmix_client.specs.Causes.{Explains, ExplainsWrite, IsCaused}
-use Rattle.dmix_client.specs.Course.{commits, drains, starts, starts_taking, syncs, takes_more, write_on}
-use Rattle.dmix_client.specs.CourseLaws.{TakesAt-frames, TakesAt-step}
-use Rattle.dmix_client.specs.Growth.{AnySamples, Follows, Grows, Keeps, KeepsAccepted, StandsFor, StandsUpTo}
+use Rattle.dmix_client.specs.Course.{commits, drains, starts, starts_taking, syncs, takes_more, write_on, looks, resumes}
+use Rattle.dmix_client.specs.CourseLaws.{TakesAt-frames, TakesAt-step, TakesAt-looks}
+use Rattle.dmix_client.specs.Growth.{AnySamples, Follows, Grows, Keeps, KeepsAccepted, StandsFor, StandsUpTo, segment_entries}
 use Rattle.dmix_client.specs.GrowthLaws.{Grows-joined}
-use Rattle.dmix_client.specs.Port.{CanUse, IsStep, TakesStep, least_channel}
+use Rattle.dmix_client.specs.Port.{CanUse, IsStep, TakesStep, least_channel, entries_at}
 use Rattle.dmix_client.specs.RingLaws.{stored-HasRoom}
 use Rattle.dmix_client.specs.View.{ClientView, avail_of, IsConfigured, IsGoing, IsLaidPast, IsSound, held}
 use Rattle.dmix_client.specs.Writes.{count_with, ring_with, taken_after}
-use Rattle.dmix_client.proofs.Advances.{Follows-synced, accepted-none}
-use Rattle.dmix_client.proofs.CausedBy.{IsCaused-synced, caused-number}
-use Rattle.dmix_client.proofs.CausedStart.{IsCaused-started, caused-accepted}
-use Rattle.dmix_client.proofs.CausedWrite.{synced-not_again, written_on-again}
-use Rattle.dmix_client.proofs.CausedWritten.{caused-moved, caused-on}
-use Rattle.dmix_client.proofs.Drained.{IsStill, StillBegun, started-begun, synced-still}
-use Rattle.dmix_client.proofs.Going.{OnOk-of, accepted_if-told, gone-whole, started-told, synced-runs, synced-told, with_number-told}
-use Rattle.dmix_client.proofs.Grown.{Grows-started, Grows-synced, Grows-taken, IsBegun, IsSynced, IsTaken, StandsFor-started, StandsFor-synced, StandsFor-taken, StandsUpTo-filled, configured-moving, configured-prepared}
-use Rattle.dmix_client.proofs.Growth.{Grows-none}
-use Rattle.dmix_client.proofs.Left.{IsAfter, IsLeft-started, grown-accepted}
-use Rattle.dmix_client.proofs.Sound.{CanUse-synced, IsLaidPast-synced, IsSound-synced, IsSyncing, not_prepared-moving}
-use Rattle.dmix_client.proofs.Started.{KeepsAccepted-started, KeepsAccepted-synced}
-use Rattle.dmix_client.proofs.Starting.{IsStarting}
-use Rattle.dmix_client.proofs.Writes.{IsWriting, IsWritten-after}
+use Rattle.snd_base.specs.declared.errors.PcmError.TheVariants as error
+use Rattle.mix_core.specs.declared.gate.Gate as gates
+use Rattle.mix_core.specs.declared.port.MixPort as mixport
+use Rattle.pcm_states.specs.declared.calls.Call.TheVariants as call
+use Rattle.dmix_client.proofs.Growing.{Follows-synced, Grows-none, Grows-started, Grows-synced, Grows-taken, IsBegun, IsSynced, IsTaken, StandsFor-started, StandsFor-synced, StandsFor-taken, StandsUpTo-filled, accepted-none, configured-moving, configured-prepared}
+use Rattle.dmix_client.proofs.Caused.{IsCaused-started, IsCaused-synced, caused-accepted, caused-moved, caused-number, caused-on, synced-not_again, written_on-again, caused-none}
+use Rattle.dmix_client.proofs.Going.{IsStill, OnOk-of, StillBegun, accepted_if-told, gone-whole, started-begun, started-told, synced-runs, synced-still, synced-told, with_number-told}
+use Rattle.dmix_client.proofs.Sound.{CanUse-still, IsLaidPast-synced, IsLeft-started, IsLeft-synced, IsLoaded, IsSound-status, IsStarting, IsSyncing, IsWriting, IsWritten-after, grown-accepted, not_prepared-moving}
+use Rattle.dmix_client.proofs.Ends.{KeepsAccepted-started, KeepsAccepted-synced, started-ends}
+use Rattle.dmix_client.proofs.Looking.{starts-by}
 
 if-some : (load : Option Position) (X Y : Position → Type 0) → ((p : Position) → X p → Y p) → IfSome load X → IfSome load Y
 if-some None X Y f is = tt
@@ -119,7 +112,7 @@ IsSound-filled c ring m sound waits fits = record {
   fed = omega (arith, sound.fed);
   laid = sound.laid;
   set_up = sound.set_up;
-  configured = λ set. let k = sound.configured set in record { bound = k.bound; on_card = k.on_card; channels = k.channels; buffer_least = k.buffer_least; buffer_most = k.buffer_most; room = k.room };
+  configured = sound.configured;
   prepared = λ is. let p = sound.prepared is in record { waiting = p.waiting; no_frame = p.no_frame; no_part = p.no_part; fits = fits };
   moving = λ moves going. absurd (not_prepared-moving c.status.state moves waits);
   paused = λ is. absurd (cc);
@@ -164,22 +157,34 @@ module _ {S T : Type 0} (P : mixport.Ghosts S) (G : gates.Ghosts T) (laid_compos
       let st = syncs-step s t c ring call a (configured-moving c ring sound moves).bound takes in
       let x = st.looked in
       let same = TakesAt-same P G s t (syncs c call ring) a takes in
-      let loaded : IfSome st.load (λ (p : Position). (unwrap_or c.seen 0 ≤ p.frame) × (p.frame ≤ end_frame c.identity.geometry)) =
-      if-some st.load _ _ (λ p near. (omega (arith, port.newer moves going, near.0), subst (λ (g : Geometry). p.frame ≤ end_frame g) port.same_geometry near.1.most)) x.near in
-      let syncing : IsSyncing c ring call st.load st.commit = record { sound = sound; moves = moves; going = going; step = step; found = x.found; loaded = loaded } in
-      let is : IsSynced c ring st.load st.commit = record { sound = sound; moves = moves; going = going; found = x.found; newer = if-some st.load _ _ (λ p near. near.0) loaded } in
+      let loaded : IfSome st.load (IsLoaded c) =
+      if-some st.load _ _ (λ p near. record { newer = omega (arith, port.newer moves going, near.0); most = subst (λ (g : Geometry). p.frame ≤ end_frame g) port.same_geometry near.1.most }) x.near in
+      let syncing : IsSyncing c ring call st.load st.commit (P.view t.0) = record {
+        sound = sound;
+        moves = moves;
+        going = going;
+        step = step;
+        found = x.found;
+        loaded = loaded;
+        same_geometry = same.same_geometry ∙ port.same_geometry;
+        same_member = same.same_member ∙ port.same_member;
+        able = same.same_can_add ∙ port.can;
+        stayed = if-some st.load _ _ (λ p from. from (port.behind moves going)) x.stayed;
+        saw = if-some st.load _ _ (λ p near. near.2) x.near;
+      } in
+      let left = IsLeft-synced c ring call st.load st.commit (P.view t.0) syncing in
+      let is : IsSynced c ring st.load st.commit = record { sound = sound; moves = moves; going = going; found = x.found; newer = if-some st.load _ _ (λ p near. near.newer) loaded } in
       let told = synced-told c call st.load st.commit (G.stops s.1) (G.stops t.1) going step x.stopped in
       subst (λ (b : Answered (Unit {0})). Synced P G s t c ring b) st.outcome (record {
         keeps = record {
-          sound = IsSound-synced c ring call st.load st.commit syncing;
-          port = CanUse-synced c call st.load st.commit (P.view t.0) step (same.same_geometry ∙ port.same_geometry) (same.same_member ∙ port.same_member) (same.same_can_add ∙ port.can)
-              (if-some st.load _ _ (λ p from. from (port.behind moves going)) x.stayed) (if-some st.load _ _ (λ p near. near.2) x.near);
+          sound = left.sound;
+          port = left.use_it;
           told = λ unstopped. told.told;
           grows = λ samples stands any. Grows-synced P.laid laid_composes s.0 t.0 c ring samples call st.load st.commit is stands x.laid_them;
           stands = λ samples stands any. StandsFor-synced c ring samples call st.load st.commit is stands;
         };
         goes = told.goes;
-        past = IsLaidPast-synced c ring call st.load st.commit syncing;
+        past = IsLaidPast-synced c ring call st.load st.commit (P.view t.0) syncing;
         same = KeepsAccepted-synced c call st.load st.commit;
         follows = λ samples offered n. Follows-synced c call st.load st.commit samples offered n;
       })
@@ -193,22 +198,20 @@ module _ {S T : Type 0} (P : mixport.Ghosts S) (G : gates.Ghosts T) (laid_compos
       let st = starts-step s t c ring state cursor (c.stretch.written + m) a (configured-prepared c ring sound waits).bound takes in
       let x = st.looked in
       let same = TakesAt-same P G s t (starts c state cursor (c.stretch.written + m) ring) a takes in
-      let starting : IsStarting c ring cursor st.load st.commit (c.stretch.written + m) = record {
+      let starting : IsStarting c ring cursor st.load st.commit (c.stretch.written + m) (P.view t.0) = record {
         sound = sound;
         prepared = waits;
         cursor_most = near;
         found = x.found;
         loaded = if-some st.load _ _ (λ p there. subst (λ (g : Geometry). p.frame ≤ end_frame g) port.same_geometry there.1.most) x.near;
         fits = fits;
-      } in
-      let after : IsAfter c cursor st.load st.commit (P.view t.0) = record {
         same_geometry = same.same_geometry ∙ port.same_geometry;
         same_member = same.same_member ∙ port.same_member;
         able = same.same_can_add ∙ port.can;
         stayed = if-some st.load _ _ (λ p from. from (start-free cursor p.frame c.identity.lead c.stretch.committed (least_channel c.setup.bindings) (sound.prepared waits).no_frame)) x.stayed;
         saw = if-some st.load _ _ (λ p there. there.2) x.near;
       } in
-      let left = IsLeft-started c ring state leads cursor st.commit (c.stretch.written + m) (c.fed + m) (omega (arith, sound.fed)) (P.view t.0) st.load starting after in
+      let left = IsLeft-started c ring state cursor st.load st.commit (c.stretch.written + m) (c.fed + m) (P.view t.0) leads (omega (arith, sound.fed)) starting in
       let b = started c state cursor st.load st.commit in
       let grown_is = grown-accepted c m b (KeepsAccepted-started c state cursor st.load st.commit) in
       let told = started-told c state cursor st.load st.commit (G.stops s.1) (G.stops t.1) x.stopped (gone-whole c cursor st.load st.commit (c.stretch.written + m) (G.stops s.1) (G.stops t.1) x.found x.stopped) in
@@ -297,18 +300,20 @@ module _ {S T : Type 0} (P : mixport.Ghosts S) (G : gates.Ghosts T) (laid_compos
         moves = moves;
         going = going;
         commit_is = laid.commit_is;
-        same_geometry = same.same_geometry ∙ port.same_geometry;
-        same_member = same.same_member ∙ port.same_member;
-        able = same.same_can_add ∙ port.can;
-        whole = laid.free (least_channel c.setup.bindings) (port.behind moves going);
-        newer = subst (λ (v : PortView). unwrap_or c.seen 0 ≤ v.seen) (sym laid.view_is) (port.newer moves going);
+        port = record {
+          same_geometry = same.same_geometry ∙ port.same_geometry;
+          same_member = same.same_member ∙ port.same_member;
+          able = same.same_can_add ∙ port.can;
+          whole = laid.free (least_channel c.setup.bindings) (port.behind moves going);
+          newer = subst (λ (v : PortView). unwrap_or c.seen 0 ≤ v.seen) (sym laid.view_is) (port.newer moves going);
+        };
         told = laid.stopped;
       } in
       let written = IsWritten-after c stored n last (P.view parts.0.0) (G.stops s.1) (G.stops parts.0.1) writing in
       subst (λ (u : S × T). Taken s u c ring offered n a) (sym parts.3.there) (subst (λ (b : Answered ℕ). Taken s parts.0 c ring offered n b) (sym parts.3.result) (record {
         keeps = record {
-          sound = written.sound;
-          port = written.use_it;
+          sound = written.left.sound;
+          port = written.left.use_it;
           told = λ unstopped. written.told;
           grows = λ samples stands for. Grows-taken P.laid laid_composes s.0 parts.0.0 c ring samples offered n last is held_all stands for laid.laid_them;
           stands = λ samples stands for. StandsFor-taken c ring samples offered n last is held_all stands for;
@@ -429,13 +434,7 @@ module _ {S T : Type 0} (P : mixport.Ghosts S) (G : gates.Ghosts T) (laid_compos
       → Keeps P G s s (client c ring) (client (accepted c m) stored) (let r : Result ℕ PcmError = Ok m in r) (λ all. Follows c all samples n)
   stored-kept s c ring stored samples n m is is_stored sound sound_stored waits held_all port = record {
     sound = IsSound-filled c stored m sound_stored waits (omega (arith, is, taken-room n c.setup.config.buffer_size c.stretch.written (sound.prepared waits).fits, taken-waiting c n (sound.prepared waits).waiting));
-    port = record {
-      same_geometry = port.same_geometry;
-      same_member = port.same_member;
-      can = port.can;
-      behind = λ moves going. absurd (not_prepared-moving c.status.state moves waits);
-      newer = λ moves going. absurd (not_prepared-moving c.status.state moves waits);
-    };
+    port = CanUse-still (accepted c m) (P.view s.0) port.same_geometry port.same_member port.can (λ moves going. not_prepared-moving c.status.state moves waits);
     told = λ unstopped. refl;
     grows = λ all stands for. Grows-none P.laid laid_composes s.0 s.0 c (accepted c m) all refl refl refl refl;
     stands = λ all stands for. filled-stands c ring stored samples all n m is is_stored sound waits held_all stands for;
@@ -495,26 +494,175 @@ module _ {S T : Type 0} (P : mixport.Ghosts S) (G : gates.Ghosts T) (laid_compos
   pub dropped-kept : (s : S × T) (c : Plain) (ring : List ℤ) → IsSound c ring → refusal_of Playback c.status call.Drain ≡ None → CanUse c (P.view s.0)
       → Keeps P G s s (client c ring) (client (dropped c) ring) (let r : Result (Unit {0}) PcmError = Ok tt in r) AnySamples
   dropped-kept s c ring sound admitted port = record {
-    sound = record {
-      lead = sound.lead;
-      seen = sound.seen;
-      card = sound.card;
-      fed = sound.fed;
-      laid = sound.laid;
-      set_up = λ is. sound.set_up (drain-set_up c.status.stopped c.status.state admitted);
-      configured = λ set. let k = sound.configured set in record { bound = k.bound; on_card = k.on_card; channels = k.channels; buffer_least = k.buffer_least; buffer_most = k.buffer_most; room = k.room };
-      prepared = λ is. absurd (cc);
-      moving = λ moves going. absurd (cc);
-      paused = λ is. absurd (cc);
-    };
-    port = record {
-      same_geometry = port.same_geometry;
-      same_member = port.same_member;
-      can = port.can;
-      behind = λ moves going. absurd (cc);
-      newer = λ moves going. absurd (cc);
-    };
+    sound = IsSound-status c (record c.status { state = Setup }) ring sound (λ is. sound.set_up (drain-set_up c.status.stopped c.status.state admitted)) (λ is. absurd (cc)) (λ moves going. absurd (cc)) (λ is. absurd (cc));
+    port = CanUse-still (dropped c) (P.view s.0) port.same_geometry port.same_member port.can (λ moves going. cc);
     told = λ unstopped. refl;
     grows = λ samples stands any. Grows-none P.laid laid_composes s.0 s.0 c (dropped c) samples refl refl refl refl;
     stands = λ samples stands any. stands;
   }
+
+-- ---- what a pause and a resume keep, and why a resume answered so
+
+-- a pause is admitted of a client that runs, and a resume of one that is paused
+pause-runs : (stopped : Bool) (s : State) → (let o : Option PcmError = (if stopped then Some error.Stopped else refusal_in (next_of s call.Pause (nothing_found Playback)).answer) in o) ≡ None → (s ≡ Running) × (stopped ≡ false)
+pause-runs true s is = absurd (cc)
+pause-runs false Running is = (refl, refl)
+pause-runs false s is = absurd (cc)
+
+pub refusal_of-pause : (c : Plain) → refusal_of Playback c.status call.Pause ≡ None → (c.status.state ≡ Running) × (c.status.stopped ≡ false)
+refusal_of-pause c admitted = pause-runs c.status.stopped c.status.state admitted
+
+resume-paused : (stopped : Bool) (s : State) → (let o : Option PcmError = (if stopped then Some error.Stopped else refusal_in (next_of s call.Resume (nothing_found Playback)).answer) in o) ≡ None → s ≡ Paused
+resume-paused true s is = absurd (cc)
+resume-paused false Paused is = refl
+resume-paused false s is = absurd (cc)
+
+pub refusal_of-resume : (c : Plain) → refusal_of Playback c.status call.Resume ≡ None → c.status.state ≡ Paused
+refusal_of-resume c admitted = resume-paused c.status.stopped c.status.state admitted
+
+-- with which counts a call begins
+still-based : (a b : Bool) (c d : Plain) → b ≡ true → (if a && not b then d else c) ≡ c
+still-based a false c d is = absurd (cc)
+still-based true true c d is = refl
+still-based false true c d is = refl
+
+pub base-paused : (c d : Plain) → d.status.state ≡ Paused → base_of c d ≡ c
+base-paused c d is = still-based (is_paused c.status.state) (is_paused d.status.state) c (rebased c) (ap is_paused is)
+
+same-based : (a : Bool) (c d : Plain) → (if a && not a then d else c) ≡ c
+same-based true c d = refl
+same-based false c d = refl
+
+pub base-same : (c d : Plain) → d.status.state ≡ c.status.state → base_of c d ≡ c
+base-same c d is = subst (λ (s : State). (if is_paused c.status.state && not (is_paused s) then rebased c else c) ≡ c) (sym is) (same-based (is_paused c.status.state) c (rebased c))
+
+anew-based : (a b : Bool) (c d : Plain) → a ≡ true → b ≡ false → (if a && not b then d else c) ≡ d
+anew-based false b c d is_paused is = absurd (cc)
+anew-based true true c d is_paused is = absurd (cc)
+anew-based true false c d is_paused is = refl
+
+pub base-anew : (c d : Plain) → c.status.state ≡ Paused → is_paused d.status.state ≡ false → base_of c d ≡ rebased c
+base-anew c d is goes = anew-based (is_paused c.status.state) (is_paused d.status.state) c (rebased c) (ap is_paused is) goes
+
+-- the counts of a paused client, based anew, are those of a prepared one
+pub IsSound-rebased : (c : Plain) (ring : List ℤ) → IsSound c ring → c.status.state ≡ Paused → IsSound (rebased c) ring
+IsSound-rebased c ring sound is =
+    let m = sound.paused is in
+    record {
+      lead = sound.lead;
+      seen = sound.seen;
+      card = omega arith;
+      fed = omega (arith, sound.fed);
+      laid = omega arith;
+      set_up = λ set. sound.set_up (ap is_set_up is);
+      configured = sound.configured;
+      prepared = λ waits. record { waiting = refl; no_frame = refl; no_part = refl; fits = omega (arith, m.pending) };
+      moving = λ moves going. absurd (cc);
+      paused = λ still. absurd (cc);
+    }
+
+pub CanUse-rebased : (c : Plain) (v : PortView) → CanUse c v → CanUse (rebased c) v
+CanUse-rebased c v port = CanUse-still (rebased c) v port.same_geometry port.same_member port.can (λ moves going. cc)
+
+-- a client that is stopped while it is paused
+IsSound-still : (c : Plain) (ring : List ℤ) → IsSound c ring → c.status.state ≡ Paused → IsSound (record c { status = record c.status { stopped = true } }) ring
+IsSound-still c ring sound is =
+    IsSound-status c (record c.status { stopped = true }) ring sound sound.set_up (λ waits. absurd (cc)) (λ moves going. absurd (cc)) sound.paused
+
+-- a client that is paused
+IsSound-paused : (c : Plain) (ring : List ℤ) → IsSound c ring → c.status.state ≡ Running → c.status.stopped ≡ false → IsSound (paused c) ring
+IsSound-paused c ring sound runs going =
+    IsSound-status c (record c.status { state = Paused }) ring sound (λ set. sound.set_up (ap is_set_up runs)) (λ waits. absurd (cc)) (λ moves still. absurd (cc)) (λ still. sound.moving (ap is_moving runs) going)
+
+-- a start that loaded the position isn't paused
+not_paused-started : (c : Plain) (cursor : Cursor) (position : Position) (commit : Commit) → is_paused (started c Running cursor (Some position) commit).0.status.state ≡ false
+not_paused-started c cursor position commit =
+    started-ends (λ (a : Answered (Unit {0})). is_paused a.0.status.state ≡ false) c Running cursor position commit (λ gone. refl) (λ here stop. refl) (λ w here going late. refl) (λ here going in_time. refl)
+
+module _ {S T : Type 0} (P : mixport.Ghosts S) (G : gates.Ghosts T) (laid_composes : Composes P.laid) (loaded_composes : Composes P.loaded) where
+  -- a pause
+  pub paused-kept : (s : S × T) (c : Plain) (ring : List ℤ) → IsSound c ring → refusal_of Playback c.status call.Pause ≡ None → CanUse c (P.view s.0)
+      → Keeps P G s s (client (base_of c (paused c)) ring) (client (paused c) ring) (let r : Result (Unit {0}) PcmError = Ok tt in r) AnySamples
+  paused-kept s c ring sound admitted port =
+      let is = refusal_of-pause c admitted in
+      subst (λ (b : Plain). Keeps P G s s (client b ring) (client (paused c) ring) (let r : Result (Unit {0}) PcmError = Ok tt in r) AnySamples) (sym (base-paused c (paused c) refl)) (record {
+        sound = IsSound-paused c ring sound is.0 is.1;
+        port = CanUse-still (paused c) (P.view s.0) port.same_geometry port.same_member port.can (λ moves going. cc);
+        told = λ unstopped. refl;
+        grows = λ samples stands any. Grows-none P.laid laid_composes s.0 s.0 c (paused c) samples refl refl refl refl;
+        stands = λ samples stands any. stands;
+      })
+
+  -- a resume without pending frames
+  pub rebased-kept : (s : S × T) (c : Plain) (ring : List ℤ) → IsSound c ring → refusal_of Playback c.status call.Resume ≡ None → CanUse c (P.view s.0)
+      → Keeps P G s s (client (base_of c (rebased c)) ring) (client (rebased c) ring) (let r : Result (Unit {0}) PcmError = Ok tt in r) AnySamples
+  rebased-kept s c ring sound admitted port =
+      let is = refusal_of-resume c admitted in
+      subst (λ (b : Plain). Keeps P G s s (client b ring) (client (rebased c) ring) (let r : Result (Unit {0}) PcmError = Ok tt in r) AnySamples) (sym (base-anew c (rebased c) is refl))
+      (Keeps-none P G laid_composes loaded_composes s (client (rebased c) ring) (Ok tt) AnySamples (IsSound-rebased c ring sound is) (CanUse-rebased c (P.view s.0) port) (λ unstopped. refl))
+
+  -- a call that was refused
+  pub refused-kept : (s : S × T) (c : Plain) (ring : List ℤ) (answer : Result (Unit {0}) PcmError) → Keeps P G s s (client c ring) (client c ring) answer AnySamples
+      → Keeps P G s s (client (base_of c c) ring) (client c ring) answer AnySamples
+  refused-kept s c ring answer keeps =
+      subst (λ (b : Plain). Keeps P G s s (client b ring) (client c ring) answer AnySamples) (sym (base-same c c refl)) keeps
+
+  -- a resume with pending frames
+  resumed-by : (s t : S × T) (c : Plain) (ring : List ℤ) (cursor : Cursor) (load : Option Position) (commit : Commit) → IsSound c ring → c.status.state ≡ Paused → CanUse (paused c) (P.view t.0)
+      → P.laid s.0 t.0 (entries_at load (λ position. started_in (rebased c) Running position cursor) ring commit)
+      → Keeps P G s t (client (rebased c) ring) (client (started (rebased c) Running cursor load commit).0 ring) (started (rebased c) Running cursor load commit).1 AnySamples
+      → Keeps P G s t (client (base_of c (resumed c cursor load commit).0) ring) (client (resumed c cursor load commit).0 ring) (resumed c cursor load commit).1 AnySamples
+  resumed-by s t c ring cursor None commit sound is port laid_nothing keeps =
+      let d : Plain = record c { status = record c.status { stopped = true } } in
+      subst (λ (b : Plain). Keeps P G s t (client b ring) (client d ring) (let r : Result (Unit {0}) PcmError = Err error.Stopped in r) AnySamples) (sym (base-same c d refl)) (record {
+        sound = IsSound-still c ring sound is;
+        port = CanUse-still d (P.view t.0) port.same_geometry port.same_member port.can (λ moves going. cc);
+        told = keeps.told;
+        grows = λ samples stands any. record { entries = []; laid_them = laid_nothing; grown = sym (append-nil (segment_entries c samples)); same_member = refl; same_bindings = refl };
+        stands = λ samples stands any. stands;
+      })
+  resumed-by s t c ring cursor (Some position) commit sound is port laid_nothing keeps =
+      subst (λ (b : Plain). Keeps P G s t (client b ring) (client (started (rebased c) Running cursor (Some position) commit).0 ring) (started (rebased c) Running cursor (Some position) commit).1 AnySamples)
+      (sym (base-anew c (started (rebased c) Running cursor (Some position) commit).0 is (not_paused-started (rebased c) cursor position commit))) keeps
+
+  pub resumes-kept : (s t : S × T) (c : Plain) (ring : List ℤ) (a : Answered (Unit {0})) → IsSound c ring → c.status.state ≡ Paused → (P.view s.0).marks.cursor.frame ≤ end_frame c.identity.geometry → CanUse c (P.view s.0)
+      → TakesAt P G s (resumes c (P.view s.0).marks.cursor ring) t a → Keeps P G s t (client (base_of c a.0) ring) (client a.0 ring) a.1 AnySamples
+  unfolding resumes
+  resumes-kept s t c ring a sound is near port takes =
+      let cursor = (P.view s.0).marks.cursor in
+      let at : Position → Plain = λ position. started_in (rebased c) Running position cursor in
+      let count : Position → ℕ = λ position. start_count (rebased c) cursor position (pending_of c) in
+      let bound = (sound.configured (sound.set_up (ap is_set_up is))).bound in
+      let parts = Takes-parts (LoadsAt P G) (LaysAt P G) NoGet s t (looks at count ring) (λ found. ends (resumed c cursor found.0 found.1)) a takes in
+      let begun : Answered (Unit {0}) = started (rebased c) Running cursor parts.1.0 parts.1.1 in
+      let keeps = start-kept P G laid_composes loaded_composes s parts.0 (rebased c) ring Running begun (IsSound-rebased c ring sound is) refl refl near (CanUse-rebased c (P.view s.0) port)
+      (starts-by P G s parts.0 (rebased c) Running cursor (pending_of c) ring parts.1.0 parts.1.1 begun parts.2 refl) in
+      let looked = TakesAt-looks P G laid_composes loaded_composes at count ring c.setup.bindings s parts.0 parts.1.0 parts.1.1 bound (λ position. refl) parts.2 in
+      let same = TakesAt-same P G s parts.0 (looks at count ring) parts.1 parts.2 in
+      let still : CanUse (paused c) (P.view parts.0.0) = record {
+        same_geometry = same.same_geometry ∙ port.same_geometry;
+        same_member = same.same_member ∙ port.same_member;
+        can = same.same_can_add ∙ port.can;
+        behind = λ moves going. absurd (cc);
+        newer = λ moves going. absurd (cc);
+      } in
+      subst (λ (u : S × T). Keeps P G s u (client (base_of c a.0) ring) (client a.0 ring) a.1 AnySamples) (sym parts.3.there)
+      (subst (λ (b : Answered (Unit {0})). Keeps P G s parts.0 (client (base_of c b.0) ring) (client b.0 ring) b.1 AnySamples) (sym parts.3.result)
+      (resumed-by s parts.0 c ring cursor parts.1.0 parts.1.1 sound is still looked.laid_them keeps))
+
+  why-resumed : (t : S × T) (c : Plain) (cursor : Cursor) (load : Option Position) (commit : Commit)
+      → IfSome load (λ position. OnLate commit.ended (λ word. IsPast P.view P.shows t.0 (end_of_commit (started_in (rebased c) Running position cursor) commit) (end_channel (started_in (rebased c) Running position cursor) commit) word))
+      → IsCaused {X = Unit {0}} P.view P.shows t.0 (rebased c) (resumed c cursor load commit).0 load (resumed c cursor load commit).1
+  why-resumed t c cursor None commit shown = caused-none P.view P.shows t.0 (rebased c) (record c { status = record c.status { stopped = true } })
+  why-resumed t c cursor (Some position) commit shown = IsCaused-started P.view P.shows t.0 (rebased c) Running cursor (Some position) commit refl shown
+
+  pub resumes-explained : (s t : S × T) (c : Plain) (ring : List ℤ) (cursor : Cursor) (a : Answered (Unit {0})) → IsSound c ring → c.status.state ≡ Paused → TakesAt P G s (resumes c cursor ring) t a
+      → Explains P G s t (client (rebased c) ring) (λ position. started_in (rebased c) Running position cursor) (λ position. start_count (rebased c) cursor position (pending_of c)) (resumed c cursor) a
+  unfolding resumes
+  resumes-explained s t c ring cursor a sound is takes =
+      let bound = (sound.configured (sound.set_up (ap is_set_up is))).bound in
+      let st = TakesAt-step P G laid_composes loaded_composes (λ position. started_in (rebased c) Running position cursor) (λ position. start_count (rebased c) cursor position (pending_of c)) ring c.setup.bindings (resumed c cursor) s t a bound (λ position. refl) takes in
+      record {
+        step = st;
+        why = subst (λ (d : Answered (Unit {0})). IsCaused P.view P.shows t.0 (rebased c) d.0 st.load d.1) st.outcome (why-resumed t c cursor st.load st.commit st.looked.shown);
+      }

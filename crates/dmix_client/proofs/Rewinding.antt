@@ -1,44 +1,482 @@
--- What a rewind keeps, and why it answered so, by its load and what followed it.
-use Rattle.std.proofs.Common.{◌≡◌, ◌≤◌, ◌+◌, ◌-◌, ℕ, List, ◌++◌, ◌∙◌, ap, sym, refl, subst, arith, min}
+-- What a rewind keeps, and why it answered so: by its load, by its withdrawals, and by both.
+use Rattle.std.proofs.Common.{◌++◌, ◌≡◌, ◌≤◌, ◌+◌, ℕ, List, [], ◌∙◌, ap, sym, refl, subst, arith, inl, inr, ◌<◌, ◌-◌, length, min, max}
+use Rattle.std.proofs.lemmas.List.{append-nil}
+use Rattle.std.specs.Prelude.{true, false, ℤ, Option, Some, None, IfNone, IfSome, OnOk, Result, Err, unwrap_or, slice_index, Bool, nat_eq, if◌then◌else◌, Ok}
+use Rattle.std.proofs.lemmas.Bool.{cases_eq}
 use Rattle.std.proofs.lemmas.Bool.Decides.{nat_tests}
-use Rattle.std.specs.Prelude.{false, ℤ, Option, Result, Ok, Err}
 use Rattle.snd_base.specs.declared.errors.PcmError.{PcmError}
-use Rattle.snd_base.specs.declared.errors.PcmError.TheVariants as error
-use Rattle.snd_base.specs.declared.places.Cursor.{Cursor}
-use Rattle.mix_core.specs.declared.gate.Gate as gates
+use Rattle.snd_base.specs.declared.geometry.Geometry.{Geometry}
+use Rattle.snd_base.specs.Places.{IsFrom, IsWithin as IsInRing, end_frame, first_free}
+use Rattle.snd_base.specs.Relations.{Composes}
 use Rattle.mix_core.specs.declared.marks.Marks.{Marks}
 use Rattle.mix_core.specs.declared.port.Entry.{Entry}
-use Rattle.mix_core.specs.declared.port.MixPort as mixport
 use Rattle.mix_core.specs.declared.port.Position.{Position}
 use Rattle.mix_core.specs.Gate.{stops_after}
-use Rattle.mix_core.specs.Port.{PortView}
-use Rattle.course.specs.AtPort.{LaysAt, LoadsAt, NoGet, TakesAt}
+use Rattle.mix_core.specs.Port.{PortView, pass_of_load, seen_after, IsPast, OnLate}
+use Rattle.course.specs.AtPort.{LoadsAt, TakesAt, LaysAt, NoGet}
+use Rattle.pcm_states.specs.declared.states.State.TheVariants.{Running, Paused, Prepared, Xrun}
+use Rattle.pcm_states.specs.declared.states.State.{State}
+use Rattle.pcm_states.specs.declared.calls.Outcome.{Outcome}
+use Rattle.dmix_client.specs.declared.plain.Plain.{Plain}
+use Rattle.dmix_client.specs.Calls.{Answered, committed_by, over_of, seen_at, synced, with_number}
+use Rattle.dmix_client.specs.Course.{nothing, numbered}
+use Rattle.dmix_client.specs.Growth.{AnySamples, Keeps, StandsFor, segment_entries, KeepsBack, Loses, TakesAway}
+use Rattle.course.specs.Stops.{CountsStop, pass_by}
+use Rattle.pcm_stream.specs.Status.{is_moving, is_set_up}
+use Rattle.dmix_client.specs.Port.{CanUse, CountsFound, IsStep, least_channel}
+use Rattle.dmix_client.specs.Rewind.{checks, back_of, held_entries, last_channel, last_laid, rewindable_of, rewound, take_frames, taken_back, takes_back, rewind_on, rewinds, without}
+use Rattle.dmix_client.specs.RewindCauses.{ExplainsCheck, IsKeptCause, ExplainsRewind}
+use Rattle.dmix_client.specs.View.{IsGoing, IsSound, queued_of, IsMoving, held, hw_of}
+use Rattle.snd_base.specs.declared.places.Cursor.{Cursor}
+use Rattle.mix_core.specs.declared.port.Ended.{Ended}
+use Rattle.mix_core.specs.declared.port.Ended.TheVariants.{Whole, Late, Stopped}
 use Rattle.course.specs.Course.{ends}
 use Rattle.course.specs.CourseLaws.{Takes-map, Takes-parts, Takes-then}
-use Rattle.pcm_states.specs.declared.states.State.TheVariants.{Prepared, Running}
-use Rattle.pcm_states.specs.declared.calls.Call.TheVariants as call
-use Rattle.dmix_client.specs.declared.plain.Plain.{Plain}
-use Rattle.dmix_client.specs.Calls.{Answered, synced, with_number}
+use Rattle.bindings.specs.Bound.{AreBindings, rising}
+use Rattle.dmix_client.specs.declared.commit.Commit.{Commit}
 use Rattle.dmix_client.specs.Causes.{IsCaused}
-use Rattle.dmix_client.specs.Course.{nothing, numbered}
-use Rattle.dmix_client.specs.Expansion.{run_entries}
-use Rattle.dmix_client.specs.ExpansionLaws.{run_entries-append}
+use Rattle.dmix_client.specs.Expansion.{run_entries, sample_at}
+use Rattle.dmix_client.specs.ExpansionLaws.{frames_used, run_entries-append, run_entries-same}
 use Rattle.hw_space.specs.declared.config.Config.{Config}
-use Rattle.dmix_client.specs.Growth.{AnySamples, Keeps, KeepsBack, StandsFor, TakesAway, segment_entries}
-use Rattle.course.specs.Stops.{CountsStop, pass_by}
-use Rattle.pcm_stream.specs.Status.{is_moving}
-use Rattle.dmix_client.specs.Port.{CanUse}
-use Rattle.dmix_client.specs.Rewind.{checks, held_entries, rewind_on, rewindable_of, rewinds, without}
-use Rattle.dmix_client.specs.RewindCauses.{ExplainsCheck, ExplainsRewind}
-use Rattle.dmix_client.specs.View.{IsMoving, IsSound, held, hw_of}
-use Rattle.dmix_client.proofs.CausedBy.{caused-number}
-use Rattle.dmix_client.proofs.Checking.{Checked, checked-keeps, checks-kept}
+use Rattle.snd_base.specs.declared.errors.PcmError.TheVariants as error
+use Rattle.snd_base.specs.declared.errors.XrunWhy.TheVariants as why
+use Rattle.mix_core.specs.declared.gate.Gate as gates
+use Rattle.mix_core.specs.declared.port.Ended.TheVariants as ended
+use Rattle.mix_core.specs.declared.port.MixPort as mixport
+use Rattle.pcm_states.specs.declared.calls.Call.TheVariants as call
+use Rattle.dmix_client.proofs.Growing.{Advances, Advances-synced, IsWithin, StandsFor-advanced, configured-moving, laid_by-none, segment_entries-grow}
+use Rattle.dmix_client.proofs.Caused.{IsCaused-plain, IsOther, caused-number, caused-other, free-by, if-none, other-ok, other-stopped}
+use Rattle.dmix_client.proofs.Ends.{next-ends, synced-leaves}
+use Rattle.dmix_client.proofs.Going.{synced-runs, synced-told, error-told, with_number-told}
 use Rattle.dmix_client.proofs.Keeping.{client}
-use Rattle.dmix_client.proofs.Left.{IsConfigured-as}
-use Rattle.dmix_client.proofs.Sound.{not_prepared-moving}
-use Rattle.dmix_client.proofs.Taking.{IsBack-of, kept-err, takes_back-kept, takes_back-why}
-use Rattle.dmix_client.proofs.Going.{error-told, with_number-told}
-use Rattle.dmix_client.proofs.Withdrawn.{HoldsBy, TakesAway-joined, TakesAway-none}
+use Rattle.dmix_client.proofs.Sound.{IsLeft-checked, IsLoaded, hw-started, CanUse-still, not_prepared-moving}
+use Rattle.dmix_client.proofs.Frames.{IsFrom-later}
+use Rattle.dmix_client.proofs.Withdrawing.{AreLeft, HoldsBy, TakesAt-back, TakesAway-behind, TookFrames, last_frame, last_place, TakesAway-joined, TakesAway-none}
+
+-- what it leaves
+pub record Checked {S T : Type 0} (P : mixport.Ghosts S) (G : gates.Ghosts T) (s t : S × T) (c : Plain) (ring : List ℤ) (a : Answered (Unit {0})) : Type 0 where
+  pub sound : IsSound a.0 ring
+  pub port : CanUse a.0 (P.view t.0)
+  pub told : CountsStop a.1 (G.stops s.1) (G.stops t.1)
+  pub goes : OnOk a.1 (IsGoing a.0)
+  pub runs : OnOk a.1 (a.0.status.state ≡ Running)
+  pub marks : (P.view t.0).marks ≡ (P.view s.0).marks
+  pub card : a.0.stretch.card ≡ c.stretch.card
+  pub advances : Advances c a.0 nothing c.stretch.written
+  pub stands : (samples : List ℤ) → StandsFor c ring samples → StandsFor a.0 ring samples
+  pub segment : (samples : List ℤ) → StandsFor c ring samples → segment_entries a.0 samples ≡ segment_entries c samples
+  pub explains : ExplainsCheck P G s t c (λ load. synced c call.Transfer load nothing) a
+  pub timely : (frame channel word : ℕ) → a.1 ≡ Err (error.Xrun (why.Late frame channel word)) → ⊥
+
+counted : (load : Option Position) (before after : ℕ) → after ≡ stops_after (pass_of_load load) before → CountsFound load ended.Whole before after
+counted None before after is = is
+counted (Some position) before after is = is
+
+near-of : (load : Option Position) (v : PortView) (c : Plain) → CanUse c v → is_moving c.status.state ≡ true → c.status.stopped ≡ false
+    → IfSome load (λ position. v.seen ≤ position.frame) → IfSome load (λ position. IsInRing v.geometry position.frame) → IfSome load (IsLoaded c)
+near-of None v c port moves going newer within = tt
+near-of (Some position) v c port moves going newer within =
+    record { newer = omega (arith, port.newer moves going, newer); most = subst (λ (g : Geometry). position.frame ≤ end_frame g) port.same_geometry within.most }
+
+any-of : (load : Option Position) (X : Position → Type 0) → ((position : Position) → X position) → IfSome load X
+any-of None X is = tt
+any-of (Some position) X is = is position
+
+some-of : (load : Option Position) (X Y : Position → Type 0) → ((position : Position) → X position → Y position) → IfSome load X → IfSome load Y
+some-of None X Y f is = tt
+some-of (Some position) X Y f is = f position is
+
+none-of : (load : Option Position) → IfNone load (nothing ≡ nothing)
+none-of None = refl
+none-of (Some position) = tt
+
+seen-of : (load : Option Position) (v w : PortView) → w ≡ record v { seen = seen_after load v.seen } → IfSome load (λ position. w.seen ≡ position.frame)
+seen-of None v w is = tt
+seen-of (Some position) v w is = ap (λ (x : PortView). x.seen) is
+
+card-of : (c : Plain) (load : Option Position) → (synced c call.Transfer load nothing).0.stretch.card ≡ c.stretch.card
+card-of c None = refl
+card-of c (Some position) = synced-leaves (λ (d : Plain). d.stretch.card ≡ c.stretch.card) c call.Transfer position nothing (λ s. refl)
+
+-- nothing that it answers is late
+synced-timely : (c : Plain) (load : Option Position) (frame channel word : ℕ) → c.status.state ≡ Running → (synced c call.Transfer load nothing).1 ≡ Err (error.Xrun (why.Late frame channel word)) → ⊥
+synced-timely c None frame channel word runs = λ is. cc
+synced-timely c (Some position) frame channel word runs =
+    next-ends (λ (o : Outcome). o.answer ≡ Err (error.Xrun (why.Late frame channel word)) → ⊥) c.status.state call.Transfer (queued_of (committed_by (seen_at c position) nothing)) position.gone (over_of (seen_at c position) position) None
+    (subst (λ (s : State). IsStep s call.Transfer) (sym runs) tt) (λ gone is. cc) (λ a f here same over is. cc) (λ w here none late. absurd (cc)) (λ here same none in_time is. cc) (λ here drains in_time is. cc) (λ here drains in_time same is. cc) (λ here drains in_time same is. cc)
+
+module _ {S T : Type 0} (P : mixport.Ghosts S) (G : gates.Ghosts T) (laid_composes : Composes P.laid) where
+  pub checks-kept : (s t : S × T) (c : Plain) (ring : List ℤ) (a : Answered (Unit {0})) → IsSound c ring → c.status.state ≡ Running → c.status.stopped ≡ false → CanUse c (P.view s.0)
+      → TakesAt P G s (checks c) t a → Checked P G s t c ring a
+  unfolding checks
+  checks-kept s t c ring a sound runs going port (load, m, step, rest) =
+      let moves : is_moving c.status.state ≡ true = ap is_moving runs in
+      let callable : IsStep c.status.state call.Transfer = subst (λ (st : State). IsStep st call.Transfer) (sym runs) tt in
+      let moving = sound.moving moves going in
+      let near = near-of load (P.view s.0) c port moves going step.newer step.within in
+      let marks : (P.view m.0).marks ≡ (P.view s.0).marks = ap (λ (v : PortView). v.marks) step.view_is in
+      let here : IsFrom (P.view m.0).marks.cursor (c.stretch.card + (c.stretch.committed + 0)) (least_channel c.setup.bindings) =
+      subst (λ (x : Marks). IsFrom x.cursor (c.stretch.card + (c.stretch.committed + 0)) (least_channel c.setup.bindings)) (sym marks) (omega (arith, port.behind moves going)) in
+      let left = IsLeft-checked c ring call.Transfer load (P.view m.0) sound moves going callable near (ap (λ (v : PortView). v.geometry) step.view_is ∙ port.same_geometry)
+      (ap (λ (v : PortView). v.member) step.view_is ∙ port.same_member) (ap (λ (v : PortView). v.can_add) step.view_is ∙ port.can) here (seen-of load (P.view s.0) (P.view m.0) step.view_is) in
+      let told = synced-told c call.Transfer load nothing (G.stops s.1) (G.stops m.1) going callable (counted load (G.stops s.1) (G.stops m.1) step.stopped) in
+      let advances = Advances-synced c call.Transfer load nothing moving.whole (none-of load) (some-of load _ _ (λ position x. x.newer) near) in
+      let within : IsWithin c nothing c.stretch.written = record { bound = (configured-moving c ring sound moves).bound; whole = moving.whole; below = omega (arith, moving.laid_most) } in
+      let d : Plain = (synced c call.Transfer load nothing).0 in
+      subst (λ (u : S × T). Checked P G s u c ring a) (sym rest.there) (subst (λ (b : Answered (Unit {0})). Checked P G s m c ring b) (sym rest.result) (record {
+        sound = left.sound;
+        port = left.use_it;
+        told = told.told;
+        goes = told.goes;
+        runs = synced-runs c load nothing runs;
+        marks = marks;
+        card = card-of c load;
+        advances = advances;
+        stands = λ samples stands. StandsFor-advanced c d nothing c.stretch.written ring samples advances stands;
+        segment = λ samples stands. segment_entries-grow c d nothing c.stretch.written ring samples advances within stands
+            ∙ ap (λ (es : List Entry). segment_entries c samples ++ es) (laid_by-none c d ring nothing refl refl) ∙ append-nil (segment_entries c samples);
+        explains = record {
+          load = load;
+          loaded_it = step.loaded_it;
+          laid_nothing = step.laid_nothing;
+          outcome = refl;
+          why = IsCaused-plain P.view P.shows m.0 c call.Transfer load nothing callable (any-of load _ (λ position. record { here = λ gone. refl; below = λ x f over. refl })) (any-of load _ (λ position. tt));
+        };
+        timely = λ frame channel word is. synced-timely c load frame channel word runs is;
+      }))
+
+  -- so a call keeps what it keeps that does no more
+  pub checked-keeps : {X : Type 0} (s t : S × T) (c : Plain) (ring : List ℤ) (a : Answered (Unit {0})) (answer : Result X PcmError) → CountsStop answer (G.stops s.1) (G.stops t.1) → Checked P G s t c ring a
+      → Keeps P G s t (client c ring) (client a.0 ring) answer AnySamples
+  checked-keeps s t c ring a answer told checked = record {
+    sound = checked.sound;
+    port = checked.port;
+    told = λ unstopped. told;
+    grows = λ samples stands any. record {
+      entries = [];
+      laid_them = checked.explains.laid_nothing;
+      grown = checked.segment samples stands ∙ sym (append-nil (segment_entries c samples));
+      same_member = checked.advances.member;
+      same_bindings = checked.advances.bindings;
+    };
+    stands = λ samples stands any. checked.stands samples stands;
+  }
+
+  pub checks-by : (s t : S × T) (c : Plain) (load : Option Position) (done : Answered (Unit {0})) → LoadsAt P G s load t → synced c call.Transfer load nothing ≡ done → TakesAt P G s (checks c) t done
+  unfolding checks
+  checks-by s t c load done step is = (load, t, step, record { there = refl; result = sym is })
+
+-- ---- what a rewind leaves of a client that runs, by what its withdrawals left
+
+-- so many frames can be taken back: they are accepted, and the committed ones among them aren't played, nor before the floor
+pub record IsBack (d : Plain) (floor : Cursor) (n : ℕ) : Type 0 where
+  pub few : n ≤ d.stretch.written
+  pub back : back_of d n ≤ d.stretch.committed
+  pub from : 0 < back_of d n → max (unwrap_or d.seen 0) (first_free floor 0) ≤ d.stretch.card + (d.stretch.committed - back_of d n)
+  pub whole : 0 < back_of d n → d.stretch.written - n ≡ d.stretch.committed - back_of d n
+
+back-few : (n w k top card : ℕ) → n ≤ w - k + (k - (top - card)) → k ≤ w → n ≤ w
+back-few n w k top card few most = omega (arith, few, most)
+
+back-most : (n w k top card : ℕ) → n ≤ w - k + (k - (top - card)) → n - (w - k) ≤ k
+back-most n w k top card few = omega (arith, few)
+
+back-from : (n w k top card : ℕ) → n ≤ w - k + (k - (top - card)) → 0 < n - (w - k) → top ≤ card + (k - (n - (w - k)))
+back-from n w k top card few some = omega (arith, few, some)
+
+back-whole : (n w k : ℕ) → k ≤ w → 0 < n - (w - k) → w - n ≡ k - (n - (w - k))
+back-whole n w k most some = omega (arith, most, some)
+
+pub IsBack-of : (d : Plain) (floor : Cursor) (n : ℕ) → IsMoving d → n ≤ rewindable_of floor d → IsBack d floor n
+IsBack-of d floor n m few = record {
+  few = back-few n d.stretch.written d.stretch.committed (max (unwrap_or d.seen 0) (first_free floor 0)) d.stretch.card few m.laid_most;
+  back = back-most n d.stretch.written d.stretch.committed (max (unwrap_or d.seen 0) (first_free floor 0)) d.stretch.card few;
+  from = λ some. back-from n d.stretch.written d.stretch.committed (max (unwrap_or d.seen 0) (first_free floor 0)) d.stretch.card few some;
+  whole = λ some. back-whole n d.stretch.written d.stretch.committed m.laid_most some;
+}
+
+-- what isn't played is at or behind the first of them
+unplayed : (k b seen top card h : ℕ) → h ≡ seen - card → b ≤ k → (0 < b → max seen top ≤ card + (k - b)) → min k h ≤ k - b
+unplayed k b seen top card h is most from = grind (arith, nat_tests, from)
+
+pub first-unplayed : (d : Plain) (floor : Cursor) (n : ℕ) → IsMoving d → IsBack d floor n → min d.stretch.committed (hw_of d) ≤ d.stretch.committed - back_of d n
+first-unplayed d floor n m is = unplayed d.stretch.committed (back_of d n) (unwrap_or d.seen 0) (first_free floor 0) d.stretch.card (hw_of d) (hw-started d m.started) is.back is.from
+
+-- the frames that are withdrawn are the last of those that the local ring has
+pub held-last : (d : Plain) (ring : List ℤ) (floor : Cursor) (n : ℕ) → IsMoving d → IsBack d floor n
+    → held_entries d ring ≡ run_entries d.identity.member d.setup.bindings (held d ring) d.stretch.card (min d.stretch.committed (hw_of d)) (d.stretch.committed - back_of d n - min d.stretch.committed (hw_of d)) 0
+    ++ run_entries d.identity.member d.setup.bindings (held d ring) d.stretch.card (d.stretch.committed - back_of d n) (back_of d n) 0
+held-last d ring floor n m is =
+    let low = first-unplayed d floor n m is in
+    let from : ℕ = min d.stretch.committed (hw_of d) in
+    let b : ℕ = back_of d n in
+    ap (λ (k : ℕ). run_entries d.identity.member d.setup.bindings (held d ring) d.stretch.card from k 0) (let e : d.stretch.committed - from ≡ d.stretch.committed - b - from + b = omega (arith, low, is.back) in e)
+    ∙ run_entries-append d.identity.member d.setup.bindings (held d ring) d.stretch.card from (d.stretch.committed - b - from) b 0
+    ∙ ap (λ (k : ℕ). run_entries d.identity.member d.setup.bindings (held d ring) d.stretch.card from (d.stretch.committed - b - from) 0 ++ run_entries d.identity.member d.setup.bindings (held d ring) d.stretch.card k b 0) (let e : from + (d.stretch.committed - b - from) ≡ d.stretch.committed - b = omega (arith, low) in e)
+
+back-laid : (n w k f : ℕ) → f ≡ 0 → k ≤ w → k - (n - (w - k)) + f ≤ w - n + f
+back-laid n w k f none most = omega (arith, none, most)
+
+back-pending : (n w k f b : ℕ) → f ≡ 0 → k ≤ w → w ≤ k + b → w - n + f ≤ k - (n - (w - k)) + f + b
+back-pending n w k f b none most fits = omega (arith, none, most, fits)
+
+-- the client after it
+abbrev pub back_in : Plain → ℕ → Commit → State → Bool → Plain
+back_in d n x s stopped = record (taken_back d n x) { status = record { state = s; stopped = stopped } }
+
+pub left-few : (e : Ended) (frames part count channels : ℕ) → AreLeft e frames part count channels → (frames ≤ count) × (frames_used frames part ≤ count)
+left-few Whole frames part count channels are = (omega (arith, are.0), let none = are.0 in let whole = are.1 in grind (arith, nat_tests))
+left-few (Late word) frames part count channels are = (let used = are.1 in grind (arith, nat_tests), are.1)
+left-few Stopped frames part count channels are = (let used = are.1 in grind (arith, nat_tests), are.1)
+
+pub left-part : (e : Ended) (frames part count channels : ℕ) → AreLeft e frames part count channels → OnLate e (λ word. part < channels)
+left-part Whole frames part count channels are = tt
+left-part (Late word) frames part count channels are = are.2
+left-part Stopped frames part count channels are = tt
+
+still-low : (k h b f j : ℕ) → min k h ≤ k - b → min (k - b + f) h ≤ j → min k h ≤ j
+still-low k h b f j low is = grind (arith, nat_tests)
+
+frame-same : (first f part : ℕ) → 0 < f + part → first + (if nat_eq part 0 then f - 1 else f) ≡ (if nat_eq part 0 then first + f - 1 else first + f)
+frame-same first f part some = grind (arith, nat_tests)
+
+here-from : (at : Cursor) (f c : ℕ) → at ≡ record { frame = f; channel = c } → first_free at c ≤ f
+here-from at f c is = subst (λ (x : Cursor). first_free x c ≤ f) (sym is) (grind (arith, nat_tests))
+
+floor-below : (seen top n : ℕ) → max seen top ≤ n → top ≤ n
+floor-below seen top n low = grind (arith, nat_tests)
+
+-- the answers of a rewind
+module _ {S : Type 0} (view : S → PortView) (shows : S → ℕ → ℕ → Option ℕ) (q : S) where
+  -- one that isn't late has the causes of any other call's
+  kept-of : {X : Type 0} (load : Option Position) (c d : Plain) (answer : Result X PcmError) → IsCaused view shows q c d load answer → ((frame channel word : ℕ) → answer ≡ Err (error.Xrun (why.Late frame channel word)) → ⊥)
+      → IsKeptCause view shows q c d load answer
+  kept-of load c d answer why timely = record {
+    unless_stopped = why.unless_stopped;
+    of_steps = why.of_steps;
+    no_device = why.no_device;
+    reached = why.reached;
+    late = λ frame channel word h. absurd (timely frame channel word h);
+    never_lap_end = why.never_lap_end;
+  }
+
+  -- behind a load that went well
+  kept-other : (load : Option Position) (c u d : Plain) (answer : Result ℕ PcmError) → IsCaused {X = Unit {0}} view shows q c u load (Ok tt) → IsOther answer → IsKeptCause view shows q c d load answer
+  kept-other load c u d answer first other = kept-of load c d answer (caused-other view shows q c d load answer (free-by view shows q c u load first) other) other.in_time
+
+  kept-late : (load : Option Position) (c u d : Plain) (word : ℕ) → IsCaused {X = Unit {0}} view shows q c u load (Ok tt) → IsPast view shows q (last_laid d) (last_channel d) word
+      → IsKeptCause {X = ℕ} view shows q c d load (Err (error.Xrun (why.Late (last_laid d) (last_channel d) word)))
+  kept-late load c u d word first past =
+      let free = free-by view shows q c u load first in
+      record {
+        unless_stopped = if-none load (λ h. absurd h) free.loaded;
+        of_steps = tt;
+        no_device = (λ h. cc, λ h. absurd (free.here h));
+        reached = λ a f. (λ h. cc, λ h. absurd (free.below a f h));
+        late = λ frame channel w h.
+            let is_frame : last_laid d ≡ frame = cc in
+            let is_channel : last_channel d ≡ channel = cc in
+            let is_word : word ≡ w = cc in
+            record {
+              frame_is = sym is_frame;
+              channel_is = sym is_channel;
+              past = subst (λ (k : ℕ). IsPast view shows q frame channel k) is_word (subst (λ (k : ℕ). IsPast view shows q frame k word) is_channel (subst (λ (k : ℕ). IsPast view shows q k (last_channel d) word) is_frame past));
+            };
+        never_lap_end = λ h. cc;
+      }
+
+  -- an answer of the load itself
+  pub kept-err : (load : Option Position) (c d : Plain) (e : PcmError) → IsCaused {X = Unit {0}} view shows q c d load (Err e)
+      → ((frame channel word : ℕ) → (let r : Result (Unit {0}) PcmError = Err e in r) ≡ Err (error.Xrun (why.Late frame channel word)) → ⊥) → IsKeptCause {X = ℕ} view shows q c d load (Err e)
+  kept-err load c d e first timely =
+      kept-of load c d (Err e) (caused-number view shows q load c (λ x. 0) (d, Err e) first)
+      (λ frame channel word h. timely frame channel word (let is : e ≡ error.Xrun (why.Late frame channel word) = cc in ap (λ (x : PcmError). let r : Result (Unit {0}) PcmError = Err x in r) is))
+
+module _ (d : Plain) (ring : List ℤ) (floor : Cursor) (n : ℕ) (sound : IsSound d ring) (runs : d.status.state ≡ Running) (going : d.status.stopped ≡ false) (is : IsBack d floor n) where
+  m : IsMoving d
+  m = sound.moving (ap is_moving runs) going
+
+  bound : AreBindings d.setup.bindings
+  bound = (configured-moving d ring sound (ap is_moving runs)).bound
+
+  IsSound-back : (x : Commit) (s : State) (stopped : Bool) → x.frames ≤ back_of d n → (s ≡ Prepared → ⊥) → (s ≡ Paused → ⊥) → (is_moving s ≡ true → stopped ≡ false → IsMoving (back_in d n x s stopped))
+      → IsSound (back_in d n x s stopped) ring
+  IsSound-back x s stopped few not_prepared not_paused moves = record {
+    lead = sound.lead;
+    seen = sound.seen;
+    card = sound.card;
+    fed = omega (arith, sound.fed, is.few);
+    laid = omega (arith, sound.laid, few, is.back);
+    set_up = λ set. sound.set_up (ap is_set_up runs);
+    configured = sound.configured;
+    prepared = λ waits. absurd (not_prepared waits);
+    moving = moves;
+    paused = λ still. absurd (not_paused still);
+  }
+
+  IsMoving-back : (x : Commit) (s : State) (stopped : Bool) → x.frames ≡ 0 → x.part ≡ 0 → IsMoving (back_in d n x s stopped)
+  IsMoving-back x s stopped none whole = record {
+    started = m.started;
+    whole = whole;
+    laid_most = back-laid n d.stretch.written d.stretch.committed x.frames none m.laid_most;
+    fits = omega (arith, m.fits, none);
+    pending = back-pending n d.stretch.written d.stretch.committed x.frames d.setup.config.buffer_size none m.laid_most m.pending;
+  }
+
+  StandsFor-back : (x : Commit) (s : State) (stopped : Bool) (samples : List ℤ) → x.frames ≤ back_of d n → StandsFor d ring samples → StandsFor (back_in d n x s stopped) ring samples
+  StandsFor-back x s stopped samples few stands j q low high in_range =
+      stands j q (still-low d.stretch.committed (hw_of d) (back_of d n) x.frames j (first-unplayed d floor n m is) low) (omega (arith, high, few, is.few)) in_range
+
+  -- the frames of the ring are those of the samples
+  ring-samples : (samples : List ℤ) (frames part : ℕ) → frames_used frames part ≤ back_of d n → StandsFor d ring samples
+      → run_entries d.identity.member d.setup.bindings (held d ring) d.stretch.card (d.stretch.committed - back_of d n) frames part
+      ≡ run_entries d.identity.member d.setup.bindings (λ j. sample_at samples (length d.setup.bindings) (d.stretch.source + j)) d.stretch.card (d.stretch.committed - back_of d n) frames part
+  ring-samples samples frames part used stands =
+      run_entries-same d.identity.member d.setup.bindings (held d ring) (λ j. sample_at samples (length d.setup.bindings) (d.stretch.source + j)) d.stretch.card (d.stretch.committed - back_of d n) frames part bound
+      (λ j q least most h. stands j q (omega (arith, least, first-unplayed d floor n m is)) (omega (arith, most, used, is.back, m.laid_most)) h)
+
+  -- the segment, before and after, by what is before the frames that are withdrawn
+  segment-before : (samples : List ℤ) → StandsFor d ring samples
+      → segment_entries d samples ≡ run_entries d.identity.member d.setup.bindings (λ j. sample_at samples (length d.setup.bindings) (d.stretch.source + j)) d.stretch.card 0 (d.stretch.committed - back_of d n) 0
+      ++ run_entries d.identity.member d.setup.bindings (held d ring) d.stretch.card (d.stretch.committed - back_of d n) (back_of d n) 0
+  segment-before samples stands =
+      let s : ℕ → ℕ → ℤ = λ j. sample_at samples (length d.setup.bindings) (d.stretch.source + j) in
+      let first : ℕ = d.stretch.committed - back_of d n in
+      ap (λ (p : ℕ). run_entries d.identity.member d.setup.bindings s d.stretch.card 0 d.stretch.committed p) m.whole
+      ∙ ap (λ (k : ℕ). run_entries d.identity.member d.setup.bindings s d.stretch.card 0 k 0) (let e : d.stretch.committed ≡ first + back_of d n = omega (arith, is.back) in e)
+      ∙ run_entries-append d.identity.member d.setup.bindings s d.stretch.card 0 first (back_of d n) 0
+      ∙ ap (λ (k : ℕ). run_entries d.identity.member d.setup.bindings s d.stretch.card 0 first 0 ++ run_entries d.identity.member d.setup.bindings s d.stretch.card k (back_of d n) 0) (let e : 0 + first ≡ first = omega arith in e)
+      ∙ ap (λ (es : List Entry). run_entries d.identity.member d.setup.bindings s d.stretch.card 0 first 0 ++ es) (sym (ring-samples samples (back_of d n) 0 (omega arith) stands))
+
+  segment-after : (x : Commit) (t : State) (stopped : Bool) (samples : List ℤ) → frames_used x.frames x.part ≤ back_of d n → StandsFor d ring samples
+      → segment_entries (back_in d n x t stopped) samples ≡ run_entries d.identity.member d.setup.bindings (λ j. sample_at samples (length d.setup.bindings) (d.stretch.source + j)) d.stretch.card 0 (d.stretch.committed - back_of d n) 0
+      ++ run_entries d.identity.member d.setup.bindings (held d ring) d.stretch.card (d.stretch.committed - back_of d n) x.frames x.part
+  segment-after x t stopped samples used stands =
+      let s : ℕ → ℕ → ℤ = λ j. sample_at samples (length d.setup.bindings) (d.stretch.source + j) in
+      let first : ℕ = d.stretch.committed - back_of d n in
+      run_entries-append d.identity.member d.setup.bindings s d.stretch.card 0 first x.frames x.part
+      ∙ ap (λ (k : ℕ). run_entries d.identity.member d.setup.bindings s d.stretch.card 0 first 0 ++ run_entries d.identity.member d.setup.bindings s d.stretch.card k x.frames x.part) (let e : 0 + first ≡ first = omega arith in e)
+      ∙ ap (λ (es : List Entry). run_entries d.identity.member d.setup.bindings s d.stretch.card 0 first 0 ++ es) (sym (ring-samples samples x.frames x.part used stands))
+
+  -- what a rewind leaves at a port, by how its withdrawals ended
+  module _ {S T : Type 0} (P : mixport.Ghosts S) (G : gates.Ghosts T) (holds : HoldsBy P) where
+    pub record TakenBack (s t : S × T) (a : Answered ℕ) : Type 0 where
+      pub keeps : KeepsBack P G s t (client d ring) (client a.0 ring) a.1
+      pub loaded_nothing : P.loaded s.0 t.0 []
+
+    -- what is known of the withdrawals
+    abbrev Took : S × T → S × T → Commit → Type 0
+    Took s t x = TookFrames P G holds s t d.identity.member d.stretch.card d.setup.bindings (held d ring) (d.stretch.committed - back_of d n) (back_of d n) x
+
+    loses-back : (s t : S × T) (x : Commit) (st : State) (stopped : Bool) (samples : List ℤ) → frames_used x.frames x.part ≤ back_of d n
+        → TakesAway P.laid P.ends_in s.0 t.0 (run_entries d.identity.member d.setup.bindings (held d ring) d.stretch.card (d.stretch.committed - back_of d n) (back_of d n) 0) (run_entries d.identity.member d.setup.bindings (held d ring) d.stretch.card (d.stretch.committed - back_of d n) x.frames x.part)
+        → StandsFor d ring samples → Loses P.laid P.ends_in s.0 t.0 d (back_in d n x st stopped) samples
+    loses-back s t x st stopped samples used away stands =
+        let early = run_entries d.identity.member d.setup.bindings (λ j. sample_at samples (length d.setup.bindings) (d.stretch.source + j)) d.stretch.card 0 (d.stretch.committed - back_of d n) 0 in
+        record {
+          away = subst (λ (es : List Entry). TakesAway P.laid P.ends_in s.0 t.0 es (segment_entries (back_in d n x st stopped) samples)) (sym (segment-before samples stands))
+              (subst (λ (es : List Entry). TakesAway P.laid P.ends_in s.0 t.0 (early ++ run_entries d.identity.member d.setup.bindings (held d ring) d.stretch.card (d.stretch.committed - back_of d n) (back_of d n) 0) es) (sym (segment-after x st stopped samples used stands))
+              (TakesAway-behind P G holds s.0 t.0 early _ _ away));
+          same_member = refl;
+          same_bindings = refl;
+        }
+
+    -- where all were withdrawn, the port's cursor is where the client goes on
+    cursor-back : (s t : S × T) (x : Commit) → CanUse d (P.view s.0) → x.frames ≡ 0 → (back_of d n ≡ 0 → P.view t.0 ≡ P.view s.0)
+        → (0 < back_of d n → (P.view t.0).marks.cursor ≡ record { frame = d.stretch.card + (d.stretch.committed - back_of d n); channel = least_channel d.setup.bindings })
+        → IsFrom (P.view t.0).marks.cursor (d.stretch.card + (d.stretch.committed - back_of d n + x.frames)) (least_channel d.setup.bindings)
+    cursor-back s t x port none still moved = elim (cases_eq (back_of d n) 0) [
+      | inl nothing_back ↦
+          subst (λ (v : PortView). IsFrom v.marks.cursor (d.stretch.card + (d.stretch.committed - back_of d n + x.frames)) (least_channel d.setup.bindings)) (sym (still nothing_back))
+          (omega (arith, port.behind (ap is_moving runs) going, nothing_back, none))
+      | inr some ↦ omega (arith, here-from (P.view t.0).marks.cursor (d.stretch.card + (d.stretch.committed - back_of d n)) (least_channel d.setup.bindings) (moved (omega arith)), none)
+    ]
+
+    -- what it leaves in a state, where the client is neither prepared nor paused then
+    left-back : (s t : S × T) (x : Commit) (st : State) (stopped : Bool) (answer : Result ℕ PcmError) → CanUse d (P.view s.0) → Took s t x → (st ≡ Prepared → ⊥) → (st ≡ Paused → ⊥) → CountsStop answer (G.stops s.1) (G.stops t.1)
+        → (is_moving st ≡ true → stopped ≡ false → (x.frames ≡ 0) × (x.part ≡ 0) × IsFrom (P.view t.0).marks.cursor (d.stretch.card + (d.stretch.committed - back_of d n + x.frames)) (least_channel d.setup.bindings))
+        → TakenBack s t (back_in d n x st stopped, answer)
+    left-back s t x st stopped answer port took not_prepared not_paused told moves =
+        let few = left-few x.ended x.frames x.part (back_of d n) (length d.setup.bindings) took.are_left in
+        record {
+          keeps = record {
+            sound = IsSound-back x st stopped few.0 not_prepared not_paused (λ moving unstopped. let all = moves moving unstopped in IsMoving-back x st stopped all.0 all.1);
+            port = record {
+              same_geometry = ap (λ (v : PortView). v.geometry) took.view_is ∙ port.same_geometry;
+              same_member = ap (λ (v : PortView). v.member) took.view_is ∙ port.same_member;
+              can = ap (λ (v : PortView). v.can_add) took.view_is ∙ port.can;
+              behind = λ moving unstopped. (moves moving unstopped).2;
+              newer = λ moving unstopped. omega (arith, port.newer (ap is_moving runs) going, ap (λ (v : PortView). v.seen) took.view_is);
+            };
+            told = λ unstopped. told;
+            loses = λ samples stands. loses-back s t x st stopped samples few.1 took.away stands;
+            stands = λ samples stands. StandsFor-back x st stopped samples few.0 stands;
+          };
+          loaded_nothing = took.loaded_nothing;
+        }
+
+    by_end : (s t : S × T) (frames part : ℕ) (e : Ended) → CanUse d (P.view s.0) → Took s t (record { frames = frames; part = part; ended = e }) → TakenBack s t (rewound d n (record { frames = frames; part = part; ended = e }))
+    by_end s t frames part Whole port took =
+        let x : Commit = record { frames = frames; part = part; ended = Whole } in
+        left-back s t x Running d.status.stopped _ port took (λ waits. cc) (λ still. cc) took.stopped (λ moves unstopped. (took.are_left.0, took.are_left.1, cursor-back s t x port took.are_left.0 took.still took.cursor))
+    by_end s t frames part (Late word) port took =
+        let x : Commit = record { frames = frames; part = part; ended = Late word } in left-back s t x Xrun d.status.stopped _ port took (λ waits. cc) (λ still. cc) took.stopped (λ moves unstopped. absurd (cc))
+    by_end s t frames part Stopped port took =
+        let x : Commit = record { frames = frames; part = part; ended = Stopped } in left-back s t x d.status.state true _ port took (λ waits. cc) (λ still. cc) took.stopped (λ moves unstopped. absurd (cc))
+
+    -- the withdrawals of a client's rewind
+    took-of : (s t : S × T) (x : Commit) → (P.view s.0).marks.floor ≡ floor → CanUse d (P.view s.0)
+        → TakesAt P G s (take_frames d.identity.member d.stretch.card d.setup.bindings (held d ring) (d.stretch.committed - back_of d n) (back_of d n)) t x → Took s t x
+    took-of s t x is_floor port takes =
+        TakesAt-back P G holds d.identity.member d.stretch.card d.setup.bindings (held d ring) (d.stretch.committed - back_of d n) (back_of d n) s t x bound port.same_member
+        (λ some. subst (λ (c : Cursor). IsFrom c (d.stretch.card + (d.stretch.committed - back_of d n)) (least_channel d.setup.bindings)) (sym is_floor)
+        (IsFrom-later floor (d.stretch.card + (d.stretch.committed - back_of d n)) 0 (least_channel d.setup.bindings) (omega arith) (floor-below (unwrap_or d.seen 0) (first_free floor 0) _ (is.from some)))) takes
+
+    pub takes_back-kept : (s t : S × T) (a : Answered ℕ) → (P.view s.0).marks.floor ≡ floor → CanUse d (P.view s.0) → TakesAt P G s (takes_back d ring n) t a → TakenBack s t a
+    unfolding takes_back
+    takes_back-kept s t a is_floor port takes =
+        let parts = Takes-parts (LoadsAt P G) (LaysAt P G) NoGet s t (take_frames d.identity.member d.stretch.card d.setup.bindings (held d ring) (d.stretch.committed - back_of d n) (back_of d n)) (λ left. ends (rewound d n left)) a takes in
+        let x = parts.1 in
+        subst (λ (u : S × T). TakenBack s u a) (sym parts.3.there) (subst (λ (b : Answered ℕ). TakenBack s parts.0 b) (sym parts.3.result)
+        (by_end s parts.0 x.frames x.part x.ended port (took-of s parts.0 x is_floor port parts.2)))
+
+    -- why it answered so, behind a load that went well
+    why_end : (t : S × T) (c u : Plain) (load : Option Position) (frames part : ℕ) (e : Ended) → AreLeft e frames part (back_of d n) (length d.setup.bindings)
+        → OnLate e (λ word. IsPast P.view P.shows t.0 (d.stretch.card + (d.stretch.committed - back_of d n + last_frame frames part)) (slice_index d.setup.bindings (slice_index (rising d.setup.bindings) (last_place part (length d.setup.bindings)))) word)
+        → IsCaused {X = Unit {0}} P.view P.shows t.0 c u load (Ok tt)
+        → (let a : Answered ℕ = rewound d n (record { frames = frames; part = part; ended = e }) in IsKeptCause {X = ℕ} P.view P.shows t.0 c a.0 load a.1)
+    why_end t c u load frames part Whole are late why_ok = kept-other P.view P.shows t.0 load c u _ (Ok n) why_ok (other-ok n)
+    why_end t c u load frames part Stopped are late why_ok = kept-other P.view P.shows t.0 load c u _ (Err error.Stopped) why_ok other-stopped
+    why_end t c u load frames part (Late word) are late why_ok =
+        let there : d.stretch.card + (d.stretch.committed - back_of d n + last_frame frames part) ≡ last_laid (back_in d n (record { frames = frames; part = part; ended = Late word }) Xrun d.status.stopped) =
+        ap (λ (k : ℕ). d.stretch.card + k) (frame-same (d.stretch.committed - back_of d n) frames part are.0) in
+        kept-late P.view P.shows t.0 load c u (back_in d n (record { frames = frames; part = part; ended = Late word }) Xrun d.status.stopped) word why_ok
+        (subst (λ (k : ℕ). IsPast P.view P.shows t.0 k (slice_index d.setup.bindings (slice_index (rising d.setup.bindings) (last_place part (length d.setup.bindings)))) word) there late)
+
+    pub takes_back-why : (s t : S × T) (c u : Plain) (load : Option Position) (a : Answered ℕ) → (P.view s.0).marks.floor ≡ floor → CanUse d (P.view s.0) → TakesAt P G s (takes_back d ring n) t a
+        → IsCaused {X = Unit {0}} P.view P.shows t.0 c u load (Ok tt) → IsKeptCause {X = ℕ} P.view P.shows t.0 c a.0 load a.1
+    unfolding takes_back
+    takes_back-why s t c u load a is_floor port takes why_ok =
+        let parts = Takes-parts (LoadsAt P G) (LaysAt P G) NoGet s t (take_frames d.identity.member d.stretch.card d.setup.bindings (held d ring) (d.stretch.committed - back_of d n) (back_of d n)) (λ left. ends (rewound d n left)) a takes in
+        let x = parts.1 in
+        let took = took-of s parts.0 x is_floor port parts.2 in
+        subst (λ (b : Answered ℕ). IsKeptCause {X = ℕ} P.view P.shows t.0 c b.0 load b.1) (sym parts.3.result)
+        (why_end t c u load x.frames x.part x.ended took.are_left
+        (subst (λ (v : S × T). OnLate x.ended (λ word. IsPast P.view P.shows v.0 (d.stretch.card + (d.stretch.committed - back_of d n + last_frame x.frames x.part)) (slice_index d.setup.bindings (slice_index (rising d.setup.bindings) (last_place x.part (length d.setup.bindings)))) word)) (sym parts.3.there) took.late) why_ok)
+
+    pub takes_back-by : (s t : S × T) (b : ℕ) (x : Commit) (done : Answered ℕ) → b ≡ back_of d n → TakesAt P G s (take_frames d.identity.member d.stretch.card d.setup.bindings (held d ring) (d.stretch.committed - b) b) t x → rewound d n x ≡ done
+        → TakesAt P G s (takes_back d ring n) t done
+    unfolding takes_back
+    takes_back-by s t b x done is_back takes is_done =
+        Takes-map (LoadsAt P G) (LaysAt P G) NoGet s t (take_frames d.identity.member d.stretch.card d.setup.bindings (held d ring) (d.stretch.committed - back_of d n) (back_of d n)) (λ left. rewound d n left) x done
+        (subst (λ (k : ℕ). TakesAt P G s (take_frames d.identity.member d.stretch.card d.setup.bindings (held d ring) (d.stretch.committed - k) k) t x) is_back takes) is_done
+
+    pub take_frames-took : (s t : S × T) (b : ℕ) (x : Commit) → b ≡ back_of d n → (P.view s.0).marks.floor ≡ floor → CanUse d (P.view s.0)
+        → TakesAt P G s (take_frames d.identity.member d.stretch.card d.setup.bindings (held d ring) (d.stretch.committed - b) b) t x → AreLeft x.ended x.frames x.part (back_of d n) (length d.setup.bindings)
+    take_frames-took s t b x is_back is_floor port takes =
+        (took-of s t x is_floor port (subst (λ (k : ℕ). TakesAt P G s (take_frames d.identity.member d.stretch.card d.setup.bindings (held d ring) (d.stretch.committed - k) k) t x) is_back takes)).are_left
+
+-- ---- what a rewind keeps, and why it answered so, by its load and what followed it
 
 least-most : (k h : ℕ) → min k h ≤ k
 least-most k h = grind (arith, nat_tests)
@@ -217,18 +655,12 @@ module _ {S T : Type 0} (P : mixport.Ghosts S) (G : gates.Ghosts T) (holds : Hol
           fed = omega (arith, sound.fed, few);
           laid = sound.laid;
           set_up = sound.set_up;
-          configured = λ set. IsConfigured-as c (without c n) ring refl refl refl (sound.configured set);
+          configured = sound.configured;
           prepared = λ still. record { waiting = p.waiting; no_frame = p.no_frame; no_part = p.no_part; fits = omega (arith, p.fits) };
           moving = λ moves going. absurd (not_prepared-moving c.status.state moves waits);
           paused = λ is. absurd (cc);
         };
-        port = record {
-          same_geometry = port.same_geometry;
-          same_member = port.same_member;
-          can = port.can;
-          behind = λ moves going. absurd (not_prepared-moving c.status.state moves waits);
-          newer = λ moves going. absurd (not_prepared-moving c.status.state moves waits);
-        };
+        port = CanUse-still (without c n) (P.view s.0) port.same_geometry port.same_member port.can (λ moves going. not_prepared-moving c.status.state moves waits);
         told = λ unstopped. refl;
         loses = λ samples stands. record { away = TakesAway-none P G holds s.0 s.0 (segment_entries c samples) (holds.laid_composes.none s.0); same_member = refl; same_bindings = refl };
         stands = λ samples stands j q low high in_range. stands j q low (omega (arith, high)) in_range;

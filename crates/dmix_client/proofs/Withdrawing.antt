@@ -1,19 +1,35 @@
--- The loops that withdraw the samples of a frame, and frames, take their courses.
-use Rattle.std.proofs.Common.{◌≡◌, ℕ, ◌+◌, ◌<◌, ◌≤◌, suc, zero, refl, sym, ◌∙◌, ap, subst, arith, List, length}
-use Rattle.std.specs.Prelude.{ℤ, slice_index}
-use Rattle.mix_core.specs.declared.gate.Gate as gates
+-- The withdrawals of a rewind take their courses, and which adds a port lost by them at the end of those that stand.
+use Rattle.std.proofs.Common.{◌≡◌, ℕ, ◌+◌, ◌<◌, ◌≤◌, suc, zero, refl, sym, ◌∙◌, ap, subst, arith, List, length, ◌-◌, [], ◌∷◌, ◌++◌, take, map, get_or, append_assoc}
+use Rattle.std.specs.Prelude.{ℤ, slice_index, Bool, true, false, nat_eq, if◌then◌else◌, fold}
+use Rattle.std.proofs.Math.Seq.{take-suc}
+use Rattle.std.proofs.lemmas.Bool.Decides.{nat_tests}
+use Rattle.std.proofs.lemmas.List.{append-nil, map-append}
+use Rattle.std.proofs.lemmas.List.Sums.{fold-append}
 use Rattle.mix_core.specs.declared.port.Ended.{Ended}
 use Rattle.mix_core.specs.declared.port.Ended.TheVariants.{Whole, Late, Stopped}
-use Rattle.mix_core.specs.declared.port.MixPort as mixport
-use Rattle.mix_core.specs.Laid.{a_withdrawal}
+use Rattle.mix_core.specs.Laid.{a_withdrawal, an_add, stand_after, without_last}
 use Rattle.course.specs.AtPort.{LaysAt, LoadsAt, NoGet, TakesAt}
 use Rattle.course.specs.Course.{lays}
-use Rattle.course.specs.CourseLaws.{Takes-then}
+use Rattle.course.specs.CourseLaws.{Takes-then, Takes-parts}
 use Rattle.bindings.specs.Bound.{AreBindings, rising}
-use Rattle.bindings.specs.RisingLaws.{rising-within}
+use Rattle.bindings.specs.RisingLaws.{rising-within, length-rising}
 use Rattle.dmix_client.specs.declared.commit.Commit.{Commit}
 use Rattle.dmix_client.specs.Course.{nothing}
 use Rattle.dmix_client.specs.Rewind.{back_on, left_of, take_each, take_frames, take_on}
+use Rattle.snd_base.specs.declared.places.Cursor.{Cursor}
+use Rattle.snd_base.specs.Places.{IsFrom}
+use Rattle.snd_base.specs.Relations.{Composes}
+use Rattle.mix_core.specs.declared.port.Entry.{Entry}
+use Rattle.mix_core.specs.Gate.{stops_after}
+use Rattle.mix_core.specs.MarkLaws.{without_last-more}
+use Rattle.mix_core.specs.Port.{IsPast, OnLate, OnWhole, PortView, pass_of_end}
+use Rattle.dmix_client.specs.Expansion.{frame_entries, run_entries}
+use Rattle.dmix_client.specs.ExpansionLaws.{frames_used, run_entries-append}
+use Rattle.dmix_client.specs.Growth.{TakesAway}
+use Rattle.dmix_client.specs.Port.{least_channel}
+use Rattle.mix_core.specs.declared.gate.Gate as gates
+use Rattle.mix_core.specs.declared.port.MixPort as mixport
+use Rattle.dmix_client.proofs.Frames.{IsFrom-later, marks-joined, rising-least}
 
 -- what the first n channels come to is what all come to
 abbrev pub Back : {S T : Type 0} → mixport.Ghosts S → gates.Ghosts T → ℕ → ℕ → List ℕ → (ℕ → ℤ) → ℕ → S × T → S × T → ℕ → Type 0
@@ -36,9 +52,6 @@ take_each-same member frame bindings s t (suc n) are few same =
     ∙ ap (λ rest. lays (a_withdrawal member frame (slice_index bindings q) (t q)) (λ ended. take_on ended (suc n) rest)) (take_each-same member frame bindings s t n are (omega (arith, few)) same)
 
 module _ {S T : Type 0} (P : mixport.Ghosts S) (G : gates.Ghosts T) where
-  pub Back-none : (member frame : ℕ) (bindings : List ℕ) (sample_of : ℕ → ℤ) (all : ℕ) (s : S × T) → Back P G member frame bindings sample_of all s s all
-  Back-none member frame bindings sample_of all s t left ended takes = takes
-
   -- the channel behind n was withdrawn
   pub Back-next : (member frame : ℕ) (bindings : List ℕ) (sample_of : ℕ → ℤ) (all : ℕ) (start now next : S × T) (n m channel : ℕ) (sample : ℤ) → m ≡ n + 1
       → channel ≡ slice_index bindings (slice_index (rising bindings) n) → sample ≡ sample_of (slice_index (rising bindings) n)
@@ -76,9 +89,6 @@ module _ {S T : Type 0} (P : mixport.Ghosts S) (G : gates.Ghosts T) where
       subst (λ m. TakesAt P G now m next (left, end))
       (ap (λ (n : ℕ). take_each member n bindings sample_of (length bindings)) is_frame ∙ take_each-same member (card + at) bindings sample_of (samples at) (length bindings) are (omega arith) same) step
 
-  pub BackFrames-none : (member card : ℕ) (bindings : List ℕ) (samples : ℕ → ℕ → ℤ) (first all : ℕ) (s : S × T) → BackFrames P G member card bindings samples first all s s all
-  BackFrames-none member card bindings samples first all s t x takes = takes
-
   pub BackFrames-next : (member card : ℕ) (bindings : List ℕ) (samples : ℕ → ℕ → ℤ) (first all : ℕ) (start now next : S × T) (n m left : ℕ) → m ≡ n + 1
       → BackFrames P G member card bindings samples first all start now m → TakesAt P G now (take_each member (card + (first + n)) bindings (samples (first + n)) (length bindings)) next (left, Whole)
       → BackFrames P G member card bindings samples first all start next n
@@ -105,3 +115,327 @@ module _ {S T : Type 0} (P : mixport.Ghosts S) (G : gates.Ghosts T) where
       → TakesAt P G start (take_frames member card bindings samples first all) now nothing
   unfolding take_frames
   BackFrames-all member card bindings samples first all start now so_far = so_far now nothing (record { there = refl; result = refl })
+
+-- ---- what the withdrawals of a rewind did at a port: which adds it lost at the end of those that stand, and where its cursor is
+
+-- the laws by which a port's standing adds follow from what it laid
+pub record HoldsBy {S : Type 0} (P : mixport.Ghosts S) : Type 0 where
+  pub laid_composes : Composes P.laid
+  pub loaded_composes : Composes P.loaded
+  pub part : (p : S) (xs ys : List Entry) → P.ends_in p (xs ++ ys) → P.ends_in p ys
+  pub nothing : (p q : S) (xs : List Entry) → P.laid p q [] → P.ends_in p xs → P.ends_in q xs
+  pub back : (p q : S) (xs : List Entry) (f c : ℕ) (s : ℤ) → IsFrom (P.view p).marks.floor f c
+      → P.laid p q (a_withdrawal (P.view p).member f c s ∷ []) → P.ends_in p (xs ++ an_add (P.view p).member f c s ∷ []) → P.ends_in q xs
+
+-- a frame's first n + 1 entries, and a run's first n + 1 frames
+pub frame_entries-last : (member : ℕ) (bindings : List ℕ) (s : ℕ → ℤ) (n frame : ℕ) → AreBindings bindings → n < length bindings
+    → frame_entries member bindings s (suc n) frame ≡ frame_entries member bindings s n frame ++ an_add member frame (slice_index bindings (slice_index (rising bindings) n)) (s (slice_index (rising bindings) n)) ∷ []
+frame_entries-last member bindings s n frame are low =
+    let entry : ℕ → Entry = λ q. an_add member frame (slice_index bindings q) (s q) in
+    ap (map entry) (take-suc (rising bindings) n 0 (omega (arith, length-rising bindings are, low)))
+    ∙ map-append entry (take n (rising bindings)) (get_or (rising bindings) n 0 ∷ [])
+
+-- standing adds that end in a frame's first n + 1 entries end in n of them and the last one
+pub stands-last : {S : Type 0} (ends_in : S → List Entry → Type 0) (p : S) (member own frame : ℕ) (bindings : List ℕ) (s : ℕ → ℤ) (n m channel : ℕ) (sample : ℤ) → AreBindings bindings → m ≡ n + 1 → m ≤ length bindings
+    → channel ≡ slice_index bindings (slice_index (rising bindings) n) → sample ≡ s (slice_index (rising bindings) n) → own ≡ member
+    → ends_in p (frame_entries member bindings s m frame) → ends_in p (frame_entries member bindings s n frame ++ an_add own frame channel sample ∷ [])
+stands-last ends_in p member own frame bindings s n m channel sample are is few is_channel is_sample is_own ends =
+    let last : ends_in p (frame_entries member bindings s n frame ++ an_add member frame (slice_index bindings (slice_index (rising bindings) n)) (s (slice_index (rising bindings) n)) ∷ []) =
+    subst (ends_in p) (ap (λ (k : ℕ). frame_entries member bindings s k frame) (let e : m ≡ suc n = omega (arith, is) in e) ∙ frame_entries-last member bindings s n frame are (omega (arith, is, few))) ends in
+    subst (λ (k : ℕ). ends_in p (frame_entries member bindings s n frame ++ an_add k frame channel sample ∷ [])) (sym is_own)
+    (subst (λ (k : ℕ). ends_in p (frame_entries member bindings s n frame ++ an_add member frame k sample ∷ [])) (sym is_channel)
+    (subst (λ (x : ℤ). ends_in p (frame_entries member bindings s n frame ++ an_add member frame (slice_index bindings (slice_index (rising bindings) n)) x ∷ [])) (sym is_sample) last))
+
+pub run_entries-last : (member : ℕ) (bindings : List ℕ) (s : ℕ → ℕ → ℤ) (card first n : ℕ)
+    → run_entries member bindings s card first (n + 1) 0 ≡ run_entries member bindings s card first n 0 ++ frame_entries member bindings (s (first + n)) (length bindings) (card + (first + n))
+run_entries-last member bindings s card first n =
+    run_entries-append member bindings s card first n 1 0
+    ∙ ap (λ (es : List Entry). run_entries member bindings s card first n 0 ++ es)
+    (append-nil (frame_entries member bindings (s (first + n)) (length bindings) (card + (first + n)) ++ []) ∙ append-nil (frame_entries member bindings (s (first + n)) (length bindings) (card + (first + n))))
+
+pub run_entries-part : (member : ℕ) (bindings : List ℕ) (s : ℕ → ℕ → ℤ) (card first n part : ℕ)
+    → run_entries member bindings s card first n part ≡ run_entries member bindings s card first n 0 ++ frame_entries member bindings (s (first + n)) part (card + (first + n))
+run_entries-part member bindings s card first n part = ap (λ (es : List Entry). es ++ frame_entries member bindings (s (first + n)) part (card + (first + n))) (sym (append-nil _))
+
+-- how many channels of n are left, by how it ended, and what is left of some frames
+abbrev pub IsLeft : Ended → ℕ → ℕ → Type 0
+IsLeft Whole left n = left ≡ 0
+IsLeft (Late word) left n = (0 < left) × (left ≤ n)
+IsLeft Stopped left n = (0 < left) × (left ≤ n)
+
+abbrev pub AreLeft : Ended → ℕ → ℕ → ℕ → ℕ → Type 0
+AreLeft Whole frames part count channels = (frames ≡ 0) × (part ≡ 0)
+AreLeft (Late word) frames part count channels = (0 < frames + part) × (frames_used frames part ≤ count) × (part < channels)
+AreLeft Stopped frames part count channels = (0 < frames + part) × (frames_used frames part ≤ count) × (part < channels)
+
+left-more : (e : Ended) (left n : ℕ) → IsLeft e left n → IsLeft e left (suc n)
+left-more Whole left n is = is
+left-more (Late word) left n is = (is.0, omega (arith, is.1))
+left-more Stopped left n is = (is.0, omega (arith, is.1))
+
+OnWhole-all : (e : Ended) (X : Type 0) → X → OnWhole e X
+OnWhole-all Whole X is = is
+OnWhole-all (Late word) X is = tt
+OnWhole-all Stopped X is = tt
+
+OnWhole-map : (e : Ended) (X Y : Type 0) → (X → Y) → OnWhole e X → OnWhole e Y
+OnWhole-map Whole X Y f is = f is
+OnWhole-map (Late word) X Y f is = tt
+OnWhole-map Stopped X Y f is = tt
+
+OnWhole-not : (e : Ended) (X : Type 0) → (e ≡ Whole → ⊥) → OnWhole e X
+OnWhole-not Whole X not_whole = absurd (not_whole refl)
+OnWhole-not (Late word) X not_whole = tt
+OnWhole-not Stopped X not_whole = tt
+
+all-left : (e : Ended) (frames part count channels : ℕ) → (e ≡ Whole → ⊥) → 0 < frames + part → frames_used frames part ≤ count → part < channels → AreLeft e frames part count channels
+all-left Whole frames part count channels not_whole some few within = absurd (not_whole refl)
+all-left (Late word) frames part count channels not_whole some few within = (some, few, within)
+all-left Stopped frames part count channels not_whole some few within = (some, few, within)
+
+more-left : (e : Ended) (frames part count channels : ℕ) → AreLeft e frames part count channels → AreLeft e frames part (suc count) channels
+more-left Whole frames part count channels are = are
+more-left (Late word) frames part count channels are = (are.0, omega (arith, are.1), are.2)
+more-left Stopped frames part count channels are = (are.0, omega (arith, are.1), are.2)
+
+used-some : (n part : ℕ) → frames_used n part ≤ suc n
+used-some n part = grind (arith, nat_tests)
+
+-- the frame and the place of the last sample that is left
+abbrev pub last_frame : ℕ → ℕ → ℕ
+last_frame frames part = if nat_eq part 0 then frames - 1 else frames
+
+abbrev pub last_place : ℕ → ℕ → ℕ
+last_place part channels = (if nat_eq part 0 then channels else part) - 1
+
+module _ {S T : Type 0} (P : mixport.Ghosts S) (G : gates.Ghosts T) (holds : HoldsBy P) where
+  pub TakesAway-none : (p q : S) (es : List Entry) → P.laid p q [] → TakesAway P.laid P.ends_in p q es es
+  TakesAway-none p q es laid = record { entries = []; laid_them = laid; lost = λ xs. refl; held = λ xs ends. holds.nothing p q (xs ++ es) laid ends }
+
+  pub TakesAway-joined : (p q r : S) (a b c : List Entry) → TakesAway P.laid P.ends_in p q a b → TakesAway P.laid P.ends_in q r b c → TakesAway P.laid P.ends_in p r a c
+  TakesAway-joined p q r a b c one two = record {
+    entries = one.entries ++ two.entries;
+    laid_them = holds.laid_composes.joined p q r one.entries two.entries one.laid_them two.laid_them;
+    lost = λ xs. fold-append stand_after (xs ++ a) one.entries two.entries ∙ ap (λ (es : List Entry). fold stand_after es two.entries) (one.lost xs) ∙ two.lost xs;
+    held = λ xs ends. two.held xs (one.held xs ends);
+  }
+
+  pub TakesAway-behind : (p q : S) (ys a b : List Entry) → TakesAway P.laid P.ends_in p q a b → TakesAway P.laid P.ends_in p q (ys ++ a) (ys ++ b)
+  TakesAway-behind p q ys a b one = record {
+    entries = one.entries;
+    laid_them = one.laid_them;
+    lost = λ xs. ap (λ (es : List Entry). fold stand_after es one.entries) (sym (append_assoc xs ys a)) ∙ one.lost (xs ++ ys) ∙ append_assoc xs ys b;
+    held = λ xs ends. subst (P.ends_in q) (append_assoc xs ys b) (one.held (xs ++ ys) (subst (P.ends_in p) (sym (append_assoc xs ys a)) ends));
+  }
+
+  TakesAway-last : (p q : S) (member : ℕ) (es : List Entry) (f c : ℕ) (s : ℤ) → (P.view p).member ≡ member → IsFrom (P.view p).marks.floor f c → P.laid p q (a_withdrawal member f c s ∷ [])
+      → TakesAway P.laid P.ends_in p q (es ++ an_add member f c s ∷ []) es
+  TakesAway-last p q member es f c s own floor laid = record {
+    entries = a_withdrawal member f c s ∷ [];
+    laid_them = laid;
+    lost = λ xs. ap without_last (sym (append_assoc xs es (an_add member f c s ∷ []))) ∙ without_last-more (xs ++ es) (an_add member f c s);
+    held = λ xs ends. holds.back p q (xs ++ es) f c s floor (subst (λ (m : ℕ). P.laid p q (a_withdrawal m f c s ∷ [])) (sym own) laid)
+        (subst (λ (m : ℕ). P.ends_in p (xs ++ es ++ an_add m f c s ∷ [])) (sym own) (subst (P.ends_in p) (sym (append_assoc xs es (an_add member f c s ∷ []))) ends));
+  }
+
+  -- what the withdrawals of some channels of a frame came to
+  pub record TookFrame (s t : S × T) (member frame : ℕ) (bindings : List ℕ) (sample_of : ℕ → ℤ) (n left : ℕ) (ended : Ended) : Type 0 where
+    pub view_is : P.view t.0 ≡ record (P.view s.0) { marks = (P.view t.0).marks }
+    pub same_floor : (P.view t.0).marks.floor ≡ (P.view s.0).marks.floor
+    pub is_left : IsLeft ended left n
+    pub away : TakesAway P.laid P.ends_in s.0 t.0 (frame_entries member bindings sample_of n frame) (frame_entries member bindings sample_of left frame)
+    pub loaded_nothing : P.loaded s.0 t.0 []
+    pub cursor : OnWhole ended (0 < n → (P.view t.0).marks.cursor ≡ record { frame = frame; channel = least_channel bindings })
+    pub late : OnLate ended (λ word. IsPast P.view P.shows t.0 frame (slice_index bindings (slice_index (rising bindings) (left - 1))) word)
+    pub stopped : G.stops t.1 ≡ stops_after (pass_of_end ended) (G.stops s.1)
+
+  -- a withdrawal leaves the cursor where it was made, so the last one leaves it at the least channel
+  cursor-by : (member frame : ℕ) (bindings : List ℕ) (sample_of : ℕ → ℤ) (n : ℕ) (m t : S × T) (left : ℕ) (ended : Ended)
+      → (P.view m.0).marks.cursor ≡ record { frame = frame; channel = slice_index bindings (slice_index (rising bindings) n) } → TakesAt P G m (take_each member frame bindings sample_of n) t (left, ended)
+      → OnWhole ended (0 < n → (P.view t.0).marks.cursor ≡ record { frame = frame; channel = least_channel bindings })
+      → OnWhole ended (0 < suc n → (P.view t.0).marks.cursor ≡ record { frame = frame; channel = least_channel bindings })
+  unfolding take_each
+  cursor-by member frame bindings sample_of zero m t left ended here takes later =
+      OnWhole-all ended _ (λ some. ap (λ (u : S × T). (P.view u.0).marks.cursor) takes.there ∙ here)
+  cursor-by member frame bindings sample_of (suc n) m t left ended here takes later = OnWhole-map ended _ _ (λ is some. is (omega arith)) later
+
+  pub TakesAt-took : (member frame : ℕ) (bindings : List ℕ) (sample_of : ℕ → ℤ) (n : ℕ) (s t : S × T) (left : ℕ) (ended : Ended) → AreBindings bindings → n ≤ length bindings
+      → (P.view s.0).member ≡ member → IsFrom (P.view s.0).marks.floor frame (least_channel bindings)
+      → TakesAt P G s (take_each member frame bindings sample_of n) t (left, ended) → TookFrame s t member frame bindings sample_of n left ended
+  unfolding take_each
+  TakesAt-took member frame bindings sample_of zero s t left ended are few own floor takes =
+      subst (λ (u : S × T). TookFrame s u member frame bindings sample_of 0 left ended) (sym takes.there)
+      (subst (λ (r : ℕ × Ended). TookFrame s s member frame bindings sample_of 0 r.0 r.1) (sym takes.result) (record {
+        view_is = refl;
+        same_floor = refl;
+        is_left = refl;
+        away = TakesAway-none s.0 s.0 (frame_entries member bindings sample_of 0 frame) (holds.laid_composes.none s.0);
+        loaded_nothing = holds.loaded_composes.none s.0;
+        cursor = λ some. absurd (omega (arith, some));
+        late = tt;
+        stopped = refl;
+      }))
+  TakesAt-took member frame bindings sample_of (suc n) s t left ended are few own floor (Late word, m, step, rest) =
+      subst (λ (u : S × T). TookFrame s u member frame bindings sample_of (suc n) left ended) (sym rest.there)
+      (subst (λ (r : ℕ × Ended). TookFrame s m member frame bindings sample_of (suc n) r.0 r.1) (sym rest.result) (record {
+        view_is = step.view_is ∙ ap (λ (v : PortView). record (P.view s.0) { marks = v.marks }) (sym step.view_is);
+        same_floor = ap (λ (v : PortView). v.marks.floor) step.view_is;
+        is_left = (omega arith, omega arith);
+        away = TakesAway-none s.0 m.0 (frame_entries member bindings sample_of (suc n) frame) step.laid_it;
+        loaded_nothing = step.loaded_nothing;
+        cursor = tt;
+        late = subst (λ (k : ℕ). IsPast P.view P.shows m.0 frame (slice_index bindings (slice_index (rising bindings) k)) word) (let e : n ≡ suc n - 1 = omega arith in e) step.shown;
+        stopped = step.stopped;
+      }))
+  TakesAt-took member frame bindings sample_of (suc n) s t left ended are few own floor (Stopped, m, step, rest) =
+      subst (λ (u : S × T). TookFrame s u member frame bindings sample_of (suc n) left ended) (sym rest.there)
+      (subst (λ (r : ℕ × Ended). TookFrame s m member frame bindings sample_of (suc n) r.0 r.1) (sym rest.result) (record {
+        view_is = step.view_is ∙ ap (λ (v : PortView). record (P.view s.0) { marks = v.marks }) (sym step.view_is);
+        same_floor = ap (λ (v : PortView). v.marks.floor) step.view_is;
+        is_left = (omega arith, omega arith);
+        away = TakesAway-none s.0 m.0 (frame_entries member bindings sample_of (suc n) frame) step.laid_it;
+        loaded_nothing = step.loaded_nothing;
+        cursor = tt;
+        late = tt;
+        stopped = step.stopped;
+      }))
+  TakesAt-took member frame bindings sample_of (suc n) s t left ended are few own floor (Whole, m, step, rest) =
+      let q : ℕ = slice_index (rising bindings) n in
+      let same_floor : (P.view m.0).marks.floor ≡ (P.view s.0).marks.floor = ap (λ (v : PortView). v.marks.floor) step.view_is in
+      let later = TakesAt-took member frame bindings sample_of n m t left ended are (omega (arith, few)) (ap (λ (v : PortView). v.member) step.view_is ∙ own)
+      (subst (λ (c : Cursor). IsFrom c frame (least_channel bindings)) (sym same_floor) floor) rest in
+      let here : IsFrom (P.view s.0).marks.floor frame (slice_index bindings q) = IsFrom-later (P.view s.0).marks.floor frame _ _ (rising-least bindings n are (omega (arith, few))) floor in
+      record {
+        view_is = marks-joined (P.view s.0) (P.view m.0) (P.view t.0) _ (step.view_is ∙ ap (λ (v : PortView). record (P.view s.0) { marks = v.marks }) (sym step.view_is)) later.view_is;
+        same_floor = later.same_floor ∙ same_floor;
+        is_left = left-more ended left n later.is_left;
+        away = subst (λ (es : List Entry). TakesAway P.laid P.ends_in s.0 t.0 es (frame_entries member bindings sample_of left frame)) (sym (frame_entries-last member bindings sample_of n frame are (omega (arith, few))))
+            (TakesAway-joined s.0 m.0 t.0 _ _ _ (TakesAway-last s.0 m.0 member (frame_entries member bindings sample_of n frame) frame (slice_index bindings q) (sample_of q) own here step.laid_it) later.away);
+        loaded_nothing = holds.loaded_composes.joined s.0 m.0 t.0 [] [] step.loaded_nothing later.loaded_nothing;
+        cursor = cursor-by member frame bindings sample_of n m t left ended (ap (λ (v : PortView). v.marks.cursor) step.view_is) rest later.cursor;
+        late = later.late;
+        stopped = later.stopped ∙ ap (stops_after (pass_of_end ended)) step.stopped;
+      }
+
+  -- the first of the frames is withdrawn last
+  cursor-back : (member card : ℕ) (bindings : List ℕ) (samples : ℕ → ℕ → ℤ) (first n : ℕ) (m t : S × T) (x : Commit)
+      → (P.view m.0).marks.cursor ≡ record { frame = card + (first + n); channel = least_channel bindings } → TakesAt P G m (take_frames member card bindings samples first n) t x
+      → OnWhole x.ended (0 < n → (P.view t.0).marks.cursor ≡ record { frame = card + first; channel = least_channel bindings })
+      → OnWhole x.ended (0 < suc n → (P.view t.0).marks.cursor ≡ record { frame = card + first; channel = least_channel bindings })
+  unfolding take_frames
+  cursor-back member card bindings samples first zero m t x here takes later =
+      OnWhole-all x.ended _ (λ some. ap (λ (u : S × T). (P.view u.0).marks.cursor) takes.there ∙ here ∙ ap (λ (k : ℕ). let c : Cursor = record { frame = card + k; channel = least_channel bindings } in c) (let e : first + 0 ≡ first = omega arith in e))
+  cursor-back member card bindings samples first (suc n) m t x here takes later = OnWhole-map x.ended _ _ (λ is some. is (omega arith)) later
+
+  -- what the withdrawals of some frames came to
+  pub record TookFrames (s t : S × T) (member card : ℕ) (bindings : List ℕ) (samples : ℕ → ℕ → ℤ) (first count : ℕ) (x : Commit) : Type 0 where
+    pub view_is : P.view t.0 ≡ record (P.view s.0) { marks = (P.view t.0).marks }
+    pub same_floor : (P.view t.0).marks.floor ≡ (P.view s.0).marks.floor
+    pub are_left : AreLeft x.ended x.frames x.part count (length bindings)
+    pub still : count ≡ 0 → P.view t.0 ≡ P.view s.0
+    pub away : TakesAway P.laid P.ends_in s.0 t.0 (run_entries member bindings samples card first count 0) (run_entries member bindings samples card first x.frames x.part)
+    pub loaded_nothing : P.loaded s.0 t.0 []
+    pub cursor : OnWhole x.ended (0 < count → (P.view t.0).marks.cursor ≡ record { frame = card + first; channel = least_channel bindings })
+    pub late : OnLate x.ended (λ word. IsPast P.view P.shows t.0 (card + (first + last_frame x.frames x.part)) (slice_index bindings (slice_index (rising bindings) (last_place x.part (length bindings)))) word)
+    pub stopped : G.stops t.1 ≡ stops_after (pass_of_end x.ended) (G.stops s.1)
+
+  -- one frame more, of which some channels are left
+  frames-left : (member card : ℕ) (bindings : List ℕ) (samples : ℕ → ℕ → ℤ) (first n left : ℕ) (ended : Ended) (s t : S × T) (all : Bool) → nat_eq left (length bindings) ≡ all → 0 < left → left ≤ length bindings → (ended ≡ Whole → ⊥)
+      → TookFrame s t member (card + (first + n)) bindings (samples (first + n)) (length bindings) left ended
+      → TookFrames s t member card bindings samples first (suc n)
+      (if all then record { frames = n + 1; part = 0; ended = ended } else record { frames = n; part = left; ended = ended })
+  frames-left member card bindings samples first n left ended s t true is some few not_whole one =
+      let whole : left ≡ length bindings = grind (arith, nat_tests) in
+      let before : run_entries member bindings samples card first (suc n) 0 ≡ run_entries member bindings samples card first n 0 ++ frame_entries member bindings (samples (first + n)) (length bindings) (card + (first + n)) =
+      ap (λ (k : ℕ). run_entries member bindings samples card first k 0) (let e : suc n ≡ n + 1 = omega arith in e) ∙ run_entries-last member bindings samples card first n in
+      record {
+        view_is = one.view_is;
+        same_floor = one.same_floor;
+        still = λ none. absurd (omega (arith, none));
+        are_left = all-left ended (n + 1) 0 (suc n) (length bindings) not_whole (omega arith) (omega arith) (omega (arith, some, few));
+        away = subst (λ (es : List Entry). TakesAway P.laid P.ends_in s.0 t.0 es (run_entries member bindings samples card first (n + 1) 0)) (sym before)
+            (subst (λ (es : List Entry). TakesAway P.laid P.ends_in s.0 t.0 (run_entries member bindings samples card first n 0 ++ frame_entries member bindings (samples (first + n)) (length bindings) (card + (first + n))) es) (sym (run_entries-last member bindings samples card first n))
+            (TakesAway-behind s.0 t.0 (run_entries member bindings samples card first n 0) _ _
+            (subst (λ (k : ℕ). TakesAway P.laid P.ends_in s.0 t.0 (frame_entries member bindings (samples (first + n)) (length bindings) (card + (first + n))) (frame_entries member bindings (samples (first + n)) k (card + (first + n)))) whole one.away)));
+        loaded_nothing = one.loaded_nothing;
+        cursor = OnWhole-not ended _ not_whole;
+        late = subst (λ (k : ℕ). OnLate ended (λ word. IsPast P.view P.shows t.0 (card + k) (slice_index bindings (slice_index (rising bindings) (length bindings - 1))) word)) (let e : first + n ≡ first + (n + 1 - 1) = omega arith in e)
+            (subst (λ (k : ℕ). OnLate ended (λ word. IsPast P.view P.shows t.0 (card + (first + n)) (slice_index bindings (slice_index (rising bindings) (k - 1))) word)) whole one.late);
+        stopped = one.stopped;
+      }
+  frames-left member card bindings samples first n left ended s t false is some few not_whole one =
+      let part : left < length bindings = grind (arith, nat_tests) in
+      let before : run_entries member bindings samples card first (suc n) 0 ≡ run_entries member bindings samples card first n 0 ++ frame_entries member bindings (samples (first + n)) (length bindings) (card + (first + n)) =
+      ap (λ (k : ℕ). run_entries member bindings samples card first k 0) (let e : suc n ≡ n + 1 = omega arith in e) ∙ run_entries-last member bindings samples card first n in
+      let not_none : nat_eq left 0 ≡ false = grind (arith, nat_tests) in
+      record {
+        view_is = one.view_is;
+        same_floor = one.same_floor;
+        still = λ none. absurd (omega (arith, none));
+        are_left = all-left ended n left (suc n) (length bindings) not_whole (omega (arith, some)) (used-some n left) part;
+        away = subst (λ (es : List Entry). TakesAway P.laid P.ends_in s.0 t.0 es (run_entries member bindings samples card first n left)) (sym before)
+            (subst (λ (es : List Entry). TakesAway P.laid P.ends_in s.0 t.0 (run_entries member bindings samples card first n 0 ++ frame_entries member bindings (samples (first + n)) (length bindings) (card + (first + n))) es) (sym (run_entries-part member bindings samples card first n left))
+            (TakesAway-behind s.0 t.0 (run_entries member bindings samples card first n 0) _ _ one.away));
+        loaded_nothing = one.loaded_nothing;
+        cursor = OnWhole-not ended _ not_whole;
+        late = subst (λ (b : Bool). OnLate ended (λ word. IsPast P.view P.shows t.0 (card + (first + (if b then n - 1 else n))) (slice_index bindings (slice_index (rising bindings) ((if b then length bindings else left) - 1))) word)) (sym not_none) one.late;
+        stopped = one.stopped;
+      }
+
+  -- the last frame, and what those before it came to
+  back-by : (member card : ℕ) (bindings : List ℕ) (samples : ℕ → ℕ → ℤ) (first n left : ℕ) (ended : Ended) (s m t : S × T) (x : Commit) → AreBindings bindings
+      → TookFrame s m member (card + (first + n)) bindings (samples (first + n)) (length bindings) left ended
+      → ((u : S × T) (y : Commit) → TakesAt P G m (take_frames member card bindings samples first n) u y → TookFrames m u member card bindings samples first n y)
+      → TakesAt P G m (back_on (left, ended) n (length bindings) (take_frames member card bindings samples first n)) t x → TookFrames s t member card bindings samples first (suc n) x
+  back-by member card bindings samples first n left (Late word) s m t x are one behind takes =
+      subst (λ (u : S × T). TookFrames s u member card bindings samples first (suc n) x) (sym takes.there)
+      (subst (λ (y : Commit). TookFrames s m member card bindings samples first (suc n) y) (sym takes.result)
+      (frames-left member card bindings samples first n left (Late word) s m (nat_eq left (length bindings)) refl one.is_left.0 one.is_left.1 (λ is. cc) one))
+  back-by member card bindings samples first n left Stopped s m t x are one behind takes =
+      subst (λ (u : S × T). TookFrames s u member card bindings samples first (suc n) x) (sym takes.there)
+      (subst (λ (y : Commit). TookFrames s m member card bindings samples first (suc n) y) (sym takes.result)
+      (frames-left member card bindings samples first n left Stopped s m (nat_eq left (length bindings)) refl one.is_left.0 one.is_left.1 (λ is. cc) one))
+  back-by member card bindings samples first n left Whole s m t x are one behind takes =
+      let later = behind t x takes in
+      let before : run_entries member bindings samples card first (suc n) 0 ≡ run_entries member bindings samples card first n 0 ++ frame_entries member bindings (samples (first + n)) (length bindings) (card + (first + n)) =
+      ap (λ (k : ℕ). run_entries member bindings samples card first k 0) (let e : suc n ≡ n + 1 = omega arith in e) ∙ run_entries-last member bindings samples card first n in
+      let gone : TakesAway P.laid P.ends_in s.0 m.0 (run_entries member bindings samples card first (suc n) 0) (run_entries member bindings samples card first n 0) =
+      subst (λ (es : List Entry). TakesAway P.laid P.ends_in s.0 m.0 es (run_entries member bindings samples card first n 0)) (sym before)
+      (subst (λ (es : List Entry). TakesAway P.laid P.ends_in s.0 m.0 (run_entries member bindings samples card first n 0 ++ frame_entries member bindings (samples (first + n)) (length bindings) (card + (first + n))) es) (append-nil (run_entries member bindings samples card first n 0))
+      (TakesAway-behind s.0 m.0 (run_entries member bindings samples card first n 0) _ _
+      (subst (λ (k : ℕ). TakesAway P.laid P.ends_in s.0 m.0 (frame_entries member bindings (samples (first + n)) (length bindings) (card + (first + n))) (frame_entries member bindings (samples (first + n)) k (card + (first + n)))) one.is_left one.away))) in
+      record {
+        view_is = later.view_is ∙ ap (λ (v : PortView). record v { marks = (P.view t.0).marks }) one.view_is;
+        same_floor = later.same_floor ∙ one.same_floor;
+        still = λ none. absurd (omega (arith, none));
+        are_left = more-left x.ended x.frames x.part n (length bindings) later.are_left;
+        away = TakesAway-joined s.0 m.0 t.0 _ _ _ gone later.away;
+        loaded_nothing = holds.loaded_composes.joined s.0 m.0 t.0 [] [] one.loaded_nothing later.loaded_nothing;
+        cursor = cursor-back member card bindings samples first n m t x (one.cursor are.some) takes later.cursor;
+        late = later.late;
+        stopped = later.stopped ∙ ap (stops_after (pass_of_end x.ended)) one.stopped;
+      }
+
+  pub TakesAt-back : (member card : ℕ) (bindings : List ℕ) (samples : ℕ → ℕ → ℤ) (first count : ℕ) (s t : S × T) (x : Commit) → AreBindings bindings
+      → (P.view s.0).member ≡ member → (0 < count → IsFrom (P.view s.0).marks.floor (card + first) (least_channel bindings))
+      → TakesAt P G s (take_frames member card bindings samples first count) t x → TookFrames s t member card bindings samples first count x
+  unfolding take_frames
+  TakesAt-back member card bindings samples first zero s t x are own floor takes =
+      subst (λ (u : S × T). TookFrames s u member card bindings samples first 0 x) (sym takes.there)
+      (subst (λ (y : Commit). TookFrames s s member card bindings samples first 0 y) (sym takes.result) (record {
+        view_is = refl;
+        same_floor = refl;
+        are_left = (refl, refl);
+        still = λ none. refl;
+        away = TakesAway-none s.0 s.0 (run_entries member bindings samples card first 0 0) (holds.laid_composes.none s.0);
+        loaded_nothing = holds.loaded_composes.none s.0;
+        cursor = λ some. absurd (omega (arith, some));
+        late = tt;
+        stopped = refl;
+      }))
+  TakesAt-back member card bindings samples first (suc n) s t x are own floor takes =
+      let parts = Takes-parts (LoadsAt P G) (LaysAt P G) NoGet s t (take_each member (card + (first + n)) bindings (samples (first + n)) (length bindings)) (λ end. back_on end n (length bindings) (take_frames member card bindings samples first n)) x takes in
+      let here : IsFrom (P.view s.0).marks.floor (card + (first + n)) (least_channel bindings) = omega (arith, floor (omega arith)) in
+      let one = TakesAt-took member (card + (first + n)) bindings (samples (first + n)) (length bindings) s parts.0 parts.1.0 parts.1.1 are (omega arith) own here parts.2 in
+      back-by member card bindings samples first n parts.1.0 parts.1.1 s parts.0 t x are one
+      (λ u y rest. TakesAt-back member card bindings samples first n parts.0 u y are (ap (λ (v : PortView). v.member) one.view_is ∙ own) (λ some. subst (λ (c : Cursor). IsFrom c (card + first) (least_channel bindings)) (sym one.same_floor) (floor (omega arith))) rest) parts.3

@@ -51,7 +51,15 @@ settled c outcome = (in_state c outcome.state, outcome.answer)
 
 -- a stretch that waits for its start: so many frames are written, the first of them after so many others, and none is placed
 abbrev pub waiting : ℕ → ℕ → Stretch
-waiting written source = record { written = written; committed = 0; part = 0; card = 0; started = false; source = source }
+waiting written source =
+    record {
+      written = written;
+      committed = 0;
+      part = 0;
+      card = 0;
+      started = false;
+      source = source;
+    }
 
 -- a client that is opened
 abbrev pub opened : Geometry → ℕ → ℕ → Plain
@@ -86,7 +94,13 @@ dropped c = in_state c Setup
 
 -- the segment since the last prepare
 abbrev pub segment_of : Plain → Segment
-segment_of c = record { source = c.stretch.source; card = c.stretch.card; whole = c.stretch.committed; part = c.stretch.part }
+segment_of c =
+    record {
+      source = c.stretch.source;
+      card = c.stretch.card;
+      whole = c.stretch.committed;
+      part = c.stretch.part;
+    }
 
 -- the parts of the calls that take steps
 
@@ -101,7 +115,10 @@ start_frame c position cursor = max (position + c.identity.lead) (first_free cur
 -- the stream starts, and is in a state
 abbrev pub started_in : Plain → State → Position → Cursor → Plain
 started_in c state position cursor =
-    record (in_state c state) { stretch = record c.stretch { card = start_frame c position.frame cursor; started = true }; seen = Some position.frame }
+    record (in_state c state) {
+      stretch = record c.stretch { card = start_frame c position.frame cursor; started = true };
+      seen = Some position.frame;
+    }
 
 -- the frame that the window of a position ends before
 abbrev pub window_end : Geometry → ℕ → ℕ
@@ -109,23 +126,32 @@ window_end g position = min (position + g.frames) (end_frame g)
 
 -- how many frames a commit at a position is to lay, of those before one
 abbrev pub commit_count : Plain → ℕ → ℕ → ℕ
-commit_count c position upto = min upto (window_end c.identity.geometry position - c.stretch.card) - c.stretch.committed
+commit_count c position upto =
+    min upto (window_end c.identity.geometry position - c.stretch.card) - c.stretch.committed
 
 -- the client after a commit
 abbrev pub committed_by : Plain → Commit → Plain
-committed_by c commit = record c { stretch = record c.stretch { committed = c.stretch.committed + commit.frames; part = commit.part } }
+committed_by c commit =
+    record c {
+      stretch = record c.stretch {
+        committed = c.stretch.committed + commit.frames;
+        part = commit.part;
+      };
+    }
 
 -- the frame at which a commit ended, and the card channel
 abbrev pub end_of_commit : Plain → Commit → ℕ
 end_of_commit c commit = c.stretch.card + (c.stretch.committed + commit.frames)
 
 abbrev pub end_channel : Plain → Commit → ℕ
-end_channel c commit = slice_index c.setup.bindings (slice_index (rising c.setup.bindings) commit.part)
+end_channel c commit =
+    slice_index c.setup.bindings (slice_index (rising c.setup.bindings) commit.part)
 
 -- what a commit laid of the local ring
 abbrev pub commit_entries : Plain → List ℤ → Commit → List Entry
 commit_entries c ring commit =
-    run_entries c.identity.member c.setup.bindings (held c ring) c.stretch.card c.stretch.committed commit.frames commit.part
+    run_entries c.identity.member c.setup.bindings (held c ring) c.stretch.card c.stretch.committed
+    commit.frames commit.part
 
 abbrev pub is_stop : Ended → Bool
 is_stop ended.Whole = false
@@ -152,17 +178,26 @@ is_running other = false
 -- the stop threshold was reached in RUNNING, at a position: the frames available
 abbrev pub over_of : Plain → Position → Option (ℕ × ℕ)
 over_of c position =
-    if is_running c.status.state && nat_le c.setup.params.stop_threshold (avail_of c) then Some (avail_of c, position.frame) else None
+    if is_running c.status.state && nat_le c.setup.params.stop_threshold (avail_of c)
+    then Some (avail_of c, position.frame) else None
 
 -- the facts for the state table: of a client after its commit, with what stood at the load
 abbrev pub facts_of : Plain → Position → Option (ℕ × ℕ) → Option XrunWhy → Facts
 facts_of c position over late =
-    record { capture = false; queued = queued_of c; starts = true; gone = position.gone; over = over; late = late }
+    record {
+      capture = false;
+      queued = queued_of c;
+      starts = true;
+      gone = position.gone;
+      over = over;
+      late = late;
+    }
 
 -- how many frames the sync at a position is to commit
 abbrev pub sync_count : Plain → Position → ℕ
 sync_count c position =
-    if position.gone || is_some (over_of (seen_at c position) position) then 0 else commit_count c position.frame c.stretch.written
+    if position.gone || is_some (over_of (seen_at c position) position) then 0
+    else commit_count c position.frame c.stretch.written
 
 -- the sync of a client that moves frames: the load, the stop threshold, the commit
 abbrev pub synced : Plain → Call → Option Position → Commit → Answered (Unit {0})
@@ -172,17 +207,26 @@ synced c call (Some position) commit =
     let done = committed_by loaded commit in
     if is_stop commit.ended
     then stopped_in done
-    else settled done (next_of c.status.state call (facts_of done position (over_of loaded position) (late_of loaded commit)))
+    else settled done (next_of c.status.state call
+    (facts_of done position (over_of loaded position) (late_of loaded commit)))
 
 -- the facts of a start, or of a commit behind a sync, that isn't empty
 abbrev pub found_at : Position → Option XrunWhy → Facts
 found_at position late =
-    record { capture = false; queued = 1; starts = true; gone = position.gone; over = None; late = late }
+    record {
+      capture = false;
+      queued = 1;
+      starts = true;
+      gone = position.gone;
+      over = None;
+      late = late;
+    }
 
 -- how many frames a start at a position is to commit, of those before one
 abbrev pub start_count : Plain → Cursor → Position → ℕ → ℕ
 start_count c cursor position upto =
-    if position.gone then 0 else commit_count (started_in c Running position cursor) position.frame upto
+    if position.gone then 0 else commit_count (started_in c Running position cursor) position.frame
+    upto
 
 -- an answer leads to a state, or a refusal to another
 abbrev pub going_on_by : Result (Unit {0}) PcmError → Plain → State → State → Answered (Unit {0})
@@ -269,7 +313,8 @@ taken_of c n = min n (min (avail_of c) c.setup.config.buffer_size)
 
 -- frames were accepted
 abbrev pub accepted : Plain → ℕ → Plain
-accepted c n = record c { stretch = record c.stretch { written = c.stretch.written + n }; fed = c.fed + n }
+accepted c n =
+    record c { stretch = record c.stretch { written = c.stretch.written + n }; fed = c.fed + n }
 
 -- frames that were taken are accepted where the call goes well
 abbrev pub accepted_if : ℕ → Answered (Unit {0}) → Answered ℕ
@@ -284,7 +329,10 @@ written_after c n commit =
     else (
     if is_stop commit.ended
     then stopped_in (committed_by c commit)
-    else accepted_if (taken_of c n) (settled (committed_by c commit) (next_of Running call.Transfer (found_at (record { frame = 0; gone = false }) (late_of c commit))))
+    else accepted_if (taken_of c n)
+    (settled (committed_by c commit)
+    (next_of Running call.Transfer
+    (found_at (record { frame = 0; gone = false }) (late_of c commit))))
     )
 
 abbrev pub written_on : Answered (Unit {0}) → ℕ → Commit → Answered ℕ

@@ -33,9 +33,11 @@ Reaches c (Some position) avail frame =
     × (avail ≡ avail_of (seen_at c position)) × (frame ≡ position.frame)
 
 -- a frame and channel are the first of a client's segment in which nothing is laid, and the port shows that they were taken
-pub record IsMissed {S : Type 0} (view : S → PortView) (shows : S → ℕ → ℕ → Option ℕ) (q : S) (d : Plain) (frame channel word : ℕ) : Type 0 where
+pub record IsMissed {S : Type 0} (view : S → PortView) (shows : S → ℕ → ℕ → Option ℕ) (q : S)
+    (d : Plain) (frame channel word : ℕ) : Type 0 where
   pub frame_is : frame ≡ d.stretch.card + d.stretch.committed
-  pub channel_is : channel ≡ slice_index d.setup.bindings (slice_index (rising d.setup.bindings) d.stretch.part)
+  pub channel_is : channel ≡ slice_index d.setup.bindings
+      (slice_index (rising d.setup.bindings) d.stretch.part)
   pub past : IsPast view shows q frame channel word
 
 -- the errors that a call can find in its steps, once it was admitted
@@ -48,26 +50,32 @@ IsOfSteps (Xrun (Late frame channel seen)) = ⊤
 IsOfSteps other = ⊥
 
 -- why a call of a client `c`, which loaded a position unless the gate stopped it before and left the client as `d`, answered so
-pub record IsCaused {S X : Type 0} (view : S → PortView) (shows : S → ℕ → ℕ → Option ℕ) (q : S) (c d : Plain) (load : Option Position) (answer : Result X PcmError) : Type 0 where
+pub record IsCaused {S X : Type 0} (view : S → PortView) (shows : S → ℕ → ℕ → Option ℕ) (q : S)
+    (c d : Plain) (load : Option Position) (answer : Result X PcmError) : Type 0 where
   pub unless_stopped : IfNone load (answer ≡ Err Stopped)
   pub of_steps : IfErr answer IsOfSteps
   pub no_device : (answer ≡ Err NoDevice) ↔ IsGone load
-  pub reached : (avail frame : ℕ) → (answer ≡ Err (Xrun (Avail avail frame))) ↔ Reaches c load avail frame
-  pub late : (frame channel word : ℕ) → answer ≡ Err (Xrun (Late frame channel word)) → IsMissed view shows q d frame channel word
+  pub reached : (avail frame : ℕ) → (answer ≡ Err (Xrun (Avail avail frame)))
+      ↔ Reaches c load avail frame
+  pub late : (frame channel word : ℕ) → answer ≡ Err (Xrun (Late frame channel word))
+      → IsMissed view shows q d frame channel word
   pub never_lap_end : answer ≡ Err LapEnd → ⊥
 
 -- what the step of a call did, and why it answered so by the position that this step loaded
-pub record Explains {S T X : Type 0} (P : mixport.Ghosts S) (G : gates.Ghosts T) (s t : S × T) (c : ClientView) (at : Position → Plain) (count : Position → ℕ)
+pub record Explains {S T X : Type 0} (P : mixport.Ghosts S) (G : gates.Ghosts T) (s t : S × T)
+    (c : ClientView) (at : Position → Plain) (count : Position → ℕ)
     (call : Option Position → Commit → Answered X) (done : Answered X) : Type 0 where
   pub step : TakesStep P G s t c.ring at count (length c.plain.setup.bindings) call done
   pub why : IsCaused P.view P.shows t.0 c.plain done.0 step.load done.1
 
 -- a write of n frames into a stream that runs: its sync, and what followed it; why it answered so by the position that the sync
 -- loaded; and that it is to be made again exactly where the sync went well, there are frames to write, and none can be taken
-pub record ExplainsWrite {S T : Type 0} (P : mixport.Ghosts S) (G : gates.Ghosts T) (s t : S × T) (c : Plain) (ring new_ring samples : List ℤ) (n : ℕ) (done : Answered ℕ) : Type 0 where
+pub record ExplainsWrite {S T : Type 0} (P : mixport.Ghosts S) (G : gates.Ghosts T) (s t : S × T)
+    (c : Plain) (ring new_ring samples : List ℤ) (n : ℕ) (done : Answered ℕ) : Type 0 where
   pub between : S × T
   pub middle : Answered (Unit {0})
-  pub first : TakesStep P G s between ring (λ position. c) (sync_count c) (length c.setup.bindings) (synced c call.Transfer) middle
+  pub first : TakesStep P G s between ring (λ position. c) (sync_count c) (length c.setup.bindings)
+      (synced c call.Transfer) middle
   pub rest : TakesAt P G between (write_on ring samples n middle) t done
   pub ring_is : new_ring ≡ ring_with middle.0 ring samples (taken_after middle n)
   pub why : IsCaused P.view P.shows t.0 c done.0 first.load done.1

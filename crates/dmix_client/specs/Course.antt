@@ -34,10 +34,12 @@ lay_on Stopped rest = ends (0, Stopped)
 unfoldable pub lay_each : ℕ → ℕ → List ℕ → (ℕ → ℤ) → List ℕ → Course (ℕ × Ended)
 lay_each member frame bindings sample_of [] = ends (0, Whole)
 lay_each member frame bindings sample_of (q ∷ qs) =
-    lays (an_add member frame (slice_index bindings q) (sample_of q)) (λ ended. lay_on ended (lay_each member frame bindings sample_of qs))
+    lays (an_add member frame (slice_index bindings q) (sample_of q))
+    (λ ended. lay_on ended (lay_each member frame bindings sample_of qs))
 
 abbrev pub lay_frame : ℕ → ℕ → List ℕ → (ℕ → ℤ) → Course (ℕ × Ended)
-lay_frame member frame bindings sample_of = lay_each member frame bindings sample_of (rising bindings)
+lay_frame member frame bindings sample_of =
+    lay_each member frame bindings sample_of (rising bindings)
 
 -- so many frames are laid, from a first one on, up to the first sample that isn't
 abbrev pub one_frame_more : Commit → Commit
@@ -54,29 +56,36 @@ nothing = record { frames = 0; part = 0; ended = Whole }
 unfoldable pub lay_frames : ℕ → ℕ → List ℕ → (ℕ → ℕ → ℤ) → ℕ → ℕ → Course Commit
 lay_frames member card bindings samples zero first = ends nothing
 lay_frames member card bindings samples (suc count) first =
-    lay_frame member (card + first) bindings (samples first) >>= λ end. go_on end (lay_frames member card bindings samples count (first + 1))
+    lay_frame member (card + first) bindings (samples first)
+    >>= λ end. go_on end (lay_frames member card bindings samples count (first + 1))
 
 -- the commit of so many frames
 abbrev pub commits : Plain → List ℤ → ℕ → Course Commit
-commits c ring count = lay_frames c.identity.member c.stretch.card c.setup.bindings (held c ring) count c.stretch.committed
+commits c ring count =
+    lay_frames c.identity.member c.stretch.card c.setup.bindings (held c ring) count
+    c.stretch.committed
 
 -- a commit behind a load, of a client as it is then
-abbrev pub commit_at : (Position → Plain) → (Position → ℕ) → List ℤ → Option Position → Course Commit
+abbrev pub commit_at : (Position → Plain) → (Position → ℕ) → List ℤ → Option Position
+    → Course Commit
 commit_at at count ring None = ends nothing
 commit_at at count ring (Some position) = commits (at position) ring (count position)
 
 -- a load, and the commit behind it
-unfoldable pub looks : (Position → Plain) → (Position → ℕ) → List ℤ → Course (Option Position × Commit)
+unfoldable pub looks : (Position → Plain) → (Position → ℕ) → List ℤ
+    → Course (Option Position × Commit)
 looks at count ring = loads (λ load. commit_at at count ring load >>= λ commit. ends (load, commit))
 
 -- the sync of a client that moves frames: the load, and the commit
 unfoldable pub syncs : Plain → Call → List ℤ → Course (Answered (Unit {0}))
-syncs c call ring = looks (λ position. c) (sync_count c) ring >>= λ found. ends (synced c call found.0 found.1)
+syncs c call ring = looks (λ position. c) (sync_count c) ring
+    >>= λ found. ends (synced c call found.0 found.1)
 
 -- the start of a client that has frames: the load, and the commit of those before one
 unfoldable pub starts : Plain → State → Cursor → ℕ → List ℤ → Course (Answered (Unit {0}))
 starts c state cursor upto ring =
-    looks (λ position. started_in c Running position cursor) (λ position. start_count c cursor position upto) ring
+    looks (λ position. started_in c Running position cursor)
+    (λ position. start_count c cursor position upto) ring
     >>= λ found. ends (started c state cursor found.0 found.1)
 
 -- the calls, each of a client that isn't refused before
@@ -86,7 +95,8 @@ sync_course c ring = if is_moving c.status.state then syncs c call.Sync ring els
 
 abbrev pub start_course : Plain → List ℤ → Cursor → Course (Answered (Unit {0}))
 start_course c ring cursor = if nat_eq c.stretch.written 0
-    then ends (settled c (next_of c.status.state call.Start (record (nothing_found Playback) { queued = 0 })))
+    then ends
+    (settled c (next_of c.status.state call.Start (record (nothing_found Playback) { queued = 0 })))
     else starts c Running cursor c.stretch.written ring
 
 abbrev pub drain_on : List ℤ → Answered (Unit {0}) → Course (Answered (Unit {0}))
@@ -105,7 +115,8 @@ drain_course c ring cursor =
 -- the resume of a client with pending frames: the load, and the commit of these from where the stream starts
 unfoldable pub resumes : Plain → Cursor → List ℤ → Course (Answered (Unit {0}))
 resumes c cursor ring =
-    looks (λ position. started_in (rebased c) Running position cursor) (λ position. start_count (rebased c) cursor position (pending_of c)) ring
+    looks (λ position. started_in (rebased c) Running position cursor)
+    (λ position. start_count (rebased c) cursor position (pending_of c)) ring
     >>= λ found. ends (resumed c cursor found.0 found.1)
 
 abbrev pub pause_course : Bool → Plain → List ℤ → Cursor → Course (Answered (Unit {0}))
@@ -116,7 +127,8 @@ abbrev pub pause_call : Bool → Call
 pause_call on = if on then call.Pause else call.Resume
 
 -- a call, unless it is refused before it does anything
-abbrev pub admitted_by : {X : Type 0} → Option PcmError → Plain → Course (Answered X) → Course (Answered X)
+abbrev pub admitted_by : {X : Type 0} → Option PcmError → Plain → Course (Answered X)
+    → Course (Answered X)
 admitted_by None c course = course
 admitted_by (Some e) c course = ends (c, Err e)
 
@@ -128,12 +140,14 @@ unfoldable pub numbered : (Plain → ℕ) → Course (Answered (Unit {0})) → C
 numbered number course = course >>= λ done. ends (with_number number done)
 
 abbrev pub number_course : (Plain → ℕ) → Plain → List ℤ → Course (Answered ℕ)
-number_course number c ring = if is_moving c.status.state then numbered number (syncs c call.Sync ring) else ends (c, Ok (number c))
+number_course number c ring = if is_moving c.status.state
+    then numbered number (syncs c call.Sync ring) else ends (c, Ok (number c))
 
 -- a write behind its sync: frames are taken, stored and committed
 unfoldable pub takes_more : Plain → List ℤ → List ℤ → ℕ → Course (Answered ℕ)
 takes_more c ring samples n =
-    commits c (ring_with c ring samples (taken_of c n)) (count_with c (taken_of c n)) >>= λ last. ends (written_after c n last)
+    commits c (ring_with c ring samples (taken_of c n)) (count_with c (taken_of c n))
+    >>= λ last. ends (written_after c n last)
 
 abbrev pub write_on : List ℤ → List ℤ → ℕ → Answered (Unit {0}) → Course (Answered ℕ)
 write_on ring samples n (c, Ok done) = takes_more c ring samples n
@@ -144,7 +158,8 @@ writes_on c ring samples n = syncs c call.Transfer ring >>= write_on ring sample
 
 -- a write that starts the stream with frames that are stored
 unfoldable pub starts_taking : Plain → List ℤ → Cursor → ℕ → Course (Answered ℕ)
-starts_taking c ring cursor taken = starts c Running cursor (c.stretch.written + taken) ring >>= λ done. ends (accepted_if taken done)
+starts_taking c ring cursor taken = starts c Running cursor (c.stretch.written + taken) ring
+    >>= λ done. ends (accepted_if taken done)
 
 abbrev pub fills : Plain → List ℤ → List ℤ → Cursor → ℕ → Course (Answered ℕ)
 fills c ring samples cursor n = if starts_with c n
@@ -153,4 +168,5 @@ fills c ring samples cursor n = if starts_with c n
 
 abbrev pub write_course : Plain → List ℤ → List ℤ → Cursor → Course (Answered ℕ)
 write_course c ring samples cursor =
-    if is_running c.status.state then writes_on c ring samples (frames_in c samples) else fills c ring samples cursor (frames_in c samples)
+    if is_running c.status.state then writes_on c ring samples (frames_in c samples)
+    else fills c ring samples cursor (frames_in c samples)

@@ -35,26 +35,35 @@ abbrev pub entry_of : ℕ → ℕ → List ℕ → (ℕ → ℤ) → ℕ → Ent
 entry_of member frame bindings sample_of q = an_add member frame (slice_index bindings q) (sample_of q)
 
 -- what some channels of a frame came to
-pub record LaysFrame {S T : Type 0} (P : mixport.Ghosts S) (G : gates.Ghosts T) (s t : S × T) (member frame : ℕ) (bindings : List ℕ) (sample_of : ℕ → ℤ) (qs : List ℕ) (done : ℕ) (ended : Ended) : Type 0 where
+pub record LaysFrame {S T : Type 0} (P : mixport.Ghosts S) (G : gates.Ghosts T) (s t : S × T)
+    (member frame : ℕ) (bindings : List ℕ) (sample_of : ℕ → ℤ) (qs : List ℕ) (done : ℕ)
+    (ended : Ended) : Type 0 where
   pub view_is : P.view t.0 ≡ record (P.view s.0) { marks = (P.view t.0).marks }
   pub up_to : IsUpTo ended done (length qs)
   pub laid_them : P.laid s.0 t.0 (map (entry_of member frame bindings sample_of) (take done qs))
   pub loaded_nothing : P.loaded s.0 t.0 []
   pub not_before_seen : 0 < done → (P.view s.0).seen ≤ frame
-  pub late : OnLate ended (λ word. IsPast P.view P.shows t.0 frame (slice_index bindings (slice_index qs done)) word)
+  pub late : OnLate ended (λ word. IsPast P.view P.shows t.0 frame
+      (slice_index bindings (slice_index qs done)) word)
   pub stopped : G.stops t.1 ≡ stops_after (pass_of_end ended) (G.stops s.1)
-  pub free : (c : ℕ) → first_free (P.view s.0).marks.cursor c ≤ frame + 1 → first_free (P.view t.0).marks.cursor c ≤ frame + 1
+  pub free : (c : ℕ) → first_free (P.view s.0).marks.cursor c ≤ frame + 1
+      → first_free (P.view t.0).marks.cursor c ≤ frame + 1
 
 -- what some frames came to
-pub record LaysFrames {S T : Type 0} (P : mixport.Ghosts S) (G : gates.Ghosts T) (s t : S × T) (member card : ℕ) (bindings : List ℕ) (samples : ℕ → ℕ → ℤ) (count first : ℕ) (x : Commit) : Type 0 where
+pub record LaysFrames {S T : Type 0} (P : mixport.Ghosts S) (G : gates.Ghosts T) (s t : S × T)
+    (member card : ℕ) (bindings : List ℕ) (samples : ℕ → ℕ → ℤ) (count first : ℕ)
+    (x : Commit) : Type 0 where
   pub view_is : P.view t.0 ≡ record (P.view s.0) { marks = (P.view t.0).marks }
   pub commit_is : IsCommit x.ended x.frames x.part count (length bindings)
   pub laid_them : P.laid s.0 t.0 (run_entries member bindings samples card first x.frames x.part)
   pub loaded_nothing : P.loaded s.0 t.0 []
   pub not_before_seen : 0 < x.frames + x.part → (P.view s.0).seen ≤ card + first
-  pub late : OnLate x.ended (λ word. IsPast P.view P.shows t.0 (card + (first + x.frames)) (slice_index bindings (slice_index (rising bindings) x.part)) word)
+  pub late : OnLate x.ended
+      (λ word. IsPast P.view P.shows t.0 (card + (first + x.frames))
+      (slice_index bindings (slice_index (rising bindings) x.part)) word)
   pub stopped : G.stops t.1 ≡ stops_after (pass_of_end x.ended) (G.stops s.1)
-  pub free : (c : ℕ) → first_free (P.view s.0).marks.cursor c ≤ card + first → OnWhole x.ended (first_free (P.view t.0).marks.cursor c ≤ card + (first + x.frames))
+  pub free : (c : ℕ) → first_free (P.view s.0).marks.cursor c ≤ card + first
+      → OnWhole x.ended (first_free (P.view t.0).marks.cursor c ≤ card + (first + x.frames))
 
 behind-next : (g : Geometry) (f c d : ℕ) → first_free (behind g f c) d ≤ f + 1
 behind-next g f c d = grind (arith, nat_tests)
@@ -64,12 +73,14 @@ up_to-more Whole done all is = ap suc is
 up_to-more (Late word) done all is = omega (arith, is)
 up_to-more Stopped done all is = omega (arith, is)
 
-commit-none : (e : Ended) (done count channels : ℕ) → (e ≡ Whole → ⊥) → IsUpTo e done channels → IsCommit e 0 done (suc count) channels
+commit-none : (e : Ended) (done count channels : ℕ) → (e ≡ Whole → ⊥) → IsUpTo e done channels
+    → IsCommit e 0 done (suc count) channels
 commit-none Whole done count channels not_whole is = absurd (not_whole refl)
 commit-none (Late word) done count channels not_whole is = (omega arith, is)
 commit-none Stopped done count channels not_whole is = (omega arith, is)
 
-commit-more : (e : Ended) (frames part count channels : ℕ) → IsCommit e frames part count channels → IsCommit e (suc frames) part (suc count) channels
+commit-more : (e : Ended) (frames part count channels : ℕ) → IsCommit e frames part count channels
+    → IsCommit e (suc frames) part (suc count) channels
 commit-more Whole frames part count channels is = (ap suc is.0, is.1)
 commit-more (Late word) frames part count channels is = (omega (arith, is.0), is.1)
 commit-more Stopped frames part count channels is = (omega (arith, is.0), is.1)
@@ -85,8 +96,10 @@ OnWhole-map (Late word) X Y f is = tt
 OnWhole-map Stopped X Y f is = tt
 
 module _ {S T : Type 0} (P : mixport.Ghosts S) (G : gates.Ghosts T) (laid_composes : Composes P.laid) (loaded_composes : Composes P.loaded) where
-  pub TakesAt-frame : (member frame : ℕ) (bindings : List ℕ) (sample_of : ℕ → ℤ) (qs : List ℕ) (s t : S × T) (done : ℕ) (ended : Ended)
-      → TakesAt P G s (lay_each member frame bindings sample_of qs) t (done, ended) → LaysFrame P G s t member frame bindings sample_of qs done ended
+  pub TakesAt-frame : (member frame : ℕ) (bindings : List ℕ) (sample_of : ℕ → ℤ) (qs : List ℕ)
+      (s t : S × T) (done : ℕ) (ended : Ended)
+      → TakesAt P G s (lay_each member frame bindings sample_of qs) t (done, ended)
+      → LaysFrame P G s t member frame bindings sample_of qs done ended
   unfolding lay_each
   TakesAt-frame member frame bindings sample_of [] s t done ended takes =
       subst (λ (u : S × T). LaysFrame P G s u member frame bindings sample_of [] done ended) (sym takes.there)
@@ -140,9 +153,12 @@ module _ {S T : Type 0} (P : mixport.Ghosts S) (G : gates.Ghosts T) (laid_compos
         free = λ c is. later.free c (subst (λ (v : PortView). first_free v.marks.cursor c ≤ frame + 1) (sym step.view_is) (behind-next (P.view s.0).geometry frame (slice_index bindings q) c));
       }))
 
-  frames-ended : (member card : ℕ) (bindings : List ℕ) (samples : ℕ → ℕ → ℤ) (count first : ℕ) (s t : S × T) (done : ℕ) (ended : Ended) → AreBindings bindings → (ended ≡ Whole → ⊥)
-      → LaysFrame P G s t member (card + first) bindings (samples first) (rising bindings) done ended
-      → LaysFrames P G s t member card bindings samples (suc count) first (record { frames = 0; part = done; ended = ended })
+  frames-ended : (member card : ℕ) (bindings : List ℕ) (samples : ℕ → ℕ → ℤ) (count first : ℕ)
+      (s t : S × T) (done : ℕ) (ended : Ended) → AreBindings bindings → (ended ≡ Whole → ⊥)
+      → LaysFrame P G s t member (card + first) bindings (samples first) (rising bindings) done
+      ended
+      → LaysFrames P G s t member card bindings samples (suc count) first
+      (record { frames = 0; part = done; ended = ended })
   frames-ended member card bindings samples count first s t done ended are not_whole frame = record {
     view_is = frame.view_is;
     commit_is = commit-none ended done count (length bindings) not_whole (subst (IsUpTo ended done) (length-rising bindings are) frame.up_to);
@@ -154,10 +170,13 @@ module _ {S T : Type 0} (P : mixport.Ghosts S) (G : gates.Ghosts T) (laid_compos
     free = λ c is. OnWhole-not ended _ not_whole;
   }
 
-  frames-more : (member card : ℕ) (bindings : List ℕ) (samples : ℕ → ℕ → ℤ) (count first : ℕ) (s m t : S × T) (done : ℕ) (x : Commit) → AreBindings bindings
-      → LaysFrame P G s m member (card + first) bindings (samples first) (rising bindings) done Whole
+  frames-more : (member card : ℕ) (bindings : List ℕ) (samples : ℕ → ℕ → ℤ) (count first : ℕ)
+      (s m t : S × T) (done : ℕ) (x : Commit) → AreBindings bindings
+      → LaysFrame P G s m member (card + first) bindings (samples first) (rising bindings) done
+      Whole
       → LaysFrames P G m t member card bindings samples count (first + 1) x
-      → LaysFrames P G s t member card bindings samples (suc count) first (record { frames = suc x.frames; part = x.part; ended = x.ended })
+      → LaysFrames P G s t member card bindings samples (suc count) first
+      (record { frames = suc x.frames; part = x.part; ended = x.ended })
   frames-more member card bindings samples count first s m t done x are frame later =
       let at : first + 1 + x.frames ≡ first + suc x.frames = omega arith in
       let all : done ≡ length bindings = frame.up_to ∙ length-rising bindings are in
@@ -179,10 +198,15 @@ module _ {S T : Type 0} (P : mixport.Ghosts S) (G : gates.Ghosts T) (laid_compos
       }
 
   -- what some frames came to, by the first, and by what those behind it come to
-  frames-by : (member card : ℕ) (bindings : List ℕ) (samples : ℕ → ℕ → ℤ) (count first : ℕ) (s m t : S × T) (done : ℕ) (ended : Ended) (x : Commit) → AreBindings bindings
-      → LaysFrame P G s m member (card + first) bindings (samples first) (rising bindings) done ended
-      → ((u : S × T) (y : Commit) → TakesAt P G m (lay_frames member card bindings samples count (first + 1)) u y → LaysFrames P G m u member card bindings samples count (first + 1) y)
-      → TakesAt P G m (go_on (done, ended) (lay_frames member card bindings samples count (first + 1))) t x
+  frames-by : (member card : ℕ) (bindings : List ℕ) (samples : ℕ → ℕ → ℤ) (count first : ℕ)
+      (s m t : S × T) (done : ℕ) (ended : Ended) (x : Commit) → AreBindings bindings
+      → LaysFrame P G s m member (card + first) bindings (samples first) (rising bindings) done
+      ended
+      → ((u : S × T) (y : Commit)
+      → TakesAt P G m (lay_frames member card bindings samples count (first + 1)) u y
+      → LaysFrames P G m u member card bindings samples count (first + 1) y)
+      → TakesAt P G m (go_on (done, ended)
+      (lay_frames member card bindings samples count (first + 1))) t x
       → LaysFrames P G s t member card bindings samples (suc count) first x
   frames-by member card bindings samples count first s m t done (Late word) x are frame behind takes =
       subst (λ (u : S × T). LaysFrames P G s u member card bindings samples (suc count) first x) (sym takes.there)
@@ -200,8 +224,10 @@ module _ {S T : Type 0} (P : mixport.Ghosts S) (G : gates.Ghosts T) (laid_compos
       (subst (λ (y : Commit). LaysFrames P G s parts.0 member card bindings samples (suc count) first y) (sym result)
       (frames-more member card bindings samples count first s m parts.0 done parts.1 are frame (behind parts.0 parts.1 parts.2)))
 
-  pub TakesAt-frames : (member card : ℕ) (bindings : List ℕ) (samples : ℕ → ℕ → ℤ) (count first : ℕ) (s t : S × T) (x : Commit) → AreBindings bindings
-      → TakesAt P G s (lay_frames member card bindings samples count first) t x → LaysFrames P G s t member card bindings samples count first x
+  pub TakesAt-frames : (member card : ℕ) (bindings : List ℕ) (samples : ℕ → ℕ → ℤ) (count first : ℕ)
+      (s t : S × T) (x : Commit) → AreBindings bindings
+      → TakesAt P G s (lay_frames member card bindings samples count first) t x
+      → LaysFrames P G s t member card bindings samples count first x
   unfolding lay_frames
   TakesAt-frames member card bindings samples zero first s t x are takes =
       subst (λ (u : S × T). LaysFrames P G s u member card bindings samples 0 first x) (sym takes.there)
@@ -222,9 +248,11 @@ module _ {S T : Type 0} (P : mixport.Ghosts S) (G : gates.Ghosts T) (laid_compos
       (λ u y more. TakesAt-frames member card bindings samples count (first + 1) parts.0 u y are more) parts.3
 
   -- a load, and the commit behind it
-  pub TakesAt-looks : (at : Position → Plain) (count : Position → ℕ) (ring : List ℤ) (bindings : List ℕ) (s t : S × T) (load : Option Position) (commit : Commit)
+  pub TakesAt-looks : (at : Position → Plain) (count : Position → ℕ) (ring : List ℤ)
+      (bindings : List ℕ) (s t : S × T) (load : Option Position) (commit : Commit)
       → AreBindings bindings → ((position : Position) → (at position).setup.bindings ≡ bindings)
-      → TakesAt P G s (looks at count ring) t (load, commit) → Looked P G s t ring at count (length bindings) load commit
+      → TakesAt P G s (looks at count ring) t (load, commit)
+      → Looked P G s t ring at count (length bindings) load commit
   unfolding looks ◌>>=◌
   TakesAt-looks at count ring bindings s t load commit are same (None, m, step, rest) =
       subst (λ (u : S × T). Looked P G s u ring at count (length bindings) load commit) (sym rest.there)
@@ -258,9 +286,12 @@ module _ {S T : Type 0} (P : mixport.Ghosts S) (G : gates.Ghosts T) (laid_compos
       }))
 
   -- and the call by what they found
-  pub TakesAt-step : {X : Type 0} (at : Position → Plain) (count : Position → ℕ) (ring : List ℤ) (bindings : List ℕ) (call : Option Position → Commit → Answered X) (s t : S × T) (done : Answered X)
+  pub TakesAt-step : {X : Type 0} (at : Position → Plain) (count : Position → ℕ) (ring : List ℤ)
+      (bindings : List ℕ) (call : Option Position → Commit → Answered X) (s t : S × T)
+      (done : Answered X)
       → AreBindings bindings → ((position : Position) → (at position).setup.bindings ≡ bindings)
-      → TakesAt P G s (looks at count ring >>= λ found. ends (call found.0 found.1)) t done → TakesStep P G s t ring at count (length bindings) call done
+      → TakesAt P G s (looks at count ring >>= λ found. ends (call found.0 found.1)) t done
+      → TakesStep P G s t ring at count (length bindings) call done
   TakesAt-step at count ring bindings call s t done are same takes =
       let parts = Takes-parts (LoadsAt P G) (LaysAt P G) NoGet s t (looks at count ring) (λ found. ends (call found.0 found.1)) done takes in
       record {

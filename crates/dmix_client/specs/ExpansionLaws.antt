@@ -16,16 +16,19 @@ use Rattle.dmix_client.specs.Expansion.{frame_entries, run_entries, sample_at}
 use Rattle.dmix_client.specs.View.{held}
 
 -- n numbers and then k more
-pub range_with_len-append : (a n k : ℕ) → range_with_len a (n + k) ≡ range_with_len a n ++ range_with_len (a + n) k
+pub range_with_len-append : (a n k : ℕ) → range_with_len a (n + k) ≡ range_with_len a n
+    ++ range_with_len (a + n) k
 range_with_len-append a zero k = ap (range_with_len a) (zero-add k) ∙ ap (λ (b : ℕ). range_with_len b k) (let same : a ≡ a + 0 = omega arith in same)
 range_with_len-append a (suc n) k =
     ap (range_with_len a) (let same : suc n + k ≡ suc (n + k) = omega arith in same)
     ∙ ap (λ (ks : List ℕ). a ∷ ks) (range_with_len-append (a + 1) n k ∙ ap (λ (b : ℕ). range_with_len (a + 1) n ++ range_with_len b k) (omega arith))
 
 -- a run of whole frames, and the run behind it
-pub run_entries-append : (member : ℕ) (bindings : List ℕ) (sample_of : ℕ → ℕ → ℤ) (card first n k part : ℕ)
+pub run_entries-append : (member : ℕ) (bindings : List ℕ) (sample_of : ℕ → ℕ → ℤ)
+    (card first n k part : ℕ)
     → run_entries member bindings sample_of card first (n + k) part
-    ≡ run_entries member bindings sample_of card first n 0 ++ run_entries member bindings sample_of card (first + n) k part
+    ≡ run_entries member bindings sample_of card first n 0
+    ++ run_entries member bindings sample_of card (first + n) k part
 run_entries-append member bindings sample_of card first n k part =
     let frame : ℕ → List Entry = λ j. frame_entries member bindings (sample_of j) (length bindings) (card + j) in
     let rest : ℕ → List Entry = λ j. frame_entries member bindings (sample_of j) part (card + j) in
@@ -42,13 +45,16 @@ abbrev pub Holds : Plain → List ℤ → List ℤ → ℕ → ℕ → Type 0
 Holds c ring samples from to = (j q : ℕ) → from ≤ j → j < to → q < length c.setup.bindings → held c ring j q ≡ sample_at samples (length c.setup.bindings) j q
 
 -- two functions that agree on a list's elements give one list
-pub map-same : {X : Type 0} (f g : ℕ → X) (xs : List ℕ) → ((k : ℕ) → k < length xs → f (get_or xs k 0) ≡ g (get_or xs k 0)) → map f xs ≡ map g xs
+pub map-same : {X : Type 0} (f g : ℕ → X) (xs : List ℕ)
+    → ((k : ℕ) → k < length xs → f (get_or xs k 0) ≡ g (get_or xs k 0)) → map f xs ≡ map g xs
 map-same f g [] same = refl
 map-same f g (x ∷ xs) same = cc (same 0 (omega arith), map-same f g xs (λ k h. same (suc k) (omega arith)))
 
 -- a frame's entries are told by the samples of the client's channels
-pub frame_entries-same : (member : ℕ) (bindings : List ℕ) (s t : ℕ → ℤ) (channels card : ℕ) → AreBindings bindings
-    → ((q : ℕ) → q < length bindings → s q ≡ t q) → frame_entries member bindings s channels card ≡ frame_entries member bindings t channels card
+pub frame_entries-same : (member : ℕ) (bindings : List ℕ) (s t : ℕ → ℤ) (channels card : ℕ)
+    → AreBindings bindings
+    → ((q : ℕ) → q < length bindings → s q ≡ t q)
+    → frame_entries member bindings s channels card ≡ frame_entries member bindings t channels card
 frame_entries-same member bindings s t channels card are same =
     let entry : (ℕ → ℤ) → ℕ → Entry = λ u q. record { member = member; frame = card; channel = slice_index bindings q; sample = u q; kind = Added } in
     map-same (entry s) (entry t) (take channels (rising bindings)) (λ k within.
@@ -59,7 +65,8 @@ frame_entries-same member bindings s t channels card are same =
     let one : entry s (get_or (rising bindings) k 0) ≡ entry t (get_or (rising bindings) k 0) = ap (λ (x : ℤ). let e : Entry = record { member = member; frame = card; channel = slice_index bindings (get_or (rising bindings) k 0); sample = x; kind = Added } in e) here in
     subst (λ q. entry s q ≡ entry t q) (sym is) one)
 
-flat_map-same : (f g : ℕ → List Entry) (a n : ℕ) → ((j : ℕ) → a ≤ j → j < a + n → f j ≡ g j) → flat_map f (range_with_len a n) ≡ flat_map g (range_with_len a n)
+flat_map-same : (f g : ℕ → List Entry) (a n : ℕ) → ((j : ℕ) → a ≤ j → j < a + n → f j ≡ g j)
+    → flat_map f (range_with_len a n) ≡ flat_map g (range_with_len a n)
 flat_map-same f g a zero same = refl
 flat_map-same f g a (suc n) same =
     ap (λ (es : List Entry). es ++ flat_map f (range_with_len (a + 1) n)) (same a (omega arith) (omega arith))
@@ -69,15 +76,19 @@ flat_map-same f g a (suc n) same =
 abbrev pub frames_used : ℕ → ℕ → ℕ
 frames_used whole part = if nat_lt 0 part then whole + 1 else whole
 
-part-same : (member : ℕ) (bindings : List ℕ) (s t : ℕ → ℤ) (part card : ℕ) → AreBindings bindings → (0 < part → (q : ℕ) → q < length bindings → s q ≡ t q)
+part-same : (member : ℕ) (bindings : List ℕ) (s t : ℕ → ℤ) (part card : ℕ) → AreBindings bindings
+    → (0 < part → (q : ℕ) → q < length bindings → s q ≡ t q)
     → frame_entries member bindings s part card ≡ frame_entries member bindings t part card
 part-same member bindings s t zero card are same = refl
 part-same member bindings s t (suc part) card are same = frame_entries-same member bindings s t (suc part) card are (same (omega arith))
 
 -- a run has the same entries by two lists of samples that agree on its frames
-pub run_entries-same : (member : ℕ) (bindings : List ℕ) (s t : ℕ → ℕ → ℤ) (card first whole part : ℕ) → AreBindings bindings
-    → ((j q : ℕ) → first ≤ j → j < first + frames_used whole part → q < length bindings → s j q ≡ t j q)
-    → run_entries member bindings s card first whole part ≡ run_entries member bindings t card first whole part
+pub run_entries-same : (member : ℕ) (bindings : List ℕ) (s t : ℕ → ℕ → ℤ)
+    (card first whole part : ℕ) → AreBindings bindings
+    → ((j q : ℕ) → first ≤ j → j < first + frames_used whole part → q < length bindings
+    → s j q ≡ t j q)
+    → run_entries member bindings s card first whole part
+    ≡ run_entries member bindings t card first whole part
 run_entries-same member bindings s t card first whole part are same =
     let frames : flat_map (λ j. frame_entries member bindings (s j) (length bindings) (card + j)) (range_with_len first whole)
     ≡ flat_map (λ j. frame_entries member bindings (t j) (length bindings) (card + j)) (range_with_len first whole) =
@@ -90,18 +101,24 @@ run_entries-same member bindings s t card first whole part are same =
     ∙ ap (λ (es : List Entry). flat_map (λ j. frame_entries member bindings (t j) (length bindings) (card + j)) (range_with_len first whole) ++ es) last
 
 -- what a commit laid of the local ring is what it laid of the accepted frames
-pub commit_entries-accepted : (c : Plain) (ring samples : List ℤ) (commit : Commit) (to : ℕ) → AreBindings c.setup.bindings → Holds c ring samples c.stretch.committed to
+pub commit_entries-accepted : (c : Plain) (ring samples : List ℤ) (commit : Commit) (to : ℕ)
+    → AreBindings c.setup.bindings → Holds c ring samples c.stretch.committed to
     → c.stretch.committed + frames_used commit.frames commit.part ≤ to
-    → commit_entries c ring commit ≡ run_entries c.identity.member c.setup.bindings (sample_at samples (length c.setup.bindings)) c.stretch.card c.stretch.committed commit.frames commit.part
+    → commit_entries c ring commit ≡ run_entries c.identity.member c.setup.bindings
+    (sample_at samples (length c.setup.bindings)) c.stretch.card c.stretch.committed commit.frames
+    commit.part
 commit_entries-accepted c ring samples commit to are holds within =
     run_entries-same c.identity.member c.setup.bindings (held c ring) (sample_at samples (length c.setup.bindings)) c.stretch.card c.stretch.committed commit.frames commit.part are
     (λ j q least most h. holds j q least (omega (arith, most, within)) h)
 
 -- the entries of a segment grow by exactly what a commit laid
-pub expand-grows : (c : Plain) (ring samples : List ℤ) (commit : Commit) (to : ℕ) → AreBindings c.setup.bindings → Holds c ring samples c.stretch.committed to
+pub expand-grows : (c : Plain) (ring samples : List ℤ) (commit : Commit) (to : ℕ)
+    → AreBindings c.setup.bindings → Holds c ring samples c.stretch.committed to
     → c.stretch.committed + frames_used commit.frames commit.part ≤ to → c.stretch.part ≡ 0
-    → run_entries c.identity.member c.setup.bindings (sample_at samples (length c.setup.bindings)) c.stretch.card 0 (c.stretch.committed + commit.frames) commit.part
-    ≡ run_entries c.identity.member c.setup.bindings (sample_at samples (length c.setup.bindings)) c.stretch.card 0 c.stretch.committed c.stretch.part ++ commit_entries c ring commit
+    → run_entries c.identity.member c.setup.bindings (sample_at samples (length c.setup.bindings))
+    c.stretch.card 0 (c.stretch.committed + commit.frames) commit.part
+    ≡ run_entries c.identity.member c.setup.bindings (sample_at samples (length c.setup.bindings))
+    c.stretch.card 0 c.stretch.committed c.stretch.part ++ commit_entries c ring commit
 expand-grows c ring samples commit to are holds within whole =
     let s : ℕ → ℕ → ℤ = sample_at samples (length c.setup.bindings) in
     run_entries-append c.identity.member c.setup.bindings s c.stretch.card 0 c.stretch.committed commit.frames commit.part

@@ -27,14 +27,16 @@ StandsFor c ring samples = StandsUpTo c ring samples c.stretch.written
 abbrev pub Follows : Plain → List ℤ → List ℤ → ℕ → Type 0
 Follows c samples offered n =
     (k q : ℕ) → k < n → q < length c.setup.bindings
-    → sample_at samples (length c.setup.bindings) (c.stretch.source + (c.stretch.written + k)) q ≡ sample_at offered (length c.setup.bindings) k q
+    → sample_at samples (length c.setup.bindings) (c.stretch.source + (c.stretch.written + k)) q
+    ≡ sample_at offered (length c.setup.bindings) k q
 
 -- the entries of a client's segment, by its samples
 abbrev pub segment_entries : Plain → List ℤ → List Entry
 segment_entries c samples = expand c.identity.member (segment_of c) samples c.setup.bindings
 
 -- a port laid exactly the entries by which a client's segment grew, by some samples
-pub record Grows {S : Type 0} (laid : S → S → List Entry → Type 0) (p q : S) (c d : Plain) (samples : List ℤ) : Type 0 where
+pub record Grows {S : Type 0} (laid : S → S → List Entry → Type 0) (p q : S) (c d : Plain)
+    (samples : List ℤ) : Type 0 where
   pub entries : List Entry
   pub laid_them : laid p q entries
   pub grown : segment_entries d samples ≡ segment_entries c samples ++ entries
@@ -44,38 +46,47 @@ pub record Grows {S : Type 0} (laid : S → S → List Entry → Type 0) (p q : 
 -- what every call that takes steps at a port keeps: the client's counts fit each other and its ring, it can use the port again,
 -- the gate's count rose exactly where it answers `Stopped`, and for each list of samples which the client represents, and for which
 -- this fact holds, its segment grew by exactly what was laid, and it represents the list afterwards
-pub record Keeps {S T X : Type 0} (P : mixport.Ghosts S) (G : gates.Ghosts T) (s t : S × T) (c d : ClientView) (answer : Result X PcmError) (For : List ℤ → Type 0) : Type 0 where
+pub record Keeps {S T X : Type 0} (P : mixport.Ghosts S) (G : gates.Ghosts T) (s t : S × T)
+    (c d : ClientView) (answer : Result X PcmError) (For : List ℤ → Type 0) : Type 0 where
   pub sound : IsSound d.plain d.ring
   pub port : CanUse d.plain (P.view t.0)
   pub told : c.plain.status.stopped ≡ false → CountsStop answer (G.stops s.1) (G.stops t.1)
-  pub grows : (samples : List ℤ) → StandsFor c.plain c.ring samples → For samples → Grows P.laid s.0 t.0 c.plain d.plain samples
-  pub stands : (samples : List ℤ) → StandsFor c.plain c.ring samples → For samples → StandsFor d.plain d.ring samples
+  pub grows : (samples : List ℤ) → StandsFor c.plain c.ring samples → For samples
+      → Grows P.laid s.0 t.0 c.plain d.plain samples
+  pub stands : (samples : List ℤ) → StandsFor c.plain c.ring samples → For samples
+      → StandsFor d.plain d.ring samples
 
 -- a port lost at the end of its standing adds: they ended in some entries, and end in others now, whatever is before these; what
 -- it laid in between takes the one to the other
-pub record TakesAway {S : Type 0} (laid : S → S → List Entry → Type 0) (ends_in : S → List Entry → Type 0) (p q : S) (before after : List Entry) : Type 0 where
+pub record TakesAway {S : Type 0} (laid : S → S → List Entry → Type 0)
+    (ends_in : S → List Entry → Type 0) (p q : S) (before after : List Entry) : Type 0 where
   pub entries : List Entry
   pub laid_them : laid p q entries
   pub lost : (early : List Entry) → fold stand_after (early ++ before) entries ≡ early ++ after
   pub held : (early : List Entry) → ends_in p (early ++ before) → ends_in q (early ++ after)
 
 -- it lost exactly what a client's segment lost, by some samples
-pub record Loses {S : Type 0} (laid : S → S → List Entry → Type 0) (ends_in : S → List Entry → Type 0) (p q : S) (c d : Plain) (samples : List ℤ) : Type 0 where
+pub record Loses {S : Type 0} (laid : S → S → List Entry → Type 0)
+    (ends_in : S → List Entry → Type 0) (p q : S) (c d : Plain) (samples : List ℤ) : Type 0 where
   pub away : TakesAway laid ends_in p q (segment_entries c samples) (segment_entries d samples)
   pub same_member : d.identity.member ≡ c.identity.member
   pub same_bindings : d.setup.bindings ≡ c.setup.bindings
 
 -- what a rewind keeps: as every call that takes steps, but that for each list of samples its segment lost exactly what the port
 -- lost at the end of its standing adds
-pub record KeepsBack {S T X : Type 0} (P : mixport.Ghosts S) (G : gates.Ghosts T) (s t : S × T) (c d : ClientView) (answer : Result X PcmError) : Type 0 where
+pub record KeepsBack {S T X : Type 0} (P : mixport.Ghosts S) (G : gates.Ghosts T) (s t : S × T)
+    (c d : ClientView) (answer : Result X PcmError) : Type 0 where
   pub sound : IsSound d.plain d.ring
   pub port : CanUse d.plain (P.view t.0)
   pub told : c.plain.status.stopped ≡ false → CountsStop answer (G.stops s.1) (G.stops t.1)
-  pub loses : (samples : List ℤ) → StandsFor c.plain c.ring samples → Loses P.laid P.ends_in s.0 t.0 c.plain d.plain samples
-  pub stands : (samples : List ℤ) → StandsFor c.plain c.ring samples → StandsFor d.plain d.ring samples
+  pub loses : (samples : List ℤ) → StandsFor c.plain c.ring samples
+      → Loses P.laid P.ends_in s.0 t.0 c.plain d.plain samples
+  pub stands : (samples : List ℤ) → StandsFor c.plain c.ring samples
+      → StandsFor d.plain d.ring samples
 
 -- a port's standing adds end in a client's segment, by some samples that the client represents
-pub record IsBacked {S : Type 0} (ends_in : S → List Entry → Type 0) (p : S) (c : ClientView) (samples : List ℤ) : Type 0 where
+pub record IsBacked {S : Type 0} (ends_in : S → List Entry → Type 0) (p : S) (c : ClientView)
+    (samples : List ℤ) : Type 0 where
   pub stands : StandsFor c.plain c.ring samples
   pub segment : ends_in p (segment_entries c.plain samples)
 

@@ -12,11 +12,13 @@ use Rattle.dmix_client.specs.Growth.{Grows, StandsFor, segment_entries}
 use Rattle.dmix_client.specs.View.{IsSound}
 
 -- a client with nothing written, as after `hw_params` and `prepare`, stands for all samples
-pub StandsFor-nothing : (c : Plain) (ring samples : List ℤ) → c.stretch.written ≡ 0 → StandsFor c ring samples
+pub StandsFor-nothing : (c : Plain) (ring samples : List ℤ) → c.stretch.written ≡ 0
+    → StandsFor c ring samples
 StandsFor-nothing c ring samples none j q low high in_range = absurd (omega (arith, high, none))
 
 -- a paused client that stands for some samples does so with its counts based anew
-pub StandsFor-rebased : (c : Plain) (ring samples : List ℤ) → IsSound c ring → c.status.state ≡ Paused → StandsFor c ring samples → StandsFor (rebased c) ring samples
+pub StandsFor-rebased : (c : Plain) (ring samples : List ℤ) → IsSound c ring
+    → c.status.state ≡ Paused → StandsFor c ring samples → StandsFor (rebased c) ring samples
 StandsFor-rebased c ring samples sound is stands j q low high in_range =
     let most = (sound.paused is).laid_most in
     let at : c.fed - (c.stretch.written - c.stretch.committed) + j ≡ c.stretch.source + (c.stretch.committed + j) = omega (arith, sound.fed, most, high) in
@@ -25,7 +27,8 @@ StandsFor-rebased c ring samples sound is stands j q low high in_range =
     ∙ ap (λ (n : ℕ). sample_at samples (length c.setup.bindings) n q) (sym at)
 
 -- the growths of two calls, one after the other, are one
-pub Grows-joined : {S : Type 0} (laid : S → S → List Entry → Type 0) (composes : Composes laid) (p q r : S) (c d e : Plain) (samples : List ℤ)
+pub Grows-joined : {S : Type 0} (laid : S → S → List Entry → Type 0) (composes : Composes laid)
+    (p q r : S) (c d e : Plain) (samples : List ℤ)
     → Grows laid p q c d samples → Grows laid q r d e samples → Grows laid p r c e samples
 Grows-joined laid composes p q r c d e samples first later = record {
   entries = first.entries ++ later.entries;

@@ -63,8 +63,11 @@ pub record CanUse (c : Plain) (v : PortView) : Type 0 where
   pub same_geometry : v.geometry ≡ c.identity.geometry
   pub same_member : v.member ≡ c.identity.member
   pub can : v.can_add ≡ true
-  pub behind : is_moving c.status.state ≡ true → c.status.stopped ≡ false → IsFrom v.marks.cursor (c.stretch.card + c.stretch.committed) (least_channel c.setup.bindings)
-  pub newer : is_moving c.status.state ≡ true → c.status.stopped ≡ false → unwrap_or c.seen 0 ≤ v.seen
+  pub behind : is_moving c.status.state ≡ true → c.status.stopped ≡ false
+      → IsFrom v.marks.cursor (c.stretch.card + c.stretch.committed)
+      (least_channel c.setup.bindings)
+  pub newer : is_moving c.status.state ≡ true → c.status.stopped ≡ false
+      → unwrap_or c.seen 0 ≤ v.seen
 
 -- what a load and the commit behind it laid, by the client at the commit
 abbrev pub entries_at : Option Position → (Position → Plain) → List ℤ → Commit → List Entry
@@ -80,25 +83,37 @@ abbrev pub CountsFound : Option Position → Ended → ℕ → ℕ → Type 0
 CountsFound load ended before after = after ≡ stops_after (pass_of_found load ended) before
 
 -- a load and the commit behind it: the client `at` the commit had `count` frames to lay
-pub record IsFound (load : Option Position) (commit : Commit) (at : Position → Plain) (count : Position → ℕ) (channels : ℕ) : Type 0 where
+pub record IsFound (load : Option Position) (commit : Commit) (at : Position → Plain)
+    (count : Position → ℕ) (channels : ℕ) : Type 0 where
   pub nothing : IfNone load (commit ≡ record { frames = 0; part = 0; ended = Whole })
-  pub commit_is : IfSome load (λ (position : Position). IsCommit commit.ended commit.frames commit.part (count position) channels)
-  pub in_time : IfSome load (λ (position : Position). 0 < commit.frames + commit.part → position.frame ≤ (at position).stretch.card + (at position).stretch.committed)
+  pub commit_is : IfSome load
+      (λ (position : Position). IsCommit commit.ended commit.frames commit.part (count position)
+      channels)
+  pub in_time : IfSome load (λ (position : Position). 0 < commit.frames + commit.part
+      → position.frame ≤ (at position).stretch.card + (at position).stretch.committed)
 
 -- what one load and the commit behind it did at a port and its gate
-pub record Looked {S T : Type 0} (P : mixport.Ghosts S) (G : gates.Ghosts T) (s t : S × T) (ring : List ℤ) (at : Position → Plain) (count : Position → ℕ) (channels : ℕ)
+pub record Looked {S T : Type 0} (P : mixport.Ghosts S) (G : gates.Ghosts T) (s t : S × T)
+    (ring : List ℤ) (at : Position → Plain) (count : Position → ℕ) (channels : ℕ)
     (load : Option Position) (commit : Commit) : Type 0 where
   pub found : IsFound load commit at count channels
   pub loaded_them : P.loaded s.0 t.0 (option_to_list load)
   pub laid_them : P.laid s.0 t.0 (entries_at load at ring commit)
-  pub shown : IfSome load (λ position. OnLate commit.ended (λ word. IsPast P.view P.shows t.0 (end_of_commit (at position) commit) (end_channel (at position) commit) word))
+  pub shown : IfSome load (λ position. OnLate commit.ended
+      (λ word. IsPast P.view P.shows t.0 (end_of_commit (at position) commit)
+      (end_channel (at position) commit) word))
   pub stopped : CountsFound load commit.ended (G.stops s.1) (G.stops t.1)
-  pub near : IfSome load (λ position. ((P.view s.0).seen ≤ position.frame) × IsWithin (P.view s.0).geometry position.frame × ((P.view t.0).seen ≡ position.frame))
-  pub stayed : IfSome load (λ position. IsFrom (P.view s.0).marks.cursor ((at position).stretch.card + (at position).stretch.committed) (least_channel (at position).setup.bindings)
-      → OnWhole commit.ended (IsFrom (P.view t.0).marks.cursor (end_of_commit (at position) commit) (least_channel (at position).setup.bindings)))
+  pub near : IfSome load (λ position. ((P.view s.0).seen ≤ position.frame)
+      × IsWithin (P.view s.0).geometry position.frame × ((P.view t.0).seen ≡ position.frame))
+  pub stayed : IfSome load (λ position. IsFrom (P.view s.0).marks.cursor
+      ((at position).stretch.card + (at position).stretch.committed)
+      (least_channel (at position).setup.bindings)
+      → OnWhole commit.ended (IsFrom (P.view t.0).marks.cursor (end_of_commit (at position) commit)
+      (least_channel (at position).setup.bindings)))
 
 -- a call made one load and the commit behind it, and came to this by what they found
-pub record TakesStep {S T X : Type 0} (P : mixport.Ghosts S) (G : gates.Ghosts T) (s t : S × T) (ring : List ℤ) (at : Position → Plain) (count : Position → ℕ) (channels : ℕ)
+pub record TakesStep {S T X : Type 0} (P : mixport.Ghosts S) (G : gates.Ghosts T) (s t : S × T)
+    (ring : List ℤ) (at : Position → Plain) (count : Position → ℕ) (channels : ℕ)
     (call : Option Position → Commit → Answered X) (done : Answered X) : Type 0 where
   pub load : Option Position
   pub commit : Commit

@@ -21,7 +21,9 @@ use Rattle.dmix_client.specs.View.{held, hw_of}
 -- how many frames a client can take back at a port that withdraws nothing before a floor: what is pending, and the committed
 -- frames that are at or past the position seen and whose channel 0 isn't before the floor
 abbrev pub rewindable_of : Cursor → Plain → ℕ
-rewindable_of floor c = pending_of c + (c.stretch.committed - (max (unwrap_or c.seen 0) (first_free floor 0) - c.stretch.card))
+rewindable_of floor c =
+    pending_of
+    c + (c.stretch.committed - (max (unwrap_or c.seen 0) (first_free floor 0) - c.stretch.card))
 
 -- how many of the last n frames are committed
 abbrev pub back_of : Plain → ℕ → ℕ
@@ -29,18 +31,32 @@ back_of c n = n - pending_of c
 
 -- a client without its last n frames, which were pending
 abbrev pub without : Plain → ℕ → Plain
-without c n = record c { stretch = record c.stretch { written = c.stretch.written - n }; fed = c.fed - n }
+without c n =
+    record c { stretch = record c.stretch { written = c.stretch.written - n }; fed = c.fed - n }
 
 -- a client of whose last n frames the pending ones were taken back, and of the committed ones all but what is left
 abbrev pub taken_back : Plain → ℕ → Commit → Plain
-taken_back c n left = record c { stretch = record c.stretch { written = c.stretch.written - n + left.frames; committed = c.stretch.committed - back_of c n + left.frames; part = left.part }; fed = c.fed - n + left.frames }
+taken_back c n left =
+    record c {
+      stretch = record c.stretch {
+        written = c.stretch.written - n + left.frames;
+        committed = c.stretch.committed - back_of c n + left.frames;
+        part = left.part;
+      };
+      fed = c.fed - n + left.frames;
+    }
 
 -- the last sample that a client has in the card's ring: its frame, and its card channel
 abbrev pub last_laid : Plain → ℕ
-last_laid c = c.stretch.card + (if nat_eq c.stretch.part 0 then c.stretch.committed - 1 else c.stretch.committed)
+last_laid c =
+    c.stretch.card + (if nat_eq c.stretch.part 0 then c.stretch.committed - 1
+    else c.stretch.committed)
 
 abbrev pub last_channel : Plain → ℕ
-last_channel c = slice_index c.setup.bindings (slice_index (rising c.setup.bindings) ((if nat_eq c.stretch.part 0 then length c.setup.bindings else c.stretch.part) - 1))
+last_channel c =
+    slice_index c.setup.bindings
+    (slice_index (rising c.setup.bindings)
+    ((if nat_eq c.stretch.part 0 then length c.setup.bindings else c.stretch.part) - 1))
 
 -- a rewind of n frames, by what is left of the committed ones
 abbrev pub rewound : Plain → ℕ → Commit → Answered ℕ
@@ -48,7 +64,10 @@ rewound c n left =
     let done = taken_back c n left in
     if is_stop left.ended
     then stopped_in done
-    else with_number (λ d. n) (settled done (next_of Running call.Transfer (found_at (record { frame = 0; gone = false }) (late_at left.ended (last_laid done) (last_channel done)))))
+    else with_number (λ d. n)
+    (settled done (next_of Running call.Transfer
+    (found_at (record { frame = 0; gone = false })
+    (late_at left.ended (last_laid done) (last_channel done)))))
 
 -- the first n channels of a frame are withdrawn by falling card channel, up to the first sample that isn't: how many are left,
 -- and how it ended
@@ -60,13 +79,15 @@ take_on Stopped n rest = ends (n, Stopped)
 unfoldable pub take_each : ℕ → ℕ → List ℕ → (ℕ → ℤ) → ℕ → Course (ℕ × Ended)
 take_each member frame bindings sample_of zero = ends (0, Whole)
 take_each member frame bindings sample_of (suc n) =
-    lays (a_withdrawal member frame (slice_index bindings (slice_index (rising bindings) n)) (sample_of (slice_index (rising bindings) n)))
+    lays (a_withdrawal member frame (slice_index bindings (slice_index (rising bindings) n))
+    (sample_of (slice_index (rising bindings) n)))
     (λ ended. take_on ended (suc n) (take_each member frame bindings sample_of n))
 
 -- what is left of n frames and of one more, of which some channels of all are left
 abbrev pub left_of : ℕ → ℕ → ℕ → Ended → Commit
 left_of n left channels ended =
-    if nat_eq left channels then record { frames = n + 1; part = 0; ended = ended } else record { frames = n; part = left; ended = ended }
+    if nat_eq left channels then record { frames = n + 1; part = 0; ended = ended }
+    else record { frames = n; part = left; ended = ended }
 
 -- so many frames, from a first one on, are withdrawn, the last one first, up to the first sample that isn't: what is left of them
 abbrev pub back_on : ℕ × Ended → ℕ → ℕ → Course Commit → Course Commit
@@ -77,19 +98,22 @@ back_on (left, Stopped) n channels rest = ends (left_of n left channels Stopped)
 unfoldable pub take_frames : ℕ → ℕ → List ℕ → (ℕ → ℕ → ℤ) → ℕ → ℕ → Course Commit
 take_frames member card bindings samples first zero = ends nothing
 take_frames member card bindings samples first (suc n) =
-    take_each member (card + (first + n)) bindings (samples (first + n)) (length bindings) >>= λ end. back_on end n (length bindings) (take_frames member card bindings samples first n)
+    take_each member (card + (first + n)) bindings (samples (first + n)) (length bindings)
+    >>= λ end. back_on end n (length bindings) (take_frames member card bindings samples first n)
 
 -- the load of a client that runs, behind which nothing is committed
 unfoldable pub checks : Plain → Course (Answered (Unit {0}))
 checks c = loads (λ load. ends (synced c call.Transfer load nothing))
 
 abbrev pub rewindable_course : Plain → Cursor → Course (Answered ℕ)
-rewindable_course c floor = if is_running c.status.state then numbered (rewindable_of floor) (checks c) else ends (c, Ok c.stretch.written)
+rewindable_course c floor = if is_running c.status.state
+    then numbered (rewindable_of floor) (checks c) else ends (c, Ok c.stretch.written)
 
 -- the withdrawals of a rewind of n frames
 unfoldable pub takes_back : Plain → List ℤ → ℕ → Course (Answered ℕ)
 takes_back c ring n =
-    take_frames c.identity.member c.stretch.card c.setup.bindings (held c ring) (c.stretch.committed - back_of c n) (back_of c n) >>= λ left. ends (rewound c n left)
+    take_frames c.identity.member c.stretch.card c.setup.bindings (held c ring)
+    (c.stretch.committed - back_of c n) (back_of c n) >>= λ left. ends (rewound c n left)
 
 abbrev pub rewind_on : Cursor → List ℤ → ℕ → Answered (Unit {0}) → Course (Answered ℕ)
 rewind_on floor ring n (c, Ok done) = takes_back c ring (min n (rewindable_of floor c))
@@ -99,9 +123,11 @@ unfoldable pub rewinds : Plain → List ℤ → Cursor → ℕ → Course (Answe
 rewinds c ring floor n = checks c >>= rewind_on floor ring n
 
 abbrev pub rewind_course : Plain → List ℤ → Cursor → ℕ → Course (Answered ℕ)
-rewind_course c ring floor n = if is_running c.status.state then rewinds c ring floor n else ends (without c (min n c.stretch.written), Ok (min n c.stretch.written))
+rewind_course c ring floor n = if is_running c.status.state then rewinds c ring floor n
+    else ends (without c (min n c.stretch.written), Ok (min n c.stretch.written))
 
 -- the committed frames of a client that its local ring still has: those that aren't played, as far as it saw
 abbrev pub held_entries : Plain → List ℤ → List Entry
 held_entries c ring =
-    run_entries c.identity.member c.setup.bindings (held c ring) c.stretch.card (min c.stretch.committed (hw_of c)) (c.stretch.committed - min c.stretch.committed (hw_of c)) 0
+    run_entries c.identity.member c.setup.bindings (held c ring) c.stretch.card
+    (min c.stretch.committed (hw_of c)) (c.stretch.committed - min c.stretch.committed (hw_of c)) 0

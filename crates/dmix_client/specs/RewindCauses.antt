@@ -18,22 +18,27 @@ use Rattle.dmix_client.specs.Course.{nothing}
 use Rattle.dmix_client.specs.Rewind.{last_channel, last_laid, rewind_on}
 
 -- a frame and channel are the last of a client's segment in which it has a sample, and the port shows that they were taken
-pub record IsKept {S : Type 0} (view : S → PortView) (shows : S → ℕ → ℕ → Option ℕ) (q : S) (d : Plain) (frame channel word : ℕ) : Type 0 where
+pub record IsKept {S : Type 0} (view : S → PortView) (shows : S → ℕ → ℕ → Option ℕ) (q : S)
+    (d : Plain) (frame channel word : ℕ) : Type 0 where
   pub frame_is : frame ≡ last_laid d
   pub channel_is : channel ≡ last_channel d
   pub past : IsPast view shows q frame channel word
 
 -- why a rewind of a client `c`, which loaded a position unless the gate stopped it before and left the client as `d`, answered so
-pub record IsKeptCause {S X : Type 0} (view : S → PortView) (shows : S → ℕ → ℕ → Option ℕ) (q : S) (c d : Plain) (load : Option Position) (answer : Result X PcmError) : Type 0 where
+pub record IsKeptCause {S X : Type 0} (view : S → PortView) (shows : S → ℕ → ℕ → Option ℕ) (q : S)
+    (c d : Plain) (load : Option Position) (answer : Result X PcmError) : Type 0 where
   pub unless_stopped : IfNone load (answer ≡ Err Stopped)
   pub of_steps : IfErr answer IsOfSteps
   pub no_device : (answer ≡ Err NoDevice) ↔ IsGone load
-  pub reached : (avail frame : ℕ) → (answer ≡ Err (Xrun (Avail avail frame))) ↔ Reaches c load avail frame
-  pub late : (frame channel word : ℕ) → answer ≡ Err (Xrun (Late frame channel word)) → IsKept view shows q d frame channel word
+  pub reached : (avail frame : ℕ) → (answer ≡ Err (Xrun (Avail avail frame)))
+      ↔ Reaches c load avail frame
+  pub late : (frame channel word : ℕ) → answer ≡ Err (Xrun (Late frame channel word))
+      → IsKept view shows q d frame channel word
   pub never_lap_end : answer ≡ Err LapEnd → ⊥
 
 -- what a load did behind which nothing is committed, and why the call answered so by its position
-pub record ExplainsCheck {S T X : Type 0} (P : mixport.Ghosts S) (G : gates.Ghosts T) (s t : S × T) (c : Plain) (call : Option Position → Answered X) (done : Answered X) : Type 0 where
+pub record ExplainsCheck {S T X : Type 0} (P : mixport.Ghosts S) (G : gates.Ghosts T) (s t : S × T)
+    (c : Plain) (call : Option Position → Answered X) (done : Answered X) : Type 0 where
   pub load : Option Position
   pub loaded_it : P.loaded s.0 t.0 (option_to_list load)
   pub laid_nothing : P.laid s.0 t.0 []
@@ -41,7 +46,8 @@ pub record ExplainsCheck {S T X : Type 0} (P : mixport.Ghosts S) (G : gates.Ghos
   pub why : IsCaused P.view P.shows t.0 c done.0 load done.1
 
 -- a rewind of n frames of a stream that runs: its load, what followed it, and why it answered so by the position that was loaded
-pub record ExplainsRewind {S T : Type 0} (P : mixport.Ghosts S) (G : gates.Ghosts T) (s t : S × T) (c : Plain) (ring : List ℤ) (floor : Cursor) (n : ℕ) (done : Answered ℕ) : Type 0 where
+pub record ExplainsRewind {S T : Type 0} (P : mixport.Ghosts S) (G : gates.Ghosts T) (s t : S × T)
+    (c : Plain) (ring : List ℤ) (floor : Cursor) (n : ℕ) (done : Answered ℕ) : Type 0 where
   pub between : S × T
   pub middle : Answered (Unit {0})
   pub first : ExplainsCheck P G s between c (λ load. synced c call.Transfer load nothing) middle

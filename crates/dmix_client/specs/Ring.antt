@@ -9,4 +9,5 @@ written_over ring place part = take place ring ++ part ++ drop (place + length p
 abbrev pub stored : ℕ → ℕ → List ℤ → ℕ → List ℤ → ℕ → List ℤ
 stored buffer channels ring from samples zero = ring
 stored buffer channels ring from samples (suc n) =
-    written_over (stored buffer channels ring from samples n) ((from + n) % buffer * channels) (take channels (drop (n * channels) samples))
+    written_over (stored buffer channels ring from samples n) ((from + n) % buffer * channels)
+    (take channels (drop (n * channels) samples))

@@ -8,11 +8,13 @@ use Rattle.snd_base.specs.PlaceLaws.{mod-same}
 use Rattle.dmix_client.specs.Ring.{stored, written_over}
 
 -- a list with a part written over, in three parts
-in_parts : (ring part : List ℤ) (place : ℕ) → written_over ring place part ≡ take place ring ++ (part ++ drop (place + length part) ring)
+in_parts : (ring part : List ℤ) (place : ℕ) → written_over ring place part ≡ take place ring
+    ++ (part ++ drop (place + length part) ring)
 in_parts ring part place = append_assoc (take place ring) part (drop (place + length part) ring)
 
 -- it is as long as it was
-length-written_over : (ring part : List ℤ) (place : ℕ) → place + length part ≤ length ring → length (written_over ring place part) ≡ length ring
+length-written_over : (ring part : List ℤ) (place : ℕ) → place + length part ≤ length ring
+    → length (written_over ring place part) ≡ length ring
 length-written_over ring part place room =
     let first : length (take place ring) ≡ place = omega (arith, length-take place ring) in
     let last : length (drop (place + length part) ring) ≡ length ring - (place + length part) = length-drop (place + length part) ring in
@@ -20,7 +22,8 @@ length-written_over ring part place room =
     ∙ omega (arith, length-append (take place ring) (part ++ drop (place + length part) ring), length-append part (drop (place + length part) ring), first, last)
 
 -- it has the part there
-written_over-here : (ring part : List ℤ) (place k : ℕ) → place + length part ≤ length ring → k < length part
+written_over-here : (ring part : List ℤ) (place k : ℕ) → place + length part ≤ length ring
+    → k < length part
     → get_or (written_over ring place part) (place + k) (pos 0) ≡ get_or part k (pos 0)
 written_over-here ring part place k room within =
     let first : length (take place ring) ≡ place = omega (arith, length-take place ring) in
@@ -30,14 +33,17 @@ written_over-here ring part place k room within =
     ∙ get_or_append_left part (drop (place + length part) ring) (pos 0) k within
 
 -- and else what it had
-written_over-before : (ring part : List ℤ) (place k : ℕ) → place + length part ≤ length ring → k < place → get_or (written_over ring place part) k (pos 0) ≡ get_or ring k (pos 0)
+written_over-before : (ring part : List ℤ) (place k : ℕ) → place + length part ≤ length ring
+    → k < place → get_or (written_over ring place part) k (pos 0) ≡ get_or ring k (pos 0)
 written_over-before ring part place k room before =
     let first : length (take place ring) ≡ place = omega (arith, length-take place ring) in
     ap (λ (xs : List ℤ). get_or xs k (pos 0)) (in_parts ring part place)
     ∙ get_or_append_left (take place ring) (part ++ drop (place + length part) ring) (pos 0) k (omega (arith, first))
     ∙ get_or-take place ring k (pos 0) before
 
-written_over-behind : (ring part : List ℤ) (place k : ℕ) → place + length part ≤ length ring → place + length part ≤ k → get_or (written_over ring place part) k (pos 0) ≡ get_or ring k (pos 0)
+written_over-behind : (ring part : List ℤ) (place k : ℕ) → place + length part ≤ length ring
+    → place + length part ≤ k → get_or (written_over ring place part) k (pos 0)
+    ≡ get_or ring k (pos 0)
 written_over-behind ring part place k room behind =
     let first : length (take place ring) ≡ place = omega (arith, length-take place ring) in
     ap (λ (xs : List ℤ). get_or xs k (pos 0)) (in_parts ring part place)
@@ -47,7 +53,9 @@ written_over-behind ring part place k room behind =
     ∙ ap (λ (n : ℕ). get_or ring n (pos 0)) (omega arith)
 
 -- the samples of one frame among interleaved ones
-frame-sample : (samples : List ℤ) (channels n q : ℕ) → q < channels → get_or (take channels (drop (n * channels) samples)) q (pos 0) ≡ get_or samples (n * channels + q) (pos 0)
+frame-sample : (samples : List ℤ) (channels n q : ℕ) → q < channels
+    → get_or (take channels (drop (n * channels) samples)) q (pos 0)
+    ≡ get_or samples (n * channels + q) (pos 0)
 frame-sample samples channels n q within = get_or-take channels (drop (n * channels) samples) q (pos 0) within ∙ get_or-drop (n * channels) samples q (pos 0)
 
 -- a ring that has room for a frame in each slot
@@ -55,7 +63,8 @@ pub record HasRoom (buffer channels : ℕ) (ring : List ℤ) : Type 0 where
   pub some : 1 ≤ buffer
   pub room : length ring ≡ buffer * channels
 
-slot-within : (buffer channels n : ℕ) → 1 ≤ buffer → n % buffer * channels + channels ≤ buffer * channels
+slot-within : (buffer channels n : ℕ) → 1 ≤ buffer
+    → n % buffer * channels + channels ≤ buffer * channels
 slot-within buffer channels n some =
     let low : n % buffer + 1 ≤ buffer = omega (arith, mod-lt n some) in
     let scaled : (n % buffer + 1) * channels ≤ buffer * channels = mul-le-mul_right channels low in
@@ -67,10 +76,12 @@ slots-apart channels a b q within less =
     let scaled : (a + 1) * channels ≤ b * channels = mul-le-mul_right channels (let h : a + 1 ≤ b = omega arith in h) in
     omega (arith, scaled)
 
-frame-length : (samples : List ℤ) (channels n : ℕ) → n * channels + channels ≤ length samples → length (take channels (drop (n * channels) samples)) ≡ channels
+frame-length : (samples : List ℤ) (channels n : ℕ) → n * channels + channels ≤ length samples
+    → length (take channels (drop (n * channels) samples)) ≡ channels
 frame-length samples channels n room = omega (arith, length-take channels (drop (n * channels) samples), length-drop (n * channels) samples)
 
-pub stored-HasRoom : (buffer channels : ℕ) (ring : List ℤ) (from : ℕ) (samples : List ℤ) (n : ℕ) → HasRoom buffer channels ring → n * channels ≤ length samples
+pub stored-HasRoom : (buffer channels : ℕ) (ring : List ℤ) (from : ℕ) (samples : List ℤ) (n : ℕ)
+    → HasRoom buffer channels ring → n * channels ≤ length samples
     → HasRoom buffer channels (stored buffer channels ring from samples n)
 stored-HasRoom buffer channels ring from samples zero has room = has
 stored-HasRoom buffer channels ring from samples (suc n) has room =
@@ -84,8 +95,10 @@ stored-HasRoom buffer channels ring from samples (suc n) has room =
     }
 
 -- a frame written over leaves the other slots
-elsewhere : (ring part : List ℤ) (channels a b q : ℕ) → b * channels + length part ≤ length ring → length part ≡ channels → q < channels → (a ≡ b → ⊥)
-    → get_or (written_over ring (b * channels) part) (a * channels + q) (pos 0) ≡ get_or ring (a * channels + q) (pos 0)
+elsewhere : (ring part : List ℤ) (channels a b q : ℕ) → b * channels + length part ≤ length ring
+    → length part ≡ channels → q < channels → (a ≡ b → ⊥)
+    → get_or (written_over ring (b * channels) part) (a * channels + q) (pos 0)
+    ≡ get_or ring (a * channels + q) (pos 0)
 elsewhere ring part channels a b q room one in_range apart = elim (cases_lt a b) [
   | inl less ↦ written_over-before ring part (b * channels) (a * channels + q) room (slots-apart channels a b q in_range less)
   | inr not_less ↦
@@ -97,9 +110,11 @@ elsewhere ring part channels a b q room one in_range apart = elim (cases_lt a b)
     slots_follow channels b a less = let scaled : (b + 1) * channels ≤ a * channels = mul-le-mul_right channels (let h : b + 1 ≤ a = omega arith in h) in omega (arith, scaled)
 
 -- a frame that was stored stands in its slot
-pub stored-new : (buffer channels : ℕ) (ring : List ℤ) (from : ℕ) (samples : List ℤ) (n k q : ℕ) → HasRoom buffer channels ring → n * channels ≤ length samples → n ≤ buffer
+pub stored-new : (buffer channels : ℕ) (ring : List ℤ) (from : ℕ) (samples : List ℤ) (n k q : ℕ)
+    → HasRoom buffer channels ring → n * channels ≤ length samples → n ≤ buffer
     → k < n → q < channels
-    → get_or (stored buffer channels ring from samples n) ((from + k) % buffer * channels + q) (pos 0) ≡ get_or samples (k * channels + q) (pos 0)
+    → get_or (stored buffer channels ring from samples n) ((from + k) % buffer * channels + q)
+    (pos 0) ≡ get_or samples (k * channels + q) (pos 0)
 stored-new buffer channels ring from samples zero k q has room few within in_range = absurd (omega (arith, within))
 stored-new buffer channels ring from samples (suc n) k q has room few within in_range =
     let before = stored-HasRoom buffer channels ring from samples n has (omega arith) in
@@ -121,9 +136,11 @@ stored-new buffer channels ring from samples (suc n) k q has room few within in_
     ]
 
 -- and the frames before them that are not a buffer behind stand where they stood
-pub stored-old : (buffer channels : ℕ) (ring : List ℤ) (from : ℕ) (samples : List ℤ) (n j q : ℕ) → HasRoom buffer channels ring → n * channels ≤ length samples
+pub stored-old : (buffer channels : ℕ) (ring : List ℤ) (from : ℕ) (samples : List ℤ) (n j q : ℕ)
+    → HasRoom buffer channels ring → n * channels ≤ length samples
     → j < from → from + n ≤ j + buffer → q < channels
-    → get_or (stored buffer channels ring from samples n) (j % buffer * channels + q) (pos 0) ≡ get_or ring (j % buffer * channels + q) (pos 0)
+    → get_or (stored buffer channels ring from samples n) (j % buffer * channels + q) (pos 0)
+    ≡ get_or ring (j % buffer * channels + q) (pos 0)
 stored-old buffer channels ring from samples zero j q has room before near in_range = refl
 stored-old buffer channels ring from samples (suc n) j q has room before near in_range =
     let earlier = stored-HasRoom buffer channels ring from samples n has (omega arith) in

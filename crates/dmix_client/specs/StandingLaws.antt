@@ -31,14 +31,17 @@ AreAdds-end : (es fs : List Entry) → AreAdds (es ++ fs) → AreAdds fs
 AreAdds-end [] fs all = all
 AreAdds-end (e ∷ es) fs all = AreAdds-end es fs all.1
 
-AreAdds-map : (entry : ℕ → Entry) → ((q : ℕ) → AreAdds (entry q ∷ [])) → (qs : List ℕ) → AreAdds (map entry qs)
+AreAdds-map : (entry : ℕ → Entry) → ((q : ℕ) → AreAdds (entry q ∷ [])) → (qs : List ℕ)
+    → AreAdds (map entry qs)
 AreAdds-map entry add [] = tt
 AreAdds-map entry add (q ∷ qs) = ((add q).0, AreAdds-map entry add qs)
 
-AreAdds-frame : (member : ℕ) (bindings : List ℕ) (s : ℕ → ℤ) (channels card : ℕ) → AreAdds (frame_entries member bindings s channels card)
+AreAdds-frame : (member : ℕ) (bindings : List ℕ) (s : ℕ → ℤ) (channels card : ℕ)
+    → AreAdds (frame_entries member bindings s channels card)
 AreAdds-frame member bindings s channels card = AreAdds-map _ (λ q. (refl, tt)) (take channels (rising bindings))
 
-AreAdds-frames : (frame : ℕ → List Entry) → ((j : ℕ) → AreAdds (frame j)) → (a n : ℕ) → AreAdds (flat_map frame (range_with_len a n))
+AreAdds-frames : (frame : ℕ → List Entry) → ((j : ℕ) → AreAdds (frame j)) → (a n : ℕ)
+    → AreAdds (flat_map frame (range_with_len a n))
 AreAdds-frames frame adds a zero = tt
 AreAdds-frames frame adds a (suc n) = AreAdds-append (frame a) (flat_map frame (range_with_len (a + 1) n)) (adds a) (AreAdds-frames frame adds (a + 1) n)
 
@@ -50,7 +53,9 @@ AreAdds-segment c samples =
 
 module _ {S T : Type 0} (P : mixport.Ghosts S) (G : gates.Ghosts T) where
   -- a client that laid nothing and has nothing written, at a port whose standing adds end in nothing
-  pub IsBacked-new : (p : S) (c : ClientView) (samples : List ℤ) → c.plain.stretch.written ≡ 0 → c.plain.stretch.committed ≡ 0 → c.plain.stretch.part ≡ 0 → P.ends_in p [] → IsBacked P.ends_in p c samples
+  pub IsBacked-new : (p : S) (c : ClientView) (samples : List ℤ) → c.plain.stretch.written ≡ 0
+      → c.plain.stretch.committed ≡ 0 → c.plain.stretch.part ≡ 0 → P.ends_in p []
+      → IsBacked P.ends_in p c samples
   IsBacked-new p c samples none no_frame no_part stand = record {
     stands = λ j q low high in_range. absurd (omega (arith, high, none));
     segment = subst (P.ends_in p) (sym (
@@ -60,9 +65,12 @@ module _ {S T : Type 0} (P : mixport.Ghosts S) (G : gates.Ghosts T) where
   }
 
   -- after a call that lays entries
-  pub IsBacked-grows : {X : Type 0} (s t : S × T) (c d : ClientView) (answer : Result X PcmError) (For : List ℤ → Type 0) (samples : List ℤ)
-      → ((p q : S) (xs es : List Entry) → AreAdds es → P.laid p q es → P.ends_in p xs → P.ends_in q (xs ++ es))
-      → Keeps P G s t c d answer For → For samples → IsBacked P.ends_in s.0 c samples → IsBacked P.ends_in t.0 d samples
+  pub IsBacked-grows : {X : Type 0} (s t : S × T) (c d : ClientView) (answer : Result X PcmError)
+      (For : List ℤ → Type 0) (samples : List ℤ)
+      → ((p q : S) (xs es : List Entry) → AreAdds es → P.laid p q es → P.ends_in p xs
+      → P.ends_in q (xs ++ es))
+      → Keeps P G s t c d answer For → For samples → IsBacked P.ends_in s.0 c samples
+      → IsBacked P.ends_in t.0 d samples
   IsBacked-grows s t c d answer For samples held_laid keeps for is =
       let w = keeps.grows samples is.stands for in
       let adds : AreAdds w.entries = AreAdds-end (segment_entries c.plain samples) w.entries (subst AreAdds w.grown (AreAdds-segment d.plain samples)) in
@@ -72,15 +80,20 @@ module _ {S T : Type 0} (P : mixport.Ghosts S) (G : gates.Ghosts T) where
       }
 
   -- after a rewind
-  pub IsBacked-back : {X : Type 0} (s t : S × T) (c d : ClientView) (answer : Result X PcmError) (samples : List ℤ) → KeepsBack P G s t c d answer → IsBacked P.ends_in s.0 c samples → IsBacked P.ends_in t.0 d samples
+  pub IsBacked-back : {X : Type 0} (s t : S × T) (c d : ClientView) (answer : Result X PcmError)
+      (samples : List ℤ) → KeepsBack P G s t c d answer → IsBacked P.ends_in s.0 c samples
+      → IsBacked P.ends_in t.0 d samples
   IsBacked-back s t c d answer samples keeps is = record {
     stands = keeps.stands samples is.stands;
     segment = (keeps.loses samples is.stands).away.held [] is.segment;
   }
 
   -- with its counts based anew
-  pub IsBacked-rebased : (p : S) (c : Plain) (ring samples : List ℤ) → ((q : S) (xs ys : List Entry) → P.ends_in q (xs ++ ys) → P.ends_in q ys) → IsSound c ring → c.status.state ≡ Paused
-      → IsBacked P.ends_in p (record { plain = c; ring = ring }) samples → IsBacked P.ends_in p (record { plain = rebased c; ring = ring }) samples
+  pub IsBacked-rebased : (p : S) (c : Plain) (ring samples : List ℤ)
+      → ((q : S) (xs ys : List Entry) → P.ends_in q (xs ++ ys) → P.ends_in q ys) → IsSound c ring
+      → c.status.state ≡ Paused
+      → IsBacked P.ends_in p (record { plain = c; ring = ring }) samples
+      → IsBacked P.ends_in p (record { plain = rebased c; ring = ring }) samples
   IsBacked-rebased p c ring samples part sound pauses is = record {
     stands = StandsFor-rebased c ring samples sound pauses is.stands;
     segment = part p (segment_entries c samples) [] (subst (P.ends_in p) (sym (append-nil (segment_entries c samples))) is.segment);
@@ -90,7 +103,9 @@ module _ {S T : Type 0} (P : mixport.Ghosts S) (G : gates.Ghosts T) where
   low-most k h = grind (arith, nat_tests)
 
   -- what a rewind asks
-  pub IsBacked-held : (p : S) (c : ClientView) (samples : List ℤ) → ((q : S) (xs ys : List Entry) → P.ends_in q (xs ++ ys) → P.ends_in q ys) → IsSound c.plain c.ring → c.plain.status.state ≡ Running → c.plain.status.stopped ≡ false
+  pub IsBacked-held : (p : S) (c : ClientView) (samples : List ℤ)
+      → ((q : S) (xs ys : List Entry) → P.ends_in q (xs ++ ys) → P.ends_in q ys)
+      → IsSound c.plain c.ring → c.plain.status.state ≡ Running → c.plain.status.stopped ≡ false
       → IsBacked P.ends_in p c samples → P.ends_in p (held_entries c.plain c.ring)
   IsBacked-held p c samples part sound runs going is =
       let d = c.plain in

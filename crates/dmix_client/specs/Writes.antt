@@ -10,7 +10,9 @@ frames_in c samples = length samples / length c.setup.bindings
 
 -- the ring of a client with frames behind what is written
 abbrev pub ring_with : Plain → List ℤ → List ℤ → ℕ → List ℤ
-ring_with c ring samples n = stored c.setup.config.buffer_size (length c.setup.bindings) ring (c.stretch.source + c.stretch.written) samples n
+ring_with c ring samples n =
+    stored c.setup.config.buffer_size (length c.setup.bindings) ring
+    (c.stretch.source + c.stretch.written) samples n
 
 -- how many frames a write of n takes after its sync
 abbrev pub taken_after : Answered (Unit {0}) → ℕ → ℕ
@@ -19,7 +21,8 @@ taken_after (u, Err e) n = 0
 
 -- how many frames are to be committed where a write took some, at the position that was seen
 abbrev pub count_with : Plain → ℕ → ℕ
-count_with u taken = if nat_eq taken 0 then 0 else commit_count u (unwrap_or u.seen 0) (u.stretch.written + taken)
+count_with u taken = if nat_eq taken 0 then 0
+    else commit_count u (unwrap_or u.seen 0) (u.stretch.written + taken)
 
 -- a write of n frames into a prepared stream starts it
 abbrev pub starts_with : Plain → ℕ → Bool

@@ -121,13 +121,22 @@ impl Client {
         bindings: Bindings,
     ) -> Result<(), PcmError>
         requires channels { length bindings ≡ config.channels }
-        requires on_card { All (λ channel. channel < self.old.plain.identity.geometry.channels) bindings }
+        requires on_card { All (λ channel. channel < self.old.plain.identity.geometry.channels)
+            bindings }
         requires buffer_least { 1 ≤ config.buffer_size }
         requires buffer_most { config.buffer_size ≤ 16384 }
-        ensures refused { (e : PcmError) → refusal_of Direction.Playback self.old.plain.status call.HwParams ≡ Some e → result ≡ Err e }
-        ensures ok { OnOk result (self.new ≡ record { plain = configured_with self.old.plain config bindings; ring = replicate (config.buffer_size * length bindings) (pos 0) }) }
+        ensures refused { (e : PcmError) →
+            refusal_of Direction.Playback self.old.plain.status call.HwParams ≡ Some e →
+            result ≡ Err e }
+        ensures ok { OnOk result (self.new
+            ≡ record {
+              plain = configured_with self.old.plain config bindings;
+              ring = replicate (config.buffer_size * length bindings) (pos 0);
+            }) }
         ensures err { OnErr result (self.new ≡ self.old) }
-        ensures only { IfErr result (λ e. (refusal_of Direction.Playback self.old.plain.status call.HwParams ≡ Some e) ⊎ (e ≡ PcmError.Memory)) }
+        ensures only { IfErr result
+            (λ e. (refusal_of Direction.Playback self.old.plain.status call.HwParams ≡ Some e)
+            ⊎ (e ≡ PcmError.Memory)) }
     {
         self.plain
             .status
@@ -141,8 +150,11 @@ impl Client {
 
     /// Gives the configuration up (`snd_pcm_hw_free`): OPEN, from SETUP or PREPARED. A refused call changes nothing.
     pub fn hw_free(&mut self) -> Result<(), PcmError>
-        ensures refused { (e : PcmError) → refusal_of Direction.Playback self.old.plain.status call.HwFree ≡ Some e → (result ≡ Err e) × (self.new ≡ self.old) }
-        ensures freed { refusal_of Direction.Playback self.old.plain.status call.HwFree ≡ None → (result ≡ Ok tt) × (self.new ≡ record { plain = freed self.old.plain; ring = [] }) }
+        ensures refused { (e : PcmError) →
+            refusal_of Direction.Playback self.old.plain.status call.HwFree ≡ Some e →
+            (result ≡ Err e) × (self.new ≡ self.old) }
+        ensures freed { refusal_of Direction.Playback self.old.plain.status call.HwFree ≡ None →
+            (result ≡ Ok tt) × (self.new ≡ record { plain = freed self.old.plain; ring = [] }) }
     {
         self.plain.status.admit(Direction::Playback, Call::HwFree)?;
         self.plain = self.plain.freed();
@@ -153,9 +165,14 @@ impl Client {
     /// Sets the software parameters (`snd_pcm_sw_params`), in every state but OPEN and DISCONNECTED. `Invalid` comes
     /// exactly where they have a defect, with the first one. A refused call changes nothing.
     pub fn sw_params(&mut self, params: SwParams) -> Result<(), PcmError>
-        ensures refused { (e : PcmError) → refusal_of Direction.Playback self.old.plain.status call.SwParams ≡ Some e → (result ≡ Err e) × (self.new ≡ self.old) }
-        ensures checked { refusal_of Direction.Playback self.old.plain.status call.SwParams ≡ None → (b : ℕ) × IsBoundary self.old.plain.setup.config.buffer_size b × Checks result params b }
-        ensures ok { OnOk result (self.new ≡ record { plain = with_params self.old.plain params; ring = self.old.ring }) }
+        ensures refused { (e : PcmError) →
+            refusal_of Direction.Playback self.old.plain.status call.SwParams ≡ Some e →
+            (result ≡ Err e) × (self.new ≡ self.old) }
+        ensures checked { refusal_of Direction.Playback self.old.plain.status call.SwParams ≡ None →
+            (b : ℕ) × IsBoundary self.old.plain.setup.config.buffer_size b
+            × Checks result params b }
+        ensures ok { OnOk result (self.new
+            ≡ record { plain = with_params self.old.plain params; ring = self.old.ring }) }
         ensures err { OnErr result (self.new ≡ self.old) }
     {
         self.plain
@@ -167,8 +184,12 @@ impl Client {
     /// Prepares the stream (`snd_pcm_prepare`): what is pending is discarded, and nothing is written or laid since now.
     /// PREPARED, from SETUP, PREPARED or XRUN. A refused call changes nothing.
     pub fn prepare(&mut self) -> Result<(), PcmError>
-        ensures refused { (e : PcmError) → refusal_of Direction.Playback self.old.plain.status call.Prepare ≡ Some e → (result ≡ Err e) × (self.new ≡ self.old) }
-        ensures prepared { refusal_of Direction.Playback self.old.plain.status call.Prepare ≡ None → (result ≡ Ok tt) × (self.new ≡ record { plain = prepared self.old.plain; ring = self.old.ring }) }
+        ensures refused { (e : PcmError) →
+            refusal_of Direction.Playback self.old.plain.status call.Prepare ≡ Some e →
+            (result ≡ Err e) × (self.new ≡ self.old) }
+        ensures prepared { refusal_of Direction.Playback self.old.plain.status call.Prepare ≡ None →
+            (result ≡ Ok tt)
+            × (self.new ≡ record { plain = prepared self.old.plain; ring = self.old.ring }) }
     {
         self.plain.status.admit(Direction::Playback, Call::Prepare)?;
         self.plain = self.plain.prepared();
@@ -179,8 +200,12 @@ impl Client {
     /// DISCONNECTED. Unlike ALSA's `snd_pcm_drop` it leaves what was committed in the card's ring. A refused call changes
     /// nothing.
     pub fn drop_pending(&mut self) -> Result<(), PcmError>
-        ensures refused { (e : PcmError) → refusal_of Direction.Playback self.old.plain.status call.Drop ≡ Some e → (result ≡ Err e) × (self.new ≡ self.old) }
-        ensures dropped { refusal_of Direction.Playback self.old.plain.status call.Drop ≡ None → (result ≡ Ok tt) × (self.new ≡ record { plain = dropped self.old.plain; ring = self.old.ring }) }
+        ensures refused { (e : PcmError) →
+            refusal_of Direction.Playback self.old.plain.status call.Drop ≡ Some e →
+            (result ≡ Err e) × (self.new ≡ self.old) }
+        ensures dropped { refusal_of Direction.Playback self.old.plain.status call.Drop ≡ None →
+            (result ≡ Ok tt)
+            × (self.new ≡ record { plain = dropped self.old.plain; ring = self.old.ring }) }
     {
         self.plain.status.admit(Direction::Playback, Call::Drop)?;
         self.plain = self.plain.dropped();

@@ -68,7 +68,8 @@ fn place_sample<P: MixPort, G: Gate>(
     requires from_cursor { IsFrom (P.view port.old).marks.cursor frame channel }
     requires ahead { frame < (P.view port.old).seen + (P.view port.old).geometry.frames }
     requires fits { frame < end_frame (P.view port.old).geometry }
-    ensures { LaysAt P.MixPort G.Gate (port.old, gate.old) (an_add (P.view port.old).member frame channel sample) result (port.new, gate.new) }
+    ensures { LaysAt P.MixPort G.Gate (port.old, gate.old)
+        (an_add (P.view port.old).member frame channel sample) result (port.new, gate.new) }
 {
     Ended::of(port.place(gate, frame, channel, sample))
 }
@@ -84,12 +85,14 @@ fn place_frame<P: MixPort, G: Gate>(
     requires can_add { (P.view port.old).can_add ≡ true }
     requires bound { IsOnCard bindings.now (P.view port.old).geometry }
     requires samples { length samples.now ≡ length bindings.now }
-    requires from_cursor { IsFrom (P.view port.old).marks.cursor frame (least_channel bindings.now) }
+    requires from_cursor { IsFrom (P.view port.old).marks.cursor frame
+        (least_channel bindings.now) }
     requires ahead { frame < (P.view port.old).seen + (P.view port.old).geometry.frames }
     requires fits { frame < end_frame (P.view port.old).geometry }
     ensures { TakesAt P.MixPort G.Gate (port.old, gate.old)
-        (lay_frame (P.view port.old).member frame bindings.now (λ q. slice_index_or samples.now q (pos 0)))
-        (port.new, gate.new) (result.placed, result.ended) }
+        (lay_frame (P.view port.old).member frame bindings.now
+        (λ q. slice_index_or samples.now q (pos 0))) (port.new, gate.new)
+        (result.placed, result.ended) }
 {
     for place in 0..bindings.len() {
         let client = bindings.rising(place);
@@ -123,7 +126,8 @@ pub(crate) fn slot_of(from: u64, frame: u64, buffer_size: u32, channels: u8) -> 
 pub(crate) fn frame_of(ring: &[i16], slot: usize, channels: u8) -> &[i16]
     requires { slot + channels ≤ length ring.now }
     ensures length { length result.now ≡ channels }
-    ensures samples { (q : ℕ) → q < channels → slice_index_or result.now q (pos 0) ≡ slice_index_or ring.now (slot + q) (pos 0) }
+    ensures samples { (q : ℕ) → q < channels → slice_index_or result.now q (pos 0)
+        ≡ slice_index_or ring.now (slot + q) (pos 0) }
 {
     &ring[slot..slot + channels as usize]
 }
@@ -140,10 +144,15 @@ pub(crate) fn lay_frames<P: MixPort, G: Gate>(
     requires member { (P.view port.old).member ≡ plain.now.identity.member }
     requires bound { IsOnCard plain.now.setup.bindings (P.view port.old).geometry }
     requires buffer { 1 ≤ plain.now.setup.config.buffer_size }
-    requires room { length ring.now ≡ plain.now.setup.config.buffer_size * length plain.now.setup.bindings }
-    requires from_cursor { IsFrom (P.view port.old).marks.cursor (plain.now.stretch.card + plain.now.stretch.committed) (least_channel plain.now.setup.bindings) }
-    requires ahead { 0 < count → plain.now.stretch.card + (plain.now.stretch.committed + count) ≤ window_end (P.view port.old).geometry (P.view port.old).seen }
-    ensures { TakesAt P.MixPort G.Gate (port.old, gate.old) (commits plain.now ring.now count) (port.new, gate.new) result }
+    requires room { length ring.now ≡ plain.now.setup.config.buffer_size * length
+        plain.now.setup.bindings }
+    requires from_cursor { IsFrom (P.view port.old).marks.cursor
+        (plain.now.stretch.card + plain.now.stretch.committed)
+        (least_channel plain.now.setup.bindings) }
+    requires ahead { 0 < count → plain.now.stretch.card + (plain.now.stretch.committed + count)
+        ≤ window_end (P.view port.old).geometry (P.view port.old).seen }
+    ensures { TakesAt P.MixPort G.Gate (port.old, gate.old) (commits plain.now ring.now count)
+        (port.new, gate.new) result }
 {
     let channels = plain.setup.bindings.len();
     for frame in 0..count {
@@ -191,10 +200,13 @@ pub(crate) fn look_and_commit<P: MixPort, G: Gate>(
     requires moving { is_moving plain.now.status.state ≡ true }
     requires unstopped { plain.now.status.stopped ≡ false }
     requires port { CanUse plain.now (P.view port.old) }
-    ensures takes { TakesAt P.MixPort G.Gate (port.old, gate.old) (looks (λ position. plain.now) (sync_count plain.now) ring.now)
-        (port.new, gate.new) (result.load, result.commit) }
-    ensures found { IsFound result.load result.commit (λ position. plain.now) (sync_count plain.now) (length plain.now.setup.bindings) }
-    ensures near { IfSome result.load (λ position. (unwrap_or plain.now.seen 0 ≤ position.frame) × (position.frame ≤ end_frame plain.now.identity.geometry)) }
+    ensures takes { TakesAt P.MixPort G.Gate (port.old, gate.old)
+        (looks (λ position. plain.now) (sync_count plain.now) ring.now) (port.new, gate.new)
+        (result.load, result.commit) }
+    ensures found { IsFound result.load result.commit (λ position. plain.now) (sync_count plain.now)
+        (length plain.now.setup.bindings) }
+    ensures near { IfSome result.load (λ position. (unwrap_or plain.now.seen 0 ≤ position.frame)
+        × (position.frame ≤ end_frame plain.now.identity.geometry)) }
 {
     let Ok(position) = port.position(gate) else {
         return Found::NOTHING;
@@ -222,10 +234,14 @@ pub(crate) fn look_and_start<P: MixPort, G: Gate>(
     requires prepared { plain.now.status.state ≡ State.Prepared }
     requires port { CanUse plain.now (P.view port.old) }
     ensures takes { TakesAt P.MixPort G.Gate (port.old, gate.old)
-        (looks (λ position. started_in plain.now State.Running position cursor) (λ position. start_count plain.now cursor position upto) ring.now)
-        (port.new, gate.new) (result.load, result.commit) }
-    ensures found { IsFound result.load result.commit (λ position. started_in plain.now State.Running position cursor) (λ position. start_count plain.now cursor position upto) (length plain.now.setup.bindings) }
-    ensures near { IfSome result.load (λ position. position.frame ≤ end_frame plain.now.identity.geometry) }
+        (looks (λ position. started_in plain.now State.Running position cursor)
+        (λ position. start_count plain.now cursor position upto) ring.now) (port.new, gate.new)
+        (result.load, result.commit) }
+    ensures found { IsFound result.load result.commit
+        (λ position. started_in plain.now State.Running position cursor)
+        (λ position. start_count plain.now cursor position upto) (length plain.now.setup.bindings) }
+    ensures near { IfSome result.load
+        (λ position. position.frame ≤ end_frame plain.now.identity.geometry) }
 {
     let Ok(position) = port.position(gate) else {
         return Found::NOTHING;

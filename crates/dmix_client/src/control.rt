@@ -35,7 +35,9 @@ pub(crate) fn begin<P: MixPort, G: Gate>(
     requires prepared { plain.now.status.state ≡ State.Prepared }
     requires fits { upto ≤ plain.now.setup.config.buffer_size }
     requires port { CanUse plain.now (P.view port.old) }
-    ensures takes { TakesAt P.MixPort G.Gate (port.old, gate.old) (starts plain.now state (P.view port.old).marks.cursor upto ring.now) (port.new, gate.new) result }
+    ensures takes { TakesAt P.MixPort G.Gate (port.old, gate.old)
+        (starts plain.now state (P.view port.old).marks.cursor upto ring.now) (port.new, gate.new)
+        result }
     ensures near { (P.view port.old).marks.cursor.frame ≤ end_frame plain.now.identity.geometry }
     ensures same { KeepsAccepted plain.now result.0 }
 {
@@ -55,10 +57,15 @@ pub(crate) fn start_and_drain<P: MixPort, G: Gate>(
     requires prepared { plain.old.status.state ≡ State.Prepared }
     requires unstopped { plain.old.status.stopped ≡ false }
     requires port { CanUse plain.old (P.view port.old) }
-    ensures takes { TakesAt P.MixPort G.Gate (port.old, gate.old) (drains plain.old ring.now (P.view port.old).marks.cursor) (port.new, gate.new) (plain.new, result) }
+    ensures takes { TakesAt P.MixPort G.Gate (port.old, gate.old)
+        (drains plain.old ring.now (P.view port.old).marks.cursor) (port.new, gate.new)
+        (plain.new, result) }
     ensures sound { IsSound plain.new ring.now }
-    ensures keeps { Keeps P.MixPort G.Gate (port.old, gate.old) (port.new, gate.new) (record { plain = plain.old; ring = ring.now }) (record { plain = plain.new; ring = ring.now }) result AnySamples }
-    ensures again { (result ≡ Err PcmError.Again) ↔ ((plain.new.status.state ≡ State.Draining) × (plain.new.status.stopped ≡ false)) }
+    ensures keeps { Keeps P.MixPort G.Gate (port.old, gate.old) (port.new, gate.new)
+        (record { plain = plain.old; ring = ring.now })
+        (record { plain = plain.new; ring = ring.now }) result AnySamples }
+    ensures again { (result ≡ Err PcmError.Again)
+        ↔ ((plain.new.status.state ≡ State.Draining) × (plain.new.status.stopped ≡ false)) }
 {
     let (begun, answer) = begin(
         plain,
@@ -85,14 +92,26 @@ impl Client {
     /// comes as there. In every other state it is refused with `BadState`, in DISCONNECTED with `NoDevice`.
     pub fn start<P: MixPort, G: Gate>(&mut self, port: &mut P, gate: &mut G) -> Result<(), PcmError>
         requires { CanUse self.old.plain (P.view port.old) }
-        ensures takes { TakesAt P.MixPort G.Gate (port.old, gate.old) (admitted self.old.plain call.Start
-            (start_course self.old.plain self.old.ring (P.view port.old).marks.cursor)) (port.new, gate.new) (self.new.plain, result) }
-        ensures refused { (e : PcmError) → refusal_of Direction.Playback self.old.plain.status call.Start ≡ Some e → (result ≡ Err e) × (self.new ≡ self.old) × (port.new ≡ port.old) × (gate.new ≡ gate.old) }
+        ensures takes { TakesAt P.MixPort G.Gate (port.old, gate.old)
+            (admitted self.old.plain call.Start
+            (start_course self.old.plain self.old.ring (P.view port.old).marks.cursor))
+            (port.new, gate.new) (self.new.plain, result) }
+        ensures refused { (e : PcmError) →
+            refusal_of Direction.Playback self.old.plain.status call.Start ≡ Some e →
+            (result ≡ Err e) × (self.new ≡ self.old) × (port.new ≡ port.old)
+            × (gate.new ≡ gate.old) }
         ensures ring { self.new.ring ≡ self.old.ring }
-        ensures keeps { Keeps P.MixPort G.Gate (port.old, gate.old) (port.new, gate.new) self.old self.new result AnySamples }
-        ensures causes { refusal_of Direction.Playback self.old.plain.status call.Start ≡ None → 0 < self.old.plain.stretch.written →
-            Explains P.MixPort G.Gate (port.old, gate.old) (port.new, gate.new) self.old (λ position. started_in self.old.plain State.Running position (P.view port.old).marks.cursor)
-            (λ position. start_count self.old.plain (P.view port.old).marks.cursor position self.old.plain.stretch.written) (started self.old.plain State.Running (P.view port.old).marks.cursor) (self.new.plain, result) }
+        ensures keeps { Keeps P.MixPort G.Gate (port.old, gate.old) (port.new, gate.new) self.old
+            self.new result AnySamples }
+        ensures causes { refusal_of Direction.Playback self.old.plain.status call.Start ≡ None →
+            0 < self.old.plain.stretch.written →
+            Explains P.MixPort G.Gate (port.old, gate.old) (port.new, gate.new) self.old
+            (λ position. started_in self.old.plain State.Running position
+            (P.view port.old).marks.cursor)
+            (λ position. start_count self.old.plain (P.view port.old).marks.cursor position
+            self.old.plain.stretch.written)
+            (started self.old.plain State.Running (P.view port.old).marks.cursor)
+            (self.new.plain, result) }
     {
         self.plain.status.admit(Direction::Playback, Call::Start)?;
         if self.plain.stretch.written == 0 {
@@ -113,15 +132,27 @@ impl Client {
     /// `Ok` and leads to SETUP without a load. In OPEN it is refused with `BadState`, in DISCONNECTED with `NoDevice`.
     pub fn drain<P: MixPort, G: Gate>(&mut self, port: &mut P, gate: &mut G) -> Result<(), PcmError>
         requires { CanUse self.old.plain (P.view port.old) }
-        ensures takes { TakesAt P.MixPort G.Gate (port.old, gate.old) (admitted self.old.plain call.Drain
-            (drain_course self.old.plain self.old.ring (P.view port.old).marks.cursor)) (port.new, gate.new) (self.new.plain, result) }
-        ensures refused { (e : PcmError) → refusal_of Direction.Playback self.old.plain.status call.Drain ≡ Some e → (result ≡ Err e) × (self.new ≡ self.old) × (port.new ≡ port.old) × (gate.new ≡ gate.old) }
+        ensures takes { TakesAt P.MixPort G.Gate (port.old, gate.old)
+            (admitted self.old.plain call.Drain
+            (drain_course self.old.plain self.old.ring (P.view port.old).marks.cursor))
+            (port.new, gate.new) (self.new.plain, result) }
+        ensures refused { (e : PcmError) →
+            refusal_of Direction.Playback self.old.plain.status call.Drain ≡ Some e →
+            (result ≡ Err e) × (self.new ≡ self.old) × (port.new ≡ port.old)
+            × (gate.new ≡ gate.old) }
         ensures ring { self.new.ring ≡ self.old.ring }
-        ensures keeps { Keeps P.MixPort G.Gate (port.old, gate.old) (port.new, gate.new) self.old self.new result AnySamples }
-        ensures again { refusal_of Direction.Playback self.old.plain.status call.Drain ≡ None → (result ≡ Err PcmError.Again) ↔ ((self.new.plain.status.state ≡ State.Draining) × (self.new.plain.status.stopped ≡ false)) }
-        ensures causes { refusal_of Direction.Playback self.old.plain.status call.Drain ≡ None → is_moving self.old.plain.status.state ≡ true →
-            Explains P.MixPort G.Gate (port.old, gate.old) (port.new, gate.new) (record { plain = draining self.old.plain; ring = self.old.ring }) (λ position. draining self.old.plain)
-            (sync_count (draining self.old.plain)) (synced (draining self.old.plain) call.Drain) (self.new.plain, result) }
+        ensures keeps { Keeps P.MixPort G.Gate (port.old, gate.old) (port.new, gate.new) self.old
+            self.new result AnySamples }
+        ensures again { refusal_of Direction.Playback self.old.plain.status call.Drain ≡ None →
+            (result ≡ Err PcmError.Again)
+            ↔ ((self.new.plain.status.state ≡ State.Draining)
+            × (self.new.plain.status.stopped ≡ false)) }
+        ensures causes { refusal_of Direction.Playback self.old.plain.status call.Drain ≡ None →
+            is_moving self.old.plain.status.state ≡ true →
+            Explains P.MixPort G.Gate (port.old, gate.old) (port.new, gate.new)
+            (record { plain = draining self.old.plain; ring = self.old.ring })
+            (λ position. draining self.old.plain) (sync_count (draining self.old.plain))
+            (synced (draining self.old.plain) call.Drain) (self.new.plain, result) }
     {
         self.plain.status.admit(Direction::Playback, Call::Drain)?;
         let ring = self.ring.as_slice();

@@ -31,7 +31,9 @@ fn resume<P: MixPort, G: Gate>(
     requires sound { IsSound plain.old ring.now }
     requires paused { plain.old.status.state ≡ State.Paused }
     requires port { CanUse plain.old (P.view port.old) }
-    ensures takes { TakesAt P.MixPort G.Gate (port.old, gate.old) (resumes plain.old (P.view port.old).marks.cursor ring.now) (port.new, gate.new) (plain.new, result) }
+    ensures takes { TakesAt P.MixPort G.Gate (port.old, gate.old)
+        (resumes plain.old (P.view port.old).marks.cursor ring.now) (port.new, gate.new)
+        (plain.new, result) }
     ensures near { (P.view port.old).marks.cursor.frame ≤ end_frame plain.old.identity.geometry }
 {
     let cursor = port.cursor();
@@ -63,15 +65,31 @@ impl Client {
         on: bool,
     ) -> Result<(), PcmError>
         requires { CanUse self.old.plain (P.view port.old) }
-        ensures takes { TakesAt P.MixPort G.Gate (port.old, gate.old) (admitted self.old.plain (pause_call on)
-            (pause_course on self.old.plain self.old.ring (P.view port.old).marks.cursor)) (port.new, gate.new) (self.new.plain, result) }
-        ensures refused { (e : PcmError) → refusal_of Direction.Playback self.old.plain.status (pause_call on) ≡ Some e → (result ≡ Err e) × (self.new ≡ self.old) × (port.new ≡ port.old) × (gate.new ≡ gate.old) }
-        ensures pauses { on ≡ true → refusal_of Direction.Playback self.old.plain.status call.Pause ≡ None → (result ≡ Ok tt) × (self.new ≡ record { plain = paused self.old.plain; ring = self.old.ring }) × (port.new ≡ port.old) × (gate.new ≡ gate.old) }
+        ensures takes { TakesAt P.MixPort G.Gate (port.old, gate.old)
+            (admitted self.old.plain (pause_call on)
+            (pause_course on self.old.plain self.old.ring (P.view port.old).marks.cursor))
+            (port.new, gate.new) (self.new.plain, result) }
+        ensures refused { (e : PcmError) →
+            refusal_of Direction.Playback self.old.plain.status (pause_call on) ≡ Some e →
+            (result ≡ Err e) × (self.new ≡ self.old) × (port.new ≡ port.old)
+            × (gate.new ≡ gate.old) }
+        ensures pauses { on ≡ true → refusal_of Direction.Playback self.old.plain.status call.Pause
+            ≡ None → (result ≡ Ok tt)
+            × (self.new ≡ record { plain = paused self.old.plain; ring = self.old.ring })
+            × (port.new ≡ port.old) × (gate.new ≡ gate.old) }
         ensures ring { self.new.ring ≡ self.old.ring }
-        ensures keeps { Keeps P.MixPort G.Gate (port.old, gate.old) (port.new, gate.new) (record { plain = base_of self.old.plain self.new.plain; ring = self.old.ring }) self.new result AnySamples }
-        ensures causes { refusal_of Direction.Playback self.old.plain.status (pause_call on) ≡ None → on ≡ false → 0 < pending_of self.old.plain →
-            Explains P.MixPort G.Gate (port.old, gate.old) (port.new, gate.new) (record { plain = rebased self.old.plain; ring = self.old.ring }) (λ position. started_in (rebased self.old.plain) State.Running position (P.view port.old).marks.cursor)
-            (λ position. start_count (rebased self.old.plain) (P.view port.old).marks.cursor position (pending_of self.old.plain)) (resumed self.old.plain (P.view port.old).marks.cursor) (self.new.plain, result) }
+        ensures keeps { Keeps P.MixPort G.Gate (port.old, gate.old) (port.new, gate.new)
+            (record { plain = base_of self.old.plain self.new.plain; ring = self.old.ring })
+            self.new result AnySamples }
+        ensures causes { refusal_of Direction.Playback self.old.plain.status (pause_call on)
+            ≡ None → on ≡ false → 0 < pending_of self.old.plain →
+            Explains P.MixPort G.Gate (port.old, gate.old) (port.new, gate.new)
+            (record { plain = rebased self.old.plain; ring = self.old.ring })
+            (λ position. started_in (rebased self.old.plain) State.Running position
+            (P.view port.old).marks.cursor)
+            (λ position. start_count (rebased self.old.plain) (P.view port.old).marks.cursor
+            position (pending_of self.old.plain))
+            (resumed self.old.plain (P.view port.old).marks.cursor) (self.new.plain, result) }
     {
         if on {
             self.plain.status.admit(Direction::Playback, Call::Pause)?;

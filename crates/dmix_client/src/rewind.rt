@@ -40,7 +40,8 @@ fn check<P: MixPort, G: Gate>(plain: &mut Plain, port: &mut P, gate: &mut G) -> 
     requires running { plain.old.status.state ≡ State.Running }
     requires unstopped { plain.old.status.stopped ≡ false }
     requires port { CanUse plain.old (P.view port.old) }
-    ensures { TakesAt P.MixPort G.Gate (port.old, gate.old) (checks plain.old) (port.new, gate.new) (plain.new, result) }
+    ensures { TakesAt P.MixPort G.Gate (port.old, gate.old) (checks plain.old) (port.new, gate.new)
+        (plain.new, result) }
 {
     let found = load(port, gate);
     let (after, answer) = synced(*plain, Call::Transfer, found, Commit::NOTHING);
@@ -62,7 +63,8 @@ fn take_back<P: MixPort, G: Gate>(
     requires port { CanUse plain.old (P.view port.old) }
     requires few { frames ≤ rewindable_of (P.view port.old).marks.floor plain.old }
     requires standing { P.ends_in port.old (held_entries plain.old ring.now) }
-    ensures { TakesAt P.MixPort G.Gate (port.old, gate.old) (takes_back plain.old ring.now frames) (port.new, gate.new) (plain.new, result) }
+    ensures { TakesAt P.MixPort G.Gate (port.old, gate.old) (takes_back plain.old ring.now frames)
+        (port.new, gate.new) (plain.new, result) }
 {
     let left = take_frames(port, gate, plain, ring, plain.back(frames));
     let (after, answer) = rewound(*plain, frames, left);
@@ -80,7 +82,9 @@ fn rewindable_running<P: MixPort, G: Gate>(
     requires running { plain.old.status.state ≡ State.Running }
     requires unstopped { plain.old.status.stopped ≡ false }
     requires port { CanUse plain.old (P.view port.old) }
-    ensures { TakesAt P.MixPort G.Gate (port.old, gate.old) (numbered (rewindable_of (P.view port.old).marks.floor) (checks plain.old)) (port.new, gate.new) (plain.new, result) }
+    ensures { TakesAt P.MixPort G.Gate (port.old, gate.old)
+        (numbered (rewindable_of (P.view port.old).marks.floor) (checks plain.old))
+        (port.new, gate.new) (plain.new, result) }
 {
     let floor = port.floor();
     let checked = check(plain, port, gate);
@@ -100,7 +104,9 @@ fn rewind_running<P: MixPort, G: Gate>(
     requires unstopped { plain.old.status.stopped ≡ false }
     requires port { CanUse plain.old (P.view port.old) }
     requires standing { P.ends_in port.old (held_entries plain.old ring.now) }
-    ensures { TakesAt P.MixPort G.Gate (port.old, gate.old) (rewinds plain.old ring.now (P.view port.old).marks.floor frames) (port.new, gate.new) (plain.new, result) }
+    ensures { TakesAt P.MixPort G.Gate (port.old, gate.old)
+        (rewinds plain.old ring.now (P.view port.old).marks.floor frames) (port.new, gate.new)
+        (plain.new, result) }
 {
     let floor = port.floor();
     let checked = check(plain, port, gate);
@@ -126,14 +132,22 @@ impl Client {
         gate: &mut G,
     ) -> Result<u64, PcmError>
         requires { CanUse self.old.plain (P.view port.old) }
-        ensures takes { TakesAt P.MixPort G.Gate (port.old, gate.old) (admitted self.old.plain call.Transfer
-            (rewindable_course self.old.plain (P.view port.old).marks.floor)) (port.new, gate.new) (self.new.plain, result) }
-        ensures refused { (e : PcmError) → refusal_of Direction.Playback self.old.plain.status call.Transfer ≡ Some e → (result ≡ Err e) × (self.new ≡ self.old) × (port.new ≡ port.old) × (gate.new ≡ gate.old) }
+        ensures takes { TakesAt P.MixPort G.Gate (port.old, gate.old)
+            (admitted self.old.plain call.Transfer
+            (rewindable_course self.old.plain (P.view port.old).marks.floor)) (port.new, gate.new)
+            (self.new.plain, result) }
+        ensures refused { (e : PcmError) →
+            refusal_of Direction.Playback self.old.plain.status call.Transfer ≡ Some e →
+            (result ≡ Err e) × (self.new ≡ self.old) × (port.new ≡ port.old)
+            × (gate.new ≡ gate.old) }
         ensures ring { self.new.ring ≡ self.old.ring }
-        ensures keeps { Keeps P.MixPort G.Gate (port.old, gate.old) (port.new, gate.new) self.old self.new result AnySamples }
-        ensures causes { refusal_of Direction.Playback self.old.plain.status call.Transfer ≡ None → self.old.plain.status.state ≡ State.Running →
+        ensures keeps { Keeps P.MixPort G.Gate (port.old, gate.old) (port.new, gate.new) self.old
+            self.new result AnySamples }
+        ensures causes { refusal_of Direction.Playback self.old.plain.status call.Transfer ≡ None →
+            self.old.plain.status.state ≡ State.Running →
             ExplainsCheck P.MixPort G.Gate (port.old, gate.old) (port.new, gate.new) self.old.plain
-            (λ load. with_number (rewindable_of (P.view port.old).marks.floor) (synced self.old.plain call.Transfer load nothing)) (self.new.plain, result) }
+            (λ load. with_number (rewindable_of (P.view port.old).marks.floor)
+            (synced self.old.plain call.Transfer load nothing)) (self.new.plain, result) }
     {
         self.plain
             .status
@@ -164,14 +178,24 @@ impl Client {
         frames: u64,
     ) -> Result<u64, PcmError>
         requires port { CanUse self.old.plain (P.view port.old) }
-        requires standing { self.old.plain.status.state ≡ State.Running → self.old.plain.status.stopped ≡ false → P.ends_in port.old (held_entries self.old.plain self.old.ring) }
-        ensures takes { TakesAt P.MixPort G.Gate (port.old, gate.old) (admitted self.old.plain call.Transfer
-            (rewind_course self.old.plain self.old.ring (P.view port.old).marks.floor frames)) (port.new, gate.new) (self.new.plain, result) }
-        ensures refused { (e : PcmError) → refusal_of Direction.Playback self.old.plain.status call.Transfer ≡ Some e → (result ≡ Err e) × (self.new ≡ self.old) × (port.new ≡ port.old) × (gate.new ≡ gate.old) }
+        requires standing { self.old.plain.status.state ≡ State.Running →
+            self.old.plain.status.stopped ≡ false →
+            P.ends_in port.old (held_entries self.old.plain self.old.ring) }
+        ensures takes { TakesAt P.MixPort G.Gate (port.old, gate.old)
+            (admitted self.old.plain call.Transfer
+            (rewind_course self.old.plain self.old.ring (P.view port.old).marks.floor frames))
+            (port.new, gate.new) (self.new.plain, result) }
+        ensures refused { (e : PcmError) →
+            refusal_of Direction.Playback self.old.plain.status call.Transfer ≡ Some e →
+            (result ≡ Err e) × (self.new ≡ self.old) × (port.new ≡ port.old)
+            × (gate.new ≡ gate.old) }
         ensures ring { self.new.ring ≡ self.old.ring }
-        ensures keeps { KeepsBack P.MixPort G.Gate (port.old, gate.old) (port.new, gate.new) self.old self.new result }
-        ensures causes { refusal_of Direction.Playback self.old.plain.status call.Transfer ≡ None → self.old.plain.status.state ≡ State.Running →
-            ExplainsRewind P.MixPort G.Gate (port.old, gate.old) (port.new, gate.new) self.old.plain self.old.ring (P.view port.old).marks.floor frames (self.new.plain, result) }
+        ensures keeps { KeepsBack P.MixPort G.Gate (port.old, gate.old) (port.new, gate.new)
+            self.old self.new result }
+        ensures causes { refusal_of Direction.Playback self.old.plain.status call.Transfer ≡ None →
+            self.old.plain.status.state ≡ State.Running →
+            ExplainsRewind P.MixPort G.Gate (port.old, gate.old) (port.new, gate.new) self.old.plain
+            self.old.ring (P.view port.old).marks.floor frames (self.new.plain, result) }
     {
         self.plain
             .status

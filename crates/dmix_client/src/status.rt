@@ -33,8 +33,11 @@ pub(crate) fn sync_call<P: MixPort, G: Gate>(
     requires unstopped { plain.old.status.stopped ≡ false }
     requires step { IsStep plain.old.status.state call }
     requires port { CanUse plain.old (P.view port.old) }
-    ensures takes { TakesAt P.MixPort G.Gate (port.old, gate.old) (syncs plain.old call ring.now) (port.new, gate.new) (plain.new, result) }
-    ensures keeps { Keeps P.MixPort G.Gate (port.old, gate.old) (port.new, gate.new) (record { plain = plain.old; ring = ring.now }) (record { plain = plain.new; ring = ring.now }) result AnySamples }
+    ensures takes { TakesAt P.MixPort G.Gate (port.old, gate.old) (syncs plain.old call ring.now)
+        (port.new, gate.new) (plain.new, result) }
+    ensures keeps { Keeps P.MixPort G.Gate (port.old, gate.old) (port.new, gate.new)
+        (record { plain = plain.old; ring = ring.now })
+        (record { plain = plain.new; ring = ring.now }) result AnySamples }
     ensures sound { IsSound plain.new ring.now }
     ensures port { CanUse plain.new (P.view port.new) }
     ensures goes { OnOk result (IsGoing plain.new) }
@@ -59,13 +62,21 @@ impl Client {
     /// rose in this call; what was laid stays.
     pub fn sync<P: MixPort, G: Gate>(&mut self, port: &mut P, gate: &mut G) -> Result<(), PcmError>
         requires { CanUse self.old.plain (P.view port.old) }
-        ensures takes { TakesAt P.MixPort G.Gate (port.old, gate.old) (admitted self.old.plain call.Sync
-            (sync_course self.old.plain self.old.ring)) (port.new, gate.new) (self.new.plain, result) }
-        ensures refused { (e : PcmError) → refusal_of Direction.Playback self.old.plain.status call.Sync ≡ Some e → (result ≡ Err e) × (self.new ≡ self.old) × (port.new ≡ port.old) × (gate.new ≡ gate.old) }
+        ensures takes { TakesAt P.MixPort G.Gate (port.old, gate.old)
+            (admitted self.old.plain call.Sync (sync_course self.old.plain self.old.ring))
+            (port.new, gate.new) (self.new.plain, result) }
+        ensures refused { (e : PcmError) →
+            refusal_of Direction.Playback self.old.plain.status call.Sync ≡ Some e →
+            (result ≡ Err e) × (self.new ≡ self.old) × (port.new ≡ port.old)
+            × (gate.new ≡ gate.old) }
         ensures ring { self.new.ring ≡ self.old.ring }
-        ensures keeps { Keeps P.MixPort G.Gate (port.old, gate.old) (port.new, gate.new) self.old self.new result AnySamples }
-        ensures causes { refusal_of Direction.Playback self.old.plain.status call.Sync ≡ None → is_moving self.old.plain.status.state ≡ true →
-            Explains P.MixPort G.Gate (port.old, gate.old) (port.new, gate.new) self.old (λ position. self.old.plain) (sync_count self.old.plain) (synced self.old.plain call.Sync) (self.new.plain, result) }
+        ensures keeps { Keeps P.MixPort G.Gate (port.old, gate.old) (port.new, gate.new) self.old
+            self.new result AnySamples }
+        ensures causes { refusal_of Direction.Playback self.old.plain.status call.Sync ≡ None →
+            is_moving self.old.plain.status.state ≡ true →
+            Explains P.MixPort G.Gate (port.old, gate.old) (port.new, gate.new) self.old
+            (λ position. self.old.plain) (sync_count self.old.plain)
+            (synced self.old.plain call.Sync) (self.new.plain, result) }
     {
         self.plain.status.admit(Direction::Playback, Call::Sync)?;
         if !self.plain.status.is_moving() {
@@ -84,13 +95,23 @@ impl Client {
         gate: &mut G,
     ) -> Result<u64, PcmError>
         requires { CanUse self.old.plain (P.view port.old) }
-        ensures takes { TakesAt P.MixPort G.Gate (port.old, gate.old) (admitted self.old.plain call.Sync
-            (number_course avail_answer self.old.plain self.old.ring)) (port.new, gate.new) (self.new.plain, result) }
-        ensures refused { (e : PcmError) → refusal_of Direction.Playback self.old.plain.status call.Sync ≡ Some e → (result ≡ Err e) × (self.new ≡ self.old) × (port.new ≡ port.old) × (gate.new ≡ gate.old) }
+        ensures takes { TakesAt P.MixPort G.Gate (port.old, gate.old)
+            (admitted self.old.plain call.Sync
+            (number_course avail_answer self.old.plain self.old.ring)) (port.new, gate.new)
+            (self.new.plain, result) }
+        ensures refused { (e : PcmError) →
+            refusal_of Direction.Playback self.old.plain.status call.Sync ≡ Some e →
+            (result ≡ Err e) × (self.new ≡ self.old) × (port.new ≡ port.old)
+            × (gate.new ≡ gate.old) }
         ensures ring { self.new.ring ≡ self.old.ring }
-        ensures keeps { Keeps P.MixPort G.Gate (port.old, gate.old) (port.new, gate.new) self.old self.new result AnySamples }
-        ensures causes { refusal_of Direction.Playback self.old.plain.status call.Sync ≡ None → is_moving self.old.plain.status.state ≡ true →
-            Explains P.MixPort G.Gate (port.old, gate.old) (port.new, gate.new) self.old (λ position. self.old.plain) (sync_count self.old.plain) (λ load commit. with_number avail_answer (synced self.old.plain call.Sync load commit)) (self.new.plain, result) }
+        ensures keeps { Keeps P.MixPort G.Gate (port.old, gate.old) (port.new, gate.new) self.old
+            self.new result AnySamples }
+        ensures causes { refusal_of Direction.Playback self.old.plain.status call.Sync ≡ None →
+            is_moving self.old.plain.status.state ≡ true →
+            Explains P.MixPort G.Gate (port.old, gate.old) (port.new, gate.new) self.old
+            (λ position. self.old.plain) (sync_count self.old.plain)
+            (λ load commit. with_number avail_answer (synced self.old.plain call.Sync load commit))
+            (self.new.plain, result) }
     {
         self.plain.status.admit(Direction::Playback, Call::Sync)?;
         if !self.plain.status.is_moving() {
@@ -110,13 +131,23 @@ impl Client {
         gate: &mut G,
     ) -> Result<u64, PcmError>
         requires { CanUse self.old.plain (P.view port.old) }
-        ensures takes { TakesAt P.MixPort G.Gate (port.old, gate.old) (admitted self.old.plain call.Sync
-            (number_course delay_answer self.old.plain self.old.ring)) (port.new, gate.new) (self.new.plain, result) }
-        ensures refused { (e : PcmError) → refusal_of Direction.Playback self.old.plain.status call.Sync ≡ Some e → (result ≡ Err e) × (self.new ≡ self.old) × (port.new ≡ port.old) × (gate.new ≡ gate.old) }
+        ensures takes { TakesAt P.MixPort G.Gate (port.old, gate.old)
+            (admitted self.old.plain call.Sync
+            (number_course delay_answer self.old.plain self.old.ring)) (port.new, gate.new)
+            (self.new.plain, result) }
+        ensures refused { (e : PcmError) →
+            refusal_of Direction.Playback self.old.plain.status call.Sync ≡ Some e →
+            (result ≡ Err e) × (self.new ≡ self.old) × (port.new ≡ port.old)
+            × (gate.new ≡ gate.old) }
         ensures ring { self.new.ring ≡ self.old.ring }
-        ensures keeps { Keeps P.MixPort G.Gate (port.old, gate.old) (port.new, gate.new) self.old self.new result AnySamples }
-        ensures causes { refusal_of Direction.Playback self.old.plain.status call.Sync ≡ None → is_moving self.old.plain.status.state ≡ true →
-            Explains P.MixPort G.Gate (port.old, gate.old) (port.new, gate.new) self.old (λ position. self.old.plain) (sync_count self.old.plain) (λ load commit. with_number delay_answer (synced self.old.plain call.Sync load commit)) (self.new.plain, result) }
+        ensures keeps { Keeps P.MixPort G.Gate (port.old, gate.old) (port.new, gate.new) self.old
+            self.new result AnySamples }
+        ensures causes { refusal_of Direction.Playback self.old.plain.status call.Sync ≡ None →
+            is_moving self.old.plain.status.state ≡ true →
+            Explains P.MixPort G.Gate (port.old, gate.old) (port.new, gate.new) self.old
+            (λ position. self.old.plain) (sync_count self.old.plain)
+            (λ load commit. with_number delay_answer (synced self.old.plain call.Sync load commit))
+            (self.new.plain, result) }
     {
         self.plain.status.admit(Direction::Playback, Call::Sync)?;
         if !self.plain.status.is_moving() {

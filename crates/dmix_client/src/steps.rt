@@ -122,7 +122,8 @@ impl Plain {
 
     /// Why a commit was late, where it was.
     pub(crate) fn late(&self, commit: Commit) -> Option<XrunWhy>
-        requires fits { self.now.stretch.card + (self.now.stretch.committed + commit.frames) < 2 ^ 64 }
+        requires fits { self.now.stretch.card + (self.now.stretch.committed + commit.frames)
+            < 2 ^ 64 }
         requires part { OnLate commit.ended (λ _. commit.part < length self.now.setup.bindings) }
         ensures { result ≡ late_of self.now commit }
     {
@@ -348,7 +349,8 @@ impl Plain {
 
     /// The frames that `delay` answers after its sync.
     pub(crate) fn delay_answer(&self) -> u64
-        requires { (self.now.status.state ≡ State.Setup → ⊥) → self.now.stretch.card + self.now.stretch.written < 2 ^ 64 }
+        requires { (self.now.status.state ≡ State.Setup → ⊥) →
+            self.now.stretch.card + self.now.stretch.written < 2 ^ 64 }
         ensures { result ≡ delay_answer self.now }
     {
         match self.status.state {
@@ -545,7 +547,8 @@ pub(crate) fn with_avail(plain: &Plain, answer: Result<(), PcmError>) -> Result<
 
 /// The frames until the end of what is written, after a sync that went well.
 pub(crate) fn with_delay(plain: &Plain, answer: Result<(), PcmError>) -> Result<u64, PcmError>
-    requires { OnOk answer ((plain.now.status.state ≡ State.Setup → ⊥) → plain.now.stretch.card + plain.now.stretch.written < 2 ^ 64) }
+    requires { OnOk answer ((plain.now.status.state ≡ State.Setup → ⊥) →
+        plain.now.stretch.card + plain.now.stretch.written < 2 ^ 64) }
     ensures { with_number delay_answer (plain.now, answer) ≡ (plain.now, result) }
 {
     match answer {

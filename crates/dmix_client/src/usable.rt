@@ -11,7 +11,8 @@ use pcm_stream::is_same_ring;
 
 /// Whether a port has the geometry and the member of a client.
 fn is_own<P: MixPort>(plain: &Plain, port: &P) -> bool
-    ensures { IsTrue result ↔ ((P.view port.now).geometry ≡ plain.now.identity.geometry) × ((P.view port.now).member ≡ plain.now.identity.member) }
+    ensures { IsTrue result ↔ ((P.view port.now).geometry ≡ plain.now.identity.geometry)
+        × ((P.view port.now).member ≡ plain.now.identity.member) }
 {
     is_same_ring(&port.geometry(), &plain.identity.geometry)
         && port.member() == plain.identity.member
@@ -19,7 +20,10 @@ fn is_own<P: MixPort>(plain: &Plain, port: &P) -> bool
 
 /// Whether the port's cursor and its position are where a client that moves frames left them.
 fn is_behind<P: MixPort>(client: &Client, port: &P) -> bool
-    ensures { IsTrue result ↔ IsFrom (P.view port.now).marks.cursor (client.now.plain.stretch.card + client.now.plain.stretch.committed) (least_channel client.now.plain.setup.bindings) × unwrap_or client.now.plain.seen 0 ≤ (P.view port.now).seen }
+    ensures { IsTrue result ↔ IsFrom (P.view port.now).marks.cursor
+        (client.now.plain.stretch.card + client.now.plain.stretch.committed)
+        (least_channel client.now.plain.setup.bindings)
+        × unwrap_or client.now.plain.seen 0 ≤ (P.view port.now).seen }
 {
     let plain = &client.plain;
     let _channels = plain.setup.bindings.len();

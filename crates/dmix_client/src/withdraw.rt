@@ -30,7 +30,8 @@ fn take_sample<P: MixPort, G: Gate>(
 ) -> Ended
     requires last { P.ends_in port.old (an_add (P.view port.old).member frame channel sample ∷ []) }
     requires from_floor { IsFrom (P.view port.old).marks.floor frame channel }
-    ensures { LaysAt P.MixPort G.Gate (port.old, gate.old) (a_withdrawal (P.view port.old).member frame channel sample) result (port.new, gate.new) }
+    ensures { LaysAt P.MixPort G.Gate (port.old, gate.old)
+        (a_withdrawal (P.view port.old).member frame channel sample) result (port.new, gate.new) }
 {
     Ended::of(port.withdraw(gate, frame, channel, sample))
 }
@@ -46,10 +47,13 @@ fn take_frame<P: MixPort, G: Gate>(
     requires bound { IsOnCard bindings.now (P.view port.old).geometry }
     requires samples { length samples.now ≡ length bindings.now }
     requires from_floor { IsFrom (P.view port.old).marks.floor frame (least_channel bindings.now) }
-    requires held { P.ends_in port.old (frame_entries (P.view port.old).member bindings.now (λ q. slice_index_or samples.now q (pos 0)) (length bindings.now) frame) }
+    requires held { P.ends_in port.old
+        (frame_entries (P.view port.old).member bindings.now
+        (λ q. slice_index_or samples.now q (pos 0)) (length bindings.now) frame) }
     ensures { TakesAt P.MixPort G.Gate (port.old, gate.old)
-        (take_each (P.view port.old).member frame bindings.now (λ q. slice_index_or samples.now q (pos 0)) (length bindings.now))
-        (port.new, gate.new) (result.channels, result.ended) }
+        (take_each (P.view port.old).member frame bindings.now
+        (λ q. slice_index_or samples.now q (pos 0)) (length bindings.now)) (port.new, gate.new)
+        (result.channels, result.ended) }
 {
     for place in (0..bindings.len()).rev() {
         let client = bindings.rising(place);
@@ -99,13 +103,21 @@ pub(crate) fn take_frames<P: MixPort, G: Gate>(
     requires member { (P.view port.old).member ≡ plain.now.identity.member }
     requires bound { IsOnCard plain.now.setup.bindings (P.view port.old).geometry }
     requires buffer { 1 ≤ plain.now.setup.config.buffer_size }
-    requires room { length ring.now ≡ plain.now.setup.config.buffer_size * length plain.now.setup.bindings }
+    requires room { length ring.now ≡ plain.now.setup.config.buffer_size * length
+        plain.now.setup.bindings }
     requires few { count ≤ plain.now.stretch.committed }
     requires fits { plain.now.stretch.card + plain.now.stretch.committed < 2 ^ 64 }
-    requires from_floor { 0 < count → IsFrom (P.view port.old).marks.floor (plain.now.stretch.card + (plain.now.stretch.committed - count)) (least_channel plain.now.setup.bindings) }
-    requires held { P.ends_in port.old (run_entries plain.now.identity.member plain.now.setup.bindings (held plain.now ring.now) plain.now.stretch.card (plain.now.stretch.committed - count) count 0) }
+    requires from_floor { 0 < count →
+        IsFrom (P.view port.old).marks.floor
+        (plain.now.stretch.card + (plain.now.stretch.committed - count))
+        (least_channel plain.now.setup.bindings) }
+    requires held { P.ends_in port.old
+        (run_entries plain.now.identity.member plain.now.setup.bindings (held plain.now ring.now)
+        plain.now.stretch.card (plain.now.stretch.committed - count) count 0) }
     ensures { TakesAt P.MixPort G.Gate (port.old, gate.old)
-        (take_frames plain.now.identity.member plain.now.stretch.card plain.now.setup.bindings (held plain.now ring.now) (plain.now.stretch.committed - count) count) (port.new, gate.new) result }
+        (take_frames plain.now.identity.member plain.now.stretch.card plain.now.setup.bindings
+        (held plain.now ring.now) (plain.now.stretch.committed - count) count) (port.new, gate.new)
+        result }
 {
     let channels = plain.setup.bindings.len();
     let first = plain.stretch.committed - count;

@@ -39,8 +39,10 @@ fn commit_taken<P: MixPort, G: Gate>(
     requires unstopped { plain.now.status.stopped ≡ false }
     requires few { taken ≤ 16384 }
     requires port { CanUse plain.now (P.view port.old) }
-    ensures takes { TakesAt P.MixPort G.Gate (port.old, gate.old) (commits plain.now ring.now (count_with plain.now taken)) (port.new, gate.new) result }
-    ensures commit { IsCommit result.ended result.frames result.part (count_with plain.now taken) (length plain.now.setup.bindings) }
+    ensures takes { TakesAt P.MixPort G.Gate (port.old, gate.old)
+        (commits plain.now ring.now (count_with plain.now taken)) (port.new, gate.new) result }
+    ensures commit { IsCommit result.ended result.frames result.part (count_with plain.now taken)
+        (length plain.now.setup.bindings) }
 {
     let count = plain.count_with(taken);
     lay_frames(port, gate, plain, ring, count)
@@ -62,7 +64,9 @@ fn write_taken<P: MixPort, G: Gate>(
     requires few { frames ≤ 4194304 }
     requires fed { plain.old.fed < 2 ^ 63 }
     requires port { CanUse plain.old (P.view port.old) }
-    ensures takes { TakesAt P.MixPort G.Gate (port.old, gate.old) (takes_more plain.old ring.old samples.now frames) (port.new, gate.new) (plain.new, result) }
+    ensures takes { TakesAt P.MixPort G.Gate (port.old, gate.old)
+        (takes_more plain.old ring.old samples.now frames) (port.new, gate.new)
+        (plain.new, result) }
     ensures ring { ring.new ≡ ring_with plain.old ring.old samples.now (taken_of plain.old frames) }
 {
     let taken = plain.taken(frames);
@@ -107,12 +111,16 @@ fn write_running<P: MixPort, G: Gate>(
     requires few { frames ≤ 4194304 }
     requires fed { plain.old.fed < 2 ^ 63 }
     requires port { CanUse plain.old (P.view port.old) }
-    ensures takes { TakesAt P.MixPort G.Gate (port.old, gate.old) (writes_on plain.old ring.old samples.now frames) (port.new, gate.new) (plain.new, result) }
+    ensures takes { TakesAt P.MixPort G.Gate (port.old, gate.old)
+        (writes_on plain.old ring.old samples.now frames) (port.new, gate.new) (plain.new, result) }
     ensures sound { IsSound plain.new ring.new }
     ensures count { IfOk result (λ n. n ≤ 16384) }
-    ensures keeps { Keeps P.MixPort G.Gate (port.old, gate.old) (port.new, gate.new) (record { plain = plain.old; ring = ring.old }) (record { plain = plain.new; ring = ring.new }) result
+    ensures keeps { Keeps P.MixPort G.Gate (port.old, gate.old) (port.new, gate.new)
+        (record { plain = plain.old; ring = ring.old })
+        (record { plain = plain.new; ring = ring.new }) result
         (λ all. Follows plain.old all samples.now frames) }
-    ensures explains { ExplainsWrite P.MixPort G.Gate (port.old, gate.old) (port.new, gate.new) plain.old ring.old ring.new samples.now frames (plain.new, result) }
+    ensures explains { ExplainsWrite P.MixPort G.Gate (port.old, gate.old) (port.new, gate.new)
+        plain.old ring.old ring.new samples.now frames (plain.new, result) }
 {
     let synced = sync_call(plain, ring, port, gate, Call::Transfer);
     if let Err(error) = synced {
@@ -134,7 +142,9 @@ fn start_write<P: MixPort, G: Gate>(
     requires fits { plain.old.stretch.written + taken ≤ plain.old.setup.config.buffer_size }
     requires fed { plain.old.fed < 2 ^ 63 }
     requires port { CanUse plain.old (P.view port.old) }
-    ensures takes { TakesAt P.MixPort G.Gate (port.old, gate.old) (starts_taking plain.old ring.now (P.view port.old).marks.cursor taken) (port.new, gate.new) (plain.new, result) }
+    ensures takes { TakesAt P.MixPort G.Gate (port.old, gate.old)
+        (starts_taking plain.old ring.now (P.view port.old).marks.cursor taken) (port.new, gate.new)
+        (plain.new, result) }
     ensures near { (P.view port.old).marks.cursor.frame ≤ end_frame plain.old.identity.geometry }
 {
     let upto = plain.stretch.written + taken;
@@ -159,16 +169,25 @@ fn write_prepared<P: MixPort, G: Gate>(
     requires few { frames ≤ 4194304 }
     requires fed { plain.old.fed < 2 ^ 63 }
     requires port { CanUse plain.old (P.view port.old) }
-    ensures takes { TakesAt P.MixPort G.Gate (port.old, gate.old) (fills plain.old ring.old samples.now (P.view port.old).marks.cursor frames) (port.new, gate.new) (plain.new, result) }
+    ensures takes { TakesAt P.MixPort G.Gate (port.old, gate.old)
+        (fills plain.old ring.old samples.now (P.view port.old).marks.cursor frames)
+        (port.new, gate.new) (plain.new, result) }
     ensures ring { ring.new ≡ ring_with plain.old ring.old samples.now (taken_of plain.old frames) }
     ensures sound { IsSound plain.new ring.new }
     ensures count { IfOk result (λ n. n ≤ 16384) }
-    ensures keeps { Keeps P.MixPort G.Gate (port.old, gate.old) (port.new, gate.new) (record { plain = plain.old; ring = ring.old }) (record { plain = plain.new; ring = ring.new }) result
+    ensures keeps { Keeps P.MixPort G.Gate (port.old, gate.old) (port.new, gate.new)
+        (record { plain = plain.old; ring = ring.old })
+        (record { plain = plain.new; ring = ring.new }) result
         (λ all. Follows plain.old all samples.now frames) }
     ensures explains { starts_with plain.old frames ≡ true →
-        Explains P.MixPort G.Gate (port.old, gate.old) (port.new, gate.new) (record { plain = plain.old; ring = ring.new }) (λ position. started_in plain.old State.Running position (P.view port.old).marks.cursor)
-        (λ position. start_count plain.old (P.view port.old).marks.cursor position (plain.old.stretch.written + taken_of plain.old frames))
-        (λ load commit. accepted_if (taken_of plain.old frames) (started plain.old State.Running (P.view port.old).marks.cursor load commit)) (plain.new, result) }
+        Explains P.MixPort G.Gate (port.old, gate.old) (port.new, gate.new)
+        (record { plain = plain.old; ring = ring.new })
+        (λ position. started_in plain.old State.Running position (P.view port.old).marks.cursor)
+        (λ position. start_count plain.old (P.view port.old).marks.cursor position
+        (plain.old.stretch.written + taken_of plain.old frames))
+        (λ load commit. accepted_if (taken_of plain.old frames)
+        (started plain.old State.Running (P.view port.old).marks.cursor load commit))
+        (plain.new, result) }
 {
     let taken = plain.taken(frames);
     store_taken(plain, ring, samples, taken);
@@ -219,21 +238,43 @@ impl Client {
         gate: &mut G,
         samples: &[i16],
     ) -> Result<u32, PcmError>
-        requires offer { self.old.plain.setup.configured ≡ true → IsOffer self.old.plain samples.now }
+        requires offer { self.old.plain.setup.configured ≡ true →
+            IsOffer self.old.plain samples.now }
         requires port { CanUse self.old.plain (P.view port.old) }
-        ensures takes { TakesAt P.MixPort G.Gate (port.old, gate.old) (admitted self.old.plain call.Transfer
-            (write_course self.old.plain self.old.ring samples.now (P.view port.old).marks.cursor)) (port.new, gate.new) (self.new.plain, result) }
-        ensures refused { (e : PcmError) → refusal_of Direction.Playback self.old.plain.status call.Transfer ≡ Some e → (result ≡ Err e) × (self.new ≡ self.old) × (port.new ≡ port.old) × (gate.new ≡ gate.old) }
-        ensures keeps { Keeps P.MixPort G.Gate (port.old, gate.old) (port.new, gate.new) self.old self.new result
-            (λ all. Follows self.old.plain all samples.now (frames_in self.old.plain samples.now)) }
-        ensures stores { refusal_of Direction.Playback self.old.plain.status call.Transfer ≡ None → self.old.plain.status.state ≡ State.Prepared →
-            self.new.ring ≡ ring_with self.old.plain self.old.ring samples.now (taken_of self.old.plain (frames_in self.old.plain samples.now)) }
-        ensures starts { refusal_of Direction.Playback self.old.plain.status call.Transfer ≡ None → self.old.plain.status.state ≡ State.Prepared → starts_with self.old.plain (frames_in self.old.plain samples.now) ≡ true →
-            Explains P.MixPort G.Gate (port.old, gate.old) (port.new, gate.new) (record { plain = self.old.plain; ring = self.new.ring }) (λ position. started_in self.old.plain State.Running position (P.view port.old).marks.cursor)
-            (λ position. start_count self.old.plain (P.view port.old).marks.cursor position (self.old.plain.stretch.written + taken_of self.old.plain (frames_in self.old.plain samples.now)))
-            (λ load commit. accepted_if (taken_of self.old.plain (frames_in self.old.plain samples.now)) (started self.old.plain State.Running (P.view port.old).marks.cursor load commit)) (self.new.plain, result) }
-        ensures again { refusal_of Direction.Playback self.old.plain.status call.Transfer ≡ None → self.old.plain.status.state ≡ State.Running →
-            ExplainsWrite P.MixPort G.Gate (port.old, gate.old) (port.new, gate.new) self.old.plain self.old.ring self.new.ring samples.now (frames_in self.old.plain samples.now) (self.new.plain, result) }
+        ensures takes { TakesAt P.MixPort G.Gate (port.old, gate.old)
+            (admitted self.old.plain call.Transfer
+            (write_course self.old.plain self.old.ring samples.now (P.view port.old).marks.cursor))
+            (port.new, gate.new) (self.new.plain, result) }
+        ensures refused { (e : PcmError) →
+            refusal_of Direction.Playback self.old.plain.status call.Transfer ≡ Some e →
+            (result ≡ Err e) × (self.new ≡ self.old) × (port.new ≡ port.old)
+            × (gate.new ≡ gate.old) }
+        ensures keeps { Keeps P.MixPort G.Gate (port.old, gate.old) (port.new, gate.new) self.old
+            self.new result (λ all. Follows self.old.plain all samples.now
+            (frames_in self.old.plain samples.now)) }
+        ensures stores { refusal_of Direction.Playback self.old.plain.status call.Transfer ≡ None →
+            self.old.plain.status.state ≡ State.Prepared →
+            self.new.ring ≡ ring_with self.old.plain self.old.ring samples.now
+            (taken_of self.old.plain (frames_in self.old.plain samples.now)) }
+        ensures starts { refusal_of Direction.Playback self.old.plain.status call.Transfer ≡ None →
+            self.old.plain.status.state ≡ State.Prepared →
+            starts_with self.old.plain (frames_in self.old.plain samples.now) ≡ true →
+            Explains P.MixPort G.Gate (port.old, gate.old) (port.new, gate.new)
+            (record { plain = self.old.plain; ring = self.new.ring })
+            (λ position. started_in self.old.plain State.Running position
+            (P.view port.old).marks.cursor)
+            (λ position. start_count self.old.plain (P.view port.old).marks.cursor position
+            (self.old.plain.stretch.written + taken_of self.old.plain
+            (frames_in self.old.plain samples.now)))
+            (λ load commit. accepted_if
+            (taken_of self.old.plain (frames_in self.old.plain samples.now))
+            (started self.old.plain State.Running (P.view port.old).marks.cursor load commit))
+            (self.new.plain, result) }
+        ensures again { refusal_of Direction.Playback self.old.plain.status call.Transfer ≡ None →
+            self.old.plain.status.state ≡ State.Running →
+            ExplainsWrite P.MixPort G.Gate (port.old, gate.old) (port.new, gate.new) self.old.plain
+            self.old.ring self.new.ring samples.now (frames_in self.old.plain samples.now)
+            (self.new.plain, result) }
     {
         self.plain
             .status

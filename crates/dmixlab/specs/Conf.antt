@@ -44,20 +44,23 @@ pub record IsDeviceText (files : Option Files) (file name text : List ℕ) : Typ
   pub card : IsScriptText (card_line device) (card_script device)
 
 -- the lines of the device were put, and no file changed
-pub record Described (file name : List ℕ) (before after : Option Files) (taken told : Option (List ℕ)) : Type 0 where
+pub record Described (file name : List ℕ) (before after : Option Files)
+    (taken told : Option (List ℕ)) : Type 0 where
   pub text : List ℕ
   pub is_text : IsDeviceText before file name text
   pub files : after ≡ before
   pub put : told ≡ option_map (λ t. t ++ text) taken
 
 -- the first bytes of the device's lines were put, and no file changed
-pub record DescribedPart (file name : List ℕ) (before after : Option Files) (taken told : Option (List ℕ)) : Type 0 where
+pub record DescribedPart (file name : List ℕ) (before after : Option Files)
+    (taken told : Option (List ℕ)) : Type 0 where
   pub text : List ℕ
   pub is_text : IsDeviceText before file name text
   pub files : after ≡ before
   pub put : TookPart taken told text
 
 -- what was put is the one text of a device, and the files are those that were read
-pub record IsOnlyDevice (after : Option Files) (was : Files) (taken told : Option (List ℕ)) (device : Device) : Type 0 where
+pub record IsOnlyDevice (after : Option Files) (was : Files) (taken told : Option (List ℕ))
+    (device : Device) : Type 0 where
   pub files : after ≡ Some was
   pub text : told ≡ option_map (λ t. t ++ device_text device) taken

@@ -19,4 +19,5 @@ abbrev pub LateLaysNothing : List Sound → Stage → List (ℕ × Line) → Typ
 LateLaysNothing sounds stage [] = ⊤
 LateLaysNothing sounds stage ((phase, line) ∷ lines) =
     let done = line_by sounds stage phase line.op line.actor in
-    (IsLate done.1.answer → numbered 0 done.0.clients ≡ numbered 0 stage.clients) × LateLaysNothing sounds done.0 lines
+    (IsLate done.1.answer → numbered 0 done.0.clients ≡ numbered 0 stage.clients)
+    × LateLaysNothing sounds done.0 lines

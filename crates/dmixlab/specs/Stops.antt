@@ -110,7 +110,8 @@ WriteFaults (Err Memory) before now = before ≤ now
 
 -- a call that stores and puts stops for a write only where one of the two counts rose
 abbrev pub OutputFaults : {X : Type 0} → Result X Stop → ℕ → ℕ → ℕ → ℕ → Type 0
-OutputFaults (Err Write) writes writes_now puts puts_now = Rose writes writes_now ⊎ Rose puts puts_now
+OutputFaults (Err Write) writes writes_now puts puts_now = Rose writes writes_now
+    ⊎ Rose puts puts_now
 OutputFaults (Ok x) writes writes_now puts puts_now = ⊤
 OutputFaults (Err Words) writes writes_now puts puts_now = ⊤
 OutputFaults (Err (Script error)) writes writes_now puts puts_now = ⊤

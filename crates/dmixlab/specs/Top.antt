@@ -42,11 +42,13 @@ IsConfRefused first = (e : ConfError) × (first ≡ Some (conf_refused e))
 
 -- the text that the words name is refused: a script, a text on a parameter space, or a configuration
 abbrev pub IsTextRefused : List (List ℕ) → Files → Type 0
-IsTextRefused words files = IsScriptRefused (cause_of words files) ⊎ IsConfRefused (cause_of words files)
+IsTextRefused words files = IsScriptRefused (cause_of words files)
+    ⊎ IsConfRefused (cause_of words files)
 
 -- a client's file is refused, and nothing before it
 abbrev pub IsWavRefused : List (List ℕ) → Files → Type 0
-IsWavRefused words files = (name : List ℕ) × ((e : WavError) × (cause_of words files ≡ Some (wav_refused name e)))
+IsWavRefused words files = (name : List ℕ)
+    × ((e : WavError) × (cause_of words files ≡ Some (wav_refused name e)))
 
 -- a file that is read isn't there, and nothing before it is refused
 abbrev pub IsMissing : List (List ℕ) → Files → Type 0
@@ -69,17 +71,20 @@ pub record EndsWell (result : ℕ) (words : List (List ℕ)) (files : Files) : T
   pub valid : IsValid words files → (result ≡ 0) ⊎ (result ≡ 6)
 
 -- a text was put, and no file changed
-pub record Told (text : List ℕ) (before after : Option Files) (taken told : Option (List ℕ)) : Type 0 where
+pub record Told (text : List ℕ) (before after : Option Files) (taken told : Option (List ℕ)) : Type
+    0 where
   pub files : after ≡ before
   pub put : told ≡ option_map (λ t. t ++ text) taken
 
 -- the first bytes of a text were put, and no file changed
-pub record ToldPart (text : List ℕ) (before after : Option Files) (taken told : Option (List ℕ)) : Type 0 where
+pub record ToldPart (text : List ℕ) (before after : Option Files)
+    (taken told : Option (List ℕ)) : Type 0 where
   pub files : after ≡ before
   pub put : TookPart taken told text
 
 -- what a command leaves that is done, form by form
-abbrev pub DoneIn : Option Form → Option Files → Option Files → Option (List ℕ) → Option (List ℕ) → Type 0
+abbrev pub DoneIn : Option Form → Option Files → Option Files → Option (List ℕ) → Option (List ℕ)
+    → Type 0
 DoneIn None before after taken told = ⊥
 DoneIn (Some (run script out)) before after taken told = Finished script out before after taken told
 DoneIn (Some (refine text)) before after taken told = Answered text before after taken told
@@ -88,39 +93,50 @@ DoneIn (Some help) before after taken told = Told help_text before after taken t
 DoneIn (Some version) before after taken told = Told version_text before after taken told
 
 -- what a command leaves that ended in its output, form by form
-abbrev pub PartIn : Option Form → Option Files → Option Files → Option (List ℕ) → Option (List ℕ) → Type 0
+abbrev pub PartIn : Option Form → Option Files → Option Files → Option (List ℕ) → Option (List ℕ)
+    → Type 0
 PartIn None before after taken told = ⊥
-PartIn (Some (run script out)) before after taken told = Unfinished script out before after taken told
+PartIn (Some (run script out)) before after taken told =
+    Unfinished script out before after taken told
 PartIn (Some (refine text)) before after taken told = AnsweredPart text before after taken told
-PartIn (Some (conf file name)) before after taken told = DescribedPart file name before after taken told
+PartIn (Some (conf file name)) before after taken told =
+    DescribedPart file name before after taken told
 PartIn (Some help) before after taken told = ToldPart help_text before after taken told
 PartIn (Some version) before after taken told = ToldPart version_text before after taken told
 
 -- what a command leaves that is done is the only thing that it can leave: a run of a script has one report and one file, and
 -- a configuration has one device of a name
-abbrev pub OnlyIn : Option Form → Option Files → Option Files → Option (List ℕ) → Option (List ℕ) → Type 0
+abbrev pub OnlyIn : Option Form → Option Files → Option Files → Option (List ℕ) → Option (List ℕ)
+    → Type 0
 OnlyIn (Some (run script out)) before after taken told =
-    ForSome before (λ files. (input : Input) → input_in files script ≡ Ok input → IsOnlyRun script out files after taken told input.script input.sounds)
+    ForSome before (λ files. (input : Input) → input_in files script ≡ Ok input
+    → IsOnlyRun script out files after taken told input.script input.sounds)
 OnlyIn (Some (conf file name)) before after taken told =
-    ForSome before (λ files. (device : Device) → device_in files file name ≡ Ok device → IsOnlyDevice after files taken told device)
+    ForSome before (λ files. (device : Device) → device_in files file name ≡ Ok device
+    → IsOnlyDevice after files taken told device)
 OnlyIn other before after taken told = ⊤
 
 -- what a call leaves with status 0
-abbrev pub Headline : List (List ℕ) → Option Files → Option Files → Option (List ℕ) → Option (List ℕ) → Type 0
+abbrev pub Headline : List (List ℕ) → Option Files → Option Files → Option (List ℕ)
+    → Option (List ℕ) → Type 0
 Headline words before after taken told = DoneIn (form_of words) before after taken told
 
 -- what a call leaves with status 0 is the one report and the one file of the script and the files that it read, or the one text
 -- of the device
-abbrev pub IsExact : List (List ℕ) → Option Files → Option Files → Option (List ℕ) → Option (List ℕ) → Type 0
+abbrev pub IsExact : List (List ℕ) → Option Files → Option Files → Option (List ℕ) → Option (List ℕ)
+    → Type 0
 IsExact words before after taken told = OnlyIn (form_of words) before after taken told
 
 -- what a call leaves with another status: nothing was written, or, with 5 or 6, it ended in its output
-abbrev pub IsLeft : ℕ → List (List ℕ) → Option Files → Option Files → Option (List ℕ) → Option (List ℕ) → Type 0
+abbrev pub IsLeft : ℕ → List (List ℕ) → Option Files → Option Files → Option (List ℕ)
+    → Option (List ℕ) → Type 0
 IsLeft result words before after taken told =
-    Untouched before after taken told ⊎ (((result ≡ 5) ⊎ (result ≡ 6)) × PartIn (form_of words) before after taken told)
+    Untouched before after taken told
+    ⊎ (((result ≡ 5) ⊎ (result ≡ 6)) × PartIn (form_of words) before after taken told)
 
 -- what a command leaves, by how it ended
-abbrev pub Leaves : {X : Type 0} → Result X Stop → Option Form → Option Files → Option Files → Option (List ℕ) → Option (List ℕ) → Type 0
+abbrev pub Leaves : {X : Type 0} → Result X Stop → Option Form → Option Files → Option Files
+    → Option (List ℕ) → Option (List ℕ) → Type 0
 Leaves (Ok x) form before after taken told = DoneIn form before after taken told
 Leaves (Err stops.Words) form before after taken told = Untouched before after taken told
 Leaves (Err (stops.Script error)) form before after taken told = Untouched before after taken told
@@ -128,4 +144,5 @@ Leaves (Err (stops.Conf error)) form before after taken told = Untouched before 
 Leaves (Err (stops.Wav name why)) form before after taken told = Untouched before after taken told
 Leaves (Err (stops.Read name)) form before after taken told = Untouched before after taken told
 Leaves (Err stops.Write) form before after taken told = PartIn form before after taken told
-Leaves (Err stops.Memory) form before after taken told = Untouched before after taken told ⊎ PartIn form before after taken told
+Leaves (Err stops.Memory) form before after taken told = Untouched before after taken told
+    ⊎ PartIn form before after taken told

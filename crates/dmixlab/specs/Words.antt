@@ -21,7 +21,8 @@ texts words = map (λ word. word.items) words
 
 -- a word that can name a file: 1 to 4096 bytes of UTF-8, none of them zero
 abbrev pub names_file : List ℕ → Bool
-names_file word = nat_lt 0 (length word) && nat_le (length word) 4096 && is_utf8 word && not (list_any (λ b. b == 0) word)
+names_file word = nat_lt 0 (length word) && nat_le (length word) 4096 && is_utf8 word
+    && not (list_any (λ b. b == 0) word)
 
 -- the form of `run SCRIPT OUT`, whose two words name files
 abbrev pub run_of : List ℕ → List ℕ → Option Form
@@ -45,7 +46,8 @@ conf_of file name = if names_file file && names_device name then Some (conf file
 
 -- the form of a single word
 abbrev pub single_of : List ℕ → Option Form
-single_of word = if bytes_eq word (codes "--help") then Some help else (if bytes_eq word (codes "--version") then Some version else None)
+single_of word = if bytes_eq word (codes "--help") then Some help
+    else (if bytes_eq word (codes "--version") then Some version else None)
 
 -- the form of some words, if it is listed
 abbrev pub form_of : List (List ℕ) → Option Form
@@ -53,7 +55,8 @@ form_of [] = None
 form_of (word ∷ []) = single_of word
 form_of (word ∷ text ∷ []) = if bytes_eq word (codes "refine") then refine_of text else None
 form_of (word ∷ second ∷ third ∷ []) =
-    if bytes_eq word (codes "run") then run_of second third else (if bytes_eq word (codes "conf") then conf_of second third else None)
+    if bytes_eq word (codes "run") then run_of second third
+    else (if bytes_eq word (codes "conf") then conf_of second third else None)
 form_of (word ∷ script ∷ out ∷ more ∷ rest) = None
 
 -- the form that a command has

@@ -44,7 +44,8 @@ fn lines_in<S: Shelf>(
     file: &[u8],
     name: &[u8],
 ) -> Result<String, Stop>
-    ensures lines { IfOk result (λ text. IsDeviceText (S.files shelf.old) file.now name.now (string_bytes text)) }
+    ensures lines { IfOk result
+        (λ text. IsDeviceText (S.files shelf.old) file.now name.now (string_bytes text)) }
     ensures cause { ForSome (S.files shelf.old)
         (λ files. EndsOf result (cause (device_in files file.now name.now))) }
     ensures missing { S.is_reliable shelf.old → ForSome (S.files shelf.old)

@@ -33,8 +33,10 @@ pub(crate) struct Loaded {
 /// Reads a script's file, and then the file of each of its clients. Nothing is written.
 #[tactic(auto, unfolding(crate::specs::Input::input_in))]
 pub(crate) fn load<S: Shelf>(shelf: &mut S, alloc: Global, name: &[u8]) -> Result<Loaded, Stop>
-    ensures input { ForSome (S.files shelf.old) (λ files. Follows input_of result (input_in files name.now)) }
-    ensures spelled { ForSome (S.files shelf.old) (λ files. IfOk result (λ loaded. SpelledIn files name.now loaded.script)) }
+    ensures input { ForSome (S.files shelf.old)
+        (λ files. Follows input_of result (input_in files name.now)) }
+    ensures spelled { ForSome (S.files shelf.old)
+        (λ files. IfOk result (λ loaded. SpelledIn files name.now loaded.script)) }
     ensures script { IfOk result (λ loaded. IsScript loaded.script) }
     ensures are_files { IfOk result (λ loaded. AreFiles loaded.script loaded.wavs.items) }
     ensures files { S.files shelf.new ≡ S.files shelf.old }
@@ -52,8 +54,10 @@ pub(crate) fn load<S: Shelf>(shelf: &mut S, alloc: Global, name: &[u8]) -> Resul
 /// The script in a file.
 #[tactic(auto, unfolding(crate::specs::Input::script_in))]
 fn load_script<S: Shelf>(shelf: &mut S, alloc: Global, name: &[u8]) -> Result<Script, Stop>
-    ensures script { ForSome (S.files shelf.old) (λ files. Follows (λ s. s) result (script_in files name.now)) }
-    ensures spelled { ForSome (S.files shelf.old) (λ files. IfOk result (λ s. SpelledIn files name.now s)) }
+    ensures script { ForSome (S.files shelf.old)
+        (λ files. Follows (λ s. s) result (script_in files name.now)) }
+    ensures spelled { ForSome (S.files shelf.old)
+        (λ files. IfOk result (λ s. SpelledIn files name.now s)) }
     ensures valid { IfOk result (λ s. IsScript s) }
     ensures files { S.files shelf.new ≡ S.files shelf.old }
     ensures faults { FetchFaults result (S.fetch_faults shelf.old) (S.fetch_faults shelf.new) }
@@ -104,7 +108,8 @@ fn load_wav<S: Shelf>(
     name: &[u8],
 ) -> Result<(Wav, u64), Stop>
     requires few { total ≤ most_of_run }
-    ensures sound { ForSome (S.files shelf.old) (λ files. Follows (λ r. r) result (sound_in files total name.now)) }
+    ensures sound { ForSome (S.files shelf.old)
+        (λ files. Follows (λ r. r) result (sound_in files total name.now)) }
     ensures few { IfOk result (λ r. r.1 ≤ most_of_run) }
     ensures files { S.files shelf.new ≡ S.files shelf.old }
     ensures faults { FetchFaults result (S.fetch_faults shelf.old) (S.fetch_faults shelf.new) }
@@ -141,7 +146,8 @@ pub(crate) fn fetch_most<S: Shelf>(
     name: &[u8],
     most: u64,
 ) -> Result<Vec<u8>, Stop>
-    ensures bytes { ForSome (S.files shelf.old) (λ files. Follows (λ v. v.items) result (fetched files name.now most)) }
+    ensures bytes { ForSome (S.files shelf.old)
+        (λ files. Follows (λ v. v.items) result (fetched files name.now most)) }
     ensures most { IfOk result (λ v. vec_len v ≤ most) }
     ensures files { S.files shelf.new ≡ S.files shelf.old }
     ensures faults { FetchFaults result (S.fetch_faults shelf.old) (S.fetch_faults shelf.new) }

@@ -96,16 +96,24 @@ pub(crate) fn write<S: Shelf, K: Sink>(
     out: &mut K,
     output: &Output,
 ) -> Result<(), Stop>
-    ensures stored { OnOk result (S.files shelf.new
-        ≡ option_map (λ files. with_file files output.now.name.items output.now.file.items) (S.files shelf.old)) }
-    ensures told { OnOk result (K.taken out.new ≡ option_map (λ taken. taken ++ output.now.text.items) (K.taken out.old)) }
-    ensures files { Changes (PartOf output.now.name.items output.now.file.items) (S.files shelf.old) (S.files shelf.new) }
-    ensures text { OnErr result (TookPart (K.taken out.old) (K.taken out.new) output.now.text.items) }
+    ensures stored { OnOk result
+        (S.files shelf.new ≡ option_map
+        (λ files. with_file files output.now.name.items output.now.file.items)
+        (S.files shelf.old)) }
+    ensures told { OnOk result
+        (K.taken out.new ≡ option_map (λ taken. taken ++ output.now.text.items) (K.taken out.old)) }
+    ensures files { Changes (PartOf output.now.name.items output.now.file.items) (S.files shelf.old)
+        (S.files shelf.new) }
+    ensures text { OnErr result
+        (TookPart (K.taken out.old) (K.taken out.new) output.now.text.items) }
     ensures in_order { OnErr result ((K.taken out.new ≡ K.taken out.old)
-        ⊎ (S.files shelf.new ≡ option_map (λ files. with_file files output.now.name.items output.now.file.items) (S.files shelf.old))) }
+        ⊎ (S.files shelf.new ≡ option_map
+        (λ files. with_file files output.now.name.items output.now.file.items)
+        (S.files shelf.old))) }
     ensures only { IfErr result IsWriteStop }
     ensures fetch_faults { S.fetch_faults shelf.new ≡ S.fetch_faults shelf.old }
-    ensures faults { OutputFaults result (S.write_faults shelf.old) (S.write_faults shelf.new) (K.faults out.old) (K.faults out.new) }
+    ensures faults { OutputFaults result (S.write_faults shelf.old) (S.write_faults shelf.new)
+        (K.faults out.old) (K.faults out.new) }
     ensures reliable { S.is_reliable shelf.old → K.is_reliable out.old → result ≢ Err stops.Write }
 {
     store(shelf, output)?;
@@ -114,9 +122,12 @@ pub(crate) fn write<S: Shelf, K: Sink>(
 
 /// Stores the file.
 fn store<S: Shelf>(shelf: &mut S, output: &Output) -> Result<(), Stop>
-    ensures stored { OnOk result (S.files shelf.new
-        ≡ option_map (λ files. with_file files output.now.name.items output.now.file.items) (S.files shelf.old)) }
-    ensures files { Changes (PartOf output.now.name.items output.now.file.items) (S.files shelf.old) (S.files shelf.new) }
+    ensures stored { OnOk result
+        (S.files shelf.new ≡ option_map
+        (λ files. with_file files output.now.name.items output.now.file.items)
+        (S.files shelf.old)) }
+    ensures files { Changes (PartOf output.now.name.items output.now.file.items) (S.files shelf.old)
+        (S.files shelf.new) }
     ensures only { IfErr result IsWriteStop }
     ensures fetch_faults { S.fetch_faults shelf.new ≡ S.fetch_faults shelf.old }
     ensures faults { WriteFaults result (S.write_faults shelf.old) (S.write_faults shelf.new) }
@@ -131,7 +142,8 @@ fn store<S: Shelf>(shelf: &mut S, output: &Output) -> Result<(), Stop>
 
 /// Puts a text.
 pub(crate) fn put<K: Sink>(out: &mut K, text: &[u8]) -> Result<(), Stop>
-    ensures told { OnOk result (K.taken out.new ≡ option_map (λ taken. taken ++ text.now) (K.taken out.old)) }
+    ensures told { OnOk result
+        (K.taken out.new ≡ option_map (λ taken. taken ++ text.now) (K.taken out.old)) }
     ensures text { OnErr result (TookPart (K.taken out.old) (K.taken out.new) text.now) }
     ensures only { IfErr result IsWriteStop }
     ensures faults { WriteFaults result (K.faults out.old) (K.faults out.new) }

@@ -184,7 +184,7 @@ const REFUSED_SLAVES: [(&str, &str); 25] = [
     ),
     (
         "slave channels 2 rate 48000 period 1024 ring 8192 ring\n",
-        "line 1: Word",
+        "line 1: Extra",
     ),
     (
         "slave channels 2 rate 48000 period 1000 ring 8192\n",
@@ -204,7 +204,7 @@ const REFUSED_SLAVES: [(&str, &str); 25] = [
     ),
     (
         "slave channels 2 rate 48000 period 1000 ring 8192 8192\n",
-        "line 1: Word",
+        "line 1: Extra",
     ),
     (
         "slave channels 2 # rate 48000 period 1024 ring 8192\n",

@@ -90,10 +90,12 @@ pub fn dmixlab<R: Threads + Sync, S: Shelf, K: Sink, E: Sink, G: Gate + Send>(
     // When each status comes.
     ensures statuses { result ≤ 6 }
     ensures words { (result ≡ 1) ↔ (form_of (texts words.now) ≡ None) }
-    ensures script { ForSome (S.files shelf.old) (λ files. ComesExactly 2 result
-        (Rose (S.fetch_faults shelf.old) (S.fetch_faults shelf.new)) (IsTextRefused (texts words.now) files)) }
-    ensures wav { ForSome (S.files shelf.old) (λ files. ComesExactly 3 result
-        (Rose (S.fetch_faults shelf.old) (S.fetch_faults shelf.new)) (IsWavRefused (texts words.now) files)) }
+    ensures script { ForSome (S.files shelf.old)
+        (λ files. ComesExactly 2 result (Rose (S.fetch_faults shelf.old) (S.fetch_faults shelf.new))
+        (IsTextRefused (texts words.now) files)) }
+    ensures wav { ForSome (S.files shelf.old)
+        (λ files. ComesExactly 3 result (Rose (S.fetch_faults shelf.old) (S.fetch_faults shelf.new))
+        (IsWavRefused (texts words.now) files)) }
     ensures read { result ≡ 4 → Rose (S.fetch_faults shelf.old) (S.fetch_faults shelf.new) }
     ensures missing { ForSome (S.files shelf.old)
         (λ files. IsMissing (texts words.now) files → (result ≡ 4) ⊎ (result ≡ 6)) }
@@ -134,7 +136,8 @@ fn command<S: Shelf, K: Sink>(
 ) -> Result<(), Stop>
     ensures leaves { Leaves result (form_of (texts words.now))
         (S.files shelf.old) (S.files shelf.new) (K.taken out.old) (K.taken out.new) }
-    ensures cause { ForSome (S.files shelf.old) (λ files. EndsOf result (cause_in (form_of (texts words.now)) files)) }
+    ensures cause { ForSome (S.files shelf.old)
+        (λ files. EndsOf result (cause_in (form_of (texts words.now)) files)) }
     ensures reliable { S.is_reliable shelf.old → K.is_reliable out.old → ForSome (S.files shelf.old)
         (λ files. EndsReliably result (cause_in (form_of (texts words.now)) files)) }
     ensures words { Refuses result (form_of (texts words.now)) }
@@ -162,7 +165,8 @@ fn run_command<S: Shelf, K: Sink>(
 ) -> Result<(), Stop>
     ensures leaves { Leaves result (Some (run script.now name.now))
         (S.files shelf.old) (S.files shelf.new) (K.taken out.old) (K.taken out.new) }
-    ensures cause { ForSome (S.files shelf.old) (λ files. EndsOf result (cause (input_in files script.now))) }
+    ensures cause { ForSome (S.files shelf.old)
+        (λ files. EndsOf result (cause (input_in files script.now))) }
     ensures reliable { S.is_reliable shelf.old → K.is_reliable out.old → ForSome (S.files shelf.old)
         (λ files. EndsReliably result (cause (input_in files script.now))) }
     ensures words { Refuses result (Some (run script.now name.now)) }
@@ -177,7 +181,8 @@ fn run_command<S: Shelf, K: Sink>(
 /// Runs the script in a file, and gives what it writes. Nothing is written yet.
 fn make<S: Shelf>(alloc: Global, shelf: &mut S, script: &[u8], name: &[u8]) -> Result<Output, Stop>
     ensures ready { IfOk result (IsReady (S.files shelf.old) script.now name.now) }
-    ensures cause { ForSome (S.files shelf.old) (λ files. EndsOf result (cause (input_in files script.now))) }
+    ensures cause { ForSome (S.files shelf.old)
+        (λ files. EndsOf result (cause (input_in files script.now))) }
     ensures missing { S.is_reliable shelf.old → ForSome (S.files shelf.old)
         (λ files. EndsReliably result (cause (input_in files script.now))) }
     ensures reliable { S.is_reliable shelf.old → S.is_reliable shelf.new }

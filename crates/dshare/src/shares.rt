@@ -1,5 +1,5 @@
 //! Which channels of a card are owned.
-ghost use Rattle.std.specs.Prelude.{◌≡◌, ◌<◌, ◌≤◌, [], ◌∷◌, List, IfErr, OnErr, OnOk, is_some};
+ghost use Rattle.std.specs.Prelude.{◌≡◌, ◌<◌, ◌≤◌, ◌↔◌, [], ◌∷◌, List, IfErr, IsTrue, OnErr, OnOk, is_some};
 ghost use Rattle.std.specs.List.{list_any};
 ghost use Rattle.dshare.specs.Owners.{AreFree, Row, busy, claimed, later, owner_of, released};
 ghost use Rattle.dshare.specs.Shared.{AreOfCard, AreOwned, IsHeld, StandsFor, is_owned, latest_of, marked, raised};
@@ -82,8 +82,8 @@ impl Shares {
         Ok(())
     }
 
-    /// Releases the card channels of the bindings, which are owned, with the last frame that their owner laid, if it laid
-    /// one. With None the last frames of earlier owners still count.
+    /// Releases the card channels of the bindings, which are of this card and owned (`can_release`), with the last frame that
+    /// their owner laid, if it laid one. With None the last frames of earlier owners still count.
     pub fn release(&mut self, bindings: &Bindings, last: Option<u64>)
         requires card { AreOfCard self.old bindings.now }
         requires owned { AreOwned self.old bindings.now }
@@ -92,6 +92,19 @@ impl Shares {
     {
         self.mark(bindings, false);
         self.raise(bindings, last);
+    }
+
+    /// Whether the bindings are of this card, and each of their channels is owned, as `release` asks.
+    pub fn can_release(&self, bindings: &Bindings) -> bool
+        ensures { IsTrue result ↔ (AreOfCard self.now bindings.now × AreOwned self.now bindings.now) }
+    {
+        for client in 0..bindings.len() {
+            let channel = bindings.card_channel(client);
+            if channel >= self.channels || !self.owned[channel as usize] {
+                return false;
+            }
+        }
+        true
     }
 
     /// Whether a channel of the card is owned.

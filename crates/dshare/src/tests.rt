@@ -97,3 +97,20 @@ fn a_released_channel_is_busy_until_it_is_silent(rt: HostRuntime) -> Result<(), 
     shares.claim(&left, 128)?;
     Ok(())
 }
+
+#[test]
+fn only_owned_channels_of_the_card_are_released(rt: HostRuntime) -> Result<(), Fail> {
+    let (left, both) = (Bindings::read(&[0], 2)?, Bindings::read(&[1, 0], 2)?);
+    let other_card = Bindings::read(&[0, 3], 4)?;
+    let mut shares = Shares::new(2);
+    assert_eq!(rt; shares.can_release(&left), false);
+    shares.claim(&left, 0)?;
+    assert_eq!(rt; shares.can_release(&left), true);
+    assert_eq!(rt; shares.can_release(&both), false);
+    assert_eq!(rt; shares.can_release(&other_card), false);
+    if shares.can_release(&left) {
+        shares.release(&left, None);
+    }
+    assert_eq!(rt; shares.can_release(&left), false);
+    Ok(())
+}

@@ -1,6 +1,6 @@
 -- The text of a report is read as the report.
-use Rattle.std.proofs.Common.{◌≡◌, ℕ, ◌+◌, ◌^◌, ◌≤◌, ◌<◌, ◌&&◌, Bool, true, false, List, [], ◌∷◌, ◌++◌, length, map, refl, ap, sym, subst, ◌∙◌, arith, append_assoc, Option, Some, None, Result, Ok, Err, codes, zero, suc}
-use Rattle.std.specs.List.{All, AllByRecursion, flat_map, list_all, slice_get}
+use Rattle.std.proofs.Common.{◌≡◌, ℕ, ◌≤◌, ◌<◌, true, false, List, [], ◌∷◌, ◌++◌, length, map, refl, ap, sym, ◌∙◌, arith, append_assoc, Some, None, Ok, codes}
+use Rattle.std.specs.List.{AllByRecursion, flat_map, slice_get}
 use Rattle.std.specs.Fmt.{decimal}
 use Rattle.std.proofs.lemmas.List.{append-nil, length-map}
 use Rattle.std.proofs.lemmas.List.Elements.{recursion_from_All}
@@ -8,15 +8,13 @@ use Rattle.std.proofs.lemmas.Option.{slice_get_past}
 use Rattle.snd_base.specs.declared.places.Segment.{Segment}
 use Rattle.lab_script.specs.declared.script.Script.{Script}
 use Rattle.lab_script.specs.Limits.{IsScript}
-use Rattle.lab_report.specs.declared.error.ReportError.{ReportError}
-use Rattle.lab_report.specs.declared.error.ReportWhy.{ReportWhy}
 use Rattle.lab_report.specs.declared.report.Report.{Report}
 use Rattle.lab_report.specs.declared.request.Request.{Request}
 use Rattle.lab_report.specs.declared.row.Row.{Row}
 use Rattle.lab_report.specs.Causes.{◌>>=◌}
-use Rattle.lab_report.specs.Reading.{State, nothing, row_at, segment_at, run_at, played_at, tail_by, below_rows, after_head, with_line, next_line, on_line, report_at, lines_after, report_of}
+use Rattle.lab_report.specs.Reading.{State, nothing, tail_by, with_line, next_line, on_line, lines_after, report_of}
 use Rattle.lab_report.specs.Requests.{requests_of}
-use Rattle.lab_report.specs.Text.{client_name, reader_name, request_of_row, row_line, segment_line, run_line, played_line, tail_text, report_text, IsRowOf, IsSegmentOf, IsRunOf, IsReportOf}
+use Rattle.lab_report.specs.Text.{client_name, reader_name, request_of_row, row_line, segment_line, run_line, played_line, report_text, IsRowOf, IsSegmentOf, IsRunOf, IsReportOf}
 use Rattle.lab_report.specs.Words.{lines_of, word_of}
 use Rattle.lab_report.proofs.Printed.{IsLineText, lines_of-line, lines_of-lines, word_of-printed}
 use Rattle.lab_report.specs.Ranges.{IsWide, IsRowInRange, IsSegmentInRange, IsRunInRange, IsReportInRange}

@@ -1,5 +1,6 @@
 pub mod Parts
 pub mod Actors
+pub mod Marks
 pub mod RowLine
 pub mod Read
 pub mod Printed
@@ -7,3 +8,5 @@ pub mod PrintedRows
 pub mod PrintedReport
 pub mod PrintedWhole
 pub mod Back
+pub mod Spelled
+pub mod SpelledText

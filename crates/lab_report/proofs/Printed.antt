@@ -1,21 +1,19 @@
 -- What is printed is read back: words, numbers, and the lines of a text.
-use Rattle.std.proofs.Common.{◌≡◌, ℕ, ◌+◌, ◌*◌, ◌^◌, ◌≤◌, ◌<◌, ◌==◌, ◌&&◌, ◌||◌, Bool, true, false, not, cond, List, [], ◌∷◌, ◌++◌, length, map, take, drop, get_or, refl, ap, sym, subst, ◌∙◌, arith, zero, suc, one-add, append_assoc, Option, Some, None, Result, Ok, Err, codes, bytes_eq, nat_le, lit<}
-use Rattle.std.specs.List.{AllByRecursion, flat_map, list_all, slice_split, onto_first as piece_first, position_or_len, before_first, join_with_byte}
+use Rattle.std.proofs.Common.{◌≡◌, ℕ, ◌^◌, ◌≤◌, ◌<◌, ◌==◌, ◌&&◌, Bool, true, false, not, cond, List, [], ◌∷◌, ◌++◌, length, map, take, drop, get_or, refl, ap, sym, subst, ◌∙◌, arith, zero, suc, one-add, append_assoc, Some, None, Ok, codes, bytes_eq}
+use Rattle.std.specs.List.{AllByRecursion, flat_map, list_all, slice_split, onto_first as piece_first, position_or_len, join_with_byte}
 use Rattle.std.specs.Char.{is_ascii_digit}
 use Rattle.std.specs.Fmt.{decimal}
 use Rattle.std.specs.Str.{all_ascii_digits}
 use Rattle.std.specs.Str.Parse.{digits_value}
 use Rattle.std.proofs.Math.Seq.{take-append_seam}
-use Rattle.std.proofs.lemmas.Bool.Decides.{nat_tests, not_from_Decides}
+use Rattle.std.proofs.lemmas.Bool.Decides.{nat_tests}
 use Rattle.std.proofs.lemmas.Fmt.{digits_value-decimal, digits_decimal, decimal_nonempty, decimal_digit, first_decimal}
-use Rattle.std.proofs.lemmas.List.Folds.{list_all-append}
 use Rattle.std.proofs.lemmas.List.Splits.{length-slice_split, slice_split-cons_yes, slice_split-cons_no, join_with_byte-slice_split}
 use Rattle.std.proofs.lemmas.Slice.Eq.{bytes_eq-Decides}
 use Rattle.std.proofs.lemmas.Str.Parse.{IsNumeralModel, numerals_by_value, tells_all_ascii_digits}
-use Rattle.lab_report.specs.declared.error.ReportWhy.{ReportWhy}
 use Rattle.lab_report.specs.declared.error.ReportWhy.TheVariants as why
 use Rattle.lab_report.specs.Causes.{◌>>=◌, some_or}
-use Rattle.lab_report.specs.Words.{is_feed, is_space, is_end, onto_first, lines_of, word_of, space_of, feed_of, is_plain, is_decimal, within, decimal_of, number_at, most_frames, next_number, dash_or_number, number_or_dash_at, not_word, expect_word, expect_words}
+use Rattle.lab_report.specs.Words.{is_feed, is_space, is_end, lines_of, word_of, is_plain, within, decimal_of, number_at, most_frames, next_number, dash_or_number, number_or_dash_at, expect_word, expect_words}
 use Rattle.lab_report.proofs.Parts.{all_digits, within-fits}
 
 -- a byte within a word

@@ -1,40 +1,26 @@
 -- A report that is printed is read back.
-use Rattle.std.proofs.Common.{◌≡◌, ◌≢◌, ℕ, ◌+◌, ◌^◌, ◌≤◌, ◌<◌, ◌==◌, ◌&&◌, Bool, true, false, not, cond, List, [], ◌∷◌, ◌++◌, length, map, get_or, refl, ap, sym, subst, ◌∙◌, arith, zero, suc, append_assoc, Option, Some, None, Result, Ok, Err, codes, bytes_eq, nat_lt}
-use Rattle.std.specs.List.{All, AllPairs, AllByRecursion, flat_map, list_all, slice_get, slice_split, position, position_or_len}
+use Rattle.std.proofs.Common.{◌≡◌, ◌≢◌, ℕ, ◌≤◌, ◌<◌, ◌&&◌, Bool, true, false, cond, List, [], ◌∷◌, ◌++◌, length, get_or, refl, ap, sym, subst, ◌∙◌, arith, zero, suc, Some, None, Ok, bytes_eq, nat_lt}
+use Rattle.std.specs.List.{list_all, slice_get, position, position_or_len}
 use Rattle.std.specs.Fmt.{decimal}
 use Rattle.std.specs.Option.{option_map_or}
 use Rattle.std.proofs.lemmas.Bool.Decides.{nat_tests}
-use Rattle.std.proofs.lemmas.List.{append-nil}
-use Rattle.std.proofs.lemmas.List.Elements.{recursion_from_All}
-use Rattle.std.proofs.lemmas.List.Folds.{list_all-append}
 use Rattle.std.proofs.lemmas.List.Sums.{position_or_len_is}
-use Rattle.std.proofs.lemmas.Option.{get_or_from_slice_get, slice_get_past}
+use Rattle.std.proofs.lemmas.Option.{get_or_from_slice_get}
 use Rattle.std.proofs.lemmas.Slice.Eq.{bytes_eq-Decides}
 use Rattle.snd_base.specs.declared.places.Segment.{Segment}
-use Rattle.lab_script.specs.declared.line.Actor.{Actor}
-use Rattle.lab_script.specs.declared.line.Actor.TheVariants.{Card, Client, Reader}
-use Rattle.lab_script.specs.declared.line.Op.{Op}
-use Rattle.lab_script.specs.declared.line.Op.TheVariants as op
 use Rattle.lab_script.specs.declared.script.ClientLine.{ClientLine}
 use Rattle.lab_script.specs.declared.script.ReaderLine.{ReaderLine}
 use Rattle.lab_script.specs.declared.script.Script.{Script}
 use Rattle.lab_script.specs.Draft.{is_client, is_reader}
-use Rattle.lab_script.specs.Limits.{IsActor, IsScript}
-use Rattle.lab_script.specs.Ops.{op_text}
-use Rattle.lab_script.specs.Word.{is_name, is_name_byte, begins_lower}
-use Rattle.lab_report.specs.declared.error.ReportError.{ReportError}
-use Rattle.lab_report.specs.declared.error.ReportWhy.{ReportWhy}
+use Rattle.lab_script.specs.Limits.{IsScript}
+use Rattle.lab_script.specs.Word.{is_name, is_name_byte}
 use Rattle.lab_report.specs.declared.error.ReportWhy.TheVariants as why
-use Rattle.lab_report.specs.declared.report.Report.{Report}
-use Rattle.lab_report.specs.declared.request.Request.{Request}
-use Rattle.lab_report.specs.declared.row.Row.{Row}
 use Rattle.lab_report.specs.Causes.{◌>>=◌, some_or}
-use Rattle.lab_report.specs.Reading.{State, nothing, client_at, reader_at, row_at, segment_at, run_at, played_at, with_line, next_line, on_line, lines_after, report_of}
-use Rattle.lab_report.specs.Requests.{requests_of}
-use Rattle.lab_report.specs.Text.{client_name, reader_name, actor_name, front_text, request_of_row, row_line, segment_line, run_line, played_line, tail_text, report_text, IsRowOf, IsSegmentOf, IsRunOf, IsReportOf}
-use Rattle.lab_report.specs.Words.{most_frames, lines_of, next_number, word_of}
-use Rattle.lab_report.proofs.Printed.{in_word, in_line, word_of-printed, decimal_in_word, next_number-printed, IsLineText, lines_of-line, lines_of-lines}
-use Rattle.lab_report.specs.Ranges.{IsWide, IsSegmentInRange, IsRunInRange}
+use Rattle.lab_report.specs.Reading.{client_at, reader_at, segment_at, run_at, played_at}
+use Rattle.lab_report.specs.Text.{client_name, reader_name}
+use Rattle.lab_report.specs.Words.{most_frames}
+use Rattle.lab_report.proofs.Printed.{in_word, word_of-printed, next_number-printed}
+use Rattle.lab_report.specs.Ranges.{IsWide, IsSegmentInRange}
 
 both : (a b : Bool) → (a && b) ≡ true → (a ≡ true) × (b ≡ true)
 both true b e = (refl, e)

@@ -1,15 +1,12 @@
 -- The rows of a report that is printed are read back.
-use Rattle.std.proofs.Common.{◌≡◌, ℕ, ◌^◌, ◌≤◌, ◌<◌, ◌&&◌, Bool, true, false, List, [], ◌∷◌, ◌++◌, length, refl, ap, sym, subst, ◌∙◌, arith, append_assoc, Option, Some, None, Result, Ok, Err, codes}
-use Rattle.std.specs.List.{list_all, slice_split}
+use Rattle.std.proofs.Common.{◌≡◌, ℕ, ◌^◌, ◌≤◌, ◌<◌, true, List, [], ◌∷◌, ◌++◌, refl, ap, ◌∙◌, arith, append_assoc, Option, Some, None, Ok, codes}
+use Rattle.std.specs.List.{list_all}
 use Rattle.std.specs.Fmt.{decimal}
 use Rattle.std.specs.Str.{all_ascii_digits}
 use Rattle.std.specs.Str.Parse.{digits_value}
 use Rattle.std.proofs.lemmas.Fmt.{digits_decimal}
 use Rattle.std.proofs.lemmas.Str.Parse.{IsNumeralModel, numerals_by_value, tells_all_ascii_digits}
-use Rattle.snd_base.specs.declared.errors.PcmError.{PcmError}
 use Rattle.snd_base.specs.declared.errors.PcmError.TheVariants.{BadState, Xrun, Again, NoDevice, Invalid, Busy, NotSupported, LapEnd, Stopped, Memory}
-use Rattle.snd_base.specs.declared.errors.Why.{Why}
-use Rattle.snd_base.specs.declared.errors.Why.TheVariants.{Config}
 use Rattle.snd_base.specs.declared.errors.XrunWhy.{XrunWhy}
 use Rattle.snd_base.specs.declared.errors.XrunWhy.TheVariants.{Empty, Already, Avail, Late, Overtaken}
 use Rattle.pcm_states.specs.declared.states.State.{State as PcmState}
@@ -17,18 +14,16 @@ use Rattle.pcm_states.specs.declared.states.State.TheVariants as state
 use Rattle.pcm_states.specs.States.{state_name}
 use Rattle.lab_script.specs.declared.script.Script.{Script}
 use Rattle.lab_script.specs.Keys.{row_of}
-use Rattle.lab_report.specs.declared.error.ReportWhy.{ReportWhy}
 use Rattle.lab_report.specs.declared.error.ReportWhy.TheVariants as why
-use Rattle.lab_report.specs.declared.request.Request.{Request}
 use Rattle.lab_report.specs.declared.row.Answer.{Answer}
 use Rattle.lab_report.specs.declared.row.Answer.TheVariants.{Done, Count, Failed}
 use Rattle.lab_report.specs.declared.row.Row.{Row}
 use Rattle.lab_report.specs.Answers.{plain_answers, states, place_of, xrun_by, xrun_of, busy_of, answer_by, answer_at, state_at}
 use Rattle.lab_report.specs.Causes.{◌>>=◌, some_or}
-use Rattle.lab_report.specs.Ranges.{IsWide, IsWideWhere, IsXrunInRange, IsErrorInRange, IsAnswerInRange, IsRowInRange}
+use Rattle.lab_report.specs.Ranges.{IsWide, IsWideWhere, IsXrunInRange, IsAnswerInRange, IsRowInRange}
 use Rattle.lab_report.specs.Reading.{row_at}
 use Rattle.lab_report.specs.Text.{request_of_row, number_or_dash, xrun_text, answer_text, front_text, row_line, HasText, HasXrunText, HasStateText}
-use Rattle.lab_report.specs.Words.{is_space, is_end, word_of, space_of, feed_of, decimal_of, most_frames, next_number, number_or_dash_at, expect_words}
+use Rattle.lab_report.specs.Words.{is_end, most_frames, number_or_dash_at}
 use Rattle.lab_report.proofs.Printed.{in_word, in_line, word_of-printed, decimal_in_word, decimal_of-decimal, next_number-printed, not_digits, dash-printed, number-printed, expect_words-printed}
 
 own : IsNumeralModel (λ ds. all_ascii_digits ds ≡ true) (digits_value 10)

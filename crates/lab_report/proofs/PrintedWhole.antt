@@ -1,11 +1,8 @@
 -- A report that is printed is read back, line by line.
-use Rattle.std.proofs.Common.{◌≡◌, ℕ, ◌+◌, ◌^◌, ◌≤◌, ◌<◌, ◌&&◌, Bool, true, false, List, [], ◌∷◌, ◌++◌, length, map, refl, ap, sym, subst, ◌∙◌, arith, append_assoc, Option, Some, None, Result, Ok, Err, codes, zero, suc}
-use Rattle.std.specs.List.{All, AllByRecursion, flat_map, list_all, slice_get}
+use Rattle.std.proofs.Common.{◌≡◌, ℕ, ◌≤◌, ◌<◌, ◌&&◌, Bool, true, false, List, [], ◌∷◌, ◌++◌, length, refl, ◌∙◌, arith, Option, Some, None, codes}
+use Rattle.std.specs.List.{list_all}
 use Rattle.std.specs.Fmt.{decimal}
-use Rattle.std.proofs.lemmas.List.{append-nil, map-append}
-use Rattle.std.proofs.lemmas.List.Elements.{recursion_from_All}
 use Rattle.std.proofs.lemmas.List.Folds.{list_all-append}
-use Rattle.std.proofs.lemmas.Option.{slice_get_past}
 use Rattle.snd_base.specs.declared.places.Segment.{Segment}
 use Rattle.lab_script.specs.declared.line.Actor.{Actor}
 use Rattle.lab_script.specs.declared.line.Actor.TheVariants.{Card, Client, Reader}
@@ -17,24 +14,15 @@ use Rattle.lab_script.specs.Ops.{op_text}
 use Rattle.pcm_states.specs.declared.states.State.{State as PcmState}
 use Rattle.pcm_states.specs.declared.states.State.TheVariants as state
 use Rattle.pcm_states.specs.States.{state_name}
-use Rattle.snd_base.specs.declared.errors.PcmError.{PcmError}
 use Rattle.snd_base.specs.declared.errors.PcmError.TheVariants.{BadState, Xrun, Again, NoDevice, Invalid, Busy, NotSupported, LapEnd, Stopped, Memory}
 use Rattle.snd_base.specs.declared.errors.XrunWhy.{XrunWhy}
 use Rattle.snd_base.specs.declared.errors.XrunWhy.TheVariants.{Empty, Already, Avail, Late, Overtaken}
-use Rattle.lab_report.specs.declared.error.ReportError.{ReportError}
-use Rattle.lab_report.specs.declared.error.ReportWhy.{ReportWhy}
-use Rattle.lab_report.specs.declared.report.Report.{Report}
-use Rattle.lab_report.specs.declared.request.Request.{Request}
 use Rattle.lab_report.specs.declared.row.Answer.{Answer}
 use Rattle.lab_report.specs.declared.row.Answer.TheVariants.{Done, Count, Failed}
 use Rattle.lab_report.specs.declared.row.Row.{Row}
-use Rattle.lab_report.specs.Causes.{◌>>=◌}
-use Rattle.lab_report.specs.Reading.{State, nothing, row_at, segment_at, run_at, played_at, after_head, with_line, next_line, on_line, report_at, lines_after, report_of}
-use Rattle.lab_report.specs.Requests.{requests_of}
-use Rattle.lab_report.specs.Text.{client_name, reader_name, actor_name, number_or_dash, xrun_text, answer_text, front_text, request_of_row, row_line, segment_line, run_line, played_line, tail_text, report_text, HasText, IsRowOf, IsSegmentOf, IsRunOf, IsReportOf}
-use Rattle.lab_report.specs.Words.{lines_of}
-use Rattle.lab_report.proofs.Printed.{in_word, in_line, decimal_in_word, IsLineText, lines_of-line, lines_of-lines}
-use Rattle.lab_report.specs.Ranges.{IsWide, IsWideWhere, IsXrunInRange, IsAnswerInRange, IsOpInRange, IsRowInRange, IsSegmentInRange, IsRunInRange}
+use Rattle.lab_report.specs.Text.{client_name, reader_name, actor_name, number_or_dash, xrun_text, answer_text, front_text, request_of_row, row_line, segment_line, run_line, played_line, IsRowOf}
+use Rattle.lab_report.proofs.Printed.{in_word, in_line, decimal_in_word, IsLineText}
+use Rattle.lab_report.specs.Ranges.{IsWide, IsWideWhere, IsXrunInRange, IsAnswerInRange, IsOpInRange, IsRowInRange, IsSegmentInRange}
 use Rattle.lab_report.proofs.PrintedReport.{client-found, reader-found}
 
 both : (a b : Bool) → (a && b) ≡ true → (a ≡ true) × (b ≡ true)

@@ -14,7 +14,7 @@ use Rattle.pcm_states.specs.declared.states.State.{State as PcmState}
 use Rattle.lab_script.specs.declared.script.Script.{Script}
 use Rattle.lab_script.specs.Draft.{is_client, is_reader}
 use Rattle.lab_script.specs.Keys.{row_of}
-use Rattle.lab_script.specs.Limits.{IsActor, IsScript}
+use Rattle.lab_script.specs.Limits.{IsScript}
 use Rattle.lab_script.proofs.Kept.{RowsHave, row_of-has}
 use Rattle.lab_report.specs.declared.error.ReportError.{ReportError}
 use Rattle.lab_report.specs.declared.error.ReportWhy.{ReportWhy}
@@ -22,13 +22,13 @@ use Rattle.lab_report.specs.declared.error.ReportWhy.TheVariants as why
 use Rattle.lab_report.specs.declared.report.Report.{Report}
 use Rattle.lab_report.specs.declared.request.Request.{Request}
 use Rattle.lab_report.specs.declared.row.Answer.{Answer}
-use Rattle.lab_report.specs.declared.row.Answer.TheVariants.{Done, Count, Failed}
+use Rattle.lab_report.specs.declared.row.Answer.TheVariants.{Count, Failed}
 use Rattle.lab_report.specs.declared.row.Row.{Row}
-use Rattle.lab_report.specs.Answers.{plain_answers, states, avail_of, place_of, late_of, overtaken_of, xrun_by, xrun_of, busy_of, count_of, longer_answer, answer_by, answer_at, state_at}
+use Rattle.lab_report.specs.Answers.{plain_answers, states, place_of, xrun_by, longer_answer, answer_by, answer_at, state_at}
 use Rattle.lab_report.specs.Causes.{◌>>=◌, some_or}
-use Rattle.lab_report.specs.Reading.{State, nothing, row_at, client_at, reader_at, segment_at, run_at, played_at, with_segment, with_run, with_played, tail_by, end_at, below_rows, after_head, head_at, version_of, with_line, next_line, on_line, report_at, lines_after, report_of, Answers}
+use Rattle.lab_report.specs.Reading.{State, nothing, row_at, client_at, reader_at, segment_at, run_at, played_at, with_segment, with_run, with_played, tail_by, below_rows, after_head, version_of, with_line, next_line, on_line, report_at, lines_after, report_of, Answers}
 use Rattle.lab_report.specs.Requests.{requests_of}
-use Rattle.lab_report.specs.Text.{request_of_row, HasText, HasXrunText, HasStateText, IsRowOf, IsSegmentOf, IsRunOf, IsTailOf, IsReportOf, front_text}
+use Rattle.lab_report.specs.Text.{request_of_row, HasText, HasXrunText, HasStateText, IsRowOf, IsSegmentOf, IsRunOf, IsReportOf, front_text}
 use Rattle.lab_report.specs.Words.{lines_of, is_space, word_of, space_of, feed_of, next_number, most_frames, number_or_dash_at, decimal_of, expect_word, expect_words}
 use Rattle.lab_report.proofs.Actors.{IsAsked, requests_of-asked}
 
@@ -225,7 +225,7 @@ row-is script requests s request row asked e r st =
       whole = not_whole s.played (length requests) (length s.rows) (length (s.rows ++ row ∷ [])) st.whole within;
     }
 
-past_by : (requests : List Request) (n : ℕ) (b : Bool) → nat_lt n (length requests) ≡ b → slice_get requests n ≡ None → length requests ≤ n
+pub past_by : (requests : List Request) (n : ℕ) (b : Bool) → nat_lt n (length requests) ≡ b → slice_get requests n ≡ None → length requests ≤ n
 past_by [] n b t e = omega arith
 past_by (q ∷ qs) n true t e =
     let within : n < length (q ∷ qs) = grind (arith, nat_tests) in
@@ -292,11 +292,11 @@ with_line-is script requests s line t asked e st =
     let end = bind_ok (feed_of version.0) _ t version.2 in
     ok_draft script requests _ t end.2 (record { lines = st.lines; rows = st.rows; segments = st.segments; runs = st.runs; whole = st.whole })) e
 
-on_line-ok : {X Y : Type 0} (line : ℕ) (r : Result X ReportWhy) (f : X → Result Y ReportError) (y : Y) → on_line line r f ≡ Ok y → (x : X) × (r ≡ Ok x) × (f x ≡ Ok y)
+pub on_line-ok : {X Y : Type 0} (line : ℕ) (r : Result X ReportWhy) (f : X → Result Y ReportError) (y : Y) → on_line line r f ≡ Ok y → (x : X) × (r ≡ Ok x) × (f x ≡ Ok y)
 on_line-ok line (Ok x) f y e = (x, refl, e)
 on_line-ok line (Err cause) f y e = absurd (cc)
 
-ended_by : (b : Bool) (x : Report) (e : ReportError) (report : Report) → cond b (Ok x) (Err e) ≡ Ok report → x ≡ report
+pub ended_by : (b : Bool) (x : Report) (e : ReportError) (report : Report) → cond b (Ok x) (Err e) ≡ Ok report → x ≡ report
 ended_by true x e report h = cc
 ended_by false x e report h = absurd (cc)
 

@@ -1,5 +1,5 @@
 -- The report that a text is, or its first refusal.
-use Rattle.std.specs.Prelude.{◌≡◌, ℕ, ◌+◌, ◌==◌, ◌&&◌, not, Bool, true, false, List, [], ◌∷◌, ◌++◌, length, codes, bytes_eq, Option, Some, None, Result, Ok, Err, min, if◌then◌else◌, slice_get}
+use Rattle.std.specs.Prelude.{◌≡◌, ℕ, ◌+◌, ◌==◌, ◌&&◌, Bool, true, false, List, [], ◌∷◌, ◌++◌, length, codes, bytes_eq, Option, Some, None, Result, Ok, Err, min, if◌then◌else◌, slice_get}
 use Rattle.std.specs.List.{slice_split, position}
 use Rattle.snd_base.specs.declared.places.Segment.{Segment}
 use Rattle.lab_script.specs.declared.script.Script.{Script}

@@ -7,7 +7,7 @@ ghost use Rattle.lab_report.specs.Causes.{Gives};
 ghost use Rattle.lab_report.specs.Reading.{view, nothing, tail_by, end_at, below_rows, after_head, version_of, head_at, with_line, next_line, report_at, lines_after, report_of, Answers};
 ghost use Rattle.lab_report.specs.Words.{lines_of};
 ghost use Rattle.lab_report.specs.Requests.{requests_of};
-ghost use Rattle.lab_report.specs.Text.{IsReportOf};
+ghost use Rattle.lab_report.specs.Text.{report_text, IsReportOf};
 
 use crate::error::{ReportError, ReportWhy};
 use crate::lines::first_line;
@@ -79,9 +79,10 @@ fn add_below(draft: &mut Draft, script: &Script, line: &[u8]) -> Result<(), Repo
     }
 }
 
-/// A line after the head: the row of a request, or where there is none, a line below the rows.
+/// A line after the head: the row of a request, or where there is none, a line below the rows. The fronts of rows are
+/// printed in `front`.
 fn add_after_head(
-    alloc: Global,
+    front: &mut String,
     draft: &mut Draft,
     script: &Script,
     request: Option<Request>,
@@ -94,7 +95,7 @@ fn add_after_head(
 {
     match request {
         Some(request) => {
-            let row = row_at(alloc, script, request, line)?;
+            let row = row_at(front, script, request, line)?;
             draft.rows.push(row)?;
             Ok(())
         }
@@ -133,7 +134,7 @@ fn add_head(draft: &mut Draft, line: &[u8]) -> Result<(), ReportWhy>
 
 /// One more line, where the rows tell of these requests.
 fn add_line(
-    alloc: Global,
+    front: &mut String,
     draft: &mut Draft,
     script: &Script,
     requests: &[Request],
@@ -148,7 +149,7 @@ fn add_line(
         return add_head(draft, line);
     }
     let request = requests.get(draft.rows.len()).copied();
-    add_after_head(alloc, draft, script, request, line)
+    add_after_head(front, draft, script, request, line)
 }
 
 /// The report at the end of the text, whose last line has this number.
@@ -208,11 +209,12 @@ fn read_lines(
     ensures { Answers result (lines_after script.now requests.now nothing 0 (lines_of text.now)) }
 {
     let mut draft = nothing(alloc);
+    let mut front = String::new(alloc);
     let mut number = 0;
     let mut rest = text;
     while let Some((line, more)) = first_line(rest) {
         number = next_line(number);
-        match add_line(alloc, &mut draft, script, requests, line) {
+        match add_line(&mut front, &mut draft, script, requests, line) {
             Ok(()) => {}
             Err(why) => return Err(ReportError { line: number, why }),
         }
@@ -240,6 +242,9 @@ pub fn read_report(alloc: Global, text: &[u8], script: &Script) -> Result<Report
 
     // What is read is a report of the script: its rows are those of the script's lines, in order.
     ensures of { IfOk result (IsReportOf script.now) }
+
+    // No other text of a report is accepted than the one that is printed.
+    ensures one { IfOk result (λ report. text.now ≡ report_text script.now report) }
 {
     match requests_of(alloc, script) {
         Ok(requests) => read_lines(alloc, script, requests.as_slice(), text),

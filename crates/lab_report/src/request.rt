@@ -1,5 +1,6 @@
 //! What the rows of a report are about: each line of a script once, in the order of the rows.
-ghost use Rattle.std.specs.Prelude.{◌≡◌, ◌<◌, ◌∷◌, ◌++◌, [], IfOk, OnOk, length, map};
+ghost use Rattle.std.specs.Prelude.{◌≡◌, ℕ, ◌<◌, ◌∷◌, ◌++◌, [], true, false, IfOk, OnOk, length, map, slice_index_or};
+ghost use Rattle.std.specs.Bool.{OnFalse};
 ghost use Rattle.lab_script.specs.Limits.{IsScript};
 ghost use Rattle.lab_script.specs.Script.{phases_of};
 ghost use Rattle.lab_report.specs.Requests.{place_of, request_of, of_place, in_order, item_requests, requests_of};
@@ -52,13 +53,58 @@ fn push_place(
     Ok(())
 }
 
+/// Marks a place, where there is one of this number.
+#[tactic(auto, using(crate::proofs::Marks::set_marked, crate::proofs::Marks::set_kept, crate::proofs::Marks::past_marked))]
+fn mark(places: &mut [bool], place: u64)
+    ensures marked { slice_index_or places.new place true ≡ true }
+    ensures kept { (k : ℕ) → slice_index_or places.new k true ≡ false
+        → slice_index_or places.old k true ≡ false }
+{
+    let place = place as usize;
+    if place >= places.len() {
+        return;
+    }
+    places[place] = true;
+}
+
+/// Marks the places that some lines have: no line has one that isn't marked.
+fn places_of(lines: &[Line]) -> [bool; 129]
+    ensures { (k : ℕ) → slice_index_or result k true ≡ false → of_place lines.now k ≡ [] }
+{
+    let mut places = [false; 129];
+    for line in lines {
+        mark(&mut places, place_of(line.actor));
+    }
+    places
+}
+
+/// Appends the requests of those lines of a phase whose actor has this place. Where it isn't marked there are none.
+fn push_marked(
+    requests: &mut Vec<Request>,
+    phase: u32,
+    place: u64,
+    is_marked: bool,
+    lines: &[Line],
+) -> Result<(), AllocError>
+    requires { OnFalse is_marked (of_place lines.now place ≡ []) }
+    ensures { OnOk result
+        (requests.new.items ≡ requests.old.items ++ map (request_of phase) (of_place lines.now place)) }
+{
+    if is_marked {
+        push_place(requests, phase, place, lines)
+    } else {
+        Ok(())
+    }
+}
+
 /// Appends the requests of a phase.
 fn push_phase(requests: &mut Vec<Request>, phase: u32, lines: &[Line]) -> Result<(), AllocError>
     ensures { OnOk result
         (requests.new.items ≡ requests.old.items ++ map (request_of phase) (in_order lines.now)) }
 {
+    let places = places_of(lines);
     for place in 0..PLACES {
-        push_place(requests, phase, place, lines)?;
+        push_marked(requests, phase, place, places[place as usize], lines)?;
     }
     Ok(())
 }

@@ -1,8 +1,11 @@
 //! The lines of rows.
 ghost use Rattle.std.specs.Prelude.{◌≡◌, length};
+ghost use Rattle.std.specs.List.{slice_split};
 ghost use Rattle.lab_script.specs.Limits.{IsActor};
 ghost use Rattle.lab_report.specs.Causes.{Gives};
 ghost use Rattle.lab_report.specs.Reading.{row_at};
+ghost use Rattle.lab_report.specs.Text.{front_text};
+ghost use Rattle.lab_report.specs.Words.{is_space, expect_words};
 
 use crate::answers::{answer_at, state_at};
 use crate::error::ReportWhy;
@@ -12,12 +15,28 @@ use crate::row::Row;
 use crate::text::push_front;
 use crate::words::{expect_words, feed_of, space_of};
 use lab_script::Script;
-use std::alloc::Global;
+
+/// What is left of a line after the front of a row that tells of this request. The front is printed in a text whose
+/// memory is used again from row to row.
+fn after_front<'a>(
+    front: &mut String,
+    script: &Script,
+    request: Request,
+    line: &'a [u8],
+) -> Result<&'a [u8], ReportWhy>
+    requires { IsActor (length script.now.clients) (length script.now.readers) request.actor }
+    ensures { Gives (λ r. r.now) result
+        (expect_words (slice_split is_space (front_text script.now request)) line.now) }
+{
+    front.clear();
+    push_front(front, script, request)?;
+    expect_words(front.as_bytes(), line)
+}
 
 /// The row of a line that tells of this request.
 #[tactic(auto, unfolding(crate::specs::Reading::row_at))]
 pub fn row_at(
-    alloc: Global,
+    front: &mut String,
     script: &Script,
     request: Request,
     line: &[u8],
@@ -25,9 +44,7 @@ pub fn row_at(
     requires { IsActor (length script.now.clients) (length script.now.readers) request.actor }
     ensures { Gives (λ r. r) result (row_at script.now request line.now) }
 {
-    let mut front = String::new(alloc);
-    push_front(&mut front, script, request)?;
-    let rest = expect_words(front.as_bytes(), line)?;
+    let rest = after_front(front, script, request, line)?;
     let (answer, rest) = answer_at(rest)?;
     let rest = space_of(rest)?;
     let (state, rest) = state_at(rest)?;

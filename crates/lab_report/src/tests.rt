@@ -8,6 +8,8 @@ use snd_base::{PcmError, XrunWhy};
 use std::alloc::Global;
 use std::test::*;
 
+mod sessions;
+
 /// A script with two clients and a reader.
 const SCRIPT: &[u8] = b"card ring 256 period 64
 client a a.wav

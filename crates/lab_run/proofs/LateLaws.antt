@@ -41,24 +41,24 @@ use Rattle.lab_run.proofs.Results.{All, All-any, All-then, Takes-all}
 
 -- ---- a fact of the place that an error, an answer or a fact of the table names, if it is late
 
-abbrev LateWhy : (ℕ → ℕ → Type 0) → XrunWhy → Type 0
+abbrev pub LateWhy : (ℕ → ℕ → Type 0) → XrunWhy → Type 0
 LateWhy Q (why.Late frame channel word) = Q frame channel
 LateWhy Q other = ⊤
 
-abbrev LateErr : (ℕ → ℕ → Type 0) → PcmError → Type 0
+abbrev pub LateErr : (ℕ → ℕ → Type 0) → PcmError → Type 0
 LateErr Q (error.Xrun w) = LateWhy Q w
 LateErr Q other = ⊤
 
-abbrev LateIn : {T : Type 0} → (ℕ → ℕ → Type 0) → Result T PcmError → Type 0
+abbrev pub LateIn : {T : Type 0} → (ℕ → ℕ → Type 0) → Result T PcmError → Type 0
 LateIn Q (Ok x) = ⊤
 LateIn Q (Err e) = LateErr Q e
 
-abbrev LateAnswer : (ℕ → ℕ → Type 0) → Answer → Type 0
+abbrev pub LateAnswer : (ℕ → ℕ → Type 0) → Answer → Type 0
 LateAnswer Q (Failed e) = LateErr Q e
 LateAnswer Q other = ⊤
 
 module _ (Q : ℕ → ℕ → Type 0) where
-  reported-late : (e : PcmError) → LateErr Q e → LateErr Q (reported e)
+  pub reported-late : (e : PcmError) → LateErr Q e → LateErr Q (reported e)
   reported-late (error.Xrun (why.Late frame channel word)) late = late
   reported-late (error.Xrun (why.Avail avail seen)) late = tt
   reported-late (error.Xrun (why.Overtaken frame channel word)) late = tt
@@ -129,7 +129,7 @@ module _ (Q : ℕ → ℕ → Type 0) where
   cell-late resuming s c f late =
       first-case (if_none_left f) _ _ (zero-case f.queued Prepared) (first-case (if_gone f) _ _ (gone-case f) (first-case (if_late f) _ _ (late-case f late) tt))
 
-  next-late : (s : State) (c : Call) (f : Facts) → IfSome f.late (LateWhy Q) → LateIn Q (next_of s c f).answer
+  pub next-late : (s : State) (c : Call) (f : Facts) → IfSome f.late (LateWhy Q) → LateIn Q (next_of s c f).answer
   next-late s c f late = cell-late (row_of f.capture c s) s c f late
 
 -- ---- a call's parts
@@ -207,7 +207,7 @@ written-missed c n x = by_test (nat_lt 0 n && nat_eq (avail_of c) 0) (is_stop x.
 
 -- ---- the calls
 
-All-if : {X : Type 0} (Q : X → Type 0) (test : Bool) (m n : Course X) → All Q m → All Q n → All Q (if test then m else n)
+pub All-if : {X : Type 0} (Q : X → Type 0) (test : Bool) (m n : Course X) → All Q m → All Q n → All Q (if test then m else n)
 All-if Q true m n one two = one
 All-if Q false m n one two = two
 

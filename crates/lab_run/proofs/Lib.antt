@@ -9,6 +9,7 @@ pub mod CourseExists
 pub mod CourseUnique
 pub mod EachLaws
 pub mod LateLaws
+pub mod LateRewinds
 pub mod Leads
 pub mod MarksLaws
 pub mod OrdinaryRows
@@ -33,8 +34,12 @@ pub mod RowsGrow
 pub mod RunExists
 pub mod RunGoesOn
 pub mod RunUnique
+pub mod ScriptLines
+pub mod ScriptWords
 pub mod Sessions
+pub mod SliceItems
 pub mod SliceLaws
+pub mod SliceLines
 pub mod SnoopLaws
 pub mod Still
 pub mod StopRows

@@ -30,7 +30,7 @@ use Rattle.lab_run.specs.Stage.{Session, Setup, Stage, after_close, after_open, 
 use Rattle.lab_run.proofs.OwnItems.{ItemAlone, close-item, items-then, not-own, open-item, other-item, other-view, own-view, view_of}
 use Rattle.lab_run.proofs.OwnLines.{EachAt, cards-other, constant-at, each-at, each-other, each-size, four-rows, map-at, map-size, members_of, none-answers, numbered-at, own-row}
 
-is-own : (n : ℕ) → is_reader n (actor.Reader n) ≡ true
+pub is-own : (n : ℕ) → is_reader n (actor.Reader n) ≡ true
 is-own n = eq-eqb n n refl
 
 abbrev pub given_of : Session → ℕ → Given Reader
@@ -42,7 +42,7 @@ reader_view session n stage = view_of (is_reader n) (reader_at session stage n) 
 
 -- ---- items of other actors
 
-open_reader-other : (session : Session) (stage : Stage) (n m : ℕ) (x : AtPort × Reader) (own : Option Plain) → nat_eq m n ≡ false
+pub open_reader-other : (session : Session) (stage : Stage) (n m : ℕ) (x : AtPort × Reader) (own : Option Plain) → nat_eq m n ≡ false
     → reader_view session n (open_reader session stage m x own) ≡ reader_view session n stage
 open_reader-other session stage n m x (Some r) is = other-view (is_reader n) _ _ stage _ refl is
 open_reader-other session stage n m (a, reader) None is = by_setup (slice_index_or session.readers m None)
@@ -51,12 +51,12 @@ open_reader-other session stage n m (a, reader) None is = by_setup (slice_index_
     by_setup None = other-view (is_reader n) _ _ stage _ refl is
     by_setup (Some setup) = other-view (is_reader n) _ _ stage _ (get_or-set_other stage.readers m n _ _ (not-own n m is)) is
 
-close_reader-other : (session : Session) (stage : Stage) (n m : ℕ) (x : AtPort × Reader) (own : Option Plain) → nat_eq m n ≡ false
+pub close_reader-other : (session : Session) (stage : Stage) (n m : ℕ) (x : AtPort × Reader) (own : Option Plain) → nat_eq m n ≡ false
     → reader_view session n (close_reader session stage m x own) ≡ reader_view session n stage
 close_reader-other session stage n m x None is = other-view (is_reader n) _ _ stage _ refl is
 close_reader-other session stage n m x (Some r) is = other-view (is_reader n) _ _ stage _ (get_or-set_other stage.readers m n _ _ (not-own n m is)) is
 
-open_client-other : (session : Session) (stage : Stage) (n m : ℕ) (x : AtPort × Client) (own : Option playing.Plain)
+pub open_client-other : (session : Session) (stage : Stage) (n m : ℕ) (x : AtPort × Client) (own : Option playing.Plain)
     → reader_view session n (open_client session stage m x own) ≡ reader_view session n stage
 open_client-other session stage n m x (Some c) = other-view (is_reader n) _ _ stage _ refl refl
 open_client-other session stage n m x None = by_setup (slice_index_or session.clients m None)
@@ -73,7 +73,7 @@ open_client-other session stage n m x None = by_setup (slice_index_or session.cl
     by_setup None = other-view (is_reader n) _ _ stage _ refl refl
     by_setup (Some setup) = by_claim setup (claim_refusal session.card.share stage.claims setup.bindings stage.position)
 
-close_client-other : (session : Session) (stage : Stage) (n m : ℕ) (x : AtPort × Client) (own : Option playing.Plain)
+pub close_client-other : (session : Session) (stage : Stage) (n m : ℕ) (x : AtPort × Client) (own : Option playing.Plain)
     → reader_view session n (close_client session stage m x own) ≡ reader_view session n stage
 close_client-other session stage n m x None = other-view (is_reader n) _ _ stage _ refl refl
 close_client-other session stage n m x (Some c) = other-view (is_reader n) _ _ stage _ refl refl
@@ -81,7 +81,7 @@ close_client-other session stage n m x (Some c) = other-view (is_reader n) _ _ s
 -- ---- items of the reader's own
 
 -- a reader with its parts
-abbrev reader_with : AtPort → Option Plain → List ℕ → AtPort × Reader
+abbrev pub reader_with : AtPort → Option Plain → List ℕ → AtPort × Reader
 reader_with a own frames = (a, record { own = own; frames = frames })
 
 open-own : (session : Session) (n : ℕ) (stage : Stage) (a : AtPort) (own : Option Plain) (frames : List ℕ) → n < length stage.readers
@@ -112,7 +112,7 @@ reaped-same : (session : Session) (n : ℕ) (stopped : Bool) (x : AtPort × Read
 reaped-same session n true (a, reader) = refl
 reaped-same session n false (a, reader) = refl
 
-row-numbered : (n phase m : ℕ) (asked : Op) (own : Option Plain) (answer : Answer) → is_reader n (row_by phase m asked own answer).actor ≡ nat_eq m n
+pub row-numbered : (n phase m : ℕ) (asked : Op) (own : Option Plain) (answer : Answer) → is_reader n (row_by phase m asked own answer).actor ≡ nat_eq m n
 row-numbered n phase m asked None answer = refl
 row-numbered n phase m asked (Some r) answer = refl
 
@@ -120,7 +120,7 @@ row-op : (phase m : ℕ) (asked : Op) (own : Option Plain) (answer : Answer) →
 row-op phase m asked None answer = refl
 row-op phase m asked (Some r) answer = refl
 
-client_row-other : (n phase m : ℕ) (asked : Op) (own : Option playing.Plain) (answer : Answer) → is_reader n (clients.row_by phase m asked own answer).actor ≡ false
+pub client_row-other : (n phase m : ℕ) (asked : Op) (own : Option playing.Plain) (answer : Answer) → is_reader n (clients.row_by phase m asked own answer).actor ≡ false
 client_row-other n phase m asked None answer = refl
 client_row-other n phase m asked (Some c) answer = refl
 
@@ -175,7 +175,7 @@ phase-own session n stage lines there none = record {
 -- ---- a body
 
 -- there are as many readers after an item as before
-open_reader-size : (session : Session) (stage : Stage) (m : ℕ) (x : AtPort × Reader) (own : Option Plain)
+pub open_reader-size : (session : Session) (stage : Stage) (m : ℕ) (x : AtPort × Reader) (own : Option Plain)
     → length (open_reader session stage m x own).readers ≡ length stage.readers
 open_reader-size session stage m x (Some r) = refl
 open_reader-size session stage m (a, reader) None = by_setup (slice_index_or session.readers m None)
@@ -184,12 +184,12 @@ open_reader-size session stage m (a, reader) None = by_setup (slice_index_or ses
     by_setup None = refl
     by_setup (Some setup) = length-set stage.readers m _
 
-close_reader-size : (session : Session) (stage : Stage) (m : ℕ) (x : AtPort × Reader) (own : Option Plain)
+pub close_reader-size : (session : Session) (stage : Stage) (m : ℕ) (x : AtPort × Reader) (own : Option Plain)
     → length (close_reader session stage m x own).readers ≡ length stage.readers
 close_reader-size session stage m x None = refl
 close_reader-size session stage m x (Some r) = length-set stage.readers m _
 
-open_client-size : (session : Session) (stage : Stage) (m : ℕ) (x : AtPort × Client) (own : Option playing.Plain)
+pub open_client-size : (session : Session) (stage : Stage) (m : ℕ) (x : AtPort × Client) (own : Option playing.Plain)
     → length (open_client session stage m x own).readers ≡ length stage.readers
 open_client-size session stage m x (Some c) = refl
 open_client-size session stage m x None = by_setup (slice_index_or session.clients m None)
@@ -206,7 +206,7 @@ open_client-size session stage m x None = by_setup (slice_index_or session.clien
     by_setup None = refl
     by_setup (Some setup) = by_claim setup (claim_refusal session.card.share stage.claims setup.bindings stage.position)
 
-close_client-size : (session : Session) (stage : Stage) (m : ℕ) (x : AtPort × Client) (own : Option playing.Plain)
+pub close_client-size : (session : Session) (stage : Stage) (m : ℕ) (x : AtPort × Client) (own : Option playing.Plain)
     → length (close_client session stage m x own).readers ≡ length stage.readers
 close_client-size session stage m x None = refl
 close_client-size session stage m x (Some c) = refl
@@ -263,7 +263,7 @@ items-alone session n stage (one ∷ items) there lines =
     (items-alone session n (item_text session stage one) items (rw (item-size session stage one) there) lines.1)
 
 -- the runs of a number are the members of that number
-runs-members : (n : ℕ) (pairs : List (ℕ × (ℕ × ℕ)))
+pub runs-members : (n : ℕ) (pairs : List (ℕ × (ℕ × ℕ)))
     → runs_by n (map (λ (run : ℕ × (ℕ × ℕ)). (run.0, run.1.0, run.1.1)) pairs) ≡ members_of n pairs
 runs-members n [] = refl
 runs-members n ((m, run) ∷ pairs) = by_number (nat_eq m n) refl (runs-members n pairs)

@@ -16,5 +16,7 @@ pub mod PortSteps
 pub mod Reader
 pub mod ReaderAtPort
 pub mod Rules
+pub mod ScriptWords
 pub mod Slices
 pub mod Stage
+pub mod Stretches

@@ -199,7 +199,7 @@ pub record LookRests (p free after : ℕ) (at : Position → Plain) (count : Pos
   pub found_is : found ≡ (Some (resting p), commit)
   pub rests : CommitRests p free after (at (resting p)) (count (resting p)) commit
 
-looks-rest : (p free after : ℕ) (at : Position → Plain) (count : Position → ℕ) (ring : List ℤ) (found : Option Position × Commit) → AreBindings (at (resting p)).bindings
+looks-rest : (p free after : ℕ) (at : Position → Plain) (count : Position → ℕ) (ring : List ℤ) (found : Option Position × Commit) → AreBindings (at (resting p)).setup.bindings
     → TakesRest p free (looks at count ring) after found → LookRests p free after at count found
 unfolding looks
 looks-rest p free after at count ring found are (load, m, step, rest) =
@@ -220,7 +220,7 @@ pub record StepRests (p free after : ℕ) (at : Position → Plain) (count : Pos
   pub rests : CommitRests p free after (at (resting p)) (count (resting p)) commit
 
 step-rest : {X : Type 0} (p free after : ℕ) (at : Position → Plain) (count : Position → ℕ) (ring : List ℤ) (call : Option Position → Commit → Answered X) (done : Answered X)
-    → AreBindings (at (resting p)).bindings → TakesRest p free (looks at count ring >>= λ found. ends (call found.0 found.1)) after done → StepRests p free after at count call done
+    → AreBindings (at (resting p)).setup.bindings → TakesRest p free (looks at count ring >>= λ found. ends (call found.0 found.1)) after done → StepRests p free after at count call done
 step-rest p free after at count ring call done are takes =
     let two = parts p free after (looks at count ring) (λ found. ends (call found.0 found.1)) done takes in
     let look = looks-rest p free two.0 at count ring two.1 are two.2 in

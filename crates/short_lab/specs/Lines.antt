@@ -54,12 +54,14 @@ pub record Own : Type 0 where
 
 -- the segment of a stretch, where something was laid in it
 abbrev pub laid_in : Plain → List Segment
-laid_in c = if nat_eq c.stretch.committed 0 && nat_eq c.stretch.part 0 then [] else segment_of c ∷ []
+laid_in c = if nat_eq c.stretch.committed 0 && nat_eq c.stretch.part 0 then []
+    else segment_of c ∷ []
 
 -- the first frame that a client may still lay into whole: behind what it laid since its last prepare, if anything
 abbrev pub free_after : ℕ → Plain → ℕ
 free_after free c =
-    if nat_eq c.stretch.committed 0 && nat_eq c.stretch.part 0 then free else c.stretch.card + c.stretch.committed + (if nat_eq c.stretch.part 0 then 0 else 1)
+    if nat_eq c.stretch.committed 0 && nat_eq c.stretch.part 0 then free
+    else c.stretch.card + c.stretch.committed + (if nat_eq c.stretch.part 0 then 0 else 1)
 
 -- the segments of the stretches that ended, after a line: a prepare that isn't refused ends one
 abbrev pub ended_after : Own → Op → Answer → List Segment
@@ -78,21 +80,29 @@ unless_refused c call done = refused_or (refusal_of Playback c.status call) c do
 -- file, or those that are left of it
 abbrev pub called : ℕ → Sound → Own → Op → Plain × Answer
 called p wav own (op.Write frames) =
-    counted_of (unless_refused own.plain call.Transfer (writei_at p own.plain own.free (min frames (frames_of wav - own.plain.fed))))
-called p wav own op.Start = done_of (unless_refused own.plain call.Start (start_at p own.plain own.free))
+    counted_of (unless_refused own.plain call.Transfer
+    (writei_at p own.plain own.free (min frames (frames_of wav - own.plain.fed))))
+called p wav own op.Start =
+    done_of (unless_refused own.plain call.Start (start_at p own.plain own.free))
 called p wav own op.Sync = done_of (unless_refused own.plain call.Sync (sync_at p own.plain))
-called p wav own op.Avail = counted_of (unless_refused own.plain call.Sync (with_number avail_answer (sync_at p own.plain)))
-called p wav own op.Delay = counted_of (unless_refused own.plain call.Sync (with_number delay_answer (sync_at p own.plain)))
-called p wav own op.Drain = done_of (unless_refused own.plain call.Drain (drain_at p own.plain own.free))
+called p wav own op.Avail =
+    counted_of (unless_refused own.plain call.Sync (with_number avail_answer (sync_at p own.plain)))
+called p wav own op.Delay =
+    counted_of (unless_refused own.plain call.Sync (with_number delay_answer (sync_at p own.plain)))
+called p wav own op.Drain =
+    done_of (unless_refused own.plain call.Drain (drain_at p own.plain own.free))
 called p wav own op.Drop = done_of (unless_refused own.plain call.Drop (dropped own.plain, Ok tt))
-called p wav own op.Prepare = done_of (unless_refused own.plain call.Prepare (prepared own.plain, Ok tt))
+called p wav own op.Prepare =
+    done_of (unless_refused own.plain call.Prepare (prepared own.plain, Ok tt))
 called p wav own op.Pause = done_of (unless_refused own.plain call.Pause (paused own.plain, Ok tt))
 called p wav own other = (own.plain, Failed BadState)
 
 -- the client after a line, by the line's call, and the answer
 abbrev pub after_call : Own → Op → Plain × Answer → Own × Answer
-after_call own asked (c, answer) =
-    (record { plain = c; free = free_after own.free c; ended = ended_after own asked answer }, answer)
+after_call own asked (c, answer) = (
+  record { plain = c; free = free_after own.free c; ended = ended_after own asked answer },
+  answer,
+)
 
 -- the client after a line, and the answer
 abbrev pub line_done : ℕ → Sound → Own → Op → Own × Answer

@@ -29,13 +29,16 @@ pub record Setup : Type 0 where
 -- its card gives to clients, with the file's number of channels and then with its rate
 abbrev pub IsChosen : CardLine → Sound → Result Config Empty → Type 0
 IsChosen card wav (Ok config) =
-    (b : ParamBox) × (d : ParamBox) × Leaves (with_value (widest card.channels card.rate card.ring) Channels wav.channels) (Some b)
+    (b : ParamBox) × (d : ParamBox)
+    × Leaves (with_value (widest card.channels card.rate card.ring) Channels wav.channels) (Some b)
     × Leaves (with_value b Rate wav.rate) (Some d) × IsChoice d card.period (Ok config)
 IsChosen card wav (Err e) =
     Leaves (with_value (widest card.channels card.rate card.ring) Channels wav.channels) None
-    ⊎ ((b : ParamBox) × Leaves (with_value (widest card.channels card.rate card.ring) Channels wav.channels) (Some b)
+    ⊎ ((b : ParamBox) × Leaves
+    (with_value (widest card.channels card.rate card.ring) Channels wav.channels) (Some b)
     × (Leaves (with_value b Rate wav.rate) None
-    ⊎ ((d : ParamBox) × Leaves (with_value b Rate wav.rate) (Some d) × IsChoice d card.period (Err e))))
+    ⊎ ((d : ParamBox) × Leaves (with_value b Rate wav.rate) (Some d)
+    × IsChoice d card.period (Err e))))
 
 -- what was chosen for so many channels and a rate: so many channels, no more than the card has, and a buffer within the ring
 pub record IsInRange (config : Config) (channels most ring : ℕ) : Type 0 where
@@ -52,8 +55,10 @@ bound_by line wav = unwrap_or line.bindings (identity wav.channels)
 -- another number of channels than the file has
 abbrev pub IsOpening : CardLine → ClientLine → Sound → Option Setup → Type 0
 IsOpening card line wav (Some setup) =
-    IsChosen card wav (Ok setup.config) × (setup.bindings ≡ bound_by line wav) × (length setup.bindings ≡ wav.channels)
-IsOpening card line wav None = ((e : Empty) × IsChosen card wav (Err e)) ⊎ (length (bound_by line wav) ≢ wav.channels)
+    IsChosen card wav (Ok setup.config) × (setup.bindings ≡ bound_by line wav)
+    × (length setup.bindings ≡ wav.channels)
+IsOpening card line wav None = ((e : Empty) × IsChosen card wav (Err e))
+    ⊎ (length (bound_by line wav) ≢ wav.channels)
 
 -- the shape of a card's ring, from its first lap on
 pub record IsRingOf (card : CardLine) (ring : Geometry) : Type 0 where

@@ -36,17 +36,22 @@ sync_commit p c = commit_at p c (sync_count c (resting p))
 -- the commit of a start, of the frames before one
 abbrev pub start_commit : ℕ → Plain → ℕ → ℕ → Commit
 start_commit p c free upto =
-    commit_at p (started_in c Running (resting p) (cursor_at free)) (start_count c (cursor_at free) (resting p) upto)
+    commit_at p (started_in c Running (resting p) (cursor_at free))
+    (start_count c (cursor_at free) (resting p) upto)
 
 -- `sync`
 abbrev pub sync_at : ℕ → Plain → Answered (Unit {0})
-sync_at p c = if is_moving c.status.state then synced c call.Sync (Some (resting p)) (sync_commit p c) else (c, Ok tt)
+sync_at p c =
+    if is_moving c.status.state then synced c call.Sync (Some (resting p)) (sync_commit p c)
+    else (c, Ok tt)
 
 -- `start`
 abbrev pub start_at : ℕ → Plain → ℕ → Answered (Unit {0})
 start_at p c free = if nat_eq c.stretch.written 0
-    then settled c (next_of c.status.state call.Start (record (nothing_found Playback) { queued = 0 }))
-    else started c Running (cursor_at free) (Some (resting p)) (start_commit p c free c.stretch.written)
+    then settled c (next_of c.status.state call.Start
+    (record (nothing_found Playback) { queued = 0 }))
+    else started c Running (cursor_at free) (Some (resting p))
+    (start_commit p c free c.stretch.written)
 
 -- the sync of a drain, behind its start
 abbrev pub drained_at : ℕ → Answered (Unit {0}) → Answered (Unit {0})
@@ -56,9 +61,11 @@ drained_at p (c, Err e) = (c, Err e)
 -- `drain`: a stream that moves frames syncs, and one that is prepared starts and then syncs
 abbrev pub drain_at : ℕ → Plain → ℕ → Answered (Unit {0})
 drain_at p c free =
-    if is_moving c.status.state then synced (draining c) call.Drain (Some (resting p)) (sync_commit p (draining c)) else
+    if is_moving c.status.state then synced (draining c) call.Drain (Some (resting p))
+    (sync_commit p (draining c)) else
     (if has_frames c
-    then drained_at p (started c Draining (cursor_at free) (Some (resting p)) (start_commit p c free c.stretch.written))
+    then drained_at p (started c Draining (cursor_at free) (Some (resting p))
+    (start_commit p c free c.stretch.written))
     else (dropped c, Ok tt))
 
 -- a write of n frames behind its sync
@@ -69,7 +76,10 @@ written_at p n (c, Err e) = (c, Err e)
 -- `writei` of n frames: a stream that runs syncs, and one that is prepared starts where its threshold is reached
 abbrev pub writei_at : ℕ → Plain → ℕ → ℕ → Answered ℕ
 writei_at p c free n =
-    if is_running c.status.state then written_at p n (synced c call.Transfer (Some (resting p)) (sync_commit p c)) else
+    if is_running c.status.state then written_at p n
+    (synced c call.Transfer (Some (resting p)) (sync_commit p c)) else
     (if starts_with c n
-    then accepted_if (taken_of c n) (started c Running (cursor_at free) (Some (resting p)) (start_commit p c free (c.stretch.written + taken_of c n)))
+    then accepted_if (taken_of c n)
+    (started c Running (cursor_at free) (Some (resting p))
+    (start_commit p c free (c.stretch.written + taken_of c n)))
     else (accepted c (taken_of c n), Ok (taken_of c n)))

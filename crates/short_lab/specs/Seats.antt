@@ -27,7 +27,8 @@ pub record IsOwn (wav : Sound) (own : Own) (v : ClientView) : Type 0 where
   pub going : own.plain.status.stopped ≡ false
   pub channels : length own.plain.setup.bindings ≡ wav.channels
   pub stands : StandsFor own.plain v.ring wav.samples
-  pub behind : 0 < own.plain.stretch.committed → own.free ≡ own.plain.stretch.card + own.plain.stretch.committed
+  pub behind : 0 < own.plain.stretch.committed → own.free
+      ≡ own.plain.stretch.card + own.plain.stretch.committed
   pub on_card : IsOnCard own.plain.setup.bindings own.plain.identity.geometry
   pub prepared : own.plain.status.state ≡ Prepared → own.plain.stretch.committed ≡ 0
   pub fed : own.plain.fed ≤ frames_of wav
@@ -49,13 +50,16 @@ ends_stretch other answer = false
 
 -- a client made the call of a line: the client and the answer are those of the line, and the stretch grew by what was laid,
 -- unless the line ended it
-pub record HasCalled (members p : ℕ) (wav : Sound) (own : Own) (asked : Op) (w : ClientView) (t u : Turn) (answer : Answer) : Type 0 where
+pub record HasCalled (members p : ℕ) (wav : Sound) (own : Own) (asked : Op) (w : ClientView)
+    (t u : Turn) (answer : Answer) : Type 0 where
   pub entries : List Entry
   pub laid : TurnLaid t u entries
   pub adds : AreAdds entries
   pub outcome : (w.plain, answer) ≡ called p wav own asked
   pub bindings : w.plain.setup.bindings ≡ own.plain.setup.bindings
-  pub grown : ends_stretch asked answer ≡ false → stretch w.plain wav.samples ≡ stretch own.plain wav.samples ++ entries
-  pub ending : ends_stretch asked answer ≡ true → (entries ≡ []) × (w.plain.stretch.committed ≡ 0) × (w.plain.stretch.part ≡ 0)
+  pub grown : ends_stretch asked answer ≡ false
+      → stretch w.plain wav.samples ≡ stretch own.plain wav.samples ++ entries
+  pub ending : ends_stretch asked answer ≡ true → (entries ≡ []) × (w.plain.stretch.committed ≡ 0)
+      × (w.plain.stretch.part ≡ 0)
   pub own_after : IsOwn wav (line_done p wav own asked).0 w
   pub port_after : IsAtPort members p (line_done p wav own asked).0 u

@@ -58,8 +58,9 @@ fn counted(end: Result<u64, PcmError>) -> Answer
 /// The client syncs.
 fn sync_line(client: &mut Client, port: &mut Turn<'_>) -> Answer
     requires { CanUse client.old.plain (view_of_turn port.old) }
-    ensures { (members p : ℕ) (wav : Sound) (own : Own) (h : List Row) → IsOwn wav own client.old → IsAtPort members p own port.old → Stands (core_of port.old) h
-        → HasCalled members p wav own Op.Sync client.new port.old port.new result }
+    ensures { (members p : ℕ) (wav : Sound) (own : Own) (h : List Row) → IsOwn wav own client.old →
+        IsAtPort members p own port.old → Stands (core_of port.old) h →
+        HasCalled members p wav own Op.Sync client.new port.old port.new result }
 {
     let answer = client.sync(port, &mut NeverStops);
     client.counts_are_sound();
@@ -69,8 +70,9 @@ fn sync_line(client: &mut Client, port: &mut Turn<'_>) -> Answer
 /// The client syncs, and answers the frames that a write can take.
 fn avail_line(client: &mut Client, port: &mut Turn<'_>) -> Answer
     requires { CanUse client.old.plain (view_of_turn port.old) }
-    ensures { (members p : ℕ) (wav : Sound) (own : Own) (h : List Row) → IsOwn wav own client.old → IsAtPort members p own port.old → Stands (core_of port.old) h
-        → HasCalled members p wav own Op.Avail client.new port.old port.new result }
+    ensures { (members p : ℕ) (wav : Sound) (own : Own) (h : List Row) → IsOwn wav own client.old →
+        IsAtPort members p own port.old → Stands (core_of port.old) h →
+        HasCalled members p wav own Op.Avail client.new port.old port.new result }
 {
     let answer = client.avail_update(port, &mut NeverStops);
     client.counts_are_sound();
@@ -80,8 +82,9 @@ fn avail_line(client: &mut Client, port: &mut Turn<'_>) -> Answer
 /// The client syncs, and answers the frames that are left to play.
 fn delay_line(client: &mut Client, port: &mut Turn<'_>) -> Answer
     requires { CanUse client.old.plain (view_of_turn port.old) }
-    ensures { (members p : ℕ) (wav : Sound) (own : Own) (h : List Row) → IsOwn wav own client.old → IsAtPort members p own port.old → Stands (core_of port.old) h
-        → HasCalled members p wav own Op.Delay client.new port.old port.new result }
+    ensures { (members p : ℕ) (wav : Sound) (own : Own) (h : List Row) → IsOwn wav own client.old →
+        IsAtPort members p own port.old → Stands (core_of port.old) h →
+        HasCalled members p wav own Op.Delay client.new port.old port.new result }
 {
     let answer = client.delay(port, &mut NeverStops);
     client.counts_are_sound();
@@ -91,8 +94,9 @@ fn delay_line(client: &mut Client, port: &mut Turn<'_>) -> Answer
 /// The client starts.
 fn start_line(client: &mut Client, port: &mut Turn<'_>) -> Answer
     requires { CanUse client.old.plain (view_of_turn port.old) }
-    ensures { (members p : ℕ) (wav : Sound) (own : Own) (h : List Row) → IsOwn wav own client.old → IsAtPort members p own port.old → Stands (core_of port.old) h
-        → HasCalled members p wav own Op.Start client.new port.old port.new result }
+    ensures { (members p : ℕ) (wav : Sound) (own : Own) (h : List Row) → IsOwn wav own client.old →
+        IsAtPort members p own port.old → Stands (core_of port.old) h →
+        HasCalled members p wav own Op.Start client.new port.old port.new result }
 {
     let answer = client.start(port, &mut NeverStops);
     client.counts_are_sound();
@@ -102,8 +106,9 @@ fn start_line(client: &mut Client, port: &mut Turn<'_>) -> Answer
 /// The client plays what is written, and then stops.
 fn drain_line(client: &mut Client, port: &mut Turn<'_>) -> Answer
     requires { CanUse client.old.plain (view_of_turn port.old) }
-    ensures { (members p : ℕ) (wav : Sound) (own : Own) (h : List Row) → IsOwn wav own client.old → IsAtPort members p own port.old → Stands (core_of port.old) h
-        → HasCalled members p wav own Op.Drain client.new port.old port.new result }
+    ensures { (members p : ℕ) (wav : Sound) (own : Own) (h : List Row) → IsOwn wav own client.old →
+        IsAtPort members p own port.old → Stands (core_of port.old) h →
+        HasCalled members p wav own Op.Drain client.new port.old port.new result }
 {
     let answer = client.drain(port, &mut NeverStops);
     client.counts_are_sound();
@@ -112,8 +117,8 @@ fn drain_line(client: &mut Client, port: &mut Turn<'_>) -> Answer
 
 /// The client is prepared anew.
 fn prepare_line(client: &mut Client) -> Answer
-    ensures { (members p : ℕ) (wav : Sound) (own : Own) (t : Turn) → IsOwn wav own client.old → IsAtPort members p own t
-        → HasCalled members p wav own Op.Prepare client.new t t result }
+    ensures { (members p : ℕ) (wav : Sound) (own : Own) (t : Turn) → IsOwn wav own client.old →
+        IsAtPort members p own t → HasCalled members p wav own Op.Prepare client.new t t result }
 {
     let answer = client.prepare();
     done(answer)
@@ -121,8 +126,9 @@ fn prepare_line(client: &mut Client) -> Answer
 
 /// The client drops what is pending.
 fn drop_line(client: &mut Client) -> Answer
-    ensures { (members p : ℕ) (wav : Sound) (own : Own) (h : List Row) (t : Turn) → IsOwn wav own client.old → IsAtPort members p own t → Stands (core_of t) h
-        → HasCalled members p wav own Op.Drop client.new t t result }
+    ensures { (members p : ℕ) (wav : Sound) (own : Own) (h : List Row) (t : Turn) →
+        IsOwn wav own client.old → IsAtPort members p own t → Stands (core_of t) h →
+        HasCalled members p wav own Op.Drop client.new t t result }
 {
     let answer = client.drop_pending();
     client.counts_are_sound();
@@ -132,8 +138,9 @@ fn drop_line(client: &mut Client) -> Answer
 /// The client pauses.
 fn pause_line(client: &mut Client, port: &mut Turn<'_>) -> Answer
     requires { CanUse client.old.plain (view_of_turn port.old) }
-    ensures { (members p : ℕ) (wav : Sound) (own : Own) (h : List Row) → IsOwn wav own client.old → IsAtPort members p own port.old → Stands (core_of port.old) h
-        → HasCalled members p wav own Op.Pause client.new port.old port.new result }
+    ensures { (members p : ℕ) (wav : Sound) (own : Own) (h : List Row) → IsOwn wav own client.old →
+        IsAtPort members p own port.old → Stands (core_of port.old) h →
+        HasCalled members p wav own Op.Pause client.new port.old port.new result }
 {
     let answer = client.pause(port, &mut NeverStops, true);
     client.counts_are_sound();
@@ -154,7 +161,8 @@ fn accepted(end: Result<u32, PcmError>) -> Answer
 fn next_frames(wav: &Wav, fed: u64, frames: u32) -> &[i16]
     requires { fed ≤ frames_of wav.now }
     ensures room { frames_of wav.now < 2 ^ 63 }
-    ensures frames { result.now ≡ take (min frames (frames_of wav.now - fed) * wav.now.channels) (drop (fed * wav.now.channels) wav.now.samples) }
+    ensures frames { result.now ≡ take (min frames (frames_of wav.now - fed) * wav.now.channels)
+        (drop (fed * wav.now.channels) wav.now.samples) }
 {
     let samples = wav.samples.as_slice();
     let channels = wav.channels as usize;
@@ -170,8 +178,9 @@ fn write_line(client: &mut Client, port: &mut Turn<'_>, wav: &Wav, frames: u32) 
     requires usable { CanUse client.old.plain (view_of_turn port.old) }
     requires channels { length client.old.plain.setup.bindings ≡ wav.now.channels }
     requires fed { client.old.plain.fed ≤ frames_of wav.now }
-    ensures { (members p : ℕ) (own : Own) (h : List Row) → IsOwn wav.now own client.old → IsAtPort members p own port.old → Stands (core_of port.old) h
-        → HasCalled members p wav.now own (Op.Write frames) client.new port.old port.new result }
+    ensures { (members p : ℕ) (own : Own) (h : List Row) → IsOwn wav.now own client.old →
+        IsAtPort members p own port.old → Stands (core_of port.old) h →
+        HasCalled members p wav.now own (Op.Write frames) client.new port.old port.new result }
 {
     let offer = next_frames(wav, client.fed(), frames);
     client.counts_are_sound();
@@ -186,8 +195,9 @@ pub(crate) fn call_line(client: &mut Client, port: &mut Turn<'_>, wav: &Wav, ask
     requires usable { CanUse client.old.plain (view_of_turn port.old) }
     requires channels { length client.old.plain.setup.bindings ≡ wav.now.channels }
     requires fed { client.old.plain.fed ≤ frames_of wav.now }
-    ensures { (members p : ℕ) (own : Own) (h : List Row) → IsOwn wav.now own client.old → IsAtPort members p own port.old → Stands (core_of port.old) h
-        → HasCalled members p wav.now own asked client.new port.old port.new result }
+    ensures { (members p : ℕ) (own : Own) (h : List Row) → IsOwn wav.now own client.old →
+        IsAtPort members p own port.old → Stands (core_of port.old) h →
+        HasCalled members p wav.now own asked client.new port.old port.new result }
 {
     match asked {
         Op::Write(frames) => write_line(client, port, wav, frames),

@@ -18,7 +18,8 @@ fn push_numbered(
     client: u32,
     segment: Segment,
 ) -> Result<(), PcmError>
-    ensures ok { OnOk result (all.new.items ≡ all.old.items ++ map (λ s. (client, s)) (laid_of segment)) }
+    ensures ok { OnOk result (all.new.items ≡ all.old.items
+        ++ map (λ s. (client, s)) (laid_of segment)) }
     ensures only { IfErr result (λ e. e ≡ PcmError.Memory) }
 {
     if segment.whole == 0 && segment.part == 0 {
@@ -35,7 +36,8 @@ fn push_segments(
     ended: &[Segment],
     last: Segment,
 ) -> Result<(), PcmError>
-    ensures ok { OnOk result (all.new.items ≡ all.old.items ++ map (λ s. (client, s)) (ended.now ++ laid_of last)) }
+    ensures ok { OnOk result (all.new.items ≡ all.old.items
+        ++ map (λ s. (client, s)) (ended.now ++ laid_of last)) }
     ensures only { IfErr result (λ e. e ≡ PcmError.Memory) }
 {
     for segment in ended {
@@ -46,8 +48,9 @@ fn push_segments(
 
 /// Appends the segments of a seat's client, if it is open.
 fn push_seat(all: &mut Vec<(u32, Segment)>, client: u32, seat: &Seat) -> Result<(), PcmError>
-    ensures ok { OnOk result ((marks : List Marks) (rest : List (Option Own))
-        → all.new.items ++ numbered (client + 1) rest ≡ all.old.items ++ numbered client (own_of marks client seat.now ∷ rest)) }
+    ensures ok { OnOk result ((marks : List Marks) (rest : List (Option Own)) →
+        all.new.items ++ numbered (client + 1) rest ≡ all.old.items
+        ++ numbered client (own_of marks client seat.now ∷ rest)) }
     ensures only { IfErr result (λ e. e ≡ PcmError.Memory) }
 {
     match &seat.client {
@@ -59,7 +62,8 @@ fn push_seat(all: &mut Vec<(u32, Segment)>, client: u32, seat: &Seat) -> Result<
 /// The segments of all clients, each with its client's number.
 fn numbered(alloc: Global, seats: &[Seat]) -> Result<Vec<(u32, Segment)>, PcmError>
     requires { length seats.now ≤ 64 }
-    ensures ok { IfOk result (λ all. (marks : List Marks) → all.items ≡ numbered 0 (owns_from marks 0 seats.now)) }
+    ensures ok { IfOk result (λ all. (marks : List Marks) →
+        all.items ≡ numbered 0 (owns_from marks 0 seats.now)) }
     ensures only { IfErr result (λ e. e ≡ PcmError.Memory) }
 {
     let mut all = Vec::new(alloc);

@@ -53,7 +53,8 @@ fn keep_ended(
     asked: Op,
     answer: Answer,
 ) -> Result<(), PcmError>
-    ensures ok { OnOk result ((own : Own) → before ≡ segment_of own.plain → own.ended ≡ ended.old.items → ended.new.items ≡ ended_after own asked answer) }
+    ensures ok { OnOk result ((own : Own) → before ≡ segment_of own.plain →
+        own.ended ≡ ended.old.items → ended.new.items ≡ ended_after own asked answer) }
     ensures only { IfErr result (λ e. e ≡ PcmError.Memory) }
 {
     if ends_stretch(asked, answer) {
@@ -70,8 +71,9 @@ fn open_line(core: &mut Core, client: &mut Client, number: u32, wav: &Wav, asked
     requires channels { length client.old.plain.setup.bindings ≡ wav.now.channels }
     requires fed { client.old.plain.fed ≤ frames_of wav.now }
     requires asked { IsAsked asked }
-    ensures { (members p : ℕ) (own : Own) (h : List Event) → IsOwn wav.now own client.old → IsAtSeat members p number own core.old → Stands core.old h
-        → HasCalledAt members p number wav.now own asked client.new core.old core.new result }
+    ensures { (members p : ℕ) (own : Own) (h : List Event) → IsOwn wav.now own client.old →
+        IsAtSeat members p number own core.old → Stands core.old h →
+        HasCalledAt members p number wav.now own asked client.new core.old core.new result }
 {
     let mut port = core.turn(number);
     call_line(client, &mut port, wav, asked)
@@ -93,7 +95,9 @@ fn closed_row(phase: u32, client: u32, asked: Op) -> Row
 
 /// The row of a line of an open client, after the line.
 fn open_row(phase: u32, number: u32, asked: Op, client: &Client, answer: Answer) -> Row
-    ensures { (free : ℕ) (ended : List Segment) → result ≡ client_row phase number asked (Some (record { plain = client.now.plain; free = free; ended = ended })) answer }
+    ensures { (free : ℕ) (ended : List Segment) →
+        result ≡ client_row phase number asked
+        (Some (record { plain = client.now.plain; free = free; ended = ended })) answer }
 {
     Row {
         phase,
@@ -116,7 +120,8 @@ fn seat_line(
 ) -> Result<Row, PcmError>
     requires port { IsOpenPort core.old number wav.now seat.old }
     requires asked { IsAsked asked }
-    ensures ok { IfOk result (λ row. TakesLine phase number wav.now asked core.old core.new seat.old seat.new row) }
+    ensures ok { IfOk result (λ row. TakesLine phase number wav.now asked core.old core.new seat.old
+        seat.new row) }
     ensures only { IfErr result (λ e. e ≡ PcmError.Memory) }
 {
     match &mut seat.client {
@@ -140,7 +145,9 @@ fn client_line(
     asked: Op,
 ) -> Result<(), PcmError>
     requires can { CanTake wavs.now body.old (Actor.Client number) asked }
-    ensures ok { OnOk result ((script : Script) (line : Line) → line.op ≡ asked → line.actor ≡ Actor.Client number → IsSettled script wavs.now body.old → HasRun script wavs.now ((phase, line) ∷ []) body.old body.new) }
+    ensures ok { OnOk result ((script : Script) (line : Line) → line.op ≡ asked →
+        line.actor ≡ Actor.Client number → IsSettled script wavs.now body.old →
+        HasRun script wavs.now ((phase, line) ∷ []) body.old body.new) }
     ensures only { IfErr result (λ e. e ≡ PcmError.Memory) }
 {
     let seat = &mut body.seats[number as usize];
@@ -159,7 +166,9 @@ fn client_line(
 /// The card plays so many frames.
 fn card_line(body: &mut Body, phase: u32, frames: u32) -> Result<(), PcmError>
     requires can { CanTake [] body.old Actor.Card (Op.Play frames) }
-    ensures ok { OnOk result ((script : Script) (wavs : List Sound) (line : Line) → line.op ≡ Op.Play frames → line.actor ≡ Actor.Card → IsSettled script wavs body.old → HasRun script wavs ((phase, line) ∷ []) body.old body.new) }
+    ensures ok { OnOk result ((script : Script) (wavs : List Sound) (line : Line) →
+        line.op ≡ Op.Play frames → line.actor ≡ Actor.Card → IsSettled script wavs body.old →
+        HasRun script wavs ((phase, line) ∷ []) body.old body.new) }
     ensures only { IfErr result (λ e. e ≡ PcmError.Memory) }
 {
     play(&mut body.core, &mut body.played, frames)?;
@@ -178,7 +187,8 @@ fn card_line(body: &mut Body, phase: u32, frames: u32) -> Result<(), PcmError>
 /// Does a line of a phase. It refuses for memory alone.
 pub(crate) fn do_line(body: &mut Body, wavs: &[Wav], phase: u32, line: Line) -> Result<(), PcmError>
     requires can { CanTake wavs.now body.old line.actor line.op }
-    ensures ok { OnOk result ((script : Script) → IsSettled script wavs.now body.old → HasRun script wavs.now ((phase, line) ∷ []) body.old body.new) }
+    ensures ok { OnOk result ((script : Script) → IsSettled script wavs.now body.old →
+        HasRun script wavs.now ((phase, line) ∷ []) body.old body.new) }
     ensures only { IfErr result (λ e. e ≡ PcmError.Memory) }
 {
     match (line.actor, line.op) {

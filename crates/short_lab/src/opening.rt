@@ -21,7 +21,8 @@ use wav_io::Wav;
 fn configuration(card: &CardLine, wav: &Wav) -> Result<Config, Empty>
     requires { IsCardLine card.now }
     ensures chosen { IsChosen card.now wav.now result }
-    ensures range { IfOk result (λ config. IsInRange config wav.now.channels card.now.channels card.now.ring) }
+    ensures range { IfOk result
+        (λ config. IsInRange config wav.now.channels card.now.channels card.now.ring) }
 {
     let slave = Slave {
         channels: card.channels,
@@ -38,7 +39,8 @@ fn configuration(card: &CardLine, wav: &Wav) -> Result<Config, Empty>
 /// The bindings of a client: those of its line, if they are as many as its file has channels; without them each channel goes
 /// to the card's of the same number.
 fn bindings_of(line: &ClientLine, wav: &Wav) -> Option<Bindings>
-    ensures some { IfSome result (λ bindings. (bindings ≡ bound_by line.now wav.now) × (length bindings ≡ wav.now.channels)) }
+    ensures some { IfSome result (λ bindings. (bindings ≡ bound_by line.now wav.now)
+        × (length bindings ≡ wav.now.channels)) }
     ensures none { IfNone result (length (bound_by line.now wav.now) ≢ wav.now.channels) }
 {
     match line.bindings {
@@ -62,7 +64,9 @@ fn set_up(
     requires on_card { All (λ channel. channel < geometry.channels) bindings }
     requires buffer_least { 1 ≤ config.buffer_size }
     requires buffer_most { config.buffer_size ≤ 16384 }
-    ensures ok { IfOk result (λ client. (client.plain ≡ configured_with (opened geometry number lead) config bindings) × IsSound client.plain client.ring) }
+    ensures ok { IfOk result (λ client.
+        (client.plain ≡ configured_with (opened geometry number lead) config bindings)
+        × IsSound client.plain client.ring) }
     ensures only { IfErr result (λ e. e ≡ PcmError.Memory) }
 {
     let mut client = Client::new(alloc, geometry, number, lead);
@@ -84,7 +88,8 @@ pub(crate) fn open_client(
     requires card { IsCardLine card.now }
     requires bound { IsBound card.now.channels line.now.bindings }
     requires ring { IsRingOf card.now geometry }
-    ensures ok { IfOk result (λ client. IsOpenedAs card.now geometry number line.now wav.now client) }
+    ensures ok { IfOk result
+        (λ client. IsOpenedAs card.now geometry number line.now wav.now client) }
     ensures only { IfErr result (λ e. e ≡ PcmError.Memory) }
 {
     match (configuration(card, wav), bindings_of(line, wav)) {

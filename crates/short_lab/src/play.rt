@@ -12,7 +12,8 @@ fn play_frame(core: &mut Core, played: &mut Vec<i16>) -> Result<(), PcmError>
     requires whole { core.old.next.channel ≡ 0 }
     requires fits { core.old.next.frame < end_frame core.old.geometry }
     ensures took { OnOk result (TakesFrame core.old core.new) }
-    ensures mixes { OnOk result ((sums : ℕ → ℕ → ℤ) → Mixes core.old sums played.old.items → Mixes core.new sums played.new.items) }
+    ensures mixes { OnOk result ((sums : ℕ → ℕ → ℤ) → Mixes core.old sums played.old.items →
+        Mixes core.new sums played.new.items) }
     ensures only { IfErr result (λ e. e ≡ PcmError.Memory) }
 {
     for _channel in 0..core.geometry().channels {
@@ -27,9 +28,12 @@ fn play_frame(core: &mut Core, played: &mut Vec<i16>) -> Result<(), PcmError>
 pub(crate) fn play(core: &mut Core, played: &mut Vec<i16>, frames: u32) -> Result<(), PcmError>
     requires whole { core.old.next.channel ≡ 0 }
     requires fits { core.old.next.frame + frames ≤ end_frame core.old.geometry }
-    ensures rests { OnOk result ((ring : Geometry) (members position : ℕ) → RestsAt ring members position core.old → RestsAt ring members (position + frames) core.new) }
+    ensures rests { OnOk result ((ring : Geometry) (members position : ℕ) →
+        RestsAt ring members position core.old →
+        RestsAt ring members (position + frames) core.new) }
     ensures marks { OnOk result (core.new.marks ≡ core.old.marks) }
-    ensures mixes { OnOk result ((sums : ℕ → ℕ → ℤ) → Mixes core.old sums played.old.items → Mixes core.new sums played.new.items) }
+    ensures mixes { OnOk result ((sums : ℕ → ℕ → ℤ) → Mixes core.old sums played.old.items →
+        Mixes core.new sums played.new.items) }
     ensures only { IfErr result (λ e. e ≡ PcmError.Memory) }
 {
     for _frame in 0..frames {

@@ -20,8 +20,11 @@ fn run_phase(body: &mut Body, script: &Script, wavs: &[Wav], done: usize) -> Res
     requires files { AreFiles script.now wavs.now }
     requires phase { done < length script.now.phases }
     requires settled { IsSettled script.now wavs.now body.old }
-    requires frames { body.old.position + played_in (slice_index_or script.now.phases done []) ≤ 4194304 }
-    ensures ok { OnOk result (HasRun script.now wavs.now (map (λ (line : Line). (done + 1, line)) (slice_index_or script.now.phases done [])) body.old body.new) }
+    requires frames { body.old.position + played_in (slice_index_or script.now.phases done [])
+        ≤ 4194304 }
+    ensures ok { OnOk result (HasRun script.now wavs.now
+        (map (λ (line : Line). (done + 1, line)) (slice_index_or script.now.phases done []))
+        body.old body.new) }
     ensures only { IfErr result (λ e. e ≡ PcmError.Memory) }
 {
     let lines = script.phases.as_slice()[done].as_slice();

@@ -92,7 +92,7 @@ fn load_lap(reader: &mut ReaderSeat<'_>, out: &mut [i16]) -> u64
     let mut sum: u64 = 0;
     for frame in first..end {
         if let Ok(Loaded::Got) = reader.load_frame(&mut NeverStops, frame, out) {
-            sum = sum.saturating_add(out[0].unsigned_abs() as u64);
+            sum = sum.wrapping_add(out[0].unsigned_abs() as u64);
         }
     }
     sum

@@ -2,6 +2,7 @@
 //! number of readers load them, each in a thread of its own, under a rule that holds between any two atomic steps.
 #![tactic(auto)]
 
+mod laps;
 mod port;
 mod ring;
 mod rule;

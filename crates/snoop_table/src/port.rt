@@ -1,4 +1,5 @@
 //! A reader's seat is a port.
+use crate::laps::{first_index, lap_of};
 use crate::seats::ReaderSeat;
 use mix_core::{Gate, Position, StepKind, ask};
 use snd_base::{Geometry, PcmError};
@@ -56,12 +57,13 @@ impl SnoopPort for ReaderSeat<'_> {
         out: &mut [i16],
     ) -> Result<Loaded, PcmError> {
         let geometry = self.geometry;
-        let first = self.start.spot(&geometry, frame, 0);
-        self.start.turn_to(&geometry, first.lap);
+        self.start = lap_of(self.start, geometry, frame);
+        let first = first_index(self.start, geometry, frame);
+        let own_laps = self.start.lap + 1;
         for channel in 0..geometry.channels {
             ask(gate, StepKind::Look)?;
-            let seen = self.look(first.index + channel as usize, frame, channel);
-            if laps(seen) as u64 != first.lap + 1 {
+            let seen = self.look(first + channel as usize, frame, channel);
+            if laps(seen) as u64 != own_laps {
                 return Ok(Loaded::Overtaken { channel, seen });
             }
             out[channel as usize] = sample(seen);

@@ -110,7 +110,7 @@ slave_keys_in words = do
   word ← word_in words
   tested (misplaced word.0) (bytes_eq word.0 (codes "slave")) word.1
 
--- `slave channels C rate R period P ring N`; behind its last value a key would stand
+-- `slave channels C rate R period P ring N`
 unfoldable pub slave_of : List (List ℕ) → Result SlaveLine ScriptWhy
 slave_of words = do
   keys ← slave_keys_in words
@@ -118,7 +118,7 @@ slave_of words = do
   rate ← keyed_in (codes "rate") 4000 192000 channels.1
   period ← keyed_in (codes "period") 16 18446744073709551615 rate.1
   ring ← keyed_in (codes "ring") 64 16384 period.1
-  end ← ended why.Word ring.1
+  end ← ended why.Extra ring.1
   slave_with channels.0 rate.0 period.0 ring.0
 
 -- a quantity and a value for it

@@ -112,7 +112,7 @@ pub(crate) fn read_slave(line: &[u8]) -> Result<SlaveLine, ScriptWhy>
     let (rate, keys) = keyed(keys, b"rate", 4000, 192_000)?;
     let (period, keys) = keyed(keys, b"period", 16, u64::MAX)?;
     let (ring, rest) = keyed(keys, b"ring", 64, 16_384)?;
-    end(rest, ScriptWhy::Word)?;
+    end(rest, ScriptWhy::Extra)?;
     slave_with(channels, rate, period, ring)
 }
 

@@ -5,7 +5,7 @@ use Rattle.dmix_client.specs.Course.{starts}
 use Rattle.dmix_client.specs.Calls.{Answered}
 use Rattle.dmix_client.specs.Growth.{KeepsAccepted}
 use Rattle.dmix_client.proofs.Looking.{starts-by}
-use Rattle.dmix_client.proofs.Started.{KeepsAccepted-started}
+use Rattle.dmix_client.proofs.Ends.{KeepsAccepted-started}
 use Rattle.dmix_client.proofs.control.begin.Goals as goal
 
 pub returns-clause-takes : goal.returns-clause-takes

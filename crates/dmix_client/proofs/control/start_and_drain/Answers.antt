@@ -7,9 +7,8 @@ use Rattle.pcm_states.specs.declared.calls.Call.TheVariants as call
 use Rattle.dmix_client.specs.Growth.{AnySamples, Keeps}
 use Rattle.dmix_client.specs.Port.{IsStep}
 use Rattle.pcm_stream.specs.Status.{is_moving}
-use Rattle.dmix_client.proofs.Drained.{IsStill}
-use Rattle.dmix_client.proofs.Going.{ok-of}
-use Rattle.dmix_client.proofs.Grown.{configured-moving, configured-prepared}
+use Rattle.dmix_client.proofs.Going.{IsStill, ok-of}
+use Rattle.dmix_client.proofs.Growing.{configured-moving, configured-prepared}
 use Rattle.dmix_client.proofs.Keeping.{Keeps-then, client, drains-ill, drains-kept, start-kept, syncs-still}
 use Rattle.dmix_client.proofs.Looking.{drains-by}
 use Rattle.dmix_client.proofs.control.start_and_drain.Goals as goal
@@ -40,30 +39,17 @@ returns-in-Err-clause-again g c =
     (drains-ill g.P.MixPort g.G.Gate g.met.P.MixPort.laid_composes g.met.P.MixPort.loaded_composes (c.args.port.now, c.args.gate.now) (c.begin-begun.new.port, c.begin-begun.new.gate)
     plain c.args.ring.now (g.P.MixPort.view c.args.port.now).marks.cursor c.begin-begun.result _ (configured-prepared plain c.args.ring.now c.requires.sound c.requires.prepared).bound c.in-Err.is c.begin-begun.ensures.takes)
 
-pub sync_call-requires-clause-sound : goal.sync_call-requires-clause-sound
-sync_call-requires-clause-sound g c =
-    (drains-kept g.P.MixPort g.G.Gate g.met.P.MixPort.laid_composes g.met.P.MixPort.loaded_composes (c.args.port.now, c.args.gate.now) (c.begin-begun.new.port, c.begin-begun.new.gate)
-    c.args.plain.now c.args.ring.now c.begin-begun.result c.requires.sound c.requires.prepared c.requires.unstopped c.begin-begun.ensures.near c.requires.port (ok-of c.begin-begun.result.1 c.in_default.not-Err) c.begin-begun.ensures.takes).keeps.sound
-
-pub sync_call-requires-clause-port : goal.sync_call-requires-clause-port
-sync_call-requires-clause-port g c =
-    (drains-kept g.P.MixPort g.G.Gate g.met.P.MixPort.laid_composes g.met.P.MixPort.loaded_composes (c.args.port.now, c.args.gate.now) (c.begin-begun.new.port, c.begin-begun.new.gate)
-    c.args.plain.now c.args.ring.now c.begin-begun.result c.requires.sound c.requires.prepared c.requires.unstopped c.begin-begun.ensures.near c.requires.port (ok-of c.begin-begun.result.1 c.in_default.not-Err) c.begin-begun.ensures.takes).keeps.port
-
-pub sync_call-requires-clause-moving : goal.sync_call-requires-clause-moving
-sync_call-requires-clause-moving g c =
-    subst (λ (s : State). is_moving s ≡ true) (sym (drains-kept g.P.MixPort g.G.Gate g.met.P.MixPort.laid_composes g.met.P.MixPort.loaded_composes (c.args.port.now, c.args.gate.now) (c.begin-begun.new.port, c.begin-begun.new.gate)
-    c.args.plain.now c.args.ring.now c.begin-begun.result c.requires.sound c.requires.prepared c.requires.unstopped c.begin-begun.ensures.near c.requires.port (ok-of c.begin-begun.result.1 c.in_default.not-Err) c.begin-begun.ensures.takes).drains) refl
-
-pub sync_call-requires-clause-unstopped : goal.sync_call-requires-clause-unstopped
-sync_call-requires-clause-unstopped g c =
-    (drains-kept g.P.MixPort g.G.Gate g.met.P.MixPort.laid_composes g.met.P.MixPort.loaded_composes (c.args.port.now, c.args.gate.now) (c.begin-begun.new.port, c.begin-begun.new.gate)
-    c.args.plain.now c.args.ring.now c.begin-begun.result c.requires.sound c.requires.prepared c.requires.unstopped c.begin-begun.ensures.near c.requires.port (ok-of c.begin-begun.result.1 c.in_default.not-Err) c.begin-begun.ensures.takes).going
-
-pub sync_call-requires-clause-step : goal.sync_call-requires-clause-step
-sync_call-requires-clause-step g c =
-    subst (λ (s : State). IsStep s call.Drain) (sym (drains-kept g.P.MixPort g.G.Gate g.met.P.MixPort.laid_composes g.met.P.MixPort.loaded_composes (c.args.port.now, c.args.gate.now) (c.begin-begun.new.port, c.begin-begun.new.gate)
-    c.args.plain.now c.args.ring.now c.begin-begun.result c.requires.sound c.requires.prepared c.requires.unstopped c.begin-begun.ensures.near c.requires.port (ok-of c.begin-begun.result.1 c.in_default.not-Err) c.begin-begun.ensures.takes).drains) tt
+pub sync_call-requires : goal.sync_call-requires
+sync_call-requires g c =
+    let d = drains-kept g.P.MixPort g.G.Gate g.met.P.MixPort.laid_composes g.met.P.MixPort.loaded_composes (c.args.port.now, c.args.gate.now) (c.begin-begun.new.port, c.begin-begun.new.gate)
+    c.args.plain.now c.args.ring.now c.begin-begun.result c.requires.sound c.requires.prepared c.requires.unstopped c.begin-begun.ensures.near c.requires.port (ok-of c.begin-begun.result.1 c.in_default.not-Err) c.begin-begun.ensures.takes in
+    record {
+      sound = d.keeps.sound;
+      moving = subst (λ (s : State). is_moving s ≡ true) (sym d.drains) refl;
+      unstopped = d.going;
+      step = subst (λ (s : State). IsStep s call.Drain) (sym d.drains) tt;
+      port = d.keeps.port;
+    }
 
 pub returns-clause-takes : goal.returns-clause-takes
 returns-clause-takes g c =

@@ -1,5 +1,5 @@
 use Rattle.std.proofs.Common.{sym}
-use Rattle.dmix_client.proofs.Checking.{checks-by}
+use Rattle.dmix_client.proofs.Rewinding.{checks-by}
 use Rattle.dmix_client.proofs.rewind.check.Goals as goal
 
 pub returns : goal.returns

@@ -7,10 +7,9 @@ use Rattle.pcm_states.specs.declared.states.State.TheVariants.{Running}
 use Rattle.course.specs.AtPort.{TakesAt}
 use Rattle.dmix_client.specs.Rewind.{rewindable_of, takes_back}
 use Rattle.dmix_client.specs.View.{IsGoing}
-use Rattle.dmix_client.proofs.Checking.{checks-kept}
+use Rattle.dmix_client.proofs.Rewinding.{checks-kept, rewinds-by, standing-checked}
 use Rattle.dmix_client.proofs.Going.{OnOk-of, ok-of}
-use Rattle.dmix_client.proofs.Rewinding.{rewinds-by, standing-checked}
-use Rattle.dmix_client.proofs.Withdrawn.{HoldsBy}
+use Rattle.dmix_client.proofs.Withdrawing.{HoldsBy}
 use Rattle.dmix_client.proofs.rewind.rewind_running.Goals as goal
 
 pub returns-in-Err : goal.returns-in-Err
@@ -20,49 +19,28 @@ returns-in-Err g c =
     rewinds-by port g.G.Gate holds (c.args.port.now, c.args.gate.now) (c.check-checked.new.port, c.check-checked.new.gate) (c.check-checked.new.port, c.check-checked.new.gate) c.args.plain.now c.args.ring.now (port.view c.args.port.now).marks.floor c.args.frames
     (c.check-checked.new.plain, c.check-checked.result) _ c.check-checked.ensures (rw c.in-Err.is (record { there = refl; result = refl }))
 
-pub take_back-requires-clause-sound : goal.take_back-requires-clause-sound
-take_back-requires-clause-sound g c =
-    (checks-kept g.P.MixPort g.G.Gate g.met.P.MixPort.laid_composes (c.args.port.now, c.args.gate.now) (c.check-checked.new.port, c.check-checked.new.gate) c.args.plain.now c.args.ring.now (c.check-checked.new.plain, c.check-checked.result)
-    c.requires.sound c.requires.running c.requires.unstopped c.requires.port c.check-checked.ensures).sound
-
-pub take_back-requires-clause-port : goal.take_back-requires-clause-port
-take_back-requires-clause-port g c =
-    (checks-kept g.P.MixPort g.G.Gate g.met.P.MixPort.laid_composes (c.args.port.now, c.args.gate.now) (c.check-checked.new.port, c.check-checked.new.gate) c.args.plain.now c.args.ring.now (c.check-checked.new.plain, c.check-checked.result)
-    c.requires.sound c.requires.running c.requires.unstopped c.requires.port c.check-checked.ensures).port
-
-pub take_back-requires-clause-running : goal.take_back-requires-clause-running
-take_back-requires-clause-running g c =
-    OnOk-of c.check-checked.result (c.check-checked.new.plain.status.state ≡ Running) (ok-of c.check-checked.result c.in_default.not-Err)
-    (checks-kept g.P.MixPort g.G.Gate g.met.P.MixPort.laid_composes (c.args.port.now, c.args.gate.now) (c.check-checked.new.port, c.check-checked.new.gate) c.args.plain.now c.args.ring.now (c.check-checked.new.plain, c.check-checked.result)
-    c.requires.sound c.requires.running c.requires.unstopped c.requires.port c.check-checked.ensures).runs
-
-pub take_back-requires-clause-unstopped : goal.take_back-requires-clause-unstopped
-take_back-requires-clause-unstopped g c =
-    (OnOk-of c.check-checked.result (IsGoing c.check-checked.new.plain) (ok-of c.check-checked.result c.in_default.not-Err)
-    (checks-kept g.P.MixPort g.G.Gate g.met.P.MixPort.laid_composes (c.args.port.now, c.args.gate.now) (c.check-checked.new.port, c.check-checked.new.gate) c.args.plain.now c.args.ring.now (c.check-checked.new.plain, c.check-checked.result)
-    c.requires.sound c.requires.running c.requires.unstopped c.requires.port c.check-checked.ensures).goes).unstopped
-
 few-of : (n r : ℕ) → min n r ≤ r
 few-of n r = grind (arith, nat_tests)
 
-pub take_back-requires-clause-few : goal.take_back-requires-clause-few
-take_back-requires-clause-few g c =
+pub take_back-requires : goal.take_back-requires
+take_back-requires g c =
     let port = g.P.MixPort in
     let d = c.check-checked.new.plain in
     let floor = (port.view c.args.port.now).marks.floor in
-    let same : (port.view c.check-checked.new.port).marks.floor ≡ floor = ap (λ (x : Marks). x.floor)
-    (checks-kept port g.G.Gate g.met.P.MixPort.laid_composes (c.args.port.now, c.args.gate.now) (c.check-checked.new.port, c.check-checked.new.gate) c.args.plain.now c.args.ring.now (d, c.check-checked.result)
-    c.requires.sound c.requires.running c.requires.unstopped c.requires.port c.check-checked.ensures).marks in
-    let is : c.rewindable-rewindable.result ≡ rewindable_of floor d = c.rewindable-rewindable.ensures ∙ ap (λ (x : Cursor). rewindable_of x d) c.floor-floor.ensures.value in
-    subst (λ (x : Cursor). c.min.result ≤ rewindable_of x d) (sym same) (subst (λ (k : ℕ). c.min.result ≤ k) is (subst (λ (k : ℕ). k ≤ c.rewindable-rewindable.result) (sym c.min.ensures) (few-of c.args.frames c.rewindable-rewindable.result)))
-
-pub take_back-requires-clause-standing : goal.take_back-requires-clause-standing
-take_back-requires-clause-standing g c =
-    let port = g.P.MixPort in
     let holds : HoldsBy port = record { laid_composes = g.met.P.MixPort.laid_composes; loaded_composes = g.met.P.MixPort.loaded_composes; part = g.met.P.MixPort.ends_in_part; nothing = g.met.P.MixPort.held_nothing; back = g.met.P.MixPort.held_back } in
-    standing-checked port g.G.Gate holds (c.args.port.now, c.args.gate.now) (c.check-checked.new.port, c.check-checked.new.gate) c.args.plain.now c.args.ring.now (c.check-checked.new.plain, c.check-checked.result)
-    (checks-kept port g.G.Gate g.met.P.MixPort.laid_composes (c.args.port.now, c.args.gate.now) (c.check-checked.new.port, c.check-checked.new.gate) c.args.plain.now c.args.ring.now (c.check-checked.new.plain, c.check-checked.result)
-    c.requires.sound c.requires.running c.requires.unstopped c.requires.port c.check-checked.ensures) c.requires.standing
+    let ok = ok-of c.check-checked.result c.in_default.not-Err in
+    let checked = checks-kept port g.G.Gate g.met.P.MixPort.laid_composes (c.args.port.now, c.args.gate.now) (c.check-checked.new.port, c.check-checked.new.gate) c.args.plain.now c.args.ring.now (d, c.check-checked.result)
+    c.requires.sound c.requires.running c.requires.unstopped c.requires.port c.check-checked.ensures in
+    let same : (port.view c.check-checked.new.port).marks.floor ≡ floor = ap (λ (x : Marks). x.floor) checked.marks in
+    let is : c.rewindable-rewindable.result ≡ rewindable_of floor d = c.rewindable-rewindable.ensures ∙ ap (λ (x : Cursor). rewindable_of x d) c.floor-floor.ensures.value in
+    record {
+      sound = checked.sound;
+      running = OnOk-of c.check-checked.result (d.status.state ≡ Running) ok checked.runs;
+      unstopped = (OnOk-of c.check-checked.result (IsGoing d) ok checked.goes).unstopped;
+      port = checked.port;
+      few = subst (λ (x : Cursor). c.min.result ≤ rewindable_of x d) (sym same) (subst (λ (k : ℕ). c.min.result ≤ k) is (subst (λ (k : ℕ). k ≤ c.rewindable-rewindable.result) (sym c.min.ensures) (few-of c.args.frames c.rewindable-rewindable.result)));
+      standing = standing-checked port g.G.Gate holds (c.args.port.now, c.args.gate.now) (c.check-checked.new.port, c.check-checked.new.gate) c.args.plain.now c.args.ring.now (d, c.check-checked.result) checked c.requires.standing;
+    }
 
 pub returns : goal.returns
 returns g c =

@@ -4,7 +4,7 @@ use Rattle.course.specs.AtPort.{TakesAt}
 use Rattle.dmix_client.specs.Course.{numbered}
 use Rattle.dmix_client.specs.Rewind.{checks, rewindable_of}
 use Rattle.dmix_client.proofs.Rewinding.{numbered-by}
-use Rattle.dmix_client.proofs.Withdrawn.{HoldsBy}
+use Rattle.dmix_client.proofs.Withdrawing.{HoldsBy}
 use Rattle.dmix_client.proofs.rewind.rewindable_running.Goals as goal
 
 pub returns : goal.returns

@@ -2,8 +2,8 @@ use Rattle.std.proofs.Common.{◌≤◌, ◌-◌, ℕ, length, refl, subst, sym,
 use Rattle.dmix_client.specs.Expansion.{run_entries}
 use Rattle.dmix_client.specs.Rewind.{back_of}
 use Rattle.dmix_client.specs.View.{IsMoving, held}
-use Rattle.dmix_client.proofs.Taking.{IsBack, IsBack-of, held-last, left-few, left-part, take_frames-took, takes_back-by}
-use Rattle.dmix_client.proofs.Withdrawn.{HoldsBy}
+use Rattle.dmix_client.proofs.Rewinding.{IsBack, IsBack-of, held-last, left-few, left-part, take_frames-took, takes_back-by}
+use Rattle.dmix_client.proofs.Withdrawing.{HoldsBy}
 use Rattle.dmix_client.proofs.rewind.take_back.Goals as goal
 
 pub take_frames-left-requires-clause-held : goal.take_frames-left-requires-clause-held
@@ -30,16 +30,7 @@ rewound-after-requires-clause-committed g c =
 
 pub rewound-after-requires-clause-few : goal.rewound-after-requires-clause-few
 rewound-after-requires-clause-few g c =
-    let port = g.P.MixPort in
-    let d = c.args.plain.now in
-    let floor = (port.view c.args.port.now).marks.floor in
-    let m : IsMoving d = c.requires.sound.moving (rw c.requires.running refl) c.requires.unstopped in
-    let holds : HoldsBy port = record { laid_composes = g.met.P.MixPort.laid_composes; loaded_composes = g.met.P.MixPort.loaded_composes; part = g.met.P.MixPort.ends_in_part; nothing = g.met.P.MixPort.held_nothing; back = g.met.P.MixPort.held_back } in
-    let x = c.take_frames-left.result in
-    let are = take_frames-took d c.args.ring.now floor c.args.frames c.requires.sound c.requires.running c.requires.unstopped (IsBack-of d floor c.args.frames m c.requires.few) port g.G.Gate holds
-    (c.args.port.now, c.args.gate.now) (c.take_frames-left.new.port, c.take_frames-left.new.gate) c.back.result x c.back.ensures refl c.requires.port c.take_frames-left.ensures in
-    let few : x.frames ≤ back_of d c.args.frames = (left-few x.ended x.frames x.part (back_of d c.args.frames) (length d.setup.bindings) are).0 in
-    omega (arith, few)
+    let few : c.take_frames-left.result.frames ≤ back_of c.args.plain.now c.args.frames = rewound-after-requires-clause-committed g c in omega (arith, few)
 
 pub rewound-after-requires-clause-part : goal.rewound-after-requires-clause-part
 rewound-after-requires-clause-part g c =

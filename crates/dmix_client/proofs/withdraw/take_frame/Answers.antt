@@ -12,8 +12,7 @@ use Rattle.dmix_client.specs.Expansion.{frame_entries}
 use Rattle.dmix_client.specs.Port.{least_channel}
 use Rattle.dmix_client.specs.Rewind.{take_each}
 use Rattle.dmix_client.proofs.Frames.{IsFrom-later, rising-least}
-use Rattle.dmix_client.proofs.Withdrawing.{Back-all, Back-ended, Back-next}
-use Rattle.dmix_client.proofs.Withdrawn.{stands-last}
+use Rattle.dmix_client.proofs.Withdrawing.{Back-all, Back-ended, Back-next, stands-last}
 use Rattle.dmix_client.proofs.withdraw.take_frame.Goals as goal
 
 pub take_sample-requires-clause-last : goal.take_sample-requires-clause-last

@@ -14,8 +14,7 @@ use Rattle.dmix_client.specs.ExpansionLaws.{frame_entries-same}
 use Rattle.dmix_client.specs.Port.{IsOnCard, least_channel}
 use Rattle.dmix_client.specs.Rewind.{take_each, take_frames}
 use Rattle.dmix_client.specs.View.{held}
-use Rattle.dmix_client.proofs.Withdrawing.{BackFrames-all, BackFrames-ended, BackFrames-next, each-taken}
-use Rattle.dmix_client.proofs.Withdrawn.{HoldsBy, TakesAt-took, run_entries-last}
+use Rattle.dmix_client.proofs.Withdrawing.{BackFrames-all, BackFrames-ended, BackFrames-next, HoldsBy, TakesAt-took, each-taken, run_entries-last}
 use Rattle.dmix_client.proofs.withdraw.take_frames.Goals as goal
 
 pub take_frame-left-requires-clause-held : goal.take_frame-left-requires-clause-held

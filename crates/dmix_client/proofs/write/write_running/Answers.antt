@@ -9,7 +9,7 @@ use Rattle.dmix_client.specs.Course.{syncs}
 use Rattle.dmix_client.specs.Growth.{AnySamples, Keeps}
 use Rattle.pcm_stream.specs.Status.{is_moving}
 use Rattle.dmix_client.proofs.Going.{ok-of}
-use Rattle.dmix_client.proofs.Grown.{configured-moving}
+use Rattle.dmix_client.proofs.Growing.{configured-moving}
 use Rattle.dmix_client.proofs.Keeping.{client, syncs-runs, writes-explained, writes-kept}
 use Rattle.dmix_client.proofs.Looking.{writes_on-by}
 use Rattle.dmix_client.proofs.write.write_running.Goals as goal
@@ -47,32 +47,18 @@ write_taken-requires-clause-held g c = subst (λ (bs : List ℕ). c.args.frames 
 pub write_taken-requires-clause-fed : goal.write_taken-requires-clause-fed
 write_taken-requires-clause-fed g c = subst (λ (n : ℕ). n < 2 ^ 63) (sym c.sync_call-synced.ensures.same.fed) c.requires.fed
 
-pub returns-clause-takes : goal.returns-clause-takes
-returns-clause-takes g c =
-    writes_on-by g.P.MixPort g.G.Gate (c.args.port.now, c.args.gate.now) (c.sync_call-synced.new.port, c.sync_call-synced.new.gate) (c.write_taken.new.port, c.write_taken.new.gate)
-    c.args.plain.now c.args.ring.now c.args.samples.now c.args.frames (c.sync_call-synced.new.plain, c.sync_call-synced.result) (c.write_taken.new.plain, c.write_taken.result)
-    c.sync_call-synced.ensures.takes (rw (ok-of c.sync_call-synced.result c.in_default.not-Err) c.write_taken.ensures.takes)
-
-pub returns-clause-keeps : goal.returns-clause-keeps
-returns-clause-keeps g c =
-    (writes-kept g.P.MixPort g.G.Gate g.met.P.MixPort.laid_composes g.met.P.MixPort.loaded_composes (c.args.port.now, c.args.gate.now) (c.sync_call-synced.new.port, c.sync_call-synced.new.gate) (c.write_taken.new.port, c.write_taken.new.gate)
+pub returns : goal.returns
+returns g c =
+    let ok = ok-of c.sync_call-synced.result c.in_default.not-Err in
+    let wrote = writes-kept g.P.MixPort g.G.Gate g.met.P.MixPort.laid_composes g.met.P.MixPort.loaded_composes (c.args.port.now, c.args.gate.now) (c.sync_call-synced.new.port, c.sync_call-synced.new.gate) (c.write_taken.new.port, c.write_taken.new.gate)
     c.args.plain.now c.sync_call-synced.new.plain c.args.ring.now c.write_taken.new.ring c.args.samples.now c.args.frames (c.write_taken.new.plain, c.write_taken.result) c.write_taken.ensures.ring c.requires.sound c.requires.running c.requires.unstopped c.requires.held c.requires.port
-    (subst (λ (r : Result (Unit {0}) PcmError). TakesAt g.P.MixPort g.G.Gate (c.args.port.now, c.args.gate.now) (syncs c.args.plain.now call.Transfer c.args.ring.now) (c.sync_call-synced.new.port, c.sync_call-synced.new.gate) (c.sync_call-synced.new.plain, r)) (ok-of c.sync_call-synced.result c.in_default.not-Err) c.sync_call-synced.ensures.takes)
-    c.write_taken.ensures.takes).keeps
-
-pub returns-clause-sound : goal.returns-clause-sound
-returns-clause-sound g c = (returns-clause-keeps g c).sound
-
-pub returns-clause-count : goal.returns-clause-count
-returns-clause-count g c =
-    (writes-kept g.P.MixPort g.G.Gate g.met.P.MixPort.laid_composes g.met.P.MixPort.loaded_composes (c.args.port.now, c.args.gate.now) (c.sync_call-synced.new.port, c.sync_call-synced.new.gate) (c.write_taken.new.port, c.write_taken.new.gate)
-    c.args.plain.now c.sync_call-synced.new.plain c.args.ring.now c.write_taken.new.ring c.args.samples.now c.args.frames (c.write_taken.new.plain, c.write_taken.result) c.write_taken.ensures.ring c.requires.sound c.requires.running c.requires.unstopped c.requires.held c.requires.port
-    (subst (λ (r : Result (Unit {0}) PcmError). TakesAt g.P.MixPort g.G.Gate (c.args.port.now, c.args.gate.now) (syncs c.args.plain.now call.Transfer c.args.ring.now) (c.sync_call-synced.new.port, c.sync_call-synced.new.gate) (c.sync_call-synced.new.plain, r)) (ok-of c.sync_call-synced.result c.in_default.not-Err) c.sync_call-synced.ensures.takes)
-    c.write_taken.ensures.takes).count
-
-pub returns-clause-explains : goal.returns-clause-explains
-returns-clause-explains g c =
-    (writes-kept g.P.MixPort g.G.Gate g.met.P.MixPort.laid_composes g.met.P.MixPort.loaded_composes (c.args.port.now, c.args.gate.now) (c.sync_call-synced.new.port, c.sync_call-synced.new.gate) (c.write_taken.new.port, c.write_taken.new.gate)
-    c.args.plain.now c.sync_call-synced.new.plain c.args.ring.now c.write_taken.new.ring c.args.samples.now c.args.frames (c.write_taken.new.plain, c.write_taken.result) c.write_taken.ensures.ring c.requires.sound c.requires.running c.requires.unstopped c.requires.held c.requires.port
-    (subst (λ (r : Result (Unit {0}) PcmError). TakesAt g.P.MixPort g.G.Gate (c.args.port.now, c.args.gate.now) (syncs c.args.plain.now call.Transfer c.args.ring.now) (c.sync_call-synced.new.port, c.sync_call-synced.new.gate) (c.sync_call-synced.new.plain, r)) (ok-of c.sync_call-synced.result c.in_default.not-Err) c.sync_call-synced.ensures.takes)
-    c.write_taken.ensures.takes).explains
+    (subst (λ (r : Result (Unit {0}) PcmError). TakesAt g.P.MixPort g.G.Gate (c.args.port.now, c.args.gate.now) (syncs c.args.plain.now call.Transfer c.args.ring.now) (c.sync_call-synced.new.port, c.sync_call-synced.new.gate) (c.sync_call-synced.new.plain, r)) ok c.sync_call-synced.ensures.takes)
+    c.write_taken.ensures.takes in
+    record {
+      takes = writes_on-by g.P.MixPort g.G.Gate (c.args.port.now, c.args.gate.now) (c.sync_call-synced.new.port, c.sync_call-synced.new.gate) (c.write_taken.new.port, c.write_taken.new.gate)
+          c.args.plain.now c.args.ring.now c.args.samples.now c.args.frames (c.sync_call-synced.new.plain, c.sync_call-synced.result) (c.write_taken.new.plain, c.write_taken.result) c.sync_call-synced.ensures.takes (rw ok c.write_taken.ensures.takes);
+      keeps = wrote.keeps;
+      sound = wrote.keeps.sound;
+      count = wrote.count;
+      explains = wrote.explains;
+    }

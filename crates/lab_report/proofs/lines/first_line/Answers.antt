@@ -1,4 +1,4 @@
-use Rattle.std.proofs.Common.{◌≡◌, ◌==◌, false, length, sym, ◌∙◌}
+use Rattle.std.proofs.Common.{◌≡◌, ◌==◌, false, length, sym}
 use Rattle.lab_report.proofs.Parts.{lines_of-at, lines_of-none, not_empty}
 use Rattle.lab_report.proofs.lines.first_line.Goals as goal
 

@@ -1,7 +1,6 @@
-use Rattle.std.proofs.Common.{◌≡◌, ◌+◌, ◌-◌, ◌*◌, ◌≤◌, Some, None, get_or, take, length, sym, ap, ◌∙◌, arith}
+use Rattle.std.proofs.Common.{◌≡◌, ◌+◌, ◌-◌, ◌*◌, ◌≤◌, get_or, ap, ◌∙◌, arith}
 use Rattle.std.specs.Str.Parse.{digits_value}
 use Rattle.std.proofs.lemmas.List.{take_all}
-use Rattle.lab_report.specs.Words.{within}
 use Rattle.lab_report.proofs.Parts.{digit_more, within-none, within-some, within-most, within-fits}
 use Rattle.lab_report.proofs.numbers.digits_value.Goals as goal
 

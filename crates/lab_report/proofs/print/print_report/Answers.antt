@@ -1,6 +1,4 @@
-use Rattle.std.proofs.Common.{◌≡◌, Ok, Result, List, ℕ, ap, ◌∙◌, rules}
-use Rattle.lab_report.specs.declared.error.ReportError.{ReportError}
-use Rattle.lab_report.specs.declared.report.Report.{Report}
+use Rattle.std.proofs.Common.{◌≡◌, ap, ◌∙◌, rules}
 use Rattle.lab_report.specs.Ranges.{IsReportInRange}
 use Rattle.lab_report.specs.Reading.{report_of}
 use Rattle.lab_report.specs.Text.{report_text}

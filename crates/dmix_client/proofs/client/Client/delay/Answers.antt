@@ -9,8 +9,8 @@ use Rattle.dmix_client.specs.Calls.{delay_answer, sync_count, synced, with_numbe
 use Rattle.dmix_client.specs.Causes.{Explains}
 use Rattle.dmix_client.specs.Course.{admitted, number_course, syncs}
 use Rattle.dmix_client.specs.View.{ClientView}
-use Rattle.dmix_client.proofs.CausedBy.{step-sync}
-use Rattle.dmix_client.proofs.Grown.{configured-moving}
+use Rattle.dmix_client.proofs.Caused.{step-sync}
+use Rattle.dmix_client.proofs.Growing.{configured-moving}
 use Rattle.dmix_client.proofs.Keeping.{Explains-number, Keeps-none, Keeps-number, client, syncs-explained}
 use Rattle.dmix_client.proofs.Looking.{admitted-ok, number-moving}
 use Rattle.dmix_client.proofs.client.Client.delay.Goals as goal

@@ -12,8 +12,8 @@ use Rattle.dmix_client.specs.Course.{syncs}
 use Rattle.dmix_client.specs.Growth.{AnySamples, Keeps}
 use Rattle.dmix_client.specs.Port.{CanUse}
 use Rattle.dmix_client.specs.View.{ClientView}
-use Rattle.dmix_client.proofs.Drained.{refusal_of-unstopped}
-use Rattle.dmix_client.proofs.Grown.{configured-moving}
+use Rattle.dmix_client.proofs.Going.{refusal_of-unstopped}
+use Rattle.dmix_client.proofs.Growing.{configured-moving}
 use Rattle.dmix_client.proofs.Keeping.{client, dropped-kept, syncs-explained, syncs-still}
 use Rattle.dmix_client.proofs.client.Client.drain.Goals as goal
 

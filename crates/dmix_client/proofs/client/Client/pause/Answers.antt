@@ -13,8 +13,7 @@ use Rattle.dmix_client.specs.Course.{resumes}
 use Rattle.dmix_client.specs.Growth.{AnySamples, Keeps}
 use Rattle.dmix_client.specs.Port.{CanUse}
 use Rattle.dmix_client.specs.View.{ClientView}
-use Rattle.dmix_client.proofs.Keeping.{client}
-use Rattle.dmix_client.proofs.Resuming.{paused-kept, rebased-kept, refusal_of-resume, refused-kept, resumes-explained, resumes-kept}
+use Rattle.dmix_client.proofs.Keeping.{client, paused-kept, rebased-kept, refusal_of-resume, refused-kept, resumes-explained, resumes-kept}
 use Rattle.dmix_client.proofs.client.Client.pause.Goals as goal
 
 pub returns-in_err-admit-clause-keeps : goal.returns-in_err-admit-clause-keeps

@@ -14,7 +14,7 @@ use Rattle.dmix_client.specs.RewindCauses.{ExplainsCheck}
 use Rattle.dmix_client.specs.View.{ClientView}
 use Rattle.dmix_client.proofs.Keeping.{Keeps-none, client}
 use Rattle.dmix_client.proofs.Rewinding.{numbered-kept}
-use Rattle.dmix_client.proofs.Withdrawn.{HoldsBy}
+use Rattle.dmix_client.proofs.Withdrawing.{HoldsBy}
 use Rattle.dmix_client.proofs.client.Client.rewindable.Goals as goal
 
 pub returns-then-eq-clause-keeps : goal.returns-then-eq-clause-keeps

@@ -7,9 +7,8 @@ use Rattle.pcm_states.specs.declared.states.State.TheVariants.{Prepared, Running
 use Rattle.pcm_states.specs.declared.calls.Call.TheVariants as call
 use Rattle.course.specs.AtPort.{TakesAt}
 use Rattle.dmix_client.specs.Calls.{accepted_if, is_running, start_count, started, started_in, taken_of}
-use Rattle.dmix_client.specs.Causes.{Explains, ExplainsWrite}
+use Rattle.dmix_client.specs.Causes.{Explains}
 use Rattle.dmix_client.specs.Course.{admitted, fills, write_course, writes_on}
-use Rattle.dmix_client.specs.Growth.{Follows, Keeps}
 use Rattle.mix_core.specs.declared.gate.Pass.TheVariants.{Go}
 use Rattle.course.specs.Stops.{pass_by, pass_in}
 use Rattle.dmix_client.specs.View.{ClientView, IsSound}
@@ -63,48 +62,27 @@ returns-then-eq-clause-takes g c =
 
 pub returns-then-eq-clause-keeps : goal.returns-then-eq-clause-keeps
 returns-then-eq-clause-keeps g c =
-    let plain = c.self.inside.plain in
-    let samples = c.args.samples.now in
-    let old : List ℤ = c.self.inside.ring.items in
+    let frames : c.whole_frames-frames.result ≡ frames_in c.self.inside.plain c.args.samples.now = c.whole_frames-frames.ensures.value ∙ ap (λ (n : ℕ). length c.args.samples.now / n) c.len.ensures.value in
     let new : List ℤ = c.write_running-answer.new.ring in
-    let frames : c.whole_frames-frames.result ≡ frames_in plain samples = c.whole_frames-frames.ensures.value ∙ ap (λ (n : ℕ). length samples / n) c.len.ensures.value in
     let whole : c.self.inside.ring.len ≡ length new = omega (arith, c.as_mut_slice-ring.ensures.len) in
-    let back : new ≡ take c.self.inside.ring.len (new ++ drop (length new) old) = sym (take-written c.self.inside.ring.len new old whole) in
-    subst (λ (v : ClientView). Keeps g.P.MixPort g.G.Gate (c.args.port.now, c.args.gate.now) (c.write_running-answer.new.port, c.write_running-answer.new.gate) v (client c.write_running-answer.new.plain (take c.self.inside.ring.len (new ++ drop (length new) old))) c.few_frames.result (λ all. Follows v.plain all samples (frames_in v.plain samples))) c.self.view_is
-    (subst (λ (r : List ℤ). Keeps g.P.MixPort g.G.Gate (c.args.port.now, c.args.gate.now) (c.write_running-answer.new.port, c.write_running-answer.new.gate) (client plain old) (client c.write_running-answer.new.plain r) c.few_frames.result (λ all. Follows plain all samples (frames_in plain samples))) back
-    (subst (λ (a : Result ℕ PcmError). Keeps g.P.MixPort g.G.Gate (c.args.port.now, c.args.gate.now) (c.write_running-answer.new.port, c.write_running-answer.new.gate) (client plain old) (client c.write_running-answer.new.plain new) a (λ all. Follows plain all samples (frames_in plain samples))) (sym c.few_frames.ensures)
-    (subst (λ (n : ℕ). Keeps g.P.MixPort g.G.Gate (c.args.port.now, c.args.gate.now) (c.write_running-answer.new.port, c.write_running-answer.new.gate) (client plain old) (client c.write_running-answer.new.plain new) c.write_running-answer.result (λ all. Follows plain all samples n)) frames
-    (subst (λ (r : List ℤ). Keeps g.P.MixPort g.G.Gate (c.args.port.now, c.args.gate.now) (c.write_running-answer.new.port, c.write_running-answer.new.gate) (client plain r) (client c.write_running-answer.new.plain new) c.write_running-answer.result (λ all. Follows plain all samples c.whole_frames-frames.result)) c.as_mut_slice-ring.ensures.value c.write_running-answer.ensures.keeps))))
+    let back : take c.self.inside.ring.len (new ++ drop (length new) c.self.inside.ring.items) ≡ new = take-written c.self.inside.ring.len new c.self.inside.ring.items whole in
+    rw (← c.self.view_is, back, c.few_frames.ensures, ← frames, ← c.as_mut_slice-ring.ensures.value) c.write_running-answer.ensures.keeps
 
 pub returns-then-eq-clause-again : goal.returns-then-eq-clause-again
 returns-then-eq-clause-again g c admitted running =
-    let plain = c.self.inside.plain in
-    let samples = c.args.samples.now in
-    let old : List ℤ = c.self.inside.ring.items in
+    let frames : c.whole_frames-frames.result ≡ frames_in c.self.inside.plain c.args.samples.now = c.whole_frames-frames.ensures.value ∙ ap (λ (n : ℕ). length c.args.samples.now / n) c.len.ensures.value in
     let new : List ℤ = c.write_running-answer.new.ring in
-    let frames : c.whole_frames-frames.result ≡ frames_in plain samples = c.whole_frames-frames.ensures.value ∙ ap (λ (n : ℕ). length samples / n) c.len.ensures.value in
     let whole : c.self.inside.ring.len ≡ length new = omega (arith, c.as_mut_slice-ring.ensures.len) in
-    let back : new ≡ take c.self.inside.ring.len (new ++ drop (length new) old) = sym (take-written c.self.inside.ring.len new old whole) in
-    subst (λ (v : ClientView). ExplainsWrite g.P.MixPort g.G.Gate (c.args.port.now, c.args.gate.now) (c.write_running-answer.new.port, c.write_running-answer.new.gate) v.plain v.ring (take c.self.inside.ring.len (new ++ drop (length new) old)) samples (frames_in v.plain samples) (c.write_running-answer.new.plain, c.few_frames.result)) c.self.view_is
-    (subst (λ (r : List ℤ). ExplainsWrite g.P.MixPort g.G.Gate (c.args.port.now, c.args.gate.now) (c.write_running-answer.new.port, c.write_running-answer.new.gate) plain old r samples (frames_in plain samples) (c.write_running-answer.new.plain, c.few_frames.result)) back
-    (subst (λ (a : Result ℕ PcmError). ExplainsWrite g.P.MixPort g.G.Gate (c.args.port.now, c.args.gate.now) (c.write_running-answer.new.port, c.write_running-answer.new.gate) plain old new samples (frames_in plain samples) (c.write_running-answer.new.plain, a)) (sym c.few_frames.ensures)
-    (subst (λ (n : ℕ). ExplainsWrite g.P.MixPort g.G.Gate (c.args.port.now, c.args.gate.now) (c.write_running-answer.new.port, c.write_running-answer.new.gate) plain old new samples n (c.write_running-answer.new.plain, c.write_running-answer.result)) frames
-    (subst (λ (r : List ℤ). ExplainsWrite g.P.MixPort g.G.Gate (c.args.port.now, c.args.gate.now) (c.write_running-answer.new.port, c.write_running-answer.new.gate) plain r new samples c.whole_frames-frames.result (c.write_running-answer.new.plain, c.write_running-answer.result)) c.as_mut_slice-ring.ensures.value c.write_running-answer.ensures.explains))))
+    let back : take c.self.inside.ring.len (new ++ drop (length new) c.self.inside.ring.items) ≡ new = take-written c.self.inside.ring.len new c.self.inside.ring.items whole in
+    rw (← c.self.view_is, back, c.few_frames.ensures, ← frames, ← c.as_mut_slice-ring.ensures.value) c.write_running-answer.ensures.explains
 
 pub returns-clause-keeps : goal.returns-clause-keeps
 returns-clause-keeps g c =
-    let plain = c.self.inside.plain in
-    let samples = c.args.samples.now in
-    let old : List ℤ = c.self.inside.ring.items in
+    let frames : c.whole_frames-frames.result ≡ frames_in c.self.inside.plain c.args.samples.now = c.whole_frames-frames.ensures.value ∙ ap (λ (n : ℕ). length c.args.samples.now / n) c.len.ensures.value in
     let new : List ℤ = c.write_prepared-answer.new.ring in
-    let frames : c.whole_frames-frames.result ≡ frames_in plain samples = c.whole_frames-frames.ensures.value ∙ ap (λ (n : ℕ). length samples / n) c.len.ensures.value in
     let whole : c.self.inside.ring.len ≡ length new = omega (arith, c.as_mut_slice-ring.ensures.len) in
-    let back : new ≡ take c.self.inside.ring.len (new ++ drop (length new) old) = sym (take-written c.self.inside.ring.len new old whole) in
-    subst (λ (v : ClientView). Keeps g.P.MixPort g.G.Gate (c.args.port.now, c.args.gate.now) (c.write_prepared-answer.new.port, c.write_prepared-answer.new.gate) v (client c.write_prepared-answer.new.plain (take c.self.inside.ring.len (new ++ drop (length new) old))) c.few_frames-2.result (λ all. Follows v.plain all samples (frames_in v.plain samples))) c.self.view_is
-    (subst (λ (r : List ℤ). Keeps g.P.MixPort g.G.Gate (c.args.port.now, c.args.gate.now) (c.write_prepared-answer.new.port, c.write_prepared-answer.new.gate) (client plain old) (client c.write_prepared-answer.new.plain r) c.few_frames-2.result (λ all. Follows plain all samples (frames_in plain samples))) back
-    (subst (λ (a : Result ℕ PcmError). Keeps g.P.MixPort g.G.Gate (c.args.port.now, c.args.gate.now) (c.write_prepared-answer.new.port, c.write_prepared-answer.new.gate) (client plain old) (client c.write_prepared-answer.new.plain new) a (λ all. Follows plain all samples (frames_in plain samples))) (sym c.few_frames-2.ensures)
-    (subst (λ (n : ℕ). Keeps g.P.MixPort g.G.Gate (c.args.port.now, c.args.gate.now) (c.write_prepared-answer.new.port, c.write_prepared-answer.new.gate) (client plain old) (client c.write_prepared-answer.new.plain new) c.write_prepared-answer.result (λ all. Follows plain all samples n)) frames
-    (subst (λ (r : List ℤ). Keeps g.P.MixPort g.G.Gate (c.args.port.now, c.args.gate.now) (c.write_prepared-answer.new.port, c.write_prepared-answer.new.gate) (client plain r) (client c.write_prepared-answer.new.plain new) c.write_prepared-answer.result (λ all. Follows plain all samples c.whole_frames-frames.result)) c.as_mut_slice-ring.ensures.value c.write_prepared-answer.ensures.keeps))))
+    let back : take c.self.inside.ring.len (new ++ drop (length new) c.self.inside.ring.items) ≡ new = take-written c.self.inside.ring.len new c.self.inside.ring.items whole in
+    rw (← c.self.view_is, back, c.few_frames-2.ensures, ← frames, ← c.as_mut_slice-ring.ensures.value) c.write_prepared-answer.ensures.keeps
 
 pub returns-clause-starts : goal.returns-clause-starts
 returns-clause-starts g c admitted waits starts =

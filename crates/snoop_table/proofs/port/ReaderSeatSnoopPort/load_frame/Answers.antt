@@ -18,11 +18,11 @@ returns-in_err-ask-clause-step g c =
     (asked-more g.G.Gate.asked g.met.G.Gate.asked_composes _ _ _ c.loop-channel.channel _ c.loop-channel.invariant.asked c.in_err-ask.ensures.asked)
     (c.in_err-ask.ensures.answer ∙ ap (λ n. n + 1) c.loop-channel.invariant.unstopped))
 
-pub returns-then-laps-first-clause-step : goal.returns-then-laps-first-clause-step
-returns-then-laps-first-clause-step g c =
+pub returns-then-laps-own_laps-clause-step : goal.returns-then-laps-own_laps-clause-step
+returns-then-laps-own_laps-clause-step g c =
     let s : ReaderSeat = c.args.self.now in
     let other : laps_of c.look-seen.result ≢ lap s.geometry c.args.frame + 1 =
-    λ e. c.if-laps-first.true (c.laps.ensures ∙ (e ∙ ap (λ n. n + 1) (sym c.loop-channel.invariant.spot.lap_is))) in
+    λ e. c.if-laps-own_laps.true (c.laps.ensures ∙ (e ∙ sym c.loop-channel.invariant.laps)) in
     gets-overtaken g.G.Gate.stops g.G.Gate.asked s c.loop-channel.self _ c.args.gate.now c.ask.new.gate c.args.frame c.loop-channel.channel c.look-seen.result _ c.loop-channel.invariant.fetching c.loop-channel-test.true
     c.look-seen.ensures other
     (asked-more g.G.Gate.asked g.met.G.Gate.asked_composes _ _ _ c.loop-channel.channel _ c.loop-channel.invariant.asked c.in_ok-ask.ensures.asked)
@@ -33,10 +33,11 @@ loop-channel-preserved g c =
     let s : ReaderSeat = c.args.self.now in
     let fits : SFits w16 c.sample.result = search rules in
     let own : laps_of c.look-seen.result ≡ lap s.geometry c.args.frame + 1 =
-    sym c.laps.ensures ∙ (c.if-laps-first.false ∙ ap (λ n. n + 1) c.loop-channel.invariant.spot.lap_is) in
+    sym c.laps.ensures ∙ (c.if-laps-own_laps.false ∙ c.loop-channel.invariant.laps) in
     record {
       fetching = fetching-more s c.loop-channel.self c.look-seen.new.self c.args.frame c.loop-channel.channel c.look-seen.result _ _ c.loop-channel.invariant.fetching c.loop-channel-test.true c.look-seen.ensures own (to_z-of_z w16 c.sample.result fits ∙ c.sample.ensures);
-      spot = c.loop-channel.invariant.spot;
+      index = c.loop-channel.invariant.index;
+      laps = c.loop-channel.invariant.laps;
       unstopped = c.in_ok-ask.ensures.answer ∙ c.loop-channel.invariant.unstopped;
       asked = asked-more g.G.Gate.asked g.met.G.Gate.asked_composes _ _ _ c.loop-channel.channel _ c.loop-channel.invariant.asked c.in_ok-ask.ensures.asked;
     }

@@ -1,14 +1,16 @@
-use Rattle.std.proofs.Common.{◌≡◌, replicate}
+use Rattle.std.proofs.Common.{◌≡◌, ◌+◌, replicate}
 use Rattle.mix_core.specs.declared.gate.Pass.TheVariants.{Go}
 use Rattle.mix_core.specs.declared.gate.StepKind.TheVariants.{Look}
-use Rattle.ring_rule.specs.Spots.{IsSpot}
+use Rattle.snd_base.specs.Places.{lap}
+use Rattle.ring_rule.specs.Words.{index_of}
 use Rattle.snoop_table.proofs.Fetching.{IsFetching}
 use Rattle.snoop_table.proofs.port.ReaderSeatSnoopPort.load_frame.Given as goal
 
 abbrev pub invariant-loop-channel : goal.invariant-loop-channel
 invariant-loop-channel g l = record {
   fetching : IsFetching l.fn.self l.self l.frame l.channel l.out;
-  spot : IsSpot l.fn.self.geometry l.frame 0 l.first;
+  index : l.first ≡ index_of l.fn.self.geometry l.frame 0;
+  laps : l.own_laps ≡ lap l.fn.self.geometry l.frame + 1;
   unstopped : g.G.Gate.stops l.gate ≡ g.G.Gate.stops l.fn.gate;
   asked : g.G.Gate.asked l.fn.gate l.gate (replicate l.channel Look) Go;
 }

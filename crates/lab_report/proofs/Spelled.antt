@@ -1,0 +1,262 @@
+-- What is read is spelled so: each word, number, answer and state of a report has one text.
+use Rattle.std.proofs.Common.{◌≡◌, ℕ, ◌^◌, ◌<◌, ◌==◌, ◌&&◌, Bool, true, false, not, cond, List, [], ◌∷◌, ◌++◌, length, take, drop, get_or, refl, ap, sym, ◌∙◌, arith, append_assoc, Option, Some, None, option_map, Result, Ok, Err, codes, bytes_eq}
+use Rattle.std.specs.List.{slice_split, position_or_len, join_with_byte}
+use Rattle.std.specs.Fmt.{decimal}
+use Rattle.std.specs.Str.{all_ascii_digits}
+use Rattle.std.specs.Str.Parse.{digits_value}
+use Rattle.std.proofs.lemmas.Bool.Decides.{nat_tests}
+use Rattle.std.proofs.lemmas.Fmt.{decimal-digits_value}
+use Rattle.std.proofs.lemmas.List.{take-append-drop}
+use Rattle.std.proofs.lemmas.List.Splits.{length-slice_split, join_with_byte-slice_split}
+use Rattle.std.proofs.lemmas.Slice.Eq.{bytes_eq-Decides}
+use Rattle.std.proofs.lemmas.Str.Parse.{IsNumeralModel, numerals_by_value, tells_all_ascii_digits}
+use Rattle.snd_base.specs.declared.errors.PcmError.TheVariants.{Xrun, Busy}
+use Rattle.snd_base.specs.declared.errors.XrunWhy.{XrunWhy}
+use Rattle.snd_base.specs.declared.errors.XrunWhy.TheVariants.{Empty, Already, Avail, Late, Overtaken}
+use Rattle.pcm_states.specs.declared.states.State.{State as PcmState}
+use Rattle.pcm_states.specs.States.{state_name}
+use Rattle.lab_script.specs.Keys.{row_of}
+use Rattle.lab_report.specs.declared.error.ReportWhy.{ReportWhy}
+use Rattle.lab_report.specs.declared.error.ReportWhy.TheVariants as why
+use Rattle.lab_report.specs.declared.row.Answer.{Answer}
+use Rattle.lab_report.specs.declared.row.Answer.TheVariants.{Count, Failed}
+use Rattle.lab_report.specs.Answers.{plain_answers, states, place_of, xrun_by, xrun_of, busy_of, count_of, longer_answer, answer_by, answer_at, state_at}
+use Rattle.lab_report.specs.Causes.{some_or}
+use Rattle.lab_report.specs.Text.{number_or_dash, xrun_text, answer_text}
+use Rattle.lab_report.specs.Words.{is_space, is_feed, is_end, word_of, space_of, feed_of, is_plain, is_decimal, within, decimal_of, number_at, most_frames, next_number, dash_or_number, number_or_dash_at, not_word, expect_word, expect_words}
+use Rattle.lab_report.proofs.Parts.{within-some, within-most}
+use Rattle.lab_report.proofs.Read.{bind_ok, some_is}
+
+-- a word and the rest are the text that they were read from
+pub word_of-is : (xs : List ℕ) (y : List ℕ × List ℕ) → word_of xs ≡ Ok y → xs ≡ y.0 ++ y.1
+word_of-is [] y e = absurd (cc)
+word_of-is (b ∷ bs) y e =
+    let n = position_or_len is_end (b ∷ bs) in
+    let same : ◌≡◌ {A = List ℕ × List ℕ} (take n (b ∷ bs), drop n (b ∷ bs)) y = cc (e) in
+    sym (take-append-drop n (b ∷ bs)) ∙ ap (λ p. p.0 ++ p.1) same
+
+space_by : (b : ℕ) (bs r : List ℕ) (t : Bool) → is_space b ≡ t → cond t (Ok bs) (Err why.Word) ≡ Ok r → b ∷ bs ≡ 32 ∷ r
+space_by b bs r true t e =
+    let byte : b ≡ 32 = grind (arith, nat_tests) in
+    let rest : bs ≡ r = cc (e) in
+    cc
+space_by b bs r false t e = absurd (cc)
+
+-- a space that is read is one
+pub space_of-is : (xs r : List ℕ) → space_of xs ≡ Ok r → xs ≡ 32 ∷ r
+space_of-is [] r e = absurd (cc)
+space_of-is (b ∷ bs) r e = space_by b bs r (is_space b) refl e
+
+feed_by : (b : ℕ) (bs : List ℕ) (u : Unit {0}) (t : Bool) → is_feed b ≡ t → cond t (Ok tt) (Err why.Extra) ≡ Ok u → b ∷ bs ≡ 10 ∷ bs
+feed_by b bs u true t e = let byte : b ≡ 10 = grind (arith, nat_tests) in cc
+feed_by b bs u false t e = absurd (cc)
+
+-- a line feed that is read is one
+pub feed_of-is : (xs : List ℕ) (u : Unit {0}) → feed_of xs ≡ Ok u → (bs : List ℕ) × (xs ≡ 10 ∷ bs)
+feed_of-is [] u e = absurd (cc)
+feed_of-is (b ∷ bs) u e = (bs, feed_by b bs u (is_feed b) refl e)
+
+both : (a b : Bool) → (a && b) ≡ true → (a ≡ true) × (b ≡ true)
+both true b e = (refl, e)
+both false b e = absurd (cc)
+
+own : IsNumeralModel (λ ds. all_ascii_digits ds ≡ true) (digits_value 10)
+own = numerals_by_value _ tells_all_ascii_digits
+
+plain_some : (w : List ℕ) → is_plain w ≡ true → 0 < length w
+plain_some [] e = absurd (cc)
+plain_some (b ∷ bs) e = omega arith
+
+plain_lead : (w : List ℕ) → is_plain w ≡ true → get_or w 0 0 ≡ 48 → length w ≡ 1
+plain_lead [] e h = absurd (cc)
+plain_lead (b ∷ []) e h = refl
+plain_lead (b ∷ c ∷ bs) e h = absurd (not_zero b e h)
+  where
+    not_zero : (b : ℕ) → not (b == 48) ≡ true → b ≡ 48 → ⊥
+    not_zero b e h = grind (arith, nat_tests)
+
+decimal_by : (most n : ℕ) (w : List ℕ) (t : Bool) → most < 2 ^ 64 → is_decimal w ≡ t → cond t (within most (digits_value 10 w)) None ≡ Some n → w ≡ decimal n
+decimal_by most n w true small t e =
+    let parts = both (is_plain w) (all_ascii_digits w) t in
+    let same = within-some most (digits_value 10 w) n (sym e) in
+    let fits = within-most most (digits_value 10 w) n (sym e) in
+    sym (ap decimal same ∙ decimal-digits_value own w parts.1 (plain_some w parts.0) (plain_lead w parts.0) (omega (arith, same, fits, small)))
+decimal_by most n w false small t e = absurd (cc)
+
+-- a word that is read as a number is its decimal form
+pub decimal_of-is : (most n : ℕ) (w : List ℕ) → most < 2 ^ 64 → decimal_of most w ≡ Some n → w ≡ decimal n
+decimal_of-is most n w small e = decimal_by most n w (is_decimal w) small refl e
+
+same_pair : {A : Type 0} (f : A → List ℕ) (x : A) (r : List ℕ) (y : A × List ℕ) (xs : List ℕ) → ◌≡◌ {A = Result (A × List ℕ) ReportWhy} (Ok (x, r)) (Ok y) → xs ≡ f x ++ r → xs ≡ f y.0 ++ y.1
+same_pair {A = A} f x r y xs e h = let same : ◌≡◌ {A = A × List ℕ} (x, r) y = cc (e) in h ∙ ap (λ p. f p.0 ++ p.1) same
+
+number_at-is : (most : ℕ) (xs : List ℕ) (y : ℕ × List ℕ) → most < 2 ^ 64 → number_at most xs ≡ Ok y → xs ≡ decimal y.0 ++ y.1
+number_at-is most xs y small e =
+    let w = bind_ok (word_of xs) _ y e in
+    let n = bind_ok (some_or why.Number (decimal_of most w.0.0)) _ y w.2 in
+    same_pair decimal n.0 w.0.1 y xs n.2
+    (word_of-is xs w.0 w.1 ∙ ap (λ x. x ++ w.0.1) (decimal_of-is most n.0 w.0.0 small (some_is why.Number _ n.0 n.1)))
+
+pub next_number-is : (most : ℕ) (xs : List ℕ) (y : ℕ × List ℕ) → most < 2 ^ 64 → next_number most xs ≡ Ok y → xs ≡ 32 ∷ (decimal y.0 ++ y.1)
+next_number-is most xs y small e =
+    let s = bind_ok (space_of xs) (number_at most) y e in
+    space_of-is xs s.0 s.1 ∙ ap (λ x. 32 ∷ x) (number_at-is most s.0 y small s.2)
+
+pub small_frames : most_frames < 2 ^ 64
+small_frames = omega arith
+
+pub small_byte : 255 < 2 ^ 64
+small_byte = omega arith
+
+dash_by : (w : List ℕ) (o : Option ℕ) (t : Bool) (d : Option ℕ) → bytes_eq w (codes "-") ≡ t → decimal_of most_frames w ≡ d → cond t (Some None) (option_map Some d) ≡ Some o → w ≡ number_or_dash o
+dash_by w o true d t e g = let same : None ≡ o = cc (g) in (bytes_eq-Decides w (codes "-")).0 t ∙ ap number_or_dash same
+dash_by w o false None t e g = absurd (cc)
+dash_by w o false (Some n) t e g = let same : Some n ≡ o = cc (g) in decimal_of-is most_frames n w small_frames e ∙ ap number_or_dash same
+
+pub number_or_dash_at-is : (xs : List ℕ) (y : Option ℕ × List ℕ) → number_or_dash_at xs ≡ Ok y → xs ≡ number_or_dash y.0 ++ y.1
+number_or_dash_at-is xs y e =
+    let w = bind_ok (word_of xs) _ y e in
+    let n = bind_ok (some_or why.Word (dash_or_number w.0.0)) _ y w.2 in
+    same_pair number_or_dash n.0 w.0.1 y xs n.2
+    (word_of-is xs w.0 w.1 ∙ ap (λ x. x ++ w.0.1) (dash_by w.0.0 n.0 (bytes_eq w.0.0 (codes "-")) (decimal_of most_frames w.0.0) refl refl (some_is why.Word _ n.0 n.1)))
+
+expect_by : (want : List ℕ) (w : List ℕ × List ℕ) (r : List ℕ) (t : Bool) (x : ReportWhy) → bytes_eq w.0 want ≡ t → cond t (Ok w.1) (Err x) ≡ Ok r → (w.0 ≡ want) × (w.1 ≡ r)
+expect_by want w r true x t e = ((bytes_eq-Decides w.0 want).0 t, cc (e))
+expect_by want w r false x t e = absurd (cc)
+
+pub expect_word-is : (want xs r : List ℕ) → expect_word want xs ≡ Ok r → xs ≡ want ++ r
+expect_word-is want xs r e =
+    let w = bind_ok (word_of xs) _ r e in
+    let same = expect_by want w.0 r (bytes_eq w.0.0 want) (not_word want w.0.0) refl w.2 in
+    word_of-is xs w.0 w.1 ∙ ap (λ x. x ++ w.0.1) same.0 ∙ ap (λ x. want ++ x) same.1
+
+expect_joined : (want : List ℕ) (wants : List (List ℕ)) (xs r : List ℕ) → expect_words (want ∷ wants) xs ≡ Ok r → xs ≡ join_with_byte 32 (want ∷ wants) ++ 32 ∷ r
+expect_joined want [] xs r e =
+    let a = bind_ok (expect_word want xs) _ r e in
+    let s = bind_ok (space_of a.0) (expect_words []) r a.2 in
+    let last : s.0 ≡ r = cc (s.2) in
+    expect_word-is want xs a.0 a.1 ∙ ap (λ x. want ++ x) (space_of-is a.0 s.0 s.1 ∙ ap (λ x. 32 ∷ x) last)
+expect_joined want (next ∷ more) xs r e =
+    let a = bind_ok (expect_word want xs) _ r e in
+    let s = bind_ok (space_of a.0) (expect_words (next ∷ more)) r a.2 in
+    expect_word-is want xs a.0 a.1 ∙ ap (λ x. want ++ x) (space_of-is a.0 s.0 s.1 ∙ ap (λ x. 32 ∷ x) (expect_joined next more s.0 r s.2))
+    ∙ sym (append_assoc want (32 ∷ join_with_byte 32 (next ∷ more)) (32 ∷ r))
+
+front_by : (ws : List (List ℕ)) (front xs r : List ℕ) → 0 < length ws → join_with_byte 32 ws ≡ front → expect_words ws xs ≡ Ok r → xs ≡ front ++ 32 ∷ r
+front_by [] front xs r some j e = absurd (omega arith)
+front_by (w ∷ ws) front xs r some j e = expect_joined w ws xs r e ∙ ap (λ x. x ++ 32 ∷ r) j
+
+-- a front that is read is spelled so
+pub expect_words-is : (front xs r : List ℕ) → expect_words (slice_split is_space front) xs ≡ Ok r → xs ≡ front ++ 32 ∷ r
+expect_words-is front xs r e =
+    front_by (slice_split is_space front) front xs r (omega (arith, length-slice_split is_space front)) (join_with_byte-slice_split 32 front) e
+
+-- what a test of a word tells
+pub word_choice : {A : Type 0} (w v : List ℕ) (r s : Result A ReportWhy) (x : A) (P : Type 0) → (w ≡ v → r ≡ Ok x → P) → (s ≡ Ok x → P) → cond (bytes_eq w v) r s ≡ Ok x → P
+word_choice w v r s x P f g e = by (bytes_eq w v) refl e
+  where
+    by : (t : Bool) → bytes_eq w v ≡ t → cond t r s ≡ Ok x → P
+    by true t e = f ((bytes_eq-Decides w v).0 t) e
+    by false t e = g e
+
+place_of-is : (xs : List ℕ) (y : (ℕ × ℕ) × List ℕ) → place_of xs ≡ Ok y → xs ≡ 32 ∷ ((decimal y.0.0 ++ 32 ∷ decimal y.0.1) ++ y.1)
+place_of-is xs y e =
+    let a = bind_ok (next_number most_frames xs) _ y e in
+    let b = bind_ok (next_number 255 a.0.1) _ y a.2 in
+    let same : ◌≡◌ {A = (ℕ × ℕ) × List ℕ} ((a.0.0, b.0.0), b.0.1) y = cc (b.2) in
+    next_number-is most_frames xs a.0 small_frames a.1
+    ∙ ap (λ r. 32 ∷ (decimal a.0.0 ++ r)) (next_number-is 255 a.0.1 b.0 small_byte b.1)
+    ∙ ap (λ r. 32 ∷ r) (sym (append_assoc (decimal a.0.0) (32 ∷ decimal b.0.0) b.0.1))
+    ∙ ap (λ (p : (ℕ × ℕ) × List ℕ). 32 ∷ ((decimal p.0.0 ++ 32 ∷ decimal p.0.1) ++ p.1)) same
+
+-- why there was an xrun is spelled so
+xrun_by-is : (w rest : List ℕ) (y : XrunWhy × List ℕ) → xrun_by w rest ≡ Ok y → w ++ rest ≡ xrun_text y.0 ++ y.1
+xrun_by-is w rest y e =
+    let P : Type 0 = w ++ rest ≡ xrun_text y.0 ++ y.1 in
+    word_choice w (codes "empty") _ _ y P (λ v f. same_pair xrun_text Empty rest y (w ++ rest) f (ap (λ x. x ++ rest) v))
+    (λ g. word_choice w (codes "already") _ _ y P (λ v f. same_pair xrun_text Already rest y (w ++ rest) f (ap (λ x. x ++ rest) v))
+    (λ h. word_choice w (codes "avail") _ _ y P
+    (λ v f.
+    let a = bind_ok (next_number most_frames rest) _ y f in
+    same_pair xrun_text (Avail a.0.0 0) a.0.1 y (w ++ rest) a.2
+    (ap (λ x. x ++ rest) v ∙ ap (λ r. codes "avail" ++ r) (next_number-is most_frames rest a.0 small_frames a.1)))
+    (λ i. word_choice w (codes "late") _ _ y P
+    (λ v f.
+    let a = bind_ok (place_of rest) _ y f in
+    same_pair xrun_text (Late a.0.0.0 a.0.0.1 0) a.0.1 y (w ++ rest) a.2
+    (ap (λ x. x ++ rest) v ∙ ap (λ r. codes "late" ++ r) (place_of-is rest a.0 a.1)))
+    (λ j. word_choice w (codes "overtaken") _ _ y P
+    (λ v f.
+    let a = bind_ok (place_of rest) _ y f in
+    same_pair xrun_text (Overtaken a.0.0.0 a.0.0.1 0) a.0.1 y (w ++ rest) a.2
+    (ap (λ x. x ++ rest) v ∙ ap (λ r. codes "overtaken" ++ r) (place_of-is rest a.0 a.1)))
+    (λ k. absurd (cc (k))) j) i) h) g) e
+
+xrun_of-is : (w rest : List ℕ) (y : Answer × List ℕ) → w ≡ codes "EPIPE" → xrun_of rest ≡ Ok y → w ++ rest ≡ answer_text y.0 ++ y.1
+xrun_of-is w rest y v e =
+    let a = bind_ok (space_of rest) _ y e in
+    let u = bind_ok (word_of a.0) _ y a.2 in
+    let x = bind_ok (xrun_by u.0.0 u.0.1) _ y u.2 in
+    same_pair answer_text (Failed (Xrun x.0.0)) x.0.1 y (w ++ rest) x.2
+    (ap (λ p. p ++ rest) v ∙ ap (λ r. codes "EPIPE" ++ r) (space_of-is rest a.0 a.1)
+    ∙ ap (λ r. codes "EPIPE " ++ r) (word_of-is a.0 u.0 u.1 ∙ xrun_by-is u.0.0 u.0.1 x.0 x.1))
+
+busy_of-is : (w rest : List ℕ) (y : Answer × List ℕ) → w ≡ codes "EBUSY" → busy_of rest ≡ Ok y → w ++ rest ≡ answer_text y.0 ++ y.1
+busy_of-is w rest y v e =
+    let a = bind_ok (space_of rest) _ y e in
+    let u = bind_ok (number_or_dash_at a.0) _ y a.2 in
+    let s = bind_ok (next_number most_frames u.0.1) _ y u.2 in
+    same_pair answer_text (Failed (Busy u.0.0 s.0.0)) s.0.1 y (w ++ rest) s.2
+    (ap (λ p. p ++ rest) v ∙ ap (λ r. codes "EBUSY" ++ r) (space_of-is rest a.0 a.1)
+    ∙ ap (λ r. codes "EBUSY " ++ r) (number_or_dash_at-is a.0 u.0 u.1)
+    ∙ ap (λ r. codes "EBUSY " ++ (number_or_dash u.0.0 ++ r)) (next_number-is most_frames u.0.1 s.0 small_frames s.1)
+    ∙ ap (λ r. codes "EBUSY " ++ r) (sym (append_assoc (number_or_dash u.0.0) (32 ∷ decimal s.0.0) s.0.1)))
+
+count_of-is : (w rest : List ℕ) (y : Answer × List ℕ) → count_of w rest ≡ Ok y → w ++ rest ≡ answer_text y.0 ++ y.1
+count_of-is w rest y e =
+    let n = bind_ok (some_or why.Word (decimal_of most_frames w)) _ y e in
+    same_pair answer_text (Count n.0) rest y (w ++ rest) n.2 (ap (λ x. x ++ rest) (decimal_of-is most_frames n.0 w small_frames (some_is why.Word _ n.0 n.1)))
+
+longer_answer-is : (w rest : List ℕ) (y : Answer × List ℕ) → longer_answer w rest ≡ Ok y → w ++ rest ≡ answer_text y.0 ++ y.1
+longer_answer-is w rest y e =
+    let P : Type 0 = w ++ rest ≡ answer_text y.0 ++ y.1 in
+    word_choice w (codes "EPIPE") _ _ y P (xrun_of-is w rest y)
+    (λ g. word_choice w (codes "EBUSY") _ _ y P (busy_of-is w rest y) (count_of-is w rest y) g) e
+
+-- each value of a table is named by its text
+abbrev pub AreNamed : {A : Type 0} → (A → List ℕ) → List (List ℕ × A) → Type 0
+AreNamed f [] = Unit {0}
+AreNamed f (row ∷ rows) = (row.0 ≡ f row.1) × (AreNamed f rows)
+
+named_by : {A : Type 0} (f : A → List ℕ) (w v : List ℕ) (y x : A) (rest : Option A) (t : Bool) → bytes_eq w v ≡ t → v ≡ f y → (rest ≡ Some x → w ≡ f x) → cond t (Some y) rest ≡ Some x → w ≡ f x
+named_by f w v y x rest true t n r e = let same : y ≡ x = cc (e) in (bytes_eq-Decides w v).0 t ∙ n ∙ ap f same
+named_by f w v y x rest false t n r e = r e
+
+-- a word of a table is the text of its value
+row_of-is : {A : Type 0} (f : A → List ℕ) (rows : List (List ℕ × A)) (w : List ℕ) (x : A) → AreNamed f rows → row_of rows w ≡ Some x → w ≡ f x
+row_of-is f [] w x h e = absurd (cc)
+row_of-is f (row ∷ rows) w x h e = named_by f w row.0 row.1 x (row_of rows w) (bytes_eq w row.0) refl h.0 (row_of-is f rows w x h.1) e
+
+answers_named : AreNamed answer_text plain_answers
+answers_named = (refl, (refl, (refl, (refl, (refl, (refl, (refl, tt)))))))
+
+answer_by-is : (o : Option Answer) (w rest : List ℕ) (y : Answer × List ℕ) → row_of plain_answers w ≡ o → answer_by o w rest ≡ Ok y → w ++ rest ≡ answer_text y.0 ++ y.1
+answer_by-is (Some a) w rest y o e = same_pair answer_text a rest y (w ++ rest) e (ap (λ x. x ++ rest) (row_of-is answer_text plain_answers w a answers_named o))
+answer_by-is None w rest y o e = longer_answer-is w rest y e
+
+-- an answer that is read is spelled so
+pub answer_at-is : (xs : List ℕ) (y : Answer × List ℕ) → answer_at xs ≡ Ok y → xs ≡ answer_text y.0 ++ y.1
+answer_at-is xs y e =
+    let w = bind_ok (word_of xs) _ y e in
+    word_of-is xs w.0 w.1 ∙ answer_by-is (row_of plain_answers w.0.0) w.0.0 w.0.1 y refl w.2
+
+states_named : AreNamed state_name states
+states_named = (refl, (refl, (refl, (refl, (refl, (refl, (refl, (refl, tt))))))))
+
+-- a state that is read is spelled so
+pub state_at-is : (xs : List ℕ) (y : PcmState × List ℕ) → state_at xs ≡ Ok y → xs ≡ state_name y.0 ++ y.1
+state_at-is xs y e =
+    let w = bind_ok (word_of xs) _ y e in
+    let s = bind_ok (some_or why.Word (row_of states w.0.0)) _ y w.2 in
+    same_pair state_name s.0 w.0.1 y xs s.2
+    (word_of-is xs w.0 w.1 ∙ ap (λ x. x ++ w.0.1) (row_of-is state_name states w.0.0 s.0 states_named (some_is why.Word _ s.0 s.1)))

@@ -1,0 +1,421 @@
+-- A stage of a run is where its script has it, and what a phase allows is what the script has of that phase.
+use Rattle.std.proofs.Common.{◌≡◌, ℕ, ◌+◌, ◌-◌, ◌*◌, ◌<◌, ◌≤◌, refl, sym, ◌∙◌, ap, subst, arith, inl, inr, ◌⊎◌, Option, Some, None, List, [], ◌∷◌, ◌++◌, length, take}
+use Rattle.std.proofs.Math.Nat.{mul-mod_left}
+use Rattle.std.proofs.lemmas.Bool.{cases_eq, cases_lt, eq-eqb, eqb-true}
+use Rattle.std.proofs.lemmas.Nat.{div-add-mod'}
+use Rattle.std.proofs.lemmas.List.Elements.{All-head, All-tail, All-take, Contains-append_right}
+use Rattle.std.proofs.lemmas.List.Sums.{sum_by-cons, sum_by-append}
+use Rattle.std.specs.Prelude.{Bool, true, false, ◌||◌, ◌/◌, ◌%◌, ◌==◌, if◌then◌else◌, zero, suc, All, Contains, filter, slice_index_or, sum_by, Result, Ok, Err}
+use Rattle.std.specs.List.{list_any, range_with_len}
+use Rattle.wav_io.specs.Sound.{Sound}
+use Rattle.snd_base.specs.declared.errors.PcmError.{PcmError}
+use Rattle.dmix_client.specs.declared.plain.Plain.{Plain}
+use Rattle.dsnoop_client.specs.declared.plain.Plain as reading
+use Rattle.lab_script.specs.declared.line.Actor.{Actor}
+use Rattle.lab_script.specs.declared.line.Actor.TheVariants as actor
+use Rattle.lab_script.specs.declared.line.Item.{Item}
+use Rattle.lab_script.specs.declared.line.Item.TheVariants as item
+use Rattle.lab_script.specs.declared.line.Line.{Line}
+use Rattle.lab_script.specs.declared.script.Script.{Script}
+use Rattle.lab_script.specs.Limits.{IsItem, IsLine, IsScript}
+use Rattle.lab_script.specs.Script.{IsPublished, first_frame, frames_played, is_gone, phase_at, phases_of, position_after, unplugs}
+use Rattle.lab_script.specs.Script as script_words
+use Rattle.lab_run.specs.Claims.{claim_refusal}
+use Rattle.lab_run.specs.Client.{Client}
+use Rattle.lab_run.specs.Items.{ItemMay, ItemsMay, rules_of}
+use Rattle.lab_run.specs.Phases.{on_the_way, played_at, played_in, published, published_by}
+use Rattle.lab_run.specs.Places.{Lobby, attached}
+use Rattle.lab_run.specs.Reader.{Reader}
+use Rattle.lab_run.specs.Rules.{AtPort}
+use Rattle.lab_run.specs.ScriptWords.{AreRulesOf, IsAfterPhases, IsReached, PhasesAreOfScripts, StagesAreOfScripts}
+use Rattle.lab_run.specs.Stage.{Session, Setup, Stage, after_close, after_open, attached_client, claimed_client, client_at, close_client, close_reader, first_stage, open_client, open_client_with, open_reader, open_reader_with, reader_at}
+use Rattle.lab_run.proofs.ScriptLines.{played_in-lines}
+
+-- a stage with the card of another, and as many phases
+record HasCardOf (stage after : Stage) : Type 0 where
+  pub phases : after.phases ≡ stage.phases
+  pub position : after.position ≡ stage.position
+  pub gone : after.gone ≡ stage.gone
+
+same : (stage after : Stage) → after.phases ≡ stage.phases → after.position ≡ stage.position → after.gone ≡ stage.gone → HasCardOf stage after
+same stage after phases position gone = record { phases = phases; position = position; gone = gone }
+
+open_client-card : (session : Session) (stage : Stage) (n : ℕ) (x : AtPort × Client) (own : Option Plain) → HasCardOf stage (open_client session stage n x own)
+open_client-card session stage n x (Some c) = same stage _ refl refl refl
+open_client-card session stage n x None = by_setup (slice_index_or session.clients n None)
+  where
+    by_answer : (setup : Setup) (at : Lobby × Result (Unit {0}) PcmError) → HasCardOf stage (attached_client session stage n setup x at)
+    by_answer setup (lobby, Ok done) = same stage _ refl refl refl
+    by_answer setup (lobby, Err e) = same stage _ refl refl refl
+
+    by_claim : (setup : Setup) (refusal : Option PcmError) → HasCardOf stage (claimed_client session stage n setup x refusal)
+    by_claim setup (Some e) = same stage _ refl refl refl
+    by_claim setup None = by_answer setup (attached n stage.position stage.lobby)
+
+    by_setup : (setup : Option Setup) → HasCardOf stage (open_client_with session stage n setup x)
+    by_setup None = same stage _ refl refl refl
+    by_setup (Some setup) = by_claim setup (claim_refusal session.card.share stage.claims setup.bindings stage.position)
+
+open_reader-card : (session : Session) (stage : Stage) (n : ℕ) (x : AtPort × Reader) (own : Option reading.Plain) → HasCardOf stage (open_reader session stage n x own)
+open_reader-card session stage n x (Some r) = same stage _ refl refl refl
+open_reader-card session stage n (a, reader) None = by_setup (slice_index_or session.readers n None)
+  where
+    by_setup : (setup : Option Setup) → HasCardOf stage (open_reader_with session stage n setup (a, reader))
+    by_setup None = same stage _ refl refl refl
+    by_setup (Some setup) = same stage _ refl refl refl
+
+close_client-card : (session : Session) (stage : Stage) (n : ℕ) (x : AtPort × Client) (own : Option Plain) → HasCardOf stage (close_client session stage n x own)
+close_client-card session stage n x None = same stage _ refl refl refl
+close_client-card session stage n x (Some c) = same stage _ refl refl refl
+
+close_reader-card : (session : Session) (stage : Stage) (n : ℕ) (x : AtPort × Reader) (own : Option reading.Plain) → HasCardOf stage (close_reader session stage n x own)
+close_reader-card session stage n x None = same stage _ refl refl refl
+close_reader-card session stage n x (Some r) = same stage _ refl refl refl
+
+open-card : (session : Session) (stage : Stage) (who : Actor) → HasCardOf stage (after_open session stage who)
+open-card session stage actor.Card = same stage stage refl refl refl
+open-card session stage (actor.Client n) = open_client-card session stage n (client_at session stage n) (client_at session stage n).1.own
+open-card session stage (actor.Reader n) = open_reader-card session stage n (reader_at session stage n) (reader_at session stage n).1.own
+
+close-card : (session : Session) (stage : Stage) (who : Actor) → HasCardOf stage (after_close session stage who)
+close-card session stage actor.Card = same stage stage refl refl refl
+close-card session stage (actor.Client n) = close_client-card session stage n (client_at session stage n) (client_at session stage n).1.own
+close-card session stage (actor.Reader n) = close_reader-card session stage n (reader_at session stage n) (reader_at session stage n).1.own
+
+-- what the phases of items make of the card
+record IsCardAfter (stage : Stage) (phases : List (List Line)) (after : Stage) : Type 0 where
+  pub count : after.phases ≡ stage.phases + length phases
+  pub position : after.position ≡ stage.position + frames_played phases
+  pub gone : after.gone ≡ stage.gone || list_any unplugs phases
+
+or-assoc : (a b c : Bool) → (a || b) || c ≡ a || (b || c)
+or-assoc true b c = refl
+or-assoc false b c = refl
+
+or-false : (a : Bool) → a || false ≡ a
+or-false true = refl
+or-false false = refl
+
+stays-card : (stage between after : Stage) (phases : List (List Line)) → HasCardOf stage between → IsCardAfter between phases after → IsCardAfter stage phases after
+stays-card stage between after phases is rest = record {
+  count = rest.count ∙ ap (λ (n : ℕ). n + length phases) is.phases;
+  position = rest.position ∙ ap (λ (n : ℕ). n + frames_played phases) is.position;
+  gone = rest.gone ∙ ap (λ (b : Bool). b || list_any unplugs phases) is.gone;
+}
+
+items-card : (clients readers : ℕ) (session : Session) (stage after : Stage) (items : List Item) → All (IsItem clients readers) items
+    → ItemsMay session stage items after → IsCardAfter stage (phases_of items) after
+items-card clients readers session stage after [] all is =
+    rw is (record { count = omega arith; position = omega arith; gone = sym (or-false stage.gone) })
+items-card clients readers session stage after (item.Opens number who ∷ items) all (between, is, rest) =
+    stays-card stage between after (phases_of items) (rw is (open-card session stage who))
+    (items-card clients readers session between after items (All-tail (IsItem clients readers) (item.Opens number who) items all) rest)
+items-card clients readers session stage after (item.Closes number who ∷ items) all (between, is, rest) =
+    stays-card stage between after (phases_of items) (rw is (close-card session stage who))
+    (items-card clients readers session between after items (All-tail (IsItem clients readers) (item.Closes number who) items all) rest)
+items-card clients readers session stage after (item.Phase lines ∷ items) all (between, may, rest) =
+    let others = items-card clients readers session between after items (All-tail (IsItem clients readers) (item.Phase lines) items all) rest in
+    let phases : between.phases ≡ stage.phases + 1 = ap (λ (s : Stage). s.phases) may.is in
+    let position : between.position ≡ stage.position + played_in lines = ap (λ (s : Stage). s.position) may.is in
+    let gone : between.gone ≡ stage.gone || unplugs lines = ap (λ (s : Stage). s.gone) may.is in
+    let alike = played_in-lines clients readers lines (All-head (IsItem clients readers) (item.Phase lines) items all).each in
+    record {
+      count = omega (arith, others.count, phases);
+      position = omega (arith, others.position, position, alike, sum_by-cons script_words.played_in lines (phases_of items));
+      gone = others.gone ∙ ap (λ (b : Bool). b || list_any unplugs (phases_of items)) gone ∙ or-assoc stage.gone (unplugs lines) (list_any unplugs (phases_of items));
+    }
+
+-- ---- the phases of the first items are the first phases
+
+phases_of-append : (items others : List Item) → phases_of (items ++ others) ≡ phases_of items ++ phases_of others
+phases_of-append [] others = refl
+phases_of-append (item.Phase lines ∷ items) others = ap (λ (ps : List (List Line)). lines ∷ ps) (phases_of-append items others)
+phases_of-append (item.Opens number who ∷ items) others = phases_of-append items others
+phases_of-append (item.Closes number who ∷ items) others = phases_of-append items others
+
+take-first : {X : Type 0} (xs ys : List X) (n : ℕ) → n ≡ length xs → take n (xs ++ ys) ≡ xs
+take-first [] ys zero is = refl
+take-first [] ys (suc n) is = absurd (omega (arith, is))
+take-first (x ∷ xs) ys zero is = absurd (omega (arith, is))
+take-first {X = X} (x ∷ xs) ys (suc n) is = ap (λ (zs : List X). x ∷ zs) (take-first xs ys n (omega (arith, is)))
+
+first-of : {X : Type 0} (xs ys : List X) (n : ℕ) (y d : X) → n ≡ length xs → slice_index_or (xs ++ y ∷ ys) n d ≡ y
+first-of [] ys zero y d is = refl
+first-of [] ys (suc n) y d is = absurd (omega (arith, is))
+first-of (x ∷ xs) ys zero y d is = absurd (omega (arith, is))
+first-of (x ∷ xs) ys (suc n) y d is = first-of xs ys n y d (omega (arith, is))
+
+All-first : (clients readers : ℕ) (items others : List Item) → All (IsItem clients readers) (items ++ others) → All (IsItem clients readers) items
+All-first clients readers [] others all = λ k d low. absurd (omega (arith, low))
+All-first clients readers (x ∷ items) others all = All-both x items (All-head (IsItem clients readers) x (items ++ others) all) (All-first clients readers items others (All-tail (IsItem clients readers) x (items ++ others) all))
+  where
+    All-both : (x : Item) (items : List Item) → IsItem clients readers x → All (IsItem clients readers) items → All (IsItem clients readers) (x ∷ items)
+    All-both x items one rest zero d low = one
+    All-both x items one rest (suc k) d low = rest k d (omega (arith, low))
+
+All-last : (clients readers : ℕ) (items others : List Item) → All (IsItem clients readers) (items ++ others) → All (IsItem clients readers) others
+All-last clients readers [] others all = all
+All-last clients readers (x ∷ items) others all = All-last clients readers items others (All-tail (IsItem clients readers) x (items ++ others) all)
+
+take-one : {X : Type 0} (xs ys : List X) (y : X) (n : ℕ) → n ≡ length xs + 1 → take n (xs ++ y ∷ ys) ≡ xs ++ y ∷ []
+take-one [] ys y zero is = absurd (omega (arith, is))
+take-one {X = X} [] ys y (suc n) is = ap (λ (zs : List X). y ∷ zs) (take-none ys n (omega (arith, is)))
+  where
+    take-none : (xs : List X) (n : ℕ) → n ≡ 0 → take n xs ≡ []
+    take-none xs zero is = refl
+    take-none xs (suc n) is = absurd (omega (arith, is))
+take-one (x ∷ xs) ys y zero is = absurd (omega (arith, is))
+take-one {X = X} (x ∷ xs) ys y (suc n) is = ap (λ (zs : List X). x ∷ zs) (take-one xs ys y n (omega (arith, is)))
+
+record IsCardOf (script : Script) (done others : List Item) (stage : Stage) : Type 0 where
+  pub phases : stage.phases ≡ length (phases_of done)
+  pub first : take stage.phases (phases_of script.body) ≡ phases_of done
+  pub position : stage.position ≡ first_frame script.card + frames_played (phases_of done)
+  pub gone : stage.gone ≡ list_any unplugs (phases_of done)
+  pub body : phases_of script.body ≡ phases_of done ++ phases_of others
+
+reached-card : (script : Script) (wavs : List Sound) (session : Session) (done others : List Item) (stage : Stage) → IsReached script wavs session done others stage
+    → IsCardOf script done others stage
+reached-card script wavs session done others stage is = record {
+  phases = omega (arith, card.count);
+  first = ap (λ (ps : List (List Line)). take stage.phases ps) split ∙ take-first (phases_of done) (phases_of others) stage.phases (omega (arith, card.count));
+  position = card.position ∙ ap (λ c. first_frame c + frames_played (phases_of done)) is.session_is.card;
+  gone = card.gone;
+  body = split;
+}
+  where
+    card : IsCardAfter (first_stage session) (phases_of done) stage
+    card = items-card (length script.clients) (length script.readers) session (first_stage session) stage done
+        (All-first (length script.clients) (length script.readers) done others (subst (All (IsItem (length script.clients) (length script.readers))) is.body is.script_is.body)) is.may
+
+    split : phases_of script.body ≡ phases_of done ++ phases_of others
+    split = ap phases_of is.body ∙ phases_of-append done others
+
+-- each stage of a run of a script is where the script has it
+pub stages-of_scripts : StagesAreOfScripts
+stages-of_scripts script wavs session done others stage is = record {
+  phases = card.phases;
+  position = card.position ∙ ap (λ ps. first_frame script.card + frames_played ps) (sym card.first);
+  gone = card.gone ∙ ap (λ ps. list_any unplugs ps) (sym card.first ∙ ap (λ n. take n (phases_of script.body)) (omega arith));
+}
+  where
+    card : IsCardOf script done others stage
+    card = reached-card script wavs session done others stage is
+
+-- ---- what the card publishes
+
+-- a list has a member
+abbrev In : ℕ → List ℕ → Type 0
+In q [] = ⊥
+In q (x ∷ xs) = (x ≡ q) ⊎ In q xs
+
+Contains-In : (xs : List ℕ) (q : ℕ) → In q xs → Contains xs q
+Contains-In [] q there = absurd there
+Contains-In (x ∷ xs) q (inl is) = (0, omega arith, is)
+Contains-In (x ∷ xs) q (inr there) = Contains-append_right (x ∷ []) xs q (Contains-In xs q there)
+
+In-Contains : (xs : List ℕ) (q : ℕ) → Contains xs q → In q xs
+In-Contains [] q (i, low, is) = absurd (omega (arith, low))
+In-Contains (x ∷ xs) q (zero, low, is) = inl is
+In-Contains (x ∷ xs) q (suc i, low, is) = inr (In-Contains xs q (i, omega (arith, low), is))
+
+In-left : (xs ys : List ℕ) (q : ℕ) → In q xs → In q (xs ++ ys)
+In-left [] ys q there = absurd there
+In-left (x ∷ xs) ys q (inl is) = inl is
+In-left (x ∷ xs) ys q (inr there) = inr (In-left xs ys q there)
+
+In-right : (xs ys : List ℕ) (q : ℕ) → In q ys → In q (xs ++ ys)
+In-right [] ys q there = there
+In-right (x ∷ xs) ys q there = inr (In-right xs ys q there)
+
+In-append : (xs ys : List ℕ) (q : ℕ) → In q (xs ++ ys) → In q xs ⊎ In q ys
+In-append [] ys q there = inr there
+In-append (x ∷ xs) ys q (inl is) = inl (inl is)
+In-append (x ∷ xs) ys q (inr there) = elim (In-append xs ys q there) [
+  | inl here ↦ inl (inr here)
+  | inr behind ↦ inr behind
+]
+
+record IsKept (test : ℕ → Bool) (q : ℕ) (xs : List ℕ) : Type 0 where
+  pub there : In q xs
+  pub kept : test q ≡ true
+
+In-filter : (test : ℕ → Bool) (xs : List ℕ) (q : ℕ) → In q (filter test xs) → IsKept test q xs
+In-filter test [] q there = absurd there
+In-filter test (x ∷ xs) q there = by_test (λ rest. behind (In-filter test xs q rest)) (test x) refl there
+  where
+    behind : IsKept test q xs → IsKept test q (x ∷ xs)
+    behind is = record { there = inr is.there; kept = is.kept }
+
+    by_test : (In q (filter test xs) → IsKept test q (x ∷ xs)) → (b : Bool) → test x ≡ b → In q (if b then x ∷ filter test xs else filter test xs) → IsKept test q (x ∷ xs)
+    by_test more true is (inl same) = record { there = inl same; kept = subst (λ (y : ℕ). test y ≡ true) same is }
+    by_test more true is (inr rest) = more rest
+    by_test more false is rest = more rest
+
+filter-In : (test : ℕ → Bool) (xs : List ℕ) (q : ℕ) → In q xs → test q ≡ true → In q (filter test xs)
+filter-In test [] q there kept = absurd there
+filter-In test (x ∷ xs) q there kept = by_test (λ rest. filter-In test xs q rest kept) (test x) refl there
+  where
+    both : {b : Bool} → b ≡ false → b ≡ true → ⊥
+    both x y = absurd (cc)
+
+    by_test : (In q xs → In q (filter test xs)) → (b : Bool) → test x ≡ b → In q (x ∷ xs) → In q (if b then x ∷ filter test xs else filter test xs)
+    by_test more true is (inl same) = inl same
+    by_test more true is (inr rest) = inr (more rest)
+    by_test more false is (inl same) = absurd (both (subst (λ (y : ℕ). test y ≡ false) same is) kept)
+    by_test more false is (inr rest) = more rest
+
+In-range : (from frames q : ℕ) → In q (range_with_len from frames) → (from ≤ q) × (q < from + frames)
+In-range from zero q there = absurd there
+In-range from (suc frames) q (inl is) = (omega (arith, is), omega (arith, is))
+In-range from (suc frames) q (inr there) = let rest = In-range (from + 1) frames q there in (omega (arith, rest.0), omega (arith, rest.1))
+
+range-In : (from frames q : ℕ) → from ≤ q → q < from + frames → In q (range_with_len from frames)
+range-In from zero q low high = absurd (omega (arith, low, high))
+range-In from (suc frames) q low high = elim (cases_eq from q) [
+  | inl is ↦ inl is
+  | inr other ↦ inr (range-In (from + 1) frames q (omega (arith, low, other)) (omega (arith, high)))
+]
+
+-- a position on the way of lines that begin at a position: a multiple of the period, or the position after some of them
+data IsOnTheWay (period from : ℕ) (lines : List Line) (q : ℕ) : Type 0 where
+  multiple : (k : ℕ) → q ≡ k * period → from ≤ q → q < from + played_in lines → IsOnTheWay period from lines q
+  behind : (n : ℕ) → n ≤ length lines → q ≡ from + played_in (take n lines) → IsOnTheWay period from lines q
+
+-- behind one line more
+on-the_way-more : (period from : ℕ) (line : Line) (lines : List Line) (q : ℕ) → IsOnTheWay period (from + played_at line) lines q → IsOnTheWay period from (line ∷ lines) q
+on-the_way-more period from line lines q (multiple k is low high) =
+    multiple k is (omega (arith, low)) (omega (arith, high, sum_by-cons played_at line lines))
+on-the_way-more period from line lines q (behind n few is) =
+    behind (suc n) (omega (arith, few)) (omega (arith, is, sum_by-cons played_at line (take n lines)))
+
+-- where a multiple of the period isn't past the lines, it is on their way
+on-the_way-upto : (period from : ℕ) (lines : List Line) (q k : ℕ) → q ≡ k * period → from ≤ q → q ≤ from + played_in lines → IsOnTheWay period from lines q
+on-the_way-upto period from lines q k is low high = elim (cases_eq q (from + played_in lines)) [
+  | inl at_end ↦ behind (length lines) (omega arith) (at_end ∙ ap (λ (ls : List Line). from + played_in ls) (sym (take-all lines)))
+  | inr before ↦ multiple k is low (omega (arith, high, before))
+]
+  where
+    take-all : (lines : List Line) → take (length lines) lines ≡ lines
+    take-all [] = refl
+    take-all (line ∷ lines) = ap (λ (ls : List Line). line ∷ ls) (take-all lines)
+
+published-on_the_way : (period from : ℕ) (lines : List Line) (q : ℕ) → In q (published_by period from lines) → IsOnTheWay period from lines q
+published-on_the_way period from [] q there = absurd there
+published-on_the_way period from (line ∷ lines) q there = elim (In-append (on_the_way period from (played_at line)) _ q there) [
+  | inl here ↦ elim (In-append (filter (λ p. p % period == 0) (range_with_len (from + 1) (played_at line))) _ q here) [
+    | inl kept ↦ of_range (In-filter (λ p. p % period == 0) _ q kept)
+    | inr last ↦ at_end last
+  ]
+  | inr rest ↦ on-the_way-more period from line lines q (published-on_the_way period (from + played_at line) lines q rest)
+]
+  where
+    of_range : IsKept (λ p. p % period == 0) q (range_with_len (from + 1) (played_at line)) → IsOnTheWay period from (line ∷ lines) q
+    of_range kept =
+        let range = In-range (from + 1) (played_at line) q kept.there in
+        let no_rest : q % period ≡ 0 = eqb-true _ _ kept.kept in
+        on-the_way-upto period from (line ∷ lines) q (q / period) (omega (arith, div-add-mod' q period, no_rest)) (omega (arith, range.0))
+        (omega (arith, range.1, sum_by-cons played_at line lines))
+
+    at_end : In q ((from + played_at line) ∷ []) → IsOnTheWay period from (line ∷ lines) q
+    at_end (inl is) = behind 1 (omega arith) (omega (arith, sym is, sum_by-cons played_at line []))
+    at_end (inr there) = absurd there
+
+-- what lines publish from the second on
+next-published : (period from : ℕ) (line : Line) (lines : List Line) (q : ℕ) → In q (published period (from + played_at line) lines) → In q (published period from (line ∷ lines))
+next-published period from line lines q (inl is) = inr (In-left (on_the_way period from (played_at line)) _ q (In-right _ ((from + played_at line) ∷ []) q (inl is)))
+next-published period from line lines q (inr there) = inr (In-right (on_the_way period from (played_at line)) _ q there)
+
+on_the_way-published : (period from : ℕ) (lines : List Line) (q : ℕ) → IsOnTheWay period from lines q → In q (published period from lines)
+on_the_way-published period from lines q (behind zero few is) = inl (omega (arith, is))
+on_the_way-published period from [] q (behind (suc n) few is) = absurd (omega (arith, few))
+on_the_way-published period from (line ∷ lines) q (behind (suc n) few is) =
+    next-published period from line lines q
+    (on_the_way-published period (from + played_at line) lines q (behind n (omega (arith, few)) (omega (arith, is, sum_by-cons played_at line (take n lines)))))
+on_the_way-published period from [] q (multiple k is low high) = absurd (omega (arith, low, high))
+on_the_way-published period from (line ∷ lines) q (multiple k is low high) =
+    by_order (λ far more. on_the_way-published period (from + played_at line) lines q (multiple k is far more)) (cases_lt q (from + played_at line + 1)) (cases_eq from q)
+  where
+    test : ℕ → Bool
+    test p = p % period == 0
+
+    by_order : (from + played_at line ≤ q → q < from + played_at line + played_in lines → In q (published period (from + played_at line) lines))
+        → (q < from + played_at line + 1) ⊎ (from + played_at line + 1 ≤ q) → (from ≡ q) ⊎ (from ≡ q → ⊥) → In q (published period from (line ∷ lines))
+    by_order more near (inl first) = inl first
+    by_order more (inl near) (inr later) =
+        inr (In-left (on_the_way period from (played_at line)) _ q (In-left (filter test (range_with_len (from + 1) (played_at line))) _ q
+        (filter-In test _ q (range-In (from + 1) (played_at line) q (omega (arith, low, later)) (omega (arith, near)))
+        (eq-eqb (q % period) 0 (ap (λ (n : ℕ). n % period) is ∙ mul-mod_left k period)))))
+    by_order more (inr far) (inr later) = next-published period from line lines q
+        (more (omega (arith, far)) (omega (arith, high, sum_by-cons played_at line lines)))
+
+take-lines : (clients readers : ℕ) (lines : List Line) (n : ℕ) → All (IsLine clients readers) lines → played_in (take n lines) ≡ script_words.played_in (take n lines)
+take-lines clients readers lines n all = played_in-lines clients readers (take n lines) (All-take (IsLine clients readers) n lines all)
+
+-- each phase of a run of a script allows what the script has of it
+pub phases-of_scripts : PhasesAreOfScripts
+phases-of_scripts script wavs session done others lines stage is = record {
+  lines_are = next;
+  position = position;
+  gone = (stages-of_scripts script wavs session done (item.Phase lines ∷ others) stage is).gone;
+  published = λ q there. by_way q (In-Contains (published session.card.period stage.position lines) q there);
+  publishes = λ q there. Contains-In (published session.card.period stage.position lines) q (by_words q there);
+}
+  where
+    card : IsCardOf script done (item.Phase lines ∷ others) stage
+    card = reached-card script wavs session done (item.Phase lines ∷ others) stage is
+
+    each : All (IsLine (length script.clients) (length script.readers)) lines
+    each = (All-head (IsItem (length script.clients) (length script.readers)) (item.Phase lines) others
+        (All-last (length script.clients) (length script.readers) done (item.Phase lines ∷ others) (subst (All (IsItem (length script.clients) (length script.readers))) is.body is.script_is.body))).each
+
+    next : phase_at script (stage.phases + 1) ≡ lines
+    next = ap (λ ps. slice_index_or ps (stage.phases + 1 - 1) []) card.body
+        ∙ first-of (phases_of done) (phases_of others) (stage.phases + 1 - 1) lines [] (omega (arith, card.phases))
+
+    begins : stage.position ≡ position_after script (stage.phases + 1 - 1)
+    begins = (stages-of_scripts script wavs session done (item.Phase lines ∷ others) stage is).position ∙ ap (position_after script) (omega arith)
+
+    period : session.card.period ≡ script.card.period
+    period = ap (λ c. c.period) is.session_is.card
+
+    frames : frames_played (take (stage.phases + 1) (phases_of script.body)) ≡ frames_played (phases_of done) + script_words.played_in lines
+    frames = ap (λ ps. frames_played (take (stage.phases + 1) ps)) card.body
+        ∙ ap frames_played (take-one (phases_of done) (phases_of others) lines (stage.phases + 1) (omega (arith, card.phases)))
+        ∙ sum_by-append script_words.played_in (phases_of done) (lines ∷ []) ∙ omega (arith, sum_by-cons script_words.played_in lines [])
+
+    position : stage.position + played_in lines ≡ position_after script (stage.phases + 1)
+    position = omega (arith, card.position, frames, played_in-lines (length script.clients) (length script.readers) lines each)
+
+    by_way : (q : ℕ) → In q (published session.card.period stage.position lines) → IsPublished script (stage.phases + 1) q
+    by_way q (inl first) = inl (sym first ∙ begins)
+    by_way q (inr there) = of_way (published-on_the_way session.card.period stage.position lines q there)
+      where
+        of_way : IsOnTheWay session.card.period stage.position lines q → IsPublished script (stage.phases + 1) q
+        of_way (multiple k same low high) =
+            inr (inl (k, same ∙ ap (λ (n : ℕ). k * n) period, omega (arith, low, begins), omega (arith, high, position)))
+        of_way (behind n few same) =
+            inr (inr (
+              n,
+              omega (arith, few, ap length next),
+              omega (
+                arith,
+                same,
+                begins,
+                take-lines (length script.clients) (length script.readers) lines n each,
+                ap (λ (ls : List Line). script_words.played_in (take n ls)) next,
+              ),
+            ))
+
+    by_words : (q : ℕ) → IsPublished script (stage.phases + 1) q → In q (published session.card.period stage.position lines)
+    by_words q (inl first) = inl (begins ∙ sym first)
+    by_words q (inr (inl (k, same, low, high))) = on_the_way-published session.card.period stage.position lines q
+        (multiple k (same ∙ ap (λ (n : ℕ). k * n) (sym period)) (omega (arith, low, begins)) (omega (arith, high, position)))
+    by_words q (inr (inr (n, few, same))) = on_the_way-published session.card.period stage.position lines q
+        (behind n (omega (arith, few, ap length next)) (omega (
+          arith,
+          same,
+          begins,
+          take-lines (length script.clients) (length script.readers) lines n each,
+          ap (λ (ls : List Line). script_words.played_in (take n ls)) next,
+        )))

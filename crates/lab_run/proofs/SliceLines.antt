@@ -1,0 +1,429 @@
+-- The lines of a reader: each gets one slice of frames, and in a stretch each slice begins where the one before it ended.
+use Rattle.std.proofs.Common.{◌≡◌, ℕ, ◌+◌, ◌-◌, ◌≤◌, ◌⊎◌, refl, sym, ◌∙◌, ap, subst, arith, inl, inr, Option, Some, None, List, [], ◌∷◌, ◌++◌}
+use Rattle.std.proofs.lemmas.List.{append_assoc, append-nil}
+use Rattle.std.specs.Prelude.{Bool, true, false, zero, suc, nat_eq, nat_le, nat_lt, ◌&&◌, if◌then◌else◌, Result, Ok, Err, ⊤}
+use Rattle.std.specs.List.{range_with_len}
+use Rattle.snd_base.specs.declared.errors.PcmError.{PcmError}
+use Rattle.snd_base.specs.declared.errors.PcmError.TheVariants as error
+use Rattle.snd_base.specs.declared.errors.XrunWhy.{XrunWhy}
+use Rattle.snd_base.specs.declared.errors.XrunWhy.TheVariants as why
+use Rattle.mix_core.specs.declared.port.Position.{Position}
+use Rattle.pcm_states.specs.declared.calls.Call.{Call}
+use Rattle.pcm_states.specs.declared.calls.Call.TheVariants as call
+use Rattle.pcm_states.specs.declared.states.State.{State}
+use Rattle.pcm_states.specs.declared.states.State.TheVariants.{Disconnected, Running}
+use Rattle.pcm_states.specs.declared.states.State.TheVariants as state
+use Rattle.pcm_states.specs.Table.{next_of}
+use Rattle.pcm_stream.specs.declared.direction.Direction.TheVariants.{Capture}
+use Rattle.pcm_stream.specs.Status.{nothing_found, refusal_in, refusal_of}
+use Rattle.snoop_core.specs.declared.port.Got.{Got}
+use Rattle.snoop_core.specs.declared.port.Got.TheVariants as got
+use Rattle.course.specs.Course.{◌>>=◌, Course, ends}
+use Rattle.dsnoop_client.specs.declared.plain.Plain.{Plain}
+use Rattle.dsnoop_client.specs.Calls.{Answered, found, over_of, read_after, read_to, seen_at, settled, started, started_at, synced, taken_of, waits, with_avail}
+use Rattle.dsnoop_client.specs.View.{avail_of, is_running}
+use Rattle.dsnoop_client.specs.Course.{admitted, admitted_by, counts, gets_frames, read_course, reads_first, reads_on, starts, syncs, transfer_on, transfers}
+use Rattle.lab_script.specs.declared.line.Op.{Op}
+use Rattle.lab_script.specs.declared.line.Op.TheVariants as op
+use Rattle.lab_report.specs.declared.row.Answer.{Answer}
+use Rattle.lab_report.specs.declared.row.Answer.TheVariants.{Count, Done, Failed}
+use Rattle.lab_report.specs.declared.row.Row.{Row}
+use Rattle.lab_run.specs.Client.{count_answer, done_answer, reported}
+use Rattle.lab_run.specs.Lines.{LineMay, LinesMay}
+use Rattle.lab_run.specs.Reader.{Reader, after_call, answered, begins, call_of, frames_by, line_by, line_if, reader_kind, row_by}
+use Rattle.lab_run.specs.Rules.{AtPort, MayGet, MayLay, MayLoad, Rules}
+use Rattle.lab_run.specs.Stretches.{AreSlices, IsFirstOf, ends_by_row, goes_on_after, got_by}
+use Rattle.lab_run.proofs.Results.{All, All-any, All-map, All-then, Takes-all}
+
+-- a reader that wasn't stopped and runs, or whose card is gone
+abbrev IsOn : Plain → Type 0
+IsOn d = (d.status.stopped ≡ false) × (d.status.state ≡ Running)
+
+abbrev IsOpen : Plain → Type 0
+IsOpen d = (d.status.stopped ≡ false) × ((d.status.state ≡ Running) ⊎ (d.status.state ≡ Disconnected))
+
+-- where a stretch has frames, its reader is open and at the frame after them
+abbrev pub IsGoing : Option ℕ → Option Plain → Type 0
+IsGoing None own = ⊤
+IsGoing (Some next) None = ⊥
+IsGoing (Some next) (Some d) = (d.next ≡ next) × IsOpen d
+
+-- a call
+record Gets (at : Option ℕ) (asked : Op) (x : Plain × Answer) : Type 0 where
+  first : ℕ
+  begins : IsFirstOf at first
+  frames : frames_by asked x.1 x.0 ≡ range_with_len first (got_by asked x.1)
+  goes : IsGoing (goes_on_after (ends_by_row asked x.1) at first (got_by asked x.1)) (Some x.0)
+
+-- a row without frames, of a reader without a stretch, and of one with a stretch
+none-goes : (b : Bool) (first : ℕ) (own : Option Plain) → IsGoing (goes_on_after b None first 0) own
+none-goes true first own = tt
+none-goes false first own = tt
+
+still-goes : (b : Bool) (next first : ℕ) (d : Plain) → d.next ≡ next → IsOpen d ⊎ (b ≡ true) → IsGoing (goes_on_after b (Some next) first 0) (Some d)
+still-goes true next first d same open_or = tt
+still-goes false next first d same (inl is) = (same, is)
+still-goes false next first d same (inr ends_so) = absurd (cc)
+
+got-failed : (asked : Op) (e : PcmError) → got_by asked (Failed e) ≡ 0
+got-failed (op.Read n) e = refl
+got-failed other e = refl
+
+-- ---- the errors that end a stretch
+
+abbrev ends_by_error : PcmError → Bool
+ends_by_error (error.Xrun w) = true
+ends_by_error error.Stopped = true
+ends_by_error other = false
+
+ends-reported : (f : Answer → Bool) → ((w : XrunWhy) → f (Failed (error.Xrun w)) ≡ true) → f (Failed error.Stopped) ≡ true → (e : PcmError) → ends_by_error e ≡ true
+    → f (Failed (reported e)) ≡ true
+ends-reported f xrun stop (error.Xrun (why.Avail avail seen)) is = xrun (why.Avail avail 0)
+ends-reported f xrun stop (error.Xrun (why.Late frame channel word)) is = xrun (why.Late frame channel 0)
+ends-reported f xrun stop (error.Xrun (why.Overtaken frame channel word)) is = xrun (why.Overtaken frame channel 0)
+ends-reported f xrun stop (error.Xrun other) is = xrun other
+ends-reported f xrun stop error.Stopped is = stop
+ends-reported f xrun stop other is = absurd (cc)
+
+-- ---- a reader in a stretch
+
+abbrev going : Plain → Plain
+going r = record r { status = record { state = Running; stopped = false } }
+
+abbrev gone : Plain → Plain
+gone r = record r { status = record { state = Disconnected; stopped = false } }
+
+abbrev StaysBy : Result (Unit {0}) PcmError → Plain → Type 0
+StaysBy (Ok done) d = IsOn d
+StaysBy (Err e) d = IsOpen d ⊎ (ends_by_error e ≡ true)
+
+record Syncs (r : Plain) (x : Answered (Unit {0})) : Type 0 where
+  next : x.0.next ≡ r.next
+  stays : StaysBy x.1 x.0
+
+syncs-on : (r : Plain) (asked : Call) → (asked ≡ call.Transfer) ⊎ (asked ≡ call.Sync) → All (Syncs r) (syncs (going r) asked)
+unfolding syncs
+syncs-on r asked which = by_load
+  where
+    by_found : (c : Call) (p : Position) → (c ≡ call.Transfer) ⊎ (c ≡ call.Sync) → (gone : Bool) (over : Option (ℕ × ℕ))
+        → Syncs r (settled (seen_at (going r) p) (next_of Running c (found gone over None)))
+    by_found c p (inl is) true over = rw is (record { next = refl; stays = inl (refl, inr refl) })
+    by_found c p (inl is) false (Some (avail, seen)) = rw is (record { next = refl; stays = inr refl })
+    by_found c p (inl is) false None = rw is (record { next = refl; stays = (refl, refl) })
+    by_found c p (inr is) true over = rw is (record { next = refl; stays = inl (refl, inr refl) })
+    by_found c p (inr is) false (Some (avail, seen)) = rw is (record { next = refl; stays = inr refl })
+    by_found c p (inr is) false None = rw is (record { next = refl; stays = (refl, refl) })
+
+    by_load : (load : Option Position) → Syncs r (synced (going r) asked load)
+    by_load None = record { next = refl; stays = inr refl }
+    by_load (Some p) = by_found asked p which p.gone (over_of (seen_at (going r) p))
+
+-- a call of a reader in a stretch that gets nothing
+nothing : (r d : Plain) (asked : Op) (answer : Answer) → frames_by asked answer d ≡ [] → got_by asked answer ≡ 0 → d.next ≡ r.next
+    → IsOpen d ⊎ (ends_by_row asked answer ≡ true) → Gets (Some r.next) asked (d, answer)
+nothing r d asked answer no_frames none same stays = record {
+  first = r.next;
+  begins = refl;
+  frames = no_frames ∙ ap (λ n. range_with_len r.next n) (sym none);
+  goes = subst (λ n. IsGoing (goes_on_after (ends_by_row asked answer) (Some r.next) r.next n) (Some d)) (sym none)
+      (still-goes (ends_by_row asked answer) r.next r.next d same stays);
+}
+
+open-of : (d : Plain) → IsOn d → IsOpen d
+open-of d on = (on.0, inl on.1)
+
+-- the frames of its read
+frames-on : (r d : Plain) (n done : ℕ) (ended : Got) → d.next ≡ r.next → IsOn d → Gets (Some r.next) (op.Read n) (let x = read_after d n done ended in (x.0, count_answer x.1))
+frames-on r d n done ended same on = by_test (nat_lt 0 n && nat_eq (avail_of d) 0)
+  where
+    whole : (count : ℕ) → IsGoing (goes_on_after false (Some r.next) r.next count) (Some (record d { next = d.next + count }))
+    whole zero = (omega (arith, same), (on.0, inl on.1))
+    whole (suc count) = (ap (λ k. k + suc count) same, (on.0, inl on.1))
+
+    by_end : (ended : Got) → Gets (Some r.next) (op.Read n) (let x = read_to d done ended in (x.0, count_answer x.1))
+    by_end got.Whole = record { first = r.next; begins = refl; frames = ap (λ first. range_with_len first done) (omega (arith, same)); goes = whole done }
+    by_end (got.Overtaken channel word) = nothing r _ (op.Read n) _ refl refl same (inr refl)
+    by_end got.Stopped = nothing r _ (op.Read n) _ refl refl same (inr refl)
+
+    by_test : (test : Bool) → Gets (Some r.next) (op.Read n) (let x = if test then (d, Err error.Again) else read_to d done ended in (x.0, count_answer x.1))
+    by_test true = nothing r d (op.Read n) _ refl refl same (inl (open-of d on))
+    by_test false = by_end ended
+
+answers-on : {X : Type 0} (at : Option ℕ) (asked : Op) (answer : Result X PcmError → Answer) (m : Course (Answered X)) → All (λ x. Gets at asked (x.0, answer x.1)) m
+    → All (Gets at asked) (answered answer m)
+answers-on at asked answer m all = All-then (λ x. Gets at asked (x.0, answer x.1)) (Gets at asked) m (λ done. ends (done.0, answer done.1)) all (λ x is. is)
+
+-- an error of a sync
+stays-on : (d : Plain) (asked : Op) (e : PcmError) → ((w : XrunWhy) → ends_by_row asked (Failed (error.Xrun w)) ≡ true) → ends_by_row asked (Failed error.Stopped) ≡ true
+    → IsOpen d ⊎ (ends_by_error e ≡ true) → IsOpen d ⊎ (ends_by_row asked (Failed (reported e)) ≡ true)
+stays-on d asked e xrun stop (inl is) = inl is
+stays-on d asked e xrun stop (inr is) = inr (ends-reported (λ answer. ends_by_row asked answer) xrun stop e is)
+
+read-on : (r : Plain) (n : ℕ) → All (λ x. Gets (Some r.next) (op.Read n) (x.0, count_answer x.1)) (reads_on (going r) n)
+unfolding reads_on transfers
+read-on r n = All-then (Syncs r) _ (syncs (going r) call.Transfer) (transfer_on n) (syncs-on r call.Transfer (inl refl)) transfer
+  where
+    transfer : (x : Answered (Unit {0})) → Syncs r x → All (λ x. Gets (Some r.next) (op.Read n) (x.0, count_answer x.1)) (transfer_on n x)
+    transfer (d, Ok done) is = All-then (λ x. ⊤) _ (gets_frames (taken_of d n) d.next) (λ end. ends (read_after d n end.0 end.1))
+        (All-any (λ x. ⊤) (gets_frames (taken_of d n) d.next) (λ x. tt)) (λ x any. frames-on r d n x.0 x.1 is.next is.stays)
+    transfer (d, Err e) is = nothing r d (op.Read n) _ refl refl is.next (stays-on d (op.Read n) e (λ w. refl) refl is.stays)
+
+calls-on : (r : Plain) (asked : Op) → All (Gets (Some r.next) asked) (call_of (going r) asked)
+unfolding ◌>>=◌ counts
+calls-on r (op.Read n) = answers-on (Some r.next) (op.Read n) count_answer _ (read-on r n)
+calls-on r op.Start = nothing r _ op.Start _ refl refl refl (inl (refl, inl refl))
+calls-on r op.Sync = answers-on (Some r.next) op.Sync done_answer _ (All-map (Syncs r) _ (syncs (going r) call.Sync) (syncs-on r call.Sync (inr refl)) by_sync)
+  where
+    by_sync : (x : Answered (Unit {0})) → Syncs r x → Gets (Some r.next) op.Sync (x.0, done_answer x.1)
+    by_sync (d, Ok done) is = nothing r d op.Sync _ refl refl is.next (inl (open-of d is.stays))
+    by_sync (d, Err e) is = nothing r d op.Sync _ refl refl is.next (stays-on d op.Sync e (λ w. refl) refl is.stays)
+calls-on r op.Avail = answers-on (Some r.next) op.Avail count_answer _
+    (All-then (Syncs r) _ (syncs (going r) call.Sync) (λ done. ends (with_avail done)) (syncs-on r call.Sync (inr refl)) by_sync)
+  where
+    by_sync : (x : Answered (Unit {0})) → Syncs r x → Gets (Some r.next) op.Avail (let y = with_avail x in (y.0, count_answer y.1))
+    by_sync (d, Ok done) is = nothing r d op.Avail _ refl refl is.next (inl (open-of d is.stays))
+    by_sync (d, Err e) is = nothing r d op.Avail _ refl refl is.next (stays-on d op.Avail e (λ w. refl) refl is.stays)
+calls-on r op.Drop = nothing r _ op.Drop _ refl refl refl (inr refl)
+calls-on r op.Prepare = nothing r _ op.Prepare _ refl refl refl (inl (refl, inl refl))
+calls-on r op.Pause = nothing r _ op.Pause _ refl refl refl (inl (refl, inl refl))
+calls-on r other = nothing r _ other _ refl refl refl (inl (refl, inl refl))
+
+-- a reader whose card is gone gets nothing
+calls-gone : (r : Plain) (asked : Op) → All (Gets (Some r.next) asked) (call_of (gone r) asked)
+unfolding ◌>>=◌
+calls-gone r (op.Read n) = nothing r _ (op.Read n) _ refl refl refl (inl (refl, inr refl))
+calls-gone r op.Start = nothing r _ op.Start _ refl refl refl (inl (refl, inr refl))
+calls-gone r op.Sync = nothing r _ op.Sync _ refl refl refl (inl (refl, inr refl))
+calls-gone r op.Avail = nothing r _ op.Avail _ refl refl refl (inl (refl, inr refl))
+calls-gone r op.Drop = nothing r _ op.Drop _ refl refl refl (inr refl)
+calls-gone r op.Prepare = nothing r _ op.Prepare _ refl refl refl (inl (refl, inr refl))
+calls-gone r op.Pause = nothing r _ op.Pause _ refl refl refl (inl (refl, inr refl))
+calls-gone r other = nothing r _ other _ refl refl refl (inl (refl, inr refl))
+
+-- ---- a reader without a stretch: where a read got frames, it runs afterwards
+
+abbrev ReadsWell : Answered ℕ → Type 0
+ReadsWell (d, Ok count) = (count ≡ 0) ⊎ ((count ≤ d.next) × IsOn d)
+ReadsWell (d, Err e) = ⊤
+
+abbrev Opens : Answered (Unit {0}) → Type 0
+Opens (d, Ok done) = IsOn d
+Opens (d, Err e) = ⊤
+
+well-read : (d : Plain) (n done : ℕ) (ended : Got) → IsOn d → ReadsWell (read_after d n done ended)
+well-read d n done ended on = by_test (nat_lt 0 n && nat_eq (avail_of d) 0)
+  where
+    by_end : (ended : Got) → ReadsWell (read_to d done ended)
+    by_end got.Whole = inr (omega arith, on)
+    by_end (got.Overtaken channel word) = tt
+    by_end got.Stopped = tt
+
+    by_test : (test : Bool) → ReadsWell (if test then (d, Err error.Again) else read_to d done ended)
+    by_test true = tt
+    by_test false = by_end ended
+
+transfer-well : (n : ℕ) (x : Answered (Unit {0})) → Opens x → All ReadsWell (transfer_on n x)
+unfolding transfers
+transfer-well n (d, Ok done) on = All-then (λ x. ⊤) ReadsWell (gets_frames (taken_of d n) d.next) (λ end. ends (read_after d n end.0 end.1))
+    (All-any (λ x. ⊤) (gets_frames (taken_of d n) d.next) (λ x. tt)) (λ x any. well-read d n x.0 x.1 on)
+transfer-well n (d, Err e) on = tt
+
+starts-well : (r : Plain) → r.status.stopped ≡ false → All Opens (starts r call.Transfer)
+unfolding starts
+starts-well r goes = by_load
+  where
+    by_state : (s : State) (d : Plain) (gone : Bool) → d.status.stopped ≡ false → Opens (settled d (next_of s call.Transfer (found gone None None)))
+    by_state state.Prepared d true is = tt
+    by_state state.Prepared d false is = (is, refl)
+    by_state Running d true is = tt
+    by_state Running d false is = (is, refl)
+    by_state state.Open d gone is = tt
+    by_state state.Setup d gone is = tt
+    by_state state.Xrun d gone is = tt
+    by_state state.Draining d gone is = tt
+    by_state state.Paused d gone is = tt
+    by_state state.Suspended d gone is = tt
+    by_state Disconnected d gone is = tt
+
+    at-start : (p : Position) (b : Bool) → (if b then seen_at r p else record r { seen = Some p.frame; next = p.frame }).status.stopped ≡ false
+    at-start p true = goes
+    at-start p false = goes
+
+    by_load : (load : Option Position) → Opens (started r call.Transfer load)
+    by_load None = tt
+    by_load (Some p) = by_state r.status.state (started_at r p) p.gone (at-start p p.gone)
+
+syncs-well : (r : Plain) → r.status.stopped ≡ false → r.status.state ≡ Running → All Opens (syncs r call.Transfer)
+syncs-well r goes runs = subst (λ q. All Opens (syncs q call.Transfer)) (sym same)
+    (All-map (Syncs r) Opens (syncs (going r) call.Transfer) (syncs-on r call.Transfer (inl refl)) well)
+  where
+    same : r ≡ going r
+    same = λ i. record r { status = record { state = runs i; stopped = goes i } }
+
+    well : (x : Answered (Unit {0})) → Syncs r x → Opens x
+    well (d, Ok done) is = is.stays
+    well (d, Err e) is = tt
+
+reads-well : (r : Plain) (n : ℕ) → r.status.stopped ≡ false → All ReadsWell (read_course r n)
+unfolding reads_on reads_first
+reads-well r n goes = by_running (is_running r.status.state) (runs-of r.status.state)
+  where
+    runs-of : (s : State) → is_running s ≡ true → s ≡ Running
+    runs-of Running is = refl
+    runs-of other is = absurd (cc)
+
+    waits-well : (b : Bool) → ReadsWell (r, if b then Ok 0 else Err error.Again)
+    waits-well true = inl refl
+    waits-well false = tt
+
+    by_start : (b : Bool) → All ReadsWell (if b then reads_first r n else ends (r, waits n))
+    by_start true = All-then Opens ReadsWell (starts r call.Transfer) (transfer_on n) (starts-well r goes) (transfer-well n)
+    by_start false = waits-well (nat_eq n 0)
+
+    by_running : (b : Bool) → (b ≡ true → r.status.state ≡ Running)
+        → All ReadsWell (if b then reads_on r n else (if nat_le r.setup.params.start_threshold n then reads_first r n else ends (r, waits n)))
+    by_running true runs = All-then Opens ReadsWell (syncs r call.Transfer) (transfer_on n) (syncs-well r goes (runs refl)) (transfer-well n)
+    by_running false runs = by_start (nat_le r.setup.params.start_threshold n)
+
+admitted-well : (r : Plain) (n : ℕ) → All ReadsWell (admitted r call.Transfer (read_course r n))
+admitted-well r n = by_stop r.status.stopped refl
+  where
+    by_refusal : (refusal : Option PcmError) → r.status.stopped ≡ false → All ReadsWell (admitted_by refusal r (read_course r n))
+    by_refusal None goes = reads-well r n goes
+    by_refusal (Some e) goes = tt
+
+    by_stop : (stopped : Bool) → r.status.stopped ≡ stopped
+        → All ReadsWell (admitted_by (if stopped then Some error.Stopped else refusal_in (next_of r.status.state call.Transfer (nothing_found Capture)).answer) r (read_course r n))
+    by_stop true is = tt
+    by_stop false is = by_refusal (refusal_in (next_of r.status.state call.Transfer (nothing_found Capture)).answer) is
+
+idle : (d : Plain) (asked : Op) (answer : Answer) → frames_by asked answer d ≡ [] → got_by asked answer ≡ 0 → Gets None asked (d, answer)
+idle d asked answer no_frames none = record {
+  first = 0;
+  begins = tt;
+  frames = no_frames ∙ ap (λ n. range_with_len 0 n) (sym none);
+  goes = subst (λ n. IsGoing (goes_on_after (ends_by_row asked answer) None 0 n) (Some d)) (sym none) (none-goes (ends_by_row asked answer) 0 (Some d));
+}
+
+calls-first : (r : Plain) (asked : Op) → All (Gets None asked) (call_of r asked)
+calls-first r (op.Read n) = answers-on None (op.Read n) count_answer _ (All-map ReadsWell _ (admitted r call.Transfer (read_course r n)) (admitted-well r n) by_read)
+  where
+    goes : (d : Plain) (count : ℕ) → (count ≡ 0) ⊎ ((count ≤ d.next) × IsOn d) → IsGoing (goes_on_after false None (d.next - count) count) (Some d)
+    goes d zero well = tt
+    goes d (suc count) (inl none) = absurd (omega (arith, none))
+    goes d (suc count) (inr (few, on)) = (omega (arith, few), (on.0, inl on.1))
+
+    by_read : (x : Answered ℕ) → ReadsWell x → Gets None (op.Read n) (x.0, count_answer x.1)
+    by_read (d, Ok count) well = record { first = d.next - count; begins = tt; frames = refl; goes = goes d count well }
+    by_read (d, Err e) well = idle d (op.Read n) (Failed (reported e)) refl refl
+calls-first r op.Start = All-any _ (call_of r op.Start) (λ x. idle x.0 op.Start x.1 refl refl)
+calls-first r op.Sync = All-any _ (call_of r op.Sync) (λ x. idle x.0 op.Sync x.1 refl refl)
+calls-first r op.Avail = All-any _ (call_of r op.Avail) (λ x. idle x.0 op.Avail x.1 refl refl)
+calls-first r op.Drop = All-any _ (call_of r op.Drop) (λ x. idle x.0 op.Drop x.1 refl refl)
+calls-first r op.Prepare = All-any _ (call_of r op.Prepare) (λ x. idle x.0 op.Prepare x.1 refl refl)
+calls-first r other = All-any _ (call_of r other) (λ x. idle x.0 other x.1 refl refl)
+
+calls-get : (at : Option ℕ) (r : Plain) (asked : Op) → IsGoing at (Some r) → All (Gets at asked) (call_of r asked)
+calls-get None r asked goes = calls-first r asked
+calls-get (Some next) r asked (same, (goes, inl runs)) = subst (λ k. All (Gets (Some k) asked) (call_of r asked)) same
+    (subst (λ q. All (Gets (Some r.next) asked) (call_of q asked)) (sym is) (calls-on r asked))
+  where
+    is : r ≡ going r
+    is = λ i. record r { status = record { state = runs i; stopped = goes i } }
+calls-get (Some next) r asked (same, (goes, inr lost)) = subst (λ k. All (Gets (Some k) asked) (call_of r asked)) same
+    (subst (λ q. All (Gets (Some r.next) asked) (call_of q asked)) (sym is) (calls-gone r asked))
+  where
+    is : r ≡ gone r
+    is = λ i. record r { status = record { state = lost i; stopped = goes i } }
+
+-- ---- the lines
+
+record LineGets (at : Option ℕ) (reader after : Reader) (asked : Op) (answer : Answer) : Type 0 where
+  first : ℕ
+  begins : IsFirstOf at first
+  frames : after.frames ≡ reader.frames ++ range_with_len first (got_by asked answer)
+  goes : IsGoing (goes_on_after (ends_by_row asked answer) at first (got_by asked answer)) after.own
+
+-- a line that leaves its reader as it is
+unchanged : (at : Option ℕ) (reader : Reader) (asked : Op) (answer : Answer) → got_by asked answer ≡ 0 → IsGoing at reader.own → LineGets at reader reader asked answer
+unchanged at reader asked answer none goes = record {
+  first = (first-of at).0;
+  begins = (first-of at).1;
+  frames = sym (append-nil reader.frames) ∙ ap (λ n. reader.frames ++ range_with_len (first-of at).0 n) (sym none);
+  goes = subst (λ n. IsGoing (goes_on_after (ends_by_row asked answer) at (first-of at).0 n) reader.own) (sym none)
+      (same (ends_by_row asked answer) at (first-of at).0 goes);
+}
+  where
+    first-of : (at : Option ℕ) → (first : ℕ) × IsFirstOf at first
+    first-of None = (0, tt)
+    first-of (Some next) = (next, refl)
+
+    same : (b : Bool) (at : Option ℕ) (first : ℕ) → IsGoing at reader.own → IsGoing (goes_on_after b at first 0) reader.own
+    same true at first goes = tt
+    same false at first goes = goes
+
+line-gets : (rules : Rules) (phase number : ℕ) (a b : AtPort) (reader after : Reader) (asked : Op) (answer : Answer) (at : Option ℕ) → IsGoing at reader.own
+    → LineMay (reader_kind phase number) rules (a, reader) asked (b, after) answer → LineGets at reader after asked answer
+line-gets rules phase number a b reader after asked answer at goes may =
+    Takes-all (MayLoad rules) (MayLay rules) (MayGet rules) (λ x. LineGets at reader x.0 asked x.1) (begins reader.own asked a) b (line_by reader reader.own asked) (after, answer)
+    (by_own reader.own refl goes) may
+  where
+    fails : (e : PcmError) → LineGets at reader reader asked (Failed e)
+    fails e = unchanged at reader asked (Failed e) (got-failed asked e) goes
+
+    called : (o : Op) (x : Plain × Answer) → Gets at o x → LineGets at reader (after_call reader o x).0 o (after_call reader o x).1
+    called o (d, given) gets = record { first = gets.first; begins = gets.begins; frames = ap (λ frames. reader.frames ++ frames) gets.frames; goes = gets.goes }
+
+    by_call : (r : Plain) (o : Op) → IsGoing at (Some r) → All (λ x. LineGets at reader x.0 o x.1) (call_of r o >>= λ done. ends (after_call reader o done))
+    by_call r o is = All-then (Gets at o) (λ x. LineGets at reader x.0 o x.1) (call_of r o) (λ done. ends (after_call reader o done)) (calls-get at r o is) (called o)
+
+    by_op : (r : Plain) (o : Op) → IsGoing at (Some r) → All (λ x. LineGets at reader x.0 o x.1) (line_if false reader r o)
+    by_op r (op.Die k) is = unchanged at reader (op.Die k) Done refl goes
+    by_op r other is = by_call r other is
+
+    by_stop : (r : Plain) (stopped : Bool) → IsGoing at (Some r) → All (λ x. LineGets at reader x.0 asked x.1) (line_if stopped reader r asked)
+    by_stop r true is = fails error.Stopped
+    by_stop r false is = by_op r asked is
+
+    by_own : (own : Option Plain) → reader.own ≡ own → IsGoing at own → All (λ x. LineGets at reader x.0 asked x.1) (line_by reader own asked)
+    by_own None same is = fails error.BadState
+    by_own (Some r) same is = by_stop r r.status.stopped is
+
+-- lines: the frames that their rows got
+pub record LinesGet (at : Option ℕ) (reader after : Reader) (rows : List Row) : Type 0 where
+  pub got : List ℕ
+  pub frames : after.frames ≡ reader.frames ++ got
+  pub next : Option ℕ
+  pub slices : AreSlices at rows got next
+  pub goes : IsGoing next after.own
+
+pub lines-get : (rules : Rules) (phase number : ℕ) (x y : AtPort × Reader) (ops : List Op) (rows : List Row) (at : Option ℕ) → IsGoing at x.1.own
+    → LinesMay (reader_kind phase number) rules x ops y rows → LinesGet at x.1 y.1 rows
+lines-get rules phase number x y [] rows at goes (same, none) = record {
+  got = [];
+  frames = ap (λ (z : AtPort × Reader). z.1.frames) same ∙ sym (append-nil x.1.frames);
+  next = at;
+  slices = rw none (refl, refl);
+  goes = rw same goes;
+}
+lines-get rules phase number x y (asked ∷ ops) rows at goes (between, answer, others, may, rest, are) =
+    let one = line-gets rules phase number x.0 between.0 x.1 between.1 asked answer at goes may in
+    let more = lines-get rules phase number between y ops others (goes_on_after (ends_by_row asked answer) at one.first (got_by asked answer)) one.goes rest in record {
+      got = range_with_len one.first (got_by asked answer) ++ more.got;
+      frames = more.frames ∙ ap (λ frames. frames ++ more.got) one.frames ∙ append_assoc x.1.frames (range_with_len one.first (got_by asked answer)) more.got;
+      next = more.next;
+      slices = rw are (by_row between.1.own one.first one.begins more.got more.next more.slices);
+      goes = more.goes;
+    }
+  where
+    by_row : (own : Option Plain) (first : ℕ) → IsFirstOf at first → (got : List ℕ) (next : Option ℕ)
+        → AreSlices (goes_on_after (ends_by_row asked answer) at first (got_by asked answer)) others got next
+        → AreSlices at (row_by phase number asked own answer ∷ others) (range_with_len first (got_by asked answer) ++ got) next
+    by_row None first begins got next are = (first, got, begins, refl, are)
+    by_row (Some r) first begins got next are = (first, got, begins, refl, are)
+
+-- rows behind rows
+pub AreSlices-append : (a b c : Option ℕ) (xs ys : List Row) (f g : List ℕ) → AreSlices a xs f b → AreSlices b ys g c → AreSlices a (xs ++ ys) (f ++ g) c
+AreSlices-append a b c [] ys f g (none, same) more = rw (none, sym same) more
+AreSlices-append a b c (x ∷ xs) ys f g (first, others, begins, frames, rest) more =
+    (first, others ++ g, begins, ap (λ l. l ++ g) frames ∙ append_assoc _ others g, AreSlices-append (goes_on_after (ends_by_row x.op x.answer) a first (got_by x.op x.answer)) b c xs ys others g rest more)

@@ -1,0 +1,7 @@
+pub mod BoundTo
+pub mod Lists
+pub mod Narrowings
+pub mod OneOpening
+pub mod Opened
+pub mod ParamLaws
+pub mod Within
