@@ -42,25 +42,28 @@ nothing-left (Some left) ends = ap Some (let e : left - 1 ≡ left = grind (arit
 
 died : (step : StepKind) (a : AtPort) (left after : Option ℕ) (n m : ℕ) → is_counted step ≡ 1 → lets_pass 1 left ≡ false → after ≡ left_after 1 left → m ≡ n
     → IsAnswered (step ∷ []) Stop (at_gate a left n) (at_gate a after m)
-died step a left after n m is ends after_is same =
-    (none-passes left,
-    same-at a after left m n (after_is ∙ nothing-left left ends) same
-    ∙ sym (stop-counted step (with_asks 0 (at_gate a left n)) is
-        ∙ ap with_stop (no-asks a left n)
-        ∙ ap (λ (test : Bool). with_stop_by test (at_gate a left n)) ends))
+died step a left after n m is ends after_is same = (
+  none-passes left,
+  same-at a after left m n (after_is ∙ nothing-left left ends) same
+      ∙ sym (stop-counted step (with_asks 0 (at_gate a left n)) is
+      ∙ ap with_stop (no-asks a left n)
+      ∙ ap (λ (test : Bool). with_stop_by test (at_gate a left n)) ends),
+)
 
 passed : (step : StepKind) (pass : Pass) (a : AtPort) (left after : Option ℕ) (n m : ℕ) → is_counted step ≡ 1 → lets_pass 1 left ≡ true → after ≡ left_after 1 left → m ≡ stops_after pass n
     → IsAnswered (step ∷ []) pass (at_gate a left n) (at_gate a after m)
 passed step Go a left after n m is lets after_is stops =
-    let one : counted (step ∷ []) ≡ 1 = omega (arith, is) in
-    (subst (λ (k : ℕ). lets_pass k left ≡ true) (sym one) lets,
-    same-at a after (left_after 1 left) m n after_is stops ∙ ap (λ (k : ℕ). with_asks k (at_gate a left n)) (sym one))
-passed step Stop a left after n m is lets after_is stops =
-    (none-passes left,
-    same-at a after (left_after 1 left) m (n + 1) after_is stops
-    ∙ sym (stop-counted step (with_asks 0 (at_gate a left n)) is
-        ∙ ap with_stop (no-asks a left n)
-        ∙ ap (λ (test : Bool). with_stop_by test (at_gate a left n)) lets))
+    let one : counted (step ∷ []) ≡ 1 = omega (arith, is) in (
+      subst (λ (k : ℕ). lets_pass k left ≡ true) (sym one) lets,
+      same-at a after (left_after 1 left) m n after_is stops ∙ ap (λ (k : ℕ). with_asks k (at_gate a left n)) (sym one),
+    )
+passed step Stop a left after n m is lets after_is stops = (
+  none-passes left,
+  same-at a after (left_after 1 left) m (n + 1) after_is stops
+      ∙ sym (stop-counted step (with_asks 0 (at_gate a left n)) is
+      ∙ ap with_stop (no-asks a left n)
+      ∙ ap (λ (test : Bool). with_stop_by test (at_gate a left n)) lets),
+)
 
 again : (pass : Pass) (a : AtPort) (left : Option ℕ) (n m : ℕ) → m ≡ stops_after pass n → IsAnswered (Again ∷ []) pass (at_gate a left n) (at_gate a left m)
 again Go a left n m stops = (none-passes left, same-at a left (left_after 0 left) m n (sym (left_after-none left)) stops)

@@ -137,7 +137,7 @@ fills-fed : (c : Plain) (ring samples : List ℤ) (cursor : Cursor) (n : ℕ) �
 unfolding starts_taking
 fills-fed c ring samples cursor n = by_course (IsFed (c.fed + n)) (starts_with c n) _ _
     (Gives-then (IsSame c.fed) (IsFed (c.fed + n)) _ _ (starts-fed c _ cursor _ _)
-        (λ done is. let few = taken_of-most c n in let fed = (accepted_if-fed c.fed (taken_of c n) done is).most in record { most = omega (arith, few, fed) }))
+    (λ done is. let few = taken_of-most c n in let fed = (accepted_if-fed c.fed (taken_of c n) done is).most in record { most = omega (arith, few, fed) }))
     (let few = taken_of-most c n in record { most = omega (arith, few) })
 
 -- the calls

@@ -39,21 +39,23 @@ last_kind-append (x ∷ z ∷ xs) y ys = last_kind-append (z ∷ xs) y ys
 -- asks that all passed, and then others
 passed-joined : (xs ys : List StepKind) (a b c : AtPort) → IsAnswered xs Go a b → IsAnswered ys Go b c → IsAnswered (xs ++ ys) Go a c
 passed-joined xs ys a b c first later =
-    let passes : lets_pass (counted ys) (left_after (counted xs) a.left) ≡ true = subst (λ (d : AtPort). lets_pass (counted ys) d.left ≡ true) first.1 later.0 in
-    (subst (λ (n : ℕ). lets_pass n a.left ≡ true) (sym (counted-append xs ys)) (lets_pass-joined (counted xs) (counted ys) a.left first.0 passes),
-    later.1 ∙ ap (with_asks (counted ys)) first.1 ∙ with_asks-joined (counted xs) (counted ys) a ∙ ap (λ (n : ℕ). with_asks n a) (sym (counted-append xs ys)))
+    let passes : lets_pass (counted ys) (left_after (counted xs) a.left) ≡ true = subst (λ (d : AtPort). lets_pass (counted ys) d.left ≡ true) first.1 later.0 in (
+      subst (λ (n : ℕ). lets_pass n a.left ≡ true) (sym (counted-append xs ys)) (lets_pass-joined (counted xs) (counted ys) a.left first.0 passes),
+      later.1 ∙ ap (with_asks (counted ys)) first.1 ∙ with_asks-joined (counted xs) (counted ys) a ∙ ap (λ (n : ℕ). with_asks n a) (sym (counted-append xs ys)),
+    )
 
 stopped-joined : (xs : List StepKind) (y : StepKind) (ys : List StepKind) (a b c : AtPort) → IsAnswered xs Go a b → IsAnswered (y ∷ ys) Stop b c → IsAnswered (xs ++ y ∷ ys) Stop a c
 stopped-joined xs y ys a b c first later =
     let n = counted xs in
     let m = counted (without_last (y ∷ ys)) in
     let passes : lets_pass m (left_after n a.left) ≡ true = subst (λ (d : AtPort). lets_pass m d.left ≡ true) first.1 later.0 in
-    let number : counted (without_last (xs ++ y ∷ ys)) ≡ n + m = ap counted (without_last-append xs y ys) ∙ counted-append xs (without_last (y ∷ ys)) in
-    (subst (λ (k : ℕ). lets_pass k a.left ≡ true) (sym number) (lets_pass-joined n m a.left first.0 passes),
-    later.1
-    ∙ ap (λ (d : AtPort). stop_at (last_kind (y ∷ ys)) (with_asks m d)) first.1
-    ∙ ap (stop_at (last_kind (y ∷ ys))) (with_asks-joined n m a ∙ ap (λ (k : ℕ). with_asks k a) (sym number))
-    ∙ ap (λ (kind : StepKind). stop_at kind (with_asks (counted (without_last (xs ++ y ∷ ys))) a)) (sym (last_kind-append xs y ys)))
+    let number : counted (without_last (xs ++ y ∷ ys)) ≡ n + m = ap counted (without_last-append xs y ys) ∙ counted-append xs (without_last (y ∷ ys)) in (
+      subst (λ (k : ℕ). lets_pass k a.left ≡ true) (sym number) (lets_pass-joined n m a.left first.0 passes),
+      later.1
+          ∙ ap (λ (d : AtPort). stop_at (last_kind (y ∷ ys)) (with_asks m d)) first.1
+          ∙ ap (stop_at (last_kind (y ∷ ys))) (with_asks-joined n m a ∙ ap (λ (k : ℕ). with_asks k a) (sym number))
+          ∙ ap (λ (kind : StepKind). stop_at kind (with_asks (counted (without_last (xs ++ y ∷ ys))) a)) (sym (last_kind-append xs y ys)),
+    )
 
 -- what `Answers` says, of any asks
 Answers-each : {T : Type 0} (left : T → Option ℕ) (by_gate : T → ℕ) (g h : T) (kinds : List StepKind) (pass : Pass) → Answers left by_gate g h kinds pass
@@ -78,6 +80,7 @@ Answers-none left by_gate g a = (lets_pass-none (left g), ap (λ (l : Option ℕ
     lets_pass-none : (l : Option ℕ) → lets_pass 0 l ≡ true
     lets_pass-none None = refl
     lets_pass-none (Some l) = grind (arith, nat_tests)
+
     left_after-none : (l : Option ℕ) → left_after 0 l ≡ l
     left_after-none None = refl
     left_after-none (Some l) = ap Some (let e : l - 0 ≡ l = omega arith in e)

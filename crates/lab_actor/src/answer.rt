@@ -22,8 +22,16 @@ fn reported_xrun(why: XrunWhy) -> XrunWhy
 {
     match why {
         XrunWhy::Avail { avail, .. } => XrunWhy::Avail { avail, seen: 0 },
-        XrunWhy::Late { frame, channel, .. } => XrunWhy::Late { frame, channel, seen: 0 },
-        XrunWhy::Overtaken { frame, channel, .. } => XrunWhy::Overtaken { frame, channel, seen: 0 },
+        XrunWhy::Late { frame, channel, .. } => XrunWhy::Late {
+            frame,
+            channel,
+            seen: 0,
+        },
+        XrunWhy::Overtaken { frame, channel, .. } => XrunWhy::Overtaken {
+            frame,
+            channel,
+            seen: 0,
+        },
         other => other,
     }
 }

@@ -46,7 +46,7 @@ returns g c =
     (sym (offered wav plain offer c.fed.result c.args.frames c.fed.ensures c.next_frames-offer.ensures.frames))
     (slice-Offers wav plain n some c.requires.ready.channels most) in
     let fed = (Gives-taken (LoadsAt P G) (LaysAt P G) NoGet (IsFed (plain.fed + frames_in plain offer)) s t _ _
-        (write-fed plain c.args.client.now.ring offer _) call.takes).most in
+    (write-fed plain c.args.client.now.ring offer _) call.takes).most in
     called-keeps P G met.laid_composes met.held_laid met.ends_in_part s t wav c.args.client.now c.writei-answer.new.self (op.Write c.args.frames) c.moved.result c.writei-answer.result
     (λ all. Follows plain all offer (frames_in plain offer)) offer c.requires.ready offers.frames
     (answer-taken P G met.laid_composes met.held_laid met.ends_in_part count_answer s t _ c.writei-answer.new.self.plain c.writei-answer.result c.moved.result call.takes c.moved.ensures)

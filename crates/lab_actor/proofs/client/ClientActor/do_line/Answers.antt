@@ -24,7 +24,7 @@ returns g c =
     let t = both c.answer_line-answer.new.port c.answer_line-answer.new.gate in
     let ended : List Segment = ended_by asked answer a.client.plain d.plain in
     let ends = c.ends_stretch-ends.ensures
-        ∙ (λ i. ends_stretch asked answer (c.is_paused-was_paused.ensures i) (c.is_paused-paused.ensures i)) in
+    ∙ (λ i. ends_stretch asked answer (c.is_paused-was_paused.ensures i) (c.is_paused-paused.ensures i)) in
     let is : (if c.ends_stretch-ends.result then laid_of c.segment-segment.result else []) ≡ ended =
     (λ i. if ends i then laid_of (c.segment-segment.ensures i) else []) ∙ sym (ended_by-test asked answer a.client.plain d.plain) in
     let ended_is : c.push_ended.new.ended.items ≡ a.ended.items ++ ended = c.push_ended.ensures.items ∙ ap (λ (more : List Segment). a.ended.items ++ more) is in
