@@ -1,0 +1,115 @@
+-- How the segments of a client grow and end by what its port laid.
+use Rattle.std.proofs.Common.{◌≡◌, ℕ, List, [], ◌∷◌, ◌++◌, refl, sym, ◌∙◌, ap, subst, arith, append_assoc, length}
+use Rattle.std.proofs.lemmas.Bool.Decides.{nat_tests}
+use Rattle.std.proofs.lemmas.List.{append-nil}
+use Rattle.std.proofs.lemmas.List.Sums.{fold-append}
+use Rattle.std.proofs.lemmas.List.Concat.{flat_map-append}
+use Rattle.std.specs.Prelude.{◌+◌, ◌&&◌, Bool, true, false, nat_eq, if◌then◌else◌, ℤ}
+use Rattle.std.specs.List.{flat_map, fold}
+use Rattle.snd_base.specs.declared.places.Segment.{Segment}
+use Rattle.snd_base.specs.Relations.{Composes}
+use Rattle.mix_core.specs.declared.port.Entry.{Entry}
+use Rattle.mix_core.specs.declared.port.MixPort as mixport
+use Rattle.mix_core.specs.Laid.{AreAdds, stand_after}
+use Rattle.mix_core.specs.PortLaws.{standing-adds}
+use Rattle.dmix_client.specs.declared.plain.Plain.{Plain}
+use Rattle.dmix_client.specs.Calls.{segment_of}
+use Rattle.dmix_client.specs.Expansion.{run_entries, sample_at}
+use Rattle.dmix_client.specs.Growth.{Grows, Loses, TakesAway, segment_entries}
+use Rattle.lab_run.specs.Client.{stretch_of}
+use Rattle.lab_actor.specs.ClientLines.{Extends, entries_by, stretches_entries}
+use Rattle.lab_actor.proofs.Adds.{AreAdds-suffix, segment-adds}
+
+-- a stretch in which nothing was laid has no entries
+none-laid : (c : Plain) (samples : List ℤ) → c.stretch.committed ≡ 0 → c.stretch.part ≡ 0 → segment_entries c samples ≡ []
+none-laid c samples no_frame no_part =
+    ap (λ (k : ℕ). run_entries c.identity.member c.setup.bindings (λ j. sample_at samples (length c.setup.bindings) (c.stretch.source + j)) c.stretch.card 0 k c.stretch.part) no_frame
+    ∙ ap (λ (k : ℕ). run_entries c.identity.member c.setup.bindings (λ j. sample_at samples (length c.setup.bindings) (c.stretch.source + j)) c.stretch.card 0 0 k) no_part
+
+-- the entries of a stretch are those of its segment, where it has one
+pub stretch-entries : (c : Plain) (samples : List ℤ) → flat_map (entries_by c samples) (stretch_of c) ≡ segment_entries c samples
+stretch-entries c samples = by_test (nat_eq c.stretch.committed 0 && nat_eq c.stretch.part 0) refl
+  where
+    by_test : (test : Bool) → (nat_eq c.stretch.committed 0 && nat_eq c.stretch.part 0) ≡ test
+        → flat_map (entries_by c samples) (if test then [] else segment_of c ∷ []) ≡ segment_entries c samples
+    by_test true none = sym (none-laid c samples (grind (arith, nat_tests, none)) (grind (arith, nat_tests, none)))
+    by_test false some = append-nil (segment_entries c samples)
+
+-- the entries of segments are the same for a client of the same member and bindings
+same-entries : (c d : Plain) (samples : List ℤ) (segments : List Segment) → d.identity.member ≡ c.identity.member → d.setup.bindings ≡ c.setup.bindings
+    → flat_map (entries_by c samples) segments ≡ flat_map (entries_by d samples) segments
+same-entries c d samples [] member bindings = refl
+same-entries c d samples (segment ∷ segments) member bindings =
+    let one : entries_by c samples segment ≡ entries_by d samples segment =
+    ap (λ (m : ℕ). run_entries m c.setup.bindings (λ j. sample_at samples (length c.setup.bindings) (segment.source + j)) segment.card 0 segment.whole segment.part) (sym member)
+    ∙ ap (λ (bs : List ℕ). run_entries d.identity.member bs (λ j. sample_at samples (length bs) (segment.source + j)) segment.card 0 segment.whole segment.part) (sym bindings) in
+    let rest = same-entries c d samples segments member bindings in
+    ap (λ (es : List Entry). es ++ flat_map (entries_by c samples) segments) one ∙ ap (λ (es : List Entry). entries_by d samples segment ++ es) rest
+
+module _ {S : Type 0} (P : mixport.Ghosts S) (composes : Composes P.laid) where
+  -- nothing was laid, and the entries are the same
+  pub Extends-still : (p : S) (c d : Plain) (samples : List ℤ) (ended : List Segment) → segment_entries c samples ≡ stretches_entries d samples ended
+      → d.identity.member ≡ c.identity.member → d.setup.bindings ≡ c.setup.bindings → Extends P samples p p c d ended
+  Extends-still p c d samples ended same member bindings = record {
+    away = record {
+      entries = [];
+      laid_them = composes.none p;
+      lost = λ early. ap (λ (es : List Entry). early ++ es) same;
+      held = λ early held. subst (P.ends_in p) (ap (λ (es : List Entry). early ++ es) same) held;
+    };
+    same_member = member;
+    same_bindings = bindings;
+  }
+
+  -- a segment grew by what was laid
+  pub Extends-grows : (p q : S) (c d : Plain) (samples : List ℤ)
+      → ((p q : S) (xs es : List Entry) → AreAdds es → P.laid p q es → P.ends_in p xs → P.ends_in q (xs ++ es))
+      → Grows P.laid p q c d samples → Extends P samples p q c d []
+  Extends-grows p q c d samples held_laid w =
+      let adds : AreAdds w.entries = AreAdds-suffix (segment_entries c samples) w.entries (subst AreAdds w.grown (segment-adds d samples)) in
+      let more : (early : List Entry) → (early ++ segment_entries c samples) ++ w.entries ≡ early ++ segment_entries d samples =
+      λ early. append_assoc early (segment_entries c samples) w.entries ∙ ap (λ (es : List Entry). early ++ es) (sym w.grown) in
+      record {
+        away = record {
+          entries = w.entries;
+          laid_them = w.laid_them;
+          lost = λ early. standing-adds (early ++ segment_entries c samples) w.entries adds ∙ more early;
+          held = λ early held. subst (P.ends_in q) (more early) (held_laid p q (early ++ segment_entries c samples) w.entries adds w.laid_them held);
+        };
+        same_member = w.same_member;
+        same_bindings = w.same_bindings;
+      }
+
+  -- a segment lost what was withdrawn
+  pub Extends-back : (p q : S) (c d : Plain) (samples : List ℤ) → Loses P.laid P.ends_in p q c d samples → Extends P samples p q c d []
+  Extends-back p q c d samples loses = record { away = loses.away; same_member = loses.same_member; same_bindings = loses.same_bindings }
+
+  -- one after the other
+  pub Extends-joined : (p q r : S) (c d e : Plain) (samples : List ℤ) (ended others : List Segment) → Extends P samples p q c d ended → Extends P samples q r d e others
+      → Extends P samples p r c e (ended ++ others)
+  Extends-joined p q r c d e samples ended others first later =
+      let one = first.away in
+      let two = later.away in
+      let old : List Entry = flat_map (entries_by d samples) ended in
+      let was : List Entry = segment_entries d samples in
+      let is : old ++ stretches_entries e samples others ≡ stretches_entries e samples (ended ++ others) =
+      ap (λ (es : List Entry). es ++ stretches_entries e samples others) (same-entries d e samples ended later.same_member later.same_bindings)
+      ∙ sym (append_assoc (flat_map (entries_by e samples) ended) (flat_map (entries_by e samples) others) (segment_entries e samples))
+      ∙ ap (λ (es : List Entry). es ++ segment_entries e samples) (sym (flat_map-append (entries_by e samples) ended others)) in
+      let there : (early : List Entry) → (early ++ old) ++ stretches_entries e samples others ≡ early ++ stretches_entries e samples (ended ++ others) =
+      λ early. append_assoc early old (stretches_entries e samples others) ∙ ap (λ (es : List Entry). early ++ es) is in
+      record {
+        away = record {
+          entries = one.entries ++ two.entries;
+          laid_them = composes.joined p q r one.entries two.entries one.laid_them two.laid_them;
+          lost = λ early.
+              fold-append stand_after (early ++ segment_entries c samples) one.entries two.entries
+              ∙ ap (λ (held : List Entry). fold stand_after held two.entries) (one.lost early ∙ sym (append_assoc early old was))
+              ∙ two.lost (early ++ old)
+              ∙ there early;
+          held = λ early held. subst (P.ends_in r) (there early)
+              (two.held (early ++ old) (subst (P.ends_in q) (sym (append_assoc early old was)) (one.held early held)));
+        };
+        same_member = later.same_member ∙ first.same_member;
+        same_bindings = later.same_bindings ∙ first.same_bindings;
+      }

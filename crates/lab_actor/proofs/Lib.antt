@@ -1,0 +1,10 @@
+mod Adds
+mod Answered
+mod Asks
+mod Away
+mod Called
+mod Fed
+mod Gates
+mod Gives
+mod Offering
+mod Parts

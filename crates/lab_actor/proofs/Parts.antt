@@ -1,0 +1,197 @@
+-- An actor's lines, one after the other.
+use Rattle.std.proofs.Common.{◌≡◌, ℕ, ◌+◌, ◌<◌, ◌≤◌, List, [], ◌∷◌, ◌++◌, refl, sym, ◌∙◌, ap, subst, arith, append_assoc, length, get_or, take, drop, suc}
+use Rattle.std.proofs.Math.Seq.{take-suc}
+use Rattle.std.proofs.lemmas.List.{append-nil, length-append, take-append-drop}
+use mir.Val.{bool_byte}
+use Rattle.std.specs.Prelude.{Bool, true, false, Option, Some, if◌then◌else◌}
+use Rattle.snd_base.specs.declared.geometry.Geometry.{Geometry}
+use Rattle.snd_base.specs.declared.places.Segment.{Segment}
+use Rattle.snd_base.specs.Relations.{Composes}
+use Rattle.mix_core.specs.declared.port.MixPort as mixport
+use Rattle.wav_io.specs.Sound.{Sound}
+use Rattle.lab_script.specs.declared.line.Actor.{Actor}
+use Rattle.lab_script.specs.declared.line.Line.{Line}
+use Rattle.lab_script.specs.declared.line.Op.{Op}
+use Rattle.lab_report.specs.declared.row.Answer.{Answer}
+use Rattle.lab_report.specs.declared.row.Row.{Row}
+use Rattle.lab_run.specs.ActorPart.{Doing, PartsGrow}
+use Rattle.lab_run.specs.Client.{Client, client_kind, row_by}
+use Rattle.lab_run.specs.ClientAtPort.{IsClientLine}
+use Rattle.lab_run.specs.Phases.{ops_by}
+use Rattle.lab_run.specs.PortSteps.{IsAtPort}
+use Rattle.lab_actor.specs.declared.client.ClientActor.{ClientActor}
+use Rattle.dmix_client.specs.View.{ClientView}
+use Rattle.lab_actor.specs.ClientLines.{Extends}
+use Rattle.lab_actor.specs.ClientPart.{ClientLine, ClientPart, HasDone, client_of}
+use Rattle.lab_actor.specs.Room.{RoomLeft}
+use Rattle.lab_actor.proofs.Away.{Extends-joined, Extends-still}
+
+-- the lines of an actor among the first of a phase's
+ops_by-append : (mine : Actor → Bool) (xs ys : List Line) → ops_by mine (xs ++ ys) ≡ ops_by mine xs ++ ops_by mine ys
+ops_by-append mine [] ys = refl
+ops_by-append mine (x ∷ xs) ys =
+    ap (λ (ops : List Op). (if mine x.actor then x.op ∷ [] else []) ++ ops) (ops_by-append mine xs ys)
+    ∙ sym (append_assoc (if mine x.actor then x.op ∷ [] else []) (ops_by mine xs) (ops_by mine ys))
+
+next-line : (mine : Actor → Bool) (lines : List Line) (k : ℕ) (line : Line) → k < length lines → get_or lines k line ≡ line
+    → ops_by mine (take (k + 1) lines) ≡ ops_by mine (take k lines) ++ ((if mine line.actor then line.op ∷ [] else []) ++ [])
+next-line mine lines k line within is =
+    ap (λ (j : ℕ). ops_by mine (take j lines)) (let e : k + 1 ≡ suc k = omega arith in e)
+    ∙ ap (ops_by mine) (take-suc lines k line within ∙ ap (λ (x : Line). take k lines ++ x ∷ []) is)
+    ∙ ops_by-append mine (take k lines) (line ∷ [])
+
+pub own-line : (mine : Actor → Bool) (lines : List Line) (k : ℕ) (line : Line) → k < length lines → get_or lines k line ≡ line → mine line.actor ≡ true
+    → ops_by mine (take (k + 1) lines) ≡ ops_by mine (take k lines) ++ line.op ∷ []
+own-line mine lines k line within is own =
+    next-line mine lines k line within is ∙ ap (λ (test : Bool). ops_by mine (take k lines) ++ ((if test then line.op ∷ [] else []) ++ [])) own
+
+pub other-line : (mine : Actor → Bool) (lines : List Line) (k : ℕ) (line : Line) → k < length lines → get_or lines k line ≡ line → mine line.actor ≡ false
+    → ops_by mine (take (k + 1) lines) ≡ ops_by mine (take k lines)
+other-line mine lines k line within is other =
+    next-line mine lines k line within is ∙ ap (λ (test : Bool). ops_by mine (take k lines) ++ ((if test then line.op ∷ [] else []) ++ [])) other
+    ∙ append-nil (ops_by mine (take k lines))
+
+-- there is one line more of an actor's where the next one is its own
+pub few-lines : (mine : Actor → Bool) (lines : List Line) (k : ℕ) → length (ops_by mine (take k lines)) ≤ length (ops_by mine lines)
+few-lines mine lines k =
+    let all : ops_by mine lines ≡ ops_by mine (take k lines) ++ ops_by mine (drop k lines) =
+    ap (ops_by mine) (sym (take-append-drop k lines)) ∙ ops_by-append mine (take k lines) (drop k lines) in
+    let size : length (ops_by mine lines) ≡ length (ops_by mine (take k lines)) + length (ops_by mine (drop k lines)) =
+    ap length all ∙ length-append (ops_by mine (take k lines)) (ops_by mine (drop k lines)) in
+    omega (arith, size)
+
+pub own-size : (mine : Actor → Bool) (lines : List Line) (k : ℕ) (line : Line) → k < length lines → get_or lines k line ≡ line → mine line.actor ≡ true
+    → length (ops_by mine (take (k + 1) lines)) ≡ length (ops_by mine (take k lines)) + 1
+own-size mine lines k line within is own =
+    ap length (own-line mine lines k line within is own) ∙ length-append (ops_by mine (take k lines)) (line.op ∷ [])
+
+module _ {S T : Type 0} (P : mixport.Ghosts S) (composes : Composes P.laid) (left : T → Option ℕ) (by_gate : T → ℕ) where
+  pub ClientPart-none : (s : S × T) (phase : ℕ) (wav : Sound) (a : ClientActor) → ClientPart P left by_gate s s phase wav a a []
+  ClientPart-none s phase wav a = record {
+    rows = [];
+    rows_are = sym (append-nil a.rows.items);
+    part = λ first ring from before at. record { doing = before; done = (refl, refl); at = at };
+    ended = [];
+    ended_are = sym (append-nil a.ended.items);
+    extends = Extends-still P composes s.0 a.client.plain a.client.plain wav.samples [] refl refl refl;
+    same = refl;
+  }
+
+  pub ClientPart-more : ((ring : Geometry) (phase : ℕ) (wav : Sound) (number : ℕ) → PartsGrow (client_kind phase wav number) ring)
+      → (s t u : S × T) (phase : ℕ) (wav : Sound) (a x b : ClientActor) (ops : List Op) (asked : Op)
+      → ClientPart P left by_gate s t phase wav a x ops → ClientLine P left by_gate t u phase wav x b asked → ClientPart P left by_gate s u phase wav a b (ops ++ asked ∷ [])
+  ClientPart-more grow s t u phase wav a x b ops asked one line =
+      let row : Row = row_by phase a.number asked (Some b.client.plain) line.answer in
+      record {
+        rows = one.rows ++ row ∷ [];
+        rows_are =
+            line.rows_are
+            ∙ ap (λ (n : ℕ). x.rows.items ++ row_by phase n asked (Some b.client.plain) line.answer ∷ []) one.same
+            ∙ ap (λ (rows : List Row). rows ++ row ∷ []) one.rows_are
+            ∙ append_assoc a.rows.items one.rows (row ∷ []);
+        part = λ first ring from before at.
+            let p = one.part first ring from before at in
+            let l = subst (λ (n : ℕ). IsClientLine P left by_gate first ring from u phase wav n p.doing (client_of x) asked (client_of b) line.answer) one.same
+            (line.line first ring from p.doing p.at) in
+            record {
+              doing = l.doing;
+              done = grow ring phase wav a.number ((before.0, client_of a), before.1) ((p.doing.0, client_of x), p.doing.1) ((l.doing.0, client_of b), l.doing.1)
+                  ops one.rows asked line.answer p.done l.done;
+              at = l.at;
+            };
+        ended = one.ended ++ line.ended;
+        ended_are = line.ended_are ∙ ap (λ (segments : List Segment). segments ++ line.ended) one.ended_are ∙ append_assoc a.ended.items one.ended line.ended;
+        extends = Extends-joined P composes s.0 t.0 u.0 a.client.plain x.client.plain b.client.plain wav.samples one.ended line.ended one.extends line.extends;
+        same = line.same ∙ one.same;
+      }
+
+-- the same at a gate of which the shares are the same
+pub IsAtPort-shared : {S T U : Type 0} (P : mixport.Ghosts S) (left : T → Option ℕ) (by_gate : T → ℕ) (other_left : U → Option ℕ) (by_other : U → ℕ)
+    (first : S) (ring : Geometry) (from : ℕ) (p : S) (g : T) (h : U) (doing : Doing) → left g ≡ other_left h → by_gate g ≡ by_other h
+    → IsAtPort P left by_gate first ring from (p, g) doing → IsAtPort P other_left by_other first ring from (p, h) doing
+IsAtPort-shared P left by_gate other_left by_other first ring from p g h doing same_left same_gate at = record {
+  geometry = at.geometry;
+  after = at.after;
+  seen = at.seen;
+  marks = at.marks;
+  left_is = at.left_is ∙ same_left;
+  by_gate_is = at.by_gate_is ∙ same_gate;
+  loads = at.loads;
+  late = at.late;
+  overtaken = at.overtaken;
+}
+
+pub ClientPart-shared : {S T U : Type 0} (P : mixport.Ghosts S) (left : T → Option ℕ) (by_gate : T → ℕ) (other_left : U → Option ℕ) (by_other : U → ℕ)
+    (p q : S) (g h : T) (k m : U) (phase : ℕ) (wav : Sound) (a b c : ClientActor) (ops : List Op)
+    → left g ≡ other_left k → by_gate g ≡ by_other k → left h ≡ other_left m → by_gate h ≡ by_other m
+    → c.rows.items ≡ b.rows.items → c.ended.items ≡ b.ended.items → c.client ≡ b.client → c.number ≡ b.number
+    → ClientPart P left by_gate (p, g) (q, h) phase wav a b ops → ClientPart P other_left by_other (p, k) (q, m) phase wav a c ops
+ClientPart-shared P left by_gate other_left by_other p q g h k m phase wav a b c ops left_before gate_before left_after gate_after rows ended client number part =
+    let same : client_of b ≡ client_of c = λ i. record { own = Some ((sym client) i).plain; ended = (sym ended) i } in
+    record {
+      rows = part.rows;
+      rows_are = rows ∙ part.rows_are;
+      part = λ first ring from before at.
+          let done = part.part first ring from before
+          (IsAtPort-shared P other_left by_other left by_gate first ring from p k g before (sym left_before) (sym gate_before) at) in
+          subst (λ (own : Client). HasDone P other_left by_other first ring from (q, m) phase wav a.number before (client_of a) ops own part.rows) same (record {
+            doing = done.doing;
+            done = done.done;
+            at = IsAtPort-shared P left by_gate other_left by_other first ring from q h m done.doing left_after gate_after done.at;
+          });
+      ended = part.ended;
+      ended_are = ended ∙ part.ended_are;
+      extends = subst (λ (v : ClientView). Extends P wav.samples p q a.client.plain v.plain part.ended) (sym client) part.extends;
+      same = number ∙ part.same;
+    }
+
+-- one line of a phase, which an actor does where it is its own
+pub ClientPart-next : {S T : Type 0} (P : mixport.Ghosts S) (composes : Composes P.laid) (left : T → Option ℕ) (by_gate : T → ℕ)
+    → ((ring : Geometry) (phase : ℕ) (wav : Sound) (number : ℕ) → PartsGrow (client_kind phase wav number) ring)
+    → (s t u : S × T) (phase : ℕ) (wav : Sound) (a x b : ClientActor) (mine : Actor → Bool) (lines : List Line) (k : ℕ) (line : Line) → k < length lines → get_or lines k line ≡ line
+    → ClientPart P left by_gate s t phase wav a x (ops_by mine (take k lines))
+    → (mine line.actor ≡ true → ClientLine P left by_gate t u phase wav x b line.op) → (mine line.actor ≡ false → (b ≡ x) × (u.0 ≡ t.0) × (u.1 ≡ t.1))
+    → ClientPart P left by_gate s u phase wav a b (ops_by mine (take (k + 1) lines))
+ClientPart-next {S = S} {T = T} P composes left by_gate grow s t u phase wav a x b mine lines k line within is part own others = by_test (mine line.actor) refl
+  where
+    by_test : (test : Bool) → mine line.actor ≡ test → ClientPart P left by_gate s u phase wav a b (ops_by mine (take (k + 1) lines))
+    by_test true own_is = subst (λ (ops : List Op). ClientPart P left by_gate s u phase wav a b ops) (sym (own-line mine lines k line within is own_is))
+        (ClientPart-more P composes left by_gate grow s t u phase wav a x b (ops_by mine (take k lines)) line.op part (own own_is))
+    by_test false other_is =
+        let r = others other_is in
+        subst (λ (ops : List Op). ClientPart P left by_gate s u phase wav a b ops) (sym (other-line mine lines k line within is other_is))
+        (subst (λ (y : ClientActor). ClientPart P left by_gate s u phase wav a y (ops_by mine (take k lines))) (sym r.0)
+        (let same : t ≡ u = λ i. ((sym r.1) i, (sym r.2) i) in subst (λ (v : S × T). ClientPart P left by_gate s v phase wav a x (ops_by mine (take k lines))) same part))
+
+-- the room that is left then
+pub room-next : (mine : Actor → Bool) (lines : List Line) (k : ℕ) (line : Line) (len room len_after room_after : ℕ) → k < length lines → get_or lines k line ≡ line
+    → len + length (ops_by mine lines) ≤ room + length (ops_by mine (take k lines))
+    → (mine line.actor ≡ true → RoomLeft len room len_after room_after) → (mine line.actor ≡ false → (len_after ≡ len) × (room_after ≡ room))
+    → len_after + length (ops_by mine lines) ≤ room_after + length (ops_by mine (take (k + 1) lines))
+room-next mine lines k line len room len_after room_after within is before own others = by_test (mine line.actor) refl
+  where
+    by_test : (test : Bool) → mine line.actor ≡ test → len_after + length (ops_by mine lines) ≤ room_after + length (ops_by mine (take (k + 1) lines))
+    by_test true own_is =
+        let few = (own own_is).few in
+        let kept = (own own_is).kept in
+        omega (arith, before, few, kept, own-size mine lines k line within is own_is)
+    by_test false other_is =
+        let one = (others other_is).0 in
+        let two = (others other_is).1 in
+        omega (arith, before, one, two, ap length (other-line mine lines k line within is other_is))
+
+-- there is room for an own line
+pub room-own : (mine : Actor → Bool) (lines : List Line) (k : ℕ) (line : Line) (len room : ℕ) → k < length lines → get_or lines k line ≡ line
+    → len + length (ops_by mine lines) ≤ room + length (ops_by mine (take k lines)) → mine line.actor ≡ true → len < room
+room-own mine lines k line len room within is before own_is =
+    omega (arith, before, own-size mine lines k line within is own_is, few-lines mine lines (k + 1))
+
+-- how many lines of an actor's there are up to the next one
+pub counted-next : (mine : Actor → Bool) (lines : List Line) (k : ℕ) (line : Line) → k < length lines → get_or lines k line ≡ line → (test : Bool) → test ≡ mine line.actor
+    → length (ops_by mine (take k lines)) + bool_byte test ≡ length (ops_by mine (take (k + 1) lines))
+counted-next mine lines k line within is true same = sym (own-size mine lines k line within is (sym same))
+counted-next mine lines k line within is false same = let size = ap length (other-line mine lines k line within is (sym same)) in omega (arith, size)
+
+pub bool_byte-most : (test : Bool) → bool_byte test ≤ 1
+bool_byte-most true = omega arith
+bool_byte-most false = omega arith

@@ -1,0 +1,68 @@
+use Rattle.std.proofs.Common.{◌≡◌, ℕ, ◌<◌, ap, arith, get_or, length, refl, subst, sym, ◌∙◌}
+use Rattle.std.proofs.lemmas.List.{get_or_default}
+use Rattle.std.specs.Prelude.{true, false, vec_capacity, vec_len}
+use Rattle.lab_script.specs.declared.line.Actor.TheVariants as actor
+use Rattle.lab_script.specs.declared.line.Line.{Line}
+use Rattle.lab_script.specs.declared.line.Op.TheVariants as op
+use Rattle.lab_run.specs.Phases.{is_client}
+use Rattle.lab_actor.specs.declared.client.ClientActor.{ClientActor}
+use Rattle.lab_actor.specs.Countdown.{by_gate_of, left_of}
+use Rattle.lab_actor.proofs.Gates.{both}
+use Rattle.lab_actor.proofs.Parts.{ClientPart-next, ClientPart-none, room-next, room-own}
+use Rattle.lab_actor.proofs.client.ClientActor.do_lines.Goals as goal
+
+pub loop-index-init : goal.loop-index-init
+loop-index-init g c = record {
+  part = ClientPart-none g.P.MixPort g.met.P.MixPort.laid_composes left_of (by_gate_of g.G.Gate.stops) (both c.args.port.now c.args.gate.now) c.args.phase c.args.wav.now c.args.self.now;
+  ready = c.requires.ready;
+  same_gate = refl;
+  rows_room = let room = c.requires.rows_room in omega (arith, room);
+  ended_room = let room = c.requires.ended_room in omega (arith, room);
+}
+
+pub do_own-requires : goal.do_own-requires
+do_own-requires g c =
+    let lines = c.args.lines.now in
+    let index = c.loop-index.index in
+    let none : Line = record { number = 0; actor = actor.Card; op = op.Play 0 } in
+    let line : Line = get_or lines index none in
+    let within : index < length lines = c.loop-index-test.true in
+    let before = c.loop-index.invariant in
+    let x = c.loop-index.self in
+    let mine = is_client c.args.self.now.number in
+    let own : is_client x.number line.actor ≡ true → mine line.actor ≡ true = λ own_is. subst (λ (n : ℕ). is_client n line.actor ≡ true) before.part.same own_is in
+    record {
+      few = c.requires.few index none within;
+      ready = before.ready;
+      rows_room = λ own_is. room-own mine lines index line (vec_len x.rows) (vec_capacity x.rows) within (sym (get_or_default lines index none line within)) before.rows_room (own own_is);
+      ended_room = λ own_is. room-own mine lines index line (vec_len x.ended) (vec_capacity x.ended) within (sym (get_or_default lines index none line within)) before.ended_room (own own_is);
+    }
+
+pub loop-index-preserved : goal.loop-index-preserved
+loop-index-preserved g c =
+    let lines = c.args.lines.now in
+    let index = c.loop-index.index in
+    let none : Line = record { number = 0; actor = actor.Card; op = op.Play 0 } in
+    let line : Line = get_or lines index none in
+    let within : index < length lines = c.loop-index-test.true in
+    let is : get_or lines index line ≡ line = sym (get_or_default lines index none line within) in
+    let before = c.loop-index.invariant in
+    let x = c.loop-index.self in
+    let b = c.do_own.new.self in
+    let mine = is_client c.args.self.now.number in
+    let same = before.part.same in
+    let call = c.do_own.ensures in
+    let own_is : mine line.actor ≡ true → is_client x.number line.actor ≡ true = λ own. subst (λ (n : ℕ). is_client n line.actor ≡ true) (sym same) own in
+    let other_is : mine line.actor ≡ false → is_client x.number line.actor ≡ false = λ other. subst (λ (n : ℕ). is_client n line.actor ≡ false) (sym same) other in
+    let others = λ (other : mine line.actor ≡ false). call.others (other_is other) in
+    record {
+      part = ClientPart-next g.P.MixPort g.met.P.MixPort.laid_composes left_of (by_gate_of g.G.Gate.stops) c.parts_grow.ensures.clients
+          (both c.args.port.now c.args.gate.now) (both c.loop-index.port c.loop-index.gate) (both c.do_own.new.port c.do_own.new.gate) c.args.phase c.args.wav.now c.args.self.now x b mine lines index line within is
+          before.part (λ own. call.own (own_is own)) others;
+      ready = call.ready;
+      same_gate = call.same_gate ∙ before.same_gate;
+      rows_room = room-next mine lines index line (vec_len x.rows) (vec_capacity x.rows) (vec_len b.rows) (vec_capacity b.rows) within is before.rows_room
+          (λ own. call.rows_room (own_is own)) (λ other. (ap (λ (y : ClientActor). vec_len y.rows) (others other).0, ap (λ (y : ClientActor). vec_capacity y.rows) (others other).0));
+      ended_room = room-next mine lines index line (vec_len x.ended) (vec_capacity x.ended) (vec_len b.ended) (vec_capacity b.ended) within is before.ended_room
+          (λ own. call.ended_room (own_is own)) (λ other. (ap (λ (y : ClientActor). vec_len y.ended) (others other).0, ap (λ (y : ClientActor). vec_capacity y.ended) (others other).0));
+    }

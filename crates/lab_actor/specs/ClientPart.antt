@@ -1,0 +1,60 @@
+-- What the lines of an open client did in a phase: its part of a run, its rows, and its segments.
+use Rattle.std.specs.Prelude.{◌≡◌, ℕ, List, [], ◌∷◌, ◌++◌, Option, Some}
+use Rattle.snd_base.specs.declared.geometry.Geometry.{Geometry}
+use Rattle.snd_base.specs.declared.places.Segment.{Segment}
+use Rattle.mix_core.specs.declared.port.MixPort as mixport
+use Rattle.wav_io.specs.Sound.{Sound}
+use Rattle.lab_script.specs.declared.line.Op.{Op}
+use Rattle.lab_report.specs.declared.row.Answer.{Answer}
+use Rattle.lab_report.specs.declared.row.Row.{Row}
+use Rattle.lab_run.specs.ActorPart.{ActorPart, Doing}
+use Rattle.lab_run.specs.Client.{Client, client_kind, row_by}
+use Rattle.lab_run.specs.ClientAtPort.{IsClientLine}
+use Rattle.lab_run.specs.PortSteps.{IsAtPort}
+use Rattle.lab_actor.specs.declared.client.ClientActor.{ClientActor}
+use Rattle.lab_actor.specs.ClientLines.{Extends, IsReady}
+
+-- the client of an actor, as a run has it
+abbrev pub client_of : ClientActor → Client
+client_of a = record { own = Some a.client.plain; ended = a.ended.items }
+
+-- what stays of an actor
+abbrev pub IsSameActor : ClientActor → ClientActor → Type 0
+IsSameActor a b = b.number ≡ a.number
+
+-- lines were done at a port and a gate, after which it is so
+pub record HasDone {S T : Type 0} (P : mixport.Ghosts S) (left : T → Option ℕ) (by_gate : T → ℕ) (first : S) (ring : Geometry) (from : ℕ) (t : S × T)
+    (phase : ℕ) (wav : Sound) (number : ℕ) (before : Doing) (client : Client) (ops : List Op) (after : Client) (rows : List Row) : Type 0 where
+  pub doing : Doing
+  pub done : ActorPart (client_kind phase wav number) ring ((before.0, client), before.1) ops ((doing.0, after), doing.1) rows
+  pub at : IsAtPort P left by_gate first ring from t doing
+
+-- An actor did one line. Whichever state of the port is taken as the first, and up to whichever frame others used the port before: the line
+-- is a line of the client, as a run has it.
+pub record ClientLine {S T : Type 0} (P : mixport.Ghosts S) (left : T → Option ℕ) (by_gate : T → ℕ) (s t : S × T) (phase : ℕ) (wav : Sound) (a b : ClientActor) (asked : Op) : Type 0 where
+  pub answer : Answer
+  pub rows_are : b.rows.items ≡ a.rows.items ++ row_by phase a.number asked (Some b.client.plain) answer ∷ []
+  pub line : (first : S) (ring : Geometry) (from : ℕ) (before : Doing) → IsAtPort P left by_gate first ring from s before
+      → IsClientLine P left by_gate first ring from t phase wav a.number before (client_of a) asked (client_of b) answer
+  pub ended : List Segment
+  pub ended_are : b.ended.items ≡ a.ended.items ++ ended
+  pub extends : Extends P wav.samples s.0 t.0 a.client.plain b.client.plain ended
+  pub same : IsSameActor a b
+
+-- an actor did some lines, likewise
+pub record ClientPart {S T : Type 0} (P : mixport.Ghosts S) (left : T → Option ℕ) (by_gate : T → ℕ) (s t : S × T) (phase : ℕ) (wav : Sound) (a b : ClientActor) (ops : List Op) : Type 0 where
+  pub rows : List Row
+  pub rows_are : b.rows.items ≡ a.rows.items ++ rows
+  pub part : (first : S) (ring : Geometry) (from : ℕ) (before : Doing) → IsAtPort P left by_gate first ring from s before
+      → HasDone P left by_gate first ring from t phase wav a.number before (client_of a) ops (client_of b) rows
+  pub ended : List Segment
+  pub ended_are : b.ended.items ≡ a.ended.items ++ ended
+  pub extends : Extends P wav.samples s.0 t.0 a.client.plain b.client.plain ended
+  pub same : IsSameActor a b
+
+-- an actor's share of a gate's state: what a `die` lets pass yet, and the stops of its own gate
+abbrev pub left_in : Option ℕ × ℕ → Option ℕ
+left_in share = share.0
+
+abbrev pub stops_in : Option ℕ × ℕ → ℕ
+stops_in share = share.1

@@ -1,0 +1,5 @@
+pub mod ClientLines
+pub mod ClientPart
+pub mod Countdown
+pub mod CountdownLaws
+pub mod Room

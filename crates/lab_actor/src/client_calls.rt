@@ -1,0 +1,78 @@
+//! The calls that the lines of an open client name.
+ghost use Rattle.std.specs.Prelude.{◌≡◌, ◌-◌, ◌*◌, ◌^◌, ◌<◌, ◌≤◌, drop, false, min, take};
+ghost use Rattle.lab_run.specs.Client.{frames_of};
+ghost use Rattle.lab_actor.specs.ClientLines.{HasCalled, IsFew, IsReady};
+
+use crate::answer::{counted, done, moved};
+use dmix_client::Client;
+use lab_report::Answer;
+use lab_script::Op;
+use mix_core::{Gate, MixPort};
+use snd_base::PcmError;
+use wav_io::Wav;
+
+/// The next `frames` frames of a client's file, of which `fed` frames are accepted, or those that are left of it.
+fn next_frames(wav: &Wav, fed: u64, frames: u32) -> &[i16]
+    requires { fed ≤ frames_of wav.now }
+    ensures some { 1 ≤ wav.now.channels }
+    ensures room { frames_of wav.now < 2 ^ 63 }
+    ensures frames { result.now ≡ take (min frames (frames_of wav.now - fed) * wav.now.channels) (drop (fed * wav.now.channels) wav.now.samples) }
+{
+    let samples = wav.samples.as_slice();
+    let channels = wav.channels as usize;
+    let left = samples.len() / channels - fed as usize;
+    let from = fed as usize * channels;
+    let count = left.min(frames as usize) * channels;
+    &samples[from..from + count]
+}
+
+/// The client writes the next `frames` frames of its file, or those that are left of it.
+fn write<P: MixPort, G: Gate>(
+    client: &mut Client,
+    port: &mut P,
+    gate: &mut G,
+    wav: &Wav,
+    frames: u32,
+) -> Answer
+    requires few { frames ≤ 4194304 }
+    requires ready { IsReady P.MixPort wav.now port.old client.old }
+    ensures { HasCalled P.MixPort G.Gate (port.old, gate.old) (port.new, gate.new) wav.now client.old client.new (Op.Write frames) result }
+{
+    let offer = next_frames(wav, client.fed(), frames);
+    client.counts_are_sound();
+    let answer = client.writei(port, gate, offer);
+    moved(answer)
+}
+
+/// The call that a line of an open client names. A write offers the next frames of the client's file, or those that are left.
+pub(crate) fn call<P: MixPort, G: Gate>(
+    client: &mut Client,
+    port: &mut P,
+    gate: &mut G,
+    wav: &Wav,
+    asked: Op,
+) -> Answer
+    requires few { IsFew asked }
+    requires unstopped { client.old.plain.status.stopped ≡ false }
+    requires ready { IsReady P.MixPort wav.now port.old client.old }
+    ensures { HasCalled P.MixPort G.Gate (port.old, gate.old) (port.new, gate.new) wav.now client.old client.new asked result }
+{
+    client.counts_are_sound();
+    match asked {
+        Op::Write(frames) => write(client, port, gate, wav, frames),
+        Op::Start => done(client.start(port, gate)),
+        Op::Sync => done(client.sync(port, gate)),
+        Op::Avail => counted(client.avail_update(port, gate)),
+        Op::Delay => counted(client.delay(port, gate)),
+        Op::Drain => done(client.drain(port, gate)),
+        Op::Drop => done(client.drop_pending()),
+        Op::Prepare => done(client.prepare()),
+        Op::Pause => done(client.pause(port, gate, true)),
+        Op::Resume => done(client.pause(port, gate, false)),
+        Op::Rewind(frames) => counted(client.rewind(port, gate, frames as u64)),
+        Op::Rewindable => counted(client.rewindable(port, gate)),
+        Op::Play(_) | Op::Unplug | Op::Read(_) | Op::Die(_) | Op::Opens | Op::Closes => {
+            Answer::Failed(PcmError::BadState)
+        }
+    }
+}
