@@ -1,4 +1,5 @@
--- Each call of a client is like the call without its samples and words, at a port with marks that are the same from a frame on.
+-- Each call of a client is like the call without its samples and words, of the client with another member, at a port with marks that are the same
+-- from a frame on.
 use Rattle.std.proofs.Common.{◌≡◌, ℕ, ◌+◌, ◌-◌, refl, ap, Option, Some, None, ◌≤◌, sym, ◌∙◌, subst, arith}
 use Rattle.std.specs.Prelude.{Bool, true, false, nat_eq, List, [], ◌∷◌, zero, suc, min, length, ℤ, Result, Ok, Err, OnOk, unwrap_or, if◌then◌else◌}
 use Rattle.snd_base.specs.declared.errors.PcmError.{PcmError}
@@ -8,7 +9,7 @@ use Rattle.mix_core.specs.declared.port.Ended.TheVariants.{Whole, Late, Stopped}
 use Rattle.mix_core.specs.declared.port.Position.{Position}
 use Rattle.bindings.specs.Bound.{rising}
 use Rattle.pcm_states.specs.declared.states.State.{State}
-use Rattle.pcm_states.specs.declared.states.State.TheVariants.{Draining, Running}
+use Rattle.pcm_states.specs.declared.states.State.TheVariants.{Draining, Prepared, Running, Setup}
 use Rattle.pcm_states.specs.declared.calls.Call.{Call}
 use Rattle.pcm_states.specs.declared.calls.Call.TheVariants as call
 use Rattle.course.specs.Course.{◌>>=◌, Course, ends}
@@ -16,15 +17,16 @@ use Rattle.dmix_client.specs.declared.commit.Commit.{Commit}
 use Rattle.dmix_client.specs.declared.plain.Plain.{Plain}
 use Rattle.pcm_stream.specs.declared.direction.Direction.TheVariants.{Playback}
 use Rattle.pcm_stream.specs.Status.{is_moving, refusal_of}
-use Rattle.dmix_client.specs.Calls.{Answered, accepted_if, commit_count, avail_answer, delay_answer, draining, has_frames, is_running, pending_of, rebased, resumed, start_count, started, started_in, sync_count, synced, taken_of, with_number, written_after}
+use Rattle.dmix_client.specs.Calls.{Answered, accepted, accepted_if, avail_answer, avail_in, commit_count, delay_answer, delay_in, draining, dropped, has_frames, is_running, paused, pending_of, prepared, rebased, resumed, start_count, started, started_in, sync_count, synced, taken_of, with_number, written_after}
 use Rattle.dmix_client.specs.Course.{admitted, admitted_by, commit_at, commits, drain_course, drain_on, drains, fills, go_on, lay_each, lay_frame, lay_frames, lay_on, looks, nothing, number_course, numbered, one_frame_more, one_more, pause_call, pause_course, resumes, start_course, starts, starts_taking, sync_course, syncs, takes_more, write_on, writes_on}
 use Rattle.dmix_client.specs.Course as client_calls
-use Rattle.dmix_client.specs.Rewind.{back_of, back_on, checks, left_of, rewind_course, rewind_on, rewindable_course, rewindable_of, rewinds, rewound, take_each, take_frames, takes_back}
+use Rattle.dmix_client.specs.Rewind.{back_of, back_on, checks, left_of, rewind_course, rewind_on, rewindable_course, rewindable_of, rewinds, rewound, take_each, take_frames, takes_back, without}
 use Rattle.dmix_client.specs.View.{held}
 use Rattle.dmix_client.specs.Writes.{count_with, frames_in, ring_with, starts_with}
 use Rattle.lab_report.specs.declared.row.Answer.{Answer}
-use Rattle.lab_run.specs.Alike.{Alike, CallsAreAlike, IsFromOn, SameAnswer, SameFrom}
+use Rattle.lab_run.specs.Alike.{Alike, CallsAreAlike, IsFromOn, SameButMember, SameFrom}
 use Rattle.lab_run.specs.Client.{count_answer, done_answer, write_course}
+use Rattle.lab_run.specs.Members.{with_member}
 use Rattle.lab_run.proofs.AlikeLaws.{Alike-if, Alike-then, without_word}
 use Rattle.lab_run.proofs.ReportedWords.{accepted_if-alike, commit_without_word, resumed-word, rewound-word, started-word, synced-word, with_number-alike, written_after-word}
 
@@ -41,29 +43,49 @@ record SameFound (from : ℕ) (x y : Option Position × Commit) : Type 0 where
   pub same : y ≡ (x.0, commit_without_word x.1)
 
 -- a look that goes on has seen a position from a frame on
-record SameLook (from : ℕ) (x y : Answered (Unit {0})) : Type 0 where
-  pub answer : SameAnswer done_answer x y
+record SameLook (from member : ℕ) (x y : Answered (Unit {0})) : Type 0 where
+  pub answer : SameButMember member done_answer x y
   pub seen : OnOk x.1 (from ≤ unwrap_or x.0.seen 0)
 
 one_more-alike : (x y : ℕ × Ended) → SameEnd x y → SameEnd (one_more x) (one_more y)
 one_more-alike (n, e) y is = ap one_more is
 
--- a call that ends at once
-pub at-once : {X : Type 0} (answer : Result X PcmError → Answer) (done : Answered X) → SameAnswer answer done done
-at-once answer done = record { client = refl; answer_is = refl }
-
 on-ok : {X : Type 0} (r : Result X PcmError) (fact : Type 0) → fact → OnOk r fact
 on-ok (Ok x) fact is = is
 on-ok (Err e) fact is = tt
 
-module _ (from : ℕ) where
-  lay_each-alike : (member frame : ℕ) (bindings : List ℕ) (f g : ℕ → ℤ) (qs : List ℕ) → Alike from SameEnd (lay_each member frame bindings f qs) (lay_each member frame bindings g qs)
+-- the numbers that are answered don't depend on a client's member
+avail-member : (member : ℕ) (c : Plain) → avail_answer (with_member member c) ≡ avail_answer c
+avail-member member c = by_state c.status.state
+  where
+    by_state : (state : State) → avail_in state (with_member member c) ≡ avail_in state c
+    by_state Setup = refl
+    by_state other = refl
+
+delay-member : (member : ℕ) (c : Plain) → delay_answer (with_member member c) ≡ delay_answer c
+delay-member member c = by_state c.status.state
+  where
+    by_state : (state : State) → delay_in state (with_member member c) ≡ delay_in state c
+    by_state Setup = refl
+    by_state Prepared = refl
+    by_state other = refl
+
+module _ (from member : ℕ) where
+  -- the client that a course is like
+  abbrev other_of : Plain → Plain
+  other_of c = with_member member c
+
+  -- a call that ends at once
+  at-once : {X : Type 0} (answer : Result X PcmError → Answer) (done : Answered X) → SameButMember member answer done (other_of done.0, done.1)
+  at-once answer done = record { client = refl; answer_is = refl }
+
+  lay_each-alike : (place frame : ℕ) (bindings : List ℕ) (f g : ℕ → ℤ) (qs : List ℕ) → Alike from SameEnd (lay_each place frame bindings f qs) (lay_each member frame bindings g qs)
   unfolding lay_each
-  lay_each-alike member frame bindings f g [] = refl
-  lay_each-alike member frame bindings f g (q ∷ qs) = (
-    record { member = refl; frame = refl; channel = refl; kind = refl },
-    Alike-then from SameEnd SameEnd (lay_each member frame bindings f qs) (lay_each member frame bindings g qs) (λ end. ends (one_more end)) (λ end. ends (one_more end))
-        (lay_each-alike member frame bindings f g qs) one_more-alike,
+  lay_each-alike place frame bindings f g [] = refl
+  lay_each-alike place frame bindings f g (q ∷ qs) = (
+    record { frame = refl; channel = refl; kind = refl },
+    Alike-then from SameEnd SameEnd (lay_each place frame bindings f qs) (lay_each member frame bindings g qs) (λ end. ends (one_more end)) (λ end. ends (one_more end))
+        (lay_each-alike place frame bindings f g qs) one_more-alike,
     λ word. refl,
     refl,
   )
@@ -74,21 +96,21 @@ module _ (from : ℕ) where
   go_on-alike (done, Late word) y m n is rest = rw is refl
   go_on-alike (done, Stopped) y m n is rest = rw is refl
 
-  lay_frames-alike : (member card : ℕ) (bindings : List ℕ) (f g : ℕ → ℕ → ℤ) (count first : ℕ)
-      → Alike from SameCommit (lay_frames member card bindings f count first) (lay_frames member card bindings g count first)
+  lay_frames-alike : (place card : ℕ) (bindings : List ℕ) (f g : ℕ → ℕ → ℤ) (count first : ℕ)
+      → Alike from SameCommit (lay_frames place card bindings f count first) (lay_frames member card bindings g count first)
   unfolding lay_frames
-  lay_frames-alike member card bindings f g zero first = refl
-  lay_frames-alike member card bindings f g (suc count) first =
-      Alike-then from SameEnd SameCommit (lay_frame member (card + first) bindings (f first)) (lay_frame member (card + first) bindings (g first))
-      (λ end. go_on end (lay_frames member card bindings f count (first + 1))) (λ end. go_on end (lay_frames member card bindings g count (first + 1)))
-      (lay_each-alike member (card + first) bindings (f first) (g first) (rising bindings))
-      (λ x y is. go_on-alike x y (lay_frames member card bindings f count (first + 1)) (lay_frames member card bindings g count (first + 1)) is (lay_frames-alike member card bindings f g count (first + 1)))
+  lay_frames-alike place card bindings f g zero first = refl
+  lay_frames-alike place card bindings f g (suc count) first =
+      Alike-then from SameEnd SameCommit (lay_frame place (card + first) bindings (f first)) (lay_frame member (card + first) bindings (g first))
+      (λ end. go_on end (lay_frames place card bindings f count (first + 1))) (λ end. go_on end (lay_frames member card bindings g count (first + 1)))
+      (lay_each-alike place (card + first) bindings (f first) (g first) (rising bindings))
+      (λ x y is. go_on-alike x y (lay_frames place card bindings f count (first + 1)) (lay_frames member card bindings g count (first + 1)) is (lay_frames-alike place card bindings f g count (first + 1)))
 
-  commits-alike : (c : Plain) (ring other : List ℤ) (count : ℕ) → Alike from SameCommit (commits c ring count) (commits c other count)
-  commits-alike c ring other count = lay_frames-alike c.identity.member c.stretch.card c.setup.bindings (held c ring) (held c other) count c.stretch.committed
+  commits-alike : (c : Plain) (ring other : List ℤ) (count : ℕ) → Alike from SameCommit (commits c ring count) (commits (other_of c) other count)
+  commits-alike c ring other count = lay_frames-alike c.identity.member c.stretch.card c.setup.bindings (held c ring) (held (other_of c) other) count c.stretch.committed
 
   looks-alike : (at at' : Position → Plain) (count count' : Position → ℕ) (ring other : List ℤ)
-      → ((p : Position) → from ≤ p.frame → at' p ≡ at p) → ((p : Position) → from ≤ p.frame → count' p ≡ count p)
+      → ((p : Position) → from ≤ p.frame → at' p ≡ other_of (at p)) → ((p : Position) → from ≤ p.frame → count' p ≡ count p)
       → Alike from (SameFound from) (looks at count ring) (looks at' count' other)
   unfolding looks ◌>>=◌
   looks-alike at at' count count' ring other same same_count = by_load
@@ -97,28 +119,31 @@ module _ (from : ℕ) where
           → Alike from (SameFound from) (commit_at at count ring load >>= λ commit. ends (load, commit)) (commit_at at' count' other load >>= λ commit. ends (load, commit))
       by_load None after = record { after = tt; same = refl }
       by_load (Some p) after = rw (same p after, same_count p after)
-          (Alike-then from SameCommit (SameFound from) (commits (at p) ring (count p)) (commits (at p) other (count p)) (λ commit. ends (Some p, commit)) (λ commit. ends (Some p, commit))
+          (Alike-then from SameCommit (SameFound from) (commits (at p) ring (count p)) (commits (other_of (at p)) other (count p)) (λ commit. ends (Some p, commit)) (λ commit. ends (Some p, commit))
           (commits-alike (at p) ring other (count p)) (λ x y is. record { after = after; same = ap (λ z. (Some p, z)) is }))
 
   found-alike : (at at' : Position → Plain) (count count' : Position → ℕ) (ring other : List ℤ) (call call' : Option Position → Commit → Answered (Unit {0}))
-      → ((p : Position) → from ≤ p.frame → at' p ≡ at p) → ((p : Position) → from ≤ p.frame → count' p ≡ count p)
-      → ((load : Option Position) (x : Commit) → IsFromOn from load → SameAnswer done_answer (call load x) (call' load (commit_without_word x)))
-      → Alike from (SameAnswer done_answer) (looks at count ring >>= λ found. ends (call found.0 found.1)) (looks at' count' other >>= λ found. ends (call' found.0 found.1))
+      → ((p : Position) → from ≤ p.frame → at' p ≡ other_of (at p)) → ((p : Position) → from ≤ p.frame → count' p ≡ count p)
+      → ((load : Option Position) (x : Commit) → IsFromOn from load → SameButMember member done_answer (call load x) (call' load (commit_without_word x)))
+      → Alike from (SameButMember member done_answer) (looks at count ring >>= λ found. ends (call found.0 found.1)) (looks at' count' other >>= λ found. ends (call' found.0 found.1))
   found-alike at at' count count' ring other call call' same same_count word =
-      Alike-then from (SameFound from) (SameAnswer done_answer) (looks at count ring) (looks at' count' other) (λ found. ends (call found.0 found.1)) (λ found. ends (call' found.0 found.1))
+      Alike-then from (SameFound from) (SameButMember member done_answer) (looks at count ring) (looks at' count' other) (λ found. ends (call found.0 found.1)) (λ found. ends (call' found.0 found.1))
       (looks-alike at at' count count' ring other same same_count) (λ x y is. rw (is.same) (word x.0 x.1 is.after))
 
-  syncs-alike : (c : Plain) (call : Call) (ring other : List ℤ) → Alike from (SameAnswer done_answer) (syncs c call ring) (syncs c call other)
+  syncs-alike : (c : Plain) (call : Call) (ring other : List ℤ) → Alike from (SameButMember member done_answer) (syncs c call ring) (syncs (other_of c) call other)
   unfolding syncs
-  syncs-alike c call ring other = found-alike (λ p. c) (λ p. c) (sync_count c) (sync_count c) ring other (synced c call) (synced c call)
-      (λ p after. refl) (λ p after. refl) (λ load x after. synced-word c call load x)
+  syncs-alike c call ring other = found-alike (λ p. c) (λ p. other_of c) (sync_count c) (sync_count (other_of c)) ring other (synced c call) (synced (other_of c) call)
+      (λ p after. refl) (λ p after. refl) (λ load x after. synced-word member c call load x)
 
   -- a start at a port whose cursor is the same from the frame on
-  started_in-same : (c : Plain) (cursor other : Cursor) → SameFrom from cursor other → (p : Position) → from ≤ p.frame → started_in c Running p other ≡ started_in c Running p cursor
+  started_in-same : (c : Plain) (cursor other : Cursor) → SameFrom from cursor other → (p : Position) → from ≤ p.frame
+      → started_in (other_of c) Running p other ≡ other_of (started_in c Running p cursor)
   started_in-same c cursor other same p after =
-      ap (λ (n : ℕ). let d : Plain = record (started_in c Running p cursor) { stretch = record (started_in c Running p cursor).stretch { card = n } } in d) (sym (same (p.frame + c.identity.lead) (omega (arith, after))))
+      let one : Plain = started_in (other_of c) Running p cursor in
+      ap (λ (n : ℕ). let d : Plain = record one { stretch = record one.stretch { card = n } } in d) (sym (same (p.frame + c.identity.lead) (omega (arith, after))))
 
-  start_count-same : (c : Plain) (cursor other : Cursor) (upto : ℕ) → SameFrom from cursor other → (p : Position) → from ≤ p.frame → start_count c other p upto ≡ start_count c cursor p upto
+  start_count-same : (c : Plain) (cursor other : Cursor) (upto : ℕ) → SameFrom from cursor other → (p : Position) → from ≤ p.frame
+      → start_count (other_of c) other p upto ≡ start_count c cursor p upto
   start_count-same c cursor other upto same p after =
       ap (λ (d : Plain). if p.gone then 0 else commit_count d p.frame upto) (started_in-same c cursor other same p after)
 
@@ -128,117 +153,130 @@ module _ (from : ℕ) where
   started-same c state cursor other same (Some p) x after = rw (same (p.frame + c.identity.lead) (omega (arith, after))) refl
 
   starts-alike : (c : Plain) (state : State) (cursor other : Cursor) (upto : ℕ) (ring more : List ℤ) → SameFrom from cursor other
-      → Alike from (SameAnswer done_answer) (starts c state cursor upto ring) (starts c state other upto more)
+      → Alike from (SameButMember member done_answer) (starts c state cursor upto ring) (starts (other_of c) state other upto more)
   unfolding starts
   starts-alike c state cursor other upto ring more same =
-      found-alike (λ p. started_in c Running p cursor) (λ p. started_in c Running p other) (λ p. start_count c cursor p upto) (λ p. start_count c other p upto) ring more
-      (started c state cursor) (started c state other) (started_in-same c cursor other same) (start_count-same c cursor other upto same)
-      (λ load x after. subst (SameAnswer done_answer (started c state cursor load x)) (sym (started-same c state cursor other same load (commit_without_word x) after)) (started-word c state cursor load x))
+      found-alike (λ p. started_in c Running p cursor) (λ p. started_in (other_of c) Running p other) (λ p. start_count c cursor p upto) (λ p. start_count (other_of c) other p upto) ring more
+      (started c state cursor) (started (other_of c) state other) (started_in-same c cursor other same) (start_count-same c cursor other upto same)
+      (λ load x after. subst (SameButMember member done_answer (started c state cursor load x)) (sym (started-same (other_of c) state cursor other same load (commit_without_word x) after)) (started-word member c state cursor load x))
 
   resumed-same : (c : Plain) (cursor other : Cursor) → SameFrom from cursor other → (load : Option Position) (x : Commit) → IsFromOn from load
       → resumed c other load x ≡ resumed c cursor load x
   resumed-same c cursor other same None x after = refl
   resumed-same c cursor other same (Some p) x after = started-same (rebased c) Running cursor other same (Some p) x after
 
-  resumes-alike : (c : Plain) (cursor other : Cursor) (ring more : List ℤ) → SameFrom from cursor other → Alike from (SameAnswer done_answer) (resumes c cursor ring) (resumes c other more)
+  resumes-alike : (c : Plain) (cursor other : Cursor) (ring more : List ℤ) → SameFrom from cursor other
+      → Alike from (SameButMember member done_answer) (resumes c cursor ring) (resumes (other_of c) other more)
   unfolding resumes
   resumes-alike c cursor other ring more same =
-      found-alike (λ p. started_in (rebased c) Running p cursor) (λ p. started_in (rebased c) Running p other)
-      (λ p. start_count (rebased c) cursor p (pending_of c)) (λ p. start_count (rebased c) other p (pending_of c)) ring more (resumed c cursor) (resumed c other)
+      found-alike (λ p. started_in (rebased c) Running p cursor) (λ p. started_in (other_of (rebased c)) Running p other)
+      (λ p. start_count (rebased c) cursor p (pending_of c)) (λ p. start_count (other_of (rebased c)) other p (pending_of c)) ring more (resumed c cursor) (resumed (other_of c) other)
       (started_in-same (rebased c) cursor other same) (start_count-same (rebased c) cursor other (pending_of c) same)
-      (λ load x after. subst (SameAnswer done_answer (resumed c cursor load x)) (sym (resumed-same c cursor other same load (commit_without_word x) after)) (resumed-word c cursor load x))
+      (λ load x after. subst (SameButMember member done_answer (resumed c cursor load x)) (sym (resumed-same (other_of c) cursor other same load (commit_without_word x) after)) (resumed-word member c cursor load x))
 
   -- ---- the calls
 
-  pub admitted-alike : {X : Type 0} (answer : Result X PcmError → Answer) (c : Plain) (call : Call) (m n : Course (Answered X)) → Alike from (SameAnswer answer) m n
-      → Alike from (SameAnswer answer) (admitted c call m) (admitted c call n)
+  pub admitted-alike : {X : Type 0} (answer : Result X PcmError → Answer) (c : Plain) (call : Call) (m n : Course (Answered X)) → Alike from (SameButMember member answer) m n
+      → Alike from (SameButMember member answer) (admitted c call m) (admitted (other_of c) call n)
   admitted-alike answer c call m n alike = by_refusal (refusal_of Playback c.status call)
     where
-      by_refusal : (refusal : Option PcmError) → Alike from (SameAnswer answer) (admitted_by refusal c m) (admitted_by refusal c n)
+      by_refusal : (refusal : Option PcmError) → Alike from (SameButMember member answer) (admitted_by refusal c m) (admitted_by refusal (other_of c) n)
       by_refusal None = alike
       by_refusal (Some e) = at-once answer (c, Err e)
 
-  sync-alike : (c : Plain) (ring : List ℤ) → Alike from (SameAnswer done_answer) (sync_course c ring) (sync_course c [])
-  sync-alike c ring = Alike-if from (SameAnswer done_answer) (is_moving c.status.state) (syncs c call.Sync ring) (ends (c, Ok tt)) (syncs c call.Sync []) (ends (c, Ok tt))
+  sync-alike : (c : Plain) (ring : List ℤ) → Alike from (SameButMember member done_answer) (sync_course c ring) (sync_course (other_of c) [])
+  sync-alike c ring = Alike-if from (SameButMember member done_answer) (is_moving c.status.state) (syncs c call.Sync ring) (ends (c, Ok tt)) (syncs (other_of c) call.Sync []) (ends (other_of c, Ok tt))
       (syncs-alike c call.Sync ring []) (at-once done_answer (c, Ok tt))
 
-  start-alike : (c : Plain) (ring : List ℤ) (cursor other : Cursor) → SameFrom from cursor other → Alike from (SameAnswer done_answer) (start_course c ring cursor) (start_course c [] other)
-  start-alike c ring cursor other same = Alike-if from (SameAnswer done_answer) (nat_eq c.stretch.written 0) (ends _) (starts c Running cursor c.stretch.written ring) (ends _) (starts c Running other c.stretch.written [])
+  start-alike : (c : Plain) (ring : List ℤ) (cursor other : Cursor) → SameFrom from cursor other
+      → Alike from (SameButMember member done_answer) (start_course c ring cursor) (start_course (other_of c) [] other)
+  start-alike c ring cursor other same = Alike-if from (SameButMember member done_answer) (nat_eq c.stretch.written 0) (ends _) (starts c Running cursor c.stretch.written ring) (ends _) (starts (other_of c) Running other c.stretch.written [])
       (at-once done_answer _) (starts-alike c Running cursor other c.stretch.written ring [] same)
 
-  drain_on-alike : (ring other : List ℤ) (x y : Answered (Unit {0})) → SameAnswer done_answer x y → Alike from (SameAnswer done_answer) (drain_on ring x) (drain_on other y)
-  drain_on-alike ring other (c, Ok a) (d, Ok b) is = rw (is.client) (syncs-alike d call.Drain ring other)
+  drain_on-alike : (ring other : List ℤ) (x y : Answered (Unit {0})) → SameButMember member done_answer x y → Alike from (SameButMember member done_answer) (drain_on ring x) (drain_on other y)
+  drain_on-alike ring other (c, Ok a) (d, Ok b) is = rw (sym is.client) (syncs-alike c call.Drain ring other)
   drain_on-alike ring other (c, Err e) (d, Err f) is = record { client = is.client; answer_is = is.answer_is }
   drain_on-alike ring other (c, Ok a) (d, Err f) is = let wrong = is.answer_is in absurd (cc)
   drain_on-alike ring other (c, Err e) (d, Ok b) is = let wrong = is.answer_is in absurd (cc)
 
-  drains-alike : (c : Plain) (ring more : List ℤ) (cursor other : Cursor) → SameFrom from cursor other → Alike from (SameAnswer done_answer) (drains c ring cursor) (drains c more other)
+  drains-alike : (c : Plain) (ring more : List ℤ) (cursor other : Cursor) → SameFrom from cursor other
+      → Alike from (SameButMember member done_answer) (drains c ring cursor) (drains (other_of c) more other)
   unfolding drains
   drains-alike c ring more cursor other same =
-      Alike-then from (SameAnswer done_answer) (SameAnswer done_answer) (starts c Draining cursor c.stretch.written ring) (starts c Draining other c.stretch.written more)
+      Alike-then from (SameButMember member done_answer) (SameButMember member done_answer) (starts c Draining cursor c.stretch.written ring) (starts (other_of c) Draining other c.stretch.written more)
       (drain_on ring) (drain_on more) (starts-alike c Draining cursor other c.stretch.written ring more same) (drain_on-alike ring more)
 
-  drain-alike : (c : Plain) (ring : List ℤ) (cursor other : Cursor) → SameFrom from cursor other → Alike from (SameAnswer done_answer) (drain_course c ring cursor) (drain_course c [] other)
-  drain-alike c ring cursor other same = Alike-if from (SameAnswer done_answer) (is_moving c.status.state) (syncs (draining c) call.Drain ring) _ (syncs (draining c) call.Drain []) _
+  drain-alike : (c : Plain) (ring : List ℤ) (cursor other : Cursor) → SameFrom from cursor other
+      → Alike from (SameButMember member done_answer) (drain_course c ring cursor) (drain_course (other_of c) [] other)
+  drain-alike c ring cursor other same = Alike-if from (SameButMember member done_answer) (is_moving c.status.state) (syncs (draining c) call.Drain ring) _ (syncs (draining (other_of c)) call.Drain []) _
       (syncs-alike (draining c) call.Drain ring [])
-      (Alike-if from (SameAnswer done_answer) (has_frames c) (drains c ring cursor) (ends _) (drains c [] other) (ends _) (drains-alike c ring [] cursor other same) (at-once done_answer _))
+      (Alike-if from (SameButMember member done_answer) (has_frames c) (drains c ring cursor) (ends _) (drains (other_of c) [] other) (ends _) (drains-alike c ring [] cursor other same) (at-once done_answer (dropped c, Ok tt)))
 
-  pause-alike : (on : Bool) (c : Plain) (ring : List ℤ) (cursor other : Cursor) → SameFrom from cursor other → Alike from (SameAnswer done_answer) (pause_course on c ring cursor) (pause_course on c [] other)
-  pause-alike on c ring cursor other same = Alike-if from (SameAnswer done_answer) on (ends _) _ (ends _) _ (at-once done_answer _)
-      (Alike-if from (SameAnswer done_answer) (nat_eq (pending_of c) 0) (ends _) (resumes c cursor ring) (ends _) (resumes c other []) (at-once done_answer _) (resumes-alike c cursor other ring [] same))
+  pause-alike : (on : Bool) (c : Plain) (ring : List ℤ) (cursor other : Cursor) → SameFrom from cursor other
+      → Alike from (SameButMember member done_answer) (pause_course on c ring cursor) (pause_course on (other_of c) [] other)
+  pause-alike on c ring cursor other same = Alike-if from (SameButMember member done_answer) on (ends _) _ (ends _) _ (at-once done_answer (paused c, Ok tt))
+      (Alike-if from (SameButMember member done_answer) (nat_eq (pending_of c) 0) (ends _) (resumes c cursor ring) (ends _) (resumes (other_of c) other []) (at-once done_answer (rebased c, Ok tt)) (resumes-alike c cursor other ring [] same))
 
   numbered-alike : (number other : Plain → ℕ) (Q : Answered (Unit {0}) → Answered (Unit {0}) → Type 0) (m n : Course (Answered (Unit {0})))
-      → ((x y : Answered (Unit {0})) → Q x y → SameAnswer count_answer (with_number number x) (with_number other y))
-      → Alike from Q m n → Alike from (SameAnswer count_answer) (numbered number m) (numbered other n)
+      → ((x y : Answered (Unit {0})) → Q x y → SameButMember member count_answer (with_number number x) (with_number other y))
+      → Alike from Q m n → Alike from (SameButMember member count_answer) (numbered number m) (numbered other n)
   unfolding numbered
-  numbered-alike number other Q m n same alike = Alike-then from Q (SameAnswer count_answer) m n (λ done. ends (with_number number done)) (λ done. ends (with_number other done)) alike same
+  numbered-alike number other Q m n same alike = Alike-then from Q (SameButMember member count_answer) m n (λ done. ends (with_number number done)) (λ done. ends (with_number other done)) alike same
 
-  number-alike : (number : Plain → ℕ) (c : Plain) (ring : List ℤ) → Alike from (SameAnswer count_answer) (number_course number c ring) (number_course number c [])
-  number-alike number c ring = Alike-if from (SameAnswer count_answer) (is_moving c.status.state) (numbered number (syncs c call.Sync ring)) (ends _) (numbered number (syncs c call.Sync [])) (ends _)
-      (numbered-alike number number (SameAnswer done_answer) (syncs c call.Sync ring) (syncs c call.Sync []) (with_number-alike number) (syncs-alike c call.Sync ring [])) (at-once count_answer _)
+  number-alike : (number : Plain → ℕ) → ((c : Plain) → number (other_of c) ≡ number c) → (c : Plain) (ring : List ℤ)
+      → Alike from (SameButMember member count_answer) (number_course number c ring) (number_course number (other_of c) [])
+  number-alike number same c ring =
+      Alike-if from (SameButMember member count_answer) (is_moving c.status.state) (numbered number (syncs c call.Sync ring)) (ends (c, Ok (number c)))
+      (numbered number (syncs (other_of c) call.Sync [])) (ends (other_of c, Ok (number (other_of c))))
+      (numbered-alike number number (SameButMember member done_answer) (syncs c call.Sync ring) (syncs (other_of c) call.Sync []) (with_number-alike member number same) (syncs-alike c call.Sync ring []))
+      (record { client = refl; answer_is = ap (λ n. count_answer (Ok n)) (sym (same c)) })
 
-  takes_more-alike : (c : Plain) (ring samples other more : List ℤ) (n : ℕ) → Alike from (SameAnswer count_answer) (takes_more c ring samples n) (takes_more c other more n)
+  takes_more-alike : (c : Plain) (ring samples other more : List ℤ) (n : ℕ)
+      → Alike from (SameButMember member count_answer) (takes_more c ring samples n) (takes_more (other_of c) other more n)
   unfolding takes_more
   takes_more-alike c ring samples other more n =
-      Alike-then from SameCommit (SameAnswer count_answer) (commits c (ring_with c ring samples (taken_of c n)) (count_with c (taken_of c n))) (commits c (ring_with c other more (taken_of c n)) (count_with c (taken_of c n)))
-      (λ last. ends (written_after c n last)) (λ last. ends (written_after c n last))
-      (commits-alike c (ring_with c ring samples (taken_of c n)) (ring_with c other more (taken_of c n)) (count_with c (taken_of c n))) (λ x y is. rw is (written_after-word c n x))
+      Alike-then from SameCommit (SameButMember member count_answer) (commits c (ring_with c ring samples (taken_of c n)) (count_with c (taken_of c n))) (commits (other_of c) (ring_with c other more (taken_of c n)) (count_with c (taken_of c n)))
+      (λ last. ends (written_after c n last)) (λ last. ends (written_after (other_of c) n last))
+      (commits-alike c (ring_with c ring samples (taken_of c n)) (ring_with c other more (taken_of c n)) (count_with c (taken_of c n))) (λ x y is. rw is (written_after-word member c n x))
 
-  write_on-alike : (ring samples other more : List ℤ) (n : ℕ) (x y : Answered (Unit {0})) → SameAnswer done_answer x y → Alike from (SameAnswer count_answer) (write_on ring samples n x) (write_on other more n y)
-  write_on-alike ring samples other more n (c, Ok a) (d, Ok b) is = rw (is.client) (takes_more-alike d ring samples other more n)
+  write_on-alike : (ring samples other more : List ℤ) (n : ℕ) (x y : Answered (Unit {0})) → SameButMember member done_answer x y
+      → Alike from (SameButMember member count_answer) (write_on ring samples n x) (write_on other more n y)
+  write_on-alike ring samples other more n (c, Ok a) (d, Ok b) is = rw (sym is.client) (takes_more-alike c ring samples other more n)
   write_on-alike ring samples other more n (c, Err e) (d, Err f) is = record { client = is.client; answer_is = is.answer_is }
   write_on-alike ring samples other more n (c, Ok a) (d, Err f) is = let wrong = is.answer_is in absurd (cc)
   write_on-alike ring samples other more n (c, Err e) (d, Ok b) is = let wrong = is.answer_is in absurd (cc)
 
-  writes_on-alike : (c : Plain) (ring samples other more : List ℤ) (n : ℕ) → Alike from (SameAnswer count_answer) (writes_on c ring samples n) (writes_on c other more n)
+  writes_on-alike : (c : Plain) (ring samples other more : List ℤ) (n : ℕ)
+      → Alike from (SameButMember member count_answer) (writes_on c ring samples n) (writes_on (other_of c) other more n)
   unfolding writes_on
-  writes_on-alike c ring samples other more n = Alike-then from (SameAnswer done_answer) (SameAnswer count_answer) (syncs c call.Transfer ring) (syncs c call.Transfer other)
+  writes_on-alike c ring samples other more n = Alike-then from (SameButMember member done_answer) (SameButMember member count_answer) (syncs c call.Transfer ring) (syncs (other_of c) call.Transfer other)
       (write_on ring samples n) (write_on other more n) (syncs-alike c call.Transfer ring other) (write_on-alike ring samples other more n)
 
   starts_taking-alike : (c : Plain) (ring more : List ℤ) (cursor other : Cursor) (taken : ℕ) → SameFrom from cursor other
-      → Alike from (SameAnswer count_answer) (starts_taking c ring cursor taken) (starts_taking c more other taken)
+      → Alike from (SameButMember member count_answer) (starts_taking c ring cursor taken) (starts_taking (other_of c) more other taken)
   unfolding starts_taking
-  starts_taking-alike c ring more cursor other taken same = Alike-then from (SameAnswer done_answer) (SameAnswer count_answer)
-      (starts c Running cursor (c.stretch.written + taken) ring) (starts c Running other (c.stretch.written + taken) more) (λ done. ends (accepted_if taken done)) (λ done. ends (accepted_if taken done))
-      (starts-alike c Running cursor other (c.stretch.written + taken) ring more same) (accepted_if-alike taken)
+  starts_taking-alike c ring more cursor other taken same = Alike-then from (SameButMember member done_answer) (SameButMember member count_answer)
+      (starts c Running cursor (c.stretch.written + taken) ring) (starts (other_of c) Running other (c.stretch.written + taken) more) (λ done. ends (accepted_if taken done)) (λ done. ends (accepted_if taken done))
+      (starts-alike c Running cursor other (c.stretch.written + taken) ring more same) (accepted_if-alike member taken)
 
   write-alike : (c : Plain) (ring samples : List ℤ) (cursor other : Cursor) → SameFrom from cursor other
-      → Alike from (SameAnswer count_answer) (client_calls.write_course c ring samples cursor) (write_course c other (frames_in c samples))
+      → Alike from (SameButMember member count_answer) (client_calls.write_course c ring samples cursor) (write_course (other_of c) other (frames_in c samples))
   write-alike c ring samples cursor other same =
-      Alike-if from (SameAnswer count_answer) (is_running c.status.state) (writes_on c ring samples (frames_in c samples)) (fills c ring samples cursor (frames_in c samples))
-      (writes_on c [] [] (frames_in c samples)) (fills c [] [] other (frames_in c samples))
+      Alike-if from (SameButMember member count_answer) (is_running c.status.state) (writes_on c ring samples (frames_in c samples)) (fills c ring samples cursor (frames_in c samples))
+      (writes_on (other_of c) [] [] (frames_in c samples)) (fills (other_of c) [] [] other (frames_in c samples))
       (writes_on-alike c ring samples [] [] (frames_in c samples))
-      (Alike-if from (SameAnswer count_answer) (starts_with c (frames_in c samples)) (starts_taking c (ring_with c ring samples (taken_of c (frames_in c samples))) cursor (taken_of c (frames_in c samples))) (ends _)
-      (starts_taking c (ring_with c [] [] (taken_of c (frames_in c samples))) other (taken_of c (frames_in c samples))) (ends _)
-      (starts_taking-alike c (ring_with c ring samples (taken_of c (frames_in c samples))) (ring_with c [] [] (taken_of c (frames_in c samples))) cursor other (taken_of c (frames_in c samples)) same) (at-once count_answer _))
+      (Alike-if from (SameButMember member count_answer) (starts_with c (frames_in c samples)) (starts_taking c (ring_with c ring samples (taken_of c (frames_in c samples))) cursor (taken_of c (frames_in c samples))) (ends _)
+      (starts_taking (other_of c) (ring_with c [] [] (taken_of c (frames_in c samples))) other (taken_of c (frames_in c samples))) (ends _)
+      (starts_taking-alike c (ring_with c ring samples (taken_of c (frames_in c samples))) (ring_with c [] [] (taken_of c (frames_in c samples))) cursor other (taken_of c (frames_in c samples)) same)
+      (at-once count_answer (accepted c (taken_of c (frames_in c samples)), Ok (taken_of c (frames_in c samples)))))
 
   -- ---- rewinds
 
-  take_each-alike : (member frame : ℕ) (bindings : List ℕ) (f g : ℕ → ℤ) (n : ℕ) → Alike from SameEnd (take_each member frame bindings f n) (take_each member frame bindings g n)
+  take_each-alike : (place frame : ℕ) (bindings : List ℕ) (f g : ℕ → ℤ) (n : ℕ) → Alike from SameEnd (take_each place frame bindings f n) (take_each member frame bindings g n)
   unfolding take_each
-  take_each-alike member frame bindings f g zero = refl
-  take_each-alike member frame bindings f g (suc n) =
-      (record { member = refl; frame = refl; channel = refl; kind = refl }, take_each-alike member frame bindings f g n, λ word. refl, refl)
+  take_each-alike place frame bindings f g zero = refl
+  take_each-alike place frame bindings f g (suc n) =
+      (record { frame = refl; channel = refl; kind = refl }, take_each-alike place frame bindings f g n, λ word. refl, refl)
 
   left_of-word : (n left channels : ℕ) (ended : Ended) → SameCommit (left_of n left channels ended) (left_of n left channels (without_word ended))
   left_of-word n left channels ended = by_all (nat_eq left channels) refl
@@ -252,53 +290,55 @@ module _ (from : ℕ) where
   back_on-alike n channels (left, Late word) y m o is rest = rw is (left_of-word n left channels (Late word))
   back_on-alike n channels (left, Stopped) y m o is rest = rw is (left_of-word n left channels Stopped)
 
-  take_frames-alike : (member card : ℕ) (bindings : List ℕ) (f g : ℕ → ℕ → ℤ) (first n : ℕ)
-      → Alike from SameCommit (take_frames member card bindings f first n) (take_frames member card bindings g first n)
+  take_frames-alike : (place card : ℕ) (bindings : List ℕ) (f g : ℕ → ℕ → ℤ) (first n : ℕ)
+      → Alike from SameCommit (take_frames place card bindings f first n) (take_frames member card bindings g first n)
   unfolding take_frames
-  take_frames-alike member card bindings f g first zero = refl
-  take_frames-alike member card bindings f g first (suc n) =
-      Alike-then from SameEnd SameCommit (take_each member (card + (first + n)) bindings (f (first + n)) (length bindings)) (take_each member (card + (first + n)) bindings (g (first + n)) (length bindings))
-      (λ end. back_on end n (length bindings) (take_frames member card bindings f first n)) (λ end. back_on end n (length bindings) (take_frames member card bindings g first n))
-      (take_each-alike member (card + (first + n)) bindings (f (first + n)) (g (first + n)) (length bindings))
-      (λ x y is. back_on-alike n (length bindings) x y (take_frames member card bindings f first n) (take_frames member card bindings g first n) is (take_frames-alike member card bindings f g first n))
+  take_frames-alike place card bindings f g first zero = refl
+  take_frames-alike place card bindings f g first (suc n) =
+      Alike-then from SameEnd SameCommit (take_each place (card + (first + n)) bindings (f (first + n)) (length bindings)) (take_each member (card + (first + n)) bindings (g (first + n)) (length bindings))
+      (λ end. back_on end n (length bindings) (take_frames place card bindings f first n)) (λ end. back_on end n (length bindings) (take_frames member card bindings g first n))
+      (take_each-alike place (card + (first + n)) bindings (f (first + n)) (g (first + n)) (length bindings))
+      (λ x y is. back_on-alike n (length bindings) x y (take_frames place card bindings f first n) (take_frames member card bindings g first n) is (take_frames-alike place card bindings f g first n))
 
-  takes_back-alike : (c : Plain) (ring other : List ℤ) (n : ℕ) → Alike from (SameAnswer count_answer) (takes_back c ring n) (takes_back c other n)
+  takes_back-alike : (c : Plain) (ring other : List ℤ) (n : ℕ) → Alike from (SameButMember member count_answer) (takes_back c ring n) (takes_back (other_of c) other n)
   unfolding takes_back
   takes_back-alike c ring other n =
-      Alike-then from SameCommit (SameAnswer count_answer) (take_frames c.identity.member c.stretch.card c.setup.bindings (held c ring) (c.stretch.committed - back_of c n) (back_of c n)) (take_frames c.identity.member c.stretch.card c.setup.bindings (held c other) (c.stretch.committed - back_of c n) (back_of c n))
-      (λ left. ends (rewound c n left)) (λ left. ends (rewound c n left))
-      (take_frames-alike c.identity.member c.stretch.card c.setup.bindings (held c ring) (held c other) (c.stretch.committed - back_of c n) (back_of c n)) (λ x y is. rw is (rewound-word c n x))
+      Alike-then from SameCommit (SameButMember member count_answer) (take_frames c.identity.member c.stretch.card c.setup.bindings (held c ring) (c.stretch.committed - back_of c n) (back_of c n)) (take_frames member c.stretch.card c.setup.bindings (held (other_of c) other) (c.stretch.committed - back_of c n) (back_of c n))
+      (λ left. ends (rewound c n left)) (λ left. ends (rewound (other_of c) n left))
+      (take_frames-alike c.identity.member c.stretch.card c.setup.bindings (held c ring) (held (other_of c) other) (c.stretch.committed - back_of c n) (back_of c n)) (λ x y is. rw is (rewound-word member c n x))
 
-  checks-alike : (c : Plain) → Alike from (SameLook from) (checks c) (checks c)
+  checks-alike : (c : Plain) → Alike from (SameLook from member) (checks c) (checks (other_of c))
   unfolding checks
   checks-alike c = by_load
     where
-      by_load : (load : Option Position) → IsFromOn from load → SameLook from (synced c call.Transfer load nothing) (synced c call.Transfer load nothing)
-      by_load None after = record { answer = at-once done_answer _; seen = tt }
-      by_load (Some p) after = record { answer = at-once done_answer _; seen = on-ok (synced c call.Transfer (Some p) nothing).1 _ after }
+      by_load : (load : Option Position) → IsFromOn from load → SameLook from member (synced c call.Transfer load nothing) (synced (other_of c) call.Transfer load nothing)
+      by_load None after = record { answer = record { client = refl; answer_is = refl }; seen = tt }
+      by_load (Some p) after = record { answer = record { client = refl; answer_is = refl }; seen = on-ok (synced c call.Transfer (Some p) nothing).1 _ after }
 
-  rewindable-same : (floor lower : Cursor) (c : Plain) → SameFrom from floor lower → from ≤ unwrap_or c.seen 0 → rewindable_of floor c ≡ rewindable_of lower c
+  rewindable-same : (floor lower : Cursor) (c : Plain) → SameFrom from floor lower → from ≤ unwrap_or c.seen 0 → rewindable_of floor c ≡ rewindable_of lower (other_of c)
   rewindable-same floor lower c same seen = ap (λ (n : ℕ). pending_of c + (c.stretch.committed - (n - c.stretch.card))) (same (unwrap_or c.seen 0) seen)
 
-  rewind_on-alike : (floor lower : Cursor) (ring other : List ℤ) (n : ℕ) → SameFrom from floor lower → (x y : Answered (Unit {0})) → SameLook from x y
-      → Alike from (SameAnswer count_answer) (rewind_on floor ring n x) (rewind_on lower other n y)
+  rewind_on-alike : (floor lower : Cursor) (ring other : List ℤ) (n : ℕ) → SameFrom from floor lower → (x y : Answered (Unit {0})) → SameLook from member x y
+      → Alike from (SameButMember member count_answer) (rewind_on floor ring n x) (rewind_on lower other n y)
   rewind_on-alike floor lower ring other n same (c, Ok a) (d, Ok b) is =
       rw (sym is.answer.client, sym (rewindable-same floor lower c same is.seen)) (takes_back-alike c ring other (min n (rewindable_of floor c)))
   rewind_on-alike floor lower ring other n same (c, Err e) (d, Err f) is = record { client = is.answer.client; answer_is = is.answer.answer_is }
   rewind_on-alike floor lower ring other n same (c, Ok a) (d, Err f) is = let wrong = is.answer.answer_is in absurd (cc)
   rewind_on-alike floor lower ring other n same (c, Err e) (d, Ok b) is = let wrong = is.answer.answer_is in absurd (cc)
 
-  rewinds-alike : (c : Plain) (ring other : List ℤ) (floor lower : Cursor) (n : ℕ) → SameFrom from floor lower → Alike from (SameAnswer count_answer) (rewinds c ring floor n) (rewinds c other lower n)
+  rewinds-alike : (c : Plain) (ring other : List ℤ) (floor lower : Cursor) (n : ℕ) → SameFrom from floor lower
+      → Alike from (SameButMember member count_answer) (rewinds c ring floor n) (rewinds (other_of c) other lower n)
   unfolding rewinds
   rewinds-alike c ring other floor lower n same =
-      Alike-then from (SameLook from) (SameAnswer count_answer) (checks c) (checks c) (rewind_on floor ring n) (rewind_on lower other n) (checks-alike c) (rewind_on-alike floor lower ring other n same)
+      Alike-then from (SameLook from member) (SameButMember member count_answer) (checks c) (checks (other_of c)) (rewind_on floor ring n) (rewind_on lower other n) (checks-alike c) (rewind_on-alike floor lower ring other n same)
 
-  rewind-alike : (c : Plain) (ring : List ℤ) (floor lower : Cursor) (n : ℕ) → SameFrom from floor lower → Alike from (SameAnswer count_answer) (rewind_course c ring floor n) (rewind_course c [] lower n)
-  rewind-alike c ring floor lower n same = Alike-if from (SameAnswer count_answer) (is_running c.status.state) (rewinds c ring floor n) (ends _) (rewinds c [] lower n) (ends _)
-      (rewinds-alike c ring [] floor lower n same) (at-once count_answer _)
+  rewind-alike : (c : Plain) (ring : List ℤ) (floor lower : Cursor) (n : ℕ) → SameFrom from floor lower
+      → Alike from (SameButMember member count_answer) (rewind_course c ring floor n) (rewind_course (other_of c) [] lower n)
+  rewind-alike c ring floor lower n same = Alike-if from (SameButMember member count_answer) (is_running c.status.state) (rewinds c ring floor n) (ends _) (rewinds (other_of c) [] lower n) (ends _)
+      (rewinds-alike c ring [] floor lower n same) (at-once count_answer (without c (min n c.stretch.written), Ok (min n c.stretch.written)))
 
-  rewindable_number : (floor lower : Cursor) → SameFrom from floor lower → (x y : Answered (Unit {0})) → SameLook from x y
-      → SameAnswer count_answer (with_number (rewindable_of floor) x) (with_number (rewindable_of lower) y)
+  rewindable_number : (floor lower : Cursor) → SameFrom from floor lower → (x y : Answered (Unit {0})) → SameLook from member x y
+      → SameButMember member count_answer (with_number (rewindable_of floor) x) (with_number (rewindable_of lower) y)
   rewindable_number floor lower same (c, Ok a) (d, Ok b) is = record {
     client = is.answer.client;
     answer_is = ap (λ n. count_answer (Ok n)) (rewindable-same floor lower c same is.seen ∙ ap (rewindable_of lower) is.answer.client);
@@ -307,19 +347,23 @@ module _ (from : ℕ) where
   rewindable_number floor lower same (c, Ok a) (d, Err f) is = let wrong = is.answer.answer_is in absurd (cc)
   rewindable_number floor lower same (c, Err e) (d, Ok b) is = let wrong = is.answer.answer_is in absurd (cc)
 
-  rewindable-alike : (c : Plain) (floor lower : Cursor) → SameFrom from floor lower → Alike from (SameAnswer count_answer) (rewindable_course c floor) (rewindable_course c lower)
-  rewindable-alike c floor lower same = Alike-if from (SameAnswer count_answer) (is_running c.status.state) (numbered (rewindable_of floor) (checks c)) (ends _) (numbered (rewindable_of lower) (checks c)) (ends _)
-      (numbered-alike (rewindable_of floor) (rewindable_of lower) (SameLook from) (checks c) (checks c) (rewindable_number floor lower same) (checks-alike c)) (at-once count_answer _)
+  rewindable-alike : (c : Plain) (floor lower : Cursor) → SameFrom from floor lower
+      → Alike from (SameButMember member count_answer) (rewindable_course c floor) (rewindable_course (other_of c) lower)
+  rewindable-alike c floor lower same = Alike-if from (SameButMember member count_answer) (is_running c.status.state) (numbered (rewindable_of floor) (checks c)) (ends _) (numbered (rewindable_of lower) (checks (other_of c))) (ends _)
+      (numbered-alike (rewindable_of floor) (rewindable_of lower) (SameLook from member) (checks c) (checks (other_of c)) (rewindable_number floor lower same) (checks-alike c)) (at-once count_answer (c, Ok c.stretch.written))
 
-  pub calls-alike : (c : Plain) (ring : List ℤ) (cursor other floor lower : Cursor) → SameFrom from cursor other → SameFrom from floor lower → CallsAreAlike from c ring cursor other floor lower
+  pub calls-alike : (c : Plain) (ring : List ℤ) (cursor other floor lower : Cursor) → SameFrom from cursor other → SameFrom from floor lower
+      → CallsAreAlike from member c ring cursor other floor lower
   calls-alike c ring cursor other floor lower same same_floor = record {
     write = λ samples. admitted-alike count_answer c call.Transfer _ _ (write-alike c ring samples cursor other same);
     start = admitted-alike done_answer c call.Start _ _ (start-alike c ring cursor other same);
     sync = admitted-alike done_answer c call.Sync _ _ (sync-alike c ring);
     drain = admitted-alike done_answer c call.Drain _ _ (drain-alike c ring cursor other same);
     pause = λ on. admitted-alike done_answer c (pause_call on) _ _ (pause-alike on c ring cursor other same);
-    avail = admitted-alike count_answer c call.Sync _ _ (number-alike avail_answer c ring);
-    delay = admitted-alike count_answer c call.Sync _ _ (number-alike delay_answer c ring);
+    avail = admitted-alike count_answer c call.Sync _ _ (number-alike avail_answer (avail-member member) c ring);
+    delay = admitted-alike count_answer c call.Sync _ _ (number-alike delay_answer (delay-member member) c ring);
+    drop = admitted-alike done_answer c call.Drop (ends (dropped c, Ok tt)) (ends (dropped (other_of c), Ok tt)) (at-once done_answer (dropped c, Ok tt));
+    prepare = admitted-alike done_answer c call.Prepare (ends (prepared c, Ok tt)) (ends (prepared (other_of c), Ok tt)) (at-once done_answer (prepared c, Ok tt));
     rewind = λ n. admitted-alike count_answer c call.Transfer _ _ (rewind-alike c ring floor lower n same_floor);
     rewindable = admitted-alike count_answer c call.Transfer _ _ (rewindable-alike c floor lower same_floor);
   }

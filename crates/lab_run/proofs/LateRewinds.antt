@@ -1,5 +1,5 @@
 -- A rewind that is late names the last sample that it couldn't take back.
-use Rattle.std.proofs.Common.{◌≡◌, ℕ, ◌+◌, ◌-◌, ◌<◌, refl, sym, subst, arith, Option, Some, None}
+use Rattle.std.proofs.Common.{ℕ, ◌+◌, ◌-◌, ◌<◌, refl, sym, subst, arith, Option, Some, None}
 use Rattle.std.specs.Prelude.{Bool, true, false, nat_eq, if◌then◌else◌, ℤ, List, [], length, min, zero, suc, IfSome, Result, Ok, Err}
 use Rattle.snd_base.specs.declared.errors.PcmError.{PcmError}
 use Rattle.snd_base.specs.declared.errors.PcmError.TheVariants as error
@@ -12,7 +12,7 @@ use Rattle.pcm_states.specs.declared.calls.Call.TheVariants as call
 use Rattle.pcm_states.specs.declared.calls.Facts.{Facts}
 use Rattle.pcm_states.specs.declared.states.State.TheVariants.{Running}
 use Rattle.pcm_states.specs.Table.{next_of}
-use Rattle.course.specs.Course.{◌>>=◌, Course, ends}
+use Rattle.course.specs.Course.{Course, ends}
 use Rattle.wav_io.specs.Sound.{Sound}
 use Rattle.pcm_stream.specs.declared.direction.Direction.TheVariants.{Playback}
 use Rattle.pcm_stream.specs.Status.{is_refusal, nothing_found, refusal_in, refusal_of}
@@ -25,8 +25,7 @@ use Rattle.dmix_client.specs.View.{held}
 use Rattle.lab_script.specs.declared.line.Op.{Op}
 use Rattle.lab_script.specs.declared.line.Op.TheVariants as op
 use Rattle.lab_report.specs.declared.row.Answer.{Answer}
-use Rattle.lab_report.specs.declared.row.Answer.TheVariants.{Failed}
-use Rattle.lab_run.specs.Client.{after_call, answered, begins, call_of, count_answer, line_by, line_if}
+use Rattle.lab_run.specs.Client.{after_call, begins, call_of, count_answer, line_by, line_if}
 use Rattle.lab_run.specs.LateRows.{IsLast, LateRewindsNameLast, NamesLast}
 use Rattle.lab_run.specs.Rules.{MayGet, MayLay, MayLoad, Rules}
 use Rattle.lab_run.proofs.LateLaws.{All-if, LateAnswer, LateErr, LateIn, LateWhy, next-late, reported-late}

@@ -12,6 +12,7 @@ pub mod LateLaws
 pub mod LateRewinds
 pub mod Leads
 pub mod MarksLaws
+pub mod MemberLaws
 pub mod OrdinaryRows
 pub mod OwnClients
 pub mod OwnItems

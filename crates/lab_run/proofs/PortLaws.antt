@@ -162,7 +162,7 @@ module _ {S T : Type 0} (P : mixport.Ghosts S) (G : gates.Ghosts T) (shown_laid 
           after = rw (ap (λ (v : PortView). v.seen) step.view_is) (at.after);
           seen = rw (ap (λ (v : PortView). v.seen) step.view_is) (at.seen);
           marks = rw (ap (λ (v : PortView). v.marks) step.view_is, marks-same (P.view s.0).marks (P.view s.0).geometry e d place at.geometry)
-              (entry-alike ring from d a.marks (P.view s.0).marks (omega (arith, at.after, step.not_before_seen, place.frame)) at.marks);
+              (entry-alike ring from (P.view first).marks.high d a.marks (P.view s.0).marks (omega (arith, at.after, step.not_before_seen, place.frame)) at.marks);
           left_is = refl;
           by_gate_is = refl;
           loads = Composes-none_after P.loaded first s.0 t.0 found.loads composes at.loads step.loaded_nothing;

@@ -1,5 +1,5 @@
--- What a call gives, as a report has it, doesn't depend on the word that a late sample found.
-use Rattle.std.proofs.Common.{◌≡◌, ℕ, List, [], ◌∷◌, refl, ap, Option, Some, None}
+-- What a call gives, as a report has it, doesn't depend on the word that a late sample found, nor on the client's member.
+use Rattle.std.proofs.Common.{◌≡◌, ℕ, List, [], ◌∷◌, refl, ap, sym, ◌∙◌, Option, Some, None}
 use Rattle.std.specs.Prelude.{Bool, true, false, ◌&&◌, nat_eq, nat_lt, if◌then◌else◌, Result, Ok, Err}
 use Rattle.snd_base.specs.declared.errors.PcmError.{PcmError}
 use Rattle.snd_base.specs.declared.errors.XrunWhy.TheVariants as why
@@ -19,8 +19,9 @@ use Rattle.dmix_client.specs.declared.plain.Plain.{Plain}
 use Rattle.dmix_client.specs.Calls.{Answered, accepted, accepted_if, committed_by, end_channel, end_of_commit, facts_of, found_at, going_on, going_on_by, over_of, rebased, resumed, seen_at, settled, started, synced, taken_of, with_number, written_after}
 use Rattle.dmix_client.specs.Rewind.{rewound}
 use Rattle.dmix_client.specs.View.{avail_of}
-use Rattle.lab_run.specs.Alike.{SameAnswer}
+use Rattle.lab_run.specs.Alike.{SameButMember}
 use Rattle.lab_run.specs.Client.{count_answer, done_answer}
+use Rattle.lab_run.specs.Members.{with_member}
 use Rattle.lab_run.proofs.AlikeLaws.{without_word}
 
 -- two outcomes leave the same state, and are answered alike in a report
@@ -69,78 +70,86 @@ next-word s c f frame channel word = cell-word (row_of f.capture c s) s c f fram
 abbrev pub commit_without_word : Commit → Commit
 commit_without_word x = record x { ended = without_word x.ended }
 
-settled-alike : (c : Plain) (o u : Outcome) → SameOutcome o u → SameAnswer done_answer (settled c o) (settled c u)
-settled-alike c o u is = record { client = ap (λ s. let d : Plain = record c { status = record c.status { state = s } } in d) is.state; answer_is = is.answer }
+module _ (member : ℕ) where
+  settled-alike : (c : Plain) (o u : Outcome) → SameOutcome o u → SameButMember member done_answer (settled c o) (settled (with_member member c) u)
+  settled-alike c o u is =
+      record { client = ap (λ s. let d : Plain = record (with_member member c) { status = record c.status { state = s } } in d) is.state; answer_is = is.answer }
 
-going_on-alike : (c : Plain) (state : State) (o u : Outcome) → SameOutcome o u → SameAnswer done_answer (going_on c state o) (going_on c state u)
-going_on-alike c state o u is = by_answer o.answer u.answer is.answer
-  where
-    by_answer : (r s : Result (Unit {0}) PcmError) → done_answer r ≡ done_answer s → SameAnswer done_answer (going_on_by r c state o.state) (going_on_by s c state u.state)
-    by_answer (Ok x) (Ok y) same_answer = record { client = refl; answer_is = refl }
-    by_answer (Err e) (Err f) same_answer = record { client = ap (λ s. let d : Plain = record c { status = record c.status { state = s } } in d) is.state; answer_is = same_answer }
-    by_answer (Ok x) (Err f) same_answer = absurd (cc)
-    by_answer (Err e) (Ok y) same_answer = absurd (cc)
+  going_on-alike : (c : Plain) (state : State) (o u : Outcome) → SameOutcome o u
+      → SameButMember member done_answer (going_on c state o) (going_on (with_member member c) state u)
+  going_on-alike c state o u is = by_answer o.answer u.answer is.answer
+    where
+      by_answer : (r s : Result (Unit {0}) PcmError) → done_answer r ≡ done_answer s
+          → SameButMember member done_answer (going_on_by r c state o.state) (going_on_by s (with_member member c) state u.state)
+      by_answer (Ok x) (Ok y) same_answer = record { client = refl; answer_is = refl }
+      by_answer (Err e) (Err f) same_answer =
+          record { client = ap (λ s. let d : Plain = record (with_member member c) { status = record c.status { state = s } } in d) is.state; answer_is = same_answer }
+      by_answer (Ok x) (Err f) same_answer = absurd (cc)
+      by_answer (Err e) (Ok y) same_answer = absurd (cc)
 
--- the parts of the calls, by a load and a commit
+  -- the parts of the calls, by a load and a commit
 
-pub synced-word : (c : Plain) (call : Call) (load : Option Position) (x : Commit) → SameAnswer done_answer (synced c call load x) (synced c call load (commit_without_word x))
-synced-word c call None x = record { client = refl; answer_is = refl }
-synced-word c call (Some p) x = by_end x.ended
-  where
-    by_end : (e : Ended) → SameAnswer done_answer (synced c call (Some p) (record x { ended = e })) (synced c call (Some p) (record x { ended = without_word e }))
-    by_end Whole = record { client = refl; answer_is = refl }
-    by_end Stopped = record { client = refl; answer_is = refl }
-    by_end (Late w) = settled-alike (committed_by (seen_at c p) x) _ _
-        (next-word c.status.state call (facts_of (committed_by (seen_at c p) x) p (over_of (seen_at c p) p) None) (end_of_commit (seen_at c p) x) (end_channel (seen_at c p) x) w)
+  pub synced-word : (c : Plain) (call : Call) (load : Option Position) (x : Commit)
+      → SameButMember member done_answer (synced c call load x) (synced (with_member member c) call load (commit_without_word x))
+  synced-word c call None x = record { client = refl; answer_is = refl }
+  synced-word c call (Some p) x = by_end x.ended
+    where
+      by_end : (e : Ended)
+          → SameButMember member done_answer (synced c call (Some p) (record x { ended = e })) (synced (with_member member c) call (Some p) (record x { ended = without_word e }))
+      by_end Whole = record { client = refl; answer_is = refl }
+      by_end Stopped = record { client = refl; answer_is = refl }
+      by_end (Late w) = settled-alike (committed_by (seen_at c p) x) _ _
+          (next-word c.status.state call (facts_of (committed_by (seen_at c p) x) p (over_of (seen_at c p) p) None) (end_of_commit (seen_at c p) x) (end_channel (seen_at c p) x) w)
 
-pub started-word : (c : Plain) (state : State) (cursor : Cursor) (load : Option Position) (x : Commit)
-    → SameAnswer done_answer (started c state cursor load x) (started c state cursor load (commit_without_word x))
-started-word c state cursor None x = record { client = refl; answer_is = refl }
-started-word c state cursor (Some p) x = by_gone p.gone refl x.ended
-  where
-    with_gone : Bool → Position
-    with_gone g = record { frame = p.frame; gone = g }
+  pub started-word : (c : Plain) (state : State) (cursor : Cursor) (load : Option Position) (x : Commit)
+      → SameButMember member done_answer (started c state cursor load x) (started (with_member member c) state cursor load (commit_without_word x))
+  started-word c state cursor None x = record { client = refl; answer_is = refl }
+  started-word c state cursor (Some p) x = by_gone p.gone refl x.ended
+    where
+      by_gone : (g : Bool) → p.gone ≡ g → (e : Ended)
+          → SameButMember member done_answer (started c state cursor (Some p) (record x { ended = e })) (started (with_member member c) state cursor (Some p) (record x { ended = without_word e }))
+      by_gone true is e = rw is (record { client = refl; answer_is = refl })
+      by_gone false is Whole = rw is (record { client = refl; answer_is = refl })
+      by_gone false is Stopped = rw is (record { client = refl; answer_is = refl })
+      by_gone false is (Late w) = rw is (record { client = refl; answer_is = refl })
 
-    by_gone : (g : Bool) → p.gone ≡ g → (e : Ended)
-        → SameAnswer done_answer (started c state cursor (Some p) (record x { ended = e })) (started c state cursor (Some p) (record x { ended = without_word e }))
-    by_gone true is e = rw is (record { client = refl; answer_is = refl })
-    by_gone false is Whole = record { client = refl; answer_is = refl }
-    by_gone false is Stopped = record { client = refl; answer_is = refl }
-    by_gone false is (Late w) = rw is (record { client = refl; answer_is = refl })
+  pub resumed-word : (c : Plain) (cursor : Cursor) (load : Option Position) (x : Commit)
+      → SameButMember member done_answer (resumed c cursor load x) (resumed (with_member member c) cursor load (commit_without_word x))
+  resumed-word c cursor None x = record { client = refl; answer_is = refl }
+  resumed-word c cursor (Some p) x = started-word (rebased c) Running cursor (Some p) x
 
-pub resumed-word : (c : Plain) (cursor : Cursor) (load : Option Position) (x : Commit)
-    → SameAnswer done_answer (resumed c cursor load x) (resumed c cursor load (commit_without_word x))
-resumed-word c cursor None x = record { client = refl; answer_is = refl }
-resumed-word c cursor (Some p) x = started-word (rebased c) Running cursor (Some p) x
+  pub accepted_if-alike : (n : ℕ) (a b : Answered (Unit {0})) → SameButMember member done_answer a b → SameButMember member count_answer (accepted_if n a) (accepted_if n b)
+  accepted_if-alike n (c, Ok x) (d, Ok y) is = record { client = ap (λ e. accepted e n) is.client; answer_is = refl }
+  accepted_if-alike n (c, Err e) (d, Err f) is = record { client = is.client; answer_is = is.answer_is }
+  accepted_if-alike n (c, Ok x) (d, Err f) is = let wrong = is.answer_is in absurd (cc)
+  accepted_if-alike n (c, Err e) (d, Ok y) is = let wrong = is.answer_is in absurd (cc)
 
-pub accepted_if-alike : (n : ℕ) (a b : Answered (Unit {0})) → SameAnswer done_answer a b → SameAnswer count_answer (accepted_if n a) (accepted_if n b)
-accepted_if-alike n (c, Ok x) (d, Ok y) is = record { client = ap (λ e. accepted e n) is.client; answer_is = refl }
-accepted_if-alike n (c, Err e) (d, Err f) is = record { client = is.client; answer_is = is.answer_is }
-accepted_if-alike n (c, Ok x) (d, Err f) is = let wrong = is.answer_is in absurd (cc)
-accepted_if-alike n (c, Err e) (d, Ok y) is = let wrong = is.answer_is in absurd (cc)
+  pub with_number-alike : (number : Plain → ℕ) → ((c : Plain) → number (with_member member c) ≡ number c) → (a b : Answered (Unit {0})) → SameButMember member done_answer a b
+      → SameButMember member count_answer (with_number number a) (with_number number b)
+  with_number-alike number same (c, Ok x) (d, Ok y) is =
+      record { client = is.client; answer_is = ap (λ n. count_answer (Ok n)) (sym (same c) ∙ ap number is.client) }
+  with_number-alike number same (c, Err e) (d, Err f) is = record { client = is.client; answer_is = is.answer_is }
+  with_number-alike number same (c, Ok x) (d, Err f) is = let wrong = is.answer_is in absurd (cc)
+  with_number-alike number same (c, Err e) (d, Ok y) is = let wrong = is.answer_is in absurd (cc)
 
-pub with_number-alike : (number : Plain → ℕ) (a b : Answered (Unit {0})) → SameAnswer done_answer a b
-    → SameAnswer count_answer (with_number number a) (with_number number b)
-with_number-alike number (c, Ok x) (d, Ok y) is = record { client = is.client; answer_is = ap (λ e. count_answer (Ok (number e))) is.client }
-with_number-alike number (c, Err e) (d, Err f) is = record { client = is.client; answer_is = is.answer_is }
-with_number-alike number (c, Ok x) (d, Err f) is = let wrong = is.answer_is in absurd (cc)
-with_number-alike number (c, Err e) (d, Ok y) is = let wrong = is.answer_is in absurd (cc)
+  pub written_after-word : (c : Plain) (n : ℕ) (x : Commit)
+      → SameButMember member count_answer (written_after c n x) (written_after (with_member member c) n (commit_without_word x))
+  written_after-word c n x = by_again (nat_lt 0 n && nat_eq (avail_of c) 0) refl x.ended
+    where
+      by_again : (again : Bool) → (nat_lt 0 n && nat_eq (avail_of c) 0) ≡ again → (e : Ended)
+          → SameButMember member count_answer (written_after c n (record x { ended = e })) (written_after (with_member member c) n (record x { ended = without_word e }))
+      by_again true is e = rw is (record { client = refl; answer_is = refl })
+      by_again false is Whole = rw is (record { client = refl; answer_is = refl })
+      by_again false is Stopped = rw is (record { client = refl; answer_is = refl })
+      by_again false is (Late w) = rw is (accepted_if-alike (taken_of c n) _ _ (settled-alike (committed_by c x) _ _
+          (next-word Running call.Transfer (found_at (record { frame = 0; gone = false }) None) (end_of_commit c x) (end_channel c x) w)))
 
-pub written_after-word : (c : Plain) (n : ℕ) (x : Commit) → SameAnswer count_answer (written_after c n x) (written_after c n (commit_without_word x))
-written_after-word c n x = by_again (nat_lt 0 n && nat_eq (avail_of c) 0) refl x.ended
-  where
-    by_again : (again : Bool) → (nat_lt 0 n && nat_eq (avail_of c) 0) ≡ again → (e : Ended)
-        → SameAnswer count_answer (written_after c n (record x { ended = e })) (written_after c n (record x { ended = without_word e }))
-    by_again true is e = rw is (record { client = refl; answer_is = refl })
-    by_again false is Whole = record { client = refl; answer_is = refl }
-    by_again false is Stopped = record { client = refl; answer_is = refl }
-    by_again false is (Late w) = rw is (accepted_if-alike (taken_of c n) _ _ (settled-alike (committed_by c x) _ _
-        (next-word Running call.Transfer (found_at (record { frame = 0; gone = false }) None) (end_of_commit c x) (end_channel c x) w)))
-
-pub rewound-word : (c : Plain) (n : ℕ) (left : Commit) → SameAnswer count_answer (rewound c n left) (rewound c n (commit_without_word left))
-rewound-word c n left = by_end left.ended
-  where
-    by_end : (e : Ended) → SameAnswer count_answer (rewound c n (record left { ended = e })) (rewound c n (record left { ended = without_word e }))
-    by_end Whole = record { client = refl; answer_is = refl }
-    by_end Stopped = record { client = refl; answer_is = refl }
-    by_end (Late w) = record { client = refl; answer_is = refl }
+  pub rewound-word : (c : Plain) (n : ℕ) (left : Commit)
+      → SameButMember member count_answer (rewound c n left) (rewound (with_member member c) n (commit_without_word left))
+  rewound-word c n left = by_end left.ended
+    where
+      by_end : (e : Ended)
+          → SameButMember member count_answer (rewound c n (record left { ended = e })) (rewound (with_member member c) n (record left { ended = without_word e }))
+      by_end Whole = record { client = refl; answer_is = refl }
+      by_end Stopped = record { client = refl; answer_is = refl }
+      by_end (Late w) = record { client = refl; answer_is = refl }

@@ -5,7 +5,7 @@ use Rattle.std.proofs.lemmas.Bool.{cases_eq, cases_lt, eq-eqb, eqb-true}
 use Rattle.std.proofs.lemmas.Nat.{div-add-mod'}
 use Rattle.std.proofs.lemmas.List.Elements.{All-head, All-tail, All-take, Contains-append_right}
 use Rattle.std.proofs.lemmas.List.Sums.{sum_by-cons, sum_by-append}
-use Rattle.std.specs.Prelude.{Bool, true, false, ◌||◌, ◌/◌, ◌%◌, ◌==◌, if◌then◌else◌, zero, suc, All, Contains, filter, slice_index_or, sum_by, Result, Ok, Err}
+use Rattle.std.specs.Prelude.{Bool, true, false, ◌||◌, ◌/◌, ◌%◌, ◌==◌, if◌then◌else◌, zero, suc, All, Contains, filter, slice_index_or, Result, Ok, Err}
 use Rattle.std.specs.List.{list_any, range_with_len}
 use Rattle.wav_io.specs.Sound.{Sound}
 use Rattle.snd_base.specs.declared.errors.PcmError.{PcmError}
@@ -17,17 +17,17 @@ use Rattle.lab_script.specs.declared.line.Item.{Item}
 use Rattle.lab_script.specs.declared.line.Item.TheVariants as item
 use Rattle.lab_script.specs.declared.line.Line.{Line}
 use Rattle.lab_script.specs.declared.script.Script.{Script}
-use Rattle.lab_script.specs.Limits.{IsItem, IsLine, IsScript}
+use Rattle.lab_script.specs.Limits.{IsItem, IsLine}
 use Rattle.lab_script.specs.Script.{IsPublished, first_frame, frames_played, is_gone, phase_at, phases_of, position_after, unplugs}
 use Rattle.lab_script.specs.Script as script_words
 use Rattle.lab_run.specs.Claims.{claim_refusal}
 use Rattle.lab_run.specs.Client.{Client}
-use Rattle.lab_run.specs.Items.{ItemMay, ItemsMay, rules_of}
+use Rattle.lab_run.specs.Items.{ItemsMay}
 use Rattle.lab_run.specs.Phases.{on_the_way, played_at, played_in, published, published_by}
 use Rattle.lab_run.specs.Places.{Lobby, attached}
 use Rattle.lab_run.specs.Reader.{Reader}
 use Rattle.lab_run.specs.Rules.{AtPort}
-use Rattle.lab_run.specs.ScriptWords.{AreRulesOf, IsAfterPhases, IsReached, PhasesAreOfScripts, StagesAreOfScripts}
+use Rattle.lab_run.specs.ScriptWords.{IsReached, PhasesAreOfScripts, StagesAreOfScripts}
 use Rattle.lab_run.specs.Stage.{Session, Setup, Stage, after_close, after_open, attached_client, claimed_client, client_at, close_client, close_reader, first_stage, open_client, open_client_with, open_reader, open_reader_with, reader_at}
 use Rattle.lab_run.proofs.ScriptLines.{played_in-lines}
 

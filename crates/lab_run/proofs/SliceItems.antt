@@ -2,10 +2,10 @@
 use Rattle.std.proofs.Common.{◌≡◌, ℕ, ◌+◌, ◌<◌, refl, sym, ◌∙◌, ap, subst, arith, Option, Some, None, List, [], ◌∷◌, ◌++◌, length}
 use Rattle.std.proofs.lemmas.Bool.{eq-eqb, eqb-true}
 use Rattle.std.proofs.lemmas.Bool.Decides.{nat_tests}
-use Rattle.std.proofs.lemmas.List.{append_assoc, append-nil, get_or-set_same, length-set}
+use Rattle.std.proofs.lemmas.List.{append-nil, get_or-set_same}
 use Rattle.std.proofs.lemmas.List.Elements.{filter-append}
 use Rattle.std.specs.List.{flat_map, range_with_len}
-use Rattle.std.specs.Prelude.{Bool, true, false, zero, suc, nat_eq, if◌then◌else◌, map, filter, slice_index_or, Result, Ok, Err}
+use Rattle.std.specs.Prelude.{Bool, true, false, zero, suc, nat_eq, map, slice_index_or}
 use Rattle.snd_base.specs.declared.geometry.Geometry.{Geometry}
 use Rattle.wav_io.specs.Sound.{Sound}
 use Rattle.dsnoop_client.specs.declared.plain.Plain.{Plain}
@@ -13,18 +13,16 @@ use Rattle.lab_script.specs.declared.line.Actor.{Actor}
 use Rattle.lab_script.specs.declared.line.Actor.TheVariants as actor
 use Rattle.lab_script.specs.declared.line.Item.{Item}
 use Rattle.lab_script.specs.declared.line.Item.TheVariants as item
-use Rattle.lab_script.specs.declared.line.Line.{Line}
 use Rattle.lab_script.specs.declared.line.Op.{Op}
 use Rattle.lab_script.specs.Script.{is_of_card}
 use Rattle.lab_report.specs.declared.row.Answer.{Answer}
 use Rattle.lab_report.specs.declared.row.Row.{Row}
-use Rattle.lab_run.specs.Client.{Client}
 use Rattle.lab_run.specs.Items.{ItemMay, ItemsMay, client_kinds, is_reader_stopped, reader_kinds, reaped_reader, reaped_reader_if, rules_of}
-use Rattle.lab_run.specs.LabRun.{LabRun, Outcome, bindings_of, captured, numbered, outcome_of, recorded_from, runs_of}
+use Rattle.lab_run.specs.LabRun.{Outcome, bindings_of, captured, numbered, recorded_from, runs_of}
 use Rattle.lab_run.specs.Lines.{EachMay, Kind, LinesMay}
 use Rattle.lab_run.specs.OwnRows.{Alone, rows_by}
 use Rattle.lab_run.specs.Phases.{card_rows, is_client, is_reader, ops_by}
-use Rattle.lab_run.specs.Reader.{Reader, row_by}
+use Rattle.lab_run.specs.Reader.{Reader}
 use Rattle.lab_run.specs.Rules.{AtPort, Rules}
 use Rattle.lab_run.specs.Stage.{Session, Setup, Stage, after_close, after_open, client_at, close_reader, first_stage, no_reader, open_reader, open_reader_with, reader_at}
 use Rattle.lab_run.specs.Stretches.{AreSlices, IsFirstOf, ReadsInSlices, ReadersReadInSlices, ends_by_row, goes_on_after, got_by}

@@ -15,7 +15,7 @@ use Rattle.pcm_states.specs.declared.states.State.TheVariants.{Disconnected, Run
 use Rattle.pcm_states.specs.declared.states.State.TheVariants as state
 use Rattle.pcm_states.specs.Table.{next_of}
 use Rattle.pcm_stream.specs.declared.direction.Direction.TheVariants.{Capture}
-use Rattle.pcm_stream.specs.Status.{nothing_found, refusal_in, refusal_of}
+use Rattle.pcm_stream.specs.Status.{nothing_found, refusal_in}
 use Rattle.snoop_core.specs.declared.port.Got.{Got}
 use Rattle.snoop_core.specs.declared.port.Got.TheVariants as got
 use Rattle.course.specs.Course.{◌>>=◌, Course, ends}
@@ -26,7 +26,7 @@ use Rattle.dsnoop_client.specs.Course.{admitted, admitted_by, counts, gets_frame
 use Rattle.lab_script.specs.declared.line.Op.{Op}
 use Rattle.lab_script.specs.declared.line.Op.TheVariants as op
 use Rattle.lab_report.specs.declared.row.Answer.{Answer}
-use Rattle.lab_report.specs.declared.row.Answer.TheVariants.{Count, Done, Failed}
+use Rattle.lab_report.specs.declared.row.Answer.TheVariants.{Done, Failed}
 use Rattle.lab_report.specs.declared.row.Row.{Row}
 use Rattle.lab_run.specs.Client.{count_answer, done_answer, reported}
 use Rattle.lab_run.specs.Lines.{LineMay, LinesMay}

@@ -1,6 +1,6 @@
 -- A client's calls at a port, with its samples and with the words that it found, are the courses of a run: these have no samples and no words,
--- and they are those of a port that was never used before.
-use Rattle.std.specs.Prelude.{◌≡◌, ℕ, ◌≤◌, Bool, max, ℤ, List, [], Option, None, Some, Result, ⊤}
+-- they are those of a client with its own number as member, and of a port that was never used before.
+use Rattle.std.specs.Prelude.{◌≡◌, ℕ, ◌≤◌, Bool, max, ℤ, List, [], Option, None, Some, Result, Ok, ⊤}
 use Rattle.snd_base.specs.declared.errors.PcmError.{PcmError}
 use Rattle.snd_base.specs.declared.places.Cursor.{Cursor}
 use Rattle.snd_base.specs.Places.{first_free}
@@ -11,7 +11,7 @@ use Rattle.pcm_states.specs.declared.calls.Call.TheVariants as call
 use Rattle.snoop_core.specs.declared.port.Got.TheVariants as got
 use Rattle.course.specs.Course.{Course, ends, gets, lays, loads}
 use Rattle.dmix_client.specs.declared.plain.Plain.{Plain}
-use Rattle.dmix_client.specs.Calls.{avail_answer, delay_answer}
+use Rattle.dmix_client.specs.Calls.{Answered, avail_answer, delay_answer, dropped, prepared}
 use Rattle.dmix_client.specs.Course.{admitted, drain_course, number_course, pause_call, pause_course, start_course, sync_course}
 use Rattle.dmix_client.specs.Course as client_calls
 use Rattle.dmix_client.specs.Rewind.{rewind_course, rewindable_course}
@@ -21,10 +21,10 @@ use Rattle.dsnoop_client.specs.Course.{avail_course, read_course}
 use Rattle.dsnoop_client.specs.Course as reading_course
 use Rattle.lab_report.specs.declared.row.Answer.{Answer}
 use Rattle.lab_run.specs.Client.{count_answer, done_answer, write_course}
+use Rattle.lab_run.specs.Members.{with_member}
 
--- two entries differ in their samples alone
+-- two entries differ in their samples and members alone
 pub record IsSamePlace (e d : Entry) : Type 0 where
-  pub member : e.member ≡ d.member
   pub frame : e.frame ≡ d.frame
   pub channel : e.channel ≡ d.channel
   pub kind : e.kind ≡ d.kind
@@ -34,8 +34,8 @@ abbrev pub IsFromOn : ℕ → Option Position → Type 0
 IsFromOn from None = ⊤
 IsFromOn from (Some position) = from ≤ position.frame
 
--- two courses take the same steps, whatever positions from a frame on are loaded, but for samples and for words, which are 0 in the second; a
--- relation holds between their results
+-- two courses take the same steps, whatever positions from a frame on are loaded, but for samples, members, and words, which are 0 in the
+-- second; a relation holds between their results
 abbrev pub Alike : {X Y : Type 0} → ℕ → (X → Y → Type 0) → Course X → Course Y → Type 0
 Alike from R (ends x) (ends y) = R x y
 Alike from R (loads m) (loads n) = (load : Option Position) → IsFromOn from load → Alike from R (m load) (n load)
@@ -55,24 +55,37 @@ pub record SameAnswer {X S : Type 0} (answer : Result X PcmError → Answer) (a 
   pub client : a.0 ≡ b.0
   pub answer_is : answer a.1 ≡ answer b.1
 
--- each call of a client, whatever its ring holds and whatever it is given, is like the call without them, at a port whose cursor and floor are
--- the same from a frame on
-pub record CallsAreAlike (from : ℕ) (c : Plain) (ring : List ℤ) (cursor other floor lower : Cursor) : Type 0 where
-  pub write : (samples : List ℤ) → Alike from (SameAnswer count_answer)
-      (admitted c call.Transfer (client_calls.write_course c ring samples cursor)) (admitted c call.Transfer (write_course c other (frames_in c samples)))
-  pub start : Alike from (SameAnswer done_answer) (admitted c call.Start (start_course c ring cursor)) (admitted c call.Start (start_course c [] other))
-  pub sync : Alike from (SameAnswer done_answer) (admitted c call.Sync (sync_course c ring)) (admitted c call.Sync (sync_course c []))
-  pub drain : Alike from (SameAnswer done_answer) (admitted c call.Drain (drain_course c ring cursor)) (admitted c call.Drain (drain_course c [] other))
-  pub pause : (on : Bool) → Alike from (SameAnswer done_answer)
-      (admitted c (pause_call on) (pause_course on c ring cursor)) (admitted c (pause_call on) (pause_course on c [] other))
-  pub avail : Alike from (SameAnswer count_answer)
-      (admitted c call.Sync (number_course avail_answer c ring)) (admitted c call.Sync (number_course avail_answer c []))
-  pub delay : Alike from (SameAnswer count_answer)
-      (admitted c call.Sync (number_course delay_answer c ring)) (admitted c call.Sync (number_course delay_answer c []))
-  pub rewind : (n : ℕ) → Alike from (SameAnswer count_answer)
-      (admitted c call.Transfer (rewind_course c ring floor n)) (admitted c call.Transfer (rewind_course c [] lower n))
-  pub rewindable : Alike from (SameAnswer count_answer)
-      (admitted c call.Transfer (rewindable_course c floor)) (admitted c call.Transfer (rewindable_course c lower))
+-- two results of a client's calls leave the same client but for its member, which is given in the second, and are answered alike in a report
+pub record SameButMember {X : Type 0} (member : ℕ) (answer : Result X PcmError → Answer) (a b : Answered X) : Type 0 where
+  pub client : with_member member a.0 ≡ b.0
+  pub answer_is : answer a.1 ≡ answer b.1
+
+-- each call of a client, whatever its ring holds and whatever it is given, is like the call without them of the client with another member, at a
+-- port whose cursor and floor are the same from a frame on
+pub record CallsAreAlike (from member : ℕ) (c : Plain) (ring : List ℤ) (cursor other floor lower : Cursor) : Type 0 where
+  pub write : (samples : List ℤ) → Alike from (SameButMember member count_answer)
+      (admitted c call.Transfer (client_calls.write_course c ring samples cursor))
+      (admitted (with_member member c) call.Transfer (write_course (with_member member c) other (frames_in c samples)))
+  pub start : Alike from (SameButMember member done_answer) (admitted c call.Start (start_course c ring cursor))
+      (admitted (with_member member c) call.Start (start_course (with_member member c) [] other))
+  pub sync : Alike from (SameButMember member done_answer) (admitted c call.Sync (sync_course c ring))
+      (admitted (with_member member c) call.Sync (sync_course (with_member member c) []))
+  pub drain : Alike from (SameButMember member done_answer) (admitted c call.Drain (drain_course c ring cursor))
+      (admitted (with_member member c) call.Drain (drain_course (with_member member c) [] other))
+  pub pause : (on : Bool) → Alike from (SameButMember member done_answer) (admitted c (pause_call on) (pause_course on c ring cursor))
+      (admitted (with_member member c) (pause_call on) (pause_course on (with_member member c) [] other))
+  pub avail : Alike from (SameButMember member count_answer) (admitted c call.Sync (number_course avail_answer c ring))
+      (admitted (with_member member c) call.Sync (number_course avail_answer (with_member member c) []))
+  pub delay : Alike from (SameButMember member count_answer) (admitted c call.Sync (number_course delay_answer c ring))
+      (admitted (with_member member c) call.Sync (number_course delay_answer (with_member member c) []))
+  pub drop : Alike from (SameButMember member done_answer) (admitted c call.Drop (ends (dropped c, Ok tt)))
+      (admitted (with_member member c) call.Drop (ends (dropped (with_member member c), Ok tt)))
+  pub prepare : Alike from (SameButMember member done_answer) (admitted c call.Prepare (ends (prepared c, Ok tt)))
+      (admitted (with_member member c) call.Prepare (ends (prepared (with_member member c), Ok tt)))
+  pub rewind : (n : ℕ) → Alike from (SameButMember member count_answer) (admitted c call.Transfer (rewind_course c ring floor n))
+      (admitted (with_member member c) call.Transfer (rewind_course (with_member member c) [] lower n))
+  pub rewindable : Alike from (SameButMember member count_answer) (admitted c call.Transfer (rewindable_course c floor))
+      (admitted (with_member member c) call.Transfer (rewindable_course (with_member member c) lower))
 
 -- each call of a reader is like itself without its words
 pub record ReadsAreAlike (r : reading.Plain) : Type 0 where

@@ -1,5 +1,5 @@
 -- A client's line, as the client did it at its port: the part that it has of a run.
-use Rattle.std.specs.Prelude.{◌≡◌, ℕ, ◌-◌, min, Bool, true, false, ℤ, List, Option, Some, None, Ok, ⊤}
+use Rattle.std.specs.Prelude.{◌≡◌, ℕ, ◌-◌, min, Bool, true, false, ℤ, List, ◌++◌, Option, Some, None, Ok, ⊤}
 use Rattle.snd_base.specs.declared.geometry.Geometry.{Geometry}
 use Rattle.mix_core.specs.declared.gate.Gate as gates
 use Rattle.mix_core.specs.declared.marks.Marks.{Marks}
@@ -19,7 +19,8 @@ use Rattle.lab_report.specs.declared.row.Answer.{Answer}
 use Rattle.lab_report.specs.declared.row.Answer.TheVariants.{Done, Failed}
 use Rattle.snd_base.specs.declared.errors.PcmError.TheVariants.{BadState, Stopped}
 use Rattle.lab_run.specs.ActorPart.{Doing, Findings, LineDone}
-use Rattle.lab_run.specs.Client.{Client, after_call, answered, client_kind, count_answer, done_answer, frames_of}
+use Rattle.lab_run.specs.Client.{Client, answered, client_kind, count_answer, done_answer, ended_by, frames_of}
+use Rattle.lab_run.specs.Members.{with_member}
 use Rattle.lab_run.specs.PortSteps.{IsAtPort}
 use Rattle.lab_run.specs.Rules.{AtPort}
 
@@ -55,6 +56,11 @@ pub record MakesCall (client : Client) (c : Plain) (asked : Op) : Type 0 where
   pub goes : c.status.stopped ≡ false
   pub asks : is_die asked ≡ false
 
+-- a client of a run, which has its own number as member, after a call that left the client at its seat so
+abbrev pub after_seat_call : ℕ → Client → Plain → Op → Plain → Answer → Client
+after_seat_call number client c asked after answer =
+    record { own = Some (with_member number after); ended = client.ended ++ ended_by asked answer c after }
+
 -- a line of a client was done at a port, after which it is so
 pub record IsClientLine {S T : Type 0} (P : mixport.Ghosts S) (left : T → Option ℕ) (by_gate : T → ℕ) (first : S) (ring : Geometry) (from : ℕ) (t : S × T)
     (phase : ℕ) (wav : Sound) (number : ℕ) (before : Doing) (client : Client) (asked : Op) (after : Client) (answer : Answer) : Type 0 where
@@ -62,13 +68,14 @@ pub record IsClientLine {S T : Type 0} (P : mixport.Ghosts S) (left : T → Opti
   pub done : LineDone (client_kind phase wav number) ring ((before.0, client), before.1) asked ((doing.0, after), doing.1) answer
   pub at : IsAtPort P left by_gate first ring from t doing
 
--- each line that makes a call is a part of its client
+-- Each line that makes a call is a part of its client. The client that makes it has the member of its seat; that of the run is the same with its
+-- own number as member, before the call and after it.
 abbrev pub ClientLinesAreParts : {S T : Type 0} → mixport.Ghosts S → gates.Ghosts T → (T → Option ℕ) → (T → ℕ) → S → Geometry → ℕ → Type 0
 ClientLinesAreParts {S = S} {T = T} P G left by_gate first ring from =
     (s t : S × T) (phase : ℕ) (wav : Sound) (number : ℕ) (before : Doing) (client : Client) (c : Plain) (held samples : List ℤ) (asked : Op)
-    (after : Plain) (answer : Answer) → MakesCall client c asked → IsOffered wav c samples asked → IsAtPort P left by_gate first ring from s before
-    → TakesAt P G s (made_call held samples (P.view s.0).marks c asked) t (after, answer)
-    → IsClientLine P left by_gate first ring from t phase wav number before client asked (after_call client c asked (after, answer)).0 answer
+    (after : Plain) (answer : Answer) → MakesCall client (with_member number c) asked → IsOffered wav c samples asked
+    → IsAtPort P left by_gate first ring from s before → TakesAt P G s (made_call held samples (P.view s.0).marks c asked) t (after, answer)
+    → IsClientLine P left by_gate first ring from t phase wav number before client asked (after_seat_call number client c asked after answer) answer
 
 -- the lines that make no call: of a client that isn't open, of one that was stopped in this phase, and a `die`
 pub record ClientLinesWithoutCall (ring : Geometry) (phase : ℕ) (wav : Sound) (number : ℕ) : Type 0 where

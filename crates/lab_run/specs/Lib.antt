@@ -8,6 +8,7 @@ pub mod Items
 pub mod LabRun
 pub mod LateRows
 pub mod Lines
+pub mod Members
 pub mod Openings
 pub mod OwnRows
 pub mod Phases

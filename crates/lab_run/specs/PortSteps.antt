@@ -1,5 +1,5 @@
 -- A client's part in a phase, by what it did at a mix port and a gate.
-use Rattle.std.specs.Prelude.{◌≡◌, ℕ, ◌+◌, ◌≤◌, true, List, [], ◌∷◌, Option, ◌⊎◌}
+use Rattle.std.specs.Prelude.{◌≡◌, ℕ, ◌+◌, ◌<◌, ◌≤◌, nat_le, true, if◌then◌else◌, List, [], ◌∷◌, Option, Some, None, ◌⊎◌}
 use Rattle.snd_base.specs.declared.geometry.Geometry.{Geometry}
 use Rattle.snd_base.specs.declared.places.Cursor.{Cursor}
 use Rattle.snd_base.specs.Places.{first_free}
@@ -10,9 +10,11 @@ use Rattle.mix_core.specs.declared.gate.StepKind.{StepKind}
 use Rattle.mix_core.specs.declared.gate.StepKind.TheVariants.{Again, Position}
 use Rattle.mix_core.specs.declared.port.MixPort as mixport
 use Rattle.mix_core.specs.Laid.{without_last}
+use Rattle.mix_core.specs.Marks.{is_before, start_of}
 use Rattle.mix_core.specs.Port.{IsPast}
 use Rattle.course.specs.Course.{Course, Takes}
 use Rattle.lab_run.specs.ActorPart.{DoesGet, DoesLay, DoesLoad, Doing, Each}
+use Rattle.lab_run.specs.Places.{last_laid, last_of}
 use Rattle.lab_run.specs.Rules.{AtPort, lets_pass, with_asks, with_gate_stop, with_stop}
 
 -- how many of some asks a `die` counts: all but those of kind Again
@@ -54,24 +56,54 @@ pub record CountsDown {T : Type 0} (asked : T → T → List StepKind → Pass �
 abbrev pub IsLow : ℕ → Cursor → Type 0
 IsLow from at = first_free at 0 ≤ from
 
-pub record AreLow (from : ℕ) (marks : Marks) : Type 0 where
-  pub cursor : IsLow from marks.cursor
-  pub floor : IsLow from marks.floor
-  pub high : IsLow from marks.high
+-- an actor laid no sample: its own high is still that of a new port, and its port's is where it was before; neither of these nor a floor is past
+-- a frame
+pub record HasLaidNone (ring : Geometry) (from : ℕ) (before : Cursor) (own port : Marks) : Type 0 where
+  pub own_high : own.high ≡ start_of ring
+  pub port_high : port.high ≡ before
+  pub own_low : IsLow from own.high
+  pub port_low : IsLow from port.high
+  pub own_floor : IsLow from own.floor
+  pub port_floor : IsLow from port.floor
 
--- The marks of an actor, and those of its port, which others may have used before, up to a frame. Neither was moved since; or a withdrawal
--- moved the cursor alone; or a sample was laid.
-pub data MarksAlike (from : ℕ) (own port : Marks) : Type 0 where
-  untouched : AreLow from own → AreLow from port → MarksAlike from own port
-  moved : own.cursor ≡ port.cursor → IsLow from own.floor → IsLow from port.floor → IsLow from own.high → IsLow from port.high → MarksAlike from own port
-  laid : own.cursor ≡ port.cursor → own.high ≡ port.high → (own.floor ≡ port.floor) ⊎ (IsLow from own.floor × IsLow from port.floor) → MarksAlike from own port
+-- a sample was laid at a frame or past it, so the high is past both the frame and the ring's first place
+pub record IsPastFrame (ring : Geometry) (from : ℕ) (high : Cursor) : Type 0 where
+  pub after_start : is_before (start_of ring) high ≡ true
+  pub after_frame : from < first_free high 0
 
--- an actor at a port, which others used up to a frame, with what it found since a first state of the port
+-- The marks of an actor, and those of its port, which others may have used before, up to a frame. The actor laid no sample, and the cursors aren't
+-- past the frame, or a withdrawal moved both; or it laid a sample.
+pub data MarksAlike (ring : Geometry) (from : ℕ) (before : Cursor) (own port : Marks) : Type 0 where
+  untouched : HasLaidNone ring from before own port → IsLow from own.cursor → IsLow from port.cursor → MarksAlike ring from before own port
+  moved : HasLaidNone ring from before own port → own.cursor ≡ port.cursor → MarksAlike ring from before own port
+  laid : own.cursor ≡ port.cursor → own.high ≡ port.high → IsPastFrame ring from own.high
+      → (own.floor ≡ port.floor) ⊎ (IsLow from own.floor × IsLow from port.floor) → MarksAlike ring from before own port
+
+-- a last frame that isn't below a frame
+abbrev pub last_from : ℕ → Option ℕ → Option ℕ
+last_from from None = None
+last_from from (Some last) = if nat_le from last then Some last else None
+
+-- the last frame of a port is the one at an opening, unless it was laid since, and so isn't below a frame
+abbrev pub IsLastSince : ℕ → Option ℕ → Option ℕ → Type 0
+IsLastSince from opening last = last ≡ last_of (last_from from last) opening
+
+-- What is known of the last frames of an actor and of its port where their marks are alike. The port's is the actor's own, or else the one before;
+-- the actor's own is the port's, unless that is below the frame. So it stays from phase to phase: from the marks of the port as they are now on, the
+-- marks are alike again, and the port's last frame is still the one at the opening, or the actor's own.
+pub record HasOwnLast (ring : Geometry) (from : ℕ) (before own port : Marks) : Type 0 where
+  pub port_last : last_laid ring port ≡ last_of (last_laid ring own) (last_laid ring before)
+  pub own_last : last_laid ring own ≡ last_from from (last_laid ring port)
+  pub again : MarksAlike ring from port.high own port
+  pub since : (opening : Option ℕ) → IsLastSince from opening (last_laid ring before) → IsLastSince from opening (last_laid ring port)
+
+-- An actor at a port, which others used up to a frame, with what it found since a first state of the port. Where it laid no sample yet, the port's
+-- high is that of the first state.
 pub record IsAtPort {S T : Type 0} (P : mixport.Ghosts S) (left : T → Option ℕ) (by_gate : T → ℕ) (first : S) (ring : Geometry) (from : ℕ) (s : S × T) (doing : Doing) : Type 0 where
   pub geometry : (P.view s.0).geometry ≡ ring
   pub after : from ≤ (P.view s.0).seen
   pub seen : doing.0.seen ≤ (P.view s.0).seen
-  pub marks : MarksAlike from doing.0.marks (P.view s.0).marks
+  pub marks : MarksAlike ring from (P.view first).marks.high doing.0.marks (P.view s.0).marks
   pub left_is : doing.0.left ≡ left s.1
   pub by_gate_is : doing.0.by_gate ≡ by_gate s.1
   pub loads : P.loaded first s.0 doing.1.loads

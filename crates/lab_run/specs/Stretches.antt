@@ -1,6 +1,6 @@
 -- The frames of a reader in a whole run: in each of its stretches they are one slice. A stretch ends at a row that is answered by an xrun, at
 -- a drop, at a close, and where the reader was stopped.
-use Rattle.std.specs.Prelude.{◌≡◌, ℕ, zero, suc, ◌+◌, ◌<◌, Bool, true, false, ℤ, List, [], ◌∷◌, ◌++◌, length, map, slice_index_or, Option, Some, None, ⊤}
+use Rattle.std.specs.Prelude.{◌≡◌, ℕ, zero, suc, ◌+◌, ◌<◌, Bool, true, false, List, [], ◌∷◌, ◌++◌, length, map, slice_index_or, Option, Some, None, ⊤}
 use Rattle.std.specs.List.{flat_map, range_with_len}
 use Rattle.snd_base.specs.declared.errors.PcmError.TheVariants.{Stopped, Xrun}
 use Rattle.wav_io.specs.Sound.{Sound}

@@ -2,7 +2,9 @@
 ghost use Rattle.std.specs.Prelude.{Bool, List, Option, ℕ, ℤ};
 ghost use Rattle.snd_base.specs.declared.geometry.Geometry.{Geometry};
 ghost use Rattle.lab_run.specs.ClientAtPort.{ClientLinesAreParts, ClientLinesWithoutCall};
-ghost use Rattle.lab_run.specs.PortSteps.{CountsDown};
+ghost use Rattle.lab_run.specs.Members.{MembersAreUnreported, MembersLayAlike};
+ghost use Rattle.lab_run.specs.PortSteps.{CountsDown, HasOwnLast, MarksAlike};
+ghost use Rattle.mix_core.specs.declared.marks.Marks.{Marks};
 ghost use Rattle.snd_base.specs.declared.places.Cursor.{Cursor};
 ghost use Rattle.wav_io.specs.Sound.{Sound};
 ghost use Rattle.dmix_client.specs.declared.plain.Plain.{Plain};
@@ -60,15 +62,35 @@ pub fn runs_go_on()
 {}
 
 /// Each call of a client and of a reader is the course of it in a run, but for the samples that it
-/// lays and the words that it finds; and it is that at a port which others used before, where its
-/// marks are the same from a frame on.
+/// lays and the words that it finds, and of a client with whichever member; and it is that at a port
+/// which others used before, where its marks are the same from a frame on.
 ///
 /// It does nothing.
 pub fn calls_are_alike()
-    ensures clients { (from : ℕ) (c : Plain) (ring : List ℤ) (cursor other floor lower : Cursor) →
-        SameFrom from cursor other → SameFrom from floor lower →
-        CallsAreAlike from c ring cursor other floor lower }
+    ensures clients { (from member : ℕ) (c : Plain) (ring : List ℤ)
+        (cursor other floor lower : Cursor) → SameFrom from cursor other →
+        SameFrom from floor lower → CallsAreAlike from member c ring cursor other floor lower }
     ensures readers { (r : reading.Plain) → ReadsAreAlike r }
+{}
+
+/// A client at a place has the place's number as member, and in a run it has its own. It is opened
+/// the same with either, a report has the same of it, and what it lays has the same frames, channels
+/// and samples.
+///
+/// It does nothing.
+pub fn members_are_unreported()
+    ensures reports { (member : ℕ) → MembersAreUnreported member }
+    ensures entries { (member other : ℕ) → MembersLayAlike member other }
+{}
+
+/// At a port which others used up to a frame, the last frame that was laid is an actor's own, or,
+/// where it laid none, the last one before it. So an actor's own is the port's, unless that is
+/// below the frame. This stays from phase to phase.
+///
+/// It does nothing.
+pub fn last_frames_are_own()
+    ensures { (ring : Geometry) (from : ℕ) (before own port : Marks) →
+        MarksAlike ring from before.high own port → HasOwnLast ring from before own port }
 {}
 
 /// An actor's part in a phase, which speaks of no other actor and not of the card, is what the
@@ -137,8 +159,9 @@ pub fn claims_are_of_owners()
         ClaimIsOwners claims channels position }
 {}
 
-/// Each line of an open client that a port and a gate that counts asks down took, with its samples
-/// and the words that it found, is a part of that client.
+/// Each line of an open client that a port and a gate that counts asks down took, with its samples,
+/// the words that it found and the member of its seat, is a part of that client, whose member is
+/// its own number.
 ///
 /// It does nothing.
 pub fn client_lines_are_parts<P: MixPort, G: Gate>()
