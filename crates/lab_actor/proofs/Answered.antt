@@ -20,6 +20,7 @@ use Rattle.lab_report.specs.declared.row.Answer.TheVariants.{Done, Failed}
 use Rattle.lab_run.specs.ActorPart.{Doing}
 use Rattle.lab_run.specs.Client.{Client, ended_by, stretch_of}
 use Rattle.lab_run.specs.ClientAtPort.{ClientLinesAreParts, ClientLinesWithoutCall, IsClientLine}
+use Rattle.lab_run.specs.Members.{with_member}
 use Rattle.lab_run.specs.PortSteps.{IsAtPort}
 use Rattle.lab_actor.specs.ClientLines.{CanCall, Extends, HasAnswered, HasCalled, IsReady, ends_stretch}
 use Rattle.lab_actor.proofs.Away.{Extends-still}
@@ -48,7 +49,7 @@ module _ {S T : Type 0} (P : mixport.Ghosts S) (composes : Composes P.laid) (lef
       → HasAnswered P left by_gate s t wav c d asked answer
   answered-call G parts s t wav c d asked answer can called = record {
     line = λ phase number ended first ring from before at.
-        parts first ring from s t phase wav number before (record { own = Some c.plain; ended = ended }) c.plain c.ring called.samples asked d.plain answer
+        parts first ring from s t phase wav number before (record { own = Some (with_member number c.plain); ended = ended }) c.plain c.ring called.samples asked d.plain answer
         (record { is_open = refl; goes = can.goes; asks = can.asks }) called.offered at called.takes;
     ready = called.ready;
     extends = called.extends;
@@ -56,11 +57,11 @@ module _ {S T : Type 0} (P : mixport.Ghosts S) (composes : Composes P.laid) (lef
 
   still : (s t : S × T) (wav : Sound) (c : ClientView) (asked : Op) (answer : Answer) → t.0 ≡ s.0 → IsReady P wav s.0 c → ended_by asked answer c.plain c.plain ≡ []
       → ((phase number : ℕ) (ended : List Segment) (first : S) (ring : Geometry) (from : ℕ) (before : Doing) → IsAtPort P left by_gate first ring from s before
-      → IsClientLine P left by_gate first ring from t phase wav number before (record { own = Some c.plain; ended = ended }) asked (record { own = Some c.plain; ended = ended }) answer)
+          → IsClientLine P left by_gate first ring from t phase wav number before (record { own = Some (with_member number c.plain); ended = ended }) asked (record { own = Some (with_member number c.plain); ended = ended }) answer)
       → HasAnswered P left by_gate s t wav c c asked answer
   still s t wav c asked answer same ready none line = record {
     line = λ phase number ended first ring from before at.
-        subst (λ (segments : List Segment). IsClientLine P left by_gate first ring from t phase wav number before (record { own = Some c.plain; ended = ended }) asked (record { own = Some c.plain; ended = segments }) answer)
+        subst (λ (segments : List Segment). IsClientLine P left by_gate first ring from t phase wav number before (record { own = Some (with_member number c.plain); ended = ended }) asked (record { own = Some (with_member number c.plain); ended = segments }) answer)
         (sym (ap (λ (more : List Segment). ended ++ more) none ∙ append-nil ended)) (line phase number ended first ring from before at);
     ready = subst (λ (p : S). IsReady P wav p c) (sym same) ready;
     extends = subst (λ (ended : List Segment). Extends P wav.samples s.0 t.0 c.plain c.plain ended) (sym none)
@@ -74,7 +75,7 @@ module _ {S T : Type 0} (P : mixport.Ghosts S) (composes : Composes P.laid) (lef
   answered-stopped laws s wav c asked stopped ready = still s s wav c asked (Failed Stopped) refl ready (no_end asked Stopped c.plain)
       (λ phase number ended first ring from before at. record {
         doing = before;
-        done = (laws ring phase wav number).stopped before.0 before.1 (record { own = Some c.plain; ended = ended }) c.plain asked refl stopped;
+        done = (laws ring phase wav number).stopped before.0 before.1 (record { own = Some (with_member number c.plain); ended = ended }) (with_member number c.plain) asked refl stopped;
         at = at;
       })
 
@@ -85,7 +86,7 @@ module _ {S T : Type 0} (P : mixport.Ghosts S) (composes : Composes P.laid) (lef
   answered-die laws p g h wav c asks going left_is gate_is ready = still (p, g) (p, h) wav c (op.Die asks) Done refl ready refl
       (λ phase number ended first ring from before at. record {
         doing = (record before.0 { left = Some asks }, before.1);
-        done = (laws ring phase wav number).dies before.0 before.1 (record { own = Some c.plain; ended = ended }) c.plain asks refl going;
+        done = (laws ring phase wav number).dies before.0 before.1 (record { own = Some (with_member number c.plain); ended = ended }) (with_member number c.plain) asks refl going;
         at = record {
           geometry = at.geometry;
           after = at.after;

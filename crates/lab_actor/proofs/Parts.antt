@@ -17,6 +17,7 @@ use Rattle.lab_report.specs.declared.row.Row.{Row}
 use Rattle.lab_run.specs.ActorPart.{Doing, PartsGrow}
 use Rattle.lab_run.specs.Client.{Client, client_kind, row_by}
 use Rattle.lab_run.specs.ClientAtPort.{IsClientLine}
+use Rattle.lab_run.specs.Members.{with_member}
 use Rattle.lab_run.specs.Phases.{ops_by}
 use Rattle.lab_run.specs.PortSteps.{IsAtPort}
 use Rattle.lab_actor.specs.declared.client.ClientActor.{ClientActor}
@@ -127,7 +128,7 @@ pub ClientPart-shared : {S T U : Type 0} (P : mixport.Ghosts S) (left : T → Op
     → c.rows.items ≡ b.rows.items → c.ended.items ≡ b.ended.items → c.client ≡ b.client → c.number ≡ b.number
     → ClientPart P left by_gate (p, g) (q, h) phase wav a b ops → ClientPart P other_left by_other (p, k) (q, m) phase wav a c ops
 ClientPart-shared P left by_gate other_left by_other p q g h k m phase wav a b c ops left_before gate_before left_after gate_after rows ended client number part =
-    let same : client_of b ≡ client_of c = λ i. record { own = Some ((sym client) i).plain; ended = (sym ended) i } in
+    let same : client_of b ≡ client_of c = λ i. record { own = Some (with_member ((sym number) i) ((sym client) i).plain); ended = (sym ended) i } in
     record {
       rows = part.rows;
       rows_are = rows ∙ part.rows_are;

@@ -18,6 +18,7 @@ use Rattle.lab_report.specs.declared.row.Answer.{Answer}
 use Rattle.lab_report.specs.declared.row.Answer.TheVariants.{Done}
 use Rattle.lab_run.specs.Client.{ended_by, frames_of}
 use Rattle.lab_run.specs.ClientAtPort.{IsClientLine, IsOffered, is_die, made_call}
+use Rattle.lab_run.specs.Members.{with_member}
 use Rattle.lab_run.specs.PortSteps.{IsAtPort}
 use Rattle.lab_run.specs.ActorPart.{Doing}
 use Rattle.snd_base.specs.declared.geometry.Geometry.{Geometry}
@@ -66,8 +67,8 @@ IsFew other = ⊤
 -- an open client was answered a line, and is ready for the next one: whichever segments it had, it is its line as a run has it
 pub record HasAnswered {S T : Type 0} (P : mixport.Ghosts S) (left : T → Option ℕ) (by_gate : T → ℕ) (s t : S × T) (wav : Sound) (c d : ClientView) (asked : Op) (answer : Answer) : Type 0 where
   pub line : (phase number : ℕ) (ended : List Segment) (first : S) (ring : Geometry) (from : ℕ) (before : Doing) → IsAtPort P left by_gate first ring from s before
-      → IsClientLine P left by_gate first ring from t phase wav number before (record { own = Some c.plain; ended = ended })
-      asked (record { own = Some d.plain; ended = ended ++ ended_by asked answer c.plain d.plain }) answer
+      → IsClientLine P left by_gate first ring from t phase wav number before (record { own = Some (with_member number c.plain); ended = ended })
+          asked (record { own = Some (with_member number d.plain); ended = ended ++ ended_by asked answer c.plain d.plain }) answer
   pub ready : IsReady P wav t.0 d
   pub extends : Extends P wav.samples s.0 t.0 c.plain d.plain (ended_by asked answer c.plain d.plain)
 

@@ -10,13 +10,14 @@ use Rattle.lab_report.specs.declared.row.Row.{Row}
 use Rattle.lab_run.specs.ActorPart.{ActorPart, Doing}
 use Rattle.lab_run.specs.Client.{Client, client_kind, row_by}
 use Rattle.lab_run.specs.ClientAtPort.{IsClientLine}
+use Rattle.lab_run.specs.Members.{with_member}
 use Rattle.lab_run.specs.PortSteps.{IsAtPort}
 use Rattle.lab_actor.specs.declared.client.ClientActor.{ClientActor}
 use Rattle.lab_actor.specs.ClientLines.{Extends, IsReady}
 
 -- the client of an actor, as a run has it
 abbrev pub client_of : ClientActor → Client
-client_of a = record { own = Some a.client.plain; ended = a.ended.items }
+client_of a = record { own = Some (with_member a.number a.client.plain); ended = a.ended.items }
 
 -- what stays of an actor
 abbrev pub IsSameActor : ClientActor → ClientActor → Type 0

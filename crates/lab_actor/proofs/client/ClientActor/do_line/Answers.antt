@@ -5,6 +5,7 @@ use Rattle.lab_script.specs.declared.line.Actor.TheVariants as actor
 use Rattle.lab_report.specs.declared.row.Row.{Row}
 use Rattle.lab_run.specs.Client.{ended_by}
 use Rattle.lab_run.specs.ClientAtPort.{IsClientLine}
+use Rattle.lab_run.specs.Members.{with_member}
 use Rattle.lab_actor.specs.ClientLines.{ends_stretch, laid_of}
 use Rattle.lab_actor.specs.ClientPart.{client_of}
 use Rattle.lab_actor.specs.Countdown.{by_gate_of, left_of}
@@ -40,7 +41,7 @@ returns g c =
           seen = c.seen.ensures i;
         } in row) ∷ []);
         line = λ first ring from before at.
-            subst (λ (segments : List Segment). IsClientLine P left_of by_gate first ring from t c.args.phase c.args.wav.now a.number before (client_of a) asked (record { own = Some d.plain; ended = segments }) answer)
+            subst (λ (segments : List Segment). IsClientLine P left_of by_gate first ring from t c.args.phase c.args.wav.now a.number before (client_of a) asked (record { own = Some (with_member a.number d.plain); ended = segments }) answer)
             (sym ended_is) (answered.line c.args.phase a.number a.ended.items first ring from before at);
         ended = ended;
         ended_are = ended_is;
