@@ -57,7 +57,7 @@ module _ {S T : Type 0} (P : mixport.Ghosts S) (composes : Composes P.laid) (lef
 
   still : (s t : S × T) (wav : Sound) (c : ClientView) (asked : Op) (answer : Answer) → t.0 ≡ s.0 → IsReady P wav s.0 c → ended_by asked answer c.plain c.plain ≡ []
       → ((phase number : ℕ) (ended : List Segment) (first : S) (ring : Geometry) (from : ℕ) (before : Doing) → IsAtPort P left by_gate first ring from s before
-          → IsClientLine P left by_gate first ring from t phase wav number before (record { own = Some (with_member number c.plain); ended = ended }) asked (record { own = Some (with_member number c.plain); ended = ended }) answer)
+      → IsClientLine P left by_gate first ring from t phase wav number before (record { own = Some (with_member number c.plain); ended = ended }) asked (record { own = Some (with_member number c.plain); ended = ended }) answer)
       → HasAnswered P left by_gate s t wav c c asked answer
   still s t wav c asked answer same ready none line = record {
     line = λ phase number ended first ring from before at.

@@ -68,7 +68,7 @@ IsFew other = ⊤
 pub record HasAnswered {S T : Type 0} (P : mixport.Ghosts S) (left : T → Option ℕ) (by_gate : T → ℕ) (s t : S × T) (wav : Sound) (c d : ClientView) (asked : Op) (answer : Answer) : Type 0 where
   pub line : (phase number : ℕ) (ended : List Segment) (first : S) (ring : Geometry) (from : ℕ) (before : Doing) → IsAtPort P left by_gate first ring from s before
       → IsClientLine P left by_gate first ring from t phase wav number before (record { own = Some (with_member number c.plain); ended = ended })
-          asked (record { own = Some (with_member number d.plain); ended = ended ++ ended_by asked answer c.plain d.plain }) answer
+      asked (record { own = Some (with_member number d.plain); ended = ended ++ ended_by asked answer c.plain d.plain }) answer
   pub ready : IsReady P wav t.0 d
   pub extends : Extends P wav.samples s.0 t.0 c.plain d.plain (ended_by asked answer c.plain d.plain)
 
