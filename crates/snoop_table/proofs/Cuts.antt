@@ -188,6 +188,10 @@ knows words views at t u id v x here tracks =
           let past : NotPast n (get_or words (index_of g f c) 0) = own.noted (index_of g f c) n (omega arith) there in
           let laps : laps_of (word_in words g f c) ≡ lap g f + 1 = (HoldsSample-fields _ _ _ (x.ring.holds.last f c is)).0 in
           omega (arith, laps, NotPast-upper n (word_in words g f c) past);
+      unused = λ n f c is there.
+          let past : NotPast n (get_or words (index_of g f c) 0) = own.noted (index_of g f c) n (omega arith) there in
+          let laps : laps_of (word_in words g f c) ≡ g.first_lap = (HoldsSample-fields _ _ _ (x.ring.holds.unused f c is)).0 in
+          omega (arith, laps, NotPast-upper n (word_in words g f c) past);
       got = own.got;
     } in
     subst (Knows v) (sym (x.views_ok.writer id v u here tracks).1) at_t

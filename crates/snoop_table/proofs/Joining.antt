@@ -66,6 +66,9 @@ borne_out_first g t v w own knows = subst (λ k. IsBorneOut k t v) own (record {
   noted = λ f c x last is.
       let later = later_notes-keeps v.noted w.noted (index_of v.geometry f c) x (inl is) in
       omega (arith, knows.noted later.0 f c last later.1, rank-laps x later.0 later.2);
+  unused = λ f c x never is.
+      let later = later_notes-keeps v.noted w.noted (index_of v.geometry f c) x (inl is) in
+      omega (arith, knows.unused later.0 f c never later.1, rank-laps x later.0 later.2);
   gone = λ is. knows.gone (or_left v.seen_gone w.seen_gone is);
   got = λ i f there. knows.got i f (at_longer v.got w.got i f there);
 })
@@ -78,6 +81,9 @@ borne_out_second g t v w own knows = subst (λ k. IsBorneOut k t w) own (record 
   noted = λ f c x last is.
       let later = later_notes-keeps v.noted w.noted (index_of v.geometry f c) x (inr is) in
       omega (arith, knows.noted later.0 f c last later.1, rank-laps x later.0 later.2);
+  unused = λ f c x never is.
+      let later = later_notes-keeps v.noted w.noted (index_of v.geometry f c) x (inr is) in
+      omega (arith, knows.unused later.0 f c never later.1, rank-laps x later.0 later.2);
   gone = λ is. knows.gone (or_right v.seen_gone w.seen_gone is);
   got = λ i f there.
       let j = at_second v.got w.got i f there in

@@ -9,7 +9,7 @@ use Rattle.snd_base.specs.Places.{lap}
 use Rattle.ring_rule.specs.Positions.{IsPosition}
 use Rattle.ring_rule.specs.Words.{index_of}
 use Rattle.snoop_core.specs.declared.port.Frame.{Frame}
-use Rattle.snoop_core.specs.Stored.{IsCaptured, IsLast}
+use Rattle.snoop_core.specs.Stored.{IsCaptured, IsLast, IsUnused}
 use Rattle.snoop_core.specs.Word.{laps_of}
 use Rattle.snoop_table.specs.declared.seats.desk.Desk.{Desk}
 use Rattle.snoop_table.specs.declared.seats.note.SnoopNote.{SnoopNote}
@@ -84,11 +84,12 @@ pub record DeskGave (d e : Desk) (new : ReaderSeat) : Type 0 where
   pub new_gone : (view_of new).seen_gone ≡ (desk_track d).gone
 
 -- what a seat has seen is what the writer did: each of its positions is the first frame or one that the writer published, each
--- of its noted words has at most the lap of the last frame that the writer stored there, it has seen the card gone only where the
--- writer is gone, and each frame that it got is the one that the writer stored under its number
+-- of its noted words has at most the lap of the last frame that the writer stored there, or that of a new ring's word where it stored
+-- none, it has seen the card gone only where the writer is gone, and each frame that it got is the one that the writer stored under its number
 pub record IsBorneOut (g : Geometry) (t : Track) (v : View) : Type 0 where
   pub positions : (i x : ℕ) → get_elem? v.positions i ≡ some x → IsPosition g t.published x
   pub noted : (f c x : ℕ) → IsLast g (next_of g t) f c → slice_index_or v.noted (index_of g f c) None ≡ Some x → laps_of x ≤ lap g f + 1
+  pub unused : (f c x : ℕ) → IsUnused g (next_of g t) f c → slice_index_or v.noted (index_of g f c) None ≡ Some x → laps_of x ≤ g.first_lap
   pub gone : v.seen_gone ≡ true → t.gone ≡ true
   pub got : (i : ℕ) (f : Frame) → get_elem? v.got i ≡ some f → IsCaptured g t.stored f
 

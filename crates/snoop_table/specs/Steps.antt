@@ -10,7 +10,7 @@ use Rattle.ring_rule.specs.Positions.{IsPosition}
 use Rattle.ring_rule.specs.Words.{NotPast, index_of}
 use Rattle.snoop_core.specs.declared.port.Frame.{Frame}
 use Rattle.snoop_core.specs.Port.{frame_of}
-use Rattle.snoop_core.specs.Stored.{IsCaptured, IsLast}
+use Rattle.snoop_core.specs.Stored.{IsCaptured, IsLast, IsUnused}
 use Rattle.snoop_core.specs.Word.{laps_of, sample_of}
 use Rattle.snoop_table.specs.declared.view.Track.{Track}
 use Rattle.snoop_table.specs.declared.view.View.{View}
@@ -101,14 +101,16 @@ abbrev pub unplugged : Step (Unit {0}) → Me (Unit {0}) View → ℕ → Me (Un
 unplugged s m n r = (t : Track) × (m.0.track ≡ Some t) × (r ≡ (with_gone m.0 t, m.1))
 
 -- what the rule tells of a view that has the writer's part: the positions that it saw were published, the card was seen gone
--- only where it is, each noted word's lap is at most that of the last frame stored there, and each frame that it got is the
--- stored one of its number
+-- only where it is, each noted word's lap is at most that of the last frame stored there, or of a new ring's word where none was, and
+-- each frame that it got is the stored one of its number
 pub record Knows (v : View) (t : Track) : Type 0 where
   pub seen : v.seen ≤ position_of v.geometry t
   pub positions : (i p : ℕ) → get_elem? v.positions i ≡ some p → IsPosition v.geometry t.published p
   pub gone : v.seen_gone ≡ true → t.gone ≡ true
   pub noted : (n f c : ℕ) → IsLast v.geometry (next_of v.geometry t) f c → slice_index_or v.noted (index_of v.geometry f c) None ≡ Some n
       → laps_of n ≤ lap v.geometry f + 1
+  pub unused : (n f c : ℕ) → IsUnused v.geometry (next_of v.geometry t) f c → slice_index_or v.noted (index_of v.geometry f c) None ≡ Some n
+      → laps_of n ≤ v.geometry.first_lap
   pub got : (i : ℕ) (f : Frame) → get_elem? v.got i ≡ some f → IsCaptured v.geometry t.stored f
 
 -- a load of the position that notes nothing
