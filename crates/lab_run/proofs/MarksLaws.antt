@@ -10,9 +10,9 @@ use Rattle.mix_core.specs.declared.port.Entry.{Entry}
 use Rattle.mix_core.specs.declared.port.Kind.{Kind}
 use Rattle.mix_core.specs.declared.port.Kind.TheVariants.{Added, Withdrawn}
 use Rattle.mix_core.specs.Laid.{marked, marks_after}
-use Rattle.mix_core.specs.Marks.{floor_after, is_before, later_of, start_of}
+use Rattle.mix_core.specs.Marks.{floor_after, high_frame, is_before, last_before, later_of, start_of}
 use Rattle.lab_run.specs.Alike.{SameFrom}
-use Rattle.lab_run.specs.Places.{last_before, last_laid, last_of}
+use Rattle.lab_run.specs.Places.{last_of}
 use Rattle.lab_run.specs.PortSteps.{HasLaidNone, HasOwnLast, IsLastSince, IsLow, IsPastFrame, MarksAlike, laid, last_from, moved, untouched}
 
 low-same : (from : ℕ) (one other : Cursor) → IsLow from one → IsLow from other → SameFrom from one other
@@ -138,7 +138,7 @@ entry-alike ring from before e own port after alike = by_kind e.kind
 
 -- ---- the last frames
 
-start-last : (ring : Geometry) (marks : Marks) → marks.high ≡ start_of ring → last_laid ring marks ≡ None
+start-last : (ring : Geometry) (marks : Marks) → marks.high ≡ start_of ring → high_frame ring marks ≡ None
 start-last ring marks is = rw (is, not_before (start_of ring)) refl
   where
     not_before : (at : Cursor) → is_before at at ≡ false
@@ -148,7 +148,7 @@ start-last ring marks is = rw (is, not_before (start_of ring)) refl
 last-below : (from : ℕ) (start high : Cursor) → IsLow from high → is_before start high ≡ true → nat_le from (last_before high) ≡ false
 last-below from start high low after = grind (arith, nat_tests)
 
-low-last : (ring : Geometry) (from : ℕ) (marks : Marks) → IsLow from marks.high → last_from from (last_laid ring marks) ≡ None
+low-last : (ring : Geometry) (from : ℕ) (marks : Marks) → IsLow from marks.high → last_from from (high_frame ring marks) ≡ None
 low-last ring from marks low = by_test (is_before (start_of ring) marks.high) refl
   where
     below : is_before (start_of ring) marks.high ≡ true → nat_le from (last_before marks.high) ≡ false
@@ -159,7 +159,7 @@ low-last ring from marks low = by_test (is_before (start_of ring) marks.high) re
     by_test true is = rw (below is) refl
     by_test false is = refl
 
-past-last : (ring : Geometry) (from : ℕ) (marks : Marks) → IsPastFrame ring from marks.high → last_laid ring marks ≡ Some (last_before marks.high)
+past-last : (ring : Geometry) (from : ℕ) (marks : Marks) → IsPastFrame ring from marks.high → high_frame ring marks ≡ Some (last_before marks.high)
 past-last ring from marks past = rw (past.after_start) refl
 
 past-from : (from : ℕ) (high : Cursor) → from < first_free high 0 → last_from from (Some (last_before high)) ≡ Some (last_before high)
@@ -168,11 +168,11 @@ past-from from high past = rw from_on refl
     from_on : nat_le from (last_before high) ≡ true
     from_on = grind (arith, nat_tests)
 
-high-last : (ring : Geometry) (one other : Marks) → one.high ≡ other.high → last_laid ring one ≡ last_laid ring other
+high-last : (ring : Geometry) (one other : Marks) → one.high ≡ other.high → high_frame ring one ≡ high_frame ring other
 high-last ring one other same = ap (λ (at : Cursor). if is_before (start_of ring) at then Some (last_before at) else None) same
 
 none-last : (ring : Geometry) (from : ℕ) (before own port : Marks) → HasLaidNone ring from before.high own port
-    → (last_laid ring port ≡ last_of (last_laid ring own) (last_laid ring before)) × (last_laid ring own ≡ last_from from (last_laid ring port))
+    → (high_frame ring port ≡ last_of (high_frame ring own) (high_frame ring before)) × (high_frame ring own ≡ last_from from (high_frame ring port))
 none-last ring from before own port none = (
   rw (start-last ring own none.own_high) (high-last ring port before none.port_high),
   start-last ring own none.own_high ∙ sym (low-last ring from port none.port_low),
@@ -189,7 +189,7 @@ still-none ring from before own port n = record {
 }
 
 none-since : (ring : Geometry) (from : ℕ) (before own port : Marks) → HasLaidNone ring from before.high own port → (opening : Option ℕ)
-    → IsLastSince from opening (last_laid ring before) → IsLastSince from opening (last_laid ring port)
+    → IsLastSince from opening (high_frame ring before) → IsLastSince from opening (high_frame ring port)
 none-since ring from before own port none opening = subst (IsLastSince from opening) (sym (high-last ring port before none.port_high))
 
 pub marks-last : (ring : Geometry) (from : ℕ) (before own port : Marks) → MarksAlike ring from before.high own port → HasOwnLast ring from before own port
@@ -211,8 +211,8 @@ marks-last ring from before own port (moved none same) =
     }
 marks-last ring from before own port (laid same high past floor) =
     let own_is = past-last ring from own past in
-    let port_is : last_laid ring port ≡ Some (last_before own.high) = sym (high-last ring own port high) ∙ own_is in
-    let since_is : last_from from (last_laid ring port) ≡ Some (last_before own.high) = ap (last_from from) port_is ∙ past-from from own.high past.after_frame in
+    let port_is : high_frame ring port ≡ Some (last_before own.high) = sym (high-last ring own port high) ∙ own_is in
+    let since_is : last_from from (high_frame ring port) ≡ Some (last_before own.high) = ap (last_from from) port_is ∙ past-from from own.high past.after_frame in
     record {
       port_last = rw own_is port_is;
       own_last = own_is ∙ sym since_is;

@@ -1,12 +1,8 @@
 -- The places of a ring: who holds each, and the last frame that was laid in through it.
-use Rattle.std.specs.Prelude.{ℕ, zero, suc, ◌+◌, ◌-◌, ◌&&◌, Bool, true, false, nat_lt, nat_eq, min, if◌then◌else◌, is_none, List, [], ◌∷◌, map, replicate, Option, Some, None, Result, Ok, Err}
+use Rattle.std.specs.Prelude.{ℕ, zero, suc, ◌+◌, ◌&&◌, Bool, true, false, nat_lt, nat_eq, min, if◌then◌else◌, is_none, List, [], ◌∷◌, map, replicate, Option, Some, None, Result, Ok, Err}
 use Rattle.std.specs.List.{list_any, position}
 use Rattle.snd_base.specs.declared.errors.PcmError.{PcmError}
 use Rattle.snd_base.specs.declared.errors.PcmError.TheVariants.{Busy}
-use Rattle.snd_base.specs.declared.geometry.Geometry.{Geometry}
-use Rattle.snd_base.specs.declared.places.Cursor.{Cursor}
-use Rattle.mix_core.specs.declared.marks.Marks.{Marks}
-use Rattle.mix_core.specs.Marks.{is_before, start_of}
 
 -- a place: the number of the client that holds it, if one does, and the last frame that was laid in through it, if one was
 pub record Place : Type 0 where
@@ -66,14 +62,6 @@ abbrev pub attached : ℕ → ℕ → Lobby → Lobby × Result (Unit {0}) PcmEr
 attached client at lobby =
     if list_any is_free lobby.places then attached_by (position (is_silent at) lobby.places) client at lobby
     else (lobby, Err (Busy None lobby.seen))
-
--- the last frame before a cursor, in whole or in part
-abbrev pub last_before : Cursor → ℕ
-last_before at = if nat_eq at.channel 0 then at.frame - 1 else at.frame
-
--- the last frame in which an actor with these marks laid a sample, withdrawn or not, if it laid one
-abbrev pub last_laid : Geometry → Marks → Option ℕ
-last_laid ring marks = if is_before (start_of ring) marks.high then Some (last_before marks.high) else None
 
 -- a client that laid so gives its place back
 abbrev pub is_held_by : ℕ → Option ℕ → Bool

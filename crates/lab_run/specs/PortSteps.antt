@@ -10,11 +10,11 @@ use Rattle.mix_core.specs.declared.gate.StepKind.{StepKind}
 use Rattle.mix_core.specs.declared.gate.StepKind.TheVariants.{Again, Position}
 use Rattle.mix_core.specs.declared.port.MixPort as mixport
 use Rattle.mix_core.specs.Laid.{without_last}
-use Rattle.mix_core.specs.Marks.{is_before, start_of}
+use Rattle.mix_core.specs.Marks.{high_frame, is_before, start_of}
 use Rattle.mix_core.specs.Port.{IsPast}
 use Rattle.course.specs.Course.{Course, Takes}
 use Rattle.lab_run.specs.ActorPart.{DoesGet, DoesLay, DoesLoad, Doing, Each}
-use Rattle.lab_run.specs.Places.{last_laid, last_of}
+use Rattle.lab_run.specs.Places.{last_of}
 use Rattle.lab_run.specs.Rules.{AtPort, lets_pass, with_asks, with_gate_stop, with_stop}
 
 -- how many of some asks a `die` counts: all but those of kind Again
@@ -92,10 +92,10 @@ IsLastSince from opening last = last ≡ last_of (last_from from last) opening
 -- the actor's own is the port's, unless that is below the frame. So it stays from phase to phase: from the marks of the port as they are now on, the
 -- marks are alike again, and the port's last frame is still the one at the opening, or the actor's own.
 pub record HasOwnLast (ring : Geometry) (from : ℕ) (before own port : Marks) : Type 0 where
-  pub port_last : last_laid ring port ≡ last_of (last_laid ring own) (last_laid ring before)
-  pub own_last : last_laid ring own ≡ last_from from (last_laid ring port)
+  pub port_last : high_frame ring port ≡ last_of (high_frame ring own) (high_frame ring before)
+  pub own_last : high_frame ring own ≡ last_from from (high_frame ring port)
   pub again : MarksAlike ring from port.high own port
-  pub since : (opening : Option ℕ) → IsLastSince from opening (last_laid ring before) → IsLastSince from opening (last_laid ring port)
+  pub since : (opening : Option ℕ) → IsLastSince from opening (high_frame ring before) → IsLastSince from opening (high_frame ring port)
 
 -- An actor at a port, which others used up to a frame, with what it found since a first state of the port. Where it laid no sample yet, the port's
 -- high is that of the first state.

@@ -4,7 +4,7 @@ use Rattle.snd_base.specs.declared.errors.PcmError.{PcmError}
 use Rattle.snd_base.specs.declared.errors.PcmError.TheVariants.{BadState, Invalid}
 use Rattle.snd_base.specs.declared.errors.Why.TheVariants as why
 use Rattle.snd_base.specs.declared.geometry.Geometry.{Geometry}
-use Rattle.mix_core.specs.Marks.{start_marks}
+use Rattle.mix_core.specs.Marks.{high_frame, start_marks}
 use Rattle.pcm_states.specs.declared.states.State.{State}
 use Rattle.pcm_states.specs.declared.states.State.TheVariants as state
 use Rattle.hw_space.specs.declared.config.Config.{Config}
@@ -26,7 +26,7 @@ use Rattle.lab_report.specs.declared.row.Answer.TheVariants.{Done, Failed}
 use Rattle.lab_report.specs.declared.row.Row.{Row}
 use Rattle.lab_run.specs.Claims.{claim_refusal, with_claim, with_release}
 use Rattle.lab_run.specs.Client.{Client, row_by, segments_of}
-use Rattle.lab_run.specs.Places.{Lobby, attached, last_laid, left_by, new_lobby}
+use Rattle.lab_run.specs.Places.{Lobby, attached, left_by, new_lobby}
 use Rattle.lab_run.specs.Reader.{Reader}
 use Rattle.lab_run.specs.Reader as readers
 use Rattle.lab_run.specs.Rules.{AtPort}
@@ -169,10 +169,10 @@ ended_reader ring (a, reader) = (renewed ring a, record reader { own = None })
 
 -- an open client gives its place and its channels back
 abbrev pub lobby_without : Geometry → ℕ → AtPort → Lobby → Lobby
-lobby_without ring number a lobby = left_by number (last_laid ring a.marks) lobby
+lobby_without ring number a lobby = left_by number (high_frame ring a.marks) lobby
 
 abbrev pub claims_without : Session → AtPort → Plain → List owners.Row → List owners.Row
-claims_without session a c claims = with_release session.card.share c.setup.bindings (last_laid session.ring a.marks) claims
+claims_without session a c claims = with_release session.card.share c.setup.bindings (high_frame session.ring a.marks) claims
 
 abbrev pub close_client : Session → Stage → ℕ → AtPort × Client → Option Plain → Stage
 close_client session stage number client None = with_row (row_at stage (actor.Client number) op.Closes (Failed BadState) state.Open None) stage

@@ -1,5 +1,5 @@
 -- Where a member stands: its cursor, its floor and its high, and how they move.
-use Rattle.std.specs.Prelude.{ℕ, Bool, ◌==◌, ◌&&◌, ◌||◌, nat_lt, if◌then◌else◌}
+use Rattle.std.specs.Prelude.{ℕ, ◌-◌, Bool, ◌==◌, ◌&&◌, ◌||◌, nat_eq, nat_lt, if◌then◌else◌, Option, Some, None}
 use Rattle.snd_base.specs.declared.geometry.Geometry.{Geometry}
 use Rattle.snd_base.specs.declared.places.Cursor.{Cursor}
 use Rattle.snd_base.specs.Places.{behind, first_frame}
@@ -30,3 +30,11 @@ added_at g m f c = record { cursor = behind g f c; floor = floor_after m.cursor 
 
 abbrev pub withdrawn_at : Marks → ℕ → ℕ → Marks
 withdrawn_at m f c = record { cursor = record { frame = f; channel = c }; floor = m.floor; high = m.high }
+
+-- the last frame before a cursor, in whole or in part
+abbrev pub last_before : Cursor → ℕ
+last_before at = if nat_eq at.channel 0 then at.frame - 1 else at.frame
+
+-- the last frame in which a member with these marks laid a sample, withdrawn or not, if it laid one
+abbrev pub high_frame : Geometry → Marks → Option ℕ
+high_frame g marks = if is_before (start_of g) marks.high then Some (last_before marks.high) else None

@@ -32,6 +32,7 @@ use Rattle.sum_table.specs.Players.{player_view, track_of}
 use Rattle.sum_table.specs.Seats.{view_of}
 use Rattle.sum_table.specs.Steps.{IsStep, Knows, Makes, learned, with_history}
 use Rattle.ring_rule.specs.Words.{index_of, rank}
+use Rattle.sum_table.proofs.Highs.{greater_none, high_frame-joined, high_frame-start}
 use Rattle.sum_table.proofs.Kept.{IsLaid-later}
 use Rattle.ring_rule.specs.Lists.{at_append}
 use Rattle.sum_table.proofs.Cuts.{joins, learns, splits}
@@ -67,6 +68,7 @@ known_without k places marks seen last v amount n is same has nothing = record {
   same_marks = is.same_marks;
   same_seen = is.same_seen;
   same_last = is.same_last;
+  is_last = record { high = is.is_last.high; none = λ none_left. sym is.same_last ∙ ap last_frame nothing };
   lasts = is.lasts;
   untracked = is.untracked;
   noted = record { room = is.noted.room; words = is.noted.words };
@@ -86,6 +88,7 @@ known_part k v amount n seen same_key same_seen noted seen_within same most = re
   same_marks = ap (λ (x : Key). start_marks x.geometry) same_key;
   same_seen = same_seen;
   same_last = refl;
+  is_last = record { high = high_frame-start k.geometry; none = λ none_left. refl };
   lasts = refl;
   untracked = refl;
   noted = record { room = noted.room; words = noted.words };
@@ -133,6 +136,10 @@ known_joined k p q a b s t l m v w slots n x r first second both told =
       same_marks = ap (λ y. joined_marks y w.marks w.places) first.same_marks ∙ (ap (λ y. joined_marks a y w.places) second.same_marks ∙ ap (joined_marks a b) second.same_places);
       same_seen = omega (arith, first.same_seen, second.same_seen);
       same_last = last_frame-append v.laid w.laid ∙ (ap (λ y. greater y (last_frame w.laid)) first.same_last ∙ ap (greater l) second.same_last);
+      is_last = record {
+        high = high_frame-joined k.geometry a b q l m first.is_last.high second.is_last.high second.is_last.none;
+        none = λ none_left. ap (λ o. greater o m) (first.is_last.none (omega (arith, none_left))) ∙ second.is_last.none (omega (arith, none_left));
+      };
       lasts = first.lasts;
       untracked = ap (λ y. either_track y w.track) first.untracked ∙ second.untracked;
       noted = record { room = noted.room; words = noted.words };
@@ -312,10 +319,6 @@ has_player_note p q n ring key same next position gone note_at note_of view seen
   published = λ i x there. subst (λ (v : View). (j : ℕ) × (get_elem? v.positions j ≡ some x)) (sym view) (has_each (player_view p).positions (track_of p).published i x p.known.saw_all there);
   gone = ap (λ (v : View). v.seen_gone) view ∙ (p.known.same_gone ∙ p.known.gone_is);
 }
-
-greater_none : (o : Option ℕ) → greater o None ≡ o
-greater_none None = refl
-greater_none (Some n) = refl
 
 -- a mix seat that was joined with a note's
 pub has_met : (s t : MixSeat) (n : SeatNote) → n.seat.key ≡ s.key → HasJoined s t n.seat → HasMet s t n

@@ -111,11 +111,15 @@ standing-each P es all = from [] es tt all where
   from held [] first then = first
   from held (x ∷ xs) first then = from (stand_after held x) xs (stood_each x.kind held x first then.0) then.1
 
+-- what holds of each laid entry holds of the last standing add
+pub held_each : (P : Entry → Type 0) (g : Geometry) (es : List Entry) (marks : Marks) (f c : ℕ) (s : ℤ) → ((i : ℕ) (e : Entry) → get_elem? es i ≡ some e → P e)
+    → (y : IsHeldAt g es marks f c s) → P y.last
+held_each P g es marks f c s all y = (Each-right P y.early (y.last ∷ []) (subst (Each P) y.ends (standing-each P es (each_of P es all)))).0
+
 -- the last standing add was laid
 pub held_laid : (g : Geometry) (es : List Entry) (marks : Marks) (seen f c : ℕ) (s : ℤ) → ((i : ℕ) (e : Entry) → get_elem? es i ≡ some e → IsLaid g seen e)
     → (y : IsHeldAt g es marks f c s) → IsLaid g seen y.last
-held_laid g es marks seen f c s laid y =
-    (Each-right (IsLaid g seen) y.early (y.last ∷ []) (subst (Each (IsLaid g seen)) y.ends (standing-each (IsLaid g seen) es (each_of (IsLaid g seen) es laid)))).0
+held_laid g es marks seen f c s laid y = held_each (IsLaid g seen) g es marks f c s laid y
 
 -- it stands in the ring, before the cursor
 pub record HeldFacts (g : Geometry) (marks : Marks) (seen f c : ℕ) : Type 0 where

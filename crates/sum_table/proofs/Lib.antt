@@ -1,5 +1,6 @@
 pub mod Cuts
 pub mod Going
+pub mod Highs
 pub mod Joining
 pub mod Kept
 pub mod Keeps

@@ -4,10 +4,12 @@ use Rattle.std.specs.List.{list_any, slice_index_or}
 use mathlib.Core.Option.{some}
 use lib.ListN.{get_elem?}
 use Rattle.atomic_table.specs.Seated.{TableId}
+use Rattle.snd_base.specs.declared.geometry.Geometry.{Geometry}
 use Rattle.snd_base.specs.declared.places.Cursor.{Cursor}
 use Rattle.snd_base.specs.Places.{IsWithin}
 use Rattle.mix_core.specs.declared.marks.Marks.{Marks}
 use Rattle.mix_core.specs.declared.port.Entry.{Entry}
+use Rattle.mix_core.specs.Marks.{high_frame}
 use Rattle.sum_table.specs.declared.view.Key.{Key}
 use Rattle.sum_table.specs.declared.view.View.{View}
 use Rattle.sum_table.specs.Exact.{IsLaid, is_tracked, next_at, position_at, the_track}
@@ -35,6 +37,11 @@ pub record IsNoted (v : View) (k : Key) : Type 0 where
   pub room : length v.noted ≡ words_of k.geometry
   pub words : (i n : ℕ) → slice_index_or v.noted i None ≡ Some n → IsWord n k.places
 
+-- the greatest frame that a seat laid in is the last one before its high, and a seat without a place laid nothing
+pub record IsLast (g : Geometry) (marks : Marks) (places : ℕ) (last : Option ℕ) : Type 0 where
+  pub high : high_frame g marks ≡ last
+  pub none : places ≡ 0 → last ≡ None
+
 -- a mix seat's fields are those of its view
 pub record IsKnown (v : View) (k : Key) (places : ℕ) (marks : Marks) (seen : ℕ) (last : Option ℕ) : Type 0 where
   pub same_key : v.key ≡ k
@@ -42,6 +49,7 @@ pub record IsKnown (v : View) (k : Key) (places : ℕ) (marks : Marks) (seen : �
   pub same_marks : v.marks ≡ marks
   pub same_seen : v.seen ≡ seen
   pub same_last : last_frame v.laid ≡ last
+  pub is_last : IsLast k.geometry marks places last
   pub lasts : v.ended ≡ false
   pub untracked : v.track ≡ None
   pub noted : IsNoted v k

@@ -41,6 +41,7 @@ impl MixSeat<'_> {
     ghost use Rattle.lap_word.specs.Word.{lap_of};
     ghost use Rattle.mix_core.specs.Laid.{a_withdrawal, an_add};
     ghost use Rattle.sum_table.specs.Known.{last_frame};
+    ghost use Rattle.mix_core.specs.Marks.{high_frame};
     ghost use Rattle.sum_table.specs.Seats.{CanAdd, HasLaid, HasLocated, HasLost, HasNoted, MayLay, SeatEndsIn, cursor_of_seat, entry_by, geometry_of, history_of, last_of_seat, marks_of_seat, member_of, places_of_seat, seen_of, shown, view_of};
     ghost use Rattle.ring_rule.specs.Spots.{IsSpot};
     ghost use Rattle.sum_table.specs.Steps.{IsSumOf};
@@ -53,10 +54,11 @@ impl MixSeat<'_> {
         self.places
     }
 
-    /// The greatest frame that the seat laid in, or took over from a seat that was joined into it.
+    /// The greatest frame that the seat laid in, or took over from a seat that was joined into it: the last one before its high.
     pub fn last(&self) -> Option<u64>
         ensures value { result ≡ last_of_seat self.now }
         ensures of_view { result ≡ last_frame (view_of self.now).laid }
+        ensures before_high { result ≡ high_frame (geometry_of self.now) (marks_of_seat self.now) }
         ensures before_end { IfSome result (λ frame. frame < end_frame (geometry_of self.now)) }
     {
         self.reach.last()

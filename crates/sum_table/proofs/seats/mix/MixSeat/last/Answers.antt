@@ -11,3 +11,6 @@ returns-clause-before_end c =
     let s : MixSeat = c.args.self.now in
     subst (λ (o : Option ℕ). IfSome o (λ frame. frame < end_frame s.key.geometry)) (s.known.same_last ∙ sym c.last.ensures)
     (last_frame-before s.seat.me.0.laid (end_frame s.key.geometry) (λ i e there. let fits = suc-le-end_frame s.key.geometry e.frame (s.known.laid i e there).fits in omega (arith, fits)))
+
+pub returns-clause-before_high : goal.returns-clause-before_high
+returns-clause-before_high c = c.last.ensures ∙ sym c.args.self.now.known.is_last.high

@@ -1,0 +1,93 @@
+-- The greatest frame that a seat laid in is the last one before its high.
+use Rattle.std.proofs.Common.{◌≡◌, ℕ, zero, suc, ◌+◌, ◌<◌, ◌≤◌, Bool, true, false, Option, None, Some, List, [], ◌∷◌, max, if◌then◌else◌, arith, subst, sym, refl, ap, ◌∙◌}
+use mathlib.Core.Option.{some, some-injective, some-ne-none}
+use lib.ListN.{get_elem?}
+use Rattle.std.proofs.lemmas.Bool.{false≢true}
+use Rattle.std.proofs.lemmas.Bool.Decides.{nat_tests}
+use Rattle.std.proofs.lemmas.Option.{none-some}
+use Rattle.snd_base.specs.declared.geometry.Geometry.{Geometry}
+use Rattle.snd_base.specs.declared.places.Cursor.{Cursor}
+use Rattle.snd_base.specs.Places.{behind, first_frame}
+use Rattle.mix_core.specs.declared.marks.Marks.{Marks}
+use Rattle.mix_core.specs.declared.port.Entry.{Entry}
+use Rattle.mix_core.specs.Marks.{added_at, high_frame, is_before, last_before, later_of, start_marks, start_of}
+use Rattle.sum_table.specs.Cuts.{joined_marks}
+use Rattle.sum_table.specs.Known.{greater, last_frame}
+
+-- the last frame before a cursor, where that is past a start
+abbrev frame_before : Cursor → Cursor → Option ℕ
+frame_before start at = if is_before start at then Some (last_before at) else None
+
+abbrev frame_if : Bool → Cursor → Option ℕ
+frame_if past at = if past then Some (last_before at) else None
+
+later-last : (a b : Cursor) → is_before a b ≡ true → last_before b ≡ max (last_before a) (last_before b)
+later-last a b before = grind (arith, nat_tests)
+
+first-last : (a b : Cursor) → is_before a b ≡ false → last_before a ≡ max (last_before a) (last_before b)
+first-last a b before = grind (arith, nat_tests)
+
+both-past : (start a b : Cursor) → is_before a b ≡ true → is_before start a ≡ true → is_before start b ≡ true
+both-past start a b before past = grind (arith, nat_tests)
+
+first-past : (start a b : Cursor) → is_before a b ≡ false → is_before start b ≡ true → is_before start a ≡ true
+first-past start a b before past = grind (arith, nat_tests)
+
+later-frame : (start a b : Cursor) → frame_before start (later_of a b) ≡ greater (frame_before start a) (frame_before start b)
+later-frame start a b = by_tests (is_before a b) refl (is_before start a) refl (is_before start b) refl
+  where
+    by_tests : (x : Bool) → is_before a b ≡ x → (y : Bool) → is_before start a ≡ y → (z : Bool) → is_before start b ≡ z
+        → frame_before start (if x then b else a) ≡ greater (frame_if y a) (frame_if z b)
+    by_tests true ab true sa true sb = ap (λ past. frame_if past b) sb ∙ ap Some (later-last a b ab)
+    by_tests true ab true sa false sb = absurd (false≢true (sym sb ∙ both-past start a b ab sa))
+    by_tests true ab false sa z sb = ap (λ past. frame_if past b) sb
+    by_tests false ab true sa true sb = ap (λ past. frame_if past a) sa ∙ ap Some (first-last a b ab)
+    by_tests false ab true sa false sb = ap (λ past. frame_if past a) sa
+    by_tests false ab false sa true sb = absurd (false≢true (sym sa ∙ first-past start a b ab sb))
+    by_tests false ab false sa false sb = ap (λ past. frame_if past a) sa
+
+behind-past : (g : Geometry) (f c : ℕ) → c < g.channels → first_frame g ≤ f → is_before (start_of g) (behind g f c) ≡ true
+behind-past g f c channel low = grind (arith, nat_tests)
+
+behind-last : (g : Geometry) (f c : ℕ) → last_before (behind g f c) ≡ f
+behind-last g f c = grind (arith, nat_tests)
+
+start-frame : (at : Cursor) → frame_before at at ≡ None
+start-frame at = ap (λ past. frame_if past at) is where
+  is : is_before at at ≡ false
+  is = grind (arith, nat_tests)
+
+pub high_frame-start : (g : Geometry) → high_frame g (start_marks g) ≡ None
+high_frame-start g = start-frame (start_of g)
+
+-- an add raises the high to right behind it, where it isn't past that
+pub high_frame-added : (g : Geometry) (m : Marks) (f c : ℕ) → c < g.channels → first_frame g ≤ f
+    → high_frame g (added_at g m f c) ≡ greater (high_frame g m) (Some f)
+high_frame-added g m f c channel low =
+    later-frame (start_of g) m.high (behind g f c)
+    ∙ ap (greater (high_frame g m)) (ap (λ past. frame_if past (behind g f c)) (behind-past g f c channel low) ∙ ap Some (behind-last g f c))
+
+pub greater_none : (o : Option ℕ) → greater o None ≡ o
+greater_none None = refl
+greater_none (Some n) = refl
+
+-- the high of two seats is the later one; a second seat without a place laid nothing
+pub high_frame-joined : (g : Geometry) (a b : Marks) (n : ℕ) (l m : Option ℕ) → high_frame g a ≡ l → high_frame g b ≡ m → (n ≡ 0 → m ≡ None)
+    → high_frame g (joined_marks a b n) ≡ greater l m
+high_frame-joined g a b zero l m first second none = first ∙ (sym (greater_none l) ∙ ap (greater l) (sym (none refl)))
+high_frame-joined g a b (suc n) l m first second none =
+    later-frame (start_of g) a.high b.high ∙ (ap (λ o. greater o (high_frame g b)) first ∙ ap (greater l) second)
+
+-- the greatest frame of some entries is that of them and of one of them
+pub last_frame-has : (es : List Entry) (i : ℕ) (e : Entry) → get_elem? es i ≡ some e → greater (last_frame es) (Some e.frame) ≡ last_frame es
+last_frame-has [] i e there = absurd (some-ne-none e (sym there))
+last_frame-has (x ∷ xs) zero e there = subst (λ (y : Entry). greater (last_frame (x ∷ xs)) (Some y.frame) ≡ last_frame (x ∷ xs)) (some-injective x e there) (own (last_frame xs))
+  where
+    own : (o : Option ℕ) → greater (greater (Some x.frame) o) (Some x.frame) ≡ greater (Some x.frame) o
+    own None = ap Some (omega arith)
+    own (Some n) = ap Some (omega arith)
+last_frame-has (x ∷ xs) (suc i) e there = past (last_frame xs) (last_frame-has xs i e there)
+  where
+    past : (o : Option ℕ) → greater o (Some e.frame) ≡ o → greater (greater (Some x.frame) o) (Some e.frame) ≡ greater (Some x.frame) o
+    past None is = absurd (none-some e.frame (sym is))
+    past (Some n) is = grind (arith, is)
