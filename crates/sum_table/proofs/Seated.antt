@@ -32,7 +32,7 @@ use Rattle.sum_table.specs.Seats.{HasLaid, HasLocated, HasLost, HasNoted, MayLay
 use Rattle.sum_table.specs.Steps.{Finds, HoldsLast, IsStep, IsSumOf, IsWord, Lays, Makes, MakesLook, Notes, exchanged, in_row, located, looked, with_entry, with_note, with_position}
 use Rattle.ring_rule.specs.Words.{NotPast, index_of}
 use Rattle.sum_table.proofs.Keeps.{MayPut, exchanges, locates, looks, may_put}
-use Rattle.sum_table.proofs.Highs.{high_frame-added, last_frame-has}
+use Rattle.sum_table.proofs.Highs.{IsLast-added, IsLast-withdrawn, last_frame-has}
 use Rattle.sum_table.proofs.Kept.{IsHeldAt, IsLaid-later, held_each, held_laid, laid_more}
 use Rattle.ring_rule.specs.NoteLaws.{noted_set}
 use Rattle.std.proofs.lemmas.Bool.Decides.{nat_tests}
@@ -389,17 +389,14 @@ last_laid k places marks seen last v e is may in_ring = by_kind e.kind may where
   Goal kind = IsLast k.geometry (marked kind k.geometry marks e.frame e.channel) places (greater last (Some e.frame))
 
   by_kind : (kind : Kind) → may_put kind v e.frame e.channel e.sample → Goal kind
-  by_kind Added may = record {
-    high = high_frame-added k.geometry marks e.frame e.channel in_ring.channel in_ring.low ∙ ap (λ o. greater o (Some e.frame)) is.is_last.high;
-    none = λ none_left. absurd (omega (arith, none_left, is.same_places, may.3));
-  }
+  by_kind Added may = IsLast-added k.geometry marks places last e.frame e.channel is.is_last (omega (arith, is.same_places, may.3)) in_ring.channel in_ring.low
   by_kind Withdrawn may =
       let held : IsHeldAt k.geometry v.laid v.marks e.frame e.channel e.sample = record { early = may.early; last = may.last; ends = may.ends; frame = may.frame; channel = may.channel; sample = may.sample; from_floor = may.from_floor } in
       let had : greater (last_frame v.laid) (Some may.last.frame) ≡ last_frame v.laid =
       held_each (λ (a : Entry). greater (last_frame v.laid) (Some a.frame) ≡ last_frame v.laid) k.geometry v.laid v.marks e.frame e.channel e.sample (last_frame-has v.laid) held in
       let kept : greater last (Some e.frame) ≡ last =
       ap (λ o. greater o (Some e.frame)) (sym is.same_last) ∙ (ap (λ f. greater (last_frame v.laid) (Some f)) (sym may.frame) ∙ (had ∙ is.same_last)) in
-      record { high = is.is_last.high ∙ sym kept; none = λ none_left. kept ∙ is.is_last.none none_left }
+      IsLast-withdrawn k.geometry marks places last e.frame e.channel is.is_last kept
 
 -- the fields after an entry was laid
 pub known_laid : (k : Key) (places : ℕ) (marks : Marks) (seen : ℕ) (last : Option ℕ) (v : View) (h : List Row) (e : Entry)
