@@ -12,7 +12,7 @@ use Rattle.mix_core.specs.declared.marks.Marks.{Marks}
 use Rattle.mix_core.specs.declared.port.Entry.{Entry}
 use Rattle.mix_core.specs.Marks.{added_at, high_frame, is_before, last_before, later_of, start_marks, start_of, withdrawn_at}
 use Rattle.sum_table.specs.Cuts.{joined_marks}
-use Rattle.sum_table.specs.Known.{IsLast, free_from, greater, last_frame}
+use Rattle.sum_table.specs.Known.{IsReach, free_from, greater, last_frame}
 
 -- the last frame before a cursor, where that is past a start
 abbrev frame_before : Cursor → Cursor → Option ℕ
@@ -106,13 +106,13 @@ high_free : (g : Geometry) (m : Marks) (last : Option ℕ) → high_frame g m �
 high_free g m last is = subst (λ o. IsFrom m.high (free_from g o) 0) is (high-free g m.high)
 
 -- the greatest frame before anything was laid
-pub IsLast-start : (g : Geometry) (places : ℕ) → IsLast g (start_marks g) places None
-IsLast-start g places = record { high = high_frame-start g; cursor = grind (arith, nat_tests); floor = grind (arith, nat_tests); none = λ none_left. refl }
+pub IsReach-start : (g : Geometry) (places : ℕ) → IsReach g (start_marks g) places None
+IsReach-start g places = record { high = high_frame-start g; cursor = grind (arith, nat_tests); floor = grind (arith, nat_tests); none = λ none_left. refl }
 
 -- and after an add
-pub IsLast-added : (g : Geometry) (m : Marks) (places : ℕ) (last : Option ℕ) (f c : ℕ) → IsLast g m places last → 0 < places → c < g.channels → first_frame g ≤ f
-    → IsLast g (added_at g m f c) places (greater last (Some f))
-IsLast-added g m places last f c is placed channel low =
+pub IsReach-added : (g : Geometry) (m : Marks) (places : ℕ) (last : Option ℕ) (f c : ℕ) → IsReach g m places last → 0 < places → c < g.channels → first_frame g ≤ f
+    → IsReach g (added_at g m f c) places (greater last (Some f))
+IsReach-added g m places last f c is placed channel low =
     let here : f + 1 ≤ free_from g (greater last (Some f)) = has last in
     record {
       high = high_frame-added g m f c channel low ∙ ap (λ o. greater o (Some f)) is.high;
@@ -137,9 +137,9 @@ IsLast-added g m places last f c is placed channel low =
     floor_by false = omega (arith, is.floor, grows last)
 
 -- and after a withdrawal in a frame that was laid in before
-pub IsLast-withdrawn : (g : Geometry) (m : Marks) (places : ℕ) (last : Option ℕ) (f c : ℕ) → IsLast g m places last → greater last (Some f) ≡ last
-    → IsLast g (withdrawn_at m f c) places (greater last (Some f))
-IsLast-withdrawn g m places last f c is had = record {
+pub IsReach-withdrawn : (g : Geometry) (m : Marks) (places : ℕ) (last : Option ℕ) (f c : ℕ) → IsReach g m places last → greater last (Some f) ≡ last
+    → IsReach g (withdrawn_at m f c) places (greater last (Some f))
+IsReach-withdrawn g m places last f c is had = record {
   high = is.high ∙ sym had;
   cursor = subst (λ o. IsFrom (record { frame = f; channel = c }) (free_from g o) 0) (sym had) (below last had);
   floor = subst (λ o. IsFrom m.floor (free_from g o) 0) (sym had) is.floor;
@@ -154,9 +154,9 @@ IsLast-withdrawn g m places last f c is had = record {
     below (Some l) has = by_frame (same_Some (max l f) l has)
 
 -- and after a join
-pub IsLast-joined : (g : Geometry) (a b : Marks) (p q : ℕ) (l m : Option ℕ) → IsLast g a p l → IsLast g b q m
-    → IsLast g (joined_marks a b q) (p + q) (greater l m)
-IsLast-joined g a b p q l m first second =
+pub IsReach-joined : (g : Geometry) (a b : Marks) (p q : ℕ) (l m : Option ℕ) → IsReach g a p l → IsReach g b q m
+    → IsReach g (joined_marks a b q) (p + q) (greater l m)
+IsReach-joined g a b p q l m first second =
     let high : high_frame g (joined_marks a b q) ≡ greater l m = high_frame-joined g a b q l m first.high second.high second.none in
     record {
       high = high;

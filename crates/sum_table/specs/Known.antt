@@ -44,7 +44,7 @@ free_from g (Some frame) = frame + 1
 
 -- the greatest frame that a seat laid in is the last one before its high; its cursor and its floor aren't past the frame after it; and a
 -- seat without a place laid nothing
-pub record IsLast (g : Geometry) (marks : Marks) (places : ℕ) (last : Option ℕ) : Type 0 where
+pub record IsReach (g : Geometry) (marks : Marks) (places : ℕ) (last : Option ℕ) : Type 0 where
   pub high : high_frame g marks ≡ last
   pub cursor : IsFrom marks.cursor (free_from g last) 0
   pub floor : IsFrom marks.floor (free_from g last) 0
@@ -57,7 +57,7 @@ pub record IsKnown (v : View) (k : Key) (places : ℕ) (marks : Marks) (seen : �
   pub same_marks : v.marks ≡ marks
   pub same_seen : v.seen ≡ seen
   pub same_last : last_frame v.laid ≡ last
-  pub is_last : IsLast k.geometry marks places last
+  pub reach_is : IsReach k.geometry marks places last
   pub lasts : v.ended ≡ false
   pub untracked : v.track ≡ None
   pub noted : IsNoted v k
