@@ -1,0 +1,27 @@
+use Rattle.std.proofs.Common.{Err, Ok, refl}
+use Rattle.sum_table.specs.Players.{position_of_player}
+use Rattle.lobby.specs.Loads.{HasLoadedBeside}
+use Rattle.lab_places.specs.Held.{lobby_of}
+use Rattle.lab_places.proofs.Attached.{attaches-met, attaches-refused, free-given, given-is}
+use Rattle.lab_places.proofs.Attaching.{lobby-attaches}
+use Rattle.lab_places.proofs.places.Places.attach.Goals as goal
+
+pub returns-in-Ok-clause-attaches : goal.returns-in-Ok-clause-attaches
+returns-in-Ok-clause-attaches c number lobby is =
+    attaches-met number (position_of_player c.args.player.now) lobby c.attach_beside.new.player c.meet_player.new.player c.in-Ok.seat c.meet_player.new.seat _
+    (lobby-attaches (λ x s t. HasLoadedBeside c.args.player.now s c.attach_beside.new.player t x) number (position_of_player c.args.player.now) lobby
+    (lobby_of c.args.self.now) c.attach_beside.new.self (Ok c.in-Ok.seat) is.places is.seen (λ none. let came = c.in-Ok.ensures.none_free none in (came.0, came.1)) c.in-Ok.ensures.free c.in-Ok.ensures.published_last)
+    c.meet_player.ensures
+
+pub returns-in-Ok-clause-given : goal.returns-in-Ok-clause-given
+returns-in-Ok-clause-given c =
+    given-is c.args.self.now (lobby_of c.args.self.now) c.attach_beside.new.self (position_of_player c.args.player.now) c.attach_beside.new.player c.meet_player.new.player
+    c.in-Ok.seat c.meet_player.new.seat refl c.in-Ok.ensures.player.position c.in-Ok.ensures.silent
+    (c.in-Ok.ensures.published_last (free-given (lobby_of c.args.self.now) c.attach_beside.new.self c.in-Ok.seat (Ok c.in-Ok.seat) refl (λ none. let came = c.in-Ok.ensures.none_free none in (came.0, came.1))))
+    c.meet_player.ensures
+
+pub returns-in-Err-clause-attaches : goal.returns-in-Err-clause-attaches
+returns-in-Err-clause-attaches c number lobby is =
+    attaches-refused number (position_of_player c.args.player.now) lobby c.in-Err.e _
+    (lobby-attaches (λ x s t. HasLoadedBeside c.args.player.now s c.attach_beside.new.player t x) number (position_of_player c.args.player.now) lobby
+    (lobby_of c.args.self.now) c.attach_beside.new.self (Err c.in-Err.e) is.places is.seen (λ none. let came = c.in-Err.ensures.none_free none in (came.0, came.1)) c.in-Err.ensures.free c.in-Err.ensures.published_last)
