@@ -46,6 +46,7 @@ frame_moments frame played captured = moment_at (frame + 1) frame played capture
 abbrev pub publish_moments : ℕ → ℕ → List Moment
 publish_moments frame captured = moment_at frame frame frame captured ∷ moment_at frame frame frame frame ∷ []
 
+-- the same where it is a multiple of the period, and nothing where it isn't
 abbrev pub period_moments : ℕ → ℕ → ℕ → List Moment
 period_moments period frame captured = if is_multiple period frame then publish_moments frame captured else []
 
