@@ -1,5 +1,5 @@
 -- What an item puts down the parts of its key.
-use Rattle.std.proofs.Common.{◌≡◌, ℕ, ◌<◌, ◌≤◌, ◌-◌, Bool, true, false, cond, List, [], ◌∷◌, length, get_or, set, take, drop, Option, Some, None, Result, Ok, Err, refl, sym, ◌∙◌, ap, subst, arith}
+use Rattle.std.proofs.Common.{◌≡◌, ℕ, ◌<◌, ◌≤◌, ◌-◌, Bool, true, false, cond, List, [], ◌∷◌, length, get_or, take, drop, Option, Some, None, Result, Ok, Err, refl, sym, ◌∙◌, ap, subst, arith}
 use Rattle.std.proofs.lemmas.List.{take_all}
 use Rattle.asound_conf.specs.declared.conf.Node.{Node}
 use Rattle.asound_conf.specs.declared.part.Part.{Part}
@@ -8,8 +8,8 @@ use Rattle.asound_conf.specs.Tree as tree
 use Rattle.asound_conf.specs.declared.error.ConfWhy.{ConfWhy}
 use Rattle.asound_conf.specs.declared.error.ConfWhy.TheVariants as why
 use Rattle.asound_conf.specs.Answer.{Leads, Refuses, seen}
-use Rattle.asound_conf.specs.Place.{base, clashes, met, is_last, placed, put, put_there, meets_text, node_at}
-use Rattle.asound_conf.specs.View.{added, blank, entries_of, is_leaf, placed_node, placed_there, tree_of, IsLast}
+use Rattle.asound_conf.specs.Place.{base, clashes, met, placed, put, put_there, meets_text, node_at}
+use Rattle.asound_conf.specs.View.{added, blank, entries_of, is_leaf, placed_node, tree_of, IsLast}
 use Rattle.asound_conf.proofs.Places.{get-IsLast, get-none, has-without, get-set_new, set-set_new}
 
 -- a part of a key meets nothing in an empty group

@@ -1,4 +1,4 @@
-use Rattle.std.proofs.Common.{◌≡◌, ◌+◌, Some, sym, length, arith}
+use Rattle.std.proofs.Common.{◌≡◌, ◌+◌, Some, arith}
 use Rattle.asound_conf.specs.declared.index.Index.TheVariants.{Numbers}
 use Rattle.asound_conf.specs.Index.{number_named}
 use Rattle.asound_conf.proofs.Indexes.{IsIndex-along, IsIndex-Numbers_more, IsIndex-Numbers_push}
