@@ -8,7 +8,7 @@ use Rattle.dmix_client.specs.Growth.{AnySamples, Keeps}
 use Rattle.dmix_client.specs.Port.{IsStep}
 use Rattle.pcm_stream.specs.Status.{is_moving}
 use Rattle.dmix_client.proofs.Going.{IsStill, ok-of}
-use Rattle.dmix_client.proofs.Growing.{configured-moving, configured-prepared}
+use Rattle.dmix_client.proofs.Sound.{configured-moving, configured-prepared}
 use Rattle.dmix_client.proofs.Keeping.{Keeps-then, client, drains-ill, drains-kept, start-kept, syncs-still}
 use Rattle.dmix_client.proofs.Looking.{drains-by}
 use Rattle.dmix_client.proofs.control.start_and_drain.Goals as goal

@@ -29,15 +29,15 @@ take_back-requires g c =
     let floor = (port.view c.args.port.now).marks.floor in
     let holds : HoldsBy port = record { laid_composes = g.met.P.MixPort.laid_composes; loaded_composes = g.met.P.MixPort.loaded_composes; part = g.met.P.MixPort.ends_in_part; nothing = g.met.P.MixPort.held_nothing; back = g.met.P.MixPort.held_back } in
     let ok = ok-of c.check-checked.result c.in_default.not-Err in
-    let checked = checks-kept port g.G.Gate g.met.P.MixPort.laid_composes (c.args.port.now, c.args.gate.now) (c.check-checked.new.port, c.check-checked.new.gate) c.args.plain.now c.args.ring.now (d, c.check-checked.result)
+    let checked = checks-kept port g.G.Gate g.met.P.MixPort.laid_composes g.met.P.MixPort.loaded_composes (c.args.port.now, c.args.gate.now) (c.check-checked.new.port, c.check-checked.new.gate) c.args.plain.now c.args.ring.now (d, c.check-checked.result)
     c.requires.sound c.requires.running c.requires.unstopped c.requires.port c.check-checked.ensures in
     let same : (port.view c.check-checked.new.port).marks.floor ≡ floor = ap (λ (x : Marks). x.floor) checked.marks in
     let is : c.rewindable-rewindable.result ≡ rewindable_of floor d = c.rewindable-rewindable.ensures ∙ ap (λ (x : Cursor). rewindable_of x d) c.floor-floor.ensures.value in
     record {
-      sound = checked.sound;
+      sound = checked.keeps.sound;
       running = OnOk-of c.check-checked.result (d.status.state ≡ Running) ok checked.runs;
       unstopped = (OnOk-of c.check-checked.result (IsGoing d) ok checked.goes).unstopped;
-      port = checked.port;
+      port = checked.keeps.port;
       few = subst (λ (x : Cursor). c.min.result ≤ rewindable_of x d) (sym same) (subst (λ (k : ℕ). c.min.result ≤ k) is (subst (λ (k : ℕ). k ≤ c.rewindable-rewindable.result) (sym c.min.ensures) (few-of c.args.frames c.rewindable-rewindable.result)));
       standing = standing-checked port g.G.Gate holds (c.args.port.now, c.args.gate.now) (c.check-checked.new.port, c.check-checked.new.gate) c.args.plain.now c.args.ring.now (d, c.check-checked.result) checked c.requires.standing;
     }

@@ -1,17 +1,17 @@
 use Rattle.std.proofs.Common.{ℕ, refl, rules, subst, sym}
 use Rattle.std.specs.Prelude.{List, Ok, Result, ℤ}
 use Rattle.snd_base.specs.declared.errors.PcmError.{PcmError}
-use Rattle.dmix_client.specs.Growth.{AnySamples}
+use Rattle.dmix_client.specs.Growth.{AnySamples, Keeps}
 use Rattle.dmix_client.specs.Port.{CanUse}
 use Rattle.pcm_states.specs.declared.calls.Call.TheVariants as call
 use Rattle.course.specs.AtPort.{TakesAt}
-use Rattle.dmix_client.specs.Calls.{avail_answer, sync_count, synced, with_number}
+use Rattle.dmix_client.specs.Calls.{Answered, avail_answer, sync_count, synced, with_number}
 use Rattle.dmix_client.specs.Causes.{Explains}
 use Rattle.dmix_client.specs.Course.{admitted, number_course, syncs}
 use Rattle.dmix_client.specs.View.{ClientView}
 use Rattle.dmix_client.proofs.Caused.{step-sync}
-use Rattle.dmix_client.proofs.Growing.{configured-moving}
-use Rattle.dmix_client.proofs.Keeping.{Explains-number, Keeps-none, Keeps-number, client, syncs-explained}
+use Rattle.dmix_client.proofs.Sound.{configured-moving}
+use Rattle.dmix_client.proofs.Keeping.{Explains-number, Keeps-none, Keeps-numbered, client, syncs-explained}
 use Rattle.dmix_client.proofs.Looking.{admitted-ok, number-moving}
 use Rattle.dmix_client.proofs.client.Client.avail_update.Goals as goal
 
@@ -40,5 +40,5 @@ returns-then-not-is_moving-clause-keeps g c =
 
 pub returns-clause-keeps : goal.returns-clause-keeps
 returns-clause-keeps g c =
-    rw (← c.self.view_is, ← c.as_slice-ring.ensures.value) (Keeps-number g.P.MixPort g.G.Gate g.met.P.MixPort.laid_composes g.met.P.MixPort.loaded_composes (c.args.port.now, c.args.gate.now) (c.sync_call-answer.new.port, c.sync_call-answer.new.gate) (client c.self.inside.plain c.as_slice-ring.result.now)
-    avail_answer (c.sync_call-answer.new.plain, c.sync_call-answer.result) c.as_slice-ring.result.now c.with_avail.result c.with_avail.ensures c.sync_call-answer.ensures.keeps)
+    rw (← c.self.view_is, ← c.as_slice-ring.ensures.value) (subst (λ (b : Answered ℕ). Keeps g.P.MixPort g.G.Gate (c.args.port.now, c.args.gate.now) (c.sync_call-answer.new.port, c.sync_call-answer.new.gate) (client c.self.inside.plain c.as_slice-ring.result.now) (client b.0 c.as_slice-ring.result.now) b.1 AnySamples) c.with_avail.ensures
+    (Keeps-numbered g.P.MixPort g.G.Gate g.met.P.MixPort.laid_composes g.met.P.MixPort.loaded_composes (c.args.port.now, c.args.gate.now) (c.sync_call-answer.new.port, c.sync_call-answer.new.gate) (client c.self.inside.plain c.as_slice-ring.result.now) avail_answer (c.sync_call-answer.new.plain, c.sync_call-answer.result) c.as_slice-ring.result.now c.sync_call-answer.ensures.keeps))

@@ -13,7 +13,7 @@ use Rattle.dmix_client.specs.Growth.{AnySamples, Keeps}
 use Rattle.dmix_client.specs.Port.{CanUse}
 use Rattle.dmix_client.specs.View.{ClientView}
 use Rattle.dmix_client.proofs.Going.{refusal_of-unstopped}
-use Rattle.dmix_client.proofs.Growing.{configured-moving}
+use Rattle.dmix_client.proofs.Sound.{configured-moving}
 use Rattle.dmix_client.proofs.Keeping.{client, dropped-kept, syncs-explained, syncs-still}
 use Rattle.dmix_client.proofs.client.Client.drain.Goals as goal
 

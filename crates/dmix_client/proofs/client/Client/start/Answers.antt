@@ -7,7 +7,7 @@ use Rattle.dmix_client.specs.Causes.{Explains}
 use Rattle.dmix_client.specs.Course.{starts}
 use Rattle.dmix_client.specs.Port.{CanUse}
 use Rattle.dmix_client.specs.View.{ClientView}
-use Rattle.dmix_client.proofs.Growing.{configured-prepared}
+use Rattle.dmix_client.proofs.Sound.{configured-prepared}
 use Rattle.dmix_client.proofs.Keeping.{start-kept, starts-explained}
 use Rattle.dmix_client.proofs.client.Client.start.Goals as goal
 

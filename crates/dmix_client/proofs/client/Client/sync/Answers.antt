@@ -8,7 +8,7 @@ use Rattle.dmix_client.specs.Calls.{sync_count, synced}
 use Rattle.dmix_client.specs.Causes.{Explains}
 use Rattle.dmix_client.specs.View.{ClientView}
 use Rattle.dmix_client.proofs.Caused.{step-sync}
-use Rattle.dmix_client.proofs.Growing.{configured-moving}
+use Rattle.dmix_client.proofs.Sound.{configured-moving}
 use Rattle.dmix_client.proofs.Keeping.{Keeps-none, client, syncs-explained}
 use Rattle.dmix_client.proofs.client.Client.sync.Goals as goal
 
