@@ -1,5 +1,5 @@
 -- What an answer says: that the client goes on, that the gate stopped it, or that a drain is to be made again.
-use Rattle.std.proofs.Common.{inl, inr, refl, subst, sym, ℕ, ◌+◌, ◌≡◌, ◌⊎◌}
+use Rattle.std.proofs.Common.{refl, subst, sym, ℕ, ◌+◌, ◌≡◌}
 use Rattle.std.specs.Prelude.{Bool, Err, None, Ok, OnOk, Option, Result, Some, false, if◌then◌else◌, true, ◌↔◌}
 use Rattle.course.specs.Stops.{CountsStop, pass_by, pass_in}
 use Rattle.mix_core.specs.declared.gate.Pass.TheVariants.{Go}
@@ -97,15 +97,12 @@ synced-still c (Some position) x drains going =
     (subst (λ (s : State). IsStep s call.Drain) (sym drains) tt) (λ gone. (λ h. cc, λ h. let y = h.0 in cc)) (λ a f here runs is. absurd (cc)) (λ w here none is. (λ h. cc, λ h. let y = h.0 in cc))
     (λ here runs none in_time. absurd (cc)) (λ here same in_time. (λ h. cc, λ h. let y = h.0 in cc)) (λ here same in_time is. absurd (cc)) (λ here same in_time is. (λ h. (refl, going), λ h. refl)))
 
--- a start that leads to draining: it goes well, or it is refused and doesn't drain
-abbrev pub StillBegun : Plain → Answered (Unit {0}) → Type 0
-StillBegun c a = ((a.1 ≡ Ok tt) × (a.0.status.state ≡ Draining) × (a.0.status.stopped ≡ c.status.stopped)) ⊎ (IsStill a × ((e : PcmError) × (a.1 ≡ Err e)))
-
-pub started-begun : (c : Plain) (cursor : Cursor) (load : Option Position) (x : Commit) → StillBegun c (started c Draining cursor load x)
-started-begun c cursor None x = inr (stopped-still c, (Stopped, refl))
-started-begun c cursor (Some position) x =
-    started-ends (StillBegun c) c Draining cursor position x (λ gone. inr ((λ h. cc, λ h. let y = h.0 in cc), (_, refl))) (λ here stop. inr (stopped-still (committed_by (started_in c Draining position cursor) x), (Stopped, refl)))
-    (λ w here going late. inr ((λ h. cc, λ h. let y = h.0 in cc), (_, refl))) (λ here going in_time. inl (refl, refl, refl))
+-- a start that leads to draining, and is refused
+pub started-still : (c : Plain) (cursor : Cursor) (load : Option Position) (x : Commit) (e : PcmError) → (started c Draining cursor load x).1 ≡ Err e → IsStill (started c Draining cursor load x)
+started-still c cursor None x e = λ is. stopped-still c
+started-still c cursor (Some position) x e =
+    started-ends (λ (a : Answered (Unit {0})). a.1 ≡ Err e → IsStill a) c Draining cursor position x (λ gone is. (λ h. cc, λ h. let y = h.0 in cc)) (λ here stop is. stopped-still (committed_by (started_in c Draining position cursor) x))
+    (λ w here going late is. (λ h. cc, λ h. let y = h.0 in cc)) (λ here going in_time is. absurd (cc))
 
 -- a client whose call is admitted isn't stopped
 unstopped-by : (stopped : Bool) (o : Option PcmError) → (if stopped then Some Stopped else o) ≡ None → stopped ≡ false

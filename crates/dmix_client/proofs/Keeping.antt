@@ -1,5 +1,5 @@
 -- What the parts of calls keep, by the courses that they took, and why they answered so.
-use Rattle.std.proofs.Common.{[], subst, add-zero, ap, arith, inl, inr, length, refl, sym, ℕ, ◌*◌, ◌+◌, ◌-◌, ◌<◌, ◌∙◌, ◌≡◌, ◌≤◌}
+use Rattle.std.proofs.Common.{[], subst, add-zero, ap, arith, length, refl, sym, ℕ, ◌*◌, ◌+◌, ◌-◌, ◌<◌, ◌∙◌, ◌≡◌, ◌≤◌}
 use Rattle.std.proofs.Math.Nat.{mul-le-mul_right}
 use Rattle.std.proofs.lemmas.Bool.Decides.{nat_tests}
 use Rattle.std.proofs.lemmas.List.{append-nil}
@@ -34,7 +34,7 @@ use Rattle.snd_base.specs.declared.geometry.Geometry.{Geometry}
 use Rattle.snd_base.specs.declared.places.Cursor.{Cursor}
 use Rattle.dmix_client.proofs.Caused.{IsCaused-started, IsCaused-synced, caused-accepted, caused-moved, caused-none, caused-number, caused-on, synced-not_again, written_on-again}
 use Rattle.dmix_client.proofs.Ends.{by-test, started-ends, written-ends}
-use Rattle.dmix_client.proofs.Going.{IsStill, OnOk-of, StillBegun, accepted_if-told, started-begun, synced-runs, synced-still, told-going, told-stop}
+use Rattle.dmix_client.proofs.Going.{IsStill, OnOk-of, accepted_if-told, started-still, synced-runs, synced-still, told-going, told-stop}
 use Rattle.dmix_client.proofs.Growing.{StandsFor-after, StandsUpTo-filled, accepted-none, laid_at, laid_at-none, segment_entries-after}
 use Rattle.dmix_client.proofs.Looking.{starts-by}
 use Rattle.dmix_client.proofs.Sound.{CanUse-still, CommitsAs, min-none, CommitsAs-seen, CommitsAs-started, CommitsAs-written, IsLoaded, IsMoving-after, IsMoving-seen, IsMoving-written, IsSound-after, IsSound-status, IsSound-stopped, after, configured-moving, configured-prepared, count-whole, hw-started, if-le, next-GoesOn, none-of, not_paused-moving, not_prepared-moving, taken-none, taken_fits, whole-of, whole_least, window_end-above}
@@ -305,18 +305,22 @@ module _ {S T : Type 0} (P : mixport.Ghosts S) (G : gates.Ghosts T) (laid_compos
 
   -- of all that is written
   pub start-kept : (s t : S × T) (c : Plain) (ring : List ℤ) (state : State) (a : Answered (Unit {0})) → IsSound c ring → c.status.state ≡ Prepared → is_moving state ≡ true
-      → (P.view s.0).marks.cursor.frame ≤ end_frame c.identity.geometry → CanUse c (P.view s.0)
-      → TakesAt P G s (starts c state (P.view s.0).marks.cursor c.stretch.written ring) t a → Keeps P G s t (client c ring) (client a.0 ring) a.1 AnySamples
+      → (P.view s.0).marks.cursor.frame ≤ end_frame c.identity.geometry → CanUse c (P.view s.0) → TakesAt P G s (starts c state (P.view s.0).marks.cursor c.stretch.written ring) t a
+      → Keeps P G s t (client c ring) (client a.0 ring) a.1 AnySamples × OnOk a.1 (a.0.status.state ≡ state × a.0.status.stopped ≡ c.status.stopped)
   start-kept s t c ring state a sound waits leads near port takes =
       let all : c.stretch.written + 0 ≡ c.stretch.written = add-zero c.stretch.written in
-      let k = (starts-kept s t c ring state 0 a sound waits leads (omega (arith, (sound.prepared waits).fits)) near port (subst (λ (n : ℕ). TakesAt P G s (starts c state (P.view s.0).marks.cursor n ring) t a) (sym all) takes)).keeps in
-      subst (λ (d : Plain). Keeps P G s t (client c ring) (client d ring) a.1 AnySamples) (accepted-none a) (record {
-        sound = k.sound;
-        port = k.port;
-        told = λ unstopped. accepted_if-told 0 a (G.stops s.1) (G.stops t.1) (k.told unstopped);
-        grows = λ samples stands any. k.grows samples stands (subst (StandsUpTo c ring samples) (sym all) stands);
-        stands = λ samples stands any. k.stands samples stands (subst (StandsUpTo c ring samples) (sym all) stands);
-      })
+      let begun = starts-kept s t c ring state 0 a sound waits leads (omega (arith, (sound.prepared waits).fits)) near port (subst (λ (n : ℕ). TakesAt P G s (starts c state (P.view s.0).marks.cursor n ring) t a) (sym all) takes) in
+      let k = begun.keeps in
+      (
+        subst (λ (d : Plain). Keeps P G s t (client c ring) (client d ring) a.1 AnySamples) (accepted-none a) (record {
+          sound = k.sound;
+          port = k.port;
+          told = λ unstopped. accepted_if-told 0 a (G.stops s.1) (G.stops t.1) (k.told unstopped);
+          grows = λ samples stands any. k.grows samples stands (subst (StandsUpTo c ring samples) (sym all) stands);
+          stands = λ samples stands any. k.stands samples stands (subst (StandsUpTo c ring samples) (sym all) stands);
+        }),
+        begun.goes,
+      )
 
   -- nothing was done
   pub Keeps-none : {X : Type 0} (s : S × T) (c : ClientView) (answer : Result X PcmError) (For : List ℤ → Type 0) → IsSound c.plain c.ring → CanUse c.plain (P.view s.0)
@@ -452,12 +456,6 @@ module _ {S T : Type 0} (P : mixport.Ghosts S) (G : gates.Ghosts T) (laid_compos
       let st = syncs-step s t c ring call.Drain a bound takes in
       subst IsStill st.outcome (synced-still c st.load st.commit drains going)
 
-  pub starts-begun : (s t : S × T) (c : Plain) (ring : List ℤ) (cursor : Cursor) (upto : ℕ) (a : Answered (Unit {0})) → AreBindings c.setup.bindings
-      → TakesAt P G s (starts c Draining cursor upto ring) t a → StillBegun c a
-  starts-begun s t c ring cursor upto a bound takes =
-      let st = starts-step s t c ring Draining cursor upto a bound takes in
-      subst (StillBegun c) st.outcome (started-begun c cursor st.load st.commit)
-
   -- a write into a stream that runs, by its two parts
   pub writes-explained : (s m t : S × T) (c : Plain) (ring new_ring offered : List ℤ) (n : ℕ) (middle : Answered (Unit {0})) (a : Answered ℕ) → AreBindings c.setup.bindings → c.status.state ≡ Running
       → TakesAt P G s (syncs c call.Transfer ring) m middle → TakesAt P G m (write_on ring offered n middle) t a → new_ring ≡ ring_with middle.0 ring offered (taken_after middle n)
@@ -487,30 +485,12 @@ module _ {S T : Type 0} (P : mixport.Ghosts S) (G : gates.Ghosts T) (laid_compos
       let st = syncs-step s t c ring call.Transfer a bound takes in
       OnOk-of a.1 (a.0.status.state ≡ Running) ok (subst (λ (b : Answered (Unit {0})). OnOk b.1 (b.0.status.state ≡ Running)) st.outcome (synced-runs c st.load st.commit runs))
 
-  -- the start of a drain, where it went well
-  pub record Drains (s m : S × T) (c : Plain) (ring : List ℤ) (a : Answered (Unit {0})) : Type 0 where
-    pub keeps : Keeps P G s m (client c ring) (client a.0 ring) a.1 AnySamples
-    pub drains : a.0.status.state ≡ Draining
-    pub going : a.0.status.stopped ≡ false
-
-  begun-well : (c : Plain) (a : Answered (Unit {0})) → a.1 ≡ Ok tt → StillBegun c a → (a.0.status.state ≡ Draining) × (a.0.status.stopped ≡ c.status.stopped)
-  begun-well c a ok (inl well) = (well.1, well.2)
-  begun-well c a ok (inr refused) = absurd (let is = refused.1.1 in cc)
-
-  pub drains-kept : (s m : S × T) (c : Plain) (ring : List ℤ) (a : Answered (Unit {0})) → IsSound c ring → c.status.state ≡ Prepared → c.status.stopped ≡ false
-      → (P.view s.0).marks.cursor.frame ≤ end_frame c.identity.geometry → CanUse c (P.view s.0) → a.1 ≡ Ok tt
-      → TakesAt P G s (starts c Draining (P.view s.0).marks.cursor c.stretch.written ring) m a → Drains s m c ring a
-  drains-kept s m c ring a sound waits unstopped near port ok takes =
-      let well = begun-well c a ok (starts-begun s m c ring (P.view s.0).marks.cursor c.stretch.written a (configured-prepared c ring sound waits).bound takes) in
-      record { keeps = start-kept s m c ring Draining a sound waits refl near port takes; drains = well.0; going = well.1 ∙ unstopped }
-
-  begun-ill : (c : Plain) (a : Answered (Unit {0})) (e : PcmError) → a.1 ≡ Err e → StillBegun c a → IsStill a
-  begun-ill c a e is (inl well) = absurd (let h = well.0 in cc)
-  begun-ill c a e is (inr refused) = refused.0
-
+  -- the start of a drain, where it didn't go well
   pub drains-ill : (s m : S × T) (c : Plain) (ring : List ℤ) (cursor : Cursor) (a : Answered (Unit {0})) (e : PcmError) → AreBindings c.setup.bindings → a.1 ≡ Err e
       → TakesAt P G s (starts c Draining cursor c.stretch.written ring) m a → IsStill a
-  drains-ill s m c ring cursor a e bound is takes = begun-ill c a e is (starts-begun s m c ring cursor c.stretch.written a bound takes)
+  drains-ill s m c ring cursor a e bound is takes =
+      let st = starts-step s m c ring Draining cursor c.stretch.written a bound takes in
+      subst (λ (b : Answered (Unit {0})). b.1 ≡ Err e → IsStill b) st.outcome (started-still c cursor st.load st.commit e) is
 
   -- a write into a prepared stream that doesn't start it
   pub stored-kept : (s : S × T) (c : Plain) (ring stored samples : List ℤ) (n m : ℕ) → m ≡ taken_of c n → stored ≡ ring_with c ring samples m → IsSound c ring → IsSound c stored → c.status.state ≡ Prepared
@@ -704,8 +684,8 @@ module _ {S T : Type 0} (P : mixport.Ghosts S) (G : gates.Ghosts T) (laid_compos
       let bound = (sound.configured (sound.set_up (ap is_set_up is))).bound in
       let parts = Takes-parts (LoadsAt P G) (LaysAt P G) NoGet s t (looks at count ring) (λ found. ends (resumed c cursor found.0 found.1)) a takes in
       let begun : Answered (Unit {0}) = started (rebased c) Running cursor parts.1.0 parts.1.1 in
-      let keeps = start-kept P G laid_composes loaded_composes s parts.0 (rebased c) ring Running begun (IsSound-rebased c ring sound is) refl refl near (CanUse-rebased c (P.view s.0) port)
-      (starts-by P G s parts.0 (rebased c) Running cursor (pending_of c) ring parts.1.0 parts.1.1 begun parts.2 refl) in
+      let keeps = (start-kept P G laid_composes loaded_composes s parts.0 (rebased c) ring Running begun (IsSound-rebased c ring sound is) refl refl near (CanUse-rebased c (P.view s.0) port)
+      (starts-by P G s parts.0 (rebased c) Running cursor (pending_of c) ring parts.1.0 parts.1.1 begun parts.2 refl)).0 in
       let looked = TakesAt-looks P G laid_composes loaded_composes at count ring c.setup.bindings s parts.0 parts.1.0 parts.1.1 bound (λ position. refl) parts.2 in
       subst (λ (u : S × T). Keeps P G s u (client (base_of c a.0) ring) (client a.0 ring) a.1 AnySamples) (sym parts.3.there)
       (subst (λ (b : Answered (Unit {0})). Keeps P G s parts.0 (client (base_of c b.0) ring) (client b.0 ring) b.1 AnySamples) (sym parts.3.result)

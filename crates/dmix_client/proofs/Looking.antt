@@ -7,7 +7,7 @@ use Rattle.mix_core.specs.declared.gate.Gate as gates
 use Rattle.mix_core.specs.declared.port.MixPort as mixport
 use Rattle.mix_core.specs.declared.port.Position.{Position}
 use Rattle.course.specs.AtPort.{LaysAt, LoadsAt, NoGet, TakesAt}
-use Rattle.course.specs.Course.{◌>>=◌, Course}
+use Rattle.course.specs.Course.{Course, ◌>>=◌}
 use Rattle.course.specs.CourseLaws.{Takes-map, Takes-then}
 use Rattle.pcm_states.specs.declared.states.State.{State}
 use Rattle.pcm_states.specs.declared.states.State.TheVariants.{Draining, Running}
