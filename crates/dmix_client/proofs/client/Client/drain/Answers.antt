@@ -36,10 +36,9 @@ pub returns-then-is_moving-clause-causes : goal.returns-then-is_moving-clause-ca
 returns-then-is_moving-clause-causes g c admitted moves =
     let plain = c.self.inside.plain in
     let bound = (configured-moving plain c.self.inside.ring.items c.self.invariant (search rules)).bound in
-    subst (λ (v : ClientView). Explains g.P.MixPort g.G.Gate (c.args.port.now, c.args.gate.now) (c.sync_call.new.port, c.sync_call.new.gate) (client (draining v.plain) v.ring) (λ position. draining v.plain) (sync_count (draining v.plain)) (synced (draining v.plain) call.Drain) (c.sync_call.new.plain, c.sync_call.result)) c.self.view_is
-    (subst (λ (r : List ℤ). Explains g.P.MixPort g.G.Gate (c.args.port.now, c.args.gate.now) (c.sync_call.new.port, c.sync_call.new.gate) (client (draining plain) r) (λ position. draining plain) (sync_count (draining plain)) (synced (draining plain) call.Drain) (c.sync_call.new.plain, c.sync_call.result)) c.as_slice-ring.ensures.value
+    rw (← c.self.view_is, ← c.as_slice-ring.ensures.value)
     (syncs-explained g.P.MixPort g.G.Gate g.met.P.MixPort.laid_composes g.met.P.MixPort.loaded_composes (c.args.port.now, c.args.gate.now) (c.sync_call.new.port, c.sync_call.new.gate) (draining plain) c.as_slice-ring.result.now call.Drain (c.sync_call.new.plain, c.sync_call.result) bound tt
-    (subst (λ (d : Plain). TakesAt g.P.MixPort g.G.Gate (c.args.port.now, c.args.gate.now) (syncs d call.Drain c.as_slice-ring.result.now) (c.sync_call.new.port, c.sync_call.new.gate) (c.sync_call.new.plain, c.sync_call.result)) c.draining-self-inside.ensures c.sync_call.ensures.takes)))
+    (subst (λ (d : Plain). TakesAt g.P.MixPort g.G.Gate (c.args.port.now, c.args.gate.now) (syncs d call.Drain c.as_slice-ring.result.now) (c.sync_call.new.port, c.sync_call.new.gate) (c.sync_call.new.plain, c.sync_call.result)) c.draining-self-inside.ensures c.sync_call.ensures.takes))
 
 pub returns-then-not-has_frames-clause-keeps : goal.returns-then-not-has_frames-clause-keeps
 returns-then-not-has_frames-clause-keeps g c =
