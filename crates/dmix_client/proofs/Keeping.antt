@@ -433,21 +433,17 @@ module _ {S T : Type 0} (P : mixport.Ghosts S) (G : gates.Ghosts T) (laid_compos
       }
 
   -- with a number in its answer
-  pub Explains-number : (s t : S × T) (c : ClientView) (at : Position → Plain) (count : Position → ℕ) (call : Option Position → Commit → Answered (Unit {0})) (number : Plain → ℕ) (a : Answered (Unit {0})) (b : Answered ℕ)
-      → with_number number a ≡ b → Explains P G s t c at count call a → Explains P G s t c at count (λ load commit. with_number number (call load commit)) b
-  Explains-number s t c at count call number a b is one =
-      subst (λ (d : Answered ℕ). Explains P G s t c at count (λ load commit. with_number number (call load commit)) d) is (record {
-        step = record { load = one.step.load; commit = one.step.commit; looked = one.step.looked; outcome = ap (with_number number) one.step.outcome };
-        why = caused-number P.view P.shows t.0 one.step.load c.plain number a one.why;
+  Explains-by : (f : Answered (Unit {0}) → Answered ℕ) (s t : S × T) (c : ClientView) (at : Position → Plain) (count : Position → ℕ) (call : Option Position → Commit → Answered (Unit {0})) (a : Answered (Unit {0})) (b : Answered ℕ)
+      → ((load : Option Position) → IsCaused {X = Unit {0}} P.view P.shows t.0 c.plain a.0 load a.1 → IsCaused {X = ℕ} P.view P.shows t.0 c.plain (f a).0 load (f a).1) → f a ≡ b → Explains P G s t c at count call a → Explains P G s t c at count (λ load commit. f (call load commit)) b
+  Explains-by f s t c at count call a b caused is one =
+      subst (λ (d : Answered ℕ). Explains P G s t c at count (λ load commit. f (call load commit)) d) is (record {
+        step = record { load = one.step.load; commit = one.step.commit; looked = one.step.looked; outcome = ap f one.step.outcome };
+        why = caused one.step.load one.why;
       })
 
-  pub Explains-accepted : (s t : S × T) (c : ClientView) (at : Position → Plain) (count : Position → ℕ) (call : Option Position → Commit → Answered (Unit {0})) (m : ℕ) (a : Answered (Unit {0})) (b : Answered ℕ)
-      → accepted_if m a ≡ b → Explains P G s t c at count call a → Explains P G s t c at count (λ load commit. accepted_if m (call load commit)) b
-  Explains-accepted s t c at count call m a b is one =
-      subst (λ (d : Answered ℕ). Explains P G s t c at count (λ load commit. accepted_if m (call load commit)) d) is (record {
-        step = record { load = one.step.load; commit = one.step.commit; looked = one.step.looked; outcome = ap (accepted_if m) one.step.outcome };
-        why = caused-accepted P.view P.shows t.0 one.step.load c.plain m a one.why;
-      })
+  pub Explains-number : (s t : S × T) (c : ClientView) (at : Position → Plain) (count : Position → ℕ) (call : Option Position → Commit → Answered (Unit {0})) (number : Plain → ℕ) (a : Answered (Unit {0})) (b : Answered ℕ)
+      → with_number number a ≡ b → Explains P G s t c at count call a → Explains P G s t c at count (λ load commit. with_number number (call load commit)) b
+  Explains-number s t c at count call number a b is one = Explains-by (with_number number) s t c at count call a b (λ load why. caused-number P.view P.shows t.0 load c.plain number a why) is one
 
   -- a drain of a stream that moves frames is to be made again exactly where it still drains
   pub syncs-still : (s t : S × T) (c : Plain) (ring : List ℤ) (a : Answered (Unit {0})) → AreBindings c.setup.bindings → c.status.state ≡ Draining → c.status.stopped ≡ false
@@ -525,7 +521,7 @@ module _ {S T : Type 0} (P : mixport.Ghosts S) (G : gates.Ghosts T) (laid_compos
           stands = λ all stands for. let up = filled-stands c ring stored samples all n m is is_stored sound waits held_all stands for in begun.keeps.stands all (λ j q low high in_range. up j q low (omega (arith, high)) in_range) up;
         };
         count = accepted-count m parts.1;
-        explains = Explains-accepted s parts.0 (client c stored) (λ position. started_in c Running position (P.view s.0).marks.cursor) (λ position. start_count c (P.view s.0).marks.cursor position (c.stretch.written + m)) (started c Running (P.view s.0).marks.cursor) m parts.1 (accepted_if m parts.1) refl
+        explains = Explains-by (accepted_if m) s parts.0 (client c stored) (λ position. started_in c Running position (P.view s.0).marks.cursor) (λ position. start_count c (P.view s.0).marks.cursor position (c.stretch.written + m)) (started c Running (P.view s.0).marks.cursor) parts.1 (accepted_if m parts.1) (λ load why. caused-accepted P.view P.shows parts.0.0 load c m parts.1 why) refl
             (starts-explained s parts.0 c stored Running (P.view s.0).marks.cursor (c.stretch.written + m) parts.1 (configured-prepared c stored sound_stored waits).bound waits parts.2);
       }))
 

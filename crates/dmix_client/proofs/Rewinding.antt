@@ -132,25 +132,14 @@ pub record IsBack (d : Plain) (floor : Cursor) (n : ℕ) : Type 0 where
   pub from : 0 < back_of d n → max (unwrap_or d.seen 0) (first_free floor 0) ≤ d.stretch.card + (d.stretch.committed - back_of d n)
   pub whole : 0 < back_of d n → d.stretch.written - n ≡ d.stretch.committed - back_of d n
 
-back-few : (n w k top card : ℕ) → n ≤ w - k + (k - (top - card)) → k ≤ w → n ≤ w
-back-few n w k top card few most = omega (arith, few, most)
-
-back-most : (n w k top card : ℕ) → n ≤ w - k + (k - (top - card)) → n - (w - k) ≤ k
-back-most n w k top card few = omega (arith, few)
-
-back-from : (n w k top card : ℕ) → n ≤ w - k + (k - (top - card)) → 0 < n - (w - k) → top ≤ card + (k - (n - (w - k)))
-back-from n w k top card few some = omega (arith, few, some)
-
-back-whole : (n w k : ℕ) → k ≤ w → 0 < n - (w - k) → w - n ≡ k - (n - (w - k))
-back-whole n w k most some = omega (arith, most, some)
+back-is : (n w k top card : ℕ) → n ≤ w - k + (k - (top - card)) → k ≤ w
+    → (n ≤ w) × (n - (w - k) ≤ k) × (0 < n - (w - k) → top ≤ card + (k - (n - (w - k)))) × (0 < n - (w - k) → w - n ≡ k - (n - (w - k)))
+back-is n w k top card few most = (omega (arith, few, most), omega (arith, few), λ some. omega (arith, few, some), λ some. omega (arith, most, some))
 
 pub IsBack-of : (d : Plain) (floor : Cursor) (n : ℕ) → IsMoving d → n ≤ rewindable_of floor d → IsBack d floor n
-IsBack-of d floor n m few = record {
-  few = back-few n d.stretch.written d.stretch.committed (max (unwrap_or d.seen 0) (first_free floor 0)) d.stretch.card few m.laid_most;
-  back = back-most n d.stretch.written d.stretch.committed (max (unwrap_or d.seen 0) (first_free floor 0)) d.stretch.card few;
-  from = λ some. back-from n d.stretch.written d.stretch.committed (max (unwrap_or d.seen 0) (first_free floor 0)) d.stretch.card few some;
-  whole = λ some. back-whole n d.stretch.written d.stretch.committed m.laid_most some;
-}
+IsBack-of d floor n m few =
+    let is = back-is n d.stretch.written d.stretch.committed (max (unwrap_or d.seen 0) (first_free floor 0)) d.stretch.card few m.laid_most in
+    record { few = is.0; back = is.1; from = is.2; whole = is.3 }
 
 -- what isn't played is at or behind the first of them
 unplayed : (k b seen top card h : ℕ) → h ≡ seen - card → b ≤ k → (0 < b → max seen top ≤ card + (k - b)) → min k h ≤ k - b
@@ -439,7 +428,7 @@ module _ (d : Plain) (ring : List ℤ) (floor : Cursor) (n : ℕ) (sound : IsSou
 min-both : (k h g : ℕ) → min k h ≤ g → (min k h ≤ min k g) × (min k g ≤ k)
 min-both k h g low = (grind (arith, nat_tests), grind (arith, nat_tests))
 
-few-of : (n r : ℕ) → min n r ≤ r
+pub few-of : (n r : ℕ) → min n r ≤ r
 few-of n r = grind (arith, nat_tests)
 
 -- why a call went well is told alike later

@@ -1,5 +1,4 @@
-use Rattle.std.proofs.Common.{◌≡◌, ◌≤◌, ◌∙◌, ℕ, ap, arith, refl, subst, sym}
-use Rattle.std.proofs.lemmas.Bool.Decides.{nat_tests}
+use Rattle.std.proofs.Common.{◌≡◌, ◌≤◌, ◌∙◌, ℕ, ap, refl, subst, sym}
 use Rattle.std.specs.Prelude.{Err, min}
 use Rattle.snd_base.specs.declared.places.Cursor.{Cursor}
 use Rattle.mix_core.specs.declared.marks.Marks.{Marks}
@@ -7,7 +6,7 @@ use Rattle.pcm_states.specs.declared.states.State.TheVariants.{Running}
 use Rattle.course.specs.AtPort.{TakesAt}
 use Rattle.dmix_client.specs.Rewind.{rewindable_of, takes_back}
 use Rattle.dmix_client.specs.View.{IsGoing}
-use Rattle.dmix_client.proofs.Rewinding.{checks-kept, rewinds-by, rewinds-kept, standing-checked}
+use Rattle.dmix_client.proofs.Rewinding.{few-of, checks-kept, rewinds-by, rewinds-kept, standing-checked}
 use Rattle.dmix_client.proofs.Going.{OnOk-of, ok-of}
 use Rattle.dmix_client.proofs.Withdrawing.{HoldsBy}
 use Rattle.dmix_client.proofs.rewind.rewind_running.Goals as goal
@@ -20,9 +19,6 @@ returns-in-Err g c =
     (c.check-checked.new.plain, c.check-checked.result) (c.check-checked.new.plain, Err c.in-Err.error) c.check-checked.ensures (rw c.in-Err.is (record { there = refl; result = refl })) in
     let kept = rewinds-kept port g.G.Gate holds (c.args.port.now, c.args.gate.now) (c.check-checked.new.port, c.check-checked.new.gate) c.args.plain.now c.args.ring.now c.args.frames _ c.requires.sound c.requires.running c.requires.unstopped c.requires.port takes in
     record { takes = takes; keeps = kept.keeps; explains = kept.explains }
-
-few-of : (n r : ℕ) → min n r ≤ r
-few-of n r = grind (arith, nat_tests)
 
 pub take_back-requires : goal.take_back-requires
 take_back-requires g c =

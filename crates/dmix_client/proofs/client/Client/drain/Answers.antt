@@ -1,13 +1,12 @@
 use Rattle.std.proofs.Common.{rules, ◌≡◌, refl, subst, sym}
-use Rattle.std.specs.Prelude.{List, None, Ok, Result, ℤ}
+use Rattle.std.specs.Prelude.{None, Ok, Result}
 use Rattle.snd_base.specs.declared.errors.PcmError.{PcmError}
 use Rattle.pcm_states.specs.declared.calls.Call.TheVariants as call
 use Rattle.course.specs.AtPort.{TakesAt}
 use Rattle.dmix_client.specs.declared.plain.Plain.{Plain}
 use Rattle.pcm_stream.specs.Status.{refusal_of}
 use Rattle.pcm_stream.specs.declared.direction.Direction.TheVariants.{Playback}
-use Rattle.dmix_client.specs.Calls.{draining, sync_count, synced}
-use Rattle.dmix_client.specs.Causes.{Explains}
+use Rattle.dmix_client.specs.Calls.{draining}
 use Rattle.dmix_client.specs.Course.{syncs}
 use Rattle.dmix_client.specs.Growth.{AnySamples, Keeps}
 use Rattle.dmix_client.specs.Port.{CanUse}

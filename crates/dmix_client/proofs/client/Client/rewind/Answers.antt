@@ -1,19 +1,13 @@
-use Rattle.std.proofs.Common.{rules, ◌≡◌, ◌≤◌, ℕ, arith, subst, sym}
-use Rattle.std.proofs.lemmas.Bool.Decides.{nat_tests}
-use Rattle.std.specs.Prelude.{List, Ok, Result, ℤ, false, min}
+use Rattle.std.proofs.Common.{rules, ◌≡◌, ◌≤◌, ℕ, subst, sym}
+use Rattle.std.specs.Prelude.{Ok, Result}
 use Rattle.snd_base.specs.declared.errors.PcmError.{PcmError}
-use denote.Enum.Bare.{same_true}
-use Rattle.pcm_states.specs.contracts.states.State.{the_type}
-use Rattle.pcm_states.specs.declared.states.State.TheVariants.{Prepared, Running}
-use Rattle.course.specs.AtPort.{TakesAt}
+use Rattle.pcm_states.specs.declared.states.State.TheVariants.{Prepared}
 use Rattle.dmix_client.specs.declared.plain.Plain.{Plain}
 use Rattle.dmix_client.specs.Growth.{KeepsBack}
 use Rattle.dmix_client.specs.Port.{CanUse}
-use Rattle.dmix_client.specs.Rewind.{rewinds}
-use Rattle.dmix_client.specs.RewindCauses.{ExplainsRewind}
 use Rattle.dmix_client.specs.View.{ClientView}
 use Rattle.dmix_client.proofs.Keeping.{client}
-use Rattle.dmix_client.proofs.Rewinding.{rewinds-kept, without-kept}
+use Rattle.dmix_client.proofs.Rewinding.{few-of, without-kept}
 use Rattle.dmix_client.proofs.Withdrawing.{HoldsBy}
 use Rattle.dmix_client.proofs.client.Client.rewind.Goals as goal
 
@@ -25,9 +19,6 @@ invariant_of-self g c = rw (← c.as_slice-ring.ensures.value) c.rewind_running.
 
 pub returns-then-eq-clause-causes : goal.returns-then-eq-clause-causes
 returns-then-eq-clause-causes g c admitted running = rw (← c.self.view_is, ← c.as_slice-ring.ensures.value) c.rewind_running.ensures.explains
-
-few-of : (n r : ℕ) → min n r ≤ r
-few-of n r = grind (arith, nat_tests)
 
 pub returns-clause-keeps : goal.returns-clause-keeps
 returns-clause-keeps g c =
