@@ -201,16 +201,8 @@ running-is : (s : State) → is_running s ≡ true → s ≡ Running
 running-is Running is = refl
 running-is s is = absurd (cc)
 
-abbrev number_in : Option (ℕ × ℕ) → ℕ
-number_in None = 0
-number_in (Some (x, y)) = x
-
-abbrev frame_in : Option (ℕ × ℕ) → ℕ
-frame_in None = 0
-frame_in (Some (x, y)) = y
-
 if-some : (b : Bool) (x y a f : ℕ) → (let o : Option (ℕ × ℕ) = (if b then Some (x, y) else None) in o) ≡ Some (a, f) → (b ≡ true) × (a ≡ x) × (f ≡ y)
-if-some true x y a f is = (refl, sym (ap (λ o. number_in o) is), sym (ap (λ o. frame_in o) is))
+if-some true x y a f is = let same : (let p : ℕ × ℕ = (x, y) in p) ≡ (a, f) = cc in (refl, sym (ap (λ (p : ℕ × ℕ). p.0) same), sym (ap (λ (p : ℕ × ℕ). p.1) same))
 if-some false x y a f is = absurd (cc)
 
 both-true : (s : State) (t n : ℕ) → (is_running s && nat_le t n) ≡ true → (is_running s ≡ true) × (t ≤ n)

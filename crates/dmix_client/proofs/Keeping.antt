@@ -38,7 +38,7 @@ use Rattle.dmix_client.proofs.Going.{IsStill, OnOk-of, accepted_if-told, started
 use Rattle.dmix_client.proofs.Growing.{StandsFor-after, StandsUpTo-filled, accepted-none, laid_at, laid_at-none, segment_entries-after}
 use Rattle.dmix_client.proofs.Looking.{starts-by}
 use Rattle.dmix_client.proofs.Sound.{CanUse-still, CommitsAs, min-none, CommitsAs-seen, CommitsAs-started, CommitsAs-written, IsLoaded, IsMoving-after, IsMoving-seen, IsMoving-written, IsSound-after, IsSound-status, IsSound-stopped, after, configured-moving, configured-prepared, count-whole, hw-started, if-le, next-GoesOn, none-of, not_paused-moving, not_prepared-moving, taken-none, taken_fits, whole-of, whole_least, window_end-above}
-use Rattle.dmix_client.proofs.Storing.{StandsUpTo-written}
+use Rattle.dmix_client.proofs.Storing.{StandsUpTo-written, taken-few}
 use Rattle.dmix_client.specs.Calls.{Answered, accepted, accepted_if, base_of, commit_count, committed_by, dropped, end_channel, end_of_commit, facts_of, is_paused, is_stop, late_of, over_of, paused, pending_of, rebased, resumed, seen_at, start_count, started, started_in, stopped_in, sync_count, synced, taken_of, with_number, written_after, written_on}
 use Rattle.dmix_client.specs.Causes.{Explains, ExplainsWrite, IsCaused}
 use Rattle.dmix_client.specs.Course.{commits, looks, resumes, starts, starts_taking, syncs, takes_more, write_on}
@@ -86,9 +86,6 @@ pub IsSound-stored : (c : Plain) (ring samples : List ℤ) (m : ℕ) → IsSound
 IsSound-stored c ring samples m sound k held_all =
     IsSound-ring c ring (ring_with c ring samples m) sound
     ((stored-HasRoom c.setup.config.buffer_size (length c.setup.bindings) ring (c.stretch.source + c.stretch.written) samples m (record { some = k.buffer_least; room = k.room }) held_all).room ∙ sym k.room)
-
-taken-few : (n a b : ℕ) → min n (min a b) ≤ n
-taken-few n a b = grind (arith, nat_tests)
 
 taken-room : (n b w : ℕ) → w ≤ b → w + min n (min (b + 0 - w) b) ≤ b
 taken-room n b w fits = grind (arith, nat_tests)
@@ -358,7 +355,7 @@ module _ {S T : Type 0} (P : mixport.Ghosts S) (G : gates.Ghosts T) (laid_compos
       let m : ℕ = taken_of c n in
       let new = ring_with c ring offered m in
       let upto : ℕ = c.stretch.written + m in
-      let few : m * length c.setup.bindings ≤ n * length c.setup.bindings = mul-le-mul_right (length c.setup.bindings) (taken-few n _ _) in
+      let few : m * length c.setup.bindings ≤ n * length c.setup.bindings = mul-le-mul_right (length c.setup.bindings) (taken-few n c.setup.config.buffer_size c.stretch.written (hw_of c) m refl).0 in
       let sound_new = IsSound-stored c ring offered m sound k (omega (arith, few, held_all)) in
       let up : (samples : List ℤ) → StandsFor c ring samples → Follows c samples offered n → StandsUpTo c new samples upto = λ samples stands for. StandsUpTo-written c ring samples offered n k held_all was.fits past stands for in
       let y = CommitsAs-written c new x m sound_new moves going laid.commit_is in
@@ -581,20 +578,13 @@ pub refusal_of-resume : (c : Plain) → refusal_of Playback c.status call.Resume
 refusal_of-resume c admitted = resume-paused c.status.stopped c.status.state admitted
 
 -- with which counts a call begins
-still-based : (a b : Bool) (c d : Plain) → b ≡ true → (if a && not b then d else c) ≡ c
-still-based a false c d is = absurd (cc)
-still-based true true c d is = refl
-still-based false true c d is = refl
+stays-based : (a b : Bool) (c d : Plain) → (a ≡ true → b ≡ true) → (if a && not b then d else c) ≡ c
+stays-based false b c d is = refl
+stays-based true true c d is = refl
+stays-based true false c d is = absurd (let no = is refl in cc)
 
-pub base-paused : (c d : Plain) → d.status.state ≡ Paused → base_of c d ≡ c
-base-paused c d is = still-based (is_paused c.status.state) (is_paused d.status.state) c (rebased c) (ap is_paused is)
-
-same-based : (a : Bool) (c d : Plain) → (if a && not a then d else c) ≡ c
-same-based true c d = refl
-same-based false c d = refl
-
-pub base-same : (c d : Plain) → d.status.state ≡ c.status.state → base_of c d ≡ c
-base-same c d is = subst (λ (s : State). (if is_paused c.status.state && not (is_paused s) then rebased c else c) ≡ c) (sym is) (same-based (is_paused c.status.state) c (rebased c))
+pub base-kept : (c d : Plain) → (is_paused c.status.state ≡ true → is_paused d.status.state ≡ true) → base_of c d ≡ c
+base-kept c d is = stays-based (is_paused c.status.state) (is_paused d.status.state) c (rebased c) is
 
 anew-based : (a b : Bool) (c d : Plain) → a ≡ true → b ≡ false → (if a && not b then d else c) ≡ d
 anew-based false b c d is_paused is = absurd (cc)
@@ -637,7 +627,7 @@ module _ {S T : Type 0} (P : mixport.Ghosts S) (G : gates.Ghosts T) (laid_compos
       → Keeps P G s s (client (base_of c (paused c)) ring) (client (paused c) ring) (let r : Result (Unit {0}) PcmError = Ok tt in r) AnySamples
   paused-kept s c ring sound admitted port =
       let is = refusal_of-pause c admitted in
-      subst (λ (b : Plain). Keeps P G s s (client b ring) (client (paused c) ring) (let r : Result (Unit {0}) PcmError = Ok tt in r) AnySamples) (sym (base-paused c (paused c) refl))
+      subst (λ (b : Plain). Keeps P G s s (client b ring) (client (paused c) ring) (let r : Result (Unit {0}) PcmError = Ok tt in r) AnySamples) (sym (base-kept c (paused c) (λ is. refl)))
       (left-kept P G laid_composes loaded_composes s c ring Paused (IsSound-paused c ring sound is.0 is.1) port refl)
 
   CanUse-rebased : (c : Plain) (v : PortView) → CanUse c v → CanUse (rebased c) v
@@ -655,7 +645,7 @@ module _ {S T : Type 0} (P : mixport.Ghosts S) (G : gates.Ghosts T) (laid_compos
   pub refused-kept : (s : S × T) (c : Plain) (ring : List ℤ) (answer : Result (Unit {0}) PcmError) → Keeps P G s s (client c ring) (client c ring) answer AnySamples
       → Keeps P G s s (client (base_of c c) ring) (client c ring) answer AnySamples
   refused-kept s c ring answer keeps =
-      subst (λ (b : Plain). Keeps P G s s (client b ring) (client c ring) answer AnySamples) (sym (base-same c c refl)) keeps
+      subst (λ (b : Plain). Keeps P G s s (client b ring) (client c ring) answer AnySamples) (sym (base-kept c c (λ is. is))) keeps
 
   -- a resume with pending frames
   resumed-by : (s t : S × T) (c : Plain) (ring : List ℤ) (cursor : Cursor) (load : Option Position) (commit : Commit) → IsSound c ring → c.status.state ≡ Paused → CanUse c (P.view s.0) → IsSamePort (P.view s.0) (P.view t.0)
@@ -664,7 +654,7 @@ module _ {S T : Type 0} (P : mixport.Ghosts S) (G : gates.Ghosts T) (laid_compos
       → Keeps P G s t (client (base_of c (resumed c cursor load commit).0) ring) (client (resumed c cursor load commit).0 ring) (resumed c cursor load commit).1 AnySamples
   resumed-by s t c ring cursor None commit sound is port same laid_nothing keeps =
       let d : Plain = record c { status = record c.status { stopped = true } } in
-      subst (λ (b : Plain). Keeps P G s t (client b ring) (client d ring) (let r : Result (Unit {0}) PcmError = Err error.Stopped in r) AnySamples) (sym (base-same c d refl))
+      subst (λ (b : Plain). Keeps P G s t (client b ring) (client d ring) (let r : Result (Unit {0}) PcmError = Err error.Stopped in r) AnySamples) (sym (base-kept c d (λ is. is)))
       (Keeps-still P G laid_composes loaded_composes s t c d ring ring (Err error.Stopped) AnySamples (IsSound-stopped c ring sound) (CanUse-still c d (P.view s.0) (P.view t.0) port same refl (λ moves going. cc)) laid_nothing keeps.told (λ samples stands. refl) refl refl (λ samples stands any. stands))
   resumed-by s t c ring cursor (Some position) commit sound is port same laid_nothing keeps =
       subst (λ (b : Plain). Keeps P G s t (client b ring) (client (started (rebased c) Running cursor (Some position) commit).0 ring) (started (rebased c) Running cursor (Some position) commit).1 AnySamples)

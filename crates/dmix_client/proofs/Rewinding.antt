@@ -164,12 +164,6 @@ held-last d ring floor n m is =
     let from : ℕ = min d.stretch.committed (hw_of d) in
     run_entries-split d.identity.member d.setup.bindings (held d ring) d.stretch.card from (d.stretch.committed - back_of d n) (d.stretch.committed - back_of d n - from) (d.stretch.committed - from) (back_of d n) 0 (omega (arith, low)) (omega (arith, low, is.back))
 
-back-laid : (n w k f : ℕ) → f ≡ 0 → k ≤ w → k - (n - (w - k)) + f ≤ w - n + f
-back-laid n w k f none most = omega (arith, none, most)
-
-back-pending : (n w k f b : ℕ) → f ≡ 0 → k ≤ w → w ≤ k + b → w - n + f ≤ k - (n - (w - k)) + f + b
-back-pending n w k f b none most fits = omega (arith, none, most, fits)
-
 -- the client after it
 abbrev pub back_in : Plain → ℕ → Commit → State → Bool → Plain
 back_in d n x s stopped = record (taken_back d n x) { status = record { state = s; stopped = stopped } }
@@ -268,9 +262,9 @@ module _ (d : Plain) (ring : List ℤ) (floor : Cursor) (n : ℕ) (sound : IsSou
   IsMoving-back x s stopped none whole = record {
     started = m.started;
     whole = whole;
-    laid_most = back-laid n d.stretch.written d.stretch.committed x.frames none m.laid_most;
+    laid_most = omega (arith, none, m.laid_most);
     fits = omega (arith, m.fits, none);
-    pending = back-pending n d.stretch.written d.stretch.committed x.frames d.setup.config.buffer_size none m.laid_most m.pending;
+    pending = omega (arith, none, m.laid_most, m.pending);
   }
 
   StandsFor-back : (x : Commit) (s : State) (stopped : Bool) (samples : List ℤ) → x.frames ≤ back_of d n → StandsFor d ring samples → StandsFor (back_in d n x s stopped) ring samples

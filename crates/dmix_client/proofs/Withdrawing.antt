@@ -157,16 +157,6 @@ OnWhole-map Whole X Y f is = f is
 OnWhole-map (Late word) X Y f is = tt
 OnWhole-map Stopped X Y f is = tt
 
-OnWhole-not : (e : Ended) (X : Type 0) → (e ≡ Whole → ⊥) → OnWhole e X
-OnWhole-not Whole X not_whole = absurd (not_whole refl)
-OnWhole-not (Late word) X not_whole = tt
-OnWhole-not Stopped X not_whole = tt
-
-all-left : (e : Ended) (frames part count channels : ℕ) → (e ≡ Whole → ⊥) → 0 < frames + part → frames_used frames part ≤ count → part < channels → AreLeft e frames part count channels
-all-left Whole frames part count channels not_whole some few within = absurd (not_whole refl)
-all-left (Late word) frames part count channels not_whole some few within = (some, few, within)
-all-left Stopped frames part count channels not_whole some few within = (some, few, within)
-
 more-left : (e : Ended) (frames part count channels : ℕ) → AreLeft e frames part count channels → AreLeft e frames part (suc count) channels
 more-left Whole frames part count channels are = are
 more-left (Late word) frames part count channels are = (are.0, omega (arith, are.1), are.2)
@@ -318,7 +308,7 @@ module _ {S T : Type 0} (P : mixport.Ghosts S) (G : gates.Ghosts T) (holds : Hol
       → TookFrame s t member (card + (first + n)) bindings (samples (first + n)) (length bindings) left ended
       → TookFrames s t member card bindings samples first (suc n)
       (if all then record { frames = n + 1; part = 0; ended = ended } else record { frames = n; part = left; ended = ended })
-  frames-left member card bindings samples first n left ended s t true is some few not_whole one =
+  frames-left member card bindings samples first n left ended s t true is some few not_so one =
       let whole : left ≡ length bindings = grind (arith, nat_tests) in
       let before : run_entries member bindings samples card first (suc n) 0 ≡ run_entries member bindings samples card first n 0 ++ frame_entries member bindings (samples (first + n)) (length bindings) (card + (first + n)) =
       ap (λ (k : ℕ). run_entries member bindings samples card first k 0) (let e : suc n ≡ n + 1 = omega arith in e) ∙ run_entries-last member bindings samples card first n in
@@ -326,18 +316,18 @@ module _ {S T : Type 0} (P : mixport.Ghosts S) (G : gates.Ghosts T) (holds : Hol
         view_is = one.view_is;
         same_floor = one.same_floor;
         still = λ none. absurd (omega (arith, none));
-        are_left = all-left ended (n + 1) 0 (suc n) (length bindings) not_whole (omega arith) (omega arith) (omega (arith, some, few));
+        are_left = let are : (0 < n + 1 + 0) × (frames_used (n + 1) 0 ≤ suc n) × (0 < length bindings) = (omega arith, omega arith, omega (arith, some, few)) in not-whole (λ (e : Ended). AreLeft e (n + 1) 0 (suc n) (length bindings)) ended not_so (λ word. are) are;
         away = subst (λ (es : List Entry). TakesAway P.laid P.ends_in s.0 t.0 es (run_entries member bindings samples card first (n + 1) 0)) (sym before)
             (subst (λ (es : List Entry). TakesAway P.laid P.ends_in s.0 t.0 (run_entries member bindings samples card first n 0 ++ frame_entries member bindings (samples (first + n)) (length bindings) (card + (first + n))) es) (sym (run_entries-last member bindings samples card first n))
             (TakesAway-behind s.0 t.0 (run_entries member bindings samples card first n 0) _ _
             (subst (λ (k : ℕ). TakesAway P.laid P.ends_in s.0 t.0 (frame_entries member bindings (samples (first + n)) (length bindings) (card + (first + n))) (frame_entries member bindings (samples (first + n)) k (card + (first + n)))) whole one.away)));
         loaded_nothing = one.loaded_nothing;
-        cursor = OnWhole-not ended _ not_whole;
+        cursor = not-whole (λ (e : Ended). OnWhole e (0 < suc n → (P.view t.0).marks.cursor ≡ record { frame = card + first; channel = least_channel bindings })) ended not_so (λ word. tt) tt;
         late = subst (λ (k : ℕ). OnLate ended (λ word. IsPast P.view P.shows t.0 (card + k) (slice_index bindings (slice_index (rising bindings) (length bindings - 1))) word)) (let e : first + n ≡ first + (n + 1 - 1) = omega arith in e)
             (subst (λ (k : ℕ). OnLate ended (λ word. IsPast P.view P.shows t.0 (card + (first + n)) (slice_index bindings (slice_index (rising bindings) (k - 1))) word)) whole one.late);
         stopped = one.stopped;
       }
-  frames-left member card bindings samples first n left ended s t false is some few not_whole one =
+  frames-left member card bindings samples first n left ended s t false is some few not_so one =
       let part : left < length bindings = grind (arith, nat_tests) in
       let before : run_entries member bindings samples card first (suc n) 0 ≡ run_entries member bindings samples card first n 0 ++ frame_entries member bindings (samples (first + n)) (length bindings) (card + (first + n)) =
       ap (λ (k : ℕ). run_entries member bindings samples card first k 0) (let e : suc n ≡ n + 1 = omega arith in e) ∙ run_entries-last member bindings samples card first n in
@@ -346,12 +336,12 @@ module _ {S T : Type 0} (P : mixport.Ghosts S) (G : gates.Ghosts T) (holds : Hol
         view_is = one.view_is;
         same_floor = one.same_floor;
         still = λ none. absurd (omega (arith, none));
-        are_left = all-left ended n left (suc n) (length bindings) not_whole (omega (arith, some)) (used-some n left) part;
+        are_left = let are : (0 < n + left) × (frames_used n left ≤ suc n) × (left < length bindings) = (omega (arith, some), used-some n left, part) in not-whole (λ (e : Ended). AreLeft e n left (suc n) (length bindings)) ended not_so (λ word. are) are;
         away = subst (λ (es : List Entry). TakesAway P.laid P.ends_in s.0 t.0 es (run_entries member bindings samples card first n left)) (sym before)
             (subst (λ (es : List Entry). TakesAway P.laid P.ends_in s.0 t.0 (run_entries member bindings samples card first n 0 ++ frame_entries member bindings (samples (first + n)) (length bindings) (card + (first + n))) es) (sym (run_entries-part member bindings samples card first n left))
             (TakesAway-behind s.0 t.0 (run_entries member bindings samples card first n 0) _ _ one.away));
         loaded_nothing = one.loaded_nothing;
-        cursor = OnWhole-not ended _ not_whole;
+        cursor = not-whole (λ (e : Ended). OnWhole e (0 < suc n → (P.view t.0).marks.cursor ≡ record { frame = card + first; channel = least_channel bindings })) ended not_so (λ word. tt) tt;
         late = subst (λ (b : Bool). OnLate ended (λ word. IsPast P.view P.shows t.0 (card + (first + (if b then n - 1 else n))) (slice_index bindings (slice_index (rising bindings) ((if b then length bindings else left) - 1))) word)) (sym not_none) one.late;
         stopped = one.stopped;
       }
@@ -362,13 +352,9 @@ module _ {S T : Type 0} (P : mixport.Ghosts S) (G : gates.Ghosts T) (holds : Hol
       → ((u : S × T) (y : Commit) → TakesAt P G m (take_frames member card bindings samples first n) u y → TookFrames m u member card bindings samples first n y)
       → TakesAt P G m (back_on (left, ended) n (length bindings) (take_frames member card bindings samples first n)) t x → TookFrames s t member card bindings samples first (suc n) x
   back-by member card bindings samples first n left (Late word) s m t x are one behind takes =
-      subst (λ (u : S × T). TookFrames s u member card bindings samples first (suc n) x) (sym takes.there)
-      (subst (λ (y : Commit). TookFrames s m member card bindings samples first (suc n) y) (sym takes.result)
-      (frames-left member card bindings samples first n left (Late word) s m (nat_eq left (length bindings)) refl one.is_left.0 one.is_left.1 (λ is. cc) one))
+      rw (takes.there, takes.result) (frames-left member card bindings samples first n left (Late word) s m (nat_eq left (length bindings)) refl one.is_left.0 one.is_left.1 (λ is. cc) one)
   back-by member card bindings samples first n left Stopped s m t x are one behind takes =
-      subst (λ (u : S × T). TookFrames s u member card bindings samples first (suc n) x) (sym takes.there)
-      (subst (λ (y : Commit). TookFrames s m member card bindings samples first (suc n) y) (sym takes.result)
-      (frames-left member card bindings samples first n left Stopped s m (nat_eq left (length bindings)) refl one.is_left.0 one.is_left.1 (λ is. cc) one))
+      rw (takes.there, takes.result) (frames-left member card bindings samples first n left Stopped s m (nat_eq left (length bindings)) refl one.is_left.0 one.is_left.1 (λ is. cc) one)
   back-by member card bindings samples first n left Whole s m t x are one behind takes =
       let later = behind t x takes in
       let before : run_entries member bindings samples card first (suc n) 0 ≡ run_entries member bindings samples card first n 0 ++ frame_entries member bindings (samples (first + n)) (length bindings) (card + (first + n)) =

@@ -14,22 +14,20 @@ use Rattle.dmix_client.proofs.Frames.{IsFrom-later, entry-held, rising-least}
 use Rattle.dmix_client.proofs.Withdrawing.{Back-all, Back-ended, Back-next, stands-last}
 use Rattle.dmix_client.proofs.withdraw.take_frame.Goals as goal
 
-pub take_sample-requires-clause-last : goal.take_sample-requires-clause-last
-take_sample-requires-clause-last g c =
+pub take_sample-requires : goal.take_sample-requires
+take_sample-requires g c =
     let plain = c.args.plain.now in
     let before = c.loop-place.invariant in
     let n : ℕ = c.loop-place.place - 1 in
     let frame : ℕ = plain.stretch.card + c.args.number in
     let bound = c.bound_sample-bound.ensures in
-    g.met.P.MixPort.ends_in_part c.loop-place.port (frame_entries plain.identity.member plain.setup.bindings (held plain c.args.ring.now c.args.number) n frame) _
-    (stands-last g.P.MixPort.ends_in c.loop-place.port plain.identity.member frame plain.setup.bindings (held plain c.args.ring.now c.args.number) n c.loop-place.place _ before.bound (omega (arith, c.loop-place-test.true)) before.few
-    (entry-held (λ m k x. an_add m frame k x) plain c.args.ring.now c.args.number c.held_from-slot.result (slice_index (rising plain.setup.bindings) n) _ _ _ before.member bound.channel c.held_from-slot.ensures.value bound.sample) before.stand)
-
-pub take_sample-requires-clause-from_floor : goal.take_sample-requires-clause-from_floor
-take_sample-requires-clause-from_floor g c =
-    let before = c.loop-place.invariant in
-    subst (λ (k : ℕ). IsFrom (g.P.MixPort.view c.loop-place.port).marks.floor (c.args.plain.now.stretch.card + c.args.number) k) (sym c.bound_sample-bound.ensures.channel)
-    (IsFrom-later (g.P.MixPort.view c.loop-place.port).marks.floor _ _ _ (rising-least c.args.plain.now.setup.bindings (c.loop-place.place - 1) before.bound (omega (arith, before.few, c.loop-place-test.true))) before.from_floor)
+    record {
+      last = g.met.P.MixPort.ends_in_part c.loop-place.port (frame_entries plain.identity.member plain.setup.bindings (held plain c.args.ring.now c.args.number) n frame) _
+          (stands-last g.P.MixPort.ends_in c.loop-place.port plain.identity.member frame plain.setup.bindings (held plain c.args.ring.now c.args.number) n c.loop-place.place _ before.bound (omega (arith, c.loop-place-test.true)) before.few
+          (entry-held (λ m k x. an_add m frame k x) plain c.args.ring.now c.args.number c.held_from-slot.result (slice_index (rising plain.setup.bindings) n) _ _ _ before.member bound.channel c.held_from-slot.ensures.value bound.sample) before.stand);
+      from_floor = subst (λ (k : ℕ). IsFrom (g.P.MixPort.view c.loop-place.port).marks.floor frame k) (sym bound.channel)
+          (IsFrom-later (g.P.MixPort.view c.loop-place.port).marks.floor _ _ _ (rising-least plain.setup.bindings n before.bound (omega (arith, before.few, c.loop-place-test.true))) before.from_floor);
+    }
 
 pub loop-place-preserved : goal.loop-place-preserved
 loop-place-preserved g c =
