@@ -37,7 +37,7 @@ StandsUpTo-stored c ring samples offered n m set held_all few fits near stands f
 taken-near : (n b w k h m : ℕ) → m ≡ min n (min (b + h - w) b) → w ≤ h + b → min w h ≤ k → w + m ≤ min k h + b
 taken-near n b w k h m is fits low = grind (arith, nat_tests)
 
-taken-few : (n b w h m : ℕ) → m ≡ min n (min (b + h - w) b) → (m ≤ n) × (m ≤ b)
+pub taken-few : (n b w h m : ℕ) → m ≡ min n (min (b + h - w) b) → (m ≤ n) × (m ≤ b)
 taken-few n b w h m is = (grind (arith, nat_tests), grind (arith, nat_tests))
 
 -- so it does after a write, up to the frames that this took
