@@ -2,7 +2,6 @@
 use Rattle.std.specs.Prelude.{◌≡◌, ℕ, ◌+◌, ◌<◌, List, [], ◌∷◌, length, Option, None, Some, Result, IfSome, MatchResult, slice_set}
 use Rattle.std.specs.List.{flat_map}
 use Rattle.snd_base.specs.declared.errors.PcmError.{PcmError}
-use Rattle.snd_base.specs.declared.geometry.Geometry.{Geometry}
 use Rattle.snd_base.specs.Places.{first_frame}
 use Rattle.mix_core.specs.declared.port.Entry.{Entry}
 use Rattle.mix_core.specs.declared.port.Position.{Position}
@@ -111,11 +110,6 @@ pub record TakesBack (l m : Lobby) (s : MixSeat) : Type 0 where
   pub places : places_of_lobby m ≡ places_of_lobby l
   pub seats : free_seats m ≡ slice_set (free_seats l) (member_of s) (Some s)
   pub seen : seen_of_lobby m ≡ seen_of_lobby l
-
--- the position from which a seat can be used
-abbrev pub free_from : Geometry → Option ℕ → ℕ
-free_from g None = first_frame g
-free_from g (Some frame) = frame + 1
 
 -- what the seats of all places laid, in the order of the places
 abbrev pub laid_by : Option MixSeat → List Entry

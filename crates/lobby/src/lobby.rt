@@ -34,9 +34,10 @@ pub struct Lobby<'a> {
 impl<'a> Lobby<'a> {
     ghost use Rattle.std.specs.Prelude.{◌≡◌, ◌+◌, ◌<◌, ◌↔◌, IsTrue, IsSome, None, Some, Err, IfOk, IfErr, min, ℕ};
     ghost use Rattle.sum_table.specs.Joins.{OneRing};
+    ghost use Rattle.sum_table.specs.Known.{free_from};
     ghost use Rattle.sum_table.specs.Players.{player_key, player_ring, position_of_player};
     ghost use Rattle.lobby.specs.Loads.{HasLoaded, HasLoadedBeside, PlayerStays};
-    ghost use Rattle.lobby.specs.Lobbies.{Attaches, CanTakeBack, GoesOn, IsNewLobby, IsSilentSeat, JoinsAll, LoadsAt, Outcome, TakesBack, free_from, free_seats, key_of_lobby, reaped_of, ring_of_lobby, seen_of_lobby};
+    ghost use Rattle.lobby.specs.Lobbies.{Attaches, CanTakeBack, GoesOn, IsNewLobby, IsSilentSeat, JoinsAll, LoadsAt, Outcome, TakesBack, free_seats, key_of_lobby, reaped_of, ring_of_lobby, seen_of_lobby};
     ghost use Rattle.lobby.specs.Seats.{AreFree, KeepsLasts, last_of, lowest_free};
 
     /// A lobby of all places that the seat has, each free, with members from 0 upwards. The caller shows that nothing was

@@ -4,15 +4,15 @@ use mathlib.Core.Option.{some, some-injective, some-ne-none}
 use lib.ListN.{get_elem?}
 use Rattle.std.proofs.lemmas.Bool.{false≢true}
 use Rattle.std.proofs.lemmas.Bool.Decides.{nat_tests}
-use Rattle.std.proofs.lemmas.Option.{none-some}
+use Rattle.std.proofs.lemmas.Option.{none-some, same_Some}
 use Rattle.snd_base.specs.declared.geometry.Geometry.{Geometry}
 use Rattle.snd_base.specs.declared.places.Cursor.{Cursor}
-use Rattle.snd_base.specs.Places.{behind, first_frame}
+use Rattle.snd_base.specs.Places.{IsFrom, behind, first_frame, first_free}
 use Rattle.mix_core.specs.declared.marks.Marks.{Marks}
 use Rattle.mix_core.specs.declared.port.Entry.{Entry}
-use Rattle.mix_core.specs.Marks.{added_at, high_frame, is_before, last_before, later_of, start_marks, start_of}
+use Rattle.mix_core.specs.Marks.{added_at, high_frame, is_before, last_before, later_of, start_marks, start_of, withdrawn_at}
 use Rattle.sum_table.specs.Cuts.{joined_marks}
-use Rattle.sum_table.specs.Known.{greater, last_frame}
+use Rattle.sum_table.specs.Known.{IsReach, free_from, greater, last_frame}
 
 -- the last frame before a cursor, where that is past a start
 abbrev frame_before : Cursor → Cursor → Option ℕ
@@ -57,11 +57,11 @@ start-frame at = ap (λ past. frame_if past at) is where
   is : is_before at at ≡ false
   is = grind (arith, nat_tests)
 
-pub high_frame-start : (g : Geometry) → high_frame g (start_marks g) ≡ None
+high_frame-start : (g : Geometry) → high_frame g (start_marks g) ≡ None
 high_frame-start g = start-frame (start_of g)
 
 -- an add raises the high to right behind it, where it isn't past that
-pub high_frame-added : (g : Geometry) (m : Marks) (f c : ℕ) → c < g.channels → first_frame g ≤ f
+high_frame-added : (g : Geometry) (m : Marks) (f c : ℕ) → c < g.channels → first_frame g ≤ f
     → high_frame g (added_at g m f c) ≡ greater (high_frame g m) (Some f)
 high_frame-added g m f c channel low =
     later-frame (start_of g) m.high (behind g f c)
@@ -72,7 +72,7 @@ greater_none None = refl
 greater_none (Some n) = refl
 
 -- the high of two seats is the later one; a second seat without a place laid nothing
-pub high_frame-joined : (g : Geometry) (a b : Marks) (n : ℕ) (l m : Option ℕ) → high_frame g a ≡ l → high_frame g b ≡ m → (n ≡ 0 → m ≡ None)
+high_frame-joined : (g : Geometry) (a b : Marks) (n : ℕ) (l m : Option ℕ) → high_frame g a ≡ l → high_frame g b ≡ m → (n ≡ 0 → m ≡ None)
     → high_frame g (joined_marks a b n) ≡ greater l m
 high_frame-joined g a b zero l m first second none = first ∙ (sym (greater_none l) ∙ ap (greater l) (sym (none refl)))
 high_frame-joined g a b (suc n) l m first second none =
@@ -91,3 +91,87 @@ last_frame-has (x ∷ xs) (suc i) e there = past (last_frame xs) (last_frame-has
     past : (o : Option ℕ) → greater o (Some e.frame) ≡ o → greater (greater (Some x.frame) o) (Some e.frame) ≡ greater (Some x.frame) o
     past None is = absurd (none-some e.frame (sym is))
     past (Some n) is = grind (arith, is)
+
+-- ---- what is free after it
+
+-- a cursor isn't past the frame after the last one before it
+high-free : (g : Geometry) (at : Cursor) → IsFrom at (free_from g (frame_before (start_of g) at)) 0
+high-free g at = by_test (is_before (start_of g) at) refl
+  where
+    by_test : (past : Bool) → is_before (start_of g) at ≡ past → IsFrom at (free_from g (frame_if past at)) 0
+    by_test true past = grind (arith, nat_tests)
+    by_test false past = grind (arith, nat_tests)
+
+high_free : (g : Geometry) (m : Marks) (last : Option ℕ) → high_frame g m ≡ last → IsFrom m.high (free_from g last) 0
+high_free g m last is = subst (λ o. IsFrom m.high (free_from g o) 0) is (high-free g m.high)
+
+-- the greatest frame before anything was laid
+pub IsReach-start : (g : Geometry) (places : ℕ) → IsReach g (start_marks g) places None
+IsReach-start g places = record { high = high_frame-start g; cursor = grind (arith, nat_tests); floor = grind (arith, nat_tests); none = λ none_left. refl }
+
+-- and after an add
+pub IsReach-added : (g : Geometry) (m : Marks) (places : ℕ) (last : Option ℕ) (f c : ℕ) → IsReach g m places last → 0 < places → c < g.channels → first_frame g ≤ f
+    → IsReach g (added_at g m f c) places (greater last (Some f))
+IsReach-added g m places last f c is placed channel low =
+    let here : f + 1 ≤ free_from g (greater last (Some f)) = has last in
+    record {
+      high = high_frame-added g m f c channel low ∙ ap (λ o. greater o (Some f)) is.high;
+      cursor = omega (arith, behind_free, here);
+      floor = floor_by (is_before m.cursor m.high);
+      none = λ none_left. absurd (omega (arith, none_left, placed));
+    }
+  where
+    behind_free : first_free (behind g f c) 0 ≤ f + 1
+    behind_free = grind (arith, nat_tests)
+
+    grows : (o : Option ℕ) → free_from g o ≤ free_from g (greater o (Some f))
+    grows None = omega (arith, low)
+    grows (Some l) = omega arith
+
+    has : (o : Option ℕ) → f + 1 ≤ free_from g (greater o (Some f))
+    has None = omega arith
+    has (Some l) = omega arith
+
+    floor_by : (before : Bool) → IsFrom (if before then m.high else m.floor) (free_from g (greater last (Some f))) 0
+    floor_by true = omega (arith, high_free g m last is.high, grows last)
+    floor_by false = omega (arith, is.floor, grows last)
+
+-- and after a withdrawal in a frame that was laid in before
+pub IsReach-withdrawn : (g : Geometry) (m : Marks) (places : ℕ) (last : Option ℕ) (f c : ℕ) → IsReach g m places last → greater last (Some f) ≡ last
+    → IsReach g (withdrawn_at m f c) places (greater last (Some f))
+IsReach-withdrawn g m places last f c is had = record {
+  high = is.high ∙ sym had;
+  cursor = subst (λ o. IsFrom (record { frame = f; channel = c }) (free_from g o) 0) (sym had) (below last had);
+  floor = subst (λ o. IsFrom m.floor (free_from g o) 0) (sym had) is.floor;
+  none = λ none_left. had ∙ is.none none_left;
+}
+  where
+    by_frame : {l : ℕ} → max l f ≡ l → IsFrom (record { frame = f; channel = c }) (l + 1) 0
+    by_frame is = grind (arith, nat_tests, is)
+
+    below : (o : Option ℕ) → greater o (Some f) ≡ o → IsFrom (record { frame = f; channel = c }) (free_from g o) 0
+    below None has = absurd (none-some f (sym has))
+    below (Some l) has = by_frame (same_Some (max l f) l has)
+
+-- and after a join
+pub IsReach-joined : (g : Geometry) (a b : Marks) (p q : ℕ) (l m : Option ℕ) → IsReach g a p l → IsReach g b q m
+    → IsReach g (joined_marks a b q) (p + q) (greater l m)
+IsReach-joined g a b p q l m first second =
+    let high : high_frame g (joined_marks a b q) ≡ greater l m = high_frame-joined g a b q l m first.high second.high second.none in
+    record {
+      high = high;
+      cursor = cursor_by q high second.none;
+      floor = floor_by q high second.none;
+      none = λ none_left. ap (λ o. greater o m) (first.none (omega (arith, none_left))) ∙ second.none (omega (arith, none_left));
+    }
+  where
+    alone : (m ≡ None) → greater l m ≡ l
+    alone none = ap (greater l) none ∙ greater_none l
+
+    cursor_by : (n : ℕ) → high_frame g (joined_marks a b n) ≡ greater l m → (n ≡ 0 → m ≡ None) → IsFrom (joined_marks a b n).cursor (free_from g (greater l m)) 0
+    cursor_by zero high none = subst (λ o. IsFrom a.cursor (free_from g o) 0) (sym (alone (none refl))) first.cursor
+    cursor_by (suc n) high none = high_free g (joined_marks a b (suc n)) (greater l m) high
+
+    floor_by : (n : ℕ) → high_frame g (joined_marks a b n) ≡ greater l m → (n ≡ 0 → m ≡ None) → IsFrom (joined_marks a b n).floor (free_from g (greater l m)) 0
+    floor_by zero high none = subst (λ o. IsFrom a.floor (free_from g o) 0) (sym (alone (none refl))) first.floor
+    floor_by (suc n) high none = high_free g (joined_marks a b (suc n)) (greater l m) high

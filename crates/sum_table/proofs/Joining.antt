@@ -32,7 +32,7 @@ use Rattle.sum_table.specs.Players.{player_view, track_of}
 use Rattle.sum_table.specs.Seats.{view_of}
 use Rattle.sum_table.specs.Steps.{IsStep, Knows, Makes, learned, with_history}
 use Rattle.ring_rule.specs.Words.{index_of, rank}
-use Rattle.sum_table.proofs.Highs.{greater_none, high_frame-joined, high_frame-start}
+use Rattle.sum_table.proofs.Highs.{IsReach-joined, IsReach-start, greater_none}
 use Rattle.sum_table.proofs.Kept.{IsLaid-later}
 use Rattle.ring_rule.specs.Lists.{at_append}
 use Rattle.sum_table.proofs.Cuts.{joins, learns, splits}
@@ -68,7 +68,7 @@ known_without k places marks seen last v amount n is same has nothing = record {
   same_marks = is.same_marks;
   same_seen = is.same_seen;
   same_last = is.same_last;
-  is_last = record { high = is.is_last.high; none = λ none_left. sym is.same_last ∙ ap last_frame nothing };
+  reach_is = record { high = is.reach_is.high; cursor = is.reach_is.cursor; floor = is.reach_is.floor; none = λ none_left. sym is.same_last ∙ ap last_frame nothing };
   lasts = is.lasts;
   untracked = is.untracked;
   noted = record { room = is.noted.room; words = is.noted.words };
@@ -88,7 +88,7 @@ known_part k v amount n seen same_key same_seen noted seen_within same most = re
   same_marks = ap (λ (x : Key). start_marks x.geometry) same_key;
   same_seen = same_seen;
   same_last = refl;
-  is_last = record { high = high_frame-start k.geometry; none = λ none_left. refl };
+  reach_is = IsReach-start k.geometry n;
   lasts = refl;
   untracked = refl;
   noted = record { room = noted.room; words = noted.words };
@@ -136,10 +136,7 @@ known_joined k p q a b s t l m v w slots n x r first second both told =
       same_marks = ap (λ y. joined_marks y w.marks w.places) first.same_marks ∙ (ap (λ y. joined_marks a y w.places) second.same_marks ∙ ap (joined_marks a b) second.same_places);
       same_seen = omega (arith, first.same_seen, second.same_seen);
       same_last = last_frame-append v.laid w.laid ∙ (ap (λ y. greater y (last_frame w.laid)) first.same_last ∙ ap (greater l) second.same_last);
-      is_last = record {
-        high = high_frame-joined k.geometry a b q l m first.is_last.high second.is_last.high second.is_last.none;
-        none = λ none_left. ap (λ o. greater o m) (first.is_last.none (omega (arith, none_left))) ∙ second.is_last.none (omega (arith, none_left));
-      };
+      reach_is = IsReach-joined k.geometry a b p q l m first.reach_is second.reach_is;
       lasts = first.lasts;
       untracked = ap (λ y. either_track y w.track) first.untracked ∙ second.untracked;
       noted = record { room = noted.room; words = noted.words };

@@ -27,12 +27,12 @@ use Rattle.sum_table.specs.declared.seats.mix.MixSeat.{MixSeat}
 use Rattle.sum_table.specs.declared.view.Key.{Key}
 use Rattle.sum_table.specs.declared.view.View.{View}
 use Rattle.sum_table.specs.Exact.{BeginsWith, Exact, IsLaid}
-use Rattle.sum_table.specs.Known.{IsKnown, IsLast, IsNoted, greater, last_frame}
+use Rattle.sum_table.specs.Known.{IsKnown, IsReach, IsNoted, greater, last_frame}
 use Rattle.sum_table.specs.Seats.{HasLaid, HasLocated, HasLost, HasNoted, MayLay, NotesRise, NotesRise-same, entry_by, view_of}
 use Rattle.sum_table.specs.Steps.{Finds, HoldsLast, IsStep, IsSumOf, IsWord, Lays, Makes, MakesLook, Notes, exchanged, in_row, located, looked, with_entry, with_note, with_position}
 use Rattle.ring_rule.specs.Words.{NotPast, index_of}
 use Rattle.sum_table.proofs.Keeps.{MayPut, exchanges, locates, looks, may_put}
-use Rattle.sum_table.proofs.Highs.{high_frame-added, last_frame-has}
+use Rattle.sum_table.proofs.Highs.{IsReach-added, IsReach-withdrawn, last_frame-has}
 use Rattle.sum_table.proofs.Kept.{IsHeldAt, IsLaid-later, held_each, held_laid, laid_more}
 use Rattle.ring_rule.specs.NoteLaws.{noted_set}
 use Rattle.std.proofs.lemmas.Bool.Decides.{nat_tests}
@@ -77,7 +77,7 @@ known_noted k places marks seen last v h i n is word = record {
   same_marks = is.same_marks;
   same_seen = is.same_seen;
   same_last = is.same_last;
-  is_last = is.is_last;
+  reach_is = is.reach_is;
   lasts = is.lasts;
   untracked = is.untracked;
   noted = IsNoted-more v (with_note v h i n) k i n refl is.noted (subst (λ (x : Key). IsWord n x.places) is.same_key word);
@@ -105,7 +105,7 @@ known_located k places marks seen last slots n m r is told =
       same_marks = is.same_marks;
       same_seen = sym frame;
       same_last = is.same_last;
-      is_last = is.is_last;
+      reach_is = is.reach_is;
       lasts = is.lasts;
       untracked = is.untracked;
       noted = record { room = is.noted.room; words = is.noted.words };
@@ -383,23 +383,20 @@ leaves k v e key within laid may = by_kind e.kind refl may where
 -- the greatest frame after an entry was laid: a withdrawal is in a frame that was laid in before
 last_laid : (k : Key) (places : ℕ) (marks : Marks) (seen : ℕ) (last : Option ℕ) (v : View) (e : Entry)
     → IsKnown v k places marks seen last → may_put e.kind v e.frame e.channel e.sample → IsLaid k.geometry v.seen e
-    → IsLast k.geometry (marks_after k.geometry marks e) places (greater last (Some e.frame))
+    → IsReach k.geometry (marks_after k.geometry marks e) places (greater last (Some e.frame))
 last_laid k places marks seen last v e is may in_ring = by_kind e.kind may where
   Goal : Kind → Type 0
-  Goal kind = IsLast k.geometry (marked kind k.geometry marks e.frame e.channel) places (greater last (Some e.frame))
+  Goal kind = IsReach k.geometry (marked kind k.geometry marks e.frame e.channel) places (greater last (Some e.frame))
 
   by_kind : (kind : Kind) → may_put kind v e.frame e.channel e.sample → Goal kind
-  by_kind Added may = record {
-    high = high_frame-added k.geometry marks e.frame e.channel in_ring.channel in_ring.low ∙ ap (λ o. greater o (Some e.frame)) is.is_last.high;
-    none = λ none_left. absurd (omega (arith, none_left, is.same_places, may.3));
-  }
+  by_kind Added may = IsReach-added k.geometry marks places last e.frame e.channel is.reach_is (omega (arith, is.same_places, may.3)) in_ring.channel in_ring.low
   by_kind Withdrawn may =
       let held : IsHeldAt k.geometry v.laid v.marks e.frame e.channel e.sample = record { early = may.early; last = may.last; ends = may.ends; frame = may.frame; channel = may.channel; sample = may.sample; from_floor = may.from_floor } in
       let had : greater (last_frame v.laid) (Some may.last.frame) ≡ last_frame v.laid =
       held_each (λ (a : Entry). greater (last_frame v.laid) (Some a.frame) ≡ last_frame v.laid) k.geometry v.laid v.marks e.frame e.channel e.sample (last_frame-has v.laid) held in
       let kept : greater last (Some e.frame) ≡ last =
       ap (λ o. greater o (Some e.frame)) (sym is.same_last) ∙ (ap (λ f. greater (last_frame v.laid) (Some f)) (sym may.frame) ∙ (had ∙ is.same_last)) in
-      record { high = is.is_last.high ∙ sym kept; none = λ none_left. kept ∙ is.is_last.none none_left }
+      IsReach-withdrawn k.geometry marks places last e.frame e.channel is.reach_is kept
 
 -- the fields after an entry was laid
 pub known_laid : (k : Key) (places : ℕ) (marks : Marks) (seen : ℕ) (last : Option ℕ) (v : View) (h : List Row) (e : Entry)
@@ -417,7 +414,7 @@ known_laid k places marks seen last v h e is may =
       same_marks = same;
       same_seen = is.same_seen;
       same_last = last_frame-append v.laid (e ∷ []) ∙ ap (λ x. greater x (Some e.frame)) is.same_last;
-      is_last = last_laid k places marks seen last v e is may left.laid;
+      reach_is = last_laid k places marks seen last v e is may left.laid;
       lasts = is.lasts;
       untracked = is.untracked;
       noted = record { room = is.noted.room; words = is.noted.words };

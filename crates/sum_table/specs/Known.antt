@@ -1,12 +1,12 @@
 -- What the fields of a seat say of its view.
-use Rattle.std.specs.Prelude.{◌≡◌, ℕ, ◌<◌, ◌≤◌, Bool, true, false, Option, None, Some, List, [], ◌∷◌, ◌==◌, ◌&&◌, length, max}
+use Rattle.std.specs.Prelude.{◌≡◌, ℕ, ◌+◌, ◌<◌, ◌≤◌, Bool, true, false, Option, None, Some, List, [], ◌∷◌, ◌==◌, ◌&&◌, length, max}
 use Rattle.std.specs.List.{list_any, slice_index_or}
 use mathlib.Core.Option.{some}
 use lib.ListN.{get_elem?}
 use Rattle.atomic_table.specs.Seated.{TableId}
 use Rattle.snd_base.specs.declared.geometry.Geometry.{Geometry}
 use Rattle.snd_base.specs.declared.places.Cursor.{Cursor}
-use Rattle.snd_base.specs.Places.{IsWithin}
+use Rattle.snd_base.specs.Places.{IsFrom, IsWithin, first_frame}
 use Rattle.mix_core.specs.declared.marks.Marks.{Marks}
 use Rattle.mix_core.specs.declared.port.Entry.{Entry}
 use Rattle.mix_core.specs.Marks.{high_frame}
@@ -37,9 +37,17 @@ pub record IsNoted (v : View) (k : Key) : Type 0 where
   pub room : length v.noted ≡ words_of k.geometry
   pub words : (i n : ℕ) → slice_index_or v.noted i None ≡ Some n → IsWord n k.places
 
--- the greatest frame that a seat laid in is the last one before its high, and a seat without a place laid nothing
-pub record IsLast (g : Geometry) (marks : Marks) (places : ℕ) (last : Option ℕ) : Type 0 where
+-- the frame after the greatest one that was laid in, and the first frame where nothing was laid
+abbrev pub free_from : Geometry → Option ℕ → ℕ
+free_from g None = first_frame g
+free_from g (Some frame) = frame + 1
+
+-- the greatest frame that a seat laid in is the last one before its high; its cursor and its floor aren't past the frame after it; and a
+-- seat without a place laid nothing
+pub record IsReach (g : Geometry) (marks : Marks) (places : ℕ) (last : Option ℕ) : Type 0 where
   pub high : high_frame g marks ≡ last
+  pub cursor : IsFrom marks.cursor (free_from g last) 0
+  pub floor : IsFrom marks.floor (free_from g last) 0
   pub none : places ≡ 0 → last ≡ None
 
 -- a mix seat's fields are those of its view
@@ -49,7 +57,7 @@ pub record IsKnown (v : View) (k : Key) (places : ℕ) (marks : Marks) (seen : �
   pub same_marks : v.marks ≡ marks
   pub same_seen : v.seen ≡ seen
   pub same_last : last_frame v.laid ≡ last
-  pub is_last : IsLast k.geometry marks places last
+  pub reach_is : IsReach k.geometry marks places last
   pub lasts : v.ended ≡ false
   pub untracked : v.track ≡ None
   pub noted : IsNoted v k

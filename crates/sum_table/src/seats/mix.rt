@@ -40,7 +40,7 @@ impl MixSeat<'_> {
     ghost use Rattle.snd_base.specs.Places.{IsFrom, end_frame, lap};
     ghost use Rattle.lap_word.specs.Word.{lap_of};
     ghost use Rattle.mix_core.specs.Laid.{a_withdrawal, an_add};
-    ghost use Rattle.sum_table.specs.Known.{last_frame};
+    ghost use Rattle.sum_table.specs.Known.{free_from, last_frame};
     ghost use Rattle.mix_core.specs.Marks.{high_frame};
     ghost use Rattle.sum_table.specs.Seats.{CanAdd, HasLaid, HasLocated, HasLost, HasNoted, MayLay, SeatEndsIn, cursor_of_seat, entry_by, geometry_of, history_of, last_of_seat, marks_of_seat, member_of, places_of_seat, seen_of, shown, view_of};
     ghost use Rattle.ring_rule.specs.Spots.{IsSpot};
@@ -54,11 +54,14 @@ impl MixSeat<'_> {
         self.places
     }
 
-    /// The greatest frame that the seat laid in, or took over from a seat that was joined into it: the last one before its high.
+    /// The greatest frame that the seat laid in, or took over from a seat that was joined into it: the last one before its high. Neither the
+    /// cursor nor the floor is past the frame after it, or past the first frame where nothing was laid.
     pub fn last(&self) -> Option<u64>
         ensures value { result ≡ last_of_seat self.now }
         ensures of_view { result ≡ last_frame (view_of self.now).laid }
         ensures before_high { result ≡ high_frame (geometry_of self.now) (marks_of_seat self.now) }
+        ensures cursor_free { IsFrom (marks_of_seat self.now).cursor (free_from (geometry_of self.now) result) 0 }
+        ensures floor_free { IsFrom (marks_of_seat self.now).floor (free_from (geometry_of self.now) result) 0 }
         ensures before_end { IfSome result (λ frame. frame < end_frame (geometry_of self.now)) }
     {
         self.reach.last()

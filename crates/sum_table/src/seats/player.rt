@@ -26,7 +26,7 @@ pub struct PlayerSeat<'a> {
 impl PlayerSeat<'_> {
     ghost use Rattle.std.specs.Prelude.{◌≡◌, ◌<◌, ◌↔◌, IfOk, IfErr, OnErr, IsErrOf};
     ghost use Rattle.snd_base.specs.Places.{IsWithin, lap};
-    ghost use Rattle.sum_table.specs.Exact.{next_at};
+    ghost use Rattle.sum_table.specs.Exact.{next_at, position_at};
     ghost use Rattle.sum_table.specs.Players.{HasPublished, HasTaken, HasUnplugged, next_of_player, player_geometry, position_of_player, track_of};
 
     /// The geometry of the ring.
@@ -38,7 +38,9 @@ impl PlayerSeat<'_> {
 
     /// The position that it published last, a frame number, or the number of the first frame.
     pub fn position(&self) -> u64
-        ensures { result ≡ position_of_player self.now }
+        ensures value { result ≡ position_of_player self.now }
+        ensures published_last { result ≡ position_at (player_geometry self.now) (track_of self.now) }
+        ensures within { IsWithin (player_geometry self.now) result }
     {
         self.position
     }

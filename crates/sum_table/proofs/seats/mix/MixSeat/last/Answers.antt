@@ -1,7 +1,8 @@
 use Rattle.std.proofs.Common.{◌<◌, Option, ℕ, IfSome, arith, subst, sym, ◌∙◌}
-use Rattle.snd_base.specs.Places.{end_frame}
+use Rattle.snd_base.specs.Places.{IsFrom, end_frame}
 use Rattle.mix_core.specs.declared.port.Entry.{Entry}
 use Rattle.sum_table.specs.declared.seats.mix.MixSeat.{MixSeat}
+use Rattle.sum_table.specs.Known.{free_from}
 use Rattle.sum_table.proofs.Seated.{last_frame-before}
 use Rattle.sum_table.proofs.seats.mix.MixSeat.last.Goals as goal
 use Rattle.snd_base.specs.PlaceLaws.{suc-le-end_frame}
@@ -13,4 +14,14 @@ returns-clause-before_end c =
     (last_frame-before s.seat.me.0.laid (end_frame s.key.geometry) (λ i e there. let fits = suc-le-end_frame s.key.geometry e.frame (s.known.laid i e there).fits in omega (arith, fits)))
 
 pub returns-clause-before_high : goal.returns-clause-before_high
-returns-clause-before_high c = c.last.ensures ∙ sym c.args.self.now.known.is_last.high
+returns-clause-before_high c = c.last.ensures ∙ sym c.args.self.now.known.reach_is.high
+
+pub returns-clause-cursor_free : goal.returns-clause-cursor_free
+returns-clause-cursor_free c =
+    let s : MixSeat = c.args.self.now in
+    subst (λ (o : Option ℕ). IsFrom s.reach.marks.cursor (free_from s.key.geometry o) 0) (sym c.last.ensures) s.known.reach_is.cursor
+
+pub returns-clause-floor_free : goal.returns-clause-floor_free
+returns-clause-floor_free c =
+    let s : MixSeat = c.args.self.now in
+    subst (λ (o : Option ℕ). IsFrom s.reach.marks.floor (free_from s.key.geometry o) 0) (sym c.last.ensures) s.known.reach_is.floor
