@@ -1,4 +1,4 @@
-use Rattle.std.proofs.Common.{◌≡◌, ◌∙◌, None, Option, Some, ap, set, subst, sym}
+use Rattle.std.proofs.Common.{◌≡◌, ◌∙◌, Option, None, Some, ap, set, subst, sym}
 use Rattle.sum_table.specs.declared.seats.mix.MixSeat.{MixSeat}
 use Rattle.sum_table.specs.Seats.{key_of, ring_of}
 use Rattle.lobby.specs.declared.lobby.Lobby.{Lobby}
@@ -16,12 +16,11 @@ pub invariant_of-self : goal.invariant_of-self
 invariant_of-self c =
     let l : Lobby = c.args.self.now in
     let place : lowest_silent c.args.position l.seats.items ≡ Some c.in-Some.place = sym (c.in-Some.ensures ∙ ap (lowest_silent c.args.position) c.as_slice.ensures.value) in
-    let taken : ArePlaces (ring_of l.base) (key_of l.base) (set l.seats.items c.in-Some.place None) =
-    ArePlaces-taken (ring_of l.base) (key_of l.base) l.seats.items c.in-Some.place (silent-found c.args.position l.seats.items c.in-Some.place place).0 l.placed in
     record {
       no_places = l.no_places;
       laid_nothing = l.laid_nothing;
-      placed = subst (λ (o : Option MixSeat). ArePlaces (ring_of l.base) (key_of l.base) (set l.seats.items c.in-Some.place o)) (sym c.take.ensures.after) taken;
+      placed = subst (λ (o : Option MixSeat). ArePlaces (ring_of l.base) (key_of l.base) (set l.seats.items c.in-Some.place o)) (sym c.take.ensures.after)
+          (ArePlaces-taken (ring_of l.base) (key_of l.base) l.seats.items c.in-Some.place (silent-found c.args.position l.seats.items c.in-Some.place place).0 l.placed);
     }
 
 pub returns-clause-outcome : goal.returns-clause-outcome
