@@ -145,8 +145,8 @@ fn put_node(
     }
 }
 
-/// Puts an item's text, or a group where it has none, down the parts of its key. Where a node of the other kind is at their
-/// end, it refuses with `Kind`.
+/// Puts an item's text, or a group where it has none, down the parts of its key. Where a node of the other kind is at
+/// their end, it refuses with `Kind`.
 #[cycle(put)]
 pub fn put(
     alloc: Global,

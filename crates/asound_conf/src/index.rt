@@ -15,15 +15,16 @@ use std::collections::HashMap;
 /// A group of fewer names has no index.
 const FEWEST: usize = 16;
 
-/// Where the nodes of a group can be: for each name a number of the group's first items, behind which no item has the name.
+/// Where the nodes of a group can be: for each name a number of the group's first items, behind which no item has
+/// the name.
 #[derive(Debug, Drop)]
 pub(crate) enum Index {
     /// All items can have the name. A group of few names has no more.
     Few,
-    /// Each name is the decimal text of a number that is below this one, and not below the name's place. So it is in a group whose names
-    /// are 0, 1 and so on, as those of `[ ]`.
+    /// Each name is the decimal text of a number that is below this one, and not below the name's place. So it is in
+    /// a group whose names are 0, 1 and so on, as those of `[ ]`.
     Numbers(usize),
-    /// The number of items by the hashes of their names.
+    /// The number of items for each hash of a name. A hash that isn't here is no item's.
     Hashes(Box<HashMap<u64, usize>>),
 }
 
@@ -74,11 +75,12 @@ fn number_bound(next: usize, name: &[u8]) -> usize
     }
 }
 
-/// Whether a name is the decimal text of this number.
-fn is_number(name: &[u8], number: usize) -> bool
-    ensures { IsTrue result → number_named name.now ≡ Some number }
+/// Whether a name is the decimal text of this number, and so many items are there.
+fn is_next(number: usize, items: &[(ConfText, Node)], name: &[u8]) -> bool
+    ensures count { IsTrue result → length items.now ≡ number }
+    ensures name { IsTrue result → number_named name.now ≡ Some number }
 {
-    number_named(name) == Some(number as u64)
+    items.len() == number && number_named(name) == Some(number as u64)
 }
 
 impl Index {
@@ -111,9 +113,7 @@ impl Index {
             → IsIndex (Numbers next) (items.now ++ (name.now, node) ∷ [])) }
     {
         match self {
-            Index::Numbers(next) if *next == items.len() && is_number(name, *next) => Some(
-                *next + 1,
-            ),
+            Index::Numbers(next) if is_next(*next, items, name) => Some(*next + 1),
             _ => None,
         }
     }
