@@ -307,8 +307,7 @@ module _ {S T : Type 0} (P : mixport.Ghosts S) (G : gates.Ghosts T) (laid_compos
   start-kept s t c ring state a sound waits leads near port takes =
       let all : c.stretch.written + 0 ≡ c.stretch.written = add-zero c.stretch.written in
       let begun = starts-kept s t c ring state 0 a sound waits leads (omega (arith, (sound.prepared waits).fits)) near port (subst (λ (n : ℕ). TakesAt P G s (starts c state (P.view s.0).marks.cursor n ring) t a) (sym all) takes) in
-      let k = begun.keeps in
-      (
+      let k = begun.keeps in (
         subst (λ (d : Plain). Keeps P G s t (client c ring) (client d ring) a.1 AnySamples) (accepted-none a) (record {
           sound = k.sound;
           port = k.port;
