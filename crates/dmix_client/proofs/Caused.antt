@@ -176,10 +176,6 @@ pub record IsPlain (gone : Bool) (over : Option (ℕ × ℕ)) (e : Ended) : Type
   pub here : gone ≡ true → e ≡ ended.Whole
   pub below : (a f : ℕ) → over ≡ Some (a, f) → e ≡ ended.Whole
 
-first-true : (a b : Bool) (n : ℕ) → a ≡ true → (if a || b then 0 else n) ≡ 0
-first-true true b n is = refl
-first-true false b n is = absurd (cc)
-
 last-true : (a b : Bool) (n : ℕ) → b ≡ true → (if a || b then 0 else n) ≡ 0
 last-true true b n is = refl
 last-true false true n is = refl
@@ -193,7 +189,7 @@ IsPlain-synced c position x is =
     let whole : sync_count c position ≡ 0 → x.ended ≡ ended.Whole =
     λ none. (none-of x.ended x.frames x.part (length c.setup.bindings) (subst (λ (n : ℕ). IsCommit x.ended x.frames x.part n (length c.setup.bindings)) none is)).2 in
     record {
-      here = λ h. whole (first-true position.gone (is_some over) count h);
+      here = λ h. whole (rw h refl);
       below = λ a f h. whole (last-true position.gone (is_some over) count (ap (λ (o : Option (ℕ × ℕ)). is_some o) h));
     }
 

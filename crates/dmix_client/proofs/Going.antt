@@ -1,7 +1,7 @@
 -- What an answer says: that the client goes on, that the gate stopped it, or that a drain is to be made again.
 use Rattle.std.proofs.Common.{refl, subst, sym, ℕ, ◌+◌, ◌≡◌}
 use Rattle.std.specs.Prelude.{Bool, Err, None, Ok, OnOk, Option, Result, Some, false, if◌then◌else◌, true, ◌↔◌}
-use Rattle.course.specs.Stops.{CountsStop, pass_by, pass_in}
+use Rattle.course.specs.Stops.{CountsStop, pass_by}
 use Rattle.mix_core.specs.declared.gate.Pass.TheVariants.{Go}
 use Rattle.mix_core.specs.declared.port.Ended.TheVariants as ended
 use Rattle.mix_core.specs.declared.port.Ended.{Ended}
@@ -47,21 +47,15 @@ accepted_if-told n (c, Ok done) before after told = told
 accepted_if-told n (c, Err e) before after told = told
 
 -- a refusal of the state table is no stop of the gate
-go-of : (e : PcmError) → is_refusal e ≡ true → pass_in e ≡ Go
-go-of error.BadState is = refl
-go-of error.NoDevice is = refl
-go-of error.NotSupported is = refl
-go-of (error.Xrun why.Already) is = refl
-go-of e is = absurd (cc)
-
-go-if : (e : PcmError) (b : Bool) → is_refusal e ≡ b → pass_by (refused_by (if b then Some e else None)) ≡ Go
-go-if e true is = go-of e is
-go-if e false is = refl
+go-in : (e : PcmError) → pass_by (refused_by (if is_refusal e then Some e else None)) ≡ Go
+go-in (error.Xrun why.Already) = refl
+go-in (error.Xrun w) = refl
+go-in e = refl
 
 go-by : (stopped : Bool) (r : Result (Unit {0}) PcmError) → stopped ≡ false → pass_by (refused_by (let o : Option PcmError = (if stopped then Some error.Stopped else refusal_in r) in o)) ≡ Go
 go-by true r is = absurd (cc)
 go-by false (Ok done) is = refl
-go-by false (Err e) is = go-if e (is_refusal e) refl
+go-by false (Err e) is = go-in e
 
 pub refused-go : (c : Plain) (call : Call) → c.status.stopped ≡ false → pass_by (refused_by (refusal_of Playback c.status call)) ≡ Go
 refused-go c call unstopped = go-by c.status.stopped (next_of c.status.state call (nothing_found Playback)).answer unstopped

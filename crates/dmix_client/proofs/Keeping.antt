@@ -67,25 +67,22 @@ loaded-of c v position moves going port newer within =
 pub IsSamePort-refl : (v : PortView) → IsSamePort v v
 IsSamePort-refl v = record { same_geometry = refl; same_member = refl; same_can_add = refl }
 
-IsSound-ring : (c : Plain) (ring new : List ℤ) → IsSound c ring → length new ≡ length ring → IsSound c new
-IsSound-ring c ring new sound same = record {
-  lead = sound.lead;
-  seen = sound.seen;
-  card = sound.card;
-  fed = sound.fed;
-  laid = sound.laid;
-  set_up = sound.set_up;
-  configured = λ set. let k = sound.configured set in record { bound = k.bound; on_card = k.on_card; channels = k.channels; buffer_least = k.buffer_least; buffer_most = k.buffer_most; room = same ∙ k.room };
-  prepared = sound.prepared;
-  moving = sound.moving;
-  paused = sound.paused;
-}
-
 -- the counts of a client whose ring took frames
 pub IsSound-stored : (c : Plain) (ring samples : List ℤ) (m : ℕ) → IsSound c ring → IsConfigured c ring → m * length c.setup.bindings ≤ length samples → IsSound c (ring_with c ring samples m)
 IsSound-stored c ring samples m sound k held_all =
-    IsSound-ring c ring (ring_with c ring samples m) sound
-    ((stored-HasRoom c.setup.config.buffer_size (length c.setup.bindings) ring (c.stretch.source + c.stretch.written) samples m (record { some = k.buffer_least; room = k.room }) held_all).room ∙ sym k.room)
+    let has = stored-HasRoom c.setup.config.buffer_size (length c.setup.bindings) ring (c.stretch.source + c.stretch.written) samples m (record { some = k.buffer_least; room = k.room }) held_all in
+    record {
+      lead = sound.lead;
+      seen = sound.seen;
+      card = sound.card;
+      fed = sound.fed;
+      laid = sound.laid;
+      set_up = sound.set_up;
+      configured = λ set. record { bound = k.bound; on_card = k.on_card; channels = k.channels; buffer_least = k.buffer_least; buffer_most = k.buffer_most; room = has.room };
+      prepared = sound.prepared;
+      moving = sound.moving;
+      paused = sound.paused;
+    }
 
 taken-room : (n b w : ℕ) → w ≤ b → w + min n (min (b + 0 - w) b) ≤ b
 taken-room n b w fits = grind (arith, nat_tests)
@@ -307,8 +304,7 @@ module _ {S T : Type 0} (P : mixport.Ghosts S) (G : gates.Ghosts T) (laid_compos
   start-kept s t c ring state a sound waits leads near port takes =
       let all : c.stretch.written + 0 ≡ c.stretch.written = add-zero c.stretch.written in
       let begun = starts-kept s t c ring state 0 a sound waits leads (omega (arith, (sound.prepared waits).fits)) near port (subst (λ (n : ℕ). TakesAt P G s (starts c state (P.view s.0).marks.cursor n ring) t a) (sym all) takes) in
-      let k = begun.keeps in
-      (
+      let k = begun.keeps in (
         subst (λ (d : Plain). Keeps P G s t (client c ring) (client d ring) a.1 AnySamples) (accepted-none a) (record {
           sound = k.sound;
           port = k.port;
@@ -640,12 +636,6 @@ module _ {S T : Type 0} (P : mixport.Ghosts S) (G : gates.Ghosts T) (laid_compos
       let is = refusal_of-resume c admitted in
       subst (λ (b : Plain). Keeps P G s s (client b ring) (client (rebased c) ring) (let r : Result (Unit {0}) PcmError = Ok tt in r) AnySamples) (sym (base-anew c (rebased c) is refl))
       (Keeps-none P G laid_composes loaded_composes s (client (rebased c) ring) (Ok tt) AnySamples (IsSound-rebased c ring sound is) (CanUse-rebased c (P.view s.0) port) (λ unstopped. refl))
-
-  -- a call that was refused
-  pub refused-kept : (s : S × T) (c : Plain) (ring : List ℤ) (answer : Result (Unit {0}) PcmError) → Keeps P G s s (client c ring) (client c ring) answer AnySamples
-      → Keeps P G s s (client (base_of c c) ring) (client c ring) answer AnySamples
-  refused-kept s c ring answer keeps =
-      subst (λ (b : Plain). Keeps P G s s (client b ring) (client c ring) answer AnySamples) (sym (base-kept c c (λ is. is))) keeps
 
   -- a resume with pending frames
   resumed-by : (s t : S × T) (c : Plain) (ring : List ℤ) (cursor : Cursor) (load : Option Position) (commit : Commit) → IsSound c ring → c.status.state ≡ Paused → CanUse c (P.view s.0) → IsSamePort (P.view s.0) (P.view t.0)

@@ -1,5 +1,5 @@
 -- The calls take their courses, by what their parts took.
-use Rattle.std.proofs.Common.{◌∙◌, ◌≡◌, ℕ, ◌+◌, refl, sym, subst, List}
+use Rattle.std.proofs.Common.{◌∙◌, ◌≡◌, ℕ, refl, sym, subst, List}
 use Rattle.std.specs.Prelude.{ℤ, Ok, Result, false, true, Option, None, Some}
 use Rattle.snd_base.specs.declared.errors.PcmError.{PcmError}
 use Rattle.snd_base.specs.declared.places.Cursor.{Cursor}
@@ -17,8 +17,8 @@ use Rattle.dmix_client.specs.declared.commit.Commit.{Commit}
 use Rattle.dmix_client.specs.declared.plain.Plain.{Plain}
 use Rattle.pcm_stream.specs.Status.{is_moving, refusal_of, refused_by}
 use Rattle.pcm_stream.specs.declared.direction.Direction.TheVariants.{Playback}
-use Rattle.dmix_client.specs.Calls.{Answered, accepted_if, is_running, pending_of, rebased, resumed, start_count, started, started_in, sync_count, synced, taken_of, with_number, written_after}
-use Rattle.dmix_client.specs.Course.{admitted, admitted_by, commits, drain_on, drains, fills, looks, nothing, number_course, numbered, resumes, starts, starts_taking, syncs, takes_more, write_course, write_on, writes_on}
+use Rattle.dmix_client.specs.Calls.{Answered, is_running, pending_of, rebased, resumed, start_count, started, started_in, sync_count, synced, taken_of, with_number, written_after}
+use Rattle.dmix_client.specs.Course.{admitted, admitted_by, commits, drain_on, drains, fills, looks, nothing, number_course, numbered, resumes, starts, syncs, takes_more, write_course, write_on, writes_on}
 use Rattle.dmix_client.specs.Writes.{count_with, frames_in, ring_with}
 
 module _ {S T : Type 0} (P : mixport.Ghosts S) (G : gates.Ghosts T) where
@@ -93,12 +93,6 @@ module _ {S T : Type 0} (P : mixport.Ghosts S) (G : gates.Ghosts T) where
       → TakesAt P G s (syncs c call.Transfer ring) t synced → TakesAt P G t (write_on ring samples n synced) u done → TakesAt P G s (writes_on c ring samples n) u done
   unfolding writes_on
   writes_on-by s t u c ring samples n synced done one two = Takes-then (LoadsAt P G) (LaysAt P G) NoGet s t u (syncs c call.Transfer ring) (write_on ring samples n) synced done one two
-
-  pub starts_taking-by : (s t : S × T) (c : Plain) (ring : List ℤ) (cursor : Cursor) (taken : ℕ) (begun : Answered (Unit {0})) (done : Answered ℕ)
-      → TakesAt P G s (starts c Running cursor (c.stretch.written + taken) ring) t begun → accepted_if taken begun ≡ done → TakesAt P G s (starts_taking c ring cursor taken) t done
-  unfolding starts_taking
-  starts_taking-by s t c ring cursor taken begun done takes is =
-      Takes-map (LoadsAt P G) (LaysAt P G) NoGet s t (starts c Running cursor (c.stretch.written + taken) ring) (λ done. accepted_if taken done) begun done takes is
 
   -- the write of a client that runs
   pub write-running : (s t : S × T) (c : Plain) (ring samples : List ℤ) (cursor : Cursor) (n : ℕ) (done : Answered ℕ) → is_running c.status.state ≡ true → n ≡ frames_in c samples

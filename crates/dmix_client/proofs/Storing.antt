@@ -1,6 +1,7 @@
 -- For which samples a client stands after frames were stored in its local ring.
-use Rattle.std.proofs.Common.{◌≡◌, ℕ, ◌<◌, ◌≤◌, ◌+◌, ◌*◌, ◌%◌, List, refl, sym, ◌∙◌, ap, arith, inl, inr, length, get_or}
+use Rattle.std.proofs.Common.{◌++◌, take, drop, ◌≡◌, ℕ, ◌<◌, ◌≤◌, ◌+◌, ◌*◌, ◌%◌, List, refl, sym, ◌∙◌, ap, arith, inl, inr, length, get_or}
 use Rattle.std.proofs.Math.Nat.{mul-le-mul_right}
+use Rattle.std.proofs.Math.Seq.{take-append_seam}
 use Rattle.std.proofs.lemmas.Bool.{cases_lt}
 use Rattle.std.proofs.lemmas.Bool.Decides.{nat_tests}
 use Rattle.std.specs.Prelude.{ℤ, pos, ◌-◌, min}
@@ -49,3 +50,7 @@ StandsUpTo-written c ring samples offered n set held_all fits low stands follows
     let less : taken_of c n * length c.setup.bindings ≤ n * length c.setup.bindings = mul-le-mul_right (length c.setup.bindings) few.0 in
     StandsUpTo-stored c ring samples offered n (taken_of c n) set (omega (arith, less, held_all)) few.0 few.1
     (taken-near n c.setup.config.buffer_size c.stretch.written c.stretch.committed (hw_of c) (taken_of c n) refl fits low) stands follows
+
+-- all of a list that was written is what was written
+pub take-written : (n : ℕ) (xs old : List ℤ) → n ≡ length xs → take n (xs ++ drop (length xs) old) ≡ xs
+take-written n xs old is = ap (λ (k : ℕ). take k (xs ++ drop (length xs) old)) is ∙ take-append_seam xs (drop (length xs) old)

@@ -52,6 +52,9 @@ pub(crate) fn sync_call<P: MixPort, G: Gate>(
     ensures port { CanUse plain.new (P.view port.new) }
     ensures goes { OnOk result (IsGoing plain.new) }
     ensures same { KeepsAccepted plain.old plain.new }
+    ensures explains { Explains P.MixPort G.Gate (port.old, gate.old) (port.new, gate.new)
+        (record { plain = plain.old; ring = ring.now }) (λ position. plain.old)
+        (sync_count plain.old) (synced plain.old call) (plain.new, result) }
 {
     let found = look_and_commit(plain, ring, port, gate);
     let (after, answer) = synced(*plain, call, found.load, found.commit);

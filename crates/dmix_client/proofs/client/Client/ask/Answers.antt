@@ -8,10 +8,8 @@ use Rattle.dmix_client.specs.Course.{number_course}
 use Rattle.dmix_client.specs.Growth.{AnySamples, Keeps}
 use Rattle.dmix_client.specs.Port.{CanUse}
 use Rattle.dmix_client.specs.View.{ClientView}
-use Rattle.dmix_client.proofs.Caused.{step-sync}
-use Rattle.dmix_client.proofs.Keeping.{Explains-number, Keeps-none, Keeps-numbered, client, syncs-explained}
+use Rattle.dmix_client.proofs.Keeping.{Explains-number, Keeps-none, Keeps-numbered, client}
 use Rattle.dmix_client.proofs.Looking.{admitted-ok, number-moving}
-use Rattle.dmix_client.proofs.Sound.{configured-moving}
 use Rattle.dmix_client.proofs.client.Client.ask.Goals as goal
 
 pub returns-clause-takes : goal.returns-clause-takes
@@ -27,8 +25,7 @@ returns-clause-causes g c admitted moves =
     let plain = c.self.inside.plain in
     rw (← c.self.view_is, ← c.as_slice-ring.ensures.value) (Explains-number g.P.MixPort g.G.Gate g.met.P.MixPort.laid_composes g.met.P.MixPort.loaded_composes (c.args.port.now, c.args.gate.now) (c.sync_call-answer.new.port, c.sync_call-answer.new.gate) (client plain c.as_slice-ring.result.now) (λ position. plain) _
     (synced plain call.Sync) (number_of c.args.asked) (c.sync_call-answer.new.plain, c.sync_call-answer.result) (c.sync_call-answer.new.plain, c.with_number.result) c.with_number.ensures
-    (syncs-explained g.P.MixPort g.G.Gate g.met.P.MixPort.laid_composes g.met.P.MixPort.loaded_composes (c.args.port.now, c.args.gate.now) (c.sync_call-answer.new.port, c.sync_call-answer.new.gate) plain c.as_slice-ring.result.now call.Sync (c.sync_call-answer.new.plain, c.sync_call-answer.result)
-    (configured-moving plain c.self.inside.ring.items c.self.invariant (search rules)).bound (step-sync plain.status.state (search rules)) c.sync_call-answer.ensures.takes))
+    c.sync_call-answer.ensures.explains)
 
 pub returns-then-not-is_moving-clause-keeps : goal.returns-then-not-is_moving-clause-keeps
 returns-then-not-is_moving-clause-keeps g c =

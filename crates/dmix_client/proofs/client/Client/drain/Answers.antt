@@ -13,7 +13,7 @@ use Rattle.dmix_client.specs.Port.{CanUse}
 use Rattle.dmix_client.specs.View.{ClientView}
 use Rattle.dmix_client.proofs.Going.{refusal_of-unstopped}
 use Rattle.dmix_client.proofs.Sound.{configured-moving}
-use Rattle.dmix_client.proofs.Keeping.{client, dropped-kept, syncs-explained, syncs-still}
+use Rattle.dmix_client.proofs.Keeping.{client, dropped-kept, syncs-still}
 use Rattle.dmix_client.proofs.client.Client.drain.Goals as goal
 
 pub returns-then-is_moving-clause-keeps : goal.returns-then-is_moving-clause-keeps
@@ -32,12 +32,7 @@ returns-then-is_moving-clause-again g c admitted =
     (subst (λ (d : Plain). TakesAt g.P.MixPort g.G.Gate (c.args.port.now, c.args.gate.now) (syncs d call.Drain c.as_slice-ring.result.now) (c.sync_call.new.port, c.sync_call.new.gate) (c.sync_call.new.plain, c.sync_call.result)) c.draining-self-inside.ensures c.sync_call.ensures.takes)
 
 pub returns-then-is_moving-clause-causes : goal.returns-then-is_moving-clause-causes
-returns-then-is_moving-clause-causes g c admitted moves =
-    let plain = c.self.inside.plain in
-    let bound = (configured-moving plain c.self.inside.ring.items c.self.invariant (search rules)).bound in
-    rw (← c.self.view_is, ← c.as_slice-ring.ensures.value)
-    (syncs-explained g.P.MixPort g.G.Gate g.met.P.MixPort.laid_composes g.met.P.MixPort.loaded_composes (c.args.port.now, c.args.gate.now) (c.sync_call.new.port, c.sync_call.new.gate) (draining plain) c.as_slice-ring.result.now call.Drain (c.sync_call.new.plain, c.sync_call.result) bound tt
-    (subst (λ (d : Plain). TakesAt g.P.MixPort g.G.Gate (c.args.port.now, c.args.gate.now) (syncs d call.Drain c.as_slice-ring.result.now) (c.sync_call.new.port, c.sync_call.new.gate) (c.sync_call.new.plain, c.sync_call.result)) c.draining-self-inside.ensures c.sync_call.ensures.takes))
+returns-then-is_moving-clause-causes g c admitted moves = rw (← c.self.view_is, ← c.as_slice-ring.ensures.value, ← c.draining-self-inside.ensures) c.sync_call.ensures.explains
 
 pub returns-then-not-has_frames-clause-keeps : goal.returns-then-not-has_frames-clause-keeps
 returns-then-not-has_frames-clause-keeps g c =

@@ -9,20 +9,14 @@ use Rattle.dmix_client.specs.Calls.{base_of}
 use Rattle.dmix_client.specs.Growth.{AnySamples, Keeps}
 use Rattle.dmix_client.specs.Port.{CanUse}
 use Rattle.dmix_client.specs.View.{ClientView}
-use Rattle.dmix_client.proofs.Keeping.{client, paused-kept, rebased-kept, refused-kept}
+use Rattle.dmix_client.proofs.Keeping.{client, paused-kept, rebased-kept, base-kept}
 use Rattle.dmix_client.proofs.client.Client.pause.Goals as goal
 
 pub returns-in_err-admit-clause-keeps : goal.returns-in_err-admit-clause-keeps
-returns-in_err-admit-clause-keeps g c =
-    let v = c.args.self.now in
-    let k : Keeps g.P.MixPort g.G.Gate (c.args.port.now, c.args.gate.now) (c.args.port.now, c.args.gate.now) (client v.plain v.ring) (client v.plain v.ring) c.from_residual.result AnySamples = search rules in
-    refused-kept g.P.MixPort g.G.Gate g.met.P.MixPort.laid_composes g.met.P.MixPort.loaded_composes (c.args.port.now, c.args.gate.now) v.plain v.ring c.from_residual.result k
+returns-in_err-admit-clause-keeps g c = rw (base-kept c.args.self.now.plain c.args.self.now.plain (λ is. is)) (search rules)
 
 pub returns-in_err-admit-2-clause-keeps : goal.returns-in_err-admit-2-clause-keeps
-returns-in_err-admit-2-clause-keeps g c =
-    let v = c.args.self.now in
-    let k : Keeps g.P.MixPort g.G.Gate (c.args.port.now, c.args.gate.now) (c.args.port.now, c.args.gate.now) (client v.plain v.ring) (client v.plain v.ring) c.from_residual-in_err-admit-2.result AnySamples = search rules in
-    refused-kept g.P.MixPort g.G.Gate g.met.P.MixPort.laid_composes g.met.P.MixPort.loaded_composes (c.args.port.now, c.args.gate.now) v.plain v.ring c.from_residual-in_err-admit-2.result k
+returns-in_err-admit-2-clause-keeps g c = rw (base-kept c.args.self.now.plain c.args.self.now.plain (λ is. is)) (search rules)
 
 pub returns-then-on-clause-keeps : goal.returns-then-on-clause-keeps
 returns-then-on-clause-keeps g c =

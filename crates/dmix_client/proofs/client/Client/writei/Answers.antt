@@ -14,7 +14,7 @@ use Rattle.dmix_client.specs.Writes.{frames_in, starts_with}
 use Rattle.dmix_client.proofs.Going.{refused-go}
 use Rattle.dmix_client.proofs.Keeping.{Keeps-none}
 use Rattle.dmix_client.proofs.Looking.{admitted-ok, write-prepared, write-running}
-use Rattle.dmix_client.proofs.Rings.{take-written}
+use Rattle.dmix_client.proofs.Storing.{take-written}
 use Rattle.dmix_client.proofs.client.Client.writei.Goals as goal
 
 err-go : (r : Result ℕ PcmError) (e : PcmError) → pass_in e ≡ Go → IsErrAnd r (λ f. f ≡ e) → pass_by r ≡ Go
