@@ -234,9 +234,6 @@ free-at c position here none = record {
   below = λ a f h. let is = some-of c position a f h.1 h.2 h.3 h.4 in let no = none h.1 in cc;
 }
 
-free-waiting : (c : Plain) (position : Position) → position.gone ≡ false → c.status.state ≡ Prepared → IsFree c (Some position)
-free-waiting c position here waits = free-at c position here (λ runs. absurd (cc))
-
 module _ {S : Type 0} (view : S → PortView) (shows : S → ℕ → ℕ → Option ℕ) (q : S) where
   pub IsCaused-plain : (c : Plain) (call : Call) (load : Option Position) (x : Commit) → IsStep c.status.state call → IfSome load (λ position. IsPlain position.gone (over_of (seen_at c position) position) x.ended)
       → IfSome load (λ position. OnLate x.ended (λ word. IsPast view shows q (end_of_commit c x) (end_channel c x) word))
@@ -278,9 +275,9 @@ module _ {S : Type 0} (view : S → PortView) (shows : S → ℕ → ℕ → Opt
   IsCaused-started c state cursor (Some position) x waits shown =
       started-ends (λ (a : Answered (Unit {0})). IsCaused {X = Unit {0}} view shows q c a.0 (Some position) a.1) c state cursor position x
       (λ gone. caused-gone view shows q c _ position gone)
-      (λ here stop. caused-other view shows q c _ (Some position) (Err Stopped) (free-waiting c position here waits) other-stopped)
-      (λ w here going is. caused-late view shows q c (started_in c Running position cursor) _ (Some position) x w (free-waiting c position here waits) refl refl is shown)
-      (λ here going in_time. caused-other view shows q c _ (Some position) _ (free-waiting c position here waits) (other-ok tt))
+      (λ here stop. caused-other view shows q c _ (Some position) (Err Stopped) (free-at c position here (λ runs. absurd (cc))) other-stopped)
+      (λ w here going is. caused-late view shows q c (started_in c Running position cursor) _ (Some position) x w (free-at c position here (λ runs. absurd (cc))) refl refl is shown)
+      (λ here going in_time. caused-other view shows q c _ (Some position) _ (free-at c position here (λ runs. absurd (cc))) (other-ok tt))
 
   -- ---- a write behind its sync
 

@@ -2,14 +2,14 @@
 use Rattle.std.proofs.Common.{add-zero, ap, arith, inl, inr, length, refl, sym, zero-add, ℕ, ◌*◌, ◌++◌, ◌+◌, ◌<◌, ◌∙◌, ◌≡◌, ◌≤◌}
 use Rattle.std.proofs.lemmas.Bool.Decides.{nat_tests}
 use Rattle.std.proofs.lemmas.Bool.{cases_eq}
-use Rattle.std.specs.Prelude.{Err, List, Ok, false, min, ℤ}
+use Rattle.std.specs.Prelude.{unwrap_or, Err, List, Ok, min, ℤ}
 use Rattle.bindings.specs.Bound.{AreBindings}
 use Rattle.mix_core.specs.declared.port.Entry.{Entry}
 use Rattle.pcm_states.specs.declared.states.State.TheVariants.{Prepared}
 use Rattle.pcm_stream.specs.declared.status.Status.{Status}
-use Rattle.dmix_client.proofs.Sound.{CommitsAs, after, configured-prepared, least-after, used-within}
+use Rattle.dmix_client.proofs.Sound.{CommitsAs, after, configured-prepared, count-below, min-later, used-below}
 use Rattle.dmix_client.proofs.Storing.{StandsUpTo-written}
-use Rattle.dmix_client.specs.Calls.{Answered, accepted_if, taken_of}
+use Rattle.dmix_client.specs.Calls.{window_end, Answered, accepted_if, taken_of}
 use Rattle.dmix_client.specs.Expansion.{run_entries, sample_at}
 use Rattle.dmix_client.specs.ExpansionLaws.{run_entries-append, run_entries-same}
 use Rattle.dmix_client.specs.Growth.{Follows, StandsFor, StandsUpTo, segment_entries}
@@ -22,7 +22,7 @@ use Rattle.dmix_client.specs.declared.plain.Plain.{Plain}
 pub StandsFor-after : (c b : Plain) (ring samples : List ℤ) (x : Commit) (count upto : ℕ) (s : Status) (written fed : ℕ) → CommitsAs c b ring x count upto → written ≤ upto → StandsUpTo c ring samples upto
     → StandsFor (after c b x s written fed) ring samples
 StandsFor-after c b ring samples x count upto s written fed y few stands j q low high in_range =
-    stands j q (omega (arith, low, least-after c b ring x count upto y)) (omega (arith, high, few)) in_range
+    stands j q (omega (arith, low, min-later c.stretch.committed (hw_of c) x.frames (hw_of b) y.later)) (omega (arith, high, few)) in_range
 
 -- whole frames that stand elsewhere are the same where there are none
 whole-at : (member : ℕ) (bindings : List ℕ) (s : ℕ → ℕ → ℤ) (card at n part : ℕ) → part ≡ 0 → (0 < n → at ≡ card)
@@ -46,10 +46,12 @@ pub segment_entries-after : (c b : Plain) (ring samples : List ℤ) (x : Commit)
     → segment_entries (after c b x s written fed) samples ≡ segment_entries c samples ++ laid_at c b ring x
 segment_entries-after c b ring samples x count upto s written fed y bound stands =
     let sample : ℕ → ℕ → ℤ = λ j. sample_at samples (length c.setup.bindings) (c.stretch.source + j) in
+    let below = count-below upto (window_end c.identity.geometry (unwrap_or b.seen 0)) b.stretch.card c.stretch.committed in
+    let within = used-below x.ended c.stretch.committed x.frames x.part count (length c.setup.bindings) upto y.commit_is (omega (arith, y.few, below)) y.low in
     let rest : run_entries c.identity.member c.setup.bindings sample b.stretch.card (0 + c.stretch.committed) x.frames x.part ≡ laid_at c b ring x =
     ap (λ (n : ℕ). run_entries c.identity.member c.setup.bindings sample b.stretch.card n x.frames x.part) (zero-add c.stretch.committed)
     ∙ sym (run_entries-same c.identity.member c.setup.bindings (held c ring) sample b.stretch.card c.stretch.committed x.frames x.part bound
-    (λ j q least most h. stands j q (low-at c.stretch.committed (hw_of c) j least) (omega (arith, most, used-within c b ring x count upto y)) h)) in
+    (λ j q least most h. stands j q (low-at c.stretch.committed (hw_of c) j least) (omega (arith, most, within)) h)) in
     run_entries-append c.identity.member c.setup.bindings sample b.stretch.card 0 c.stretch.committed x.frames x.part
     ∙ ap (λ (es : List Entry). es ++ run_entries c.identity.member c.setup.bindings sample b.stretch.card (0 + c.stretch.committed) x.frames x.part)
     (whole-at c.identity.member c.setup.bindings sample c.stretch.card b.stretch.card c.stretch.committed c.stretch.part y.whole y.card)
@@ -72,12 +74,9 @@ accepted-none (d, Err e) = refl
 prepared_fits : (w b h k : ℕ) → w ≤ b → h ≡ 0 → (w ≤ h + b) × (min w h ≤ k)
 prepared_fits w b h k fits none = (omega (arith, fits, none), grind (arith, nat_tests))
 
-pub hw-waiting : (c : Plain) → c.stretch.started ≡ false → hw_of c ≡ 0
-hw-waiting c waits = let w = waits in cc
-
 pub StandsUpTo-filled : (c : Plain) (ring samples offered : List ℤ) (n : ℕ) → IsSound c ring → c.status.state ≡ Prepared → n * length c.setup.bindings ≤ length offered
     → StandsFor c ring samples → Follows c samples offered n → StandsUpTo c (ring_with c ring offered (taken_of c n)) samples (c.stretch.written + taken_of c n)
 StandsUpTo-filled c ring samples offered n sound waits held_all stands follows =
     let p = sound.prepared waits in
-    let fit = prepared_fits c.stretch.written c.setup.config.buffer_size (hw_of c) c.stretch.committed p.fits (hw-waiting c p.waiting) in
+    let fit = prepared_fits c.stretch.written c.setup.config.buffer_size (hw_of c) c.stretch.committed p.fits (let waits_still = p.waiting in cc) in
     StandsUpTo-written c ring samples offered n (configured-prepared c ring sound waits) held_all fit.0 fit.1 stands follows

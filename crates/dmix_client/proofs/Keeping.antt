@@ -38,7 +38,7 @@ use Rattle.dmix_client.proofs.Going.{IsStill, OnOk-of, accepted_if-told, started
 use Rattle.dmix_client.proofs.Growing.{StandsFor-after, StandsUpTo-filled, accepted-none, laid_at, laid_at-none, segment_entries-after}
 use Rattle.dmix_client.proofs.Looking.{starts-by}
 use Rattle.dmix_client.proofs.Sound.{CanUse-still, CommitsAs, min-none, CommitsAs-seen, CommitsAs-started, CommitsAs-written, IsLoaded, IsMoving-after, IsMoving-seen, IsMoving-written, IsSound-after, IsSound-status, IsSound-stopped, after, configured-moving, configured-prepared, count-whole, hw-started, if-le, next-GoesOn, none-of, not_paused-moving, not_prepared-moving, taken-none, taken_fits, whole-of, whole_least, window_end-above}
-use Rattle.dmix_client.proofs.Storing.{StandsUpTo-written, taken-few}
+use Rattle.dmix_client.proofs.Storing.{StandsUpTo-written}
 use Rattle.dmix_client.specs.Calls.{Answered, accepted, accepted_if, base_of, commit_count, committed_by, dropped, end_channel, end_of_commit, facts_of, is_paused, is_stop, late_of, over_of, paused, pending_of, rebased, resumed, seen_at, start_count, started, started_in, stopped_in, sync_count, synced, taken_of, with_number, written_after, written_on}
 use Rattle.dmix_client.specs.Causes.{Explains, ExplainsWrite, IsCaused}
 use Rattle.dmix_client.specs.Course.{commits, looks, resumes, starts, starts_taking, syncs, takes_more, write_on}
@@ -351,7 +351,7 @@ module _ {S T : Type 0} (P : mixport.Ghosts S) (G : gates.Ghosts T) (laid_compos
       let m : ℕ = taken_of c n in
       let new = ring_with c ring offered m in
       let upto : ℕ = c.stretch.written + m in
-      let few : m * length c.setup.bindings ≤ n * length c.setup.bindings = mul-le-mul_right (length c.setup.bindings) (taken-few n c.setup.config.buffer_size c.stretch.written (hw_of c) m refl).0 in
+      let few : m * length c.setup.bindings ≤ n * length c.setup.bindings = mul-le-mul_right (length c.setup.bindings) (taken_fits c.stretch.written (hw_of c) c.setup.config.buffer_size n m was.fits refl).2 in
       let sound_new = IsSound-stored c ring offered m sound k (omega (arith, few, held_all)) in
       let up : (samples : List ℤ) → StandsFor c ring samples → Follows c samples offered n → StandsUpTo c new samples upto = λ samples stands for. StandsUpTo-written c ring samples offered n k held_all was.fits past stands for in
       let y = CommitsAs-written c new x m sound_new moves going laid.commit_is in
@@ -562,16 +562,10 @@ pause-runs true s is = absurd (cc)
 pause-runs false Running is = (refl, refl)
 pause-runs false s is = absurd (cc)
 
-pub refusal_of-pause : (c : Plain) → refusal_of Playback c.status call.Pause ≡ None → (c.status.state ≡ Running) × (c.status.stopped ≡ false)
-refusal_of-pause c admitted = pause-runs c.status.stopped c.status.state admitted
-
 resume-paused : (stopped : Bool) (s : State) → (let o : Option PcmError = (if stopped then Some error.Stopped else refusal_in (next_of s call.Resume (nothing_found Playback)).answer) in o) ≡ None → s ≡ Paused
 resume-paused true s is = absurd (cc)
 resume-paused false Paused is = refl
 resume-paused false s is = absurd (cc)
-
-pub refusal_of-resume : (c : Plain) → refusal_of Playback c.status call.Resume ≡ None → c.status.state ≡ Paused
-refusal_of-resume c admitted = resume-paused c.status.stopped c.status.state admitted
 
 -- with which counts a call begins
 stays-based : (a b : Bool) (c d : Plain) → (a ≡ true → b ≡ true) → (if a && not b then d else c) ≡ c
@@ -622,7 +616,7 @@ module _ {S T : Type 0} (P : mixport.Ghosts S) (G : gates.Ghosts T) (laid_compos
   pub paused-kept : (s : S × T) (c : Plain) (ring : List ℤ) → IsSound c ring → refusal_of Playback c.status call.Pause ≡ None → CanUse c (P.view s.0)
       → Keeps P G s s (client (base_of c (paused c)) ring) (client (paused c) ring) (let r : Result (Unit {0}) PcmError = Ok tt in r) AnySamples
   paused-kept s c ring sound admitted port =
-      let is = refusal_of-pause c admitted in
+      let is = pause-runs c.status.stopped c.status.state admitted in
       subst (λ (b : Plain). Keeps P G s s (client b ring) (client (paused c) ring) (let r : Result (Unit {0}) PcmError = Ok tt in r) AnySamples) (sym (base-kept c (paused c) (λ is. refl)))
       (left-kept P G laid_composes loaded_composes s c ring Paused (IsSound-paused c ring sound is.0 is.1) port refl)
 
@@ -633,7 +627,7 @@ module _ {S T : Type 0} (P : mixport.Ghosts S) (G : gates.Ghosts T) (laid_compos
   pub rebased-kept : (s : S × T) (c : Plain) (ring : List ℤ) → IsSound c ring → refusal_of Playback c.status call.Resume ≡ None → CanUse c (P.view s.0)
       → Keeps P G s s (client (base_of c (rebased c)) ring) (client (rebased c) ring) (let r : Result (Unit {0}) PcmError = Ok tt in r) AnySamples
   rebased-kept s c ring sound admitted port =
-      let is = refusal_of-resume c admitted in
+      let is = resume-paused c.status.stopped c.status.state admitted in
       subst (λ (b : Plain). Keeps P G s s (client b ring) (client (rebased c) ring) (let r : Result (Unit {0}) PcmError = Ok tt in r) AnySamples) (sym (base-anew c (rebased c) is refl))
       (Keeps-none P G laid_composes loaded_composes s (client (rebased c) ring) (Ok tt) AnySamples (IsSound-rebased c ring sound is) (CanUse-rebased c (P.view s.0) port) (λ unstopped. refl))
 

@@ -187,9 +187,6 @@ frame-same first f part some = grind (arith, nat_tests)
 here-from : (at : Cursor) (f c : ℕ) → at ≡ record { frame = f; channel = c } → first_free at c ≤ f
 here-from at f c is = subst (λ (x : Cursor). first_free x c ≤ f) (sym is) (grind (arith, nat_tests))
 
-floor-below : (seen top n : ℕ) → max seen top ≤ n → top ≤ n
-floor-below seen top n low = grind (arith, nat_tests)
-
 -- the answers of a rewind
 module _ {S : Type 0} (view : S → PortView) (shows : S → ℕ → ℕ → Option ℕ) (q : S) where
   -- one that isn't late has the causes of any other call's
@@ -371,7 +368,7 @@ module _ (d : Plain) (ring : List ℤ) (floor : Cursor) (n : ℕ) (sound : IsSou
     took-of s t x is_floor port takes =
         TakesAt-back P G holds d.identity.member d.stretch.card d.setup.bindings (held d ring) (d.stretch.committed - back_of d n) (back_of d n) s t x bound port.same_member
         (λ some. subst (λ (c : Cursor). IsFrom c (d.stretch.card + (d.stretch.committed - back_of d n)) (least_channel d.setup.bindings)) (sym is_floor)
-        (IsFrom-later floor (d.stretch.card + (d.stretch.committed - back_of d n)) 0 (least_channel d.setup.bindings) (omega arith) (floor-below (unwrap_or d.seen 0) (first_free floor 0) _ (is.from some)))) takes
+        (IsFrom-later floor (d.stretch.card + (d.stretch.committed - back_of d n)) 0 (least_channel d.setup.bindings) (omega arith) (omega (arith, is.from some)))) takes
 
     pub takes_back-kept : (s t : S × T) (a : Answered ℕ) → (P.view s.0).marks.floor ≡ floor → CanUse d (P.view s.0) → TakesAt P G s (takes_back d ring n) t a → TakenBack s t a
     unfolding takes_back

@@ -19,7 +19,7 @@ use Rattle.snd_base.specs.Places.{end_frame, first_free}
 use Rattle.snd_base.specs.declared.errors.XrunWhy.{XrunWhy}
 use Rattle.snd_base.specs.declared.places.Cursor.{Cursor}
 use Rattle.dmix_client.proofs.Ends.{next-ends}
-use Rattle.dmix_client.specs.Calls.{commit_count, is_running, is_stop, late_at, over_of, seen_at, start_count, start_frame, started_in, sync_count, taken_of, window_end}
+use Rattle.dmix_client.specs.Calls.{commit_count, is_running, is_stop, late_at, over_of, seen_at, start_count, started_in, sync_count, taken_of, window_end}
 use Rattle.dmix_client.specs.ExpansionLaws.{frames_used}
 use Rattle.dmix_client.specs.Port.{CanUse, IsCommit, IsStep}
 use Rattle.dmix_client.specs.View.{IsConfigured, IsMoving, IsPrepared, IsSound, hw_of}
@@ -117,13 +117,13 @@ window_end-above h frames stop low = grind (arith, nat_tests)
 laid_most : (w k card n h frames stop : ℕ) → card + k ≤ stop + frames → n ≤ min w (min (h + frames) stop - card) - k → card + (k + n) ≤ stop + frames
 laid_most w k card n h frames stop before is = grind (arith, nat_tests)
 
-min-later : (k h n g : ℕ) → min k h ≤ g → min k h ≤ min (k + n) g
+pub min-later : (k h n g : ℕ) → min k h ≤ g → min k h ≤ min (k + n) g
 min-later k h n g later = grind (arith, nat_tests)
 
 pub min-newer : (k h g : ℕ) → h ≤ g → min k h ≤ g
 min-newer k h g newer = grind (arith, nat_tests)
 
-count-below : (upto stop card k : ℕ) → min upto (stop - card) - k ≤ upto - k
+pub count-below : (upto stop card k : ℕ) → min upto (stop - card) - k ≤ upto - k
 count-below upto stop card k = grind (arith, nat_tests)
 
 pub if-le : (b : Bool) (n : ℕ) → (if b then 0 else n) ≤ n
@@ -136,7 +136,7 @@ frames-le (ended.Late word) frames part count channels is = omega (arith, is.0)
 frames-le ended.Stopped frames part count channels is = omega (arith, is.0)
 
 -- the frames of a commit are below the frame that it was to lay up to
-used-below : (e : Ended) (k frames part count channels upto : ℕ) → IsCommit e frames part count channels → count ≤ upto - k → k ≤ upto → k + frames_used frames part ≤ upto
+pub used-below : (e : Ended) (k frames part count channels upto : ℕ) → IsCommit e frames part count channels → count ≤ upto - k → k ≤ upto → k + frames_used frames part ≤ upto
 used-below ended.Whole k frames part count channels upto is few low = let all = is.0 in let none = is.1 in grind (arith, nat_tests)
 used-below (ended.Late word) k frames part count channels upto is few low = let less = is.0 in grind (arith, nat_tests)
 used-below ended.Stopped k frames part count channels upto is few low = let less = is.0 in grind (arith, nat_tests)
@@ -180,13 +180,6 @@ pub record CommitsAs (c b : Plain) (ring : List ℤ) (x : Commit) (count upto : 
   pub later : min c.stretch.committed (hw_of c) ≤ hw_of b
   pub few : count ≤ count_at c b upto
   pub commit_is : IsCommit x.ended x.frames x.part count (length c.setup.bindings)
-
-pub used-within : (c b : Plain) (ring : List ℤ) (x : Commit) (count upto : ℕ) → CommitsAs c b ring x count upto → c.stretch.committed + frames_used x.frames x.part ≤ upto
-used-within c b ring x count upto y =
-    used-below x.ended c.stretch.committed x.frames x.part count (length c.setup.bindings) upto y.commit_is (omega (arith, y.few, count-below upto (window_end c.identity.geometry (unwrap_or b.seen 0)) b.stretch.card c.stretch.committed)) y.low
-
-pub least-after : (c b : Plain) (ring : List ℤ) (x : Commit) (count upto : ℕ) → CommitsAs c b ring x count upto → min c.stretch.committed (hw_of c) ≤ min (c.stretch.committed + x.frames) (hw_of b)
-least-after c b ring x count upto y = min-later c.stretch.committed (hw_of c) x.frames (hw_of b) y.later
 
 -- it moves on, where all was laid
 pub IsMoving-after : (c b : Plain) (ring : List ℤ) (x : Commit) (count upto : ℕ) (s : Status) (fed : ℕ) → CommitsAs c b ring x count upto → upto ≤ hw_of b + c.setup.config.buffer_size → x.frames ≡ count_at c b upto → x.part ≡ 0
@@ -282,15 +275,11 @@ first_free-near cursor stop low = grind (arith, nat_tests)
 pub min-none : (k h n : ℕ) → k ≡ 0 → min k h ≤ n
 min-none k h n none = grind (arith, nat_tests)
 
-pub card_most : (c : Plain) (ring : List ℤ) (position : Position) (cursor : Cursor) → IsSound c ring → cursor.frame ≤ end_frame c.identity.geometry → position.frame ≤ end_frame c.identity.geometry
-    → start_frame c position.frame cursor ≤ end_frame c.identity.geometry + c.identity.geometry.frames
-card_most c ring position cursor sound low near = start_most position.frame c.identity.lead (first_free cursor 0) (end_frame c.identity.geometry) c.identity.geometry.frames near sound.lead (first_free-near cursor (end_frame c.identity.geometry) low)
-
 pub CommitsAs-started : (c : Plain) (ring : List ℤ) (state : State) (position : Position) (cursor : Cursor) (x : Commit) (upto : ℕ) → IsSound c ring → c.status.state ≡ Prepared → cursor.frame ≤ end_frame c.identity.geometry
     → position.frame ≤ end_frame c.identity.geometry → IsCommit x.ended x.frames x.part (start_count c cursor position upto) (length c.setup.bindings) → CommitsAs c (started_in c state position cursor) ring x (start_count c cursor position upto) upto
 CommitsAs-started c ring state position cursor x upto sound waits low near commit_is =
     let p = sound.prepared waits in
-    let most = card_most c ring position cursor sound low near in
+    let most = start_most position.frame c.identity.lead (first_free cursor 0) (end_frame c.identity.geometry) c.identity.geometry.frames near sound.lead (first_free-near cursor (end_frame c.identity.geometry) low) in
     record {
       sound = sound;
       set = sound.set_up (ap is_set_up waits);
@@ -327,8 +316,8 @@ CommitsAs-written c ring x m sound moves going commit_is =
       commit_is = commit_is;
     }
 
-pub taken_fits : (w hw b n m : ℕ) → w ≤ hw + b → m ≡ min n (min (b + hw - w) b) → (w + m ≤ hw + b) × (m ≤ b)
-taken_fits w hw b n m fits is = (grind (arith, nat_tests), grind (arith, nat_tests))
+pub taken_fits : (w hw b n m : ℕ) → w ≤ hw + b → m ≡ min n (min (b + hw - w) b) → (w + m ≤ hw + b) × (m ≤ b) × (m ≤ n)
+taken_fits w hw b n m fits is = (grind (arith, nat_tests), grind (arith, nat_tests), grind (arith, nat_tests))
 
 count-some : (m n k : ℕ) → 0 < m → n ≡ (if nat_eq m 0 then 0 else k) → n ≡ k
 count-some m n k some is = grind (arith, nat_tests)

@@ -127,10 +127,6 @@ pub stands-run : {S : Type 0} (ends_in : S → List Entry → Type 0) (p : S) (m
     → ends_in p (run_entries member bindings s card first n 0 ++ frame_entries member bindings (s (first + n)) (length bindings) (card + (first + n)))
 stands-run ends_in p member bindings s card first n m is ends = subst (ends_in p) (ap (λ (k : ℕ). run_entries member bindings s card first k 0) is ∙ run_entries-last member bindings s card first n) ends
 
-pub run_entries-part : (member : ℕ) (bindings : List ℕ) (s : ℕ → ℕ → ℤ) (card first n part : ℕ)
-    → run_entries member bindings s card first n part ≡ run_entries member bindings s card first n 0 ++ frame_entries member bindings (s (first + n)) part (card + (first + n))
-run_entries-part member bindings s card first n part = ap (λ (es : List Entry). es ++ frame_entries member bindings (s (first + n)) part (card + (first + n))) (sym (append-nil _))
-
 -- how many channels of n are left, by how it ended, and what is left of some frames
 abbrev pub IsLeft : Ended → ℕ → ℕ → Type 0
 IsLeft Whole left n = left ≡ 0
@@ -338,7 +334,7 @@ module _ {S T : Type 0} (P : mixport.Ghosts S) (G : gates.Ghosts T) (holds : Hol
         still = λ none. absurd (omega (arith, none));
         are_left = let are : (0 < n + left) × (frames_used n left ≤ suc n) × (left < length bindings) = (omega (arith, some), used-some n left, part) in not-whole (λ (e : Ended). AreLeft e n left (suc n) (length bindings)) ended not_so (λ word. are) are;
         away = subst (λ (es : List Entry). TakesAway P.laid P.ends_in s.0 t.0 es (run_entries member bindings samples card first n left)) (sym before)
-            (subst (λ (es : List Entry). TakesAway P.laid P.ends_in s.0 t.0 (run_entries member bindings samples card first n 0 ++ frame_entries member bindings (samples (first + n)) (length bindings) (card + (first + n))) es) (sym (run_entries-part member bindings samples card first n left))
+            (subst (λ (es : List Entry). TakesAway P.laid P.ends_in s.0 t.0 (run_entries member bindings samples card first n 0 ++ frame_entries member bindings (samples (first + n)) (length bindings) (card + (first + n))) es) (ap (λ (es : List Entry). es ++ frame_entries member bindings (samples (first + n)) left (card + (first + n))) (append-nil _))
             (TakesAway-behind s.0 t.0 (run_entries member bindings samples card first n 0) _ _ one.away));
         loaded_nothing = one.loaded_nothing;
         cursor = not-whole (λ (e : Ended). OnWhole e (0 < suc n → (P.view t.0).marks.cursor ≡ record { frame = card + first; channel = least_channel bindings })) ended not_so (λ word. tt) tt;
