@@ -7,3 +7,4 @@ pub mod Readings
 pub mod Numerals
 pub mod NumberedValues
 pub mod Indexes
+pub mod Keys

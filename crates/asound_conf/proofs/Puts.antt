@@ -1,13 +1,16 @@
 -- What an item puts down the parts of its key.
-use Rattle.std.proofs.Common.{◌≡◌, ℕ, ◌<◌, ◌≤◌, ◌-◌, Bool, true, false, cond, List, [], ◌∷◌, length, get_or, set, take, drop, Option, Some, None, Result, Ok, Err, OnOk, refl, sym, ◌∙◌, ap, arith}
+use Rattle.std.proofs.Common.{◌≡◌, ℕ, ◌<◌, ◌≤◌, ◌-◌, Bool, true, false, cond, List, [], ◌∷◌, length, get_or, take, drop, Option, Some, None, Result, Ok, Err, refl, sym, ◌∙◌, ap, subst, arith}
 use Rattle.std.proofs.lemmas.List.{take_all}
 use Rattle.asound_conf.specs.declared.conf.Node.{Node}
 use Rattle.asound_conf.specs.declared.part.Part.{Part}
 use Rattle.asound_conf.specs.Tree.{Tree, text, group, Entries, empty, has, get, without, group_in}
 use Rattle.asound_conf.specs.Tree as tree
-use Rattle.asound_conf.specs.Place.{base, met, is_last, put, put_there, meets_text, node_at}
-use Rattle.asound_conf.specs.View.{entries_of, tree_of, added, put_node, IsLast}
-use Rattle.asound_conf.proofs.Places.{set-IsLast, get-IsLast, get-none, has-without, get-set_new, set-set_new}
+use Rattle.asound_conf.specs.declared.error.ConfWhy.{ConfWhy}
+use Rattle.asound_conf.specs.declared.error.ConfWhy.TheVariants as why
+use Rattle.asound_conf.specs.Answer.{Leads, Refuses, seen}
+use Rattle.asound_conf.specs.Place.{base, clashes, met, placed, put, put_there, meets_text, node_at}
+use Rattle.asound_conf.specs.View.{added, blank, entries_of, is_leaf, placed_node, tree_of, IsLast}
+use Rattle.asound_conf.proofs.Places.{get-IsLast, get-none, has-without, get-set_new, set-set_new}
 
 -- a part of a key meets nothing in an empty group
 met-empty : (part : Part) → met part empty ≡ None
@@ -34,47 +37,78 @@ get-base part g = base-get part.name g part.removes
     base-get name g true = get-none name (without name g) (has-without name g)
     base-get name g false = refl
 
--- an empty group is as good as none for what is put
-put_there-empty : (value : Option (List ℕ)) → put_there value (Some (group empty)) ≡ put_there value None
-put_there-empty (Some t) = refl
-put_there-empty None = refl
+-- nothing clashes with what isn't there
+clashes-None : (value : Option (List ℕ)) → clashes value None ≡ false
+clashes-None (Some t) = refl
+clashes-None None = refl
+
+-- what is made of an answer is set in a group
+seen-cond : {X Y : Type 0} (f : X → Y) (b : Bool) (cause : ConfWhy) (x : X) → seen f (cond b (Err cause) (Ok x)) ≡ cond b (Err cause) (Ok (f x))
+seen-cond f true cause x = refl
+seen-cond f false cause x = refl
 
 -- what is put where nothing was
-put_node-empty : (value : Option (List ℕ)) (rest : List Part) → put_node value rest (group empty) ≡ cond (is_last rest) (put_there value None) (group (put value rest (group_in None)))
-put_node-empty value rest = ap (λ t. cond (is_last rest) t (group (put value rest empty))) (put_there-empty value)
+placed-blank : (value : Option (List ℕ)) (part : Part) (rest : List Part) (g : Entries) → met part g ≡ None → has part.name (base part g) ≡ false
+    → placed value (part ∷ rest) g ≡ seen (λ t. tree.set part.name t (tree.set part.name (blank (is_leaf value rest)) (base part g))) (placed_node value rest (blank (is_leaf value rest)))
+unfolding node_at put
+placed-blank (Some t) part [] g meets none = rw meets (ap Ok (sym (set-set_new part.name (text t) (text []) (base part g) none)))
+placed-blank None part [] g meets none = rw meets (ap Ok (sym (set-set_new part.name (group empty) (group empty) (base part g) none)))
+placed-blank (Some t) part (next ∷ rest) g meets none =
+    rw (meets, node_at-empty (next ∷ rest)) (ap Ok (sym (set-set_new part.name (group (put (Some t) (next ∷ rest) empty)) (group empty) (base part g) none)))
+placed-blank None part (next ∷ rest) g meets none =
+    rw (meets, node_at-empty (next ∷ rest)) (ap Ok (sym (set-set_new part.name (group (put None (next ∷ rest) empty)) (group empty) (base part g) none)))
 
--- the item is put at its place among the items
-pub put-at : (value : Option (List ℕ)) (part : Part) (rest : List Part) (g : Entries) (items : List (List ℕ × Node)) (at : ℕ) (item new : List ℕ × Node)
-    → entries_of items ≡ added part.name (base part g) → IsLast part.name items at → new.0 ≡ (get_or items at item).0 → tree_of new.1 ≡ put_node value rest (tree_of (get_or items at item).1)
-    → entries_of (set items at new) ≡ put value (part ∷ rest) g
-unfolding put
-put-at value part rest g items at item new are place same_name puts =
-    let there : get part.name (added part.name (base part g)) ≡ Some (tree_of (get_or items at item).1) = ap (get part.name) (sym are) ∙ get-IsLast part.name items at item place in
-    set-IsLast part.name items at item new place same_name
-    ∙ ap (λ t. tree.set part.name t (entries_of items)) puts
-    ∙ ap (tree.set part.name (put_node value rest (tree_of (get_or items at item).1))) are
-    ∙ put-added value part rest g (tree_of (get_or items at item).1) (has part.name (base part g)) refl there
+-- what is put where a node was
+placed-there : (value : Option (List ℕ)) (part : Part) (rest : List Part) (g : Entries) (old : Tree) → met part g ≡ Some old
+    → placed value (part ∷ rest) g ≡ seen (λ t. tree.set part.name t (base part g)) (placed_node value rest old)
+unfolding node_at put
+placed-there value part [] g old meets = rw meets (sym (seen-cond (λ t. tree.set part.name t (base part g)) (clashes value (Some old)) why.Kind (put_there value (Some old))))
+placed-there value part (next ∷ rest) g old meets =
+    let inside = group_in (Some old) in
+    rw meets (nested (clashes value (node_at (next ∷ rest) inside)) (put value (next ∷ rest) inside))
   where
-    put-added : (value : Option (List ℕ)) (part : Part) (rest : List Part) (g : Entries) (old : Tree) (h : Bool) → has part.name (base part g) ≡ h
-        → get part.name (cond h (base part g) (tree.set part.name (group empty) (base part g))) ≡ Some old
-        → tree.set part.name (put_node value rest old) (cond h (base part g) (tree.set part.name (group empty) (base part g))) ≡ tree.set part.name (cond (is_last rest) (put_there value (met part g)) (group (put value rest (group_in (met part g))))) (base part g)
-    put-added value part rest g old true is there =
-        let meets : met part g ≡ Some old = sym (get-base part g) ∙ there in
-        rw meets refl
-    put-added value part rest g old false is there =
+    nested : (b : Bool) (new : Entries) → cond b (Err why.Kind) (Ok (tree.set part.name (group new) (base part g))) ≡ seen (λ t. tree.set part.name t (base part g)) (seen group (cond b (Err why.Kind) (Ok new)))
+    nested true new = refl
+    nested false new = refl
+
+-- what is put at a part is what is put at its node
+pub placed-at : (value : Option (List ℕ)) (part : Part) (rest : List Part) (g : Entries) (items : List (List ℕ × Node)) (at : ℕ) (item : List ℕ × Node)
+    → entries_of items ≡ added part.name (is_leaf value rest) (base part g) → IsLast part.name items at
+    → placed value (part ∷ rest) g ≡ seen (λ t. tree.set part.name t (entries_of items)) (placed_node value rest (tree_of (get_or items at item).1))
+placed-at value part rest g items at item are place =
+    let old = tree_of (get_or items at item).1 in
+    let there : get part.name (added part.name (is_leaf value rest) (base part g)) ≡ Some old = ap (get part.name) (sym are) ∙ get-IsLast part.name items at item place in
+    by_name (has part.name (base part g)) refl old there ∙ ap (λ h. seen (λ t. tree.set part.name t h) (placed_node value rest old)) (sym are)
+  where
+    by_name : (h : Bool) → has part.name (base part g) ≡ h → (old : Tree) → get part.name (cond h (base part g) (tree.set part.name (blank (is_leaf value rest)) (base part g))) ≡ Some old
+        → placed value (part ∷ rest) g ≡ seen (λ t. tree.set part.name t (cond h (base part g) (tree.set part.name (blank (is_leaf value rest)) (base part g)))) (placed_node value rest old)
+    by_name true is old there = placed-there value part rest g old (sym (get-base part g) ∙ there)
+    by_name false is old there =
         let meets : met part g ≡ None = sym (get-base part g) ∙ get-none part.name (base part g) is in
-        let was : Some old ≡ Some (group empty) = sym there ∙ get-set_new part.name (group empty) (base part g) is in
-        let fresh : old ≡ group empty = cc in
-        rw (meets, fresh) (ap (λ t. tree.set part.name t (tree.set part.name (group empty) (base part g))) (put_node-empty value rest) ∙ set-set_new part.name (cond (is_last rest) (put_there value None) (group (put value rest (group_in None)))) (group empty) (base part g) is)
+        let was : Some old ≡ Some (blank (is_leaf value rest)) = sym there ∙ get-set_new part.name (blank (is_leaf value rest)) (base part g) is in
+        let fresh : old ≡ blank (is_leaf value rest) = cc in
+        rw fresh (placed-blank value part rest g meets is)
+
+-- an answer that was made of another one
+pub Leads-seen : {X S T : Type 0} (r : Result X ConfWhy) (new : S) (f : S → T) (given : Result S ConfWhy) → Leads r new given → Leads r (f new) (seen f given)
+Leads-seen (Ok x) new f given leads = ap (seen f) leads
+Leads-seen (Err cause) new f given leads = refused cause f given leads
+  where
+    refused : {S T : Type 0} (cause : ConfWhy) (f : S → T) (given : Result S ConfWhy) → Refuses cause given → Refuses cause (seen f given)
+    refused why.Memory f given refuses = tt
+    refused cause f given refuses = ap (seen f) refuses
+
+pub Leads-along : {X S : Type 0} (r : Result X ConfWhy) (new other : S) (given wanted : Result S ConfWhy) → new ≡ other → given ≡ wanted → Leads r new given → Leads r other wanted
+Leads-along r new other given wanted same is leads = subst (λ n. Leads r n wanted) same (subst (λ w. Leads r new w) is leads)
 
 -- what a key's parts find in an empty group
 pub ruleset from_nothing = (meets_text-empty, node_at-empty)
 
 -- nothing is put down no parts
-pub put-nil : (value : Option (List ℕ)) (parts : List Part) (g : Entries) → length parts < 1 → g ≡ put value parts g
-unfolding put
-put-nil value [] g none = refl
-put-nil value (part ∷ parts) g none = absurd (omega arith)
+pub placed-nil : (value : Option (List ℕ)) (parts : List Part) (g : Entries) → length parts < 1 → placed value parts g ≡ Ok g
+unfolding put node_at
+placed-nil value [] g none = rw (clashes-None value) refl
+placed-nil value (part ∷ parts) g none = absurd (omega arith)
 
 -- a list is its first and the rest
 pub first_and_rest : {X : Type 0} (xs : List X) (x : X) → 1 ≤ length xs → x ≡ get_or xs 0 x → xs ≡ x ∷ take (length xs - 1) (drop 1 xs)
@@ -82,8 +116,3 @@ first_and_rest [] x some first = absurd (omega arith)
 first_and_rest (y ∷ ys) x some first =
     let count : length (y ∷ ys) - 1 ≡ length ys = omega arith in
     ap (λ z. z ∷ ys) (sym first) ∙ ap (λ zs. x ∷ zs) (sym (take_all (length ys) ys (omega arith))) ∙ ap (λ k. x ∷ take k ys) (sym count)
-
--- what holds of an Ok for a weaker reason
-pub OnOk-map : {T E P Q : Type 0} (r : Result T E) → (P → Q) → OnOk r P → OnOk r Q
-OnOk-map (Ok x) f holds = f holds
-OnOk-map (Err e) f holds = holds

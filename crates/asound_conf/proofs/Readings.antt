@@ -4,7 +4,8 @@ use Rattle.asound_conf.specs.declared.error.ConfError.{ConfError}
 use Rattle.asound_conf.specs.declared.error.ConfWhy.{ConfWhy}
 use Rattle.asound_conf.specs.declared.error.ConfWhy.TheVariants as why
 use Rattle.asound_conf.specs.Grammar.{State, finished, meaning, step, stepped}
-use Rattle.asound_conf.specs.Reading.{Reads, Refuses, RefusesText}
+use Rattle.asound_conf.specs.Answer.{Refuses}
+use Rattle.asound_conf.specs.Reading.{Reads, RefusesText}
 use Rattle.asound_conf.specs.Token.{LineToken}
 use Rattle.asound_conf.specs.Tree.{Entries}
 

@@ -1,5 +1,5 @@
 -- The device that a configuration defines under a name, or why it defines none.
-use Rattle.std.specs.Prelude.{◌≡◌, ◌≤◌, ℕ, zero, suc, ◌+◌, ◌*◌, ◌/◌, ◌%◌, ◌==◌, ◌&&◌, ◌||◌, not, nat_lt, nat_le, Bool, if◌then◌else◌, List, [], ◌∷◌, ◌++◌, length, slice_index, codes, bytes_eq, Option, Some, None, Result, Ok, Err}
+use Rattle.std.specs.Prelude.{◌≡◌, ◌≤◌, ℕ, zero, suc, ◌+◌, ◌*◌, ◌/◌, ◌%◌, ◌==◌, ◌&&◌, ◌||◌, not, nat_lt, nat_le, Bool, if◌then◌else◌, List, [], ◌∷◌, ◌++◌, length, codes, bytes_eq, Option, Some, None, Result, Ok, Err}
 use Rattle.std.specs.Str.{all_ascii_digits}
 use Rattle.std.specs.Str.Parse.{digits_value}
 use Rattle.std.specs.Fmt.{decimal}
@@ -21,11 +21,6 @@ infixl 10 ◌>>=◌
 abbrev pub ◌>>=◌ : {A B : Type 0} → Result A ConfWhy → (A → Result B ConfWhy) → Result B ConfWhy
 (Ok x) >>= f = f x
 (Err e) >>= f = Err e
-
--- what a call gave, seen by view
-abbrev pub seen : {X Y : Type 0} → (X → Y) → Result X ConfWhy → Result Y ConfWhy
-seen view (Ok x) = Ok (view x)
-seen view (Err e) = Err e
 
 -- the group that a node is
 abbrev pub as_group : Option Tree → Result Entries ConfWhy
@@ -164,10 +159,6 @@ card_of n =
     let rate = or_default n.rate 48000 in
     let period = period_of n rate in
     card_with n (or_default n.channels 2) rate period (ring_of n rate period)
-
--- a text is 1 to 19 decimal digits without a leading zero
-abbrev pub is_canonical : List ℕ → Bool
-is_canonical t = nat_le 1 (length t) && nat_le (length t) 19 && all_ascii_digits t && (length t == 1 || not (slice_index t 0 == 48))
 
 -- how many names a group has
 abbrev pub count_of : Entries → ℕ

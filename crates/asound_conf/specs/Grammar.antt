@@ -12,8 +12,9 @@ use Rattle.asound_conf.specs.declared.token.Mark.{Mark}
 use Rattle.asound_conf.specs.declared.token.Mark.TheVariants as marks
 use Rattle.asound_conf.specs.Token.{LineToken, Token, word, quoted, mark, bad, tokens}
 use Rattle.asound_conf.specs.Key.{begins, key_defect, named, word_parts}
-use Rattle.asound_conf.specs.Place.{meets_text, node_at, put}
-use Rattle.asound_conf.specs.Tree.{Entries, empty, is_group, is_text}
+use Rattle.asound_conf.specs.Answer.{seen}
+use Rattle.asound_conf.specs.Place.{meets_text, placed}
+use Rattle.asound_conf.specs.Tree.{Entries, empty}
 
 -- Where a reader of tokens is: the group so far, the parts that lead to the place of what comes next, the innermost
 -- `{` or `[` that is open, or the text itself, those around it from the inside out, and what may come next.
@@ -48,7 +49,7 @@ after_item s root = record s { root = root; path = take s.here.names s.path; awa
 
 -- a text as a value
 abbrev pub put_text : State → List ℕ → Result State ConfWhy
-put_text s t = if is_group (node_at s.path s.root) then Err why.Kind else Ok (after_item s (put (Some t) s.path s.root))
+put_text s t = seen (after_item s) (placed (Some t) s.path s.root)
 
 -- behind a key's parts, which lead on from where the reader is
 abbrev pub at_key : State → List Part → Result State ConfWhy
@@ -74,10 +75,10 @@ take_text s parts t = text_at s (value_place s s.awaits s.here.array) parts t
 abbrev pub settled : List Part → List Part
 settled path = map (λ (part : Part). named part.name) path
 
--- within a new group at the place of a value
-abbrev pub within : State → ℕ → Bool → State
-within s line array = record {
-  root = put None s.path s.root;
+-- within the group at the place of a value
+abbrev pub within : State → ℕ → Bool → Entries → State
+within s line array root = record {
+  root = root;
   path = settled s.path;
   here = record { line = line; array = array; names = length s.path; values = 0 };
   outer = s.here ∷ s.outer;
@@ -87,8 +88,7 @@ within s line array = record {
 -- a `{` or `[` as a value
 abbrev pub open_group : State → ℕ → Bool → Result State ConfWhy
 open_group s line array =
-    if nat_le 16 (length s.path) then Err why.Deep else
-    if is_text (node_at s.path s.root) then Err why.Kind else Ok (within s line array)
+    if nat_le 16 (length s.path) then Err why.Deep else seen (within s line array) (placed None s.path s.root)
 
 -- a `{` or `[` where a value can come, or where a key must
 abbrev pub open_at : Option State → ℕ → Bool → Result State ConfWhy

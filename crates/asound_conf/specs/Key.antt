@@ -1,5 +1,5 @@
 -- The parts of a key, and what is wrong with them.
-use Rattle.std.specs.Prelude.{ℕ, ◌==◌, ◌||◌, Bool, true, false, if◌then◌else◌, List, map, drop, slice_index, length, nat_lt, ◌&&◌, Option, Some, None}
+use Rattle.std.specs.Prelude.{ℕ, ◌==◌, ◌||◌, Bool, true, false, if◌then◌else◌, List, map, drop, slice_index, length, nat_lt, not, ◌&&◌, Option, Some, None}
 use Rattle.std.specs.List.{list_any, slice_split}
 use Rattle.asound_conf.specs.declared.error.ConfWhy.{ConfWhy}
 use Rattle.asound_conf.specs.declared.error.ConfWhy.TheVariants as why
@@ -36,6 +36,10 @@ has_prefix part = begins 43 part.name || begins 45 part.name || begins 63 part.n
 -- a part without a name
 abbrev pub is_nameless : Part → Bool
 is_nameless part = length part.name == 0
+
+-- a part that is neither a function, nor has a prefix, nor is without a name
+abbrev pub is_plain : Part → Bool
+is_plain part = not (is_function part) && not (has_prefix part) && not (is_nameless part)
 
 -- what is wrong with the parts of a key
 abbrev pub key_defect : List Part → Option ConfWhy

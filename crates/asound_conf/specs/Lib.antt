@@ -1,7 +1,9 @@
+pub mod Answer
 pub mod Device
 pub mod Grammar
 pub mod Key
 pub mod NodeFalls
+pub mod Number
 pub mod Place
 pub mod Index
 pub mod Reading

@@ -1,7 +1,9 @@
 -- What an item puts in a group, down the parts of its key.
-use Rattle.std.specs.Prelude.{ℕ, ◌||◌, ◌&&◌, not, Bool, true, false, List, [], ◌∷◌, Option, Some, None, if◌then◌else◌}
+use Rattle.std.specs.Prelude.{ℕ, ◌||◌, ◌&&◌, not, Bool, true, false, List, [], ◌∷◌, Option, Some, None, Result, Ok, Err, if◌then◌else◌}
+use Rattle.asound_conf.specs.declared.error.ConfWhy.{ConfWhy}
+use Rattle.asound_conf.specs.declared.error.ConfWhy.TheVariants as why
 use Rattle.asound_conf.specs.declared.part.Part.{Part}
-use Rattle.asound_conf.specs.Tree.{Tree, text, group, Entries, get, set, without, group_in, is_text}
+use Rattle.asound_conf.specs.Tree.{Tree, text, group, Entries, get, set, without, group_in, is_group, is_text}
 
 -- a group as a part of a key leaves it: a part with `!` removes the node of its name first
 abbrev pub base : Part → Entries → Entries
@@ -35,3 +37,12 @@ put_there None old = group (group_in old)
 unfoldable pub put : Option (List ℕ) → List Part → Entries → Entries
 put value [] g = g
 put value (part ∷ parts) g = set part.name (if is_last parts then put_there value (met part g) else group (put value parts (group_in (met part g)))) (base part g)
+
+-- an item's text would be put where a group is, or its group where a text is
+abbrev pub clashes : Option (List ℕ) → Option Tree → Bool
+clashes (Some t) old = is_group old
+clashes None old = is_text old
+
+-- what `put` makes, but where a node of the other kind is at the end of the key's parts
+abbrev pub placed : Option (List ℕ) → List Part → Entries → Result Entries ConfWhy
+placed value parts g = if clashes value (node_at parts g) then Err why.Kind else Ok (put value parts g)

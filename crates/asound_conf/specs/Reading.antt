@@ -11,16 +11,6 @@ use Rattle.asound_conf.specs.Tree.{Entries}
 abbrev pub state_of : Reading → State
 state_of r = record { root = r.root; path = r.path.items; here = r.here; outer = reverse r.outer.items; awaits = r.awaits }
 
--- a cause of a call is the one that is given, unless memory ran out
-abbrev pub Refuses : {X : Type 0} → ConfWhy → Result X ConfWhy → Type 0
-Refuses why.Memory given = Unit {0}
-Refuses cause given = given ≡ Err cause
-
--- where a call led is where is given, unless memory ran out
-abbrev pub Leads : {X : Type 0} → Result X ConfWhy → State → Result State ConfWhy → Type 0
-Leads (Ok x) new given = given ≡ Ok new
-Leads (Err cause) new given = Refuses cause given
-
 -- a value can come where a call led, or it can't and nothing changed
 abbrev pub Places : Result Bool ConfWhy → State → State → Option State → Type 0
 Places (Ok true) old new place = place ≡ Some new

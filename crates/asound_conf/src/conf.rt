@@ -59,7 +59,7 @@ impl Conf {
     {
         Conf {
             items: Vec::new(alloc),
-            index: Index::none(),
+            index: Index::empty(),
         }
     }
 }

@@ -2,10 +2,12 @@
 ghost use Rattle.std.specs.Prelude.{◌≡◌, ℕ, ◌<◌, length, option_map, IfOk, OnOk, IfSome, IfNone, Some, None, false, vec_len};
 ghost use Rattle.asound_conf.specs.Index.{IsIndex};
 ghost use Rattle.asound_conf.specs.Tree.{get, group, group_in, has, set, without};
-ghost use Rattle.asound_conf.specs.Place.{base, met, meets_text, node_at, put, put_there};
-ghost use Rattle.asound_conf.specs.View.{added, entries_of, put_node, tree_of, IsLast};
+ghost use Rattle.asound_conf.specs.Answer.{Leads};
+ghost use Rattle.asound_conf.specs.Place.{base, clashes, met, meets_text, placed};
+ghost use Rattle.asound_conf.specs.View.{added, blank, entries_of, is_leaf, placed_node, placed_there, tree_of, IsLast};
 
 use crate::conf::{Conf, Node};
+use crate::error::ConfWhy;
 use crate::index::Index;
 use crate::part::Part;
 use crate::text::ConfText;
@@ -48,18 +50,30 @@ fn clear(group: &mut Conf, part: &Part)
     }
 }
 
-/// The place of the node of this name. An empty group is added at the end where there is none.
+/// A node for a name that isn't there yet: an empty text, or an empty group.
+fn blank(alloc: Global, is_text: bool) -> Node
+    ensures { tree_of result ≡ blank is_text }
+{
+    if is_text {
+        Node::Text(ConfText::from_vec(Vec::new(alloc)))
+    } else {
+        Node::Group(Conf::new(alloc))
+    }
+}
+
+/// The place of the node of this name. An empty text or an empty group is added at the end where there is none.
 fn place_or_add(
     alloc: Global,
     items: &mut Vec<(ConfText, Node)>,
     index: &mut Index,
     name: &[u8],
+    is_text: bool,
 ) -> Result<usize, AllocError>
     requires { IsIndex index.old items.old.items }
     ensures place { IfOk result (λ at. IsLast name.now items.new.items at) }
     ensures within { IfOk result (λ at. at < vec_len items.new) }
     ensures items { OnOk result (entries_of items.new.items
-        ≡ added name.now (entries_of items.old.items)) }
+        ≡ added name.now is_text (entries_of items.old.items)) }
     ensures index { IsIndex index.new items.new.items }
 {
     if let Some(at) = place_of(items.as_slice(), index, name) {
@@ -68,8 +82,25 @@ fn place_or_add(
     let at = items.len();
     let name = ConfText::copied(alloc, name)?;
     index.add(alloc, items.as_slice(), name.as_bytes())?;
-    items.push((name, Node::Group(Conf::new(alloc))))?;
+    items.push((name, blank(alloc, is_text)))?;
     Ok(at)
+}
+
+/// Whether an item has a text, and its key no more parts.
+fn is_leaf(text: &Option<ConfText>, parts: &[Part]) -> bool
+    ensures { result ≡ is_leaf text.now parts.now }
+{
+    text.is_some() && parts.is_empty()
+}
+
+/// Whether an item's text would be put where a group is, or its group where a text is.
+fn clashes(text: &Option<ConfText>, node: &Node) -> bool
+    ensures { result ≡ clashes text.now (Some (tree_of node.now)) }
+{
+    match node {
+        Node::Text(_) => text.is_none(),
+        Node::Group(_) => text.is_some(),
+    }
 }
 
 /// Makes a text an empty group, and leaves a group as it is.
@@ -81,14 +112,17 @@ fn make_group(alloc: Global, node: &mut Node)
     }
 }
 
-/// Puts an item's text where a node is, or makes the node a group where the item has no text.
-fn put_there(alloc: Global, node: &mut Node, text: Option<ConfText>)
-    ensures { tree_of node.new ≡ put_there text (Some (tree_of node.old)) }
+/// Puts an item's text where a text is. A group where a group is stays.
+fn put_there(node: &mut Node, text: Option<ConfText>) -> Result<(), ConfWhy>
+    ensures { Leads result (tree_of node.new) (placed_there text (tree_of node.old)) }
 {
-    match text {
-        Some(text) => *node = Node::Text(text),
-        None => make_group(alloc, node),
+    if clashes(&text, node) {
+        return Err(ConfWhy::Kind);
     }
+    if let Some(text) = text {
+        *node = Node::Text(text);
+    }
+    Ok(())
 }
 
 /// Puts an item's text, or a group where it has none, down what is left of its key's parts at a node.
@@ -98,12 +132,11 @@ fn put_node(
     node: &mut Node,
     parts: &[Part],
     text: Option<ConfText>,
-) -> Result<(), AllocError>
-    ensures { OnOk result (tree_of node.new ≡ put_node text parts.now (tree_of node.old)) }
+) -> Result<(), ConfWhy>
+    ensures { Leads result (tree_of node.new) (placed_node text parts.now (tree_of node.old)) }
 {
     if parts.is_empty() {
-        put_there(alloc, node, text);
-        return Ok(());
+        return put_there(node, text);
     }
     make_group(alloc, node);
     match node {
@@ -112,15 +145,16 @@ fn put_node(
     }
 }
 
-/// Puts an item's text, or a group where it has none, down the parts of its key.
+/// Puts an item's text, or a group where it has none, down the parts of its key. Where a node of the other kind is at
+/// their end, it refuses with `Kind`.
 #[cycle(put)]
 pub fn put(
     alloc: Global,
     group: &mut Conf,
     parts: &[Part],
     text: Option<ConfText>,
-) -> Result<(), AllocError>
-    ensures { OnOk result (group.new ≡ put text parts.now group.old) }
+) -> Result<(), ConfWhy>
+    ensures { Leads result group.new (placed text parts.now group.old) }
 {
     let [part, rest @ ..] = parts else {
         return Ok(());
@@ -131,6 +165,7 @@ pub fn put(
         &mut group.items,
         &mut group.index,
         part.name.as_bytes(),
+        is_leaf(&text, rest),
     )?;
     put_node(alloc, &mut group.items[at].1, rest, text)
 }
@@ -151,22 +186,6 @@ fn met<'a>(group: &'a Conf, part: &Part) -> Option<&'a Node>
         None
     } else {
         get(group, part.name.as_bytes())
-    }
-}
-
-/// The node at the end of a key's parts.
-#[tactic(auto, using(crate::proofs::Puts::from_nothing), unfolding(crate::specs::Place::node_at))]
-pub fn node_at<'a>(group: &'a Conf, parts: &[Part]) -> Option<&'a Node>
-    ensures { option_map (λ n. tree_of n.now) result ≡ node_at parts.now group.now }
-{
-    let [part, rest @ ..] = parts else {
-        return None;
-    };
-    let node = met(group, part)?;
-    match node {
-        _ if rest.is_empty() => Some(node),
-        Node::Group(inner) => node_at(inner, rest),
-        Node::Text(_) => None,
     }
 }
 

@@ -3,7 +3,9 @@ ghost use Rattle.std.specs.Prelude.{◌≡◌, ◌<◌, ◌≤◌, ◌+◌, ◌^
 ghost use Rattle.std.specs.Str.{all_ascii_digits};
 ghost use Rattle.std.specs.Str.Parse.{digits_value};
 ghost use Rattle.std.specs.Fmt.{decimal};
-ghost use Rattle.asound_conf.specs.Device.{is_canonical, number_in, number_of};
+ghost use Rattle.asound_conf.specs.Device.{number_in, number_of};
+ghost use Rattle.asound_conf.specs.Index.{number_named};
+ghost use Rattle.asound_conf.specs.Number.{is_canonical};
 ghost use Rattle.asound_conf.specs.View.{tree_of};
 
 use crate::conf::Node;
@@ -72,4 +74,15 @@ pub fn is_decimal(name: &[u8], number: u64) -> bool
         return false;
     }
     digits_value(name) == number
+}
+
+/// The number whose decimal text a name is, where it has at most 19 digits.
+pub(crate) fn number_named(name: &[u8]) -> Option<u64>
+    ensures { result ≡ number_named name.now }
+{
+    if is_canonical(name) {
+        Some(digits_value(name))
+    } else {
+        None
+    }
 }

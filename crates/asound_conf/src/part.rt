@@ -1,7 +1,7 @@
 //! The parts of a key.
 ghost use Rattle.std.specs.Prelude.{◌≡◌, ◌++◌, [], ◌∷◌, IfOk, OnOk, IfNone, IfSome, option_map, map, position, drop, false, length, ◌<◌};
-ghost use Rattle.std.specs.List.{list_any, slice_split};
-ghost use Rattle.asound_conf.specs.Key.{begins, has_prefix, is_dot, is_function, is_nameless, key_defect, named, part_of, word_parts};
+ghost use Rattle.std.specs.List.{list_all, list_any, slice_split};
+ghost use Rattle.asound_conf.specs.Key.{begins, has_prefix, is_dot, is_function, is_nameless, is_plain, key_defect, named, part_of, word_parts};
 
 use crate::error::ConfWhy;
 use crate::name::Name;
@@ -118,10 +118,27 @@ fn any_nameless(parts: &[Part]) -> bool
     parts.iter().any(|part| is_nameless(part))
 }
 
-/// What is wrong with the parts of a key.
+/// Whether a part is neither a function, nor has a prefix, nor is without a name.
+fn is_plain(part: &Part) -> bool
+    ensures { result ≡ is_plain part.now }
+{
+    let name = part.name.as_bytes();
+    !name.is_empty() && !matches!(name[0], b'@' | b'+' | b'-' | b'?')
+}
+
+fn are_plain(parts: &[Part]) -> bool
+    ensures { result ≡ list_all is_plain parts.now }
+{
+    parts.iter().all(|part| is_plain(part))
+}
+
+/// What is wrong with the parts of a key. Mostly nothing is, which one look at each part shows.
 pub fn key_defect(parts: &[Part]) -> Option<ConfWhy>
     ensures { result ≡ key_defect parts.now }
 {
+    if are_plain(parts) {
+        return None;
+    }
     if any_function(parts) {
         return Some(ConfWhy::Function);
     }

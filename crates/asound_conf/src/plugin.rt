@@ -1,6 +1,7 @@
 //! The dmix, dsnoop and dshare devices that a configuration defines.
 ghost use Rattle.std.specs.Prelude.{◌≡◌, ◌<◌, ◌≤◌, ◌+◌, ◌^◌, option_map, IfOk};
-ghost use Rattle.asound_conf.specs.Device.{IsCard, as_group, card_of, defined, device_by, field, field_in, format_of, frames_in, is_fit, is_period, is_ring, is_stream, kind_named, kind_of, number_in, numbers_of, or_default, period_of, ring_of, seen, slave_of, bindings_of};
+ghost use Rattle.asound_conf.specs.Device.{IsCard, as_group, card_of, defined, device_by, field, field_in, format_of, frames_in, is_fit, is_period, is_ring, is_stream, kind_named, kind_of, number_in, numbers_of, or_default, period_of, ring_of, slave_of, bindings_of};
+ghost use Rattle.asound_conf.specs.Answer.{seen};
 ghost use Rattle.asound_conf.specs.Tree.{get};
 ghost use Rattle.asound_conf.specs.View.{tree_of};
 

@@ -80,8 +80,9 @@ fn read_tokens(alloc: Global, text: &[u8]) -> Result<Conf, ConfError>
 /// - `Kind`: a text would be put where a group is, or a group where a text is.
 /// - `Memory`: memory ran out at this line.
 ///
-/// A text is read in time that goes with its length: a group of 16 names or more has an index of them. Names whose hashes are the
-/// same, and many removals by `!` in one large group, take longer.
+/// A text is read in time that goes with its length: a group of 16 names or more has an index of them, if they aren't
+/// 0, 1 and so on, as those of `[ ]`. Names whose hashes are the same, and many removals by `!` in one large group, take
+/// longer.
 #[tactic(auto, unfolding(crate::specs::Grammar::conf_of))]
 pub fn read_conf(alloc: Global, text: &[u8]) -> Result<Conf, ConfError>
     // The answer is what the text means, or its first defect, unless memory ran out.

@@ -3,16 +3,18 @@ ghost use Rattle.std.specs.Prelude.{◌≡◌, ◌+◌, ◌∷◌, [], ◌++◌,
 ghost use Rattle.std.specs.Fmt.{decimal};
 ghost use Rattle.asound_conf.specs.Grammar.{after_item, at_number, close_group, equals_at, finished, open_at, open_group, put_text, separator_at, misplaced, settled, start, step, take_mark, take_text, value_place, put_key};
 ghost use Rattle.asound_conf.specs.Key.{key_defect, named, word_parts};
-ghost use Rattle.asound_conf.specs.Reading.{state_of, key_checked, Leads, Places, Reads};
+ghost use Rattle.asound_conf.specs.Answer.{Leads};
+ghost use Rattle.asound_conf.specs.Reading.{state_of, key_checked, Places, Reads};
 ghost use Rattle.asound_conf.specs.Token.{token_of};
 
 use crate::bracket::{Awaits, Bracket};
-use crate::conf::{Conf, Node};
+use crate::conf::Conf;
 use crate::error::{ConfError, ConfWhy};
-use crate::group::{meets_text, node_at, put};
+use crate::group::{meets_text, put};
 use crate::part::{Part, begins, key_defect, named, push_parts};
 use crate::text::ConfText;
 use crate::token::{Mark, Token};
+use itoa::Buffer;
 use std::alloc::{AllocError, Global};
 
 /// Groups may be within each other this deep, the text's own counted.
@@ -47,8 +49,8 @@ fn settle(path: &mut Vec<Part>)
 fn numbered(alloc: Global, number: u32) -> Result<Part, AllocError>
     ensures { IfOk result (λ part. part ≡ named (decimal number)) }
 {
-    let name = format!(in alloc; "{number}")?;
-    named(alloc, name.as_str().as_bytes())
+    let mut buffer = Buffer::new();
+    named(alloc, buffer.format(number).as_bytes())
 }
 
 impl Reading {
@@ -103,9 +105,6 @@ impl Reading {
     fn put_text(&mut self, alloc: Global, text: &[u8]) -> Result<(), ConfWhy>
         ensures { Leads result (state_of self.new) (put_text (state_of self.old) text.now) }
     {
-        if let Some(Node::Group(_)) = node_at(&self.root, self.path.as_slice()) {
-            return Err(ConfWhy::Kind);
-        }
         let text = ConfText::copied(alloc, text)?;
         put(alloc, &mut self.root, self.path.as_slice(), Some(text))?;
         self.path.truncate(self.here.names);
@@ -183,9 +182,6 @@ impl Reading {
     {
         if self.path.len() >= DEEPEST {
             return Err(ConfWhy::Deep);
-        }
-        if let Some(Node::Text(_)) = node_at(&self.root, self.path.as_slice()) {
-            return Err(ConfWhy::Kind);
         }
         put(alloc, &mut self.root, self.path.as_slice(), None)?;
         settle(&mut self.path);

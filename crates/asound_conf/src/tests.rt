@@ -28,6 +28,18 @@ const MANUAL: &[u8] =
 const BY_TIME: &[u8] =
     b"pcm.t { type dmix slave { rate 44100 period_time 20000 buffer_time 0 periods 4 } }";
 
+const DOTTED: &[u8] =
+    b"pcm.mike.type dsnoop\npcm.mike.ipc_key 8675309\npcm.mike.slave.pcm \"hw:1,0\"\npcm.mike.slave.channels 1\npcm.mike.slave.rate 16000\npcm.mike.slave.period_size 160\npcm.mike.bindings.0 0\n";
+
+const SURROUND: &[u8] =
+    b"pcm_slave.usb51 {\n    pcm \"hw:USB\"\n    format S16_LE\n    channels 6\n    rate 48000\n    period_size 512\n    periods 4\n}\n\npcm.front { type dshare ipc_key 20011 slave usb51 bindings { 0 0 1 1 } }\npcm.rear { type dshare ipc_key 20011 slave usb51 bindings.0 2 bindings.1 3 }\npcm.lfe { type dshare ipc_key 20011 ipc_key_add_uid no slave usb51 bindings [ 4 5 ] }\n";
+
+const BOTH_WAYS: &[u8] =
+    b"pcm.!default {\n  type asym\n  playback.pcm \"out\"\n  capture.pcm \"in\"\n}\npcm.out { type plug slave.pcm \"mix\" }\npcm.in { type plug; slave { pcm \"snoop\" } }\npcm.mix {\n  type dmix; ipc_key 5432; ipc_perm 0666;\n  slave { pcm \"hw:0,0\"; period_time 0; period_size 2048; buffer_size 16384; }\n}\npcm.snoop { type dsnoop, ipc_key 5433, slave = { pcm = 'hw:0,0', rate = 44100, buffer_time = 0, periods = 8 } }\nctl.!default { type hw card 0 }\ndefaults.pcm.rate_converter \"samplerate_best\"\n";
+
+const BY_WHOLE_TIMES: &[u8] =
+    b"pcm.t { type dmix slave { pcm \"hw:0\" period_time 21333 } }\npcm.u { type dmix slave { pcm \"hw:0\" period_time 21333 buffer_time 170666 } }\n";
+
 #[test]
 fn devices_are_read_from_files_as_users_have_them(rt: HostRuntime) -> Result<(), Fail> {
     let rows = [
@@ -53,6 +65,44 @@ fn devices_are_read_from_files_as_users_have_them(rt: HostRuntime) -> Result<(),
             "t",
             "type dmix\ncard channels 2 rate 44100 period 882 ring 3528\n",
         ),
+        (
+            DOTTED,
+            "mike",
+            "type dsnoop\ncard channels 1 rate 16000 period 160 ring 1280\nbindings 0\n",
+        ),
+        (
+            SURROUND,
+            "front",
+            "type dshare\ncard channels 6 rate 48000 period 512 ring 2048\nbindings 0,1\n",
+        ),
+        (
+            SURROUND,
+            "rear",
+            "type dshare\ncard channels 6 rate 48000 period 512 ring 2048\nbindings 2,3\n",
+        ),
+        (
+            SURROUND,
+            "lfe",
+            "type dshare\ncard channels 6 rate 48000 period 512 ring 2048\nbindings 4,5\n",
+        ),
+        (
+            BOTH_WAYS,
+            "mix",
+            "type dmix\ncard channels 2 rate 48000 period 2048 ring 16384\n",
+        ),
+        (
+            BOTH_WAYS,
+            "snoop",
+            "type dsnoop\ncard channels 2 rate 44100 period 1024 ring 8192\n",
+        ),
+        (BOTH_WAYS, "out", "line 0: PluginType"),
+        (BOTH_WAYS, "default", "line 0: Missing"),
+        (
+            BY_WHOLE_TIMES,
+            "t",
+            "type dmix\ncard channels 2 rate 48000 period 1023 ring 8184\n",
+        ),
+        (BY_WHOLE_TIMES, "u", "line 0: Fit"),
     ];
     for (text, name, lines) in rows {
         let answer = read(rt.alloc(), text, name)?;
@@ -63,8 +113,13 @@ fn devices_are_read_from_files_as_users_have_them(rt: HostRuntime) -> Result<(),
 
 #[test]
 fn each_cause_of_a_refused_text_has_its_line(rt: HostRuntime) -> Result<(), Fail> {
-    let rows: [(&[u8], &str); 22] = [
+    let rows: [(&[u8], &str); 24] = [
         (b"</etc/a.conf>", "line 1: Include"),
+        (
+            b"# files of its own\n@hooks [ { func load files [ '/etc/asound.conf' ] } ]",
+            "line 2: Function",
+        ),
+        (b"pcm.x {\n @args [ CARD ]\n}", "line 2: Function"),
         (b"", "line 0: Missing"),
         (b"a 1\n\x01", "line 2: Byte"),
         (b"a \"b\x07\\", "line 1: Byte"),

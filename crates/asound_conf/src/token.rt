@@ -1,5 +1,5 @@
 //! The tokens of a configuration text, lent from it.
-ghost use Rattle.std.specs.Prelude.{◌≡◌, ℕ, ◌+◌, ◌<◌, ◌≤◌, ◌^◌, ◌==◌, ◌∷◌, [], length, option_map, IfNone, IfSome, drop, IsTrue, position, ◌||◌};
+ghost use Rattle.std.specs.Prelude.{◌≡◌, ℕ, ◌+◌, ◌<◌, ◌≤◌, ◌^◌, ◌==◌, ◌∷◌, [], length, option_map, IfNone, IfSome, drop, IsTrue, position, slice_index, true, false, ◌||◌};
 ghost use Rattle.std.specs.List.{list_any};
 ghost use Rattle.asound_conf.specs.Token.{end_at, ends_word, is_blank, is_control, is_quote, is_skipped, is_word, line_after, mark_of, quoted_end, quoted_size, quoted_token, token_at, token_end, token_of, tokens};
 
@@ -176,56 +176,75 @@ fn quoted_size(quote: u8, text: &[u8]) -> usize
     }
 }
 
-/// The token at the front of a text whose first byte is no blank and begins no comment.
-#[tactic(auto, unfolding(crate::specs::Token::token_at))]
-fn token_at(text: &[u8]) -> Token<'_>
-    requires { 0 < length text.now }
-    ensures { token_of result ≡ token_at text.now }
-{
-    let first = text[0];
-    if let Some(mark) = mark_of(first) {
-        return Token::Mark(mark);
-    }
-    if is_quote(first) {
-        return quoted_token(first, &text[1..]);
-    }
-    if is_word(first) {
-        return Token::Word(&text[..word_end(text)]);
-    }
-    Token::Bad(ConfWhy::Byte)
-}
-
-/// Where what is at the front of a text ends: a blank, a comment or a token.
-#[tactic(auto, unfolding(crate::specs::Token::token_end))]
-fn token_end(text: &[u8]) -> usize
+/// The token at the front of a text, and where it ends. The first byte is no blank and begins no comment.
+#[tactic(auto, unfolding(crate::specs::Token::token_at, crate::specs::Token::token_end))]
+fn token_at(text: &[u8]) -> (Token<'_>, usize)
     requires some { 0 < length text.now }
     requires small { length text.now < 2 ^ 32 }
+    requires kept { is_skipped (slice_index text.now 0) ≡ false }
+    ensures token { token_of result.0 ≡ token_at text.now }
+    ensures end { result.1 ≡ token_end text.now }
+    ensures moves { 0 < result.1 }
+    ensures within { result.1 ≤ length text.now }
+{
+    let first = text[0];
+    if is_word(first) {
+        let end = word_end(text);
+        return (Token::Word(&text[..end]), end);
+    }
+    if is_quote(first) {
+        let behind = &text[1..];
+        return (quoted_token(first, behind), quoted_size(first, behind));
+    }
+    match mark_of(first) {
+        Some(mark) => (Token::Mark(mark), 1),
+        None => (Token::Bad(ConfWhy::Byte), 1),
+    }
+}
+
+/// Where the blank or the comment at the front of a text ends.
+#[tactic(auto, unfolding(crate::specs::Token::token_end))]
+fn skipped_end(text: &[u8]) -> usize
+    requires some { 0 < length text.now }
+    requires skipped { is_skipped (slice_index text.now 0) ≡ true }
     ensures value { result ≡ token_end text.now }
     ensures moves { 0 < result }
     ensures within { result ≤ length text.now }
 {
-    let first = text[0];
-    if first == b'#' {
+    if text[0] == b'#' {
         return line_end(text);
-    }
-    if is_quote(first) {
-        return quoted_size(first, &text[1..]);
-    }
-    if is_word(first) {
-        return word_end(text);
     }
     1
 }
 
-/// The text that follows the blank, the comment or the token at its front.
-fn after_first(text: &[u8]) -> &[u8]
+/// The text that follows the blank or the comment at its front.
+fn after_skipped(text: &[u8]) -> &[u8]
     requires some { 0 < length text.now }
-    requires small { length text.now < 2 ^ 32 }
+    requires skipped { is_skipped (slice_index text.now 0) ≡ true }
     ensures value { result.now ≡ drop (token_end text.now) text.now }
     ensures moves { 0 < token_end text.now }
     ensures shorter { length result.now < length text.now }
 {
-    &text[token_end(text)..]
+    &text[skipped_end(text)..]
+}
+
+/// The token at the front of a text, with its line and what follows it. The first byte is no blank and begins no comment.
+fn first_lexeme(line: u32, text: &[u8]) -> Lexeme<'_>
+    requires some { 0 < length text.now }
+    requires small { length text.now < 2 ^ 32 }
+    requires kept { is_skipped (slice_index text.now 0) ≡ false }
+    ensures line { result.line ≡ line }
+    ensures token { token_of result.token ≡ token_at text.now }
+    ensures rest { result.rest.now ≡ drop (token_end text.now) text.now }
+    ensures moves { 0 < token_end text.now }
+    ensures shorter { length result.rest.now < length text.now }
+{
+    let (token, end) = token_at(text);
+    Lexeme {
+        line,
+        token,
+        rest: &text[end..],
+    }
 }
 
 /// Whether a byte is a blank or begins a comment.
@@ -256,16 +275,11 @@ pub fn next_token(line: u32, text: &[u8]) -> Option<Lexeme<'_>>
     let mut rest = text;
     while !rest.is_empty() {
         let first = rest[0];
-        let behind = after_first(rest);
         if !is_skipped(first) {
-            return Some(Lexeme {
-                line,
-                token: token_at(rest),
-                rest: behind,
-            });
+            return Some(first_lexeme(line, rest));
         }
         line = line_after(line, first);
-        rest = behind;
+        rest = after_skipped(rest);
     }
     None
 }

@@ -1,3 +1,4 @@
+pub mod Moments
 pub mod RunLaws
 pub mod Runs
 pub mod Steps

@@ -1,18 +1,16 @@
 -- What a card captures, put together.
 use Rattle.std.specs.Prelude.{◌≡◌, ℕ, ◌+◌, ℤ, List, [], ◌∷◌, ◌++◌}
-use Rattle.std.proofs.Common.{◌*◌, Bool, true, false, take, drop, refl, sym, ap, subst, ◌∙◌, append_assoc, append-nil, arith}
-use Rattle.snd_base.specs.declared.geometry.Geometry.{Geometry}
+use Rattle.std.proofs.Common.{◌*◌, true, false, take, drop, refl, sym, ap, subst, ◌∙◌, append_assoc, append-nil, arith}
 use Rattle.snd_base.specs.declared.places.Cursor.{Cursor}
-use Rattle.sum_table.specs.declared.view.Key.{Key}
 use Rattle.sum_table.specs.Players.{next_of_player}
 use Rattle.card_player.specs.declared.player.CardPlayer.{CardPlayer}
 use Rattle.card_player.specs.FillLaws.{HasFilled, take-split}
 use Rattle.card_player.specs.PlayLaws.{HasPlayed-joined, periods_to-ended, periods_to-more, periods_to-open}
-use Rattle.card_player.specs.Plays.{HasPlayed, ends_period, frame_of, geometry_of, period_at, periods_to, positions_of, samples_of, seat_of}
+use Rattle.card_player.specs.Plays.{HasPlayed, ends_period, frame_of, period_at, periods_to, positions_of, samples_of, seat_of}
 use Rattle.snoop_table.specs.declared.seats.writer.WriterSeat.{WriterSeat}
 use Rattle.snoop_table.specs.declared.view.Track.{Track}
 use Rattle.snoop_table.specs.Writers.{HasPublished, HasStored, desk_of, next_frame, writer_track}
-use Rattle.card_sim.specs.Runs.{HasCaptured, RunsFrames, RunsInOrder}
+use Rattle.card_sim.specs.Runs.{HasCaptured, RunsFrames}
 use Rattle.card_sim.specs.Steps.{AreInStep}
 
 pub HasCaptured-none : (w : WriterSeat) → HasCaptured w w [] []
@@ -80,9 +78,8 @@ pub RunsFrames-published : (p q r : CardPlayer) (w v u : WriterSeat) (period n :
     → ends_period period (frame_of p) n ≡ false
     → HasPlayed (seat_of q) (seat_of r) [] (frame_of q ∷ []) → HasCaptured v u [] (frame_of q ∷ [])
     → next_of_player (seat_of r) ≡ next_of_player (seat_of q) → AreInStep r u
-    → RunsInOrder period n p w q v captured old new
     → RunsFrames p w r u period n captured old new
-RunsFrames-published p q r w v u period n captured old new filled caught not_ended played published stays in_step in_order =
+RunsFrames-published p q r w v u period n captured old new filled caught not_ended played published stays in_step =
     let end_is : frame_of q ≡ frame_of p + n = ap (λ (x : Cursor). x.frame) filled.next in
     let positions : periods_to period (frame_of p) n ++ frame_of q ∷ [] ≡ positions_of period (frame_of p) n =
     periods_to-open period (frame_of p) n (frame_of q) not_ended end_is in
@@ -96,7 +93,6 @@ RunsFrames-published p q r w v u period n captured old new filled caught not_end
       next = stays ∙ filled.next;
       in_step = in_step;
       rest = filled.rest;
-      in_order = (q, v, in_order);
     }
 
 -- the end is a multiple of the period: it is published already
@@ -104,9 +100,8 @@ pub RunsFrames-ended : (p q : CardPlayer) (w v : WriterSeat) (period n : ℕ) (c
     → HasFilled (seat_of p) (seat_of q) period n old new
     → HasCaptured w v (samples_of p n captured) (periods_to period (frame_of p) n)
     → ends_period period (frame_of p) n ≡ true → AreInStep q v
-    → RunsInOrder period n p w q v captured old new
     → RunsFrames p w q v period n captured old new
-RunsFrames-ended p q w v period n captured old new filled caught ended in_step in_order =
+RunsFrames-ended p q w v period n captured old new filled caught ended in_step =
     let positions : periods_to period (frame_of p) n ≡ positions_of period (frame_of p) n = periods_to-ended period (frame_of p) n ended in
     record {
       played = subst (λ (ps : List ℕ). HasPlayed (seat_of p) (seat_of q) (samples_of p n new) ps) positions filled.played;
@@ -114,5 +109,4 @@ RunsFrames-ended p q w v period n captured old new filled caught ended in_step i
       next = filled.next;
       in_step = in_step;
       rest = filled.rest;
-      in_order = (q, v, in_order);
     }

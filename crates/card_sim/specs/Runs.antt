@@ -1,11 +1,12 @@
 -- What a duplex card captures, plays and publishes.
-use Rattle.std.specs.Prelude.{◌≡◌, ℕ, zero, suc, ◌+◌, ◌*◌, ◌++◌, ℤ, List, [], take, drop}
+use Rattle.std.specs.Prelude.{◌≡◌, ℕ, ◌+◌, ◌++◌, ℤ, List, [], take, drop}
 use Rattle.sum_table.specs.Players.{next_of_player}
 use Rattle.card_player.specs.declared.player.CardPlayer.{CardPlayer}
-use Rattle.card_player.specs.Plays.{HasPlayed, TakesFrameAt, at_frame, frame_of, frames_left, geometry_of, period_at, positions_of, rest_of, samples_of, seat_of}
+use Rattle.card_player.specs.Plays.{HasPlayed, TakesFrameAt, at_frame, frame_of, frames_left, geometry_of, positions_of, rest_of, samples_of, seat_of}
 use Rattle.snoop_table.specs.declared.seats.writer.WriterSeat.{WriterSeat}
-use Rattle.snoop_table.specs.Writers.{next_frame, writer_geometry, writer_ring, writer_track}
+use Rattle.snoop_table.specs.Writers.{writer_geometry, writer_ring, writer_track}
 use Rattle.card_sim.specs.declared.card.Card.{Card}
+use Rattle.card_sim.specs.Moments.{Moment, moments_of, position_of_writer}
 use Rattle.card_sim.specs.Steps.{AreInStep}
 
 -- a card's player and writer, and its period
@@ -26,11 +27,9 @@ pub record HasCaptured (w v : WriterSeat) (samples : List ℤ) (positions : List
   pub published : (writer_track v).published ≡ (writer_track w).published ++ positions
   pub gone : (writer_track v).gone ≡ (writer_track w).gone
 
--- one frame was captured and played, of the samples from an index of both buffers on: it was stored, so that the writer was a frame
--- ahead of the player, and then taken; nothing was published
+-- one frame was captured and played, of the samples from an index of both buffers on; nothing was published
 pub record RunsFrame (p : CardPlayer) (w : WriterSeat) (q : CardPlayer) (v : WriterSeat) (at : ℕ) (captured old new : List ℤ) : Type 0 where
   pub stored : HasCaptured w v (drop at (take (at + (geometry_of p).channels) captured)) []
-  pub ahead : next_frame v ≡ frame_of p + 1
   pub takes : TakesFrameAt p q at old new
   pub in_step : AreInStep q v
 
@@ -41,16 +40,6 @@ pub record PublishesBoth (p : CardPlayer) (w : WriterSeat) (q : CardPlayer) (v :
   pub next : next_of_player (seat_of q) ≡ next_of_player (seat_of p)
   pub in_step : AreInStep q v
 
--- so many frames were captured and played one after the other, each stored and then taken, and where one ends a period its position
--- published
-abbrev pub RunsInOrder : ℕ → ℕ → CardPlayer → WriterSeat → CardPlayer → WriterSeat → List ℤ → List ℤ → List ℤ → Type 0
-RunsInOrder period zero p w q v captured old new = (q ≡ p) × (v ≡ w) × (new ≡ old)
-RunsInOrder period (suc n) p w q v captured old new =
-    (m : CardPlayer) × (u : WriterSeat) × (before : List ℤ) × (m1 : CardPlayer) × (u1 : WriterSeat)
-    × RunsInOrder period n p w m u captured old before
-    × RunsFrame m u m1 u1 (n * (geometry_of p).channels) captured before new
-    × PublishesBoth m1 u1 q v (period_at period (frame_of m1))
-
 -- so many frames were captured and played, and both rings' positions published at each multiple of the period, and at the end
 pub record RunsFrames (p : CardPlayer) (w : WriterSeat) (q : CardPlayer) (v : WriterSeat) (period frames : ℕ) (captured old new : List ℤ) : Type 0 where
   pub played : HasPlayed (seat_of p) (seat_of q) (samples_of p frames new) (positions_of period (frame_of p) frames)
@@ -58,9 +47,12 @@ pub record RunsFrames (p : CardPlayer) (w : WriterSeat) (q : CardPlayer) (v : Wr
   pub next : next_of_player (seat_of q) ≡ at_frame (frame_of p + frames)
   pub in_step : AreInStep q v
   pub rest : rest_of p frames new ≡ rest_of p frames old
-  pub in_order : (m : CardPlayer) × (u : WriterSeat) × RunsInOrder period frames p w m u captured old new
 
 -- a card runs for as many frames as its buffers hold and its rings have
 abbrev pub RunsThrough : Card → Card → List ℤ → List ℤ → List ℤ → Type 0
 RunsThrough c d captured old new =
     RunsFrames (player_of c) (writer_of c) (player_of d) (writer_of d) (period_of c) (frames_left (player_of c) old) captured old new
+
+-- what is seen of that run
+abbrev pub moments_through : Card → List ℤ → List Moment
+moments_through c out = moments_of (period_of c) (frame_of (player_of c)) (position_of_writer (writer_of c)) (frames_left (player_of c) out)

@@ -3,6 +3,7 @@ ghost use Rattle.std.specs.Prelude.{◌≤◌};
 ghost use Rattle.card_sim.specs.Steps.{AreInStep, IsPublished};
 
 use crate::run::run_frames;
+use crate::watch::{NoWatch, Watch};
 use card_player::CardPlayer;
 use pcm_stream::is_same_ring;
 use snd_base::PcmError;
@@ -29,7 +30,7 @@ impl<'p, 'w> Card<'p, 'w> {
     ghost use Rattle.snoop_table.specs.Writers.{HasUnplugged as WriterHasUnplugged, desk_of};
     ghost use Rattle.card_player.specs.Plays.{EndsEarly, frame_of, geometry_of, seat_of};
     ghost use Rattle.card_sim.specs.Steps.{AreInStep, IsPublished};
-    ghost use Rattle.card_sim.specs.Runs.{RunsThrough, period_of, player_of, writer_of};
+    ghost use Rattle.card_sim.specs.Runs.{RunsThrough, moments_through, period_of, player_of, writer_of};
 
     /// A card over a player and a writer, with a period of so many frames, at least 1.
     ///
@@ -89,6 +90,25 @@ impl<'p, 'w> Card<'p, 'w> {
         ensures lap_end { IsErrOf result PcmError.LapEnd ↔ EndsEarly (player_of self.old) out.old }
         ensures only { IfErr result (λ e. e ≡ PcmError.LapEnd) }
     {
+        self.run_watched(captured, out, &mut NoWatch)
+    }
+
+    /// Runs in the same way before a watch, which is shown both seats after each step: each store, each take and each
+    /// publication.
+    pub fn run_watched<W: Watch>(
+        &mut self,
+        captured: &[i16],
+        out: &mut [i16],
+        watch: &mut W,
+    ) -> Result<(), PcmError>
+        requires same { length captured.now ≡ length out.old }
+        requires whole { length out.old % (geometry_of (player_of self.old)).channels ≡ 0 }
+        ensures runs { RunsThrough self.old self.new captured.now out.old out.new }
+        ensures watched { W.saw watch.old watch.new (moments_through self.old out.old) }
+        ensures period { period_of self.new ≡ period_of self.old }
+        ensures lap_end { IsErrOf result PcmError.LapEnd ↔ EndsEarly (player_of self.old) out.old }
+        ensures only { IfErr result (λ e. e ≡ PcmError.LapEnd) }
+    {
         let geometry = self.player.geometry();
         let first = self.player.next().frame;
         let frames = out.len() / geometry.channels as usize;
@@ -100,6 +120,7 @@ impl<'p, 'w> Card<'p, 'w> {
             captured,
             out,
             left,
+            watch,
         );
         if left < frames {
             return Err(PcmError::LapEnd);

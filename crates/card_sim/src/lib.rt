@@ -4,8 +4,10 @@
 
 mod card;
 mod run;
+mod watch;
 
 pub use card::Card;
+pub use watch::{NoWatch, Watch};
 
 #[cfg(test)]
 mod tests;

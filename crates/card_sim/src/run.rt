@@ -1,91 +1,100 @@
 //! The frames of one run of a duplex card.
 ghost use Rattle.std.specs.Prelude.{◌≡◌, ◌+◌, ◌*◌, ◌<◌, ◌≤◌, ◌&&◌, nat_lt, [], ◌∷◌, length};
 ghost use Rattle.snd_base.specs.Places.{end_frame};
-ghost use Rattle.snoop_table.specs.Writers.{next_frame};
-ghost use Rattle.card_player.specs.Plays.{HasFrame, HasRoom, IsAtFrame, TakesFrameAt, frame_of, geometry_of, is_multiple, period_at};
+ghost use Rattle.card_player.specs.Plays.{HasFrame, HasRoom, frame_of, geometry_of, is_multiple, period_at, seat_of};
+ghost use Rattle.sum_table.specs.Players.{position_of_player};
+ghost use Rattle.card_sim.specs.Moments.{frame_moments, moments_of, period_moments, position_of_writer, publish_moments};
 ghost use Rattle.card_sim.specs.Runs.{PublishesBoth, RunsFrame, RunsFrames};
-ghost use Rattle.card_sim.specs.Steps.{AreInStep};
+ghost use Rattle.card_sim.specs.Steps.{AreInStep, IsPublished};
 
+use crate::watch::Watch;
 use card_player::CardPlayer;
 use snoop_table::WriterSeat;
 
 /// Runs for so many frames, which both buffers hold and both rings still have.
-pub(crate) fn run_frames(
+pub(crate) fn run_frames<W: Watch>(
     player: &mut CardPlayer<'_>,
     writer: &mut WriterSeat<'_>,
     period: u32,
     captured: &[i16],
     out: &mut [i16],
     frames: usize,
+    watch: &mut W,
 )
     requires period { 1 ≤ period }
     requires in_step { AreInStep player.old writer.old }
+    requires published { IsPublished player.old }
     requires captured { frames * (geometry_of player.old).channels ≤ length captured.now }
     requires room { frames * (geometry_of player.old).channels ≤ length out.old }
     requires fits { frame_of player.old + frames ≤ end_frame (geometry_of player.old) }
-    ensures { RunsFrames player.old writer.old player.new writer.new period frames captured.now out.old out.new }
+    ensures runs { RunsFrames player.old writer.old player.new writer.new period frames captured.now out.old out.new }
+    ensures watched { W.saw watch.old watch.new
+        (moments_of period (frame_of player.old) (position_of_writer writer.old) frames) }
 {
     let channels = player.geometry().channels as usize;
     for frame in 0..frames {
-        run_frame(player, writer, captured, out, frame * channels);
-        publish_period(player, writer, period);
+        run_frame(player, writer, captured, out, frame * channels, watch);
+        publish_period(player, writer, period, watch);
     }
     if !has_ended_period(player, period, frames) {
-        publish(player, writer);
+        publish(player, writer, watch);
     }
 }
 
-/// Captures and plays one frame, of the samples from an index of both buffers on.
-fn run_frame(
+/// Captures and plays one frame, of the samples from an index of both buffers on: first it is stored, then it is taken.
+fn run_frame<W: Watch>(
     player: &mut CardPlayer<'_>,
     writer: &mut WriterSeat<'_>,
     captured: &[i16],
     out: &mut [i16],
     at: usize,
+    watch: &mut W,
 )
     requires in_step { AreInStep player.old writer.old }
     requires captured { HasRoom player.old at captured.now }
     requires room { HasRoom player.old at out.old }
     requires fits { HasFrame player.old }
-    ensures { RunsFrame player.old writer.old player.new writer.new at captured.now out.old out.new }
+    ensures runs { RunsFrame player.old writer.old player.new writer.new at captured.now out.old out.new }
+    ensures watched { W.saw watch.old watch.new
+        (frame_moments (frame_of player.old) (position_of_player (seat_of player.old)) (position_of_writer writer.old)) }
 {
     let channels = player.geometry().channels as usize;
     let Ok(()) = writer.store_frame(&captured[at..at + channels]) else {
         unreachable!()
     };
-    take_stored(player, writer, out, at);
-}
-
-/// Takes the frame that the writer stored last.
-fn take_stored(player: &mut CardPlayer<'_>, writer: &WriterSeat<'_>, out: &mut [i16], at: usize)
-    requires stored { next_frame writer.now ≡ frame_of player.old + 1 }
-    requires at_frame { IsAtFrame player.old }
-    requires room { HasRoom player.old at out.old }
-    requires fits { HasFrame player.old }
-    ensures { TakesFrameAt player.old player.new at out.old out.new }
-{
-    let _stored = writer.next();
+    watch.see(player, writer);
     player.take_frame_at(out, at);
+    watch.see(player, writer);
 }
 
 /// Publishes the positions of both rings where they are a multiple of the period.
-fn publish_period(player: &mut CardPlayer<'_>, writer: &mut WriterSeat<'_>, period: u32)
+fn publish_period<W: Watch>(
+    player: &mut CardPlayer<'_>,
+    writer: &mut WriterSeat<'_>,
+    period: u32,
+    watch: &mut W,
+)
     requires period { 1 ≤ period }
     requires in_step { AreInStep player.old writer.old }
-    ensures { PublishesBoth player.old writer.old player.new writer.new (period_at period (frame_of player.old)) }
+    ensures publishes { PublishesBoth player.old writer.old player.new writer.new (period_at period (frame_of player.old)) }
+    ensures watched { W.saw watch.old watch.new
+        (period_moments period (frame_of player.old) (position_of_writer writer.old)) }
 {
     if is_at_period(player, period) {
-        publish(player, writer);
+        publish(player, writer, watch);
     }
 }
 
 /// Publishes the position of the sum ring and then that of the snoop ring.
-fn publish(player: &mut CardPlayer<'_>, writer: &mut WriterSeat<'_>)
+fn publish<W: Watch>(player: &mut CardPlayer<'_>, writer: &mut WriterSeat<'_>, watch: &mut W)
     requires { AreInStep player.old writer.old }
-    ensures { PublishesBoth player.old writer.old player.new writer.new (frame_of player.old ∷ []) }
+    ensures publishes { PublishesBoth player.old writer.old player.new writer.new (frame_of player.old ∷ []) }
+    ensures watched { W.saw watch.old watch.new (publish_moments (frame_of player.old) (position_of_writer writer.old)) }
 {
     player.publish();
+    watch.see(player, writer);
     writer.publish();
+    watch.see(player, writer);
 }
 
 /// Whether the last of so many frames, which were just played, ended a period.

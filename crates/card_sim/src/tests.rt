@@ -35,12 +35,18 @@ fn new_snoop_ring(alloc: Global, geometry: Geometry) -> Result<SnoopRing, Fail>
     Ok(SnoopRing::new(alloc, geometry)?)
 }
 
-// A card over the seats of two rings, with a period of 16 frames.
-fn new_card<'p, 'w>(player: CardPlayer<'p>, writer: WriterSeat<'w>) -> Result<Card<'p, 'w>, Fail> {
+// A card over the seats of two rings, with a period of so many frames.
+fn new_card<'p, 'w>(
+    player: CardPlayer<'p>,
+    writer: WriterSeat<'w>,
+    period: u32,
+) -> Result<Card<'p, 'w>, Fail>
+    requires { 1 ≤ period }
+{
     if !Card::can_use(&player, &writer) {
         return Err("out of step".into());
     }
-    Ok(Card::new(player, writer, 16))
+    Ok(Card::new(player, writer, period))
 }
 
 // Places a sample where the seat may, as seen at run time.
@@ -79,13 +85,84 @@ fn run(
     Ok(card.run(captured, out))
 }
 
+/// A watch that loads the positions of both rings, as a client and a reader do, and keeps what it saw in rows: the frame that
+/// is stored next, the one that is taken next, and the positions of the sum ring and the snoop ring.
+#[derive(Drop)]
+struct Outside<'a> {
+    mix: MixSeat<'a>,
+    reader: ReaderSeat<'a>,
+    rows: [[u64; 4]; 10],
+    count: usize,
+}
+
+impl Outside<'_> {
+    fn positions(&mut self) -> Result<(u64, u64), PcmError> {
+        let played = self.mix.position(&mut NeverStops)?.frame;
+        let captured = self.reader.position(&mut NeverStops)?.frame;
+        Ok((played, captured))
+    }
+}
+
+impl Watch for Outside<'_> {
+    ghost use Rattle.std.specs.Prelude.{⊤};
+
+    ghost saw = { λ _ _ _. ⊤ };
+
+    ghost saw_composes = { record { none = λ _. tt; joined = λ _ _ _ _ _ _ _. tt } };
+
+    fn see(&mut self, player: &CardPlayer<'_>, writer: &WriterSeat<'_>) {
+        let Ok((played, captured)) = self.positions() else {
+            return;
+        };
+        if self.count < 10 {
+            self.rows[self.count] = [writer.next(), player.next().frame, played, captured];
+            self.count += 1;
+        }
+    }
+}
+
+// Three frames with a period of two, seen from outside after each step.
+#[test]
+fn a_frame_is_stored_and_then_taken(rt: HostRuntime) -> Result<(), Fail> {
+    let mut ring = new_ring(rt.alloc(), mono(0))?;
+    let mut snoop = new_snoop_ring(rt.alloc(), mono(0))?;
+    let (player, mix) = ring.seats();
+    let (writer, reader) = snoop.seats();
+    let mut card = new_card(CardPlayer::new(player, 2), writer, 2)?;
+    let mut watch = Outside {
+        mix,
+        reader,
+        rows: [[9; 4]; 10],
+        count: 0,
+    };
+    let mut out = [1i16; 3];
+    if card.channels() != 1 {
+        return Err("not mono".into());
+    }
+    assert_eq!(rt; card.run_watched(&[7i16; 3], &mut out, &mut watch), Ok(()));
+    let rows = [
+        [1, 0, 0, 0],
+        [1, 1, 0, 0],
+        [2, 1, 0, 0],
+        [2, 2, 0, 0],
+        [2, 2, 2, 0],
+        [2, 2, 2, 2],
+        [3, 2, 2, 2],
+        [3, 3, 2, 2],
+        [3, 3, 3, 2],
+        [3, 3, 3, 3],
+    ];
+    assert_eq!(rt; watch.rows, rows);
+    Ok(())
+}
+
 #[test]
 fn captured_frames_are_stored_and_played_ones_taken(rt: HostRuntime) -> Result<(), Fail> {
     let mut ring = new_ring(rt.alloc(), mono(0))?;
     let mut snoop = new_snoop_ring(rt.alloc(), mono(0))?;
     let (player, mut mix) = ring.seats();
     let (writer, mut reader) = snoop.seats();
-    let mut card = new_card(CardPlayer::new(player, 16), writer)?;
+    let mut card = new_card(CardPlayer::new(player, 16), writer, 16)?;
     assert_eq!(rt; place(&mut mix, 19, 9)?, Placed::In);
     let mut out = [1i16; 20];
     assert_eq!(rt; run(&mut card, &[7i16; 20], &mut out)?, Ok(()));
@@ -109,7 +186,7 @@ fn the_frames_before_the_last_lap_are_run(rt: HostRuntime) -> Result<(), Fail> {
     let mut snoop = new_snoop_ring(rt.alloc(), mono(4294967294))?;
     let (player, _mix) = ring.seats();
     let (writer, mut reader) = snoop.seats();
-    let mut card = new_card(CardPlayer::new(player, 16), writer)?;
+    let mut card = new_card(CardPlayer::new(player, 16), writer, 16)?;
     let mut out = [1i16; 100];
     assert_eq!(rt;
         run(&mut card, &[5i16; 100], &mut out)?,

@@ -1,7 +1,7 @@
 -- Why a sync, a start and a write answered an error: by the position that they loaded, and by where their commits ended.
-use Rattle.std.proofs.Common.{◌≡◌, ℕ, ◌+◌, ◌<◌, ◌≤◌, ◌∙◌, ap, sym, refl, subst, arith, List, length}
+use Rattle.std.proofs.Common.{◌≡◌, ℕ, ◌+◌, ◌<◌, ◌≤◌, ◌∙◌, ap, sym, refl, subst, arith, length}
 use Rattle.std.proofs.lemmas.Bool.Decides.{nat_tests}
-use Rattle.std.specs.Prelude.{IfErr, IfNone, Bool, true, false, ◌&&◌, ◌||◌, ◌↔◌, nat_le, if◌then◌else◌, Option, Some, None, IfSome, is_some, Result, Ok, Err}
+use Rattle.std.specs.Prelude.{IfErr, IfNone, Bool, true, false, ◌&&◌, ◌||◌, ◌↔◌, nat_le, if◌then◌else◌, Option, Some, None, IfSome, is_some, slice_index, Result, Ok, Err}
 use Rattle.snd_base.specs.declared.errors.PcmError.{PcmError}
 use Rattle.snd_base.specs.declared.errors.PcmError.TheVariants.{Again, LapEnd, NoDevice, Stopped, Xrun}
 use Rattle.snd_base.specs.declared.errors.XrunWhy.{XrunWhy}
@@ -13,30 +13,26 @@ use Rattle.pcm_states.specs.declared.states.State.TheVariants.{Draining, Prepare
 use Rattle.pcm_states.specs.declared.calls.Call.{Call}
 use Rattle.pcm_states.specs.declared.calls.Call.TheVariants as call
 use Rattle.pcm_states.specs.declared.calls.Outcome.{Outcome}
+use Rattle.bindings.specs.Bound.{rising}
 use Rattle.dmix_client.specs.declared.commit.Commit.{Commit}
 use Rattle.mix_core.specs.declared.port.Ended.{Ended}
 use Rattle.mix_core.specs.declared.port.Ended.TheVariants as ended
 use Rattle.dmix_client.specs.declared.plain.Plain.{Plain}
 use Rattle.dmix_client.specs.Calls.{Answered, accepted, accepted_if, commit_count, committed_by, end_channel, end_of_commit, is_running, is_stop, late_at, late_of, over_of, seen_at, settled, started, started_in, sync_count, synced, taken_of, with_number, written_on}
-use Rattle.dmix_client.specs.Causes.{IsCaused, IsGone, IsMissed, IsOfSteps, Reaches}
+use Rattle.dmix_client.specs.Causes.{IsCaused, IsGone, IsOfSteps, Reaches}
 use Rattle.mix_core.specs.Port.{IsPast, OnLate, PortView}
 use Rattle.dmix_client.specs.Port.{IsCommit, IsFound, IsStep}
 use Rattle.pcm_stream.specs.Status.{is_moving}
 use Rattle.dmix_client.specs.View.{avail_of, queued_of}
 use Rattle.dmix_client.proofs.Ends.{by-test, next-ends, started-ends, written-ends}
+use Rattle.dmix_client.proofs.Sound.{none-of}
 
--- a client ended its commit there
-pub record EndsAt (at d : Plain) (x : Commit) : Type 0 where
-  pub card : d.stretch.card ≡ at.stretch.card
-  pub bindings : d.setup.bindings ≡ at.setup.bindings
-  pub committed : d.stretch.committed ≡ at.stretch.committed + x.frames
-  pub part : d.stretch.part ≡ x.part
-
--- the channel at which a commit ended is the next of the client after it
-channel-same : (at d : Plain) (x : Commit) → EndsAt at d x → end_channel at x ≡ end_channel d (record { frames = 0; part = d.stretch.part; ended = x.ended })
-channel-same at d x ends =
-    ap (λ (n : ℕ). end_channel at (record x { part = n })) (sym ends.part)
-    ∙ ap (λ (b : List ℕ). end_channel (record at { setup = record at.setup { bindings = b } }) (record x { part = d.stretch.part })) (sym ends.bindings)
+-- two errors are the same whatever else their calls would answer
+pub same-error : {X : Type 0} {Y : Type 0} (e f : PcmError) → (let r : Result X PcmError = Err e in r) ≡ Err f → (let r : Result Y PcmError = Err e in r) ≡ Err f
+same-error {X = X} {Y = Y} e f h = let is : e ≡ f = error-of X e f h in ap (λ (x : PcmError). let r : Result Y PcmError = Err x in r) is
+  where
+    error-of : (T : Type 0) (e f : PcmError) → (let r : Result T PcmError = Err e in r) ≡ Err f → e ≡ f
+    error-of T e f h = cc
 
 -- what is told where nothing was loaded
 pub if-none : {X : Type 0} (o : Option X) {P Q : Type 0} → (P → Q) → IfNone o P → IfNone o Q
@@ -73,14 +69,6 @@ late-found (ended.Late word) frame channel w P is late = (word, cc, late)
 late-found ended.Stopped frame channel w P is late = absurd (cc)
 
 module _ {S : Type 0} (view : S → PortView) (shows : S → ℕ → ℕ → Option ℕ) (q : S) where
-  pub missed-of : (at d : Plain) (x : Commit) (frame channel word : ℕ) → EndsAt at d x → frame ≡ end_of_commit at x → channel ≡ end_channel at x
-      → IsPast view shows q (end_of_commit at x) (end_channel at x) word → IsMissed view shows q d frame channel word
-  missed-of at d x frame channel word ends is_frame is_channel past = record {
-    frame_is = omega (arith, is_frame, ends.card, ends.committed);
-    channel_is = is_channel ∙ channel-same at d x ends;
-    past = subst (λ (c : ℕ). IsPast view shows q frame c word) (sym is_channel) (subst (λ (f : ℕ). IsPast view shows q f (end_channel at x) word) (sym is_frame) past);
-  }
-
   -- the gate stopped the load
   pub caused-none : (c d : Plain) → IsCaused {X = Unit {0}} view shows q c d None (Err Stopped)
   caused-none c d = record {
@@ -129,9 +117,10 @@ module _ {S : Type 0} (view : S → PortView) (shows : S → ℕ → ℕ → Opt
   }
 
   -- a late one, where the commit ended in the client that it left
-  caused-late : {X : Type 0} (c at d : Plain) (load : Option Position) (x : Commit) (w : XrunWhy) → IsFree c load → EndsAt at d x → late_of at x ≡ Some w
+  caused-late : {X : Type 0} (c at d : Plain) (load : Option Position) (x : Commit) (w : XrunWhy) → IsFree c load → end_of_commit at x ≡ d.stretch.card + d.stretch.committed
+      → end_channel at x ≡ slice_index d.setup.bindings (slice_index (rising d.setup.bindings) d.stretch.part) → late_of at x ≡ Some w
       → OnLate x.ended (λ word. IsPast view shows q (end_of_commit at x) (end_channel at x) word) → IsCaused {X = X} view shows q c d load (Err (Xrun w))
-  caused-late {X = X} c at d load x w free ends is shown =
+  caused-late {X = X} c at d load x w free is_frame is_channel is shown =
       let found = late-found x.ended (end_of_commit at x) (end_channel at x) w (λ word. IsPast view shows q (end_of_commit at x) (end_channel at x) word) is shown in
       subst (λ (v : XrunWhy). IsCaused {X = X} view shows q c d load (Err (Xrun v))) (sym found.1) (record {
         unless_stopped = if-none load (λ h. absurd h) free.loaded;
@@ -139,8 +128,14 @@ module _ {S : Type 0} (view : S → PortView) (shows : S → ℕ → ℕ → Opt
         no_device = (λ h. cc, λ h. absurd (free.here h));
         reached = λ a f. (λ h. cc, λ h. absurd (free.below a f h));
         late = λ frame channel word h.
-            let is_word : found.0 ≡ word = cc in
-            missed-of at d x frame channel word ends (cc) (cc) (subst (λ (k : ℕ). IsPast view shows q (end_of_commit at x) (end_channel at x) k) is_word found.2);
+            let frame_is : end_of_commit at x ≡ frame = cc in
+            let channel_is : end_channel at x ≡ channel = cc in
+            let word_is : found.0 ≡ word = cc in
+            record {
+              frame_is = sym frame_is ∙ is_frame;
+              channel_is = sym channel_is ∙ is_channel;
+              past = subst (λ (k : ℕ). IsPast view shows q frame channel k) word_is (subst (λ (k : ℕ). IsPast view shows q frame k found.0) channel_is (subst (λ (k : ℕ). IsPast view shows q k (end_channel at x) found.0) frame_is found.2));
+            };
         never_lap_end = λ h. cc;
       })
 
@@ -155,22 +150,13 @@ module _ {S : Type 0} (view : S → PortView) (shows : S → ℕ → ℕ → Opt
   -- an error has the same causes whatever the call would answer
   caused-error : {Y : Type 0} (load : Option Position) (c d : Plain) (e : PcmError) → IsCaused {X = Unit {0}} view shows q c d load (Err e) → IsCaused {X = Y} view shows q c d load (Err e)
   caused-error {Y = Y} load c d e why = record {
-    unless_stopped = if-none load (λ h. there e Stopped h) why.unless_stopped;
+    unless_stopped = if-none load (same-error {X = Unit {0}} {Y = Y} e Stopped) why.unless_stopped;
     of_steps = why.of_steps;
-    no_device = (λ h. why.no_device.0 (back e NoDevice h), λ h. there e NoDevice (why.no_device.1 h));
-    reached = λ a f. (λ h. (why.reached a f).0 (back e (Xrun (Avail a f)) h), λ h. there e (Xrun (Avail a f)) ((why.reached a f).1 h));
-    late = λ frame channel word h. why.late frame channel word (back e (Xrun (Late frame channel word)) h);
-    never_lap_end = λ h. why.never_lap_end (back e LapEnd h);
+    no_device = (λ h. why.no_device.0 (same-error {X = Y} e NoDevice h), λ h. same-error {X = Unit {0}} {Y = Y} e NoDevice (why.no_device.1 h));
+    reached = λ a f. (λ h. (why.reached a f).0 (same-error {X = Y} e (Xrun (Avail a f)) h), λ h. same-error {X = Unit {0}} {Y = Y} e (Xrun (Avail a f)) ((why.reached a f).1 h));
+    late = λ frame channel word h. why.late frame channel word (same-error {X = Y} e (Xrun (Late frame channel word)) h);
+    never_lap_end = λ h. why.never_lap_end (same-error {X = Y} e LapEnd h);
   }
-    where
-      same_error : {T : Type 0} (e f : PcmError) → (let r : Result T PcmError = Err e in r) ≡ Err f → e ≡ f
-      same_error e f h = cc
-
-      back : (e f : PcmError) → (let r : Result Y PcmError = Err e in r) ≡ Err f → (let r : Result (Unit {0}) PcmError = Err e in r) ≡ Err f
-      back e f h = ap (λ (x : PcmError). let r : Result (Unit {0}) PcmError = Err x in r) (same_error {T = Y} e f h)
-
-      there : (e f : PcmError) → (let r : Result (Unit {0}) PcmError = Err e in r) ≡ Err f → (let r : Result Y PcmError = Err e in r) ≡ Err f
-      there e f h = ap (λ (x : PcmError). let r : Result Y PcmError = Err x in r) (same_error {T = Unit {0}} e f h)
 
   -- so has an answer with a number, and that of a write that starts a stream
   pub caused-number : (load : Option Position) (c : Plain) (number : Plain → ℕ) (a : Answered (Unit {0})) → IsCaused {X = Unit {0}} view shows q c a.0 load a.1
@@ -190,15 +176,6 @@ pub record IsPlain (gone : Bool) (over : Option (ℕ × ℕ)) (e : Ended) : Type
   pub here : gone ≡ true → e ≡ ended.Whole
   pub below : (a f : ℕ) → over ≡ Some (a, f) → e ≡ ended.Whole
 
-none-laid : (e : Ended) (frames part channels : ℕ) → IsCommit e frames part 0 channels → e ≡ ended.Whole
-none-laid ended.Whole frames part channels is = refl
-none-laid (ended.Late word) frames part channels is = absurd (omega (arith, is.0))
-none-laid ended.Stopped frames part channels is = absurd (omega (arith, is.0))
-
-first-true : (a b : Bool) (n : ℕ) → a ≡ true → (if a || b then 0 else n) ≡ 0
-first-true true b n is = refl
-first-true false b n is = absurd (cc)
-
 last-true : (a b : Bool) (n : ℕ) → b ≡ true → (if a || b then 0 else n) ≡ 0
 last-true true b n is = refl
 last-true false true n is = refl
@@ -210,9 +187,9 @@ IsPlain-synced c position x is =
     let over = over_of (seen_at c position) position in
     let count = commit_count c position.frame c.stretch.written in
     let whole : sync_count c position ≡ 0 → x.ended ≡ ended.Whole =
-    λ none. none-laid x.ended x.frames x.part (length c.setup.bindings) (subst (λ (n : ℕ). IsCommit x.ended x.frames x.part n (length c.setup.bindings)) none is) in
+    λ none. (none-of x.ended x.frames x.part (length c.setup.bindings) (subst (λ (n : ℕ). IsCommit x.ended x.frames x.part n (length c.setup.bindings)) none is)).2 in
     record {
-      here = λ h. whole (first-true position.gone (is_some over) count h);
+      here = λ h. whole (rw h refl);
       below = λ a f h. whole (last-true position.gone (is_some over) count (ap (λ (o : Option (ℕ × ℕ)). is_some o) h));
     }
 
@@ -220,16 +197,8 @@ running-is : (s : State) → is_running s ≡ true → s ≡ Running
 running-is Running is = refl
 running-is s is = absurd (cc)
 
-abbrev number_in : Option (ℕ × ℕ) → ℕ
-number_in None = 0
-number_in (Some (x, y)) = x
-
-abbrev frame_in : Option (ℕ × ℕ) → ℕ
-frame_in None = 0
-frame_in (Some (x, y)) = y
-
 if-some : (b : Bool) (x y a f : ℕ) → (let o : Option (ℕ × ℕ) = (if b then Some (x, y) else None) in o) ≡ Some (a, f) → (b ≡ true) × (a ≡ x) × (f ≡ y)
-if-some true x y a f is = (refl, sym (ap (λ o. number_in o) is), sym (ap (λ o. frame_in o) is))
+if-some true x y a f is = let same : (let p : ℕ × ℕ = (x, y) in p) ≡ (a, f) = cc in (refl, sym (ap (λ (p : ℕ × ℕ). p.0) same), sym (ap (λ (p : ℕ × ℕ). p.1) same))
 if-some false x y a f is = absurd (cc)
 
 both-true : (s : State) (t n : ℕ) → (is_running s && nat_le t n) ≡ true → (is_running s ≡ true) × (t ≤ n)
@@ -265,9 +234,6 @@ free-at c position here none = record {
   below = λ a f h. let is = some-of c position a f h.1 h.2 h.3 h.4 in let no = none h.1 in cc;
 }
 
-free-waiting : (c : Plain) (position : Position) → position.gone ≡ false → c.status.state ≡ Prepared → IsFree c (Some position)
-free-waiting c position here waits = free-at c position here (λ runs. absurd (cc))
-
 module _ {S : Type 0} (view : S → PortView) (shows : S → ℕ → ℕ → Option ℕ) (q : S) where
   pub IsCaused-plain : (c : Plain) (call : Call) (load : Option Position) (x : Commit) → IsStep c.status.state call → IfSome load (λ position. IsPlain position.gone (over_of (seen_at c position) position) x.ended)
       → IfSome load (λ position. OnLate x.ended (λ word. IsPast view shows q (end_of_commit c x) (end_channel c x) word))
@@ -284,7 +250,7 @@ module _ {S : Type 0} (view : S → PortView) (shows : S → ℕ → ℕ → Opt
       (λ going. next-ends (λ (o : Outcome). IsCaused {X = Unit {0}} view shows q c (settled done o).0 (Some position) o.answer) c.status.state call (queued_of done) position.gone (over_of (seen_at c position) position) (late_of (seen_at c position) x) step
       (λ gone. caused-gone view shows q c _ position gone)
       (λ a f here runs is. caused-over view shows q c _ position a f (reaches-of c position a f here is))
-      (λ w here none is. caused-late view shows q c c _ (Some position) x w (free-at c position here none) (record { card = refl; bindings = refl; committed = refl; part = refl }) is shown)
+      (λ w here none is. caused-late view shows q c c _ (Some position) x w (free-at c position here none) refl refl is shown)
       (λ here runs none in_time. caused-other view shows q c _ (Some position) _ (free-at c position here (λ same. none)) (other-ok tt))
       (λ here drains in_time. caused-other view shows q c _ (Some position) _ (free-at c position here (λ runs. absurd (cc))) (other-ok tt))
       (λ here drains in_time same. caused-other view shows q c _ (Some position) _ (free-at c position here (λ runs. absurd (cc))) (other-ok tt))
@@ -309,9 +275,9 @@ module _ {S : Type 0} (view : S → PortView) (shows : S → ℕ → ℕ → Opt
   IsCaused-started c state cursor (Some position) x waits shown =
       started-ends (λ (a : Answered (Unit {0})). IsCaused {X = Unit {0}} view shows q c a.0 (Some position) a.1) c state cursor position x
       (λ gone. caused-gone view shows q c _ position gone)
-      (λ here stop. caused-other view shows q c _ (Some position) (Err Stopped) (free-waiting c position here waits) other-stopped)
-      (λ w here going is. caused-late view shows q c (started_in c Running position cursor) _ (Some position) x w (free-waiting c position here waits) (record { card = refl; bindings = refl; committed = refl; part = refl }) is shown)
-      (λ here going in_time. caused-other view shows q c _ (Some position) _ (free-waiting c position here waits) (other-ok tt))
+      (λ here stop. caused-other view shows q c _ (Some position) (Err Stopped) (free-at c position here (λ runs. absurd (cc))) other-stopped)
+      (λ w here going is. caused-late view shows q c (started_in c Running position cursor) _ (Some position) x w (free-at c position here (λ runs. absurd (cc))) refl refl is shown)
+      (λ here going in_time. caused-other view shows q c _ (Some position) _ (free-at c position here (λ runs. absurd (cc))) (other-ok tt))
 
   -- ---- a write behind its sync
 
@@ -323,7 +289,7 @@ module _ {S : Type 0} (view : S → PortView) (shows : S → ℕ → ℕ → Opt
       written-ends (λ (a : Answered ℕ). IsCaused {X = ℕ} view shows q c a.0 load a.1) u n last
       (λ some none. caused-other view shows q c u load (Err Again) free other-again)
       (λ full stop. caused-other view shows q c _ load (Err Stopped) free other-stopped)
-      (λ w full going is. caused-late view shows q c u _ load last w free (record { card = refl; bindings = refl; committed = refl; part = refl }) is shown)
+      (λ w full going is. caused-late view shows q c u _ load last w free refl refl is shown)
       (λ full going in_time. caused-other view shows q c _ load _ free (other-ok (taken_of u n)))
   caused-on load c (u, Err e) n last first shown = caused-error view shows q load c u e first
 
@@ -355,13 +321,7 @@ written_on-again (c, Ok done) n last other =
     written-ends (λ (a : Answered ℕ). (a.1 ≡ Err Again) ↔ (((let r : Result (Unit {0}) PcmError = Ok done in r) ≡ Ok tt) × (0 < n) × (avail_of c ≡ 0))) c n last
     (λ some none. (λ h. (refl, some, none), λ h. refl)) (λ full stop. (λ h. cc, λ h. absurd (full h.1 h.2)))
     (λ w full going late. (λ h. cc, λ h. absurd (full h.1 h.2))) (λ full going in_time. (λ h. cc, λ h. absurd (full h.1 h.2)))
-written_on-again (c, Err e) n last other = (λ h. absurd (other (same-error e h)), λ h. let x = h.0 in cc)
-  where
-    error-of : (e : PcmError) → (let r : Result ℕ PcmError = Err e in r) ≡ Err Again → e ≡ Again
-    error-of e h = cc
-
-    same-error : (e : PcmError) → (let r : Result ℕ PcmError = Err e in r) ≡ Err Again → (let r : Result (Unit {0}) PcmError = Err e in r) ≡ Err Again
-    same-error e h = ap (λ (x : PcmError). let r : Result (Unit {0}) PcmError = Err x in r) (error-of e h)
+written_on-again (c, Err e) n last other = (λ h. absurd (other (same-error {X = ℕ} e Again h)), λ h. let x = h.0 in cc)
 
 -- the calls of a stream that moves frames
 pub step-sync : (s : State) → is_moving s ≡ true → IsStep s call.Sync

@@ -1,25 +1,25 @@
 -- The ways in which a sync, a start and a write can end, each with what is known there.
-use Rattle.std.proofs.Common.{◌≡◌, ℕ, ◌<◌, [], ◌∷◌, refl, arith}
+use Rattle.std.proofs.Common.{[], arith, refl, ℕ, ◌<◌, ◌∷◌, ◌≡◌}
 use Rattle.std.proofs.lemmas.Bool.Decides.{nat_tests}
-use Rattle.std.specs.Prelude.{Bool, true, false, ◌&&◌, nat_eq, nat_lt, if◌then◌else◌, Option, Some, None, Ok, Err}
-use Rattle.snd_base.specs.declared.errors.PcmError.TheVariants as error
-use Rattle.snd_base.specs.declared.errors.XrunWhy.{XrunWhy}
-use Rattle.snd_base.specs.declared.errors.XrunWhy.TheVariants as why
-use Rattle.snd_base.specs.declared.places.Cursor.{Cursor}
+use Rattle.std.specs.Prelude.{Bool, Err, None, Ok, Option, Some, false, if◌then◌else◌, nat_eq, nat_lt, true, ◌&&◌}
 use Rattle.mix_core.specs.declared.port.Position.{Position}
-use Rattle.pcm_states.specs.declared.states.State.{State}
-use Rattle.pcm_states.specs.declared.states.State.TheVariants.{Disconnected, Draining, Prepared, Running, Setup, Xrun}
-use Rattle.pcm_states.specs.declared.calls.Call.{Call}
-use Rattle.pcm_states.specs.declared.calls.Call.TheVariants as call
-use Rattle.pcm_states.specs.declared.calls.Outcome.{Outcome}
 use Rattle.pcm_states.specs.Table.{done_in, draining, first_of, moving, next_of, outcome_of, refused_in, still_draining, stopped_by}
+use Rattle.pcm_states.specs.declared.calls.Call.TheVariants as call
+use Rattle.pcm_states.specs.declared.calls.Call.{Call}
+use Rattle.pcm_states.specs.declared.calls.Outcome.{Outcome}
+use Rattle.pcm_states.specs.declared.states.State.TheVariants.{Disconnected, Draining, Prepared, Running, Setup, Xrun}
+use Rattle.pcm_states.specs.declared.states.State.{State}
 use Rattle.pcm_stream.specs.declared.status.Status.{Status}
-use Rattle.dmix_client.specs.declared.commit.Commit.{Commit}
-use Rattle.dmix_client.specs.declared.plain.Plain.{Plain}
+use Rattle.snd_base.specs.declared.errors.PcmError.TheVariants as error
+use Rattle.snd_base.specs.declared.errors.XrunWhy.TheVariants as why
+use Rattle.snd_base.specs.declared.errors.XrunWhy.{XrunWhy}
+use Rattle.snd_base.specs.declared.places.Cursor.{Cursor}
 use Rattle.dmix_client.specs.Calls.{Answered, accepted, accepted_if, committed_by, found_at, going_on, in_state, is_stop, late_of, seen_at, settled, started, started_in, stopped_in, synced, taken_of, written_after}
 use Rattle.dmix_client.specs.Growth.{KeepsAccepted}
 use Rattle.dmix_client.specs.Port.{IsStep}
 use Rattle.dmix_client.specs.View.{avail_of}
+use Rattle.dmix_client.specs.declared.commit.Commit.{Commit}
+use Rattle.dmix_client.specs.declared.plain.Plain.{Plain}
 
 -- whatever holds of a choice's two ways holds of the choice
 pub by-test : {A : Type 0} (X : A → Type 0) (b : Bool) (x y : A) → (b ≡ true → X x) → (b ≡ false → X y) → X (if b then x else y)
@@ -127,11 +127,7 @@ pub synced-leaves : (X : Plain → Type 0) (c : Plain) (call : Call) (position :
     → X (synced c call (Some position) x).0
 synced-leaves X c call position x all = by-test (λ (a : Answered (Unit {0})). X a.0) (is_stop x.ended) _ _ (λ stop. all _) (λ going. all _)
 
--- what was accepted stays so over both
-pub KeepsAccepted-synced : (c : Plain) (call : Call) (load : Option Position) (x : Commit) → KeepsAccepted c (synced c call load x).0
-KeepsAccepted-synced c call None x = record { written = refl; fed = refl; bindings = refl }
-KeepsAccepted-synced c call (Some position) x = synced-leaves (KeepsAccepted c) c call position x (λ s. record { written = refl; fed = refl; bindings = refl })
-
+-- what was accepted stays so over a start
 pub KeepsAccepted-started : (c : Plain) (state : State) (cursor : Cursor) (load : Option Position) (x : Commit) → KeepsAccepted c (started c state cursor load x).0
 KeepsAccepted-started c state cursor None x = record { written = refl; fed = refl; bindings = refl }
 KeepsAccepted-started c state cursor (Some position) x =

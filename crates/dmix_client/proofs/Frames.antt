@@ -1,29 +1,31 @@
 -- How a frame is placed, channel by channel.
-use Rattle.std.proofs.Common.{◌≡◌, ◌∙◌, ℕ, ◌+◌, ◌*◌, ◌/◌, ◌<◌, ◌≤◌, suc, zero, List, ap, arith, inl, inr, length, sym}
-use Rattle.std.proofs.Math.Nat.{div-add-mod, mul-le-mul_left}
-use Rattle.std.proofs.lemmas.Bool.{cases_lt}
+use Rattle.std.proofs.Common.{◌≡◌, ◌∙◌, ℕ, ◌+◌, ◌*◌, ◌/◌, ◌%◌, ◌<◌, ◌≤◌, suc, zero, List, ap, arith, length, refl, sym}
+use Rattle.std.proofs.Math.Nat.{div-lt_iff_lt-mul}
 use Rattle.std.proofs.lemmas.Bool.Decides.{nat_tests}
-use Rattle.std.specs.Prelude.{slice_index}
+use Rattle.std.specs.Prelude.{ℤ, pos, slice_index, slice_index_or}
 use Rattle.snd_base.specs.declared.geometry.Geometry.{Geometry}
 use Rattle.snd_base.specs.declared.places.Cursor.{Cursor}
 use Rattle.snd_base.specs.Places.{IsFrom, behind, first_free}
 use Rattle.mix_core.specs.declared.marks.Marks.{Marks}
+use Rattle.mix_core.specs.declared.port.Ended.{Ended}
+use Rattle.mix_core.specs.declared.port.Ended.TheVariants.{Whole, Late, Stopped}
+use Rattle.mix_core.specs.declared.port.Entry.{Entry}
 use Rattle.mix_core.specs.Port.{PortView}
 use Rattle.bindings.specs.Bound.{AreBindings, rising}
 use Rattle.bindings.specs.RisingLaws.{rising-rises}
+use Rattle.dmix_client.specs.declared.plain.Plain.{Plain}
+use Rattle.dmix_client.specs.View.{held}
 
-below_end : (frame n : ℕ) → frame < 4294967295 * n → 4294967295 ≤ frame / n → frame < frame
-below_end frame n low high =
-    let product : n * 4294967295 ≤ n * (frame / n) = mul-le-mul_left n high in
-    let same : n * 4294967295 ≡ 4294967295 * n = grind arith in
-    omega (arith, product, same, div-add-mod frame n)
+-- what holds of a late end and of a stop holds of each that isn't whole
+pub not-whole : (X : Ended → Type 0) (e : Ended) → (e ≡ Whole → ⊥) → ((word : ℕ) → X (Late word)) → X Stopped → X e
+not-whole X Whole not_so late stopped = absurd (not_so refl)
+not-whole X (Late word) not_so late stopped = late word
+not-whole X Stopped not_so late stopped = stopped
 
 -- a frame before the end is below the last lap
 pub lap-below : (frame n : ℕ) → frame < 4294967295 * n → frame / n < 4294967295
-lap-below frame n low = elim (cases_lt (frame / n) 4294967295) [
-  | inl below ↦ below
-  | inr above ↦ absurd (omega (arith, below_end frame n low (omega (arith, above))))
-]
+lap-below frame zero low = absurd (omega (arith, low))
+lap-below frame (suc n) low = (div-lt_iff_lt-mul (omega arith)).1 low
 
 -- two steps in a row leave all of a view but its marks
 pub marks-joined : (u v w : PortView) (m : Marks) → v ≡ record u { marks = v.marks } → w ≡ record v { marks = m } → w ≡ record u { marks = w.marks }
@@ -47,3 +49,11 @@ pub rising-least : (bindings : List ℕ) (j : ℕ) → AreBindings bindings → 
     → slice_index bindings (slice_index (rising bindings) 0) ≤ slice_index bindings (slice_index (rising bindings) j)
 rising-least bindings zero are within = omega arith
 rising-least bindings (suc j) are within = omega (arith, rising-rises bindings 0 (suc j) are (omega arith) within)
+
+-- the entry of a sample that a client holds, by where its frame begins in the local ring
+pub entry-held : (E : ℕ → ℕ → ℤ → Entry) (plain : Plain) (ring : List ℤ) (number slot q member channel : ℕ) (x : ℤ) → member ≡ plain.identity.member → channel ≡ slice_index plain.setup.bindings q
+    → slot ≡ (plain.stretch.source + number) % plain.setup.config.buffer_size * length plain.setup.bindings → x ≡ slice_index_or ring (slot + q) (pos 0)
+    → E member channel x ≡ E plain.identity.member (slice_index plain.setup.bindings q) (held plain ring number q)
+entry-held E plain ring number slot q member channel x is_member is_channel is_slot is =
+    ap (λ (m : ℕ). E m channel x) is_member ∙ ap (λ (k : ℕ). E plain.identity.member k x) is_channel
+    ∙ ap (E plain.identity.member (slice_index plain.setup.bindings q)) (is ∙ ap (λ (i : ℕ). slice_index_or ring (i + q) (pos 0)) is_slot)

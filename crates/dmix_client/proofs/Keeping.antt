@@ -1,102 +1,88 @@
 -- What the parts of calls keep, by the courses that they took, and why they answered so.
-use Rattle.std.proofs.Common.{◌≡◌, ℕ, ◌+◌, ◌-◌, ◌*◌, ◌≤◌, ◌<◌, List, ◌∙◌, ap, sym, refl, subst, arith, length, add-zero, inl, inr, []}
+use Rattle.std.proofs.Common.{[], subst, add-zero, ap, arith, length, refl, sym, ℕ, ◌*◌, ◌+◌, ◌-◌, ◌<◌, ◌∙◌, ◌≡◌, ◌≤◌}
 use Rattle.std.proofs.Math.Nat.{mul-le-mul_right}
 use Rattle.std.proofs.lemmas.Bool.Decides.{nat_tests}
-use Rattle.std.specs.Prelude.{Bool, true, false, ◌↔◌, max, min, if◌then◌else◌, ℤ, Option, Some, None, IfOk, IfSome, OnOk, Result, Ok, Err, unwrap_or, not, ◌&&◌}
 use Rattle.std.proofs.lemmas.List.{append-nil}
+use Rattle.std.proofs.lemmas.Result.{on_ok_weaker}
+use Rattle.std.specs.Prelude.{Bool, Err, IfOk, IfSome, List, None, Ok, OnOk, Option, Result, Some, false, if◌then◌else◌, is_some, max, min, not, true, unwrap_or, ℤ, ◌&&◌, ◌||◌, ◌↔◌}
+use Rattle.bindings.specs.Bound.{AreBindings}
+use Rattle.course.specs.AtPort.{IsSamePort, LaysAt, LoadsAt, NoGet, TakesAt, TakesAt-same}
+use Rattle.course.specs.Course.{ends}
+use Rattle.course.specs.CourseLaws.{Takes-parts}
+use Rattle.course.specs.Stops.{CountsStop, pass_by}
+use Rattle.mix_core.specs.Gate.{stops_after}
+use Rattle.mix_core.specs.Port.{IsPast, OnLate, OnWhole, PortView}
+use Rattle.mix_core.specs.declared.gate.Gate as gates
+use Rattle.mix_core.specs.declared.gate.Pass.TheVariants.{Go}
+use Rattle.mix_core.specs.declared.port.Ended.{Ended}
+use Rattle.mix_core.specs.declared.port.MixPort as mixport
+use Rattle.mix_core.specs.declared.port.Position.{Position}
+use Rattle.pcm_states.specs.Table.{next_of}
+use Rattle.pcm_states.specs.declared.calls.Call.TheVariants as call
+use Rattle.pcm_states.specs.declared.calls.Call.{Call}
+use Rattle.pcm_states.specs.declared.calls.Outcome.{Outcome}
+use Rattle.pcm_states.specs.declared.states.State.TheVariants.{Disconnected, Draining, Paused, Prepared, Running, Setup, Xrun}
+use Rattle.pcm_states.specs.declared.states.State.{State}
+use Rattle.pcm_stream.specs.Status.{is_moving, is_set_up, nothing_found, refusal_in, refusal_of}
+use Rattle.pcm_stream.specs.declared.direction.Direction.TheVariants.{Playback}
+use Rattle.pcm_stream.specs.declared.status.Status.{Status}
+use Rattle.snd_base.specs.Places.{IsFrom, IsWithin as IsInRing, end_frame, first_free}
+use Rattle.snd_base.specs.Relations.{Composes}
+use Rattle.snd_base.specs.declared.errors.PcmError.TheVariants as error
 use Rattle.snd_base.specs.declared.errors.PcmError.{PcmError}
 use Rattle.snd_base.specs.declared.geometry.Geometry.{Geometry}
 use Rattle.snd_base.specs.declared.places.Cursor.{Cursor}
-use Rattle.snd_base.specs.Places.{end_frame, first_free}
-use Rattle.snd_base.specs.Relations.{Composes}
-use Rattle.mix_core.specs.declared.gate.Pass.TheVariants.{Go}
-use Rattle.mix_core.specs.declared.port.Position.{Position}
-use Rattle.mix_core.specs.Gate.{stops_after}
-use Rattle.mix_core.specs.Port.{IsPast, OnLate, PortView}
-use Rattle.course.specs.AtPort.{LaysAt, LoadsAt, NoGet, TakesAt, TakesAt-same}
-use Rattle.course.specs.Course.{ends}
-use Rattle.course.specs.CourseLaws.{Takes-parts}
-use Rattle.bindings.specs.Bound.{AreBindings}
-use Rattle.pcm_states.specs.declared.states.State.{State}
-use Rattle.pcm_states.specs.declared.states.State.TheVariants.{Draining, Prepared, Running, Setup, Xrun, Paused}
-use Rattle.pcm_states.specs.declared.calls.Call.{Call}
-use Rattle.pcm_states.specs.Table.{next_of}
+use Rattle.dmix_client.proofs.Caused.{IsCaused-started, IsCaused-synced, caused-accepted, caused-moved, caused-none, caused-number, caused-on, synced-not_again, written_on-again}
+use Rattle.dmix_client.proofs.Ends.{by-test, started-ends, written-ends}
+use Rattle.dmix_client.proofs.Going.{IsStill, OnOk-of, accepted_if-told, started-still, synced-runs, synced-still, told-going, told-stop}
+use Rattle.dmix_client.proofs.Growing.{StandsFor-after, StandsUpTo-filled, accepted-none, laid_at, laid_at-none, segment_entries-after}
+use Rattle.dmix_client.proofs.Looking.{starts-by}
+use Rattle.dmix_client.proofs.Sound.{CanUse-still, CommitsAs, min-none, CommitsAs-seen, CommitsAs-started, CommitsAs-written, IsLoaded, IsMoving-after, IsMoving-seen, IsMoving-written, IsSound-after, IsSound-status, IsSound-stopped, after, configured-moving, configured-prepared, count-whole, hw-started, if-le, next-GoesOn, none-of, not_paused-moving, not_prepared-moving, taken-none, taken_fits, whole-of, whole_least, window_end-above}
+use Rattle.dmix_client.proofs.Storing.{StandsUpTo-written}
+use Rattle.dmix_client.specs.Calls.{Answered, accepted, accepted_if, base_of, commit_count, committed_by, dropped, end_channel, end_of_commit, facts_of, is_paused, is_stop, late_of, over_of, paused, pending_of, rebased, resumed, seen_at, start_count, started, started_in, stopped_in, sync_count, synced, taken_of, with_number, written_after, written_on}
+use Rattle.dmix_client.specs.Causes.{Explains, ExplainsWrite, IsCaused}
+use Rattle.dmix_client.specs.Course.{commits, looks, resumes, starts, starts_taking, syncs, takes_more, write_on}
+use Rattle.dmix_client.specs.CourseLaws.{LaysFrames, TakesAt-frames, TakesAt-looks, TakesAt-step}
+use Rattle.dmix_client.specs.Growth.{AnySamples, Follows, Keeps, KeepsAccepted, StandsFor, StandsUpTo, segment_entries}
+use Rattle.dmix_client.specs.GrowthLaws.{Grows-joined}
+use Rattle.dmix_client.specs.Port.{CanUse, CountsEnd, IsCommit, IsStep, Looked, TakesStep, entries_at, least_channel}
+use Rattle.dmix_client.specs.RingLaws.{stored-HasRoom}
+use Rattle.dmix_client.specs.View.{ClientView, IsConfigured, IsGoing, IsLaidPast, IsMoving, IsSound, avail_of, held, hw_of, queued_of}
+use Rattle.dmix_client.specs.Writes.{count_with, ring_with, taken_after}
 use Rattle.dmix_client.specs.declared.commit.Commit.{Commit}
 use Rattle.dmix_client.specs.declared.plain.Plain.{Plain}
-use Rattle.pcm_stream.specs.Status.{is_moving, is_set_up, nothing_found, refusal_in, refusal_of}
-use Rattle.course.specs.Stops.{CountsStop, pass_by}
-use Rattle.pcm_stream.specs.declared.direction.Direction.TheVariants.{Playback}
-use Rattle.dmix_client.specs.Calls.{Answered, accepted, accepted_if, dropped, end_channel, end_of_commit, start_count, started, started_in, sync_count, synced, taken_of, with_number, written_after, written_on, base_of, is_paused, paused, pending_of, rebased, resumed}
-use Rattle.dmix_client.specs.Causes.{Explains, ExplainsWrite, IsCaused}
-use Rattle.dmix_client.specs.Course.{commits, drains, starts, starts_taking, syncs, takes_more, write_on, looks, resumes}
-use Rattle.dmix_client.specs.CourseLaws.{TakesAt-frames, TakesAt-step, TakesAt-looks}
-use Rattle.dmix_client.specs.Growth.{AnySamples, Follows, Grows, Keeps, KeepsAccepted, StandsFor, StandsUpTo, segment_entries}
-use Rattle.dmix_client.specs.GrowthLaws.{Grows-joined}
-use Rattle.dmix_client.specs.Port.{CanUse, IsStep, TakesStep, least_channel, entries_at}
-use Rattle.dmix_client.specs.RingLaws.{stored-HasRoom}
-use Rattle.dmix_client.specs.View.{ClientView, avail_of, IsConfigured, IsGoing, IsLaidPast, IsSound, held}
-use Rattle.dmix_client.specs.Writes.{count_with, ring_with, taken_after}
-use Rattle.snd_base.specs.declared.errors.PcmError.TheVariants as error
-use Rattle.mix_core.specs.declared.gate.Gate as gates
-use Rattle.mix_core.specs.declared.port.MixPort as mixport
-use Rattle.pcm_states.specs.declared.calls.Call.TheVariants as call
-use Rattle.dmix_client.proofs.Growing.{Follows-synced, Grows-none, Grows-started, Grows-synced, Grows-taken, IsBegun, IsSynced, IsTaken, StandsFor-started, StandsFor-synced, StandsFor-taken, StandsUpTo-filled, accepted-none, configured-moving, configured-prepared}
-use Rattle.dmix_client.proofs.Caused.{IsCaused-started, IsCaused-synced, caused-accepted, caused-moved, caused-number, caused-on, synced-not_again, written_on-again, caused-none}
-use Rattle.dmix_client.proofs.Going.{IsStill, OnOk-of, StillBegun, accepted_if-told, gone-whole, started-begun, started-told, synced-runs, synced-still, synced-told, with_number-told}
-use Rattle.dmix_client.proofs.Sound.{CanUse-still, IsLaidPast-synced, IsLeft-started, IsLeft-synced, IsLoaded, IsSound-status, IsStarting, IsSyncing, IsWriting, IsWritten-after, grown-accepted, not_prepared-moving}
-use Rattle.dmix_client.proofs.Ends.{KeepsAccepted-started, KeepsAccepted-synced, started-ends}
-use Rattle.dmix_client.proofs.Looking.{starts-by}
-
-if-some : (load : Option Position) (X Y : Position → Type 0) → ((p : Position) → X p → Y p) → IfSome load X → IfSome load Y
-if-some None X Y f is = tt
-if-some (Some p) X Y f is = f p is
 
 -- a client and its ring
 abbrev pub client : Plain → List ℤ → ClientView
 client c ring = record { plain = c; ring = ring }
 
--- what a sync leaves
-pub record Synced {S T : Type 0} (P : mixport.Ghosts S) (G : gates.Ghosts T) (s t : S × T) (c : Plain) (ring : List ℤ) (a : Answered (Unit {0})) : Type 0 where
-  pub keeps : Keeps P G s t (client c ring) (client a.0 ring) a.1 AnySamples
-  pub goes : OnOk a.1 (IsGoing a.0)
-  pub past : is_moving a.0.status.state ≡ true → a.0.status.stopped ≡ false → IsLaidPast a.0
-  pub same : KeepsAccepted c a.0
-  pub follows : (samples offered : List ℤ) (n : ℕ) → Follows c samples offered n → Follows a.0 samples offered n
-
--- what a start of the frames before `written + m` leaves, of which m are accepted where it goes well
-pub record Begun {S T : Type 0} (P : mixport.Ghosts S) (G : gates.Ghosts T) (s t : S × T) (c : Plain) (ring : List ℤ) (state : State) (m : ℕ) (a : Answered (Unit {0})) : Type 0 where
-  pub sound : IsSound (accepted_if m a).0 ring
-  pub port : CanUse (accepted_if m a).0 (P.view t.0)
-  pub told : CountsStop a.1 (G.stops s.1) (G.stops t.1)
-  pub goes : OnOk a.1 (a.0.status.state ≡ state × a.0.status.stopped ≡ c.status.stopped)
-  pub grows : (samples : List ℤ) → StandsUpTo c ring samples (c.stretch.written + m) → Grows P.laid s.0 t.0 c (accepted_if m a).0 samples
-  pub stands : (samples : List ℤ) → StandsUpTo c ring samples (c.stretch.written + m) → StandsFor (accepted_if m a).0 ring samples
-
 start-free : (cursor : Cursor) (position lead k c : ℕ) → k ≡ 0 → first_free cursor c ≤ max (position + lead) (first_free cursor 0) + k
 start-free cursor position lead k c none = grind (arith, nat_tests)
 
-IsSound-ring : (c : Plain) (ring new : List ℤ) → IsSound c ring → length new ≡ length ring → IsSound c new
-IsSound-ring c ring new sound same = record {
-  lead = sound.lead;
-  seen = sound.seen;
-  card = sound.card;
-  fed = sound.fed;
-  laid = sound.laid;
-  set_up = sound.set_up;
-  configured = λ set. let k = sound.configured set in record { bound = k.bound; on_card = k.on_card; channels = k.channels; buffer_least = k.buffer_least; buffer_most = k.buffer_most; room = same ∙ k.room };
-  prepared = sound.prepared;
-  moving = sound.moving;
-  paused = sound.paused;
-}
+-- a position that was loaded, of a port that a client uses
+pub loaded-of : (c : Plain) (v : PortView) (position : Position) → is_moving c.status.state ≡ true → c.status.stopped ≡ false → CanUse c v → v.seen ≤ position.frame → IsInRing v.geometry position.frame → IsLoaded c position
+loaded-of c v position moves going port newer within =
+    record { newer = omega (arith, port.newer moves going, newer); most = subst (λ (g : Geometry). position.frame ≤ end_frame g) port.same_geometry within.most }
+
+pub IsSamePort-refl : (v : PortView) → IsSamePort v v
+IsSamePort-refl v = record { same_geometry = refl; same_member = refl; same_can_add = refl }
 
 -- the counts of a client whose ring took frames
 pub IsSound-stored : (c : Plain) (ring samples : List ℤ) (m : ℕ) → IsSound c ring → IsConfigured c ring → m * length c.setup.bindings ≤ length samples → IsSound c (ring_with c ring samples m)
 IsSound-stored c ring samples m sound k held_all =
-    IsSound-ring c ring (ring_with c ring samples m) sound
-    ((stored-HasRoom c.setup.config.buffer_size (length c.setup.bindings) ring (c.stretch.source + c.stretch.written) samples m (record { some = k.buffer_least; room = k.room }) held_all).room ∙ sym k.room)
-
-taken-few : (n a b : ℕ) → min n (min a b) ≤ n
-taken-few n a b = grind (arith, nat_tests)
+    let has = stored-HasRoom c.setup.config.buffer_size (length c.setup.bindings) ring (c.stretch.source + c.stretch.written) samples m (record { some = k.buffer_least; room = k.room }) held_all in
+    record {
+      lead = sound.lead;
+      seen = sound.seen;
+      card = sound.card;
+      fed = sound.fed;
+      laid = sound.laid;
+      set_up = sound.set_up;
+      configured = λ set. record { bound = k.bound; on_card = k.on_card; channels = k.channels; buffer_least = k.buffer_least; buffer_most = k.buffer_most; room = has.room };
+      prepared = sound.prepared;
+      moving = sound.moving;
+      paused = sound.paused;
+    }
 
 taken-room : (n b w : ℕ) → w ≤ b → w + min n (min (b + 0 - w) b) ≤ b
 taken-room n b w fits = grind (arith, nat_tests)
@@ -150,118 +136,195 @@ module _ {S T : Type 0} (P : mixport.Ghosts S) (G : gates.Ghosts T) (laid_compos
   starts-step s t c ring state cursor upto a bound takes =
       TakesAt-step P G laid_composes loaded_composes (λ position. started_in c Running position cursor) (λ position. start_count c cursor position upto) ring c.setup.bindings (started c state cursor) s t a bound (λ position. refl) takes
 
+  -- what a call keeps that laid nothing and left the segment as it was
+  pub Keeps-still : {X : Type 0} (s t : S × T) (c d : Plain) (ring new : List ℤ) (answer : Result X PcmError) (For : List ℤ → Type 0) → IsSound d new → CanUse d (P.view t.0) → P.laid s.0 t.0 []
+      → (c.status.stopped ≡ false → CountsStop answer (G.stops s.1) (G.stops t.1)) → ((samples : List ℤ) → StandsFor c ring samples → segment_entries d samples ≡ segment_entries c samples) → d.identity.member ≡ c.identity.member → d.setup.bindings ≡ c.setup.bindings
+      → ((samples : List ℤ) → StandsFor c ring samples → For samples → StandsFor d new samples) → Keeps P G s t (client c ring) (client d new) answer For
+  Keeps-still s t c d ring new answer For sound port laid_nothing told same same_member same_bindings stands = record {
+    sound = sound;
+    port = port;
+    told = told;
+    grows = λ samples is for. record { entries = []; laid_them = laid_nothing; grown = same samples is ∙ sym (append-nil (segment_entries c samples)); same_member = same_member; same_bindings = same_bindings };
+    stands = stands;
+  }
+
+  -- what a call keeps that laid a commit
+  pub Keeps-after : {X : Type 0} (s t : S × T) (c b : Plain) (ring new : List ℤ) (x : Commit) (count upto : ℕ) (For : List ℤ → Type 0) → CommitsAs c b new x count upto → CanUse c (P.view s.0) → IsSamePort (P.view s.0) (P.view t.0) → unwrap_or b.seen 0 ≤ (P.view t.0).seen
+      → P.laid s.0 t.0 (laid_at c b new x) → ((samples : List ℤ) → StandsFor c ring samples → For samples → StandsUpTo c new samples upto) → (st : Status) (written fed : ℕ) (answer : Result X PcmError) → written ≤ upto → written + c.stretch.source ≡ fed → (st.state ≡ Prepared → ⊥)
+      → (st.state ≡ Paused → ⊥) → CountsStop answer (G.stops s.1) (G.stops t.1) → (is_moving st.state ≡ true → st.stopped ≡ false → IsMoving (after c b x st written fed) × IsFrom (P.view t.0).marks.cursor (b.stretch.card + (c.stretch.committed + x.frames)) (least_channel c.setup.bindings))
+      → Keeps P G s t (client c ring) (client (after c b x st written fed) new) answer For
+  Keeps-after s t c b ring new x count upto For y port same saw laid_it stands st written fed answer few sums not_prepared not_paused told moves = record {
+    sound = IsSound-after c b new x count upto st written fed y sums not_prepared not_paused (λ m going. (moves m going).0);
+    port = record {
+      same_geometry = same.same_geometry ∙ port.same_geometry;
+      same_member = same.same_member ∙ port.same_member;
+      can = same.same_can_add ∙ port.can;
+      behind = λ m going. (moves m going).1;
+      newer = λ m going. saw;
+    };
+    told = λ unstopped. told;
+    grows = λ samples is for. record {
+      entries = laid_at c b new x;
+      laid_them = laid_it;
+      grown = segment_entries-after c b new samples x count upto st written fed y (y.sound.configured y.set).bound (stands samples is for);
+      same_member = refl;
+      same_bindings = refl;
+    };
+    stands = λ samples is for. StandsFor-after c b new samples x count upto st written fed y few (stands samples is for);
+  }
+
+  -- what a sync leaves, of which something more is known where it moves frames
+  pub record Synced (s t : S × T) (c : Plain) (ring : List ℤ) (Past : Plain → Type 0) (a : Answered (Unit {0})) : Type 0 where
+    pub keeps : Keeps P G s t (client c ring) (client a.0 ring) a.1 AnySamples
+    pub goes : OnOk a.1 (IsGoing a.0)
+    pub past : is_moving a.0.status.state ≡ true → a.0.status.stopped ≡ false → Past a.0
+    pub same : KeepsAccepted c a.0
+    pub follows : (samples offered : List ℤ) (n : ℕ) → Follows c samples offered n → Follows a.0 samples offered n
+
+  -- where it was stopped before it loaded a position
+  pub unloaded-kept : (s t : S × T) (c : Plain) (ring : List ℤ) (Past : Plain → Type 0) → IsSound c ring → CanUse c (P.view s.0) → IsSamePort (P.view s.0) (P.view t.0) → P.laid s.0 t.0 [] → G.stops t.1 ≡ G.stops s.1 + 1 → Synced s t c ring Past (stopped_in c)
+  unloaded-kept s t c ring Past sound port same laid_nothing told = record {
+    keeps = Keeps-still s t c (stopped_in {T = Unit {0}} c).0 ring ring (Err error.Stopped) AnySamples (IsSound-stopped c ring sound) (CanUse-still c _ _ _ port same refl (λ moves going. cc)) laid_nothing (λ unstopped. told) (λ samples stands. refl) refl refl (λ samples stands any. stands);
+    goes = tt;
+    past = λ moves going. absurd (cc);
+    same = record { written = refl; fed = refl; bindings = refl };
+    follows = λ samples offered n is. is;
+  }
+
+  -- where it loaded one, of a client that moves on in each state in which it goes on
+  pub loaded-kept : (s t : S × T) (c : Plain) (ring : List ℤ) (call : Call) (position : Position) (x : Commit) (count : ℕ) (Past : Plain → Type 0) → is_moving c.status.state ≡ true → c.status.stopped ≡ false → IsStep c.status.state call
+      → CommitsAs c (seen_at c position) ring x count c.stretch.written → CanUse c (P.view s.0) → IsSamePort (P.view s.0) (P.view t.0) → (P.view t.0).seen ≡ position.frame → P.laid s.0 t.0 (laid_at c (seen_at c position) ring x) → CountsEnd x.ended (G.stops s.1) (G.stops t.1)
+      → ((st : State) → is_stop x.ended ≡ false → position.gone ≡ false → late_of (seen_at c position) x ≡ None → (c.status.state ≡ Running → over_of (seen_at c position) position ≡ None)
+      → IsMoving (after c (seen_at c position) x (record c.status { state = st }) c.stretch.written c.fed) × IsFrom (P.view t.0).marks.cursor (end_of_commit c x) (least_channel c.setup.bindings) × Past (after c (seen_at c position) x (record c.status { state = st }) c.stretch.written c.fed))
+      → Synced s t c ring Past (synced c call (Some position) x)
+  loaded-kept s t c ring call position x count Past moves going step y port same saw laid_it told still =
+      let b : Plain = seen_at c position in
+      let done : Plain = committed_by b x in
+      let o : Outcome = next_of c.status.state call (facts_of done position (over_of b position) (late_of b x)) in
+      let goes = next-GoesOn c.status.state call (queued_of done) position.gone (over_of b position) (late_of b x) step in
+      let keeps = Keeps-after {X = Unit {0}} s t c b ring ring x count c.stretch.written AnySamples y port same (omega (arith, saw)) laid_it (λ samples stands any. stands) in
+      by-test (Synced s t c ring Past) (is_stop x.ended) _ _
+      (λ stop. record {
+        keeps = keeps (record c.status { stopped = true }) c.stretch.written c.fed (Err error.Stopped) (omega arith) y.sound.fed (not_prepared-moving c.status.state moves) (not_paused-moving c.status.state moves) (told-stop x.ended (G.stops s.1) (G.stops t.1) stop told) (λ m unstopped. absurd (cc));
+        goes = tt;
+        past = λ m unstopped. absurd (cc);
+        same = record { written = refl; fed = refl; bindings = refl };
+        follows = λ samples offered n is. is;
+      })
+      (λ on. record {
+        keeps = keeps (record c.status { state = o.state }) c.stretch.written c.fed o.answer (omega arith) y.sound.fed goes.not_prepared goes.not_paused (goes.told (G.stops s.1) (G.stops t.1) (told-going x.ended (G.stops s.1) (G.stops t.1) on told))
+            (λ m unstopped. let f = goes.found m in let all = still o.state on f.0 f.1 f.2 in (all.0, all.1));
+        goes = on_ok_weaker o.answer (λ moving. record { unstopped = going; moves = moving }) goes.goes;
+        past = λ m unstopped. let f = goes.found m in (still o.state on f.0 f.1 f.2).2;
+        same = record { written = refl; fed = refl; bindings = refl };
+        follows = λ samples offered n is. is;
+      })
+
   -- a sync of a client that moves frames
+  looked-kept : (s t : S × T) (c : Plain) (ring : List ℤ) (call : Call) (load : Option Position) (x : Commit) → IsSound c ring → is_moving c.status.state ≡ true → c.status.stopped ≡ false → IsStep c.status.state call → CanUse c (P.view s.0)
+      → IsSamePort (P.view s.0) (P.view t.0) → Looked P G s t ring (λ position. c) (sync_count c) (length c.setup.bindings) load x → Synced s t c ring IsLaidPast (synced c call load x)
+  looked-kept s t c ring call None x sound moves going step port same l = unloaded-kept s t c ring IsLaidPast sound port same l.laid_them l.stopped
+  looked-kept s t c ring call (Some position) x sound moves going step port same l =
+      let b : Plain = seen_at c position in
+      let m = sound.moving moves going in
+      let loaded = loaded-of c (P.view s.0) position moves going port l.near.0 l.near.1 in
+      let y = CommitsAs-seen c ring position x (sync_count c position) sound moves going loaded (if-le (position.gone || is_some (over_of b position)) (commit_count c position.frame c.stretch.written)) l.found.commit_is in
+      loaded-kept s t c ring call position x (sync_count c position) IsLaidPast moves going step y port same l.near.2 l.laid_them l.stopped
+      (λ st on here in_time none.
+      let all = whole-of x.ended x.frames x.part (sync_count c position) (length c.setup.bindings) (end_of_commit b x) (end_channel b x) _ l.found.commit_is on in_time (l.stayed (port.behind moves going)) in
+      let whole : x.frames ≡ commit_count c position.frame c.stretch.written = all.0 ∙ count-whole c position moves here none in (
+        IsMoving-after c b ring x (sync_count c position) c.stretch.written (record c.status { state = st }) c.fed y (IsMoving-seen c position m loaded).fits whole all.1,
+        all.2,
+        subst (λ (n : ℕ). min c.stretch.written n ≤ c.stretch.committed + x.frames) (sym (hw-started b m.started))
+            (whole_least c.stretch.written c.stretch.committed c.stretch.card x.frames position.frame _ (window_end-above position.frame c.identity.geometry.frames (end_frame c.identity.geometry) loaded.most) whole),
+      ))
+
   pub syncs-kept : (s t : S × T) (c : Plain) (ring : List ℤ) (call : Call) (a : Answered (Unit {0})) → IsSound c ring → is_moving c.status.state ≡ true → c.status.stopped ≡ false → IsStep c.status.state call
-      → CanUse c (P.view s.0) → TakesAt P G s (syncs c call ring) t a → Synced P G s t c ring a
+      → CanUse c (P.view s.0) → TakesAt P G s (syncs c call ring) t a → Synced s t c ring IsLaidPast a
   syncs-kept s t c ring call a sound moves going step port takes =
       let st = syncs-step s t c ring call a (configured-moving c ring sound moves).bound takes in
-      let x = st.looked in
-      let same = TakesAt-same P G s t (syncs c call ring) a takes in
-      let loaded : IfSome st.load (IsLoaded c) =
-      if-some st.load _ _ (λ p near. record { newer = omega (arith, port.newer moves going, near.0); most = subst (λ (g : Geometry). p.frame ≤ end_frame g) port.same_geometry near.1.most }) x.near in
-      let syncing : IsSyncing c ring call st.load st.commit (P.view t.0) = record {
-        sound = sound;
-        moves = moves;
-        going = going;
-        step = step;
-        found = x.found;
-        loaded = loaded;
-        same_geometry = same.same_geometry ∙ port.same_geometry;
-        same_member = same.same_member ∙ port.same_member;
-        able = same.same_can_add ∙ port.can;
-        stayed = if-some st.load _ _ (λ p from. from (port.behind moves going)) x.stayed;
-        saw = if-some st.load _ _ (λ p near. near.2) x.near;
-      } in
-      let left = IsLeft-synced c ring call st.load st.commit (P.view t.0) syncing in
-      let is : IsSynced c ring st.load st.commit = record { sound = sound; moves = moves; going = going; found = x.found; newer = if-some st.load _ _ (λ p near. near.newer) loaded } in
-      let told = synced-told c call st.load st.commit (G.stops s.1) (G.stops t.1) going step x.stopped in
-      subst (λ (b : Answered (Unit {0})). Synced P G s t c ring b) st.outcome (record {
-        keeps = record {
-          sound = left.sound;
-          port = left.use_it;
-          told = λ unstopped. told.told;
-          grows = λ samples stands any. Grows-synced P.laid laid_composes s.0 t.0 c ring samples call st.load st.commit is stands x.laid_them;
-          stands = λ samples stands any. StandsFor-synced c ring samples call st.load st.commit is stands;
-        };
-        goes = told.goes;
-        past = IsLaidPast-synced c ring call st.load st.commit (P.view t.0) syncing;
-        same = KeepsAccepted-synced c call st.load st.commit;
-        follows = λ samples offered n. Follows-synced c call st.load st.commit samples offered n;
+      subst (Synced s t c ring IsLaidPast) st.outcome (looked-kept s t c ring call st.load st.commit sound moves going step port (TakesAt-same P G s t (syncs c call ring) a takes) st.looked)
+
+  -- what a start of the frames before `written + m` leaves, of which m are accepted where it goes well
+  pub record Begun (s t : S × T) (c : Plain) (ring : List ℤ) (state : State) (m : ℕ) (a : Answered (Unit {0})) : Type 0 where
+    pub keeps : Keeps P G s t (client c ring) (client (accepted_if m a).0 ring) (accepted_if m a).1 (λ samples. StandsUpTo c ring samples (c.stretch.written + m))
+    pub goes : OnOk a.1 (a.0.status.state ≡ state × a.0.status.stopped ≡ c.status.stopped)
+
+  begun-kept : (s t : S × T) (c : Plain) (ring : List ℤ) (state : State) (m : ℕ) (load : Option Position) (x : Commit) → IsSound c ring → c.status.state ≡ Prepared → is_moving state ≡ true → c.stretch.written + m ≤ c.setup.config.buffer_size
+      → (P.view s.0).marks.cursor.frame ≤ end_frame c.identity.geometry → CanUse c (P.view s.0) → IsSamePort (P.view s.0) (P.view t.0)
+      → Looked P G s t ring (λ position. started_in c Running position (P.view s.0).marks.cursor) (λ position. start_count c (P.view s.0).marks.cursor position (c.stretch.written + m)) (length c.setup.bindings) load x
+      → Begun s t c ring state m (started c state (P.view s.0).marks.cursor load x)
+  begun-kept s t c ring state m None x sound waits leads fits near port same l = record {
+    keeps = Keeps-still s t c (stopped_in {T = ℕ} c).0 ring ring (Err error.Stopped) _ (IsSound-stopped c ring sound) (CanUse-still c _ _ _ port same refl (λ moves going. cc)) l.laid_them (λ unstopped. l.stopped) (λ samples stands. refl) refl refl (λ samples stands up. stands);
+    goes = tt;
+  }
+  begun-kept s t c ring state m (Some position) x sound waits leads fits near port same l =
+      let cursor = (P.view s.0).marks.cursor in
+      let upto : ℕ = c.stretch.written + m in
+      let count : ℕ = start_count c cursor position upto in
+      let b : Plain = started_in c state position cursor in
+      let p = sound.prepared waits in
+      let most : position.frame ≤ end_frame c.identity.geometry = subst (λ (g : Geometry). position.frame ≤ end_frame g) port.same_geometry l.near.1.most in
+      let y = CommitsAs-started c ring state position cursor x upto sound waits near most l.found.commit_is in
+      let keeps = Keeps-after {X = ℕ} s t c b ring ring x count upto (λ samples. StandsUpTo c ring samples upto) y port same (omega (arith, l.near.2)) l.laid_them (λ samples stands up. up) in
+      started-ends (Begun s t c ring state m) c state cursor position x
+      (λ gone.
+      let none = none-of x.ended x.frames x.part (length c.setup.bindings) (subst (λ (n : ℕ). IsCommit x.ended x.frames x.part n (length c.setup.bindings)) (ap (λ (g : Bool). if g then 0 else commit_count b position.frame upto) gone) l.found.commit_is) in
+      let d : Plain = record c { status = record c.status { state = Disconnected }; seen = Some position.frame } in
+      record {
+        keeps = Keeps-still s t c d ring ring (Err error.NoDevice) _ (IsSound-status c d.status d.seen ring sound most (λ is. absurd (cc)) (λ is. absurd (cc)) (λ moves going. absurd (cc)) (λ is. absurd (cc)))
+            (CanUse-still c d _ _ port same refl (λ moves going. cc)) (subst (P.laid s.0 t.0) (laid_at-none c b ring x none.0 none.1) l.laid_them) (λ unstopped. subst (λ (e : Ended). CountsEnd e (G.stops s.1) (G.stops t.1)) none.2 l.stopped)
+            (λ samples stands. refl) refl refl (λ samples stands up j q low high in_range. stands j q (min-none c.stretch.committed (hw_of c) j p.no_frame) high in_range);
+        goes = tt;
+      })
+      (λ here stop. record { keeps = keeps (record { state = state; stopped = true }) c.stretch.written c.fed (Err error.Stopped) (omega arith) sound.fed (not_prepared-moving state leads) (not_paused-moving state leads) (told-stop x.ended (G.stops s.1) (G.stops t.1) stop l.stopped) (λ moves going. absurd (cc)); goes = tt })
+      (λ w here on late. record { keeps = keeps (record { state = Xrun; stopped = c.status.stopped }) c.stretch.written c.fed (Err (error.Xrun w)) (omega arith) sound.fed (λ is. cc) (λ is. cc) (told-going x.ended (G.stops s.1) (G.stops t.1) on l.stopped) (λ moves going. absurd (cc)); goes = tt })
+      (λ here on in_time.
+      let st : Status = record { state = state; stopped = c.status.stopped } in
+      let all = whole-of x.ended x.frames x.part count (length c.setup.bindings) (end_of_commit b x) (end_channel b x) _ l.found.commit_is on in_time (l.stayed (start-free cursor position.frame c.identity.lead c.stretch.committed (least_channel c.setup.bindings) p.no_frame)) in
+      let whole : x.frames ≡ commit_count b position.frame upto = all.0 ∙ ap (λ (g : Bool). if g then 0 else commit_count b position.frame upto) here in
+      record {
+        keeps = keeps st upto (c.fed + m) (Ok m) (omega arith) (omega (arith, sound.fed)) (not_prepared-moving state leads) (not_paused-moving state leads) (told-going x.ended (G.stops s.1) (G.stops t.1) on l.stopped)
+            (λ moves going. (IsMoving-after c b ring x count upto st (c.fed + m) y (omega (arith, fits)) whole all.1, all.2));
+        goes = (refl, refl);
       })
 
   -- a start of a client that is prepared
   pub starts-kept : (s t : S × T) (c : Plain) (ring : List ℤ) (state : State) (m : ℕ) (a : Answered (Unit {0})) → IsSound c ring → c.status.state ≡ Prepared → is_moving state ≡ true
       → c.stretch.written + m ≤ c.setup.config.buffer_size → (P.view s.0).marks.cursor.frame ≤ end_frame c.identity.geometry → CanUse c (P.view s.0)
-      → TakesAt P G s (starts c state (P.view s.0).marks.cursor (c.stretch.written + m) ring) t a → Begun P G s t c ring state m a
+      → TakesAt P G s (starts c state (P.view s.0).marks.cursor (c.stretch.written + m) ring) t a → Begun s t c ring state m a
   starts-kept s t c ring state m a sound waits leads fits near port takes =
-      let cursor = (P.view s.0).marks.cursor in
-      let st = starts-step s t c ring state cursor (c.stretch.written + m) a (configured-prepared c ring sound waits).bound takes in
-      let x = st.looked in
-      let same = TakesAt-same P G s t (starts c state cursor (c.stretch.written + m) ring) a takes in
-      let starting : IsStarting c ring cursor st.load st.commit (c.stretch.written + m) (P.view t.0) = record {
-        sound = sound;
-        prepared = waits;
-        cursor_most = near;
-        found = x.found;
-        loaded = if-some st.load _ _ (λ p there. subst (λ (g : Geometry). p.frame ≤ end_frame g) port.same_geometry there.1.most) x.near;
-        fits = fits;
-        same_geometry = same.same_geometry ∙ port.same_geometry;
-        same_member = same.same_member ∙ port.same_member;
-        able = same.same_can_add ∙ port.can;
-        stayed = if-some st.load _ _ (λ p from. from (start-free cursor p.frame c.identity.lead c.stretch.committed (least_channel c.setup.bindings) (sound.prepared waits).no_frame)) x.stayed;
-        saw = if-some st.load _ _ (λ p there. there.2) x.near;
-      } in
-      let left = IsLeft-started c ring state cursor st.load st.commit (c.stretch.written + m) (c.fed + m) (P.view t.0) leads (omega (arith, sound.fed)) starting in
-      let b = started c state cursor st.load st.commit in
-      let grown_is = grown-accepted c m b (KeepsAccepted-started c state cursor st.load st.commit) in
-      let told = started-told c state cursor st.load st.commit (G.stops s.1) (G.stops t.1) x.stopped (gone-whole c cursor st.load st.commit (c.stretch.written + m) (G.stops s.1) (G.stops t.1) x.found x.stopped) in
-      let is : IsBegun c ring cursor st.load st.commit (c.stretch.written + m) = record { sound = sound; prepared = waits; found = x.found } in
-      subst (λ (d : Answered (Unit {0})). Begun P G s t c ring state m d) st.outcome (record {
-        sound = subst (λ (d : Plain). IsSound d ring) (sym grown_is) left.sound;
-        port = subst (λ (d : Plain). CanUse d (P.view t.0)) (sym grown_is) left.use_it;
-        told = told.told;
-        goes = told.goes;
-        grows = λ samples stands. Grows-started P.laid laid_composes s.0 t.0 c ring samples state cursor st.load st.commit m is stands x.laid_them;
-        stands = λ samples stands. StandsFor-started c ring samples state cursor st.load st.commit m is stands;
-      })
+      let st = starts-step s t c ring state (P.view s.0).marks.cursor (c.stretch.written + m) a (configured-prepared c ring sound waits).bound takes in
+      subst (Begun s t c ring state m) st.outcome (begun-kept s t c ring state m st.load st.commit sound waits leads fits near port (TakesAt-same P G s t (starts c state (P.view s.0).marks.cursor (c.stretch.written + m) ring) a takes) st.looked)
 
   -- of all that is written
   pub start-kept : (s t : S × T) (c : Plain) (ring : List ℤ) (state : State) (a : Answered (Unit {0})) → IsSound c ring → c.status.state ≡ Prepared → is_moving state ≡ true
-      → (P.view s.0).marks.cursor.frame ≤ end_frame c.identity.geometry → CanUse c (P.view s.0)
-      → TakesAt P G s (starts c state (P.view s.0).marks.cursor c.stretch.written ring) t a → Keeps P G s t (client c ring) (client a.0 ring) a.1 AnySamples
+      → (P.view s.0).marks.cursor.frame ≤ end_frame c.identity.geometry → CanUse c (P.view s.0) → TakesAt P G s (starts c state (P.view s.0).marks.cursor c.stretch.written ring) t a
+      → Keeps P G s t (client c ring) (client a.0 ring) a.1 AnySamples × OnOk a.1 (a.0.status.state ≡ state × a.0.status.stopped ≡ c.status.stopped)
   start-kept s t c ring state a sound waits leads near port takes =
       let all : c.stretch.written + 0 ≡ c.stretch.written = add-zero c.stretch.written in
-      let begun = starts-kept s t c ring state 0 a sound waits leads (omega (arith, (sound.prepared waits).fits)) near port
-      (subst (λ (n : ℕ). TakesAt P G s (starts c state (P.view s.0).marks.cursor n ring) t a) (sym all) takes) in
-      subst (λ (d : Plain). Keeps P G s t (client c ring) (client d ring) a.1 AnySamples) (accepted-none a) (record {
-        sound = begun.sound;
-        port = begun.port;
-        told = λ unstopped. begun.told;
-        grows = λ samples stands any. begun.grows samples (subst (StandsUpTo c ring samples) (sym all) stands);
-        stands = λ samples stands any. begun.stands samples (subst (StandsUpTo c ring samples) (sym all) stands);
-      })
+      let begun = starts-kept s t c ring state 0 a sound waits leads (omega (arith, (sound.prepared waits).fits)) near port (subst (λ (n : ℕ). TakesAt P G s (starts c state (P.view s.0).marks.cursor n ring) t a) (sym all) takes) in
+      let k = begun.keeps in (
+        subst (λ (d : Plain). Keeps P G s t (client c ring) (client d ring) a.1 AnySamples) (accepted-none a) (record {
+          sound = k.sound;
+          port = k.port;
+          told = λ unstopped. accepted_if-told 0 a (G.stops s.1) (G.stops t.1) (k.told unstopped);
+          grows = λ samples stands any. k.grows samples stands (subst (StandsUpTo c ring samples) (sym all) stands);
+          stands = λ samples stands any. k.stands samples stands (subst (StandsUpTo c ring samples) (sym all) stands);
+        }),
+        begun.goes,
+      )
 
   -- nothing was done
   pub Keeps-none : {X : Type 0} (s : S × T) (c : ClientView) (answer : Result X PcmError) (For : List ℤ → Type 0) → IsSound c.plain c.ring → CanUse c.plain (P.view s.0)
       → (c.plain.status.stopped ≡ false → pass_by answer ≡ Go) → Keeps P G s s c c answer For
-  Keeps-none s c answer For sound port told = record {
-    sound = sound;
-    port = port;
-    told = λ unstopped. ap (λ pass. stops_after pass (G.stops s.1)) (sym (told unstopped));
-    grows = λ samples stands any. Grows-none P.laid laid_composes s.0 s.0 c.plain c.plain samples refl refl refl refl;
-    stands = λ samples stands any. stands;
-  }
+  Keeps-none s c answer For sound port told =
+      Keeps-still s s c.plain c.plain c.ring c.ring answer For sound port (laid_composes.none s.0) (λ unstopped. ap (λ pass. stops_after pass (G.stops s.1)) (sym (told unstopped))) (λ samples stands. refl) refl refl (λ samples stands any. stands)
 
   -- the answer is a number
-  pub Keeps-number : (s t : S × T) (c : ClientView) (number : Plain → ℕ) (a : Answered (Unit {0})) (ring : List ℤ) (answer : Result ℕ PcmError) → with_number number a ≡ (a.0, answer)
-      → Keeps P G s t c (client a.0 ring) a.1 AnySamples → Keeps P G s t c (client a.0 ring) answer AnySamples
-  Keeps-number s t c number a ring answer is keeps = record {
-    sound = keeps.sound;
-    port = keeps.port;
-    told = λ unstopped. subst (λ (b : Answered ℕ). CountsStop b.1 (G.stops s.1) (G.stops t.1)) is (with_number-told number a (G.stops s.1) (G.stops t.1) (keeps.told unstopped));
-    grows = keeps.grows;
-    stands = keeps.stands;
-  }
+  pub Keeps-numbered : (s t : S × T) (c : ClientView) (number : Plain → ℕ) (a : Answered (Unit {0})) (ring : List ℤ) → Keeps P G s t c (client a.0 ring) a.1 AnySamples → Keeps P G s t c (client (with_number number a).0 ring) (with_number number a).1 AnySamples
+  Keeps-numbered s t c number (d, Ok done) ring k = record { sound = k.sound; port = k.port; told = k.told; grows = k.grows; stands = k.stands }
+  Keeps-numbered s t c number (d, Err e) ring k = record { sound = k.sound; port = k.port; told = k.told; grows = k.grows; stands = k.stands }
 
   -- one part after another
   pub Keeps-then : {X Y : Type 0} (s m t : S × T) (c d e : ClientView) (first : Result X PcmError) (answer : Result Y PcmError) (For More : List ℤ → Type 0)
@@ -276,9 +339,54 @@ module _ {S T : Type 0} (P : mixport.Ghosts S) (G : gates.Ghosts T) (laid_compos
   }
 
   -- a write behind its sync
-  pub record Taken (s t : S × T) (c : Plain) (ring offered : List ℤ) (n : ℕ) (a : Answered ℕ) : Type 0 where
+  pub record Written (s t : S × T) (c : Plain) (ring offered : List ℤ) (n : ℕ) (a : Answered ℕ) : Type 0 where
     pub keeps : Keeps P G s t (client c ring) (client a.0 (ring_with c ring offered (taken_of c n))) a.1 (λ all. Follows c all offered n)
     pub count : IfOk a.1 (λ taken. taken ≤ 16384)
+
+  written-kept : (s t : S × T) (c : Plain) (ring offered : List ℤ) (n : ℕ) (x : Commit) → IsSound c ring → is_moving c.status.state ≡ true → c.status.stopped ≡ false → IsLaidPast c → n * length c.setup.bindings ≤ length offered → CanUse c (P.view s.0) → IsSamePort (P.view s.0) (P.view t.0)
+      → LaysFrames P G s t c.identity.member c.stretch.card c.setup.bindings (held c (ring_with c ring offered (taken_of c n))) (count_with c (taken_of c n)) c.stretch.committed x → Written s t c ring offered n (written_after c n x)
+  written-kept s t c ring offered n x sound moves going past held_all port same laid =
+      let k = configured-moving c ring sound moves in
+      let was = sound.moving moves going in
+      let m : ℕ = taken_of c n in
+      let new = ring_with c ring offered m in
+      let upto : ℕ = c.stretch.written + m in
+      let few : m * length c.setup.bindings ≤ n * length c.setup.bindings = mul-le-mul_right (length c.setup.bindings) (taken_fits c.stretch.written (hw_of c) c.setup.config.buffer_size n m was.fits refl).2 in
+      let sound_new = IsSound-stored c ring offered m sound k (omega (arith, few, held_all)) in
+      let up : (samples : List ℤ) → StandsFor c ring samples → Follows c samples offered n → StandsUpTo c new samples upto = λ samples stands for. StandsUpTo-written c ring samples offered n k held_all was.fits past stands for in
+      let y = CommitsAs-written c new x m sound_new moves going laid.commit_is in
+      let saw : unwrap_or c.seen 0 ≤ (P.view t.0).seen = subst (λ (v : PortView). unwrap_or c.seen 0 ≤ v.seen) (sym laid.view_is) (port.newer moves going) in
+      let at_end = laid.free (least_channel c.setup.bindings) (port.behind moves going) in
+      let keeps = Keeps-after {X = ℕ} s t c c ring new x (count_with c m) upto (λ all. Follows c all offered n) y port same saw laid.laid_them up in
+      written-ends (Written s t c ring offered n) c n x
+      (λ some none.
+      let count : count_with c m ≡ 0 = ap (λ (j : ℕ). count_with c j) (taken-none n c.setup.config.buffer_size (hw_of c) c.stretch.written none) in
+      let nothing = none-of x.ended x.frames x.part (length c.setup.bindings) (subst (λ (j : ℕ). IsCommit x.ended x.frames x.part j (length c.setup.bindings)) count laid.commit_is) in
+      let here : IsFrom (P.view t.0).marks.cursor (end_of_commit c x) (least_channel c.setup.bindings) = subst (λ (e : Ended). OnWhole e (IsFrom (P.view t.0).marks.cursor (end_of_commit c x) (least_channel c.setup.bindings))) nothing.2 at_end in
+      let still : CanUse c (P.view t.0) = record {
+        same_geometry = same.same_geometry ∙ port.same_geometry;
+        same_member = same.same_member ∙ port.same_member;
+        can = same.same_can_add ∙ port.can;
+        behind = λ m going. omega (arith, here, nothing.0);
+        newer = λ m going. saw;
+      } in
+      record {
+        keeps = Keeps-still s t c c ring new (Err error.Again) (λ all. Follows c all offered n) sound_new still (subst (P.laid s.0 t.0) (laid_at-none c c new x nothing.0 nothing.1) laid.laid_them) (λ unstopped. subst (λ (e : Ended). CountsEnd e (G.stops s.1) (G.stops t.1)) nothing.2 laid.stopped)
+            (λ samples stands. refl) refl refl (λ samples stands for j q low high in_range. up samples stands for j q low (omega (arith, high)) in_range);
+        count = tt;
+      })
+      (λ full stop. record { keeps = keeps (record c.status { stopped = true }) c.stretch.written c.fed (Err error.Stopped) (omega arith) sound.fed (not_prepared-moving c.status.state moves) (not_paused-moving c.status.state moves) (told-stop x.ended (G.stops s.1) (G.stops t.1) stop laid.stopped) (λ m unstopped. absurd (cc)); count = tt })
+      (λ w full on late. record { keeps = keeps (record c.status { state = Xrun }) c.stretch.written c.fed (Err (error.Xrun w)) (omega arith) sound.fed (λ is. cc) (λ is. cc) (told-going x.ended (G.stops s.1) (G.stops t.1) on laid.stopped) (λ m unstopped. absurd (cc)); count = tt })
+      (λ full on in_time.
+      let all = whole-of x.ended x.frames x.part (count_with c m) (length c.setup.bindings) (end_of_commit c x) (end_channel c x) _ laid.commit_is on in_time at_end in
+      record {
+        keeps = keeps (record c.status { state = Running }) upto (c.fed + m) (Ok m) (omega arith) (omega (arith, sound.fed)) (λ is. cc) (λ is. cc) (told-going x.ended (G.stops s.1) (G.stops t.1) on laid.stopped)
+            (λ moving unstopped. (IsMoving-written c new x n m (record c.status { state = Running }) (c.fed + m) refl was y all.0 all.1, all.2));
+        count = omega (arith, (taken_fits c.stretch.written (hw_of c) c.setup.config.buffer_size n m was.fits refl).1, k.buffer_most);
+      })
+
+  pub record Taken (s t : S × T) (c : Plain) (ring offered : List ℤ) (n : ℕ) (a : Answered ℕ) : Type 0 where
+    pub kept : Written s t c ring offered n a
     pub last : Commit
     pub outcome : written_after c n last ≡ a
     pub late : OnLate last.ended (λ word. IsPast P.view P.shows t.0 (end_of_commit c last) (end_channel c last) word)
@@ -287,39 +395,12 @@ module _ {S T : Type 0} (P : mixport.Ghosts S) (G : gates.Ghosts T) (laid_compos
       → n * length c.setup.bindings ≤ length offered → CanUse c (P.view s.0) → TakesAt P G s (takes_more c ring offered n) t a → Taken s t c ring offered n a
   unfolding takes_more
   takes_more-kept s t c ring offered n a sound moves going past held_all port takes =
-      let k = configured-moving c ring sound moves in
       let stored = ring_with c ring offered (taken_of c n) in
       let parts = Takes-parts (LoadsAt P G) (LaysAt P G) NoGet s t (commits c stored (count_with c (taken_of c n))) (λ last. ends (written_after c n last)) a takes in
-      let last = parts.1 in
-      let laid = TakesAt-frames P G laid_composes loaded_composes c.identity.member c.stretch.card c.setup.bindings (held c stored) (count_with c (taken_of c n)) c.stretch.committed s parts.0 last k.bound parts.2 in
-      let few : taken_of c n * length c.setup.bindings ≤ n * length c.setup.bindings = mul-le-mul_right (length c.setup.bindings) (taken-few n _ _) in
-      let same = TakesAt-same P G s parts.0 (commits c stored (count_with c (taken_of c n))) last parts.2 in
-      let is : IsTaken c ring n last = record { sound = sound; moves = moves; going = going; past = past; commit_is = laid.commit_is } in
-      let writing : IsWriting c stored n last (P.view parts.0.0) (G.stops s.1) (G.stops parts.0.1) = record {
-        sound = IsSound-stored c ring offered (taken_of c n) sound k (omega (arith, few, held_all));
-        moves = moves;
-        going = going;
-        commit_is = laid.commit_is;
-        port = record {
-          same_geometry = same.same_geometry ∙ port.same_geometry;
-          same_member = same.same_member ∙ port.same_member;
-          able = same.same_can_add ∙ port.can;
-          whole = laid.free (least_channel c.setup.bindings) (port.behind moves going);
-          newer = subst (λ (v : PortView). unwrap_or c.seen 0 ≤ v.seen) (sym laid.view_is) (port.newer moves going);
-        };
-        told = laid.stopped;
-      } in
-      let written = IsWritten-after c stored n last (P.view parts.0.0) (G.stops s.1) (G.stops parts.0.1) writing in
+      let laid = TakesAt-frames P G laid_composes loaded_composes c.identity.member c.stretch.card c.setup.bindings (held c stored) (count_with c (taken_of c n)) c.stretch.committed s parts.0 parts.1 (configured-moving c ring sound moves).bound parts.2 in
       subst (λ (u : S × T). Taken s u c ring offered n a) (sym parts.3.there) (subst (λ (b : Answered ℕ). Taken s parts.0 c ring offered n b) (sym parts.3.result) (record {
-        keeps = record {
-          sound = written.left.sound;
-          port = written.left.use_it;
-          told = λ unstopped. written.told;
-          grows = λ samples stands for. Grows-taken P.laid laid_composes s.0 parts.0.0 c ring samples offered n last is held_all stands for laid.laid_them;
-          stands = λ samples stands for. StandsFor-taken c ring samples offered n last is held_all stands for;
-        };
-        count = written.count;
-        last = last;
+        kept = written-kept s parts.0 c ring offered n parts.1 sound moves going past held_all port (TakesAt-same P G s parts.0 (commits c stored (count_with c (taken_of c n))) parts.1 parts.2) laid;
+        last = parts.1;
         outcome = refl;
         late = laid.late;
       }))
@@ -345,21 +426,17 @@ module _ {S T : Type 0} (P : mixport.Ghosts S) (G : gates.Ghosts T) (laid_compos
       }
 
   -- with a number in its answer
-  pub Explains-number : (s t : S × T) (c : ClientView) (at : Position → Plain) (count : Position → ℕ) (call : Option Position → Commit → Answered (Unit {0})) (number : Plain → ℕ) (a : Answered (Unit {0})) (b : Answered ℕ)
-      → with_number number a ≡ b → Explains P G s t c at count call a → Explains P G s t c at count (λ load commit. with_number number (call load commit)) b
-  Explains-number s t c at count call number a b is one =
-      subst (λ (d : Answered ℕ). Explains P G s t c at count (λ load commit. with_number number (call load commit)) d) is (record {
-        step = record { load = one.step.load; commit = one.step.commit; looked = one.step.looked; outcome = ap (with_number number) one.step.outcome };
-        why = caused-number P.view P.shows t.0 one.step.load c.plain number a one.why;
+  Explains-by : (f : Answered (Unit {0}) → Answered ℕ) (s t : S × T) (c : ClientView) (at : Position → Plain) (count : Position → ℕ) (call : Option Position → Commit → Answered (Unit {0})) (a : Answered (Unit {0})) (b : Answered ℕ)
+      → ((load : Option Position) → IsCaused {X = Unit {0}} P.view P.shows t.0 c.plain a.0 load a.1 → IsCaused {X = ℕ} P.view P.shows t.0 c.plain (f a).0 load (f a).1) → f a ≡ b → Explains P G s t c at count call a → Explains P G s t c at count (λ load commit. f (call load commit)) b
+  Explains-by f s t c at count call a b caused is one =
+      subst (λ (d : Answered ℕ). Explains P G s t c at count (λ load commit. f (call load commit)) d) is (record {
+        step = record { load = one.step.load; commit = one.step.commit; looked = one.step.looked; outcome = ap f one.step.outcome };
+        why = caused one.step.load one.why;
       })
 
-  pub Explains-accepted : (s t : S × T) (c : ClientView) (at : Position → Plain) (count : Position → ℕ) (call : Option Position → Commit → Answered (Unit {0})) (m : ℕ) (a : Answered (Unit {0})) (b : Answered ℕ)
-      → accepted_if m a ≡ b → Explains P G s t c at count call a → Explains P G s t c at count (λ load commit. accepted_if m (call load commit)) b
-  Explains-accepted s t c at count call m a b is one =
-      subst (λ (d : Answered ℕ). Explains P G s t c at count (λ load commit. accepted_if m (call load commit)) d) is (record {
-        step = record { load = one.step.load; commit = one.step.commit; looked = one.step.looked; outcome = ap (accepted_if m) one.step.outcome };
-        why = caused-accepted P.view P.shows t.0 one.step.load c.plain m a one.why;
-      })
+  pub Explains-number : (s t : S × T) (c : ClientView) (at : Position → Plain) (count : Position → ℕ) (call : Option Position → Commit → Answered (Unit {0})) (number : Plain → ℕ) (a : Answered (Unit {0})) (b : Answered ℕ)
+      → with_number number a ≡ b → Explains P G s t c at count call a → Explains P G s t c at count (λ load commit. with_number number (call load commit)) b
+  Explains-number s t c at count call number a b is one = Explains-by (with_number number) s t c at count call a b (λ load why. caused-number P.view P.shows t.0 load c.plain number a why) is one
 
   -- a drain of a stream that moves frames is to be made again exactly where it still drains
   pub syncs-still : (s t : S × T) (c : Plain) (ring : List ℤ) (a : Answered (Unit {0})) → AreBindings c.setup.bindings → c.status.state ≡ Draining → c.status.stopped ≡ false
@@ -367,12 +444,6 @@ module _ {S T : Type 0} (P : mixport.Ghosts S) (G : gates.Ghosts T) (laid_compos
   syncs-still s t c ring a bound drains going takes =
       let st = syncs-step s t c ring call.Drain a bound takes in
       subst IsStill st.outcome (synced-still c st.load st.commit drains going)
-
-  pub starts-begun : (s t : S × T) (c : Plain) (ring : List ℤ) (cursor : Cursor) (upto : ℕ) (a : Answered (Unit {0})) → AreBindings c.setup.bindings
-      → TakesAt P G s (starts c Draining cursor upto ring) t a → StillBegun c a
-  starts-begun s t c ring cursor upto a bound takes =
-      let st = starts-step s t c ring Draining cursor upto a bound takes in
-      subst (StillBegun c) st.outcome (started-begun c cursor st.load st.commit)
 
   -- a write into a stream that runs, by its two parts
   pub writes-explained : (s m t : S × T) (c : Plain) (ring new_ring offered : List ℤ) (n : ℕ) (middle : Answered (Unit {0})) (a : Answered ℕ) → AreBindings c.setup.bindings → c.status.state ≡ Running
@@ -403,42 +474,22 @@ module _ {S T : Type 0} (P : mixport.Ghosts S) (G : gates.Ghosts T) (laid_compos
       let st = syncs-step s t c ring call.Transfer a bound takes in
       OnOk-of a.1 (a.0.status.state ≡ Running) ok (subst (λ (b : Answered (Unit {0})). OnOk b.1 (b.0.status.state ≡ Running)) st.outcome (synced-runs c st.load st.commit runs))
 
-  -- the start of a drain, where it went well
-  pub record Drains (s m : S × T) (c : Plain) (ring : List ℤ) (a : Answered (Unit {0})) : Type 0 where
-    pub keeps : Keeps P G s m (client c ring) (client a.0 ring) a.1 AnySamples
-    pub drains : a.0.status.state ≡ Draining
-    pub going : a.0.status.stopped ≡ false
-
-  begun-well : (c : Plain) (a : Answered (Unit {0})) → a.1 ≡ Ok tt → StillBegun c a → (a.0.status.state ≡ Draining) × (a.0.status.stopped ≡ c.status.stopped)
-  begun-well c a ok (inl well) = (well.1, well.2)
-  begun-well c a ok (inr refused) = absurd (let is = refused.1.1 in cc)
-
-  pub drains-kept : (s m : S × T) (c : Plain) (ring : List ℤ) (a : Answered (Unit {0})) → IsSound c ring → c.status.state ≡ Prepared → c.status.stopped ≡ false
-      → (P.view s.0).marks.cursor.frame ≤ end_frame c.identity.geometry → CanUse c (P.view s.0) → a.1 ≡ Ok tt
-      → TakesAt P G s (starts c Draining (P.view s.0).marks.cursor c.stretch.written ring) m a → Drains s m c ring a
-  drains-kept s m c ring a sound waits unstopped near port ok takes =
-      let well = begun-well c a ok (starts-begun s m c ring (P.view s.0).marks.cursor c.stretch.written a (configured-prepared c ring sound waits).bound takes) in
-      record { keeps = start-kept s m c ring Draining a sound waits refl near port takes; drains = well.0; going = well.1 ∙ unstopped }
-
-  begun-ill : (c : Plain) (a : Answered (Unit {0})) (e : PcmError) → a.1 ≡ Err e → StillBegun c a → IsStill a
-  begun-ill c a e is (inl well) = absurd (let h = well.0 in cc)
-  begun-ill c a e is (inr refused) = refused.0
-
+  -- the start of a drain, where it didn't go well
   pub drains-ill : (s m : S × T) (c : Plain) (ring : List ℤ) (cursor : Cursor) (a : Answered (Unit {0})) (e : PcmError) → AreBindings c.setup.bindings → a.1 ≡ Err e
       → TakesAt P G s (starts c Draining cursor c.stretch.written ring) m a → IsStill a
-  drains-ill s m c ring cursor a e bound is takes = begun-ill c a e is (starts-begun s m c ring cursor c.stretch.written a bound takes)
+  drains-ill s m c ring cursor a e bound is takes =
+      let st = starts-step s m c ring Draining cursor c.stretch.written a bound takes in
+      subst (λ (b : Answered (Unit {0})). b.1 ≡ Err e → IsStill b) st.outcome (started-still c cursor st.load st.commit e) is
 
   -- a write into a prepared stream that doesn't start it
   pub stored-kept : (s : S × T) (c : Plain) (ring stored samples : List ℤ) (n m : ℕ) → m ≡ taken_of c n → stored ≡ ring_with c ring samples m → IsSound c ring → IsSound c stored → c.status.state ≡ Prepared
       → n * length c.setup.bindings ≤ length samples → CanUse c (P.view s.0)
       → Keeps P G s s (client c ring) (client (accepted c m) stored) (let r : Result ℕ PcmError = Ok m in r) (λ all. Follows c all samples n)
-  stored-kept s c ring stored samples n m is is_stored sound sound_stored waits held_all port = record {
-    sound = IsSound-filled c stored m sound_stored waits (omega (arith, is, taken-room n c.setup.config.buffer_size c.stretch.written (sound.prepared waits).fits, taken-waiting c n (sound.prepared waits).waiting));
-    port = CanUse-still (accepted c m) (P.view s.0) port.same_geometry port.same_member port.can (λ moves going. not_prepared-moving c.status.state moves waits);
-    told = λ unstopped. refl;
-    grows = λ all stands for. Grows-none P.laid laid_composes s.0 s.0 c (accepted c m) all refl refl refl refl;
-    stands = λ all stands for. filled-stands c ring stored samples all n m is is_stored sound waits held_all stands for;
-  }
+  stored-kept s c ring stored samples n m is is_stored sound sound_stored waits held_all port =
+      Keeps-still s s c (accepted c m) ring stored (Ok m) (λ all. Follows c all samples n)
+      (IsSound-filled c stored m sound_stored waits (omega (arith, is, taken-room n c.setup.config.buffer_size c.stretch.written (sound.prepared waits).fits, taken-waiting c n (sound.prepared waits).waiting)))
+      (CanUse-still c (accepted c m) (P.view s.0) (P.view s.0) port (IsSamePort-refl (P.view s.0)) refl (λ moves going. not_prepared-moving c.status.state moves waits)) (laid_composes.none s.0) (λ unstopped. refl) (λ all stands. refl) refl refl
+      (λ all stands for. filled-stands c ring stored samples all n m is is_stored sound waits held_all stands for)
 
   -- a write into a prepared stream that starts it
   pub record Filled (s t : S × T) (c : Plain) (ring stored samples : List ℤ) (n m : ℕ) (a : Answered ℕ) : Type 0 where
@@ -456,14 +507,14 @@ module _ {S T : Type 0} (P : mixport.Ghosts S) (G : gates.Ghosts T) (laid_compos
       let begun = starts-kept s parts.0 c stored Running m parts.1 sound_stored waits refl (omega (arith, is, taken-room n c.setup.config.buffer_size c.stretch.written (sound.prepared waits).fits, taken-waiting c n (sound.prepared waits).waiting)) near port parts.2 in
       subst (λ (u : S × T). Filled s u c ring stored samples n m a) (sym parts.3.there) (subst (λ (b : Answered ℕ). Filled s parts.0 c ring stored samples n m b) (sym parts.3.result) (record {
         keeps = record {
-          sound = begun.sound;
-          port = begun.port;
-          told = λ unstopped. accepted_if-told m parts.1 (G.stops s.1) (G.stops parts.0.1) begun.told;
-          grows = λ all stands for. begun.grows all (filled-stands c ring stored samples all n m is is_stored sound waits held_all stands for);
-          stands = λ all stands for. begun.stands all (filled-stands c ring stored samples all n m is is_stored sound waits held_all stands for);
+          sound = begun.keeps.sound;
+          port = begun.keeps.port;
+          told = begun.keeps.told;
+          grows = λ all stands for. let up = filled-stands c ring stored samples all n m is is_stored sound waits held_all stands for in begun.keeps.grows all (λ j q low high in_range. up j q low (omega (arith, high)) in_range) up;
+          stands = λ all stands for. let up = filled-stands c ring stored samples all n m is is_stored sound waits held_all stands for in begun.keeps.stands all (λ j q low high in_range. up j q low (omega (arith, high)) in_range) up;
         };
         count = accepted-count m parts.1;
-        explains = Explains-accepted s parts.0 (client c stored) (λ position. started_in c Running position (P.view s.0).marks.cursor) (λ position. start_count c (P.view s.0).marks.cursor position (c.stretch.written + m)) (started c Running (P.view s.0).marks.cursor) m parts.1 (accepted_if m parts.1) refl
+        explains = Explains-by (accepted_if m) s parts.0 (client c stored) (λ position. started_in c Running position (P.view s.0).marks.cursor) (λ position. start_count c (P.view s.0).marks.cursor position (c.stretch.written + m)) (started c Running (P.view s.0).marks.cursor) parts.1 (accepted_if m parts.1) (λ load why. caused-accepted P.view P.shows parts.0.0 load c m parts.1 why) refl
             (starts-explained s parts.0 c stored Running (P.view s.0).marks.cursor (c.stretch.written + m) parts.1 (configured-prepared c stored sound_stored waits).bound waits parts.2);
       }))
 
@@ -485,21 +536,23 @@ module _ {S T : Type 0} (P : mixport.Ghosts S) (G : gates.Ghosts T) (laid_compos
       subst (λ (r : List ℤ). Wrote s t c ring r offered n a) (sym is_new) (record {
         keeps = Keeps-then s m t (client c ring) (client d ring) (client a.0 (ring_with d ring offered (taken_of d n))) (let r : Result (Unit {0}) PcmError = Ok tt in r) a.1 (λ all. Follows c all offered n) (λ all. Follows d all offered n)
             refl first.goes.unstopped (λ all for. first.follows all offered n for)
-            (record { sound = first.keeps.sound; port = first.keeps.port; told = first.keeps.told; grows = λ all stands for. first.keeps.grows all stands tt; stands = λ all stands for. first.keeps.stands all stands tt }) later.keeps;
-        count = later.count;
+            (record { sound = first.keeps.sound; port = first.keeps.port; told = first.keeps.told; grows = λ all stands for. first.keeps.grows all stands tt; stands = λ all stands for. first.keeps.stands all stands tt }) later.kept.keeps;
+        count = later.kept.count;
         explains = writes-explained s m t c ring (ring_with d ring offered (taken_of d n)) offered n (d, Ok tt) a bound runs one two refl later.last later.outcome later.late (λ e is. absurd (cc));
       })
+
+  -- a client whose state is left, with nothing done
+  left-kept : (s : S × T) (c : Plain) (ring : List ℤ) (state : State) → IsSound (record c { status = record c.status { state = state } }) ring → CanUse c (P.view s.0) → is_moving state ≡ false
+      → Keeps P G s s (client c ring) (client (record c { status = record c.status { state = state } }) ring) (let r : Result (Unit {0}) PcmError = Ok tt in r) AnySamples
+  left-kept s c ring state sound port rests =
+      Keeps-still s s c (record c { status = record c.status { state = state } }) ring ring (Ok tt) AnySamples sound
+      (CanUse-still c (record c { status = record c.status { state = state } }) (P.view s.0) (P.view s.0) port (IsSamePort-refl (P.view s.0)) refl (λ moves going. cc)) (laid_composes.none s.0) (λ unstopped. refl) (λ samples stands. refl) refl refl (λ samples stands any. stands)
 
   -- a drain with nothing to play
   pub dropped-kept : (s : S × T) (c : Plain) (ring : List ℤ) → IsSound c ring → refusal_of Playback c.status call.Drain ≡ None → CanUse c (P.view s.0)
       → Keeps P G s s (client c ring) (client (dropped c) ring) (let r : Result (Unit {0}) PcmError = Ok tt in r) AnySamples
-  dropped-kept s c ring sound admitted port = record {
-    sound = IsSound-status c (record c.status { state = Setup }) ring sound (λ is. sound.set_up (drain-set_up c.status.stopped c.status.state admitted)) (λ is. absurd (cc)) (λ moves going. absurd (cc)) (λ is. absurd (cc));
-    port = CanUse-still (dropped c) (P.view s.0) port.same_geometry port.same_member port.can (λ moves going. cc);
-    told = λ unstopped. refl;
-    grows = λ samples stands any. Grows-none P.laid laid_composes s.0 s.0 c (dropped c) samples refl refl refl refl;
-    stands = λ samples stands any. stands;
-  }
+  dropped-kept s c ring sound admitted port =
+      left-kept s c ring Setup (IsSound-status c (record c.status { state = Setup }) c.seen ring sound sound.seen (λ is. sound.set_up (drain-set_up c.status.stopped c.status.state admitted)) (λ is. absurd (cc)) (λ moves going. absurd (cc)) (λ is. absurd (cc))) port refl
 
 -- ---- what a pause and a resume keep, and why a resume answered so
 
@@ -509,32 +562,19 @@ pause-runs true s is = absurd (cc)
 pause-runs false Running is = (refl, refl)
 pause-runs false s is = absurd (cc)
 
-pub refusal_of-pause : (c : Plain) → refusal_of Playback c.status call.Pause ≡ None → (c.status.state ≡ Running) × (c.status.stopped ≡ false)
-refusal_of-pause c admitted = pause-runs c.status.stopped c.status.state admitted
-
 resume-paused : (stopped : Bool) (s : State) → (let o : Option PcmError = (if stopped then Some error.Stopped else refusal_in (next_of s call.Resume (nothing_found Playback)).answer) in o) ≡ None → s ≡ Paused
 resume-paused true s is = absurd (cc)
 resume-paused false Paused is = refl
 resume-paused false s is = absurd (cc)
 
-pub refusal_of-resume : (c : Plain) → refusal_of Playback c.status call.Resume ≡ None → c.status.state ≡ Paused
-refusal_of-resume c admitted = resume-paused c.status.stopped c.status.state admitted
-
 -- with which counts a call begins
-still-based : (a b : Bool) (c d : Plain) → b ≡ true → (if a && not b then d else c) ≡ c
-still-based a false c d is = absurd (cc)
-still-based true true c d is = refl
-still-based false true c d is = refl
+stays-based : (a b : Bool) (c d : Plain) → (a ≡ true → b ≡ true) → (if a && not b then d else c) ≡ c
+stays-based false b c d is = refl
+stays-based true true c d is = refl
+stays-based true false c d is = absurd (let no = is refl in cc)
 
-pub base-paused : (c d : Plain) → d.status.state ≡ Paused → base_of c d ≡ c
-base-paused c d is = still-based (is_paused c.status.state) (is_paused d.status.state) c (rebased c) (ap is_paused is)
-
-same-based : (a : Bool) (c d : Plain) → (if a && not a then d else c) ≡ c
-same-based true c d = refl
-same-based false c d = refl
-
-pub base-same : (c d : Plain) → d.status.state ≡ c.status.state → base_of c d ≡ c
-base-same c d is = subst (λ (s : State). (if is_paused c.status.state && not (is_paused s) then rebased c else c) ≡ c) (sym is) (same-based (is_paused c.status.state) c (rebased c))
+pub base-kept : (c d : Plain) → (is_paused c.status.state ≡ true → is_paused d.status.state ≡ true) → base_of c d ≡ c
+base-kept c d is = stays-based (is_paused c.status.state) (is_paused d.status.state) c (rebased c) is
 
 anew-based : (a b : Bool) (c d : Plain) → a ≡ true → b ≡ false → (if a && not b then d else c) ≡ d
 anew-based false b c d is_paused is = absurd (cc)
@@ -561,18 +601,10 @@ IsSound-rebased c ring sound is =
       paused = λ still. absurd (cc);
     }
 
-pub CanUse-rebased : (c : Plain) (v : PortView) → CanUse c v → CanUse (rebased c) v
-CanUse-rebased c v port = CanUse-still (rebased c) v port.same_geometry port.same_member port.can (λ moves going. cc)
-
--- a client that is stopped while it is paused
-IsSound-still : (c : Plain) (ring : List ℤ) → IsSound c ring → c.status.state ≡ Paused → IsSound (record c { status = record c.status { stopped = true } }) ring
-IsSound-still c ring sound is =
-    IsSound-status c (record c.status { stopped = true }) ring sound sound.set_up (λ waits. absurd (cc)) (λ moves going. absurd (cc)) sound.paused
-
 -- a client that is paused
 IsSound-paused : (c : Plain) (ring : List ℤ) → IsSound c ring → c.status.state ≡ Running → c.status.stopped ≡ false → IsSound (paused c) ring
 IsSound-paused c ring sound runs going =
-    IsSound-status c (record c.status { state = Paused }) ring sound (λ set. sound.set_up (ap is_set_up runs)) (λ waits. absurd (cc)) (λ moves still. absurd (cc)) (λ still. sound.moving (ap is_moving runs) going)
+    IsSound-status c (record c.status { state = Paused }) c.seen ring sound sound.seen (λ set. sound.set_up (ap is_set_up runs)) (λ waits. absurd (cc)) (λ moves still. absurd (cc)) (λ still. sound.moving (ap is_moving runs) going)
 
 -- a start that loaded the position isn't paused
 not_paused-started : (c : Plain) (cursor : Cursor) (position : Position) (commit : Commit) → is_paused (started c Running cursor (Some position) commit).0.status.state ≡ false
@@ -584,44 +616,31 @@ module _ {S T : Type 0} (P : mixport.Ghosts S) (G : gates.Ghosts T) (laid_compos
   pub paused-kept : (s : S × T) (c : Plain) (ring : List ℤ) → IsSound c ring → refusal_of Playback c.status call.Pause ≡ None → CanUse c (P.view s.0)
       → Keeps P G s s (client (base_of c (paused c)) ring) (client (paused c) ring) (let r : Result (Unit {0}) PcmError = Ok tt in r) AnySamples
   paused-kept s c ring sound admitted port =
-      let is = refusal_of-pause c admitted in
-      subst (λ (b : Plain). Keeps P G s s (client b ring) (client (paused c) ring) (let r : Result (Unit {0}) PcmError = Ok tt in r) AnySamples) (sym (base-paused c (paused c) refl)) (record {
-        sound = IsSound-paused c ring sound is.0 is.1;
-        port = CanUse-still (paused c) (P.view s.0) port.same_geometry port.same_member port.can (λ moves going. cc);
-        told = λ unstopped. refl;
-        grows = λ samples stands any. Grows-none P.laid laid_composes s.0 s.0 c (paused c) samples refl refl refl refl;
-        stands = λ samples stands any. stands;
-      })
+      let is = pause-runs c.status.stopped c.status.state admitted in
+      subst (λ (b : Plain). Keeps P G s s (client b ring) (client (paused c) ring) (let r : Result (Unit {0}) PcmError = Ok tt in r) AnySamples) (sym (base-kept c (paused c) (λ is. refl)))
+      (left-kept P G laid_composes loaded_composes s c ring Paused (IsSound-paused c ring sound is.0 is.1) port refl)
+
+  CanUse-rebased : (c : Plain) (v : PortView) → CanUse c v → CanUse (rebased c) v
+  CanUse-rebased c v port = CanUse-still c (rebased c) v v port (IsSamePort-refl v) refl (λ moves going. cc)
 
   -- a resume without pending frames
   pub rebased-kept : (s : S × T) (c : Plain) (ring : List ℤ) → IsSound c ring → refusal_of Playback c.status call.Resume ≡ None → CanUse c (P.view s.0)
       → Keeps P G s s (client (base_of c (rebased c)) ring) (client (rebased c) ring) (let r : Result (Unit {0}) PcmError = Ok tt in r) AnySamples
   rebased-kept s c ring sound admitted port =
-      let is = refusal_of-resume c admitted in
+      let is = resume-paused c.status.stopped c.status.state admitted in
       subst (λ (b : Plain). Keeps P G s s (client b ring) (client (rebased c) ring) (let r : Result (Unit {0}) PcmError = Ok tt in r) AnySamples) (sym (base-anew c (rebased c) is refl))
       (Keeps-none P G laid_composes loaded_composes s (client (rebased c) ring) (Ok tt) AnySamples (IsSound-rebased c ring sound is) (CanUse-rebased c (P.view s.0) port) (λ unstopped. refl))
 
-  -- a call that was refused
-  pub refused-kept : (s : S × T) (c : Plain) (ring : List ℤ) (answer : Result (Unit {0}) PcmError) → Keeps P G s s (client c ring) (client c ring) answer AnySamples
-      → Keeps P G s s (client (base_of c c) ring) (client c ring) answer AnySamples
-  refused-kept s c ring answer keeps =
-      subst (λ (b : Plain). Keeps P G s s (client b ring) (client c ring) answer AnySamples) (sym (base-same c c refl)) keeps
-
   -- a resume with pending frames
-  resumed-by : (s t : S × T) (c : Plain) (ring : List ℤ) (cursor : Cursor) (load : Option Position) (commit : Commit) → IsSound c ring → c.status.state ≡ Paused → CanUse (paused c) (P.view t.0)
+  resumed-by : (s t : S × T) (c : Plain) (ring : List ℤ) (cursor : Cursor) (load : Option Position) (commit : Commit) → IsSound c ring → c.status.state ≡ Paused → CanUse c (P.view s.0) → IsSamePort (P.view s.0) (P.view t.0)
       → P.laid s.0 t.0 (entries_at load (λ position. started_in (rebased c) Running position cursor) ring commit)
       → Keeps P G s t (client (rebased c) ring) (client (started (rebased c) Running cursor load commit).0 ring) (started (rebased c) Running cursor load commit).1 AnySamples
       → Keeps P G s t (client (base_of c (resumed c cursor load commit).0) ring) (client (resumed c cursor load commit).0 ring) (resumed c cursor load commit).1 AnySamples
-  resumed-by s t c ring cursor None commit sound is port laid_nothing keeps =
+  resumed-by s t c ring cursor None commit sound is port same laid_nothing keeps =
       let d : Plain = record c { status = record c.status { stopped = true } } in
-      subst (λ (b : Plain). Keeps P G s t (client b ring) (client d ring) (let r : Result (Unit {0}) PcmError = Err error.Stopped in r) AnySamples) (sym (base-same c d refl)) (record {
-        sound = IsSound-still c ring sound is;
-        port = CanUse-still d (P.view t.0) port.same_geometry port.same_member port.can (λ moves going. cc);
-        told = keeps.told;
-        grows = λ samples stands any. record { entries = []; laid_them = laid_nothing; grown = sym (append-nil (segment_entries c samples)); same_member = refl; same_bindings = refl };
-        stands = λ samples stands any. stands;
-      })
-  resumed-by s t c ring cursor (Some position) commit sound is port laid_nothing keeps =
+      subst (λ (b : Plain). Keeps P G s t (client b ring) (client d ring) (let r : Result (Unit {0}) PcmError = Err error.Stopped in r) AnySamples) (sym (base-kept c d (λ is. is)))
+      (Keeps-still P G laid_composes loaded_composes s t c d ring ring (Err error.Stopped) AnySamples (IsSound-stopped c ring sound) (CanUse-still c d (P.view s.0) (P.view t.0) port same refl (λ moves going. cc)) laid_nothing keeps.told (λ samples stands. refl) refl refl (λ samples stands any. stands))
+  resumed-by s t c ring cursor (Some position) commit sound is port same laid_nothing keeps =
       subst (λ (b : Plain). Keeps P G s t (client b ring) (client (started (rebased c) Running cursor (Some position) commit).0 ring) (started (rebased c) Running cursor (Some position) commit).1 AnySamples)
       (sym (base-anew c (started (rebased c) Running cursor (Some position) commit).0 is (not_paused-started (rebased c) cursor position commit))) keeps
 
@@ -635,20 +654,12 @@ module _ {S T : Type 0} (P : mixport.Ghosts S) (G : gates.Ghosts T) (laid_compos
       let bound = (sound.configured (sound.set_up (ap is_set_up is))).bound in
       let parts = Takes-parts (LoadsAt P G) (LaysAt P G) NoGet s t (looks at count ring) (λ found. ends (resumed c cursor found.0 found.1)) a takes in
       let begun : Answered (Unit {0}) = started (rebased c) Running cursor parts.1.0 parts.1.1 in
-      let keeps = start-kept P G laid_composes loaded_composes s parts.0 (rebased c) ring Running begun (IsSound-rebased c ring sound is) refl refl near (CanUse-rebased c (P.view s.0) port)
-      (starts-by P G s parts.0 (rebased c) Running cursor (pending_of c) ring parts.1.0 parts.1.1 begun parts.2 refl) in
+      let keeps = (start-kept P G laid_composes loaded_composes s parts.0 (rebased c) ring Running begun (IsSound-rebased c ring sound is) refl refl near (CanUse-rebased c (P.view s.0) port)
+      (starts-by P G s parts.0 (rebased c) Running cursor (pending_of c) ring parts.1.0 parts.1.1 begun parts.2 refl)).0 in
       let looked = TakesAt-looks P G laid_composes loaded_composes at count ring c.setup.bindings s parts.0 parts.1.0 parts.1.1 bound (λ position. refl) parts.2 in
-      let same = TakesAt-same P G s parts.0 (looks at count ring) parts.1 parts.2 in
-      let still : CanUse (paused c) (P.view parts.0.0) = record {
-        same_geometry = same.same_geometry ∙ port.same_geometry;
-        same_member = same.same_member ∙ port.same_member;
-        can = same.same_can_add ∙ port.can;
-        behind = λ moves going. absurd (cc);
-        newer = λ moves going. absurd (cc);
-      } in
       subst (λ (u : S × T). Keeps P G s u (client (base_of c a.0) ring) (client a.0 ring) a.1 AnySamples) (sym parts.3.there)
       (subst (λ (b : Answered (Unit {0})). Keeps P G s parts.0 (client (base_of c b.0) ring) (client b.0 ring) b.1 AnySamples) (sym parts.3.result)
-      (resumed-by s parts.0 c ring cursor parts.1.0 parts.1.1 sound is still looked.laid_them keeps))
+      (resumed-by s parts.0 c ring cursor parts.1.0 parts.1.1 sound is port (TakesAt-same P G s parts.0 (looks at count ring) parts.1 parts.2) looked.laid_them keeps))
 
   why-resumed : (t : S × T) (c : Plain) (cursor : Cursor) (load : Option Position) (commit : Commit)
       → IfSome load (λ position. OnLate commit.ended (λ word. IsPast P.view P.shows t.0 (end_of_commit (started_in (rebased c) Running position cursor) commit) (end_channel (started_in (rebased c) Running position cursor) commit) word))

@@ -7,7 +7,6 @@ mod Keeping
 mod Laying
 mod Looking
 mod Rewinding
-mod Rings
 mod Sound
 mod Storing
 mod Withdrawing

@@ -1,13 +1,13 @@
 -- The calls take their courses, by what their parts took.
-use Rattle.std.proofs.Common.{◌≡◌, ℕ, ◌+◌, refl, sym, subst, List}
-use Rattle.std.specs.Prelude.{ℤ, Ok, Err, Result, ⊤, false, true, Option, None, Some}
+use Rattle.std.proofs.Common.{◌∙◌, ◌≡◌, ℕ, refl, sym, subst, List}
+use Rattle.std.specs.Prelude.{ℤ, Ok, Result, false, true, Option, None, Some}
 use Rattle.snd_base.specs.declared.errors.PcmError.{PcmError}
 use Rattle.snd_base.specs.declared.places.Cursor.{Cursor}
 use Rattle.mix_core.specs.declared.gate.Gate as gates
 use Rattle.mix_core.specs.declared.port.MixPort as mixport
 use Rattle.mix_core.specs.declared.port.Position.{Position}
 use Rattle.course.specs.AtPort.{LaysAt, LoadsAt, NoGet, TakesAt}
-use Rattle.course.specs.Course.{◌>>=◌, Course}
+use Rattle.course.specs.Course.{Course, ◌>>=◌}
 use Rattle.course.specs.CourseLaws.{Takes-map, Takes-then}
 use Rattle.pcm_states.specs.declared.states.State.{State}
 use Rattle.pcm_states.specs.declared.states.State.TheVariants.{Draining, Running}
@@ -17,14 +17,9 @@ use Rattle.dmix_client.specs.declared.commit.Commit.{Commit}
 use Rattle.dmix_client.specs.declared.plain.Plain.{Plain}
 use Rattle.pcm_stream.specs.Status.{is_moving, refusal_of, refused_by}
 use Rattle.pcm_stream.specs.declared.direction.Direction.TheVariants.{Playback}
-use Rattle.dmix_client.specs.Calls.{Answered, accepted_if, is_running, pending_of, rebased, resumed, start_count, started, started_in, sync_count, synced, taken_of, with_number, written_after}
-use Rattle.dmix_client.specs.Course.{admitted, admitted_by, commits, drain_on, drains, fills, looks, nothing, number_course, numbered, resumes, starts, starts_taking, syncs, takes_more, write_course, write_on, writes_on}
+use Rattle.dmix_client.specs.Calls.{Answered, is_running, pending_of, rebased, resumed, start_count, started, started_in, sync_count, synced, taken_of, with_number, written_after}
+use Rattle.dmix_client.specs.Course.{admitted, admitted_by, commits, drain_on, drains, fills, looks, nothing, number_course, numbered, resumes, starts, syncs, takes_more, write_course, write_on, writes_on}
 use Rattle.dmix_client.specs.Writes.{count_with, frames_in, ring_with}
-
--- an answer is good
-abbrev IsGood : Result (Unit {0}) PcmError → Type 0
-IsGood (Ok done) = ⊤
-IsGood (Err e) = ⊥
 
 module _ {S T : Type 0} (P : mixport.Ghosts S) (G : gates.Ghosts T) where
   -- no position was loaded
@@ -71,14 +66,14 @@ module _ {S T : Type 0} (P : mixport.Ghosts S) (G : gates.Ghosts T) where
   unfolding drains
   drains-by s t u c ring cursor begun done one two = Takes-then (LoadsAt P G) (LaysAt P G) NoGet s t u (starts c Draining cursor c.stretch.written ring) (drain_on ring) begun done one two
 
-  admitted_by-ok : {X : Type 0} (s t : S × T) (o : Option PcmError) (c : Plain) (m : Course (Answered X)) (done : Answered X) → IsGood (refused_by o) → TakesAt P G s m t done → TakesAt P G s (admitted_by o c m) t done
-  admitted_by-ok s t None c m done good takes = takes
-  admitted_by-ok s t (Some e) c m done good takes = absurd good
+  admitted_by-ok : {X : Type 0} (s t : S × T) (o : Option PcmError) (c : Plain) (m : Course (Answered X)) (done : Answered X) → refused_by o ≡ Ok tt → TakesAt P G s m t done → TakesAt P G s (admitted_by o c m) t done
+  admitted_by-ok s t None c m done is takes = takes
+  admitted_by-ok s t (Some e) c m done is takes = absurd (cc)
 
   -- a call that is admitted
   pub admitted-ok : {X : Type 0} (s t : S × T) (c : Plain) (call : Call) (m : Course (Answered X)) (done : Answered X) (r : Result (Unit {0}) PcmError)
       → r ≡ refused_by (refusal_of Playback c.status call) → r ≡ Ok tt → TakesAt P G s m t done → TakesAt P G s (admitted c call m) t done
-  admitted-ok s t c call m done r is ok takes = admitted_by-ok s t (refusal_of Playback c.status call) c m done (subst IsGood is (subst IsGood (sym ok) tt)) takes
+  admitted-ok s t c call m done r is ok takes = admitted_by-ok s t (refusal_of Playback c.status call) c m done (sym is ∙ ok) takes
 
   -- the number of a client that moves frames
   pub number-moving : (s t : S × T) (number : Plain → ℕ) (c : Plain) (ring : List ℤ) (done : Answered (Unit {0})) (x : Answered ℕ) → is_moving c.status.state ≡ true
@@ -98,12 +93,6 @@ module _ {S T : Type 0} (P : mixport.Ghosts S) (G : gates.Ghosts T) where
       → TakesAt P G s (syncs c call.Transfer ring) t synced → TakesAt P G t (write_on ring samples n synced) u done → TakesAt P G s (writes_on c ring samples n) u done
   unfolding writes_on
   writes_on-by s t u c ring samples n synced done one two = Takes-then (LoadsAt P G) (LaysAt P G) NoGet s t u (syncs c call.Transfer ring) (write_on ring samples n) synced done one two
-
-  pub starts_taking-by : (s t : S × T) (c : Plain) (ring : List ℤ) (cursor : Cursor) (taken : ℕ) (begun : Answered (Unit {0})) (done : Answered ℕ)
-      → TakesAt P G s (starts c Running cursor (c.stretch.written + taken) ring) t begun → accepted_if taken begun ≡ done → TakesAt P G s (starts_taking c ring cursor taken) t done
-  unfolding starts_taking
-  starts_taking-by s t c ring cursor taken begun done takes is =
-      Takes-map (LoadsAt P G) (LaysAt P G) NoGet s t (starts c Running cursor (c.stretch.written + taken) ring) (λ done. accepted_if taken done) begun done takes is
 
   -- the write of a client that runs
   pub write-running : (s t : S × T) (c : Plain) (ring samples : List ℤ) (cursor : Cursor) (n : ℕ) (done : Answered ℕ) → is_running c.status.state ≡ true → n ≡ frames_in c samples

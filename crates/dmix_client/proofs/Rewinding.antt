@@ -1,102 +1,74 @@
 -- What a rewind keeps, and why it answered so: by its load, by its withdrawals, and by both.
-use Rattle.std.proofs.Common.{◌++◌, ◌≡◌, ◌≤◌, ◌+◌, ℕ, List, [], ◌∙◌, ap, sym, refl, subst, arith, inl, inr, ◌<◌, ◌-◌, length, min, max}
-use Rattle.std.proofs.lemmas.List.{append-nil}
-use Rattle.std.specs.Prelude.{true, false, ℤ, Option, Some, None, IfNone, IfSome, OnOk, Result, Err, unwrap_or, slice_index, Bool, nat_eq, if◌then◌else◌, Ok}
-use Rattle.std.proofs.lemmas.Bool.{cases_eq}
+use Rattle.std.proofs.Common.{[], add-zero, ap, arith, inl, inr, length, refl, subst, sym, ℕ, ◌++◌, ◌+◌, ◌-◌, ◌<◌, ◌∙◌, ◌≡◌, ◌≤◌}
 use Rattle.std.proofs.lemmas.Bool.Decides.{nat_tests}
-use Rattle.snd_base.specs.declared.errors.PcmError.{PcmError}
-use Rattle.snd_base.specs.declared.geometry.Geometry.{Geometry}
-use Rattle.snd_base.specs.Places.{IsFrom, IsWithin as IsInRing, end_frame, first_free}
-use Rattle.snd_base.specs.Relations.{Composes}
-use Rattle.mix_core.specs.declared.marks.Marks.{Marks}
-use Rattle.mix_core.specs.declared.port.Entry.{Entry}
-use Rattle.mix_core.specs.declared.port.Position.{Position}
-use Rattle.mix_core.specs.Gate.{stops_after}
-use Rattle.mix_core.specs.Port.{PortView, pass_of_load, seen_after, IsPast, OnLate}
-use Rattle.course.specs.AtPort.{LoadsAt, TakesAt, LaysAt, NoGet}
-use Rattle.pcm_states.specs.declared.states.State.TheVariants.{Running, Paused, Prepared, Xrun}
-use Rattle.pcm_states.specs.declared.states.State.{State}
-use Rattle.pcm_states.specs.declared.calls.Outcome.{Outcome}
-use Rattle.dmix_client.specs.declared.plain.Plain.{Plain}
-use Rattle.dmix_client.specs.Calls.{Answered, committed_by, over_of, seen_at, synced, with_number}
-use Rattle.dmix_client.specs.Course.{nothing, numbered}
-use Rattle.dmix_client.specs.Growth.{AnySamples, Keeps, StandsFor, segment_entries, KeepsBack, Loses, TakesAway}
-use Rattle.course.specs.Stops.{CountsStop, pass_by}
-use Rattle.pcm_stream.specs.Status.{is_moving, is_set_up}
-use Rattle.dmix_client.specs.Port.{CanUse, CountsFound, IsStep, least_channel}
-use Rattle.dmix_client.specs.Rewind.{checks, back_of, held_entries, last_channel, last_laid, rewindable_of, rewound, take_frames, taken_back, takes_back, rewind_on, rewinds, without}
-use Rattle.dmix_client.specs.RewindCauses.{ExplainsCheck, IsKeptCause, ExplainsRewind}
-use Rattle.dmix_client.specs.View.{IsGoing, IsSound, queued_of, IsMoving, held, hw_of}
-use Rattle.snd_base.specs.declared.places.Cursor.{Cursor}
-use Rattle.mix_core.specs.declared.port.Ended.{Ended}
-use Rattle.mix_core.specs.declared.port.Ended.TheVariants.{Whole, Late, Stopped}
+use Rattle.std.proofs.lemmas.Bool.{cases_eq}
+use Rattle.std.specs.Prelude.{Bool, Err, IfSome, List, None, Ok, OnOk, Option, Result, Some, false, if◌then◌else◌, max, min, nat_eq, slice_index, true, unwrap_or, ℤ}
+use Rattle.bindings.specs.Bound.{AreBindings, rising}
+use Rattle.course.specs.AtPort.{IsSamePort, LaysAt, LoadsAt, NoGet, TakesAt, TakesAt-same}
 use Rattle.course.specs.Course.{ends}
 use Rattle.course.specs.CourseLaws.{Takes-map, Takes-parts, Takes-then}
-use Rattle.bindings.specs.Bound.{AreBindings, rising}
-use Rattle.dmix_client.specs.declared.commit.Commit.{Commit}
-use Rattle.dmix_client.specs.Causes.{IsCaused}
-use Rattle.dmix_client.specs.Expansion.{run_entries, sample_at}
-use Rattle.dmix_client.specs.ExpansionLaws.{frames_used, run_entries-append, run_entries-same}
-use Rattle.hw_space.specs.declared.config.Config.{Config}
-use Rattle.snd_base.specs.declared.errors.PcmError.TheVariants as error
-use Rattle.snd_base.specs.declared.errors.XrunWhy.TheVariants as why
+use Rattle.course.specs.Stops.{CountsStop, pass_by}
+use Rattle.mix_core.specs.Gate.{stops_after}
+use Rattle.mix_core.specs.Port.{IsPast, OnLate, PortView}
 use Rattle.mix_core.specs.declared.gate.Gate as gates
-use Rattle.mix_core.specs.declared.port.Ended.TheVariants as ended
+use Rattle.mix_core.specs.declared.marks.Marks.{Marks}
+use Rattle.mix_core.specs.declared.port.Ended.TheVariants.{Late, Stopped, Whole}
+use Rattle.mix_core.specs.declared.port.Ended.{Ended}
+use Rattle.mix_core.specs.declared.port.Entry.{Entry}
 use Rattle.mix_core.specs.declared.port.MixPort as mixport
+use Rattle.mix_core.specs.declared.port.Position.{Position}
 use Rattle.pcm_states.specs.declared.calls.Call.TheVariants as call
-use Rattle.dmix_client.proofs.Growing.{Advances, Advances-synced, IsWithin, StandsFor-advanced, configured-moving, laid_by-none, segment_entries-grow}
+use Rattle.pcm_states.specs.declared.calls.Outcome.{Outcome}
+use Rattle.pcm_states.specs.declared.states.State.TheVariants.{Paused, Prepared, Running, Xrun}
+use Rattle.pcm_states.specs.declared.states.State.{State}
+use Rattle.pcm_stream.specs.Status.{is_moving, is_set_up}
+use Rattle.snd_base.specs.Places.{IsFrom, first_free}
+use Rattle.snd_base.specs.Relations.{Composes}
+use Rattle.snd_base.specs.declared.errors.PcmError.TheVariants as error
+use Rattle.snd_base.specs.declared.errors.PcmError.{PcmError}
+use Rattle.snd_base.specs.declared.errors.XrunWhy.TheVariants as why
+use Rattle.snd_base.specs.declared.places.Cursor.{Cursor}
 use Rattle.dmix_client.proofs.Caused.{IsCaused-plain, IsOther, caused-number, caused-other, free-by, if-none, other-ok, other-stopped}
 use Rattle.dmix_client.proofs.Ends.{next-ends, synced-leaves}
-use Rattle.dmix_client.proofs.Going.{synced-runs, synced-told, error-told, with_number-told}
-use Rattle.dmix_client.proofs.Keeping.{client}
-use Rattle.dmix_client.proofs.Sound.{IsLeft-checked, IsLoaded, hw-started, CanUse-still, not_prepared-moving}
 use Rattle.dmix_client.proofs.Frames.{IsFrom-later}
-use Rattle.dmix_client.proofs.Withdrawing.{AreLeft, HoldsBy, TakesAt-back, TakesAway-behind, TookFrames, last_frame, last_place, TakesAway-joined, TakesAway-none}
+use Rattle.dmix_client.proofs.Going.{synced-runs}
+use Rattle.dmix_client.proofs.Keeping.{IsSamePort-refl, Keeps-numbered, Synced, client, loaded-kept, loaded-of, unloaded-kept}
+use Rattle.dmix_client.proofs.Sound.{CanUse-still, CommitsAs-seen, IsMoving-seen, configured-moving, hw-started, min-newer, not_prepared-moving}
+use Rattle.dmix_client.proofs.Withdrawing.{AreLeft, HoldsBy, TakesAt-back, TakesAway-behind, TakesAway-joined, TakesAway-none, TookFrames, last_frame, last_place}
+use Rattle.dmix_client.specs.Calls.{Answered, committed_by, over_of, seen_at, synced, with_number}
+use Rattle.dmix_client.specs.Causes.{IsCaused}
+use Rattle.dmix_client.specs.Course.{nothing, numbered}
+use Rattle.dmix_client.specs.Expansion.{run_entries, sample_at}
+use Rattle.dmix_client.specs.ExpansionLaws.{frames_used, run_entries-append, run_entries-same}
+use Rattle.dmix_client.specs.Growth.{AnySamples, Keeps, KeepsBack, Loses, StandsFor, TakesAway, segment_entries}
+use Rattle.dmix_client.specs.Port.{CanUse, IsStep, least_channel}
+use Rattle.dmix_client.specs.Rewind.{back_of, checks, held_entries, last_channel, last_laid, rewind_on, rewindable_of, rewinds, rewound, take_frames, taken_back, takes_back, without}
+use Rattle.dmix_client.specs.RewindCauses.{ExplainsCheck, ExplainsRewind, IsKeptCause}
+use Rattle.dmix_client.specs.View.{IsGoing, IsMoving, IsSound, held, hw_of, queued_of}
+use Rattle.dmix_client.specs.declared.commit.Commit.{Commit}
+use Rattle.dmix_client.specs.declared.plain.Plain.{Plain}
 
--- what it leaves
+-- what it leaves: the client but for its status and the position that it saw
 pub record Checked {S T : Type 0} (P : mixport.Ghosts S) (G : gates.Ghosts T) (s t : S × T) (c : Plain) (ring : List ℤ) (a : Answered (Unit {0})) : Type 0 where
-  pub sound : IsSound a.0 ring
-  pub port : CanUse a.0 (P.view t.0)
-  pub told : CountsStop a.1 (G.stops s.1) (G.stops t.1)
+  pub keeps : Keeps P G s t (client c ring) (client a.0 ring) a.1 AnySamples
   pub goes : OnOk a.1 (IsGoing a.0)
   pub runs : OnOk a.1 (a.0.status.state ≡ Running)
   pub marks : (P.view t.0).marks ≡ (P.view s.0).marks
-  pub card : a.0.stretch.card ≡ c.stretch.card
-  pub advances : Advances c a.0 nothing c.stretch.written
-  pub stands : (samples : List ℤ) → StandsFor c ring samples → StandsFor a.0 ring samples
-  pub segment : (samples : List ℤ) → StandsFor c ring samples → segment_entries a.0 samples ≡ segment_entries c samples
+  pub same : a.0 ≡ record c { status = a.0.status; seen = a.0.seen }
+  pub later : min c.stretch.committed (hw_of c) ≤ hw_of a.0
   pub explains : ExplainsCheck P G s t c (λ load. synced c call.Transfer load nothing) a
   pub timely : (frame channel word : ℕ) → a.1 ≡ Err (error.Xrun (why.Late frame channel word)) → ⊥
-
-counted : (load : Option Position) (before after : ℕ) → after ≡ stops_after (pass_of_load load) before → CountsFound load ended.Whole before after
-counted None before after is = is
-counted (Some position) before after is = is
-
-near-of : (load : Option Position) (v : PortView) (c : Plain) → CanUse c v → is_moving c.status.state ≡ true → c.status.stopped ≡ false
-    → IfSome load (λ position. v.seen ≤ position.frame) → IfSome load (λ position. IsInRing v.geometry position.frame) → IfSome load (IsLoaded c)
-near-of None v c port moves going newer within = tt
-near-of (Some position) v c port moves going newer within =
-    record { newer = omega (arith, port.newer moves going, newer); most = subst (λ (g : Geometry). position.frame ≤ end_frame g) port.same_geometry within.most }
 
 any-of : (load : Option Position) (X : Position → Type 0) → ((position : Position) → X position) → IfSome load X
 any-of None X is = tt
 any-of (Some position) X is = is position
 
-some-of : (load : Option Position) (X Y : Position → Type 0) → ((position : Position) → X position → Y position) → IfSome load X → IfSome load Y
-some-of None X Y f is = tt
-some-of (Some position) X Y f is = f position is
-
-none-of : (load : Option Position) → IfNone load (nothing ≡ nothing)
-none-of None = refl
-none-of (Some position) = tt
-
-seen-of : (load : Option Position) (v w : PortView) → w ≡ record v { seen = seen_after load v.seen } → IfSome load (λ position. w.seen ≡ position.frame)
-seen-of None v w is = tt
-seen-of (Some position) v w is = ap (λ (x : PortView). x.seen) is
-
-card-of : (c : Plain) (load : Option Position) → (synced c call.Transfer load nothing).0.stretch.card ≡ c.stretch.card
-card-of c None = refl
-card-of c (Some position) = synced-leaves (λ (d : Plain). d.stretch.card ≡ c.stretch.card) c call.Transfer position nothing (λ s. refl)
+same-of : (c : Plain) (load : Option Position) → c.stretch.part ≡ 0 → (let a = synced c call.Transfer load nothing in a.0 ≡ record c { status = a.0.status; seen = a.0.seen })
+same-of c None whole = refl
+same-of c (Some position) whole =
+    synced-leaves (λ (d : Plain). d ≡ record c { status = d.status; seen = d.seen }) c call.Transfer position nothing
+    (λ s. ap (λ (k : ℕ). record c { status = s; seen = Some position.frame; stretch = record c.stretch { committed = k; part = 0 } }) (add-zero c.stretch.committed)
+    ∙ ap (λ (k : ℕ). record c { status = s; seen = Some position.frame; stretch = record c.stretch { part = k } }) (sym whole))
 
 -- nothing that it answers is late
 synced-timely : (c : Plain) (load : Option Position) (frame channel word : ℕ) → c.status.state ≡ Running → (synced c call.Transfer load nothing).1 ≡ Err (error.Xrun (why.Late frame channel word)) → ⊥
@@ -105,36 +77,38 @@ synced-timely c (Some position) frame channel word runs =
     next-ends (λ (o : Outcome). o.answer ≡ Err (error.Xrun (why.Late frame channel word)) → ⊥) c.status.state call.Transfer (queued_of (committed_by (seen_at c position) nothing)) position.gone (over_of (seen_at c position) position) None
     (subst (λ (s : State). IsStep s call.Transfer) (sym runs) tt) (λ gone is. cc) (λ a f here same over is. cc) (λ w here none late. absurd (cc)) (λ here same none in_time is. cc) (λ here drains in_time is. cc) (λ here drains in_time same is. cc) (λ here drains in_time same is. cc)
 
-module _ {S T : Type 0} (P : mixport.Ghosts S) (G : gates.Ghosts T) (laid_composes : Composes P.laid) where
+module _ {S T : Type 0} (P : mixport.Ghosts S) (G : gates.Ghosts T) (laid_composes : Composes P.laid) (loaded_composes : Composes P.loaded) where
+  -- by what was loaded: what is kept, and that the frames played don't fall
+  checked-by : (s t : S × T) (c : Plain) (ring : List ℤ) (load : Option Position) → IsSound c ring → c.status.state ≡ Running → c.status.stopped ≡ false → CanUse c (P.view s.0) → IsSamePort (P.view s.0) (P.view t.0) → LoadsAt P G s load t
+      → Synced P G laid_composes loaded_composes s t c ring (λ d. Unit {0}) (synced c call.Transfer load nothing) × (min c.stretch.committed (hw_of c) ≤ hw_of (synced c call.Transfer load nothing).0)
+  checked-by s t c ring None sound runs going port same step =
+      (unloaded-kept P G laid_composes loaded_composes s t c ring (λ d. Unit {0}) sound port same step.laid_nothing step.stopped, min-newer c.stretch.committed (hw_of c) (hw_of c) (omega arith))
+  checked-by s t c ring (Some position) sound runs going port same step =
+      let moves : is_moving c.status.state ≡ true = ap is_moving runs in
+      let callable : IsStep c.status.state call.Transfer = subst (λ (st : State). IsStep st call.Transfer) (sym runs) tt in
+      let loaded = loaded-of c (P.view s.0) position moves going port step.newer step.within in
+      let m = IsMoving-seen c position (sound.moving moves going) loaded in
+      let y = CommitsAs-seen c ring position nothing 0 sound moves going loaded (omega arith) (refl, refl) in
+      let here : IsFrom (P.view t.0).marks.cursor (c.stretch.card + (c.stretch.committed + 0)) (least_channel c.setup.bindings) =
+      subst (λ (v : PortView). IsFrom v.marks.cursor (c.stretch.card + (c.stretch.committed + 0)) (least_channel c.setup.bindings)) (sym step.view_is) (omega (arith, port.behind moves going)) in (
+        loaded-kept P G laid_composes loaded_composes s t c ring call.Transfer position nothing 0 (λ d. Unit {0}) moves going callable y port same (ap (λ (v : PortView). v.seen) step.view_is) step.laid_nothing step.stopped
+            (λ st on gone in_time none. (record { started = m.started; whole = refl; laid_most = omega (arith, m.laid_most); fits = m.fits; pending = omega (arith, m.pending) }, here, tt)),
+        synced-leaves (λ (d : Plain). min c.stretch.committed (hw_of c) ≤ hw_of d) c call.Transfer position nothing (λ st. y.later),
+      )
+
   pub checks-kept : (s t : S × T) (c : Plain) (ring : List ℤ) (a : Answered (Unit {0})) → IsSound c ring → c.status.state ≡ Running → c.status.stopped ≡ false → CanUse c (P.view s.0)
       → TakesAt P G s (checks c) t a → Checked P G s t c ring a
   unfolding checks
   checks-kept s t c ring a sound runs going port (load, m, step, rest) =
-      let moves : is_moving c.status.state ≡ true = ap is_moving runs in
+      let kept = checked-by s m c ring load sound runs going port (TakesAt-same P G s m (checks c) (synced c call.Transfer load nothing) (load, m, step, record { there = refl; result = refl })) step in
       let callable : IsStep c.status.state call.Transfer = subst (λ (st : State). IsStep st call.Transfer) (sym runs) tt in
-      let moving = sound.moving moves going in
-      let near = near-of load (P.view s.0) c port moves going step.newer step.within in
-      let marks : (P.view m.0).marks ≡ (P.view s.0).marks = ap (λ (v : PortView). v.marks) step.view_is in
-      let here : IsFrom (P.view m.0).marks.cursor (c.stretch.card + (c.stretch.committed + 0)) (least_channel c.setup.bindings) =
-      subst (λ (x : Marks). IsFrom x.cursor (c.stretch.card + (c.stretch.committed + 0)) (least_channel c.setup.bindings)) (sym marks) (omega (arith, port.behind moves going)) in
-      let left = IsLeft-checked c ring call.Transfer load (P.view m.0) sound moves going callable near (ap (λ (v : PortView). v.geometry) step.view_is ∙ port.same_geometry)
-      (ap (λ (v : PortView). v.member) step.view_is ∙ port.same_member) (ap (λ (v : PortView). v.can_add) step.view_is ∙ port.can) here (seen-of load (P.view s.0) (P.view m.0) step.view_is) in
-      let told = synced-told c call.Transfer load nothing (G.stops s.1) (G.stops m.1) going callable (counted load (G.stops s.1) (G.stops m.1) step.stopped) in
-      let advances = Advances-synced c call.Transfer load nothing moving.whole (none-of load) (some-of load _ _ (λ position x. x.newer) near) in
-      let within : IsWithin c nothing c.stretch.written = record { bound = (configured-moving c ring sound moves).bound; whole = moving.whole; below = omega (arith, moving.laid_most) } in
-      let d : Plain = (synced c call.Transfer load nothing).0 in
       subst (λ (u : S × T). Checked P G s u c ring a) (sym rest.there) (subst (λ (b : Answered (Unit {0})). Checked P G s m c ring b) (sym rest.result) (record {
-        sound = left.sound;
-        port = left.use_it;
-        told = told.told;
-        goes = told.goes;
+        keeps = kept.0.keeps;
+        goes = kept.0.goes;
         runs = synced-runs c load nothing runs;
-        marks = marks;
-        card = card-of c load;
-        advances = advances;
-        stands = λ samples stands. StandsFor-advanced c d nothing c.stretch.written ring samples advances stands;
-        segment = λ samples stands. segment_entries-grow c d nothing c.stretch.written ring samples advances within stands
-            ∙ ap (λ (es : List Entry). segment_entries c samples ++ es) (laid_by-none c d ring nothing refl refl) ∙ append-nil (segment_entries c samples);
+        marks = ap (λ (v : PortView). v.marks) step.view_is;
+        same = same-of c load (sound.moving (ap is_moving runs) going).whole;
+        later = kept.1;
         explains = record {
           load = load;
           loaded_it = step.loaded_it;
@@ -144,23 +118,6 @@ module _ {S T : Type 0} (P : mixport.Ghosts S) (G : gates.Ghosts T) (laid_compos
         };
         timely = λ frame channel word is. synced-timely c load frame channel word runs is;
       }))
-
-  -- so a call keeps what it keeps that does no more
-  pub checked-keeps : {X : Type 0} (s t : S × T) (c : Plain) (ring : List ℤ) (a : Answered (Unit {0})) (answer : Result X PcmError) → CountsStop answer (G.stops s.1) (G.stops t.1) → Checked P G s t c ring a
-      → Keeps P G s t (client c ring) (client a.0 ring) answer AnySamples
-  checked-keeps s t c ring a answer told checked = record {
-    sound = checked.sound;
-    port = checked.port;
-    told = λ unstopped. told;
-    grows = λ samples stands any. record {
-      entries = [];
-      laid_them = checked.explains.laid_nothing;
-      grown = checked.segment samples stands ∙ sym (append-nil (segment_entries c samples));
-      same_member = checked.advances.member;
-      same_bindings = checked.advances.bindings;
-    };
-    stands = λ samples stands any. checked.stands samples stands;
-  }
 
   pub checks-by : (s t : S × T) (c : Plain) (load : Option Position) (done : Answered (Unit {0})) → LoadsAt P G s load t → synced c call.Transfer load nothing ≡ done → TakesAt P G s (checks c) t done
   unfolding checks
@@ -175,25 +132,14 @@ pub record IsBack (d : Plain) (floor : Cursor) (n : ℕ) : Type 0 where
   pub from : 0 < back_of d n → max (unwrap_or d.seen 0) (first_free floor 0) ≤ d.stretch.card + (d.stretch.committed - back_of d n)
   pub whole : 0 < back_of d n → d.stretch.written - n ≡ d.stretch.committed - back_of d n
 
-back-few : (n w k top card : ℕ) → n ≤ w - k + (k - (top - card)) → k ≤ w → n ≤ w
-back-few n w k top card few most = omega (arith, few, most)
-
-back-most : (n w k top card : ℕ) → n ≤ w - k + (k - (top - card)) → n - (w - k) ≤ k
-back-most n w k top card few = omega (arith, few)
-
-back-from : (n w k top card : ℕ) → n ≤ w - k + (k - (top - card)) → 0 < n - (w - k) → top ≤ card + (k - (n - (w - k)))
-back-from n w k top card few some = omega (arith, few, some)
-
-back-whole : (n w k : ℕ) → k ≤ w → 0 < n - (w - k) → w - n ≡ k - (n - (w - k))
-back-whole n w k most some = omega (arith, most, some)
+back-is : (n w k top card : ℕ) → n ≤ w - k + (k - (top - card)) → k ≤ w
+    → (n ≤ w) × (n - (w - k) ≤ k) × (0 < n - (w - k) → top ≤ card + (k - (n - (w - k)))) × (0 < n - (w - k) → w - n ≡ k - (n - (w - k)))
+back-is n w k top card few most = (omega (arith, few, most), omega (arith, few), λ some. omega (arith, few, some), λ some. omega (arith, most, some))
 
 pub IsBack-of : (d : Plain) (floor : Cursor) (n : ℕ) → IsMoving d → n ≤ rewindable_of floor d → IsBack d floor n
-IsBack-of d floor n m few = record {
-  few = back-few n d.stretch.written d.stretch.committed (max (unwrap_or d.seen 0) (first_free floor 0)) d.stretch.card few m.laid_most;
-  back = back-most n d.stretch.written d.stretch.committed (max (unwrap_or d.seen 0) (first_free floor 0)) d.stretch.card few;
-  from = λ some. back-from n d.stretch.written d.stretch.committed (max (unwrap_or d.seen 0) (first_free floor 0)) d.stretch.card few some;
-  whole = λ some. back-whole n d.stretch.written d.stretch.committed m.laid_most some;
-}
+IsBack-of d floor n m few =
+    let is = back-is n d.stretch.written d.stretch.committed (max (unwrap_or d.seen 0) (first_free floor 0)) d.stretch.card few m.laid_most in
+    record { few = is.0; back = is.1; from = is.2; whole = is.3 }
 
 -- what isn't played is at or behind the first of them
 unplayed : (k b seen top card h : ℕ) → h ≡ seen - card → b ≤ k → (0 < b → max seen top ≤ card + (k - b)) → min k h ≤ k - b
@@ -202,6 +148,13 @@ unplayed k b seen top card h is most from = grind (arith, nat_tests, from)
 pub first-unplayed : (d : Plain) (floor : Cursor) (n : ℕ) → IsMoving d → IsBack d floor n → min d.stretch.committed (hw_of d) ≤ d.stretch.committed - back_of d n
 first-unplayed d floor n m is = unplayed d.stretch.committed (back_of d n) (unwrap_or d.seen 0) (first_free floor 0) d.stretch.card (hw_of d) (hw-started d m.started) is.back is.from
 
+-- the frames of a run up to one, and those from it on
+run_entries-split : (member : ℕ) (bindings : List ℕ) (s : ℕ → ℕ → ℤ) (card from at k m n part : ℕ) → from + k ≡ at → m ≡ k + n
+    → run_entries member bindings s card from m part ≡ run_entries member bindings s card from k 0 ++ run_entries member bindings s card at n part
+run_entries-split member bindings s card from at k m n part is sum =
+    ap (λ (j : ℕ). run_entries member bindings s card from j part) sum ∙ run_entries-append member bindings s card from k n part
+    ∙ ap (λ (j : ℕ). run_entries member bindings s card from k 0 ++ run_entries member bindings s card j n part) is
+
 -- the frames that are withdrawn are the last of those that the local ring has
 pub held-last : (d : Plain) (ring : List ℤ) (floor : Cursor) (n : ℕ) → IsMoving d → IsBack d floor n
     → held_entries d ring ≡ run_entries d.identity.member d.setup.bindings (held d ring) d.stretch.card (min d.stretch.committed (hw_of d)) (d.stretch.committed - back_of d n - min d.stretch.committed (hw_of d)) 0
@@ -209,16 +162,7 @@ pub held-last : (d : Plain) (ring : List ℤ) (floor : Cursor) (n : ℕ) → IsM
 held-last d ring floor n m is =
     let low = first-unplayed d floor n m is in
     let from : ℕ = min d.stretch.committed (hw_of d) in
-    let b : ℕ = back_of d n in
-    ap (λ (k : ℕ). run_entries d.identity.member d.setup.bindings (held d ring) d.stretch.card from k 0) (let e : d.stretch.committed - from ≡ d.stretch.committed - b - from + b = omega (arith, low, is.back) in e)
-    ∙ run_entries-append d.identity.member d.setup.bindings (held d ring) d.stretch.card from (d.stretch.committed - b - from) b 0
-    ∙ ap (λ (k : ℕ). run_entries d.identity.member d.setup.bindings (held d ring) d.stretch.card from (d.stretch.committed - b - from) 0 ++ run_entries d.identity.member d.setup.bindings (held d ring) d.stretch.card k b 0) (let e : from + (d.stretch.committed - b - from) ≡ d.stretch.committed - b = omega (arith, low) in e)
-
-back-laid : (n w k f : ℕ) → f ≡ 0 → k ≤ w → k - (n - (w - k)) + f ≤ w - n + f
-back-laid n w k f none most = omega (arith, none, most)
-
-back-pending : (n w k f b : ℕ) → f ≡ 0 → k ≤ w → w ≤ k + b → w - n + f ≤ k - (n - (w - k)) + f + b
-back-pending n w k f b none most fits = omega (arith, none, most, fits)
+    run_entries-split d.identity.member d.setup.bindings (held d ring) d.stretch.card from (d.stretch.committed - back_of d n) (d.stretch.committed - back_of d n - from) (d.stretch.committed - from) (back_of d n) 0 (omega (arith, low)) (omega (arith, low, is.back))
 
 -- the client after it
 abbrev pub back_in : Plain → ℕ → Commit → State → Bool → Plain
@@ -242,9 +186,6 @@ frame-same first f part some = grind (arith, nat_tests)
 
 here-from : (at : Cursor) (f c : ℕ) → at ≡ record { frame = f; channel = c } → first_free at c ≤ f
 here-from at f c is = subst (λ (x : Cursor). first_free x c ≤ f) (sym is) (grind (arith, nat_tests))
-
-floor-below : (seen top n : ℕ) → max seen top ≤ n → top ≤ n
-floor-below seen top n low = grind (arith, nat_tests)
 
 -- the answers of a rewind
 module _ {S : Type 0} (view : S → PortView) (shows : S → ℕ → ℕ → Option ℕ) (q : S) where
@@ -318,9 +259,9 @@ module _ (d : Plain) (ring : List ℤ) (floor : Cursor) (n : ℕ) (sound : IsSou
   IsMoving-back x s stopped none whole = record {
     started = m.started;
     whole = whole;
-    laid_most = back-laid n d.stretch.written d.stretch.committed x.frames none m.laid_most;
+    laid_most = omega (arith, none, m.laid_most);
     fits = omega (arith, m.fits, none);
-    pending = back-pending n d.stretch.written d.stretch.committed x.frames d.setup.config.buffer_size none m.laid_most m.pending;
+    pending = omega (arith, none, m.laid_most, m.pending);
   }
 
   StandsFor-back : (x : Commit) (s : State) (stopped : Bool) (samples : List ℤ) → x.frames ≤ back_of d n → StandsFor d ring samples → StandsFor (back_in d n x s stopped) ring samples
@@ -343,9 +284,7 @@ module _ (d : Plain) (ring : List ℤ) (floor : Cursor) (n : ℕ) (sound : IsSou
       let s : ℕ → ℕ → ℤ = λ j. sample_at samples (length d.setup.bindings) (d.stretch.source + j) in
       let first : ℕ = d.stretch.committed - back_of d n in
       ap (λ (p : ℕ). run_entries d.identity.member d.setup.bindings s d.stretch.card 0 d.stretch.committed p) m.whole
-      ∙ ap (λ (k : ℕ). run_entries d.identity.member d.setup.bindings s d.stretch.card 0 k 0) (let e : d.stretch.committed ≡ first + back_of d n = omega (arith, is.back) in e)
-      ∙ run_entries-append d.identity.member d.setup.bindings s d.stretch.card 0 first (back_of d n) 0
-      ∙ ap (λ (k : ℕ). run_entries d.identity.member d.setup.bindings s d.stretch.card 0 first 0 ++ run_entries d.identity.member d.setup.bindings s d.stretch.card k (back_of d n) 0) (let e : 0 + first ≡ first = omega arith in e)
+      ∙ run_entries-split d.identity.member d.setup.bindings s d.stretch.card 0 first first d.stretch.committed (back_of d n) 0 (omega arith) (omega (arith, is.back))
       ∙ ap (λ (es : List Entry). run_entries d.identity.member d.setup.bindings s d.stretch.card 0 first 0 ++ es) (sym (ring-samples samples (back_of d n) 0 (omega arith) stands))
 
   segment-after : (x : Commit) (t : State) (stopped : Bool) (samples : List ℤ) → frames_used x.frames x.part ≤ back_of d n → StandsFor d ring samples
@@ -354,8 +293,7 @@ module _ (d : Plain) (ring : List ℤ) (floor : Cursor) (n : ℕ) (sound : IsSou
   segment-after x t stopped samples used stands =
       let s : ℕ → ℕ → ℤ = λ j. sample_at samples (length d.setup.bindings) (d.stretch.source + j) in
       let first : ℕ = d.stretch.committed - back_of d n in
-      run_entries-append d.identity.member d.setup.bindings s d.stretch.card 0 first x.frames x.part
-      ∙ ap (λ (k : ℕ). run_entries d.identity.member d.setup.bindings s d.stretch.card 0 first 0 ++ run_entries d.identity.member d.setup.bindings s d.stretch.card k x.frames x.part) (let e : 0 + first ≡ first = omega arith in e)
+      run_entries-split d.identity.member d.setup.bindings s d.stretch.card 0 first first (first + x.frames) x.frames x.part (omega arith) refl
       ∙ ap (λ (es : List Entry). run_entries d.identity.member d.setup.bindings s d.stretch.card 0 first 0 ++ es) (sym (ring-samples samples x.frames x.part used stands))
 
   -- what a rewind leaves at a port, by how its withdrawals ended
@@ -430,7 +368,7 @@ module _ (d : Plain) (ring : List ℤ) (floor : Cursor) (n : ℕ) (sound : IsSou
     took-of s t x is_floor port takes =
         TakesAt-back P G holds d.identity.member d.stretch.card d.setup.bindings (held d ring) (d.stretch.committed - back_of d n) (back_of d n) s t x bound port.same_member
         (λ some. subst (λ (c : Cursor). IsFrom c (d.stretch.card + (d.stretch.committed - back_of d n)) (least_channel d.setup.bindings)) (sym is_floor)
-        (IsFrom-later floor (d.stretch.card + (d.stretch.committed - back_of d n)) 0 (least_channel d.setup.bindings) (omega arith) (floor-below (unwrap_or d.seen 0) (first_free floor 0) _ (is.from some)))) takes
+        (IsFrom-later floor (d.stretch.card + (d.stretch.committed - back_of d n)) 0 (least_channel d.setup.bindings) (omega arith) (omega (arith, is.from some)))) takes
 
     pub takes_back-kept : (s t : S × T) (a : Answered ℕ) → (P.view s.0).marks.floor ≡ floor → CanUse d (P.view s.0) → TakesAt P G s (takes_back d ring n) t a → TakenBack s t a
     unfolding takes_back
@@ -478,22 +416,10 @@ module _ (d : Plain) (ring : List ℤ) (floor : Cursor) (n : ℕ) (sound : IsSou
 
 -- ---- what a rewind keeps, and why it answered so, by its load and what followed it
 
-least-most : (k h : ℕ) → min k h ≤ k
-least-most k h = grind (arith, nat_tests)
+min-both : (k h g : ℕ) → min k h ≤ g → (min k h ≤ min k g) × (min k g ≤ k)
+min-both k h g low = (grind (arith, nat_tests), grind (arith, nat_tests))
 
--- the frames that a ring has, of a client with the same counts and another position seen
-held_entries-same : (c d : Plain) (ring : List ℤ) → d.identity.member ≡ c.identity.member → d.setup.bindings ≡ c.setup.bindings → d.setup.config ≡ c.setup.config → d.stretch.source ≡ c.stretch.source → d.stretch.card ≡ c.stretch.card → d.stretch.committed ≡ c.stretch.committed
-    → held_entries d ring ≡ run_entries c.identity.member c.setup.bindings (held c ring) c.stretch.card (min c.stretch.committed (hw_of d)) (c.stretch.committed - min c.stretch.committed (hw_of d)) 0
-held_entries-same c d ring member bindings config source card committed =
-    let h : ℕ = hw_of d in
-    ap (λ (k : ℕ). run_entries d.identity.member d.setup.bindings (held d ring) d.stretch.card (min k h) (k - min k h) 0) committed
-    ∙ ap (λ (k : ℕ). run_entries d.identity.member d.setup.bindings (held d ring) k (min c.stretch.committed h) (c.stretch.committed - min c.stretch.committed h) 0) card
-    ∙ ap (λ (k : ℕ). run_entries d.identity.member d.setup.bindings (held (record d { stretch = record d.stretch { source = k } }) ring) c.stretch.card (min c.stretch.committed h) (c.stretch.committed - min c.stretch.committed h) 0) source
-    ∙ ap (λ (x : Config). run_entries d.identity.member d.setup.bindings (held (record d { setup = record d.setup { config = x }; stretch = record d.stretch { source = c.stretch.source } }) ring) c.stretch.card (min c.stretch.committed h) (c.stretch.committed - min c.stretch.committed h) 0) config
-    ∙ ap (λ (bs : List ℕ). run_entries d.identity.member bs (held (record d { setup = record d.setup { config = c.setup.config; bindings = bs }; stretch = record d.stretch { source = c.stretch.source } }) ring) c.stretch.card (min c.stretch.committed h) (c.stretch.committed - min c.stretch.committed h) 0) bindings
-    ∙ ap (λ (k : ℕ). run_entries k c.setup.bindings (held c ring) c.stretch.card (min c.stretch.committed h) (c.stretch.committed - min c.stretch.committed h) 0) member
-
-few-of : (n r : ℕ) → min n r ≤ r
+pub few-of : (n r : ℕ) → min n r ≤ r
 few-of n r = grind (arith, nat_tests)
 
 -- why a call went well is told alike later
@@ -514,22 +440,21 @@ module _ {S T : Type 0} (P : mixport.Ghosts S) (G : gates.Ghosts T) (holds : Hol
     pub explains : ExplainsRewind P G s t c ring (P.view s.0).marks.floor n a
 
   -- the load alone
-  loses-checked : (s t : S × T) (c : Plain) (ring : List ℤ) (a : Answered (Unit {0})) (samples : List ℤ) → Checked P G s t c ring a → StandsFor c ring samples
+  loses-checked : (s t : S × T) (c : Plain) (ring : List ℤ) (a : Answered (Unit {0})) (samples : List ℤ) → Checked P G s t c ring a
       → TakesAway P.laid P.ends_in s.0 t.0 (segment_entries c samples) (segment_entries a.0 samples)
-  loses-checked s t c ring a samples checked stands =
-      subst (λ (es : List Entry). TakesAway P.laid P.ends_in s.0 t.0 (segment_entries c samples) es) (sym (checked.segment samples stands))
-      (TakesAway-none P G holds s.0 t.0 (segment_entries c samples) checked.explains.laid_nothing)
+  loses-checked s t c ring a samples checked =
+      subst (λ (d : Plain). TakesAway P.laid P.ends_in s.0 t.0 (segment_entries c samples) (segment_entries d samples)) (sym checked.same) (TakesAway-none P G holds s.0 t.0 (segment_entries c samples) checked.explains.laid_nothing)
 
   rewound-ill : (s m t : S × T) (c d : Plain) (ring : List ℤ) (n : ℕ) (e : PcmError) (a : Answered ℕ) → Checked P G s m c ring (d, Err e) → TakesAt P G m (rewind_on (P.view s.0).marks.floor ring n (d, Err e)) t a
       → Rewound s t c ring n a
   rewound-ill s m t c d ring n e a checked takes =
       subst (λ (u : S × T). Rewound s u c ring n a) (sym takes.there) (subst (λ (b : Answered ℕ). Rewound s m c ring n b) (sym takes.result) (record {
         keeps = record {
-          sound = checked.sound;
-          port = checked.port;
-          told = λ unstopped. error-told e (G.stops s.1) (G.stops m.1) checked.told;
-          loses = λ samples stands. record { away = loses-checked s m c ring (d, Err e) samples checked stands; same_member = checked.advances.member; same_bindings = checked.advances.bindings };
-          stands = checked.stands;
+          sound = checked.keeps.sound;
+          port = checked.keeps.port;
+          told = checked.keeps.told;
+          loses = λ samples stands. record { away = loses-checked s m c ring (d, Err e) samples checked; same_member = ap (λ (x : Plain). x.identity.member) checked.same; same_bindings = ap (λ (x : Plain). x.setup.bindings) checked.same };
+          stands = λ samples stands. checked.keeps.stands samples stands tt;
         };
         explains = record {
           between = m;
@@ -546,24 +471,23 @@ module _ {S T : Type 0} (P : mixport.Ghosts S) (G : gates.Ghosts T) (holds : Hol
   rewound-well s m t c d ring n a checked takes =
       let floor = (P.view s.0).marks.floor in
       let going : d.status.stopped ≡ false = checked.goes.unstopped in
-      let moving : IsMoving d = checked.sound.moving (ap is_moving checked.runs) going in
+      let moving : IsMoving d = checked.keeps.sound.moving (ap is_moving checked.runs) going in
       let is = IsBack-of d floor (min n (rewindable_of floor d)) moving (few-of n (rewindable_of floor d)) in
       let is_floor : (P.view m.0).marks.floor ≡ floor = ap (λ (x : Marks). x.floor) checked.marks in
-      let back = takes_back-kept d ring floor (min n (rewindable_of floor d)) checked.sound checked.runs going is P G holds m t a is_floor checked.port takes in
+      let back = takes_back-kept d ring floor (min n (rewindable_of floor d)) checked.keeps.sound checked.runs going is P G holds m t a is_floor checked.keeps.port takes in
       record {
         keeps = record {
           sound = back.keeps.sound;
           port = back.keeps.port;
-          told = λ unstopped. back.keeps.told going ∙ ap (λ (k : ℕ). stops_after (pass_by a.1) k) checked.told;
+          told = λ unstopped. back.keeps.told going ∙ ap (λ (k : ℕ). stops_after (pass_by a.1) k) (checked.keeps.told unstopped);
           loses = λ samples stands.
-              let first = loses-checked s m c ring (d, Ok tt) samples checked stands in
-              let later = back.keeps.loses samples (checked.stands samples stands) in
+              let later = back.keeps.loses samples (checked.keeps.stands samples stands tt) in
               record {
-                away = TakesAway-joined P G holds s.0 m.0 t.0 _ _ _ first later.away;
-                same_member = later.same_member ∙ checked.advances.member;
-                same_bindings = later.same_bindings ∙ checked.advances.bindings;
+                away = TakesAway-joined P G holds s.0 m.0 t.0 _ _ _ (loses-checked s m c ring (d, Ok tt) samples checked) later.away;
+                same_member = later.same_member ∙ ap (λ (x : Plain). x.identity.member) checked.same;
+                same_bindings = later.same_bindings ∙ ap (λ (x : Plain). x.setup.bindings) checked.same;
               };
-          stands = λ samples stands. back.keeps.stands samples (checked.stands samples stands);
+          stands = λ samples stands. back.keeps.stands samples (checked.keeps.stands samples stands tt);
         };
         explains = record {
           between = m;
@@ -571,7 +495,7 @@ module _ {S T : Type 0} (P : mixport.Ghosts S) (G : gates.Ghosts T) (holds : Hol
           first = checked.explains;
           rest = takes;
           loaded_nothing = back.loaded_nothing;
-          why = takes_back-why d ring floor (min n (rewindable_of floor d)) checked.sound checked.runs going is P G holds m t c d checked.explains.load a is_floor checked.port takes
+          why = takes_back-why d ring floor (min n (rewindable_of floor d)) checked.keeps.sound checked.runs going is P G holds m t c d checked.explains.load a is_floor checked.keeps.port takes
               (caused-later P.view P.shows m.0 t.0 checked.explains.load c d checked.explains.why);
         };
       }
@@ -586,24 +510,19 @@ module _ {S T : Type 0} (P : mixport.Ghosts S) (G : gates.Ghosts T) (holds : Hol
   unfolding rewinds
   rewinds-kept s t c ring n a sound runs going port takes =
       let parts = Takes-parts (LoadsAt P G) (LaysAt P G) NoGet s t (checks c) (rewind_on (P.view s.0).marks.floor ring n) a takes in
-      rewound-by s parts.0 t c ring n parts.1 a (checks-kept P G holds.laid_composes s parts.0 c ring parts.1 sound runs going port parts.2) parts.3
+      rewound-by s parts.0 t c ring n parts.1 a (checks-kept P G holds.laid_composes holds.loaded_composes s parts.0 c ring parts.1 sound runs going port parts.2) parts.3
 
   -- a port whose standing adds ended in the frames that the client's ring has still ends in those that it has behind the load
   pub standing-checked : (s t : S × T) (c : Plain) (ring : List ℤ) (a : Answered (Unit {0})) → Checked P G s t c ring a → P.ends_in s.0 (held_entries c ring) → P.ends_in t.0 (held_entries a.0 ring)
   standing-checked s t c ring a checked stand =
+      let d : Plain = record c { status = a.0.status; seen = a.0.seen } in
       let k : ℕ = c.stretch.committed in
       let from : ℕ = min k (hw_of c) in
-      let at : ℕ = min k (hw_of a.0) in
-      let same : a.0.stretch.committed ≡ k = omega (arith, checked.advances.committed) in
-      let later : from ≤ at = subst (λ (n : ℕ). from ≤ min n (hw_of a.0)) same checked.advances.least in
-      let most : at ≤ k = least-most k (hw_of a.0) in
-      let split : held_entries c ring ≡ run_entries c.identity.member c.setup.bindings (held c ring) c.stretch.card from (at - from) 0 ++ run_entries c.identity.member c.setup.bindings (held c ring) c.stretch.card at (k - at) 0 =
-      ap (λ (n : ℕ). run_entries c.identity.member c.setup.bindings (held c ring) c.stretch.card from n 0) (let e : k - from ≡ at - from + (k - at) = omega (arith, later, most) in e)
-      ∙ run_entries-append c.identity.member c.setup.bindings (held c ring) c.stretch.card from (at - from) (k - at) 0
-      ∙ ap (λ (n : ℕ). run_entries c.identity.member c.setup.bindings (held c ring) c.stretch.card from (at - from) 0 ++ run_entries c.identity.member c.setup.bindings (held c ring) c.stretch.card n (k - at) 0) (let e : from + (at - from) ≡ at = omega (arith, later) in e) in
-      holds.nothing s.0 t.0 (held_entries a.0 ring) checked.explains.laid_nothing
-      (subst (P.ends_in s.0) (sym (held_entries-same c a.0 ring checked.advances.member checked.advances.bindings checked.advances.config checked.advances.source checked.card same))
-      (holds.part s.0 (run_entries c.identity.member c.setup.bindings (held c ring) c.stretch.card from (at - from) 0) _ (subst (P.ends_in s.0) split stand)))
+      let at : ℕ = min k (hw_of d) in
+      let both = min-both k (hw_of c) (hw_of d) (subst (λ (e : Plain). from ≤ hw_of e) checked.same checked.later) in
+      let split = run_entries-split c.identity.member c.setup.bindings (held c ring) c.stretch.card from at (at - from) (k - from) (k - at) 0 (omega (arith, both.0)) (omega (arith, both.0, both.1)) in
+      subst (λ (e : Plain). P.ends_in t.0 (held_entries e ring)) (sym checked.same)
+      (holds.nothing s.0 t.0 (held_entries d ring) checked.explains.laid_nothing (holds.part s.0 (run_entries c.identity.member c.setup.bindings (held c ring) c.stretch.card from (at - from) 0) _ (subst (P.ends_in s.0) split stand)))
 
   pub rewinds-by : (s m t : S × T) (c : Plain) (ring : List ℤ) (floor : Cursor) (n : ℕ) (middle : Answered (Unit {0})) (a : Answered ℕ) → TakesAt P G s (checks c) m middle
       → TakesAt P G m (rewind_on floor ring n middle) t a → TakesAt P G s (rewinds c ring floor n) t a
@@ -619,20 +538,15 @@ module _ {S T : Type 0} (P : mixport.Ghosts S) (G : gates.Ghosts T) (holds : Hol
     pub keeps : Keeps P G s t (client c ring) (client b.0 ring) b.1 AnySamples
     pub explains : ExplainsCheck P G s t c (λ load. with_number number (synced c call.Transfer load nothing)) b
 
-  numbered-as : (number : Plain → ℕ) (a : Answered (Unit {0})) → (with_number number a).0 ≡ a.0
-  numbered-as number (c, Ok done) = refl
-  numbered-as number (c, Err e) = refl
-
   pub numbered-kept : (s t : S × T) (c : Plain) (ring : List ℤ) (number : Plain → ℕ) (b : Answered ℕ) → IsSound c ring → c.status.state ≡ Running → c.status.stopped ≡ false → CanUse c (P.view s.0)
       → TakesAt P G s (numbered number (checks c)) t b → Numbered s t c ring number b
   unfolding numbered
   numbered-kept s t c ring number b sound runs going port takes =
       let parts = Takes-parts (LoadsAt P G) (LaysAt P G) NoGet s t (checks c) (λ done. ends (with_number number done)) b takes in
       let a = parts.1 in
-      let checked = checks-kept P G holds.laid_composes s parts.0 c ring a sound runs going port parts.2 in
+      let checked = checks-kept P G holds.laid_composes holds.loaded_composes s parts.0 c ring a sound runs going port parts.2 in
       subst (λ (u : S × T). Numbered s u c ring number b) (sym parts.3.there) (subst (λ (x : Answered ℕ). Numbered s parts.0 c ring number x) (sym parts.3.result) (record {
-        keeps = subst (λ (d : Plain). Keeps P G s parts.0 (client c ring) (client d ring) (with_number number a).1 AnySamples) (sym (numbered-as number a))
-            (checked-keeps P G holds.laid_composes s parts.0 c ring a (with_number number a).1 (with_number-told number a (G.stops s.1) (G.stops parts.0.1) checked.told) checked);
+        keeps = Keeps-numbered P G holds.laid_composes holds.loaded_composes s parts.0 (client c ring) number a ring checked.keeps;
         explains = record {
           load = checked.explains.load;
           loaded_it = checked.explains.loaded_it;
@@ -660,7 +574,7 @@ module _ {S T : Type 0} (P : mixport.Ghosts S) (G : gates.Ghosts T) (holds : Hol
           moving = λ moves going. absurd (not_prepared-moving c.status.state moves waits);
           paused = λ is. absurd (cc);
         };
-        port = CanUse-still (without c n) (P.view s.0) port.same_geometry port.same_member port.can (λ moves going. not_prepared-moving c.status.state moves waits);
+        port = CanUse-still c (without c n) (P.view s.0) (P.view s.0) port (IsSamePort-refl (P.view s.0)) refl (λ moves going. not_prepared-moving c.status.state moves waits);
         told = λ unstopped. refl;
         loses = λ samples stands. record { away = TakesAway-none P G holds s.0 s.0 (segment_entries c samples) (holds.laid_composes.none s.0); same_member = refl; same_bindings = refl };
         stands = λ samples stands j q low high in_range. stands j q low (omega (arith, high)) in_range;

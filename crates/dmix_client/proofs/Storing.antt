@@ -1,6 +1,7 @@
 -- For which samples a client stands after frames were stored in its local ring.
-use Rattle.std.proofs.Common.{◌≡◌, ℕ, ◌<◌, ◌≤◌, ◌+◌, ◌*◌, ◌%◌, List, refl, sym, ◌∙◌, ap, arith, inl, inr, length, get_or}
+use Rattle.std.proofs.Common.{◌++◌, take, drop, ◌≡◌, ℕ, ◌<◌, ◌≤◌, ◌+◌, ◌*◌, ◌%◌, List, refl, sym, ◌∙◌, ap, arith, inl, inr, length, get_or}
 use Rattle.std.proofs.Math.Nat.{mul-le-mul_right}
+use Rattle.std.proofs.Math.Seq.{take-append_seam}
 use Rattle.std.proofs.lemmas.Bool.{cases_lt}
 use Rattle.std.proofs.lemmas.Bool.Decides.{nat_tests}
 use Rattle.std.specs.Prelude.{ℤ, pos, ◌-◌, min}
@@ -11,6 +12,7 @@ use Rattle.dmix_client.specs.Growth.{Follows, StandsFor, StandsUpTo}
 use Rattle.dmix_client.specs.RingLaws.{HasRoom, stored-new, stored-old}
 use Rattle.dmix_client.specs.View.{IsConfigured, hw_of}
 use Rattle.dmix_client.specs.Writes.{ring_with}
+use Rattle.dmix_client.proofs.Sound.{taken_fits}
 
 -- a client stands for its samples up to the frames that were stored behind those it has, where these are samples too
 pub StandsUpTo-stored : (c : Plain) (ring samples offered : List ℤ) (n m : ℕ) → IsConfigured c ring → m * length c.setup.bindings ≤ length offered → m ≤ n → m ≤ c.setup.config.buffer_size
@@ -37,15 +39,16 @@ StandsUpTo-stored c ring samples offered n m set held_all few fits near stands f
 taken-near : (n b w k h m : ℕ) → m ≡ min n (min (b + h - w) b) → w ≤ h + b → min w h ≤ k → w + m ≤ min k h + b
 taken-near n b w k h m is fits low = grind (arith, nat_tests)
 
-taken-few : (n b w h m : ℕ) → m ≡ min n (min (b + h - w) b) → (m ≤ n) × (m ≤ b)
-taken-few n b w h m is = (grind (arith, nat_tests), grind (arith, nat_tests))
-
 -- so it does after a write, up to the frames that this took
 pub StandsUpTo-written : (c : Plain) (ring samples offered : List ℤ) (n : ℕ) → IsConfigured c ring → n * length c.setup.bindings ≤ length offered → c.stretch.written ≤ hw_of c + c.setup.config.buffer_size
     → min c.stretch.written (hw_of c) ≤ c.stretch.committed → StandsFor c ring samples → Follows c samples offered n
     → StandsUpTo c (ring_with c ring offered (taken_of c n)) samples (c.stretch.written + taken_of c n)
 StandsUpTo-written c ring samples offered n set held_all fits low stands follows =
-    let few = taken-few n c.setup.config.buffer_size c.stretch.written (hw_of c) (taken_of c n) refl in
-    let less : taken_of c n * length c.setup.bindings ≤ n * length c.setup.bindings = mul-le-mul_right (length c.setup.bindings) few.0 in
-    StandsUpTo-stored c ring samples offered n (taken_of c n) set (omega (arith, less, held_all)) few.0 few.1
+    let few = taken_fits c.stretch.written (hw_of c) c.setup.config.buffer_size n (taken_of c n) fits refl in
+    let less : taken_of c n * length c.setup.bindings ≤ n * length c.setup.bindings = mul-le-mul_right (length c.setup.bindings) few.2 in
+    StandsUpTo-stored c ring samples offered n (taken_of c n) set (omega (arith, less, held_all)) few.2 few.1
     (taken-near n c.setup.config.buffer_size c.stretch.written c.stretch.committed (hw_of c) (taken_of c n) refl fits low) stands follows
+
+-- all of a list that was written is what was written
+pub take-written : (n : ℕ) (xs old : List ℤ) → n ≡ length xs → take n (xs ++ drop (length xs) old) ≡ xs
+take-written n xs old is = ap (λ (k : ℕ). take k (xs ++ drop (length xs) old)) is ∙ take-append_seam xs (drop (length xs) old)

@@ -9,10 +9,9 @@ use Rattle.mix_core.specs.declared.port.Ended.{Ended}
 use Rattle.mix_core.specs.declared.port.Ended.TheVariants.{Whole, Late, Stopped}
 use Rattle.mix_core.specs.Laid.{a_withdrawal, an_add, stand_after, without_last}
 use Rattle.course.specs.AtPort.{LaysAt, LoadsAt, NoGet, TakesAt}
-use Rattle.course.specs.Course.{lays}
 use Rattle.course.specs.CourseLaws.{Takes-then, Takes-parts}
 use Rattle.bindings.specs.Bound.{AreBindings, rising}
-use Rattle.bindings.specs.RisingLaws.{rising-within, length-rising}
+use Rattle.bindings.specs.RisingLaws.{length-rising}
 use Rattle.dmix_client.specs.declared.commit.Commit.{Commit}
 use Rattle.dmix_client.specs.Course.{nothing}
 use Rattle.dmix_client.specs.Rewind.{back_on, left_of, take_each, take_frames, take_on}
@@ -29,7 +28,7 @@ use Rattle.dmix_client.specs.Growth.{TakesAway}
 use Rattle.dmix_client.specs.Port.{least_channel}
 use Rattle.mix_core.specs.declared.gate.Gate as gates
 use Rattle.mix_core.specs.declared.port.MixPort as mixport
-use Rattle.dmix_client.proofs.Frames.{IsFrom-later, marks-joined, rising-least}
+use Rattle.dmix_client.proofs.Frames.{IsFrom-later, marks-joined, not-whole, rising-least}
 
 -- what the first n channels come to is what all come to
 abbrev pub Back : {S T : Type 0} → mixport.Ghosts S → gates.Ghosts T → ℕ → ℕ → List ℕ → (ℕ → ℤ) → ℕ → S × T → S × T → ℕ → Type 0
@@ -41,80 +40,55 @@ abbrev pub BackFrames : {S T : Type 0} → mixport.Ghosts S → gates.Ghosts T �
 BackFrames {S = S} {T = T} P G member card bindings samples first all start now n = (t : S × T) (x : Commit)
     → TakesAt P G now (take_frames member card bindings samples first n) t x → TakesAt P G start (take_frames member card bindings samples first all) t x
 
--- a frame's withdrawals are told by the samples of the client's channels
-pub take_each-same : (member frame : ℕ) (bindings : List ℕ) (s t : ℕ → ℤ) (n : ℕ) → AreBindings bindings → n ≤ length bindings → ((k : ℕ) → k < length bindings → s k ≡ t k)
-    → take_each member frame bindings s n ≡ take_each member frame bindings t n
-unfolding take_each
-take_each-same member frame bindings s t zero are few same = refl
-take_each-same member frame bindings s t (suc n) are few same =
-    let q : ℕ = slice_index (rising bindings) n in
-    ap (λ (x : ℤ). lays (a_withdrawal member frame (slice_index bindings q) x) (λ ended. take_on ended (suc n) (take_each member frame bindings s n))) (same q (rising-within bindings n are (omega (arith, few))))
-    ∙ ap (λ rest. lays (a_withdrawal member frame (slice_index bindings q) (t q)) (λ ended. take_on ended (suc n) rest)) (take_each-same member frame bindings s t n are (omega (arith, few)) same)
+-- the withdrawal of a place of a frame
+abbrev pub withdrawal_of : ℕ → ℕ → List ℕ → (ℕ → ℤ) → ℕ → Entry
+withdrawal_of member frame bindings sample_of n = a_withdrawal member frame (slice_index bindings (slice_index (rising bindings) n)) (sample_of (slice_index (rising bindings) n))
 
 module _ {S T : Type 0} (P : mixport.Ghosts S) (G : gates.Ghosts T) where
-  -- the channel behind n was withdrawn
-  pub Back-next : (member frame : ℕ) (bindings : List ℕ) (sample_of : ℕ → ℤ) (all : ℕ) (start now next : S × T) (n m channel : ℕ) (sample : ℤ) → m ≡ n + 1
-      → channel ≡ slice_index bindings (slice_index (rising bindings) n) → sample ≡ sample_of (slice_index (rising bindings) n)
-      → Back P G member frame bindings sample_of all start now m → LaysAt P G now (a_withdrawal member frame channel sample) Whole next → Back P G member frame bindings sample_of all start next n
+  -- the channel behind n was withdrawn, or it wasn't
+  pub Back-next : (member frame : ℕ) (bindings : List ℕ) (sample_of : ℕ → ℤ) (all : ℕ) (start now next : S × T) (n m : ℕ) (e : Entry) → m ≡ n + 1 → e ≡ withdrawal_of member frame bindings sample_of n
+      → Back P G member frame bindings sample_of all start now m → LaysAt P G now e Whole next → Back P G member frame bindings sample_of all start next n
   unfolding take_each
-  Back-next member frame bindings sample_of all start now next n m channel sample is is_channel is_sample so_far step t left ended takes =
-      so_far t left ended (subst (λ (k : ℕ). TakesAt P G now (take_each member frame bindings sample_of k) t (left, ended)) (sym (let e : m ≡ suc n = omega (arith, is) in e))
-      (Whole, next, subst (λ (x : ℤ). LaysAt P G now (a_withdrawal member frame (slice_index bindings (slice_index (rising bindings) n)) x) Whole next) is_sample (subst (λ (k : ℕ). LaysAt P G now (a_withdrawal member frame k sample) Whole next) is_channel step), takes))
+  Back-next member frame bindings sample_of all start now next n m e is is_entry so_far step t left ended takes =
+      so_far t left ended (subst (λ (k : ℕ). TakesAt P G now (take_each member frame bindings sample_of k) t (left, ended)) (sym (let one : m ≡ suc n = omega (arith, is) in one))
+      (Whole, next, subst (λ (x : Entry). LaysAt P G now x Whole next) is_entry step, takes))
 
-  -- or it wasn't
-  pub Back-ended : (member frame : ℕ) (bindings : List ℕ) (sample_of : ℕ → ℤ) (all : ℕ) (start now next : S × T) (n m channel : ℕ) (sample : ℤ) (end : Ended) → m ≡ n + 1
-      → channel ≡ slice_index bindings (slice_index (rising bindings) n) → sample ≡ sample_of (slice_index (rising bindings) n) → (end ≡ Whole → ⊥)
-      → Back P G member frame bindings sample_of all start now m → LaysAt P G now (a_withdrawal member frame channel sample) end next
-      → TakesAt P G start (take_each member frame bindings sample_of all) next (m, end)
+  pub Back-ended : (member frame : ℕ) (bindings : List ℕ) (sample_of : ℕ → ℤ) (all : ℕ) (start now next : S × T) (n m : ℕ) (e : Entry) (end : Ended) → m ≡ n + 1 → e ≡ withdrawal_of member frame bindings sample_of n → (end ≡ Whole → ⊥)
+      → Back P G member frame bindings sample_of all start now m → LaysAt P G now e end next → TakesAt P G start (take_each member frame bindings sample_of all) next (m, end)
   unfolding take_each
-  Back-ended member frame bindings sample_of all start now next n m channel sample end is is_channel is_sample not_whole so_far step =
-      so_far next m end (subst (λ (k : ℕ). TakesAt P G now (take_each member frame bindings sample_of k) next (k, end)) (sym (let e : m ≡ suc n = omega (arith, is) in e))
-      (end, next, subst (λ (x : ℤ). LaysAt P G now (a_withdrawal member frame (slice_index bindings (slice_index (rising bindings) n)) x) end next) is_sample (subst (λ (k : ℕ). LaysAt P G now (a_withdrawal member frame k sample) end next) is_channel step), stays end not_whole))
-    where
-      stays : (e : Ended) → (e ≡ Whole → ⊥) → TakesAt P G next (take_on e (suc n) (take_each member frame bindings sample_of n)) next (suc n, e)
-      stays Whole not_so = absurd (not_so refl)
-      stays (Late word) not_so = record { there = refl; result = refl }
-      stays Stopped not_so = record { there = refl; result = refl }
+  Back-ended member frame bindings sample_of all start now next n m e end is is_entry not_so so_far step =
+      so_far next m end (subst (λ (k : ℕ). TakesAt P G now (take_each member frame bindings sample_of k) next (k, end)) (sym (let one : m ≡ suc n = omega (arith, is) in one)) (
+        end,
+        next,
+        subst (λ (x : Entry). LaysAt P G now x end next) is_entry step,
+        not-whole (λ (x : Ended). TakesAt P G next (take_on x (suc n) (take_each member frame bindings sample_of n)) next (suc n, x)) end not_so (λ word. record { there = refl; result = refl }) (record { there = refl; result = refl }),
+      ))
 
-  pub Back-all : (member frame : ℕ) (bindings : List ℕ) (sample_of : ℕ → ℤ) (all : ℕ) (start now : S × T) → Back P G member frame bindings sample_of all start now 0
+  pub Back-all : (member frame : ℕ) (bindings : List ℕ) (sample_of : ℕ → ℤ) (all : ℕ) (start now : S × T) (n : ℕ) → n ≡ 0 → Back P G member frame bindings sample_of all start now n
       → TakesAt P G start (take_each member frame bindings sample_of all) now (0, Whole)
   unfolding take_each
-  Back-all member frame bindings sample_of all start now so_far = so_far now 0 Whole (record { there = refl; result = refl })
+  Back-all member frame bindings sample_of all start now n none so_far = so_far now 0 Whole (rw none (record { there = refl; result = refl }))
 
-  -- a frame's withdrawals, by what its call was given
-  pub each-taken : (member card at frame left : ℕ) (bindings : List ℕ) (samples : ℕ → ℕ → ℤ) (sample_of : ℕ → ℤ) (now next : S × T) (end : Ended) → AreBindings bindings
-      → frame ≡ card + at → ((k : ℕ) → k < length bindings → sample_of k ≡ samples at k) → TakesAt P G now (take_each member frame bindings sample_of (length bindings)) next (left, end)
-      → TakesAt P G now (take_each member (card + at) bindings (samples at) (length bindings)) next (left, end)
-  each-taken member card at frame left bindings samples sample_of now next end are is_frame same step =
-      subst (λ m. TakesAt P G now m next (left, end))
-      (ap (λ (n : ℕ). take_each member n bindings sample_of (length bindings)) is_frame ∙ take_each-same member (card + at) bindings sample_of (samples at) (length bindings) are (omega arith) same) step
-
-  pub BackFrames-next : (member card : ℕ) (bindings : List ℕ) (samples : ℕ → ℕ → ℤ) (first all : ℕ) (start now next : S × T) (n m left : ℕ) → m ≡ n + 1
-      → BackFrames P G member card bindings samples first all start now m → TakesAt P G now (take_each member (card + (first + n)) bindings (samples (first + n)) (length bindings)) next (left, Whole)
-      → BackFrames P G member card bindings samples first all start next n
+  pub BackFrames-next : (member card : ℕ) (bindings : List ℕ) (samples : ℕ → ℕ → ℤ) (first all : ℕ) (start now next : S × T) (n m left : ℕ) → m ≡ n + 1 → BackFrames P G member card bindings samples first all start now m
+      → TakesAt P G now (take_each member (card + (first + n)) bindings (samples (first + n)) (length bindings)) next (left, Whole) → BackFrames P G member card bindings samples first all start next n
   unfolding take_frames
   BackFrames-next member card bindings samples first all start now next n m left is so_far step t x takes =
       so_far t x (subst (λ (k : ℕ). TakesAt P G now (take_frames member card bindings samples first k) t x) (sym (let e : m ≡ suc n = omega (arith, is) in e))
       (Takes-then (LoadsAt P G) (LaysAt P G) NoGet now next t (take_each member (card + (first + n)) bindings (samples (first + n)) (length bindings)) (λ end. back_on end n (length bindings) (take_frames member card bindings samples first n)) (left, Whole) x step takes))
 
-  pub BackFrames-ended : (member card : ℕ) (bindings : List ℕ) (samples : ℕ → ℕ → ℤ) (first all : ℕ) (start now next : S × T) (n m left : ℕ) (end : Ended) → m ≡ n + 1 → (end ≡ Whole → ⊥)
-      → BackFrames P G member card bindings samples first all start now m → TakesAt P G now (take_each member (card + (first + n)) bindings (samples (first + n)) (length bindings)) next (left, end)
-      → TakesAt P G start (take_frames member card bindings samples first all) next (left_of n left (length bindings) end)
+  pub BackFrames-ended : (member card : ℕ) (bindings : List ℕ) (samples : ℕ → ℕ → ℤ) (first all : ℕ) (start now next : S × T) (n m left : ℕ) (end : Ended) → m ≡ n + 1 → (end ≡ Whole → ⊥) → BackFrames P G member card bindings samples first all start now m
+      → TakesAt P G now (take_each member (card + (first + n)) bindings (samples (first + n)) (length bindings)) next (left, end) → TakesAt P G start (take_frames member card bindings samples first all) next (left_of n left (length bindings) end)
   unfolding take_frames
-  BackFrames-ended member card bindings samples first all start now next n m left end is not_whole so_far step =
+  BackFrames-ended member card bindings samples first all start now next n m left end is not_so so_far step =
+      let rest = take_frames member card bindings samples first n in
       so_far next (left_of n left (length bindings) end) (subst (λ (k : ℕ). TakesAt P G now (take_frames member card bindings samples first k) next (left_of n left (length bindings) end)) (sym (let e : m ≡ suc n = omega (arith, is) in e))
-      (Takes-then (LoadsAt P G) (LaysAt P G) NoGet now next next (take_each member (card + (first + n)) bindings (samples (first + n)) (length bindings)) (λ e. back_on e n (length bindings) (take_frames member card bindings samples first n)) (left, end) (left_of n left (length bindings) end) step
-      (stays end not_whole)))
-    where
-      stays : (e : Ended) → (e ≡ Whole → ⊥) → TakesAt P G next (back_on (left, e) n (length bindings) (take_frames member card bindings samples first n)) next (left_of n left (length bindings) e)
-      stays Whole not_so = absurd (not_so refl)
-      stays (Late word) not_so = record { there = refl; result = refl }
-      stays Stopped not_so = record { there = refl; result = refl }
+      (Takes-then (LoadsAt P G) (LaysAt P G) NoGet now next next (take_each member (card + (first + n)) bindings (samples (first + n)) (length bindings)) (λ e. back_on e n (length bindings) rest) (left, end) (left_of n left (length bindings) end) step
+      (not-whole (λ (x : Ended). TakesAt P G next (back_on (left, x) n (length bindings) rest) next (left_of n left (length bindings) x)) end not_so (λ word. record { there = refl; result = refl }) (record { there = refl; result = refl }))))
 
-  pub BackFrames-all : (member card : ℕ) (bindings : List ℕ) (samples : ℕ → ℕ → ℤ) (first all : ℕ) (start now : S × T) → BackFrames P G member card bindings samples first all start now 0
+  pub BackFrames-all : (member card : ℕ) (bindings : List ℕ) (samples : ℕ → ℕ → ℤ) (first all : ℕ) (start now : S × T) (n : ℕ) → n ≡ 0 → BackFrames P G member card bindings samples first all start now n
       → TakesAt P G start (take_frames member card bindings samples first all) now nothing
   unfolding take_frames
-  BackFrames-all member card bindings samples first all start now so_far = so_far now nothing (record { there = refl; result = refl })
+  BackFrames-all member card bindings samples first all start now n none so_far = so_far now nothing (rw none (record { there = refl; result = refl }))
 
 -- ---- what the withdrawals of a rewind did at a port: which adds it lost at the end of those that stand, and where its cursor is
 
@@ -136,15 +110,10 @@ frame_entries-last member bindings s n frame are low =
     ∙ map-append entry (take n (rising bindings)) (get_or (rising bindings) n 0 ∷ [])
 
 -- standing adds that end in a frame's first n + 1 entries end in n of them and the last one
-pub stands-last : {S : Type 0} (ends_in : S → List Entry → Type 0) (p : S) (member own frame : ℕ) (bindings : List ℕ) (s : ℕ → ℤ) (n m channel : ℕ) (sample : ℤ) → AreBindings bindings → m ≡ n + 1 → m ≤ length bindings
-    → channel ≡ slice_index bindings (slice_index (rising bindings) n) → sample ≡ s (slice_index (rising bindings) n) → own ≡ member
-    → ends_in p (frame_entries member bindings s m frame) → ends_in p (frame_entries member bindings s n frame ++ an_add own frame channel sample ∷ [])
-stands-last ends_in p member own frame bindings s n m channel sample are is few is_channel is_sample is_own ends =
-    let last : ends_in p (frame_entries member bindings s n frame ++ an_add member frame (slice_index bindings (slice_index (rising bindings) n)) (s (slice_index (rising bindings) n)) ∷ []) =
-    subst (ends_in p) (ap (λ (k : ℕ). frame_entries member bindings s k frame) (let e : m ≡ suc n = omega (arith, is) in e) ∙ frame_entries-last member bindings s n frame are (omega (arith, is, few))) ends in
-    subst (λ (k : ℕ). ends_in p (frame_entries member bindings s n frame ++ an_add k frame channel sample ∷ [])) (sym is_own)
-    (subst (λ (k : ℕ). ends_in p (frame_entries member bindings s n frame ++ an_add member frame k sample ∷ [])) (sym is_channel)
-    (subst (λ (x : ℤ). ends_in p (frame_entries member bindings s n frame ++ an_add member frame (slice_index bindings (slice_index (rising bindings) n)) x ∷ [])) (sym is_sample) last))
+pub stands-last : {S : Type 0} (ends_in : S → List Entry → Type 0) (p : S) (member frame : ℕ) (bindings : List ℕ) (s : ℕ → ℤ) (n m : ℕ) (e : Entry) → AreBindings bindings → m ≡ n + 1 → m ≤ length bindings
+    → e ≡ an_add member frame (slice_index bindings (slice_index (rising bindings) n)) (s (slice_index (rising bindings) n)) → ends_in p (frame_entries member bindings s m frame) → ends_in p (frame_entries member bindings s n frame ++ e ∷ [])
+stands-last ends_in p member frame bindings s n m e are is few is_entry ends =
+    subst (ends_in p) (ap (λ (k : ℕ). frame_entries member bindings s k frame) (let one : m ≡ suc n = omega (arith, is) in one) ∙ frame_entries-last member bindings s n frame are (omega (arith, is, few)) ∙ ap (λ (x : Entry). frame_entries member bindings s n frame ++ x ∷ []) (sym is_entry)) ends
 
 pub run_entries-last : (member : ℕ) (bindings : List ℕ) (s : ℕ → ℕ → ℤ) (card first n : ℕ)
     → run_entries member bindings s card first (n + 1) 0 ≡ run_entries member bindings s card first n 0 ++ frame_entries member bindings (s (first + n)) (length bindings) (card + (first + n))
@@ -153,9 +122,10 @@ run_entries-last member bindings s card first n =
     ∙ ap (λ (es : List Entry). run_entries member bindings s card first n 0 ++ es)
     (append-nil (frame_entries member bindings (s (first + n)) (length bindings) (card + (first + n)) ++ []) ∙ append-nil (frame_entries member bindings (s (first + n)) (length bindings) (card + (first + n))))
 
-pub run_entries-part : (member : ℕ) (bindings : List ℕ) (s : ℕ → ℕ → ℤ) (card first n part : ℕ)
-    → run_entries member bindings s card first n part ≡ run_entries member bindings s card first n 0 ++ frame_entries member bindings (s (first + n)) part (card + (first + n))
-run_entries-part member bindings s card first n part = ap (λ (es : List Entry). es ++ frame_entries member bindings (s (first + n)) part (card + (first + n))) (sym (append-nil _))
+-- standing adds that end in n + 1 frames of a run end in n of them and the last one
+pub stands-run : {S : Type 0} (ends_in : S → List Entry → Type 0) (p : S) (member : ℕ) (bindings : List ℕ) (s : ℕ → ℕ → ℤ) (card first n m : ℕ) → m ≡ n + 1 → ends_in p (run_entries member bindings s card first m 0)
+    → ends_in p (run_entries member bindings s card first n 0 ++ frame_entries member bindings (s (first + n)) (length bindings) (card + (first + n)))
+stands-run ends_in p member bindings s card first n m is ends = subst (ends_in p) (ap (λ (k : ℕ). run_entries member bindings s card first k 0) is ∙ run_entries-last member bindings s card first n) ends
 
 -- how many channels of n are left, by how it ended, and what is left of some frames
 abbrev pub IsLeft : Ended → ℕ → ℕ → Type 0
@@ -182,16 +152,6 @@ OnWhole-map : (e : Ended) (X Y : Type 0) → (X → Y) → OnWhole e X → OnWho
 OnWhole-map Whole X Y f is = f is
 OnWhole-map (Late word) X Y f is = tt
 OnWhole-map Stopped X Y f is = tt
-
-OnWhole-not : (e : Ended) (X : Type 0) → (e ≡ Whole → ⊥) → OnWhole e X
-OnWhole-not Whole X not_whole = absurd (not_whole refl)
-OnWhole-not (Late word) X not_whole = tt
-OnWhole-not Stopped X not_whole = tt
-
-all-left : (e : Ended) (frames part count channels : ℕ) → (e ≡ Whole → ⊥) → 0 < frames + part → frames_used frames part ≤ count → part < channels → AreLeft e frames part count channels
-all-left Whole frames part count channels not_whole some few within = absurd (not_whole refl)
-all-left (Late word) frames part count channels not_whole some few within = (some, few, within)
-all-left Stopped frames part count channels not_whole some few within = (some, few, within)
 
 more-left : (e : Ended) (frames part count channels : ℕ) → AreLeft e frames part count channels → AreLeft e frames part (suc count) channels
 more-left Whole frames part count channels are = are
@@ -344,7 +304,7 @@ module _ {S T : Type 0} (P : mixport.Ghosts S) (G : gates.Ghosts T) (holds : Hol
       → TookFrame s t member (card + (first + n)) bindings (samples (first + n)) (length bindings) left ended
       → TookFrames s t member card bindings samples first (suc n)
       (if all then record { frames = n + 1; part = 0; ended = ended } else record { frames = n; part = left; ended = ended })
-  frames-left member card bindings samples first n left ended s t true is some few not_whole one =
+  frames-left member card bindings samples first n left ended s t true is some few not_so one =
       let whole : left ≡ length bindings = grind (arith, nat_tests) in
       let before : run_entries member bindings samples card first (suc n) 0 ≡ run_entries member bindings samples card first n 0 ++ frame_entries member bindings (samples (first + n)) (length bindings) (card + (first + n)) =
       ap (λ (k : ℕ). run_entries member bindings samples card first k 0) (let e : suc n ≡ n + 1 = omega arith in e) ∙ run_entries-last member bindings samples card first n in
@@ -352,18 +312,18 @@ module _ {S T : Type 0} (P : mixport.Ghosts S) (G : gates.Ghosts T) (holds : Hol
         view_is = one.view_is;
         same_floor = one.same_floor;
         still = λ none. absurd (omega (arith, none));
-        are_left = all-left ended (n + 1) 0 (suc n) (length bindings) not_whole (omega arith) (omega arith) (omega (arith, some, few));
+        are_left = let are : (0 < n + 1 + 0) × (frames_used (n + 1) 0 ≤ suc n) × (0 < length bindings) = (omega arith, omega arith, omega (arith, some, few)) in not-whole (λ (e : Ended). AreLeft e (n + 1) 0 (suc n) (length bindings)) ended not_so (λ word. are) are;
         away = subst (λ (es : List Entry). TakesAway P.laid P.ends_in s.0 t.0 es (run_entries member bindings samples card first (n + 1) 0)) (sym before)
             (subst (λ (es : List Entry). TakesAway P.laid P.ends_in s.0 t.0 (run_entries member bindings samples card first n 0 ++ frame_entries member bindings (samples (first + n)) (length bindings) (card + (first + n))) es) (sym (run_entries-last member bindings samples card first n))
             (TakesAway-behind s.0 t.0 (run_entries member bindings samples card first n 0) _ _
             (subst (λ (k : ℕ). TakesAway P.laid P.ends_in s.0 t.0 (frame_entries member bindings (samples (first + n)) (length bindings) (card + (first + n))) (frame_entries member bindings (samples (first + n)) k (card + (first + n)))) whole one.away)));
         loaded_nothing = one.loaded_nothing;
-        cursor = OnWhole-not ended _ not_whole;
+        cursor = not-whole (λ (e : Ended). OnWhole e (0 < suc n → (P.view t.0).marks.cursor ≡ record { frame = card + first; channel = least_channel bindings })) ended not_so (λ word. tt) tt;
         late = subst (λ (k : ℕ). OnLate ended (λ word. IsPast P.view P.shows t.0 (card + k) (slice_index bindings (slice_index (rising bindings) (length bindings - 1))) word)) (let e : first + n ≡ first + (n + 1 - 1) = omega arith in e)
             (subst (λ (k : ℕ). OnLate ended (λ word. IsPast P.view P.shows t.0 (card + (first + n)) (slice_index bindings (slice_index (rising bindings) (k - 1))) word)) whole one.late);
         stopped = one.stopped;
       }
-  frames-left member card bindings samples first n left ended s t false is some few not_whole one =
+  frames-left member card bindings samples first n left ended s t false is some few not_so one =
       let part : left < length bindings = grind (arith, nat_tests) in
       let before : run_entries member bindings samples card first (suc n) 0 ≡ run_entries member bindings samples card first n 0 ++ frame_entries member bindings (samples (first + n)) (length bindings) (card + (first + n)) =
       ap (λ (k : ℕ). run_entries member bindings samples card first k 0) (let e : suc n ≡ n + 1 = omega arith in e) ∙ run_entries-last member bindings samples card first n in
@@ -372,12 +332,12 @@ module _ {S T : Type 0} (P : mixport.Ghosts S) (G : gates.Ghosts T) (holds : Hol
         view_is = one.view_is;
         same_floor = one.same_floor;
         still = λ none. absurd (omega (arith, none));
-        are_left = all-left ended n left (suc n) (length bindings) not_whole (omega (arith, some)) (used-some n left) part;
+        are_left = let are : (0 < n + left) × (frames_used n left ≤ suc n) × (left < length bindings) = (omega (arith, some), used-some n left, part) in not-whole (λ (e : Ended). AreLeft e n left (suc n) (length bindings)) ended not_so (λ word. are) are;
         away = subst (λ (es : List Entry). TakesAway P.laid P.ends_in s.0 t.0 es (run_entries member bindings samples card first n left)) (sym before)
-            (subst (λ (es : List Entry). TakesAway P.laid P.ends_in s.0 t.0 (run_entries member bindings samples card first n 0 ++ frame_entries member bindings (samples (first + n)) (length bindings) (card + (first + n))) es) (sym (run_entries-part member bindings samples card first n left))
+            (subst (λ (es : List Entry). TakesAway P.laid P.ends_in s.0 t.0 (run_entries member bindings samples card first n 0 ++ frame_entries member bindings (samples (first + n)) (length bindings) (card + (first + n))) es) (ap (λ (es : List Entry). es ++ frame_entries member bindings (samples (first + n)) left (card + (first + n))) (append-nil _))
             (TakesAway-behind s.0 t.0 (run_entries member bindings samples card first n 0) _ _ one.away));
         loaded_nothing = one.loaded_nothing;
-        cursor = OnWhole-not ended _ not_whole;
+        cursor = not-whole (λ (e : Ended). OnWhole e (0 < suc n → (P.view t.0).marks.cursor ≡ record { frame = card + first; channel = least_channel bindings })) ended not_so (λ word. tt) tt;
         late = subst (λ (b : Bool). OnLate ended (λ word. IsPast P.view P.shows t.0 (card + (first + (if b then n - 1 else n))) (slice_index bindings (slice_index (rising bindings) ((if b then length bindings else left) - 1))) word)) (sym not_none) one.late;
         stopped = one.stopped;
       }
@@ -388,13 +348,9 @@ module _ {S T : Type 0} (P : mixport.Ghosts S) (G : gates.Ghosts T) (holds : Hol
       → ((u : S × T) (y : Commit) → TakesAt P G m (take_frames member card bindings samples first n) u y → TookFrames m u member card bindings samples first n y)
       → TakesAt P G m (back_on (left, ended) n (length bindings) (take_frames member card bindings samples first n)) t x → TookFrames s t member card bindings samples first (suc n) x
   back-by member card bindings samples first n left (Late word) s m t x are one behind takes =
-      subst (λ (u : S × T). TookFrames s u member card bindings samples first (suc n) x) (sym takes.there)
-      (subst (λ (y : Commit). TookFrames s m member card bindings samples first (suc n) y) (sym takes.result)
-      (frames-left member card bindings samples first n left (Late word) s m (nat_eq left (length bindings)) refl one.is_left.0 one.is_left.1 (λ is. cc) one))
+      rw (takes.there, takes.result) (frames-left member card bindings samples first n left (Late word) s m (nat_eq left (length bindings)) refl one.is_left.0 one.is_left.1 (λ is. cc) one)
   back-by member card bindings samples first n left Stopped s m t x are one behind takes =
-      subst (λ (u : S × T). TookFrames s u member card bindings samples first (suc n) x) (sym takes.there)
-      (subst (λ (y : Commit). TookFrames s m member card bindings samples first (suc n) y) (sym takes.result)
-      (frames-left member card bindings samples first n left Stopped s m (nat_eq left (length bindings)) refl one.is_left.0 one.is_left.1 (λ is. cc) one))
+      rw (takes.there, takes.result) (frames-left member card bindings samples first n left Stopped s m (nat_eq left (length bindings)) refl one.is_left.0 one.is_left.1 (λ is. cc) one)
   back-by member card bindings samples first n left Whole s m t x are one behind takes =
       let later = behind t x takes in
       let before : run_entries member bindings samples card first (suc n) 0 ≡ run_entries member bindings samples card first n 0 ++ frame_entries member bindings (samples (first + n)) (length bindings) (card + (first + n)) =

@@ -1,13 +1,14 @@
 //! Frames are placed in the card's ring through a port: a commit, alone and behind a load of the position.
-ghost use Rattle.std.specs.Prelude.{◌≡◌, ℕ, ◌+◌, ◌*◌, ◌%◌, ◌^◌, ◌<◌, ◌≤◌, true, false, pos, IfSome, length, slice_index_or, unwrap_or};
+ghost use Rattle.std.specs.Prelude.{◌≡◌, ℕ, ◌+◌, ◌*◌, ◌%◌, ◌^◌, ◌<◌, ◌≤◌, true, false, pos, IfSome, length, slice_index, slice_index_or, unwrap_or};
 ghost use Rattle.snd_base.specs.Places.{IsFrom, end_frame};
 ghost use Rattle.mix_core.specs.Laid.{an_add};
+ghost use Rattle.bindings.specs.Bound.{rising};
 ghost use Rattle.course.specs.AtPort.{LaysAt, TakesAt};
 ghost use Rattle.dmix_client.specs.Calls.{start_count, started_in, sync_count, window_end};
 ghost use Rattle.dmix_client.specs.Course.{commits, lay_frame, looks};
 ghost use Rattle.dmix_client.specs.Port.{CanUse, IsFound, IsOnCard, least_channel};
 ghost use Rattle.pcm_stream.specs.Status.{is_moving};
-ghost use Rattle.dmix_client.specs.View.{IsSound};
+ghost use Rattle.dmix_client.specs.View.{IsSound, held};
 
 use crate::plain::Plain;
 use bindings::Bindings;
@@ -55,60 +56,11 @@ impl Found {
     };
 }
 
-/// Places one sample, of a frame below the last lap. `Whole` says that it was in time.
-fn place_sample<P: MixPort, G: Gate>(
-    port: &mut P,
-    gate: &mut G,
-    frame: u64,
-    channel: u8,
-    sample: i16,
-) -> Ended
-    requires can_add { (P.view port.old).can_add ≡ true }
-    requires channel { channel < (P.view port.old).geometry.channels }
-    requires from_cursor { IsFrom (P.view port.old).marks.cursor frame channel }
-    requires ahead { frame < (P.view port.old).seen + (P.view port.old).geometry.frames }
-    requires fits { frame < end_frame (P.view port.old).geometry }
-    ensures { LaysAt P.MixPort G.Gate (port.old, gate.old)
-        (an_add (P.view port.old).member frame channel sample) result (port.new, gate.new) }
-{
-    Ended::of(port.place(gate, frame, channel, sample))
-}
-
-/// Places the samples of one frame, one for each client channel, by rising card channel.
-fn place_frame<P: MixPort, G: Gate>(
-    port: &mut P,
-    gate: &mut G,
-    bindings: &Bindings,
-    frame: u64,
-    samples: &[i16],
-) -> Channels
-    requires can_add { (P.view port.old).can_add ≡ true }
-    requires bound { IsOnCard bindings.now (P.view port.old).geometry }
-    requires samples { length samples.now ≡ length bindings.now }
-    requires from_cursor { IsFrom (P.view port.old).marks.cursor frame
-        (least_channel bindings.now) }
-    requires ahead { frame < (P.view port.old).seen + (P.view port.old).geometry.frames }
-    requires fits { frame < end_frame (P.view port.old).geometry }
-    ensures { TakesAt P.MixPort G.Gate (port.old, gate.old)
-        (lay_frame (P.view port.old).member frame bindings.now
-        (λ q. slice_index_or samples.now q (pos 0))) (port.new, gate.new)
-        (result.placed, result.ended) }
-{
-    for place in 0..bindings.len() {
-        let client = bindings.rising(place);
-        let channel = bindings.card_channel(client);
-        match place_sample(port, gate, frame, channel, samples[client as usize]) {
-            Ended::Whole => {}
-            ended => return Channels {
-                placed: place,
-                ended,
-            },
-        }
-    }
-    Channels {
-        placed: bindings.len(),
-        ended: Ended::Whole,
-    }
+/// A sample, and the card channel that it is for.
+#[derive(Clone, Copy)]
+pub(crate) struct BoundSample {
+    pub channel: u8,
+    pub sample: i16,
 }
 
 /// Where the samples of frame number `from + frame` begin in a local ring of `buffer_size` frames.
@@ -122,14 +74,96 @@ pub(crate) fn slot_of(from: u64, frame: u64, buffer_size: u32, channels: u8) -> 
     slot as usize * channels as usize
 }
 
-/// The samples of one frame of a ring.
-pub(crate) fn frame_of(ring: &[i16], slot: usize, channels: u8) -> &[i16]
-    requires { slot + channels ≤ length ring.now }
-    ensures length { length result.now ≡ channels }
-    ensures samples { (q : ℕ) → q < channels → slice_index_or result.now q (pos 0)
-        ≡ slice_index_or ring.now (slot + q) (pos 0) }
+/// Where the samples of a client's frame begin in its local ring.
+pub(crate) fn held_from(plain: &Plain, number: u64) -> usize
+    requires { 1 ≤ plain.now.setup.config.buffer_size }
+    ensures value { result ≡ (plain.now.stretch.source + number)
+        % plain.now.setup.config.buffer_size * length plain.now.setup.bindings }
+    ensures within { result + length plain.now.setup.bindings
+        ≤ plain.now.setup.config.buffer_size * length plain.now.setup.bindings }
 {
-    &ring[slot..slot + channels as usize]
+    slot_of(
+        plain.stretch.source,
+        number,
+        plain.setup.config.buffer_size,
+        plain.setup.bindings.len(),
+    )
+}
+
+/// The sample at a place of the frame that begins at `slot` of a local ring, counted by rising card channel.
+pub(crate) fn bound_sample(bindings: &Bindings, ring: &[i16], slot: usize, place: u8) -> BoundSample
+    requires place { place < length bindings.now }
+    requires slot { slot + length bindings.now ≤ length ring.now }
+    ensures channel { result.channel
+        ≡ slice_index bindings.now (slice_index (rising bindings.now) place) }
+    ensures sample { result.sample
+        ≡ slice_index_or ring.now (slot + slice_index (rising bindings.now) place) (pos 0) }
+{
+    let client = bindings.rising(place);
+    BoundSample {
+        channel: bindings.card_channel(client),
+        sample: ring[slot + client as usize],
+    }
+}
+
+/// Places one sample, of a frame below the last lap. `Whole` says that it was in time.
+fn place_sample<P: MixPort, G: Gate>(
+    port: &mut P,
+    gate: &mut G,
+    frame: u64,
+    bound: BoundSample,
+) -> Ended
+    requires can_add { (P.view port.old).can_add ≡ true }
+    requires channel { bound.channel < (P.view port.old).geometry.channels }
+    requires from_cursor { IsFrom (P.view port.old).marks.cursor frame bound.channel }
+    requires ahead { frame < (P.view port.old).seen + (P.view port.old).geometry.frames }
+    requires fits { frame < end_frame (P.view port.old).geometry }
+    ensures { LaysAt P.MixPort G.Gate (port.old, gate.old)
+        (an_add (P.view port.old).member frame bound.channel bound.sample) result
+        (port.new, gate.new) }
+{
+    Ended::of(port.place(gate, frame, bound.channel, bound.sample))
+}
+
+/// Places the samples of the client's frame `number`, by rising card channel.
+fn place_frame<P: MixPort, G: Gate>(
+    port: &mut P,
+    gate: &mut G,
+    plain: &Plain,
+    ring: &[i16],
+    number: u64,
+) -> Channels
+    requires can_add { (P.view port.old).can_add ≡ true }
+    requires member { (P.view port.old).member ≡ plain.now.identity.member }
+    requires bound { IsOnCard plain.now.setup.bindings (P.view port.old).geometry }
+    requires buffer { 1 ≤ plain.now.setup.config.buffer_size }
+    requires room { length ring.now ≡ plain.now.setup.config.buffer_size * length
+        plain.now.setup.bindings }
+    requires from_cursor { IsFrom (P.view port.old).marks.cursor (plain.now.stretch.card + number)
+        (least_channel plain.now.setup.bindings) }
+    requires ahead { plain.now.stretch.card + number
+        < (P.view port.old).seen + (P.view port.old).geometry.frames }
+    requires fits { plain.now.stretch.card + number < end_frame (P.view port.old).geometry }
+    ensures { TakesAt P.MixPort G.Gate (port.old, gate.old)
+        (lay_frame plain.now.identity.member (plain.now.stretch.card + number)
+        plain.now.setup.bindings (held plain.now ring.now number)) (port.new, gate.new)
+        (result.placed, result.ended) }
+{
+    let slot = held_from(plain, number);
+    for place in 0..plain.setup.bindings.len() {
+        let bound = bound_sample(&plain.setup.bindings, ring, slot, place);
+        match place_sample(port, gate, plain.stretch.card + number, bound) {
+            Ended::Whole => {}
+            ended => return Channels {
+                placed: place,
+                ended,
+            },
+        }
+    }
+    Channels {
+        placed: plain.setup.bindings.len(),
+        ended: Ended::Whole,
+    }
 }
 
 /// Lays `count` frames of the local ring, from the first that is not committed on, up to one that is late or stopped.
@@ -154,23 +188,8 @@ pub(crate) fn lay_frames<P: MixPort, G: Gate>(
     ensures { TakesAt P.MixPort G.Gate (port.old, gate.old) (commits plain.now ring.now count)
         (port.new, gate.new) result }
 {
-    let channels = plain.setup.bindings.len();
     for frame in 0..count {
-        let number = plain.stretch.committed + frame;
-        let slot = slot_of(
-            plain.stretch.source,
-            number,
-            plain.setup.config.buffer_size,
-            channels,
-        );
-        let samples = frame_of(ring, slot, channels);
-        let placed = place_frame(
-            port,
-            gate,
-            &plain.setup.bindings,
-            plain.stretch.card + number,
-            samples,
-        );
+        let placed = place_frame(port, gate, plain, ring, plain.stretch.committed + frame);
         match placed.ended {
             Ended::Whole => {}
             ended => {

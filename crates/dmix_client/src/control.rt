@@ -1,5 +1,5 @@
 //! The calls that start a stream and end it, as alsa-lib groups them.
-ghost use Rattle.std.specs.Prelude.{◌≡◌, ◌↔◌, ℕ, ◌<◌, ◌≤◌, true, false, Option};
+ghost use Rattle.std.specs.Prelude.{◌≡◌, ◌↔◌, ℕ, ◌<◌, ◌≤◌, true, false, OnOk, Option};
 ghost use Rattle.pcm_states.specs.declared.calls.Call.TheVariants as call;
 ghost use Rattle.snd_base.specs.Places.{end_frame};
 ghost use Rattle.course.specs.AtPort.{TakesAt};
@@ -46,6 +46,39 @@ pub(crate) fn begin<P: MixPort, G: Gate>(
     started(*plain, state, cursor, found.load, found.commit)
 }
 
+/// The start, to `state`, of a client that is prepared and has frames.
+fn start_all<P: MixPort, G: Gate>(
+    plain: &mut Plain,
+    ring: &[i16],
+    port: &mut P,
+    gate: &mut G,
+    state: State,
+) -> Result<(), PcmError>
+    requires sound { IsSound plain.old ring.now }
+    requires prepared { plain.old.status.state ≡ State.Prepared }
+    requires leads { is_moving state ≡ true }
+    requires port { CanUse plain.old (P.view port.old) }
+    ensures takes { TakesAt P.MixPort G.Gate (port.old, gate.old)
+        (starts plain.old state (P.view port.old).marks.cursor plain.old.stretch.written ring.now)
+        (port.new, gate.new) (plain.new, result) }
+    ensures keeps { Keeps P.MixPort G.Gate (port.old, gate.old) (port.new, gate.new)
+        (record { plain = plain.old; ring = ring.now })
+        (record { plain = plain.new; ring = ring.now }) result AnySamples }
+    ensures goes { OnOk result ((plain.new.status.state ≡ state)
+        × (plain.new.status.stopped ≡ plain.old.status.stopped)) }
+    ensures explains { Explains P.MixPort G.Gate (port.old, gate.old) (port.new, gate.new)
+        (record { plain = plain.old; ring = ring.now })
+        (λ position. started_in plain.old State.Running position (P.view port.old).marks.cursor)
+        (λ position. start_count plain.old (P.view port.old).marks.cursor position
+        plain.old.stretch.written) (started plain.old state (P.view port.old).marks.cursor)
+        (plain.new, result) }
+{
+    let upto = plain.stretch.written;
+    let (begun, answer) = begin(plain, ring, port, gate, state, upto);
+    *plain = begun;
+    answer
+}
+
 /// The start of a client that is prepared and has frames, and, where it went well, the sync of its drain.
 pub(crate) fn start_and_drain<P: MixPort, G: Gate>(
     plain: &mut Plain,
@@ -67,16 +100,8 @@ pub(crate) fn start_and_drain<P: MixPort, G: Gate>(
     ensures again { (result ≡ Err PcmError.Again)
         ↔ ((plain.new.status.state ≡ State.Draining) × (plain.new.status.stopped ≡ false)) }
 {
-    let (begun, answer) = begin(
-        plain,
-        ring,
-        port,
-        gate,
-        State::Draining,
-        plain.stretch.written,
-    );
-    *plain = begun;
-    if let Err(error) = answer {
+    let begun = start_all(plain, ring, port, gate, State::Draining);
+    if let Err(error) = begun {
         return Err(error);
     }
     sync_call(plain, ring, port, gate, Call::Drain)
@@ -118,10 +143,7 @@ impl Client {
             return Err(PcmError::Xrun(XrunWhy::Empty));
         }
         let ring = self.ring.as_slice();
-        let written = self.plain.stretch.written;
-        let (begun, answer) = begin(&self.plain, ring, port, gate, State::Running, written);
-        self.plain = begun;
-        answer
+        start_all(&mut self.plain, ring, port, gate, State::Running)
     }
 
     /// Plays what is written, and then stops the stream (`snd_pcm_drain` of a stream that doesn't wait).

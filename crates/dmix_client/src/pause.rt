@@ -1,6 +1,5 @@
 //! The call that pauses a stream and resumes it.
 ghost use Rattle.std.specs.Prelude.{◌≡◌, ℕ, ◌<◌, ◌≤◌, true, false, Option};
-ghost use Rattle.snd_base.specs.Places.{end_frame};
 ghost use Rattle.pcm_states.specs.declared.calls.Call.TheVariants as call;
 ghost use Rattle.course.specs.AtPort.{TakesAt};
 ghost use Rattle.pcm_stream.specs.Status.{refusal_of};
@@ -34,7 +33,16 @@ fn resume<P: MixPort, G: Gate>(
     ensures takes { TakesAt P.MixPort G.Gate (port.old, gate.old)
         (resumes plain.old (P.view port.old).marks.cursor ring.now) (port.new, gate.new)
         (plain.new, result) }
-    ensures near { (P.view port.old).marks.cursor.frame ≤ end_frame plain.old.identity.geometry }
+    ensures keeps { Keeps P.MixPort G.Gate (port.old, gate.old) (port.new, gate.new)
+        (record { plain = base_of plain.old plain.new; ring = ring.now })
+        (record { plain = plain.new; ring = ring.now }) result AnySamples }
+    ensures explains { Explains P.MixPort G.Gate (port.old, gate.old) (port.new, gate.new)
+        (record { plain = rebased plain.old; ring = ring.now })
+        (λ position. started_in (rebased plain.old) State.Running position
+        (P.view port.old).marks.cursor)
+        (λ position. start_count (rebased plain.old) (P.view port.old).marks.cursor position
+        (pending_of plain.old)) (resumed plain.old (P.view port.old).marks.cursor)
+        (plain.new, result) }
 {
     let cursor = port.cursor();
     let from = plain.rebased();

@@ -82,9 +82,16 @@ fn rewindable_running<P: MixPort, G: Gate>(
     requires running { plain.old.status.state ≡ State.Running }
     requires unstopped { plain.old.status.stopped ≡ false }
     requires port { CanUse plain.old (P.view port.old) }
-    ensures { TakesAt P.MixPort G.Gate (port.old, gate.old)
+    ensures takes { TakesAt P.MixPort G.Gate (port.old, gate.old)
         (numbered (rewindable_of (P.view port.old).marks.floor) (checks plain.old))
         (port.new, gate.new) (plain.new, result) }
+    ensures keeps { (ring : List ℤ) → IsSound plain.old ring →
+        Keeps P.MixPort G.Gate (port.old, gate.old) (port.new, gate.new)
+        (record { plain = plain.old; ring = ring }) (record { plain = plain.new; ring = ring })
+        result AnySamples }
+    ensures explains { ExplainsCheck P.MixPort G.Gate (port.old, gate.old) (port.new, gate.new)
+        plain.old (λ load. with_number (rewindable_of (P.view port.old).marks.floor)
+        (synced plain.old call.Transfer load nothing)) (plain.new, result) }
 {
     let floor = port.floor();
     let checked = check(plain, port, gate);
@@ -104,9 +111,14 @@ fn rewind_running<P: MixPort, G: Gate>(
     requires unstopped { plain.old.status.stopped ≡ false }
     requires port { CanUse plain.old (P.view port.old) }
     requires standing { P.ends_in port.old (held_entries plain.old ring.now) }
-    ensures { TakesAt P.MixPort G.Gate (port.old, gate.old)
+    ensures takes { TakesAt P.MixPort G.Gate (port.old, gate.old)
         (rewinds plain.old ring.now (P.view port.old).marks.floor frames) (port.new, gate.new)
         (plain.new, result) }
+    ensures keeps { KeepsBack P.MixPort G.Gate (port.old, gate.old) (port.new, gate.new)
+        (record { plain = plain.old; ring = ring.now })
+        (record { plain = plain.new; ring = ring.now }) result }
+    ensures explains { ExplainsRewind P.MixPort G.Gate (port.old, gate.old) (port.new, gate.new)
+        plain.old ring.now (P.view port.old).marks.floor frames (plain.new, result) }
 {
     let floor = port.floor();
     let checked = check(plain, port, gate);

@@ -4,6 +4,7 @@ ghost use Rattle.pcm_states.specs.declared.calls.Call.TheVariants as call;
 ghost use Rattle.course.specs.AtPort.{TakesAt};
 ghost use Rattle.pcm_stream.specs.Status.{is_moving, refusal_of};
 ghost use Rattle.pcm_stream.specs.declared.direction.Direction.{Direction};
+ghost use Rattle.dmix_client.specs.Asked.{number_of};
 ghost use Rattle.dmix_client.specs.Calls.{avail_answer, delay_answer, sync_count, synced, with_number};
 ghost use Rattle.dmix_client.specs.Causes.{Explains};
 ghost use Rattle.dmix_client.specs.Course.{admitted, number_course, sync_course, syncs};
@@ -14,11 +15,20 @@ ghost use Rattle.dmix_client.specs.View.{IsGoing, IsSound};
 use crate::client::Client;
 use crate::commit::look_and_commit;
 use crate::plain::Plain;
-use crate::steps::{synced, with_avail, with_delay};
+use crate::steps::{synced, with_number};
 use mix_core::{Gate, MixPort};
 use pcm_states::Call;
 use pcm_stream::Direction;
 use snd_base::PcmError;
+
+/// A number that a call answers after its sync.
+#[derive(Clone, Copy)]
+pub(crate) enum Asked {
+    /// The frames that a write can take.
+    Avail,
+    /// The frames from the position seen to the end of what is written.
+    Delay,
+}
 
 /// The sync of a client that moves frames.
 pub(crate) fn sync_call<P: MixPort, G: Gate>(
@@ -42,6 +52,9 @@ pub(crate) fn sync_call<P: MixPort, G: Gate>(
     ensures port { CanUse plain.new (P.view port.new) }
     ensures goes { OnOk result (IsGoing plain.new) }
     ensures same { KeepsAccepted plain.old plain.new }
+    ensures explains { Explains P.MixPort G.Gate (port.old, gate.old) (port.new, gate.new)
+        (record { plain = plain.old; ring = ring.now }) (λ position. plain.old)
+        (sync_count plain.old) (synced plain.old call) (plain.new, result) }
 {
     let found = look_and_commit(plain, ring, port, gate);
     let (after, answer) = synced(*plain, call, found.load, found.commit);
@@ -86,6 +99,41 @@ impl Client {
         sync_call(&mut self.plain, ring, port, gate, Call::Sync)
     }
 
+    /// Makes a `sync` and answers a number. It is refused as `sync` is.
+    fn ask<P: MixPort, G: Gate>(
+        &mut self,
+        port: &mut P,
+        gate: &mut G,
+        asked: Asked,
+    ) -> Result<u64, PcmError>
+        requires { CanUse self.old.plain (P.view port.old) }
+        ensures takes { TakesAt P.MixPort G.Gate (port.old, gate.old)
+            (admitted self.old.plain call.Sync
+            (number_course (number_of asked) self.old.plain self.old.ring)) (port.new, gate.new)
+            (self.new.plain, result) }
+        ensures refused { (e : PcmError) →
+            refusal_of Direction.Playback self.old.plain.status call.Sync ≡ Some e →
+            (result ≡ Err e) × (self.new ≡ self.old) × (port.new ≡ port.old)
+            × (gate.new ≡ gate.old) }
+        ensures ring { self.new.ring ≡ self.old.ring }
+        ensures keeps { Keeps P.MixPort G.Gate (port.old, gate.old) (port.new, gate.new) self.old
+            self.new result AnySamples }
+        ensures causes { refusal_of Direction.Playback self.old.plain.status call.Sync ≡ None →
+            is_moving self.old.plain.status.state ≡ true →
+            Explains P.MixPort G.Gate (port.old, gate.old) (port.new, gate.new) self.old
+            (λ position. self.old.plain) (sync_count self.old.plain)
+            (λ load commit. with_number (number_of asked) (synced self.old.plain call.Sync load commit))
+            (self.new.plain, result) }
+    {
+        self.plain.status.admit(Direction::Playback, Call::Sync)?;
+        if !self.plain.status.is_moving() {
+            return Ok(self.plain.number(asked));
+        }
+        let ring = self.ring.as_slice();
+        let answer = sync_call(&mut self.plain, ring, port, gate, Call::Sync);
+        with_number(&self.plain, asked, answer)
+    }
+
     /// Makes a `sync` and answers the frames that a write can take (`snd_pcm_avail`, which syncs as this does, and not
     /// `snd_pcm_avail_update`): the buffer size, less what is written and not played. It may exceed the buffer size. Where
     /// the sync ended in SETUP it is the buffer size. It is refused as `sync` is.
@@ -113,13 +161,7 @@ impl Client {
             (λ load commit. with_number avail_answer (synced self.old.plain call.Sync load commit))
             (self.new.plain, result) }
     {
-        self.plain.status.admit(Direction::Playback, Call::Sync)?;
-        if !self.plain.status.is_moving() {
-            return Ok(self.plain.avail_answer());
-        }
-        let ring = self.ring.as_slice();
-        let answer = sync_call(&mut self.plain, ring, port, gate, Call::Sync);
-        with_avail(&self.plain, answer)
+        self.ask(port, gate, Asked::Avail)
     }
 
     /// Makes a `sync` and answers how many frames are left from the position seen to the end of what is written
@@ -149,12 +191,6 @@ impl Client {
             (λ load commit. with_number delay_answer (synced self.old.plain call.Sync load commit))
             (self.new.plain, result) }
     {
-        self.plain.status.admit(Direction::Playback, Call::Sync)?;
-        if !self.plain.status.is_moving() {
-            return Ok(self.plain.delay_answer());
-        }
-        let ring = self.ring.as_slice();
-        let answer = sync_call(&mut self.plain, ring, port, gate, Call::Sync);
-        with_delay(&self.plain, answer)
+        self.ask(port, gate, Asked::Delay)
     }
 }

@@ -1,12 +1,14 @@
 //! What a client is after each part of a call, by what the part found.
 ghost use Rattle.std.specs.Prelude.{◌≡◌, ℕ, ◌+◌, ◌*◌, ◌^◌, ◌<◌, ◌≤◌, IfSome, OnOk, length, unwrap_or};
 ghost use Rattle.dmix_client.specs.Calls.{in_state, waiting, draining, has_frames, with_number, configured_with, dropped, freed, opened, accepted, accepted_if, written_after, avail_answer, commit_count, committed_by, delay_answer, facts_of, found_at, going_on, is_stop, late_of, over_of, paused, pending_of, prepared, rebased, resumed, seen_at, segment_of, settled, start_count, start_frame, started, started_in, stopped_in, sync_count, synced, taken_of, window_end};
+ghost use Rattle.dmix_client.specs.Asked.{number_of};
 ghost use Rattle.mix_core.specs.Port.{OnLate};
 ghost use Rattle.dmix_client.specs.Writes.{count_with};
 ghost use Rattle.dmix_client.specs.View.{IsReady, IsReadyAt, avail_of, hw_of, queued_of};
 
 use crate::commit::Commit;
 use crate::plain::{Identity, Plain, Stretch};
+use crate::status::Asked;
 use bindings::Bindings;
 use hw_space::Config;
 use mix_core::{Ended, Position};
@@ -534,25 +536,35 @@ impl Plain {
     }
 }
 
-/// The frames available after a sync that went well.
-pub(crate) fn with_avail(plain: &Plain, answer: Result<(), PcmError>) -> Result<u64, PcmError>
-    requires { OnOk answer ((plain.now.status.state ≡ State.Setup → ⊥) → IsReady plain.now) }
-    ensures { with_number avail_answer (plain.now, answer) ≡ (plain.now, result) }
-{
-    match answer {
-        Ok(()) => Ok(plain.avail_answer()),
-        Err(error) => Err(error),
+impl Plain {
+    /// The number that a call answers after its sync.
+    pub(crate) fn number(&self, asked: Asked) -> u64
+        requires ready { (self.now.status.state ≡ State.Setup → ⊥) → IsReady self.now }
+        requires fits { (self.now.status.state ≡ State.Setup → ⊥) →
+            self.now.stretch.card + self.now.stretch.written < 2 ^ 64 }
+        ensures { result ≡ number_of asked self.now }
+    {
+        match asked {
+            Asked::Avail => self.avail_answer(),
+            Asked::Delay => self.delay_answer(),
+        }
     }
 }
 
-/// The frames until the end of what is written, after a sync that went well.
-pub(crate) fn with_delay(plain: &Plain, answer: Result<(), PcmError>) -> Result<u64, PcmError>
-    requires { OnOk answer ((plain.now.status.state ≡ State.Setup → ⊥) →
+/// The number that was asked for, after a sync that went well.
+pub(crate) fn with_number(
+    plain: &Plain,
+    asked: Asked,
+    answer: Result<(), PcmError>,
+) -> Result<u64, PcmError>
+    requires ready { OnOk answer ((plain.now.status.state ≡ State.Setup → ⊥) →
+        IsReady plain.now) }
+    requires fits { OnOk answer ((plain.now.status.state ≡ State.Setup → ⊥) →
         plain.now.stretch.card + plain.now.stretch.written < 2 ^ 64) }
-    ensures { with_number delay_answer (plain.now, answer) ≡ (plain.now, result) }
+    ensures { with_number (number_of asked) (plain.now, answer) ≡ (plain.now, result) }
 {
     match answer {
-        Ok(()) => Ok(plain.delay_answer()),
+        Ok(()) => Ok(plain.number(asked)),
         Err(error) => Err(error),
     }
 }

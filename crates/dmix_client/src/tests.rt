@@ -1,3 +1,6 @@
+ghost use Rattle.std.specs.Prelude.{◌≡◌, []};
+ghost use Rattle.dmix_client.specs.Growth.{IsBacked};
+
 use super::*;
 use bindings::Bindings;
 use hw_space::Config;
@@ -437,24 +440,76 @@ struct TakenBack {
     answer: Result<u64, PcmError>,
 }
 
-/// A new client writes some frames and takes some back, by a gate.
+/// At a port without standing adds these end in the segment of a client that wrote nothing. A fact for contracts.
+fn backs_nothing<P: MixPort, G: Gate>(_port: &P, _gate: &G, _client: &Client, _samples: &[i16])
+    requires nothing { P.ends_in _port.now [] }
+    requires written { _client.now.plain.stretch.written ≡ 0 }
+    requires committed { _client.now.plain.stretch.committed ≡ 0 }
+    requires part { _client.now.plain.stretch.part ≡ 0 }
+    ensures { IsBacked P.ends_in _port.now _client.now _samples.now }
+{}
+
+/// Writes what is left of some samples of one channel, at a port whose standing adds end in the client's segment of them.
+fn write_rest<P: MixPort>(
+    rt: &impl Abort,
+    port: &mut P,
+    client: &mut Client,
+    samples: &[i16],
+) -> Result<u32, PcmError>
+    requires { IsBacked P.ends_in port.old client.old samples.now }
+    ensures { IsBacked P.ends_in port.new client.new samples.now }
+{
+    client.counts_are_sound();
+    let Some(config) = client.config() else {
+        return Err(PcmError::BadState);
+    };
+    assert!(rt; config.channels == 1);
+    assert!(rt; client.segment().source == 0);
+    assert!(rt; client.fed() <= samples.len() as u64);
+    let rest = &samples[client.fed() as usize..];
+    assert!(rt; client.can_use(port));
+    assert!(rt; client.can_offer(rest));
+    client.writei(port, &mut NeverStops, rest)
+}
+
+/// Takes frames back, at such a port.
+fn rewind<P: MixPort, G: Gate>(
+    rt: &impl Abort,
+    port: &mut P,
+    client: &mut Client,
+    gate: &mut G,
+    samples: &[i16],
+    frames: u64,
+) -> Result<u64, PcmError>
+    requires { IsBacked P.ends_in port.old client.old samples.now }
+    ensures { IsBacked P.ends_in port.new client.new samples.now }
+{
+    let _ = samples;
+    client.counts_are_sound();
+    assert!(rt; client.can_use(port));
+    client.rewind(port, gate, frames)
+}
+
+/// A new client writes some frames and takes some back, by a gate. Then it may write them again, and take more back.
 fn take_back<G: Gate>(
     rt: &impl Abort,
     alloc: Global,
     gate: &mut G,
     samples: &[i16],
     frames: u64,
+    more: Option<u64>,
 ) -> Result<TakenBack, PcmError> {
     let mut core = Core::new(alloc, RING, 1)?;
     let mut client = Client::new(alloc, RING, 0, 64);
     client.hw_params(alloc, MONO, Bindings::identity(1))?;
     let mut turn = core.turn(0);
-    assert!(rt; client.can_use(&turn));
-    assert!(rt; client.can_offer(samples));
-    client.writei(&mut turn, &mut NeverStops, samples)?;
-    client.counts_are_sound();
-    assert!(rt; client.can_use(&turn));
-    let answer = client.rewind(&mut turn, gate, frames);
+    backs_nothing(&turn, gate, &client, samples);
+    write_rest(rt, &mut turn, &mut client, samples)?;
+    let mut answer = rewind(rt, &mut turn, &mut client, gate, samples, frames);
+    if let Some(frames) = more {
+        write_rest(rt, &mut turn, &mut client, samples)?;
+        answer = rewind(rt, &mut turn, &mut client, gate, samples, frames);
+    }
     Ok(TakenBack {
         core,
         client,
@@ -462,11 +517,20 @@ fn take_back<G: Gate>(
     })
 }
 
-// A rewind of half of what is written leaves the first half in the card's ring.
+/// The next frames that the card takes are these.
+fn takes(rt: &impl Abort, core: &mut Core, expected: &[i16]) -> Result<(), PcmError> {
+    for value in expected {
+        assert_eq!(rt; core.take()?.value, *value);
+    }
+    Ok(())
+}
+
+// A rewind of half of a ramp leaves its first half in the card's ring: 1 to 32 at frames 64 to 95, and silence elsewhere.
 #[test]
 fn a_rewind_leaves_the_first_half(rt: HostRuntime) -> Result<(), Fail> {
-    let samples = [100; 64];
-    let mut taken = take_back(&rt, rt.alloc(), &mut NeverStops, &samples, 32)?;
+    let mut samples = [0; 64];
+    ramp(&mut samples);
+    let mut taken = take_back(&rt, rt.alloc(), &mut NeverStops, &samples, 32, None)?;
     assert_eq!(rt; taken.answer, Ok(32));
     assert_eq!(rt; taken.client.state(), State::Running);
     assert_eq!(rt; taken.client.seen(), Some(0));
@@ -478,9 +542,11 @@ fn a_rewind_leaves_the_first_half(rt: HostRuntime) -> Result<(), Fail> {
     };
     assert_eq!(rt; taken.client.segment(), laid);
     assert_eq!(rt; taken.client.fed(), 32);
-    assert_eq!(rt; heard(&mut taken.core, 64), Ok(0));
-    assert_eq!(rt; heard(&mut taken.core, 32), Ok(32));
-    assert_eq!(rt; heard(&mut taken.core, 160), Ok(0));
+    takes(&rt, &mut taken.core, &[0; 64])?;
+    let mut left = [0; 32];
+    ramp(&mut left);
+    takes(&rt, &mut taken.core, &left)?;
+    takes(&rt, &mut taken.core, &[0; 160])?;
     Ok(())
 }
 
@@ -492,7 +558,7 @@ fn a_rewind_that_is_stopped_leaves_the_rest(rt: HostRuntime) -> Result<(), Fail>
         left: 4,
         stopped: false,
     };
-    let mut taken = take_back(&rt, rt.alloc(), &mut gate, &samples, 32)?;
+    let mut taken = take_back(&rt, rt.alloc(), &mut gate, &samples, 32, None)?;
     assert_eq!(rt; taken.answer, Err(PcmError::Stopped));
     assert_eq!(rt; taken.client.state(), State::Running);
     assert!(rt; taken.client.is_stopped());
@@ -508,14 +574,14 @@ fn a_rewind_that_is_stopped_leaves_the_rest(rt: HostRuntime) -> Result<(), Fail>
     Ok(())
 }
 
-// Frames that were written over withdrawn ones aren't withdrawn again: a half is taken back and written anew, and then
-// nothing can be taken back.
+// Frames that were written over withdrawn ones aren't withdrawn again: a half of a ramp is taken back and written anew, and
+// then nothing can be taken back. The whole ramp stays in the card's ring.
 #[test]
 fn frames_that_were_taken_back_once_stay(rt: HostRuntime) -> Result<(), Fail> {
-    let samples = [100; 64];
-    let mut taken = take_back(&rt, rt.alloc(), &mut NeverStops, &samples, 32)?;
-    let wrote = write(&rt, &mut taken.core, &mut taken.client, &samples[32..]);
-    assert_eq!(rt; wrote, Ok(32));
+    let mut samples = [0; 64];
+    ramp(&mut samples);
+    let mut taken = take_back(&rt, rt.alloc(), &mut NeverStops, &samples, 32, Some(1))?;
+    assert_eq!(rt; taken.answer, Ok(0));
     let more = rewindable(&rt, &mut taken.core, &mut taken.client);
     assert_eq!(rt; more, Ok(0));
     let laid = Segment {
@@ -525,7 +591,10 @@ fn frames_that_were_taken_back_once_stay(rt: HostRuntime) -> Result<(), Fail> {
         part: 0,
     };
     assert_eq!(rt; taken.client.segment(), laid);
-    assert_eq!(rt; heard(&mut taken.core, 256), Ok(64));
+    assert_eq!(rt; taken.client.fed(), 64);
+    takes(&rt, &mut taken.core, &[0; 64])?;
+    takes(&rt, &mut taken.core, &samples)?;
+    takes(&rt, &mut taken.core, &[0; 128])?;
     Ok(())
 }
 

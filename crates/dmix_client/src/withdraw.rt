@@ -1,16 +1,16 @@
 //! Frames are withdrawn from the card's ring through a port, the last one first.
-ghost use Rattle.std.specs.Prelude.{◌≡◌, ℕ, ◌+◌, ◌-◌, ◌*◌, ◌%◌, ◌^◌, ◌<◌, ◌≤◌, [], ◌∷◌, pos, length, slice_index_or};
+ghost use Rattle.std.specs.Prelude.{◌≡◌, ℕ, ◌+◌, ◌-◌, ◌*◌, ◌%◌, ◌^◌, ◌<◌, ◌≤◌, [], ◌∷◌, length};
 ghost use Rattle.snd_base.specs.Places.{IsFrom};
 ghost use Rattle.mix_core.specs.Laid.{a_withdrawal, an_add};
+ghost use Rattle.bindings.specs.Bound.{AreBindings};
 ghost use Rattle.course.specs.AtPort.{LaysAt, TakesAt};
 ghost use Rattle.dmix_client.specs.Expansion.{frame_entries, run_entries};
 ghost use Rattle.dmix_client.specs.Port.{IsOnCard, least_channel};
 ghost use Rattle.dmix_client.specs.Rewind.{left_of, take_each, take_frames};
 ghost use Rattle.dmix_client.specs.View.{held};
 
-use crate::commit::{Commit, frame_of, slot_of};
+use crate::commit::{BoundSample, Commit, bound_sample, held_from};
 use crate::plain::Plain;
-use bindings::Bindings;
 use mix_core::{Ended, Gate, MixPort};
 
 /// How many channels of a frame are left, by rising card channel, and why no more were withdrawn.
@@ -25,40 +25,47 @@ fn take_sample<P: MixPort, G: Gate>(
     port: &mut P,
     gate: &mut G,
     frame: u64,
-    channel: u8,
-    sample: i16,
+    bound: BoundSample,
 ) -> Ended
-    requires last { P.ends_in port.old (an_add (P.view port.old).member frame channel sample ∷ []) }
-    requires from_floor { IsFrom (P.view port.old).marks.floor frame channel }
+    requires last { P.ends_in port.old
+        (an_add (P.view port.old).member frame bound.channel bound.sample ∷ []) }
+    requires from_floor { IsFrom (P.view port.old).marks.floor frame bound.channel }
     ensures { LaysAt P.MixPort G.Gate (port.old, gate.old)
-        (a_withdrawal (P.view port.old).member frame channel sample) result (port.new, gate.new) }
+        (a_withdrawal (P.view port.old).member frame bound.channel bound.sample) result
+        (port.new, gate.new) }
 {
-    Ended::of(port.withdraw(gate, frame, channel, sample))
+    Ended::of(port.withdraw(gate, frame, bound.channel, bound.sample))
 }
 
-/// Withdraws the samples of one frame, one for each client channel, by falling card channel.
+/// Withdraws the samples of the client's frame `number`, by falling card channel.
 fn take_frame<P: MixPort, G: Gate>(
     port: &mut P,
     gate: &mut G,
-    bindings: &Bindings,
-    frame: u64,
-    samples: &[i16],
+    plain: &Plain,
+    ring: &[i16],
+    number: u64,
 ) -> Left
-    requires bound { IsOnCard bindings.now (P.view port.old).geometry }
-    requires samples { length samples.now ≡ length bindings.now }
-    requires from_floor { IsFrom (P.view port.old).marks.floor frame (least_channel bindings.now) }
+    requires member { (P.view port.old).member ≡ plain.now.identity.member }
+    requires bound { AreBindings plain.now.setup.bindings }
+    requires buffer { 1 ≤ plain.now.setup.config.buffer_size }
+    requires room { length ring.now ≡ plain.now.setup.config.buffer_size * length
+        plain.now.setup.bindings }
+    requires fits { plain.now.stretch.card + number < 2 ^ 64 }
+    requires from_floor { IsFrom (P.view port.old).marks.floor (plain.now.stretch.card + number)
+        (least_channel plain.now.setup.bindings) }
     requires held { P.ends_in port.old
-        (frame_entries (P.view port.old).member bindings.now
-        (λ q. slice_index_or samples.now q (pos 0)) (length bindings.now) frame) }
+        (frame_entries plain.now.identity.member plain.now.setup.bindings
+        (held plain.now ring.now number) (length plain.now.setup.bindings)
+        (plain.now.stretch.card + number)) }
     ensures { TakesAt P.MixPort G.Gate (port.old, gate.old)
-        (take_each (P.view port.old).member frame bindings.now
-        (λ q. slice_index_or samples.now q (pos 0)) (length bindings.now)) (port.new, gate.new)
-        (result.channels, result.ended) }
+        (take_each plain.now.identity.member (plain.now.stretch.card + number)
+        plain.now.setup.bindings (held plain.now ring.now number)
+        (length plain.now.setup.bindings)) (port.new, gate.new) (result.channels, result.ended) }
 {
-    for place in (0..bindings.len()).rev() {
-        let client = bindings.rising(place);
-        let channel = bindings.card_channel(client);
-        match take_sample(port, gate, frame, channel, samples[client as usize]) {
+    let slot = held_from(plain, number);
+    for place in (0..plain.setup.bindings.len()).rev() {
+        let bound = bound_sample(&plain.setup.bindings, ring, slot, place);
+        match take_sample(port, gate, plain.stretch.card + number, bound) {
             Ended::Whole => {}
             ended => return Left {
                 channels: place + 1,
@@ -122,21 +129,7 @@ pub(crate) fn take_frames<P: MixPort, G: Gate>(
     let channels = plain.setup.bindings.len();
     let first = plain.stretch.committed - count;
     for frame in (0..count).rev() {
-        let number = first + frame;
-        let slot = slot_of(
-            plain.stretch.source,
-            number,
-            plain.setup.config.buffer_size,
-            channels,
-        );
-        let samples = frame_of(ring, slot, channels);
-        let left = take_frame(
-            port,
-            gate,
-            &plain.setup.bindings,
-            plain.stretch.card + number,
-            samples,
-        );
+        let left = take_frame(port, gate, plain, ring, first + frame);
         match left.ended {
             Ended::Whole => {}
             ended => return left_of(frame, left.channels, channels, ended),

@@ -209,13 +209,13 @@ fn few_frames(answer: Result<u64, PcmError>) -> Result<u32, PcmError>
     }
 }
 
-/// How many whole frames of so many channels there are in some samples.
-fn whole_frames(samples: &[i16], channels: u8) -> u64
-    requires { 1 ≤ channels }
-    ensures value { result ≡ length samples.now / channels }
-    ensures held { result * channels ≤ length samples.now }
+/// How many whole frames of a client there are in some samples.
+fn whole_frames(plain: &Plain, samples: &[i16]) -> u64
+    ensures value { result ≡ frames_in plain.now samples.now }
+    ensures held { result * length plain.now.setup.bindings ≤ length samples.now }
 {
-    (samples.len() / channels as usize) as u64
+    let channels = plain.setup.bindings.len() as usize;
+    (samples.len() / channels) as u64
 }
 
 impl Client {
@@ -279,7 +279,7 @@ impl Client {
         self.plain
             .status
             .admit(Direction::Playback, Call::Transfer)?;
-        let frames = whole_frames(samples, self.plain.setup.bindings.len());
+        let frames = whole_frames(&self.plain, samples);
         let ring = self.ring.as_mut_slice();
         if self.plain.status.state == State::Running {
             let answer = write_running(&mut self.plain, ring, port, gate, samples, frames);

@@ -1,5 +1,5 @@
 //! The reader: a PCM stream for capture that shares the card's frames with others.
-ghost use Rattle.std.specs.Prelude.{◌≡◌, ℕ, IfErr, OnErr, OnOk, ◌⊎◌};
+ghost use Rattle.std.specs.Prelude.{◌≡◌, ◌≤◌, ℕ, IfErr, OnErr, OnOk, length, ◌⊎◌};
 ghost use Rattle.pcm_states.specs.declared.calls.Call.TheVariants as call;
 ghost use Rattle.pcm_stream.specs.Setup.{CanRunWith, Checks, config_of};
 ghost use Rattle.pcm_stream.specs.Status.{refusal_of};
@@ -86,6 +86,22 @@ impl Reader {
         ensures { result ≡ self.now.seen }
     {
         self.plain.seen
+    }
+
+    /// The frame that the next read begins with, a frame number: once the stream was started, the one behind those that it
+    /// read.
+    pub fn next(&self) -> u64
+        ensures { result ≡ self.now.next }
+    {
+        self.plain.next
+    }
+
+    /// How many channels the stream has: as many as its bindings, and one before there are any.
+    pub fn channels(&self) -> u8
+        ensures value { result ≡ length self.now.setup.bindings }
+        ensures some { 1 ≤ result }
+    {
+        self.plain.setup.bindings.len()
     }
 
     /// Sets the configuration and the bindings, takes the memory for one frame of the card, sets the default software

@@ -1,7 +1,7 @@
 -- What a line of an open client is answered, as a run has it.
 use Rattle.std.proofs.Common.{◌≡◌, ℕ, List, [], ◌++◌, refl, sym, ◌∙◌, ap, subst}
 use Rattle.std.proofs.lemmas.List.{append-nil}
-use Rattle.std.specs.Prelude.{◌&&◌, not, Bool, true, false, ℤ, Option, Some, if◌then◌else◌}
+use Rattle.std.specs.Prelude.{◌&&◌, not, Bool, true, false, Option, Some, if◌then◌else◌}
 use Rattle.snd_base.specs.declared.errors.PcmError.{PcmError}
 use Rattle.snd_base.specs.declared.errors.PcmError.TheVariants.{Stopped}
 use Rattle.snd_base.specs.declared.geometry.Geometry.{Geometry}
@@ -18,7 +18,7 @@ use Rattle.lab_script.specs.declared.line.Op.TheVariants as op
 use Rattle.lab_report.specs.declared.row.Answer.{Answer}
 use Rattle.lab_report.specs.declared.row.Answer.TheVariants.{Done, Failed}
 use Rattle.lab_run.specs.ActorPart.{Doing}
-use Rattle.lab_run.specs.Client.{Client, ended_by, stretch_of}
+use Rattle.lab_run.specs.Client.{ended_by, stretch_of}
 use Rattle.lab_run.specs.ClientAtPort.{ClientLinesAreParts, ClientLinesWithoutCall, IsClientLine}
 use Rattle.lab_run.specs.Members.{with_member}
 use Rattle.lab_run.specs.PortSteps.{IsAtPort}
@@ -45,7 +45,7 @@ ended_by-test other answer c d = refl
 
 module _ {S T : Type 0} (P : mixport.Ghosts S) (composes : Composes P.laid) (left : T → Option ℕ) (by_gate : T → ℕ) where
   pub answered-call : (G : gates.Ghosts T) → ((first : S) (ring : Geometry) (from : ℕ) → ClientLinesAreParts P G left by_gate first ring from)
-      → (s t : S × T) (wav : Sound) (c d : ClientView) (asked : Op) (answer : Answer) → CanCall c.plain asked → HasCalled P G s t wav c d asked answer
+      → (s t : S × T) (wav : Sound) (c d : ClientView) (asked : Op) (answer : Answer) → CanCall c.plain.status.stopped asked → HasCalled P G s t wav c d asked answer
       → HasAnswered P left by_gate s t wav c d asked answer
   answered-call G parts s t wav c d asked answer can called = record {
     line = λ phase number ended first ring from before at.

@@ -1,5 +1,5 @@
 -- One ask of a gate that counts down.
-use Rattle.std.proofs.Common.{◌≡◌, ℕ, ◌+◌, List, [], ◌∷◌, refl, sym, ◌∙◌, ap, subst, arith}
+use Rattle.std.proofs.Common.{◌≡◌, ℕ, ◌+◌, [], ◌∷◌, refl, sym, ◌∙◌, ap, subst, arith}
 use Rattle.std.proofs.lemmas.Bool.Decides.{nat_tests}
 use Rattle.std.specs.Prelude.{◌-◌, Bool, true, false, Option, Some, None}
 use Rattle.mix_core.specs.declared.gate.Pass.{Pass}
@@ -7,7 +7,7 @@ use Rattle.mix_core.specs.declared.gate.Pass.TheVariants.{Go, Stop}
 use Rattle.mix_core.specs.declared.gate.StepKind.{StepKind}
 use Rattle.mix_core.specs.declared.gate.StepKind.TheVariants.{Again, Exchange, Look, Position}
 use Rattle.mix_core.specs.Gate.{stops_after}
-use Rattle.lab_run.specs.PortSteps.{IsAnswered, counted, is_counted, stop_at, with_gate}
+use Rattle.lab_run.specs.PortSteps.{IsAnswered, counted, is_counted, stop_at}
 use Rattle.lab_run.specs.Rules.{AtPort, left_after, lets_pass, with_asks, with_gate_stop, with_stop, with_stop_by}
 use Rattle.lab_actor.specs.declared.countdown.Countdown.{Countdown}
 use Rattle.lab_actor.specs.Countdown.{CountsAsks, IsSameGate, by_gate_of, left_of}

@@ -15,7 +15,7 @@ use Rattle.mix_core.specs.PortLaws.{standing-adds}
 use Rattle.dmix_client.specs.declared.plain.Plain.{Plain}
 use Rattle.dmix_client.specs.Calls.{segment_of}
 use Rattle.dmix_client.specs.Expansion.{run_entries, sample_at}
-use Rattle.dmix_client.specs.Growth.{Grows, Loses, TakesAway, segment_entries}
+use Rattle.dmix_client.specs.Growth.{Grows, Loses, segment_entries}
 use Rattle.lab_run.specs.Client.{stretch_of}
 use Rattle.lab_actor.specs.ClientLines.{Extends, entries_by, stretches_entries}
 use Rattle.lab_actor.proofs.Adds.{AreAdds-suffix, segment-adds}

@@ -1,8 +1,7 @@
 -- The call that a line names, from what the client's call says.
-use Rattle.std.proofs.Common.{◌≡◌, ℕ, ◌≤◌, ◌+◌, List, [], ◌++◌, refl, sym, ◌∙◌, ap, subst, arith, length, inl, inr}
-use Rattle.std.proofs.lemmas.Bool.Decides.{nat_tests}
+use Rattle.std.proofs.Common.{◌≡◌, ℕ, ◌≤◌, List, [], ◌++◌, refl, sym, ◌∙◌, ap, subst, length, inl, inr}
 use Rattle.std.proofs.lemmas.List.{append-nil}
-use Rattle.std.specs.Prelude.{◌⊎◌, ◌-◌, ◌&&◌, not, Bool, true, false, ℤ, min, Result, Ok, Err, Option, Some, None, ⊤, if◌then◌else◌}
+use Rattle.std.specs.Prelude.{◌⊎◌, ◌&&◌, not, Bool, true, false, ℤ, Result, Ok, Err, Option, Some, None, if◌then◌else◌}
 use Rattle.std.specs.List.{flat_map}
 use Rattle.snd_base.specs.declared.errors.PcmError.{PcmError}
 use Rattle.snd_base.specs.declared.errors.PcmError.TheVariants.{BadState}
@@ -14,7 +13,7 @@ use Rattle.mix_core.specs.declared.port.MixPort as mixport
 use Rattle.mix_core.specs.Laid.{AreAdds}
 use Rattle.wav_io.specs.Sound.{Sound}
 use Rattle.course.specs.AtPort.{LaysAt, LoadsAt, NoGet, TakesAt}
-use Rattle.course.specs.Course.{◌>>=◌, Course, ends}
+use Rattle.course.specs.Course.{Course, ends}
 use Rattle.course.specs.CourseLaws.{Takes-map}
 use Rattle.pcm_states.specs.declared.states.State.{State}
 use Rattle.pcm_states.specs.declared.states.State.TheVariants.{Paused, Setup}
@@ -25,7 +24,7 @@ use Rattle.pcm_stream.specs.declared.direction.Direction.TheVariants.{Playback}
 use Rattle.dmix_client.specs.declared.plain.Plain.{Plain}
 use Rattle.dmix_client.specs.Calls.{Answered, base_of, dropped, in_state, is_paused, paused, prepared, rebased}
 use Rattle.dmix_client.specs.Course.{admitted, admitted_by}
-use Rattle.dmix_client.specs.Growth.{AnySamples, Follows, IsBacked, Keeps, KeepsBack, segment_entries}
+use Rattle.dmix_client.specs.Growth.{AnySamples, IsBacked, Keeps, KeepsBack, segment_entries}
 use Rattle.dmix_client.specs.StandingLaws.{IsBacked-back, IsBacked-grows, IsBacked-new, IsBacked-rebased}
 use Rattle.dmix_client.specs.View.{ClientView, IsSound}
 use Rattle.lab_script.specs.declared.line.Op.{Op}
@@ -34,7 +33,7 @@ use Rattle.lab_report.specs.declared.row.Answer.{Answer}
 use Rattle.lab_report.specs.declared.row.Answer.TheVariants.{Done, Failed}
 use Rattle.lab_run.specs.Client.{answered, done_answer, ended_by, frames_of, reported, stretch_of}
 use Rattle.lab_run.specs.ClientAtPort.{IsOffered, made_call}
-use Rattle.lab_actor.specs.ClientLines.{Extends, HasCalled, IsReady, entries_by, stretches_entries}
+use Rattle.lab_actor.specs.ClientLines.{Extends, HasCalled, IsReady, entries_by}
 use Rattle.lab_actor.proofs.Away.{Extends-back, Extends-grows, Extends-joined, Extends-still, stretch-entries}
 
 module _ {S T : Type 0} (P : mixport.Ghosts S) (G : gates.Ghosts T) (composes : Composes P.laid)

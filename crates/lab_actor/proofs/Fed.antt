@@ -1,7 +1,7 @@
 -- How many frames a client has accepted after a call: at most those that it was offered are more.
-use Rattle.std.proofs.Common.{◌≡◌, ℕ, ◌≤◌, ◌+◌, refl, subst, sym, ap, ◌∙◌, arith, zero, suc}
+use Rattle.std.proofs.Common.{◌≡◌, ℕ, ◌≤◌, ◌+◌, refl, subst, arith, zero, suc}
 use Rattle.std.proofs.lemmas.Bool.Decides.{nat_tests}
-use Rattle.std.specs.Prelude.{◌-◌, Bool, true, false, ℤ, List, length, Option, Some, None, Result, Ok, Err, if◌then◌else◌, min, nat_lt, nat_eq, nat_le, ◌&&◌}
+use Rattle.std.specs.Prelude.{◌-◌, Bool, true, false, ℤ, List, length, Option, Some, None, Result, Ok, Err, if◌then◌else◌, min, nat_lt, nat_eq, ◌&&◌}
 use Rattle.snd_base.specs.declared.errors.PcmError.{PcmError}
 use Rattle.snd_base.specs.declared.errors.PcmError.TheVariants.{Again}
 use Rattle.snd_base.specs.declared.places.Cursor.{Cursor}
@@ -14,14 +14,14 @@ use Rattle.pcm_states.specs.declared.calls.Outcome.{Outcome}
 use Rattle.pcm_states.specs.declared.states.State.{State}
 use Rattle.pcm_states.specs.declared.states.State.TheVariants.{Prepared, Running}
 use Rattle.pcm_states.specs.Table.{next_of}
-use Rattle.course.specs.Course.{◌>>=◌, Course, ends}
+use Rattle.course.specs.Course.{Course, ends}
 use Rattle.pcm_stream.specs.Status.{refusal_of, is_moving}
 use Rattle.pcm_stream.specs.declared.direction.Direction.TheVariants.{Playback}
 use Rattle.dmix_client.specs.declared.commit.Commit.{Commit}
 use Rattle.dmix_client.specs.declared.plain.Plain.{Plain}
-use Rattle.dmix_client.specs.Calls.{Answered, accepted, accepted_if, committed_by, draining, dropped, found_at, going_on, going_on_by, has_frames, is_running, is_stop, late_at, late_of, paused, pending_of, prepared, rebased, resumed, seen_at, settled, started, started_in, stopped_in, synced, taken_of, with_number, written_after}
-use Rattle.dmix_client.specs.Course.{admitted, admitted_by, drain_course, drain_on, drains, fills, looks, number_course, numbered, pause_course, resumes, start_course, starts, starts_taking, sync_course, syncs, takes_more, write_course, write_on, writes_on}
-use Rattle.dmix_client.specs.Rewind.{back_of, back_on, checks, last_channel, last_laid, left_of, rewind_course, rewind_on, rewindable_course, rewindable_of, rewinds, rewound, take_each, take_frames, taken_back, takes_back, without}
+use Rattle.dmix_client.specs.Calls.{Answered, accepted_if, committed_by, draining, found_at, going_on, going_on_by, has_frames, is_running, is_stop, late_at, late_of, pending_of, rebased, resumed, seen_at, settled, started, started_in, stopped_in, synced, taken_of, with_number, written_after}
+use Rattle.dmix_client.specs.Course.{admitted, admitted_by, drain_course, drain_on, drains, fills, number_course, numbered, pause_course, resumes, start_course, starts, starts_taking, sync_course, syncs, takes_more, write_course, write_on, writes_on}
+use Rattle.dmix_client.specs.Rewind.{back_of, back_on, checks, last_channel, last_laid, left_of, rewind_course, rewind_on, rewindable_course, rewindable_of, rewinds, rewound, take_frames, taken_back, takes_back, without}
 use Rattle.dmix_client.specs.View.{IsSound, avail_of}
 use Rattle.dmix_client.specs.Writes.{frames_in, starts_with}
 use Rattle.lab_actor.proofs.Gives.{Gives, Gives-behind, Gives-then, Gives-weaker}

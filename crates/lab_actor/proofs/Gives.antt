@@ -1,5 +1,5 @@
 -- What every result of a course has, however its steps end.
-use Rattle.std.proofs.Common.{◌≡◌, ℕ, refl, subst, sym}
+use Rattle.std.proofs.Common.{ℕ, subst, sym}
 use Rattle.std.specs.Prelude.{Option, ⊤}
 use Rattle.mix_core.specs.declared.port.Ended.{Ended}
 use Rattle.mix_core.specs.declared.port.Entry.{Entry}

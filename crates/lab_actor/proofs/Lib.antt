@@ -8,3 +8,8 @@ mod Gates
 mod Gives
 mod Offering
 mod Parts
+mod Read
+mod ReaderAnswered
+mod ReaderParts
+mod RefusedLaws
+mod RunLists

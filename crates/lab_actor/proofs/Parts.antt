@@ -2,8 +2,10 @@
 use Rattle.std.proofs.Common.{◌≡◌, ℕ, ◌+◌, ◌<◌, ◌≤◌, List, [], ◌∷◌, ◌++◌, refl, sym, ◌∙◌, ap, subst, arith, append_assoc, length, get_or, take, drop, suc}
 use Rattle.std.proofs.Math.Seq.{take-suc}
 use Rattle.std.proofs.lemmas.List.{append-nil, length-append, take-append-drop}
+use Rattle.std.proofs.lemmas.List.Sums.{sum_by-append, sum_by-cons}
 use mir.Val.{bool_byte}
-use Rattle.std.specs.Prelude.{Bool, true, false, Option, Some, if◌then◌else◌}
+use Rattle.std.specs.Prelude.{Bool, true, false, Option, Some, if◌then◌else◌, sum_by, vec_capacity, vec_len}
+use Rattle.std.specs.Global.{Vec}
 use Rattle.snd_base.specs.declared.geometry.Geometry.{Geometry}
 use Rattle.snd_base.specs.declared.places.Segment.{Segment}
 use Rattle.snd_base.specs.Relations.{Composes}
@@ -12,7 +14,6 @@ use Rattle.wav_io.specs.Sound.{Sound}
 use Rattle.lab_script.specs.declared.line.Actor.{Actor}
 use Rattle.lab_script.specs.declared.line.Line.{Line}
 use Rattle.lab_script.specs.declared.line.Op.{Op}
-use Rattle.lab_report.specs.declared.row.Answer.{Answer}
 use Rattle.lab_report.specs.declared.row.Row.{Row}
 use Rattle.lab_run.specs.ActorPart.{Doing, PartsGrow}
 use Rattle.lab_run.specs.Client.{Client, client_kind, row_by}
@@ -24,7 +25,7 @@ use Rattle.lab_actor.specs.declared.client.ClientActor.{ClientActor}
 use Rattle.dmix_client.specs.View.{ClientView}
 use Rattle.lab_actor.specs.ClientLines.{Extends}
 use Rattle.lab_actor.specs.ClientPart.{ClientLine, ClientPart, HasDone, client_of}
-use Rattle.lab_actor.specs.Room.{RoomLeft}
+use Rattle.lab_actor.specs.Room.{GrowsBy, HasSpace, asked_by}
 use Rattle.lab_actor.proofs.Away.{Extends-joined, Extends-still}
 
 -- the lines of an actor among the first of a phase's
@@ -165,13 +166,13 @@ ClientPart-next {S = S} {T = T} P composes left by_gate grow s t u phase wav a x
         (let same : t ≡ u = λ i. ((sym r.1) i, (sym r.2) i) in subst (λ (v : S × T). ClientPart P left by_gate s v phase wav a x (ops_by mine (take k lines))) same part))
 
 -- the room that is left then
-pub room-next : (mine : Actor → Bool) (lines : List Line) (k : ℕ) (line : Line) (len room len_after room_after : ℕ) → k < length lines → get_or lines k line ≡ line
-    → len + length (ops_by mine lines) ≤ room + length (ops_by mine (take k lines))
-    → (mine line.actor ≡ true → RoomLeft len room len_after room_after) → (mine line.actor ≡ false → (len_after ≡ len) × (room_after ≡ room))
-    → len_after + length (ops_by mine lines) ≤ room_after + length (ops_by mine (take (k + 1) lines))
-room-next mine lines k line len room len_after room_after within is before own others = by_test (mine line.actor) refl
+pub room-next : {X : Type 0} (mine : Actor → Bool) (lines : List Line) (k : ℕ) (line : Line) (xs ys : Vec X) → k < length lines → get_or lines k line ≡ line
+    → vec_len xs + length (ops_by mine lines) ≤ vec_capacity xs + length (ops_by mine (take k lines))
+    → (mine line.actor ≡ true → GrowsBy 1 xs ys) → (mine line.actor ≡ false → (vec_len ys ≡ vec_len xs) × (vec_capacity ys ≡ vec_capacity xs))
+    → vec_len ys + length (ops_by mine lines) ≤ vec_capacity ys + length (ops_by mine (take (k + 1) lines))
+room-next mine lines k line xs ys within is before own others = by_test (mine line.actor) refl
   where
-    by_test : (test : Bool) → mine line.actor ≡ test → len_after + length (ops_by mine lines) ≤ room_after + length (ops_by mine (take (k + 1) lines))
+    by_test : (test : Bool) → mine line.actor ≡ test → vec_len ys + length (ops_by mine lines) ≤ vec_capacity ys + length (ops_by mine (take (k + 1) lines))
     by_test true own_is =
         let few = (own own_is).few in
         let kept = (own own_is).kept in
@@ -182,9 +183,9 @@ room-next mine lines k line len room len_after room_after within is before own o
         omega (arith, before, one, two, ap length (other-line mine lines k line within is other_is))
 
 -- there is room for an own line
-pub room-own : (mine : Actor → Bool) (lines : List Line) (k : ℕ) (line : Line) (len room : ℕ) → k < length lines → get_or lines k line ≡ line
-    → len + length (ops_by mine lines) ≤ room + length (ops_by mine (take k lines)) → mine line.actor ≡ true → len < room
-room-own mine lines k line len room within is before own_is =
+pub room-own : {X : Type 0} (mine : Actor → Bool) (lines : List Line) (k : ℕ) (line : Line) (xs : Vec X) → k < length lines → get_or lines k line ≡ line
+    → vec_len xs + length (ops_by mine lines) ≤ vec_capacity xs + length (ops_by mine (take k lines)) → mine line.actor ≡ true → HasSpace 1 xs
+room-own mine lines k line xs within is before own_is =
     omega (arith, before, own-size mine lines k line within is own_is, few-lines mine lines (k + 1))
 
 -- how many lines of an actor's there are up to the next one
@@ -196,3 +197,20 @@ counted-next mine lines k line within is false same = let size = ap length (othe
 pub bool_byte-most : (test : Bool) → bool_byte test ≤ 1
 bool_byte-most true = omega arith
 bool_byte-most false = omega arith
+
+-- how many frames they ask to read up to the next one
+pub asked-next : (mine : Actor → Bool) (lines : List Line) (k : ℕ) (line : Line) → k < length lines → get_or lines k line ≡ line
+    → sum_by asked_by (ops_by mine (take k lines)) + (if mine line.actor then asked_by line.op else 0) ≡ sum_by asked_by (ops_by mine (take (k + 1) lines))
+asked-next mine lines k line within is = by_test (mine line.actor) refl
+  where
+    by_test : (test : Bool) → mine line.actor ≡ test
+        → sum_by asked_by (ops_by mine (take k lines)) + (if mine line.actor then asked_by line.op else 0) ≡ sum_by asked_by (ops_by mine (take (k + 1) lines))
+    by_test true own_is =
+        ap (λ (test : Bool). sum_by asked_by (ops_by mine (take k lines)) + (if test then asked_by line.op else 0)) own_is
+        ∙ sym (ap (sum_by asked_by) (own-line mine lines k line within is own_is)
+        ∙ sum_by-append asked_by (ops_by mine (take k lines)) (line.op ∷ [])
+        ∙ ap (λ (n : ℕ). sum_by asked_by (ops_by mine (take k lines)) + n) (sum_by-cons asked_by line.op [] ∙ (let none : asked_by line.op + 0 ≡ asked_by line.op = omega arith in none)))
+    by_test false other_is =
+        ap (λ (test : Bool). sum_by asked_by (ops_by mine (take k lines)) + (if test then asked_by line.op else 0)) other_is
+        ∙ (let none : (n : ℕ) → n + 0 ≡ n = λ n. omega arith in none (sum_by asked_by (ops_by mine (take k lines))))
+        ∙ ap (sum_by asked_by) (sym (other-line mine lines k line within is other_is))

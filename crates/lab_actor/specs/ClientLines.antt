@@ -54,9 +54,9 @@ pub record HasCalled {S T : Type 0} (P : mixport.Ghosts S) (G : gates.Ghosts T) 
   pub ready : IsReady P wav t.0 d
   pub extends : Extends P wav.samples s.0 t.0 c.plain d.plain (ended_by asked answer c.plain d.plain)
 
--- a line makes a call: its client isn't stopped, and it is no `die`
-pub record CanCall (c : Plain) (asked : Op) : Type 0 where
-  pub goes : c.status.stopped ≡ false
+-- a line makes a call: its client or reader isn't stopped, and it is no `die`
+pub record CanCall (stopped : Bool) (asked : Op) : Type 0 where
+  pub goes : stopped ≡ false
   pub asks : is_die asked ≡ false
 
 -- a line of at most so many frames as a call takes

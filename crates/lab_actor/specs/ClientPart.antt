@@ -13,7 +13,7 @@ use Rattle.lab_run.specs.ClientAtPort.{IsClientLine}
 use Rattle.lab_run.specs.Members.{with_member}
 use Rattle.lab_run.specs.PortSteps.{IsAtPort}
 use Rattle.lab_actor.specs.declared.client.ClientActor.{ClientActor}
-use Rattle.lab_actor.specs.ClientLines.{Extends, IsReady}
+use Rattle.lab_actor.specs.ClientLines.{Extends}
 
 -- the client of an actor, as a run has it
 abbrev pub client_of : ClientActor → Client

@@ -1,5 +1,5 @@
 -- Asks that are counted down follow each other.
-use Rattle.std.specs.Prelude.{◌≡◌, ℕ, ◌+◌, ◌-◌, ◌≤◌, nat_le, true, List, [], ◌∷◌, ◌++◌, Option, Some, None}
+use Rattle.std.specs.Prelude.{◌≡◌, ℕ, ◌+◌, ◌-◌, true, List, [], ◌∷◌, ◌++◌, Option, Some, None}
 use Rattle.std.proofs.Common.{refl, sym, ◌∙◌, ap, subst, arith}
 use Rattle.std.proofs.lemmas.Bool.Decides.{nat_tests}
 use Rattle.mix_core.specs.declared.gate.Pass.{Pass}
@@ -7,7 +7,7 @@ use Rattle.mix_core.specs.declared.gate.Pass.TheVariants.{Go, Stop}
 use Rattle.mix_core.specs.declared.gate.StepKind.{StepKind}
 use Rattle.mix_core.specs.Gate.{AsksCompose}
 use Rattle.mix_core.specs.Laid.{without_last}
-use Rattle.lab_run.specs.PortSteps.{CountsDown, IsAnswered, counted, is_counted, last_kind, stop_at, with_gate}
+use Rattle.lab_run.specs.PortSteps.{CountsDown, IsAnswered, counted, last_kind, stop_at, with_gate}
 use Rattle.lab_run.specs.Rules.{AtPort, left_after, lets_pass, with_asks}
 use Rattle.lab_actor.specs.Countdown.{Answers, CountsAsks, by_gate_of, left_of}
 

@@ -2,4 +2,8 @@ pub mod ClientLines
 pub mod ClientPart
 pub mod Countdown
 pub mod CountdownLaws
+pub mod FrameRuns
+pub mod ReaderLines
+pub mod ReaderPart
+pub mod Refused
 pub mod Room

@@ -1,8 +1,11 @@
 -- How many lines of a phase an actor has, and the room for what they leave.
-use Rattle.std.specs.Prelude.{ℕ, ◌+◌, ◌≤◌, Bool, false, List, length}
+use Rattle.std.specs.Prelude.{ℕ, ◌+◌, ◌*◌, ◌≤◌, Bool, false, List, length, vec_capacity, vec_len}
+use Rattle.std.specs.Global.{Vec}
 use Rattle.lab_script.specs.declared.line.Actor.{Actor}
 use Rattle.lab_script.specs.declared.line.Actor.TheVariants.{Card, Client, Reader}
 use Rattle.lab_script.specs.declared.line.Line.{Line}
+use Rattle.lab_script.specs.declared.line.Op.{Op}
+use Rattle.lab_script.specs.declared.line.Op.TheVariants as op
 use Rattle.lab_run.specs.Phases.{is_client, is_reader, ops_by}
 
 -- a client's or reader's lines are its own
@@ -14,7 +17,20 @@ is_actor Card = λ other. false
 abbrev pub line_count : Actor → List Line → ℕ
 line_count actor lines = length (ops_by (is_actor actor) lines)
 
--- a list grew by at most one from one length to another, and its room didn't shrink
-pub record RoomLeft (len room len_after room_after : ℕ) : Type 0 where
-  pub few : len_after ≤ len + 1
-  pub kept : room ≤ room_after
+-- there is room for so many items more
+abbrev pub HasSpace : {X : Type 0} → ℕ → Vec X → Type 0
+HasSpace count xs = vec_len xs + count ≤ vec_capacity xs
+
+-- so many items at most were appended, and the room didn't shrink
+pub record GrowsBy {X : Type 0} (most : ℕ) (before after : Vec X) : Type 0 where
+  pub few : vec_len after ≤ vec_len before + most
+  pub kept : vec_capacity before ≤ vec_capacity after
+
+-- the frames that a line asks to read
+abbrev pub asked_by : Op → ℕ
+asked_by (op.Read frames) = frames
+asked_by other = 0
+
+-- the samples of these frames, of so many channels
+abbrev pub samples_asked : ℕ → Op → ℕ
+samples_asked channels asked = asked_by asked * channels

@@ -6,7 +6,7 @@ ghost use Rattle.lab_run.specs.Phases.{is_client, ops_by};
 ghost use Rattle.lab_actor.specs.ClientLines.{CanCall, HasAnswered, IsFew, IsReady, ends_stretch, laid_of};
 ghost use Rattle.lab_actor.specs.ClientPart.{ClientLine, ClientPart, left_in, stops_in};
 ghost use Rattle.lab_actor.specs.Countdown.{IsSameGate, by_gate_of, left_of};
-ghost use Rattle.lab_actor.specs.Room.{RoomLeft, line_count};
+ghost use Rattle.lab_actor.specs.Room.{GrowsBy, HasSpace, line_count};
 
 use crate::client_calls::call;
 use crate::countdown::Countdown;
@@ -75,9 +75,10 @@ fn call_line<P: MixPort, G: Gate, L: Ledger>(
     asked: Op,
 ) -> Answer
     requires few { IsFew asked }
-    requires can { CanCall client.old.plain asked }
+    requires can { CanCall client.old.plain.status.stopped asked }
     requires ready { IsReady P.MixPort wav.now port.old client.old }
-    ensures answered { HasAnswered P.MixPort left_of (by_gate_of G.stops) (port.old, gate.old) (port.new, gate.new) wav.now client.old client.new asked result }
+    ensures answered { HasAnswered P.MixPort left_of (by_gate_of G.stops) (port.old, gate.old) (port.new, gate.new)
+        wav.now client.old client.new asked result }
     ensures same_gate { IsSameGate gate.old gate.new }
 {
     client_lines_are_parts::<P, Countdown<'_, G, L>>();
@@ -94,7 +95,8 @@ fn answer_line<P: MixPort, G: Gate, L: Ledger>(
 ) -> Answer
     requires few { IsFew asked }
     requires ready { IsReady P.MixPort wav.now port.old client.old }
-    ensures answered { HasAnswered P.MixPort left_of (by_gate_of G.stops) (port.old, gate.old) (port.new, gate.new) wav.now client.old client.new asked result }
+    ensures answered { HasAnswered P.MixPort left_of (by_gate_of G.stops) (port.old, gate.old) (port.new, gate.new)
+        wav.now client.old client.new asked result }
     ensures same_gate { IsSameGate gate.old gate.new }
 {
     lines_without_calls();
@@ -112,11 +114,12 @@ impl ClientActor {
     /// Takes the room that the lines of a phase want, so that `run_lines` takes no memory. It refuses, with `Memory`, only
     /// where no memory is left; then the rows and segments are as they were.
     pub fn take_room(&mut self, lines: &[Line]) -> Result<(), PcmError>
-        ensures rows { OnOk result (vec_len self.new.rows + line_count (Actor.Client self.old.number) lines.now ≤ vec_capacity self.new.rows) }
-        ensures ended { OnOk result (vec_len self.new.ended + line_count (Actor.Client self.old.number) lines.now ≤ vec_capacity self.new.ended) }
+        ensures rows { OnOk result (HasSpace (line_count (Actor.Client self.old.number) lines.now) self.new.rows) }
+        ensures ended { OnOk result (HasSpace (line_count (Actor.Client self.old.number) lines.now) self.new.ended) }
         ensures same_rows { self.new.rows.items ≡ self.old.rows.items }
         ensures same_ended { self.new.ended.items ≡ self.old.ended.items }
-        ensures same { (self.new.number ≡ self.old.number) × (self.new.client ≡ self.old.client) × (self.new.left ≡ self.old.left) }
+        ensures same { (self.new.number ≡ self.old.number) × (self.new.client ≡ self.old.client)
+            × (self.new.left ≡ self.old.left) }
         ensures only { IfErr result (λ e. e ≡ PcmError.Memory) }
     {
         let count = line_count(lines, Actor::Client(self.number));
@@ -136,13 +139,14 @@ impl ClientActor {
     )
         requires few { IsFew asked }
         requires ready { IsReady P.MixPort wav.now port.old self.old.client }
-        requires rows_room { vec_len self.old.rows < vec_capacity self.old.rows }
-        requires ended_room { vec_len self.old.ended < vec_capacity self.old.ended }
-        ensures line { ClientLine P.MixPort left_of (by_gate_of G.stops) (port.old, gate.old) (port.new, gate.new) phase wav.now self.old self.new asked }
+        requires rows_room { HasSpace 1 self.old.rows }
+        requires ended_room { HasSpace 1 self.old.ended }
+        ensures line { ClientLine P.MixPort left_of (by_gate_of G.stops) (port.old, gate.old) (port.new, gate.new)
+            phase wav.now self.old self.new asked }
         ensures ready { IsReady P.MixPort wav.now port.new self.new.client }
         ensures same_gate { IsSameGate gate.old gate.new }
-        ensures rows_room { RoomLeft (vec_len self.old.rows) (vec_capacity self.old.rows) (vec_len self.new.rows) (vec_capacity self.new.rows) }
-        ensures ended_room { RoomLeft (vec_len self.old.ended) (vec_capacity self.old.ended) (vec_len self.new.ended) (vec_capacity self.new.ended) }
+        ensures rows_room { GrowsBy 1 self.old.rows self.new.rows }
+        ensures ended_room { GrowsBy 1 self.old.ended self.new.ended }
     {
         let segment = self.client.segment();
         let was_paused = is_paused(&self.client);
@@ -172,15 +176,17 @@ impl ClientActor {
     )
         requires few { IsFew line.now.op }
         requires ready { IsReady P.MixPort wav.now port.old self.old.client }
-        requires rows_room { is_client self.old.number line.now.actor ≡ true → vec_len self.old.rows < vec_capacity self.old.rows }
-        requires ended_room { is_client self.old.number line.now.actor ≡ true → vec_len self.old.ended < vec_capacity self.old.ended }
+        requires rows_room { is_client self.old.number line.now.actor ≡ true → HasSpace 1 self.old.rows }
+        requires ended_room { is_client self.old.number line.now.actor ≡ true → HasSpace 1 self.old.ended }
         ensures own { is_client self.old.number line.now.actor ≡ true
-            → ClientLine P.MixPort left_of (by_gate_of G.stops) (port.old, gate.old) (port.new, gate.new) phase wav.now self.old self.new line.now.op }
-        ensures others { is_client self.old.number line.now.actor ≡ false → (self.new ≡ self.old) × (port.new ≡ port.old) × (gate.new ≡ gate.old) }
+            → ClientLine P.MixPort left_of (by_gate_of G.stops) (port.old, gate.old) (port.new, gate.new)
+            phase wav.now self.old self.new line.now.op }
+        ensures others { is_client self.old.number line.now.actor ≡ false
+            → (self.new ≡ self.old) × (port.new ≡ port.old) × (gate.new ≡ gate.old) }
         ensures ready { IsReady P.MixPort wav.now port.new self.new.client }
         ensures same_gate { IsSameGate gate.old gate.new }
-        ensures rows_room { is_client self.old.number line.now.actor ≡ true → RoomLeft (vec_len self.old.rows) (vec_capacity self.old.rows) (vec_len self.new.rows) (vec_capacity self.new.rows) }
-        ensures ended_room { is_client self.old.number line.now.actor ≡ true → RoomLeft (vec_len self.old.ended) (vec_capacity self.old.ended) (vec_len self.new.ended) (vec_capacity self.new.ended) }
+        ensures rows_room { is_client self.old.number line.now.actor ≡ true → GrowsBy 1 self.old.rows self.new.rows }
+        ensures ended_room { is_client self.old.number line.now.actor ≡ true → GrowsBy 1 self.old.ended self.new.ended }
     {
         if is_of(line, Actor::Client(self.number)) {
             self.do_line(port, gate, wav, phase, line.op);
@@ -198,9 +204,10 @@ impl ClientActor {
     )
         requires few { All (λ (line : Line). IsFew line.op) lines.now }
         requires ready { IsReady P.MixPort wav.now port.old self.old.client }
-        requires rows_room { vec_len self.old.rows + line_count (Actor.Client self.old.number) lines.now ≤ vec_capacity self.old.rows }
-        requires ended_room { vec_len self.old.ended + line_count (Actor.Client self.old.number) lines.now ≤ vec_capacity self.old.ended }
-        ensures part { ClientPart P.MixPort left_of (by_gate_of G.stops) (port.old, gate.old) (port.new, gate.new) phase wav.now self.old self.new (ops_by (is_client self.old.number) lines.now) }
+        requires rows_room { HasSpace (line_count (Actor.Client self.old.number) lines.now) self.old.rows }
+        requires ended_room { HasSpace (line_count (Actor.Client self.old.number) lines.now) self.old.ended }
+        ensures part { ClientPart P.MixPort left_of (by_gate_of G.stops) (port.old, gate.old) (port.new, gate.new)
+            phase wav.now self.old self.new (ops_by (is_client self.old.number) lines.now) }
         ensures ready { IsReady P.MixPort wav.now port.new self.new.client }
         ensures same_gate { IsSameGate gate.old gate.new }
     {
@@ -225,9 +232,10 @@ impl ClientActor {
         requires some { 0 < blank.parts }
         requires few { All (λ (line : Line). IsFew line.op) lines.now }
         requires ready { IsReady P.MixPort wav.now port.old self.old.client }
-        requires rows_room { vec_len self.old.rows + line_count (Actor.Client self.old.number) lines.now ≤ vec_capacity self.old.rows }
-        requires ended_room { vec_len self.old.ended + line_count (Actor.Client self.old.number) lines.now ≤ vec_capacity self.old.ended }
-        ensures part { ClientPart P.MixPort left_in stops_in (port.old, (self.old.left, G.stops gate.old)) (port.new, (self.new.left, G.stops gate.new))
+        requires rows_room { HasSpace (line_count (Actor.Client self.old.number) lines.now) self.old.rows }
+        requires ended_room { HasSpace (line_count (Actor.Client self.old.number) lines.now) self.old.ended }
+        ensures part { ClientPart P.MixPort left_in stops_in
+            (port.old, (self.old.left, G.stops gate.old)) (port.new, (self.new.left, G.stops gate.new))
             phase wav.now self.old self.new (ops_by (is_client self.old.number) lines.now) }
         ensures ready { IsReady P.MixPort wav.now port.new self.new.client }
     {
@@ -255,9 +263,10 @@ impl ClientActor {
     )
         requires few { All (λ (line : Line). IsFew line.op) lines.now }
         requires ready { IsReady P.MixPort wav.now port.old self.old.client }
-        requires rows_room { vec_len self.old.rows + line_count (Actor.Client self.old.number) lines.now ≤ vec_capacity self.old.rows }
-        requires ended_room { vec_len self.old.ended + line_count (Actor.Client self.old.number) lines.now ≤ vec_capacity self.old.ended }
-        ensures part { ClientPart P.MixPort left_in stops_in (port.old, (self.old.left, G.stops gate.old)) (port.new, (self.new.left, G.stops gate.new))
+        requires rows_room { HasSpace (line_count (Actor.Client self.old.number) lines.now) self.old.rows }
+        requires ended_room { HasSpace (line_count (Actor.Client self.old.number) lines.now) self.old.ended }
+        ensures part { ClientPart P.MixPort left_in stops_in
+            (port.old, (self.old.left, G.stops gate.old)) (port.new, (self.new.left, G.stops gate.new))
             phase wav.now self.old self.new (ops_by (is_client self.old.number) lines.now) }
         ensures ready { IsReady P.MixPort wav.now port.new self.new.client }
     {

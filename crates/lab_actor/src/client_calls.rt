@@ -16,7 +16,8 @@ fn next_frames(wav: &Wav, fed: u64, frames: u32) -> &[i16]
     requires { fed ≤ frames_of wav.now }
     ensures some { 1 ≤ wav.now.channels }
     ensures room { frames_of wav.now < 2 ^ 63 }
-    ensures frames { result.now ≡ take (min frames (frames_of wav.now - fed) * wav.now.channels) (drop (fed * wav.now.channels) wav.now.samples) }
+    ensures frames { result.now
+        ≡ take (min frames (frames_of wav.now - fed) * wav.now.channels) (drop (fed * wav.now.channels) wav.now.samples) }
 {
     let samples = wav.samples.as_slice();
     let channels = wav.channels as usize;
@@ -36,7 +37,8 @@ fn write<P: MixPort, G: Gate>(
 ) -> Answer
     requires few { frames ≤ 4194304 }
     requires ready { IsReady P.MixPort wav.now port.old client.old }
-    ensures { HasCalled P.MixPort G.Gate (port.old, gate.old) (port.new, gate.new) wav.now client.old client.new (Op.Write frames) result }
+    ensures { HasCalled P.MixPort G.Gate (port.old, gate.old) (port.new, gate.new)
+        wav.now client.old client.new (Op.Write frames) result }
 {
     let offer = next_frames(wav, client.fed(), frames);
     client.counts_are_sound();
@@ -55,7 +57,8 @@ pub(crate) fn call<P: MixPort, G: Gate>(
     requires few { IsFew asked }
     requires unstopped { client.old.plain.status.stopped ≡ false }
     requires ready { IsReady P.MixPort wav.now port.old client.old }
-    ensures { HasCalled P.MixPort G.Gate (port.old, gate.old) (port.new, gate.new) wav.now client.old client.new asked result }
+    ensures { HasCalled P.MixPort G.Gate (port.old, gate.old) (port.new, gate.new)
+        wav.now client.old client.new asked result }
 {
     client.counts_are_sound();
     match asked {

@@ -5,8 +5,18 @@ mod answer;
 mod client;
 mod client_calls;
 mod countdown;
+mod frame_runs;
+mod reader;
+mod reader_calls;
+mod refused;
 mod room;
 
 pub use client::ClientActor;
 pub use countdown::Countdown;
-pub use room::line_count;
+pub use frame_runs::FrameRuns;
+pub use reader::ReaderActor;
+pub use refused::refuse_lines;
+pub use room::{line_count, reads_are_few};
+
+#[cfg(test)]
+mod tests;

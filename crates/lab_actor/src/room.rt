@@ -1,9 +1,12 @@
 //! The room that the rows of an actor's lines want.
-ghost use Rattle.std.specs.Prelude.{◌≡◌, ◌<◌, ◌≤◌, ◌+◌, ◌++◌, ◌∷◌, [], length, vec_capacity, vec_len};
-ghost use Rattle.lab_actor.specs.Room.{is_actor, line_count};
+ghost use Rattle.std.specs.Prelude.{◌≡◌, ◌<◌, ◌≤◌, ◌+◌, ◌++◌, ◌∷◌, [], ◌↔◌, All, IfSome, IsTrue, if◌then◌else◌, length, sum_by, vec_capacity, vec_len};
+ghost use Rattle.lab_script.specs.declared.line.Line.{Line};
+ghost use Rattle.lab_run.specs.Phases.{ops_by};
+ghost use Rattle.lab_actor.specs.ReaderLines.{IsFewRead};
+ghost use Rattle.lab_actor.specs.Room.{asked_by, is_actor, line_count};
 
 use lab_report::Row;
-use lab_script::{Actor, Line};
+use lab_script::{Actor, Line, Op};
 
 /// Whether a line is a client's or a reader's.
 pub(crate) fn is_of(line: &Line, actor: Actor) -> bool
@@ -26,6 +29,47 @@ pub fn line_count(lines: &[Line], actor: Actor) -> usize
         count += is_of(&lines[index], actor) as usize;
     }
     count
+}
+
+/// How many frames a line of a client or reader asks to read; a line of another actor asks for none.
+fn frames_of(line: &Line, actor: Actor) -> u32
+    ensures { result ≡ (if is_actor actor line.now.actor then asked_by line.now.op else 0) }
+{
+    if !is_of(line, actor) {
+        return 0;
+    }
+    match line.op {
+        Op::Read(frames) => frames,
+        _ => 0,
+    }
+}
+
+/// Whether a line asks to read no more than 4,194,304 frames, as many as a call takes.
+fn is_few_read(asked: Op) -> bool
+    ensures { IsTrue result ↔ IsFewRead asked }
+{
+    match asked {
+        Op::Read(frames) => frames <= 4194304,
+        _ => true,
+    }
+}
+
+/// Whether each of some lines asks to read no more than 4,194,304 frames.
+pub fn reads_are_few(lines: &[Line]) -> bool
+    ensures { IsTrue result ↔ All (λ (line : Line). IsFewRead line.op) lines.now }
+{
+    lines.iter().all(|line| is_few_read(line.op))
+}
+
+/// How many frames an actor's lines of a phase ask to read, where that is a `usize`.
+pub(crate) fn frames_asked(lines: &[Line], actor: Actor) -> Option<usize>
+    ensures { IfSome result (λ frames. frames ≡ sum_by asked_by (ops_by (is_actor actor) lines.now)) }
+{
+    let mut frames: usize = 0;
+    for index in 0..lines.len() {
+        frames = frames.checked_add(frames_of(&lines[index], actor) as usize)?;
+    }
+    Some(frames)
 }
 
 /// Appends a row, for which there is room.

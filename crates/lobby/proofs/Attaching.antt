@@ -59,7 +59,7 @@ Outcome-before p before between after (Err e) keeps out = (
 )
 
 pub GoesOn-joined : (k l m : Lobby) → GoesOn k l → GoesOn l m → GoesOn k m
-GoesOn-joined k l m first then = record { ring = then.ring ∙ first.ring; key = then.key ∙ first.key; places = then.places ∙ first.places; same_reaped = then.same_reaped ∙ first.same_reaped }
+GoesOn-joined k l m first then = record { base = then.base ∙ first.base; ring = then.ring ∙ first.ring; key = then.key ∙ first.key; places = then.places ∙ first.places; same_reaped = then.same_reaped ∙ first.same_reaped }
 
 -- a load by the seat of a place, and what came of it
 pub attached : (load : Position → MixSeat → MixSeat → Type 0) (place : ℕ) (l k m : Lobby) (p : Position) (r : Result MixSeat PcmError)

@@ -1,5 +1,5 @@
 -- The seats of all places are joined, one after the other.
-use Rattle.std.proofs.Common.{◌≡◌, List, [], ◌∷◌, ◌++◌, Option, None, Some, get_or, length, append_assoc, arith, ap, sym, ◌∙◌}
+use Rattle.std.proofs.Common.{◌≡◌, List, [], ◌∷◌, ◌++◌, Option, None, Some, get_or, length, append_assoc, arith, ap, refl, subst, sym, ◌∙◌}
 use Rattle.std.proofs.Math.Seq.{get_or-append_seam}
 use Rattle.std.proofs.lemmas.List.{append-nil, length-append, nil_from_length}
 use Rattle.std.proofs.lemmas.Grind.{flat_map-append}
@@ -8,15 +8,24 @@ use Rattle.sum_table.specs.declared.view.View.{View}
 use Rattle.sum_table.specs.Joins.{HasJoined, OneRing}
 use Rattle.sum_table.specs.Seats.{key_of, places_of_seat, ring_of, view_of}
 use Rattle.lobby.specs.declared.lobby.Lobby.{Lobby}
-use Rattle.lobby.specs.Lobbies.{JoinsAll, free_seats, key_of_lobby, laid_by, laid_by_all, ring_of_lobby}
+use Rattle.lobby.specs.Lobbies.{JoinsAll, JoinsEach, base_of, free_seats, key_of_lobby, laid_by, laid_by_all, ring_of_lobby}
 use Rattle.lobby.specs.Seats.{IsPlace, seat_at}
 
 -- some of the seats were joined, and the others are left
 pub record IsJoining (l : Lobby) (whole : MixSeat) (done left : List (Option MixSeat)) : Type 0 where
   pub parts : done ++ left ≡ free_seats l
+  pub joins : JoinsEach (base_of l) done whole
   pub one_ring : OneRing (ring_of whole) (key_of whole) (ring_of_lobby l) (key_of_lobby l)
   pub places : places_of_seat whole ≡ length done
   pub laid : (view_of whole).laid ≡ laid_by_all done
+
+-- one seat more is joined
+JoinsEach-more : (a b c : MixSeat) (done : List (Option MixSeat)) (o : Option MixSeat) (s : MixSeat) → JoinsEach a done b → o ≡ Some s → HasJoined b c s
+    → JoinsEach a (done ++ o ∷ []) c
+JoinsEach-more a b c [] o s is same join =
+    subst (λ (x : Option MixSeat). JoinsEach a (x ∷ []) c) (sym same) (c, subst (λ (w : MixSeat). HasJoined w c s) is join, refl)
+JoinsEach-more a b c (None ∷ done) o s is same join = JoinsEach-more a b c done o s is same join
+JoinsEach-more a b c (Some t ∷ done) o s is same join = (is.0, is.1, JoinsEach-more is.0 b c done o s is.2 same join)
 
 laid_by_all-more : (done : List (Option MixSeat)) (s : MixSeat) → laid_by_all (done ++ Some s ∷ []) ≡ laid_by_all done ++ (view_of s).laid
 laid_by_all-more done s = flat_map-append laid_by done (Some s ∷ []) ∙ ap (λ es. laid_by_all done ++ es) (append-nil (view_of s).laid)
@@ -34,6 +43,7 @@ pub IsJoining-more : (l : Lobby) (whole joined : MixSeat) (done left rest : List
 IsJoining-more l whole joined done left rest o s is next same join =
     let place = next_place l whole done left rest o s is next same in
     record {
+      joins = JoinsEach-more (base_of l) whole joined done o s is.joins same join;
       parts = append_assoc done (o ∷ []) rest ∙ (ap (λ xs. done ++ xs) (sym next) ∙ is.parts);
       one_ring = (join.ring ∙ is.one_ring.0, join.key ∙ is.one_ring.1);
       places = join.places ∙ omega (arith, is.places, place.places, length-append done (o ∷ []));
@@ -45,4 +55,4 @@ IsJoining-more l whole joined done left rest o s is next same join =
 pub all_joined : (l : Lobby) (whole : MixSeat) (done left : List (Option MixSeat)) → IsJoining l whole done left → length left ≡ 0 → JoinsAll l whole
 all_joined l whole done left is none =
     let same : done ≡ free_seats l = sym (append-nil done) ∙ (ap (λ xs. done ++ xs) (sym (nil_from_length left none)) ∙ is.parts) in
-    record { one_ring = is.one_ring; places = is.places ∙ ap length same; laid = is.laid ∙ ap laid_by_all same }
+    record { joins = subst (λ (xs : List (Option MixSeat)). JoinsEach (base_of l) xs whole) same is.joins; one_ring = is.one_ring; places = is.places ∙ ap length same; laid = is.laid ∙ ap laid_by_all same }

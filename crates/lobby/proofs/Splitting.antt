@@ -1,34 +1,48 @@
 -- A seat is split into seats of one place each.
-use Rattle.std.proofs.Common.{◌≡◌, ℕ, ◌+◌, ◌<◌, List, [], ◌∷◌, ◌++◌, Option, None, Some, length, arith, ap, refl, subst, sym, ◌∙◌, inl, inr}
+use Rattle.std.proofs.Common.{◌≡◌, ℕ, ◌+◌, ◌-◌, ◌<◌, List, [], ◌∷◌, ◌++◌, Option, None, Some, length, arith, ap, refl, subst, sym, ◌∙◌, inl, inr}
 use Rattle.std.proofs.Math.ListN.{get_or-eq_default}
 use Rattle.std.proofs.lemmas.Bool.{cases_lt}
 use Rattle.std.proofs.lemmas.List.{get_or_append_left, get_or_push, length-append}
 use Rattle.std.proofs.lemmas.Option.{none-some, same_Some}
 use Rattle.sum_table.specs.declared.seats.mix.MixSeat.{MixSeat}
 use Rattle.sum_table.specs.declared.view.View.{View}
-use Rattle.sum_table.specs.Cuts.{part_of}
-use Rattle.sum_table.specs.Joins.{HasSplit}
-use Rattle.sum_table.specs.Seats.{key_of, places_of_seat, ring_of, seen_of, view_of}
+use Rattle.sum_table.specs.Cuts.{part_of, with_places, without}
+use Rattle.sum_table.specs.Joins.{HasSplit, Stays}
+use Rattle.sum_table.specs.Seats.{key_of, places_of_seat, ring_of, view_of}
 use Rattle.lobby.specs.Lobbies.{IsPart}
 use Rattle.lobby.specs.Seats.{ArePlaces, IsPlace, seat_at}
 
 -- so many seats of one place were split off
 pub record IsSplitting (whole rest : MixSeat) (seats : List (Option MixSeat)) (n : ℕ) : Type 0 where
-  pub ring : ring_of rest ≡ ring_of whole
-  pub key : key_of rest ≡ key_of whole
-  pub seen : seen_of rest ≡ seen_of whole
+  pub stays : Stays whole rest
+  pub view : view_of rest ≡ without (view_of whole) n
   pub laid : (view_of rest).laid ≡ []
   pub part : part_of (view_of rest) 1 ≡ part_of (view_of whole) 1
   pub places : places_of_seat rest + n ≡ places_of_seat whole
   pub count : length seats ≡ n
   pub each : (place : ℕ) → place < n → (s : MixSeat) × (seat_at seats place ≡ Some s) × IsPart whole place s
 
+without-none : (v : View) → without v 0 ≡ v
+without-none v = let same : v.places - 0 ≡ v.places = omega arith in ap (λ (n : ℕ). with_places v n) same
+
+without-more : (v : View) (n : ℕ) → without (without v n) 1 ≡ without v (n + 1)
+without-more v n = let same : v.places - n - 1 ≡ v.places - (n + 1) = omega arith in ap (λ (k : ℕ). with_places v k) same
+
+Stays-joined : (s t u : MixSeat) → Stays s t → Stays t u → Stays s u
+Stays-joined s t u first then = record {
+  ring = then.ring ∙ first.ring;
+  key = then.key ∙ first.key;
+  member = then.member ∙ first.member;
+  marks = then.marks ∙ first.marks;
+  seen = then.seen ∙ first.seen;
+  last = then.last ∙ first.last;
+}
+
 -- none yet
 pub IsSplitting-none : (whole : MixSeat) → (view_of whole).laid ≡ [] → IsSplitting whole whole [] 0
 IsSplitting-none whole nothing = record {
-  ring = refl;
-  key = refl;
-  seen = refl;
+  stays = record { ring = refl; key = refl; member = refl; marks = refl; seen = refl; last = refl };
+  view = sym (without-none (view_of whole));
   laid = nothing;
   part = refl;
   places = omega arith;
@@ -40,9 +54,8 @@ IsSplitting-none whole nothing = record {
 pub IsSplitting-more : (whole rest after one : MixSeat) (seats : List (Option MixSeat)) (n : ℕ) → IsSplitting whole rest seats n → HasSplit rest after one 1 n
     → IsSplitting whole after (seats ++ Some one ∷ []) (n + 1)
 IsSplitting-more whole rest after one seats n is split = record {
-  ring = split.stays.ring ∙ is.ring;
-  key = split.stays.key ∙ is.key;
-  seen = split.stays.seen ∙ is.seen;
+  stays = Stays-joined whole rest after is.stays split.stays;
+  view = split.view ∙ (ap (λ (v : View). without v 1) is.view ∙ without-more (view_of whole) n);
   laid = ap (λ (v : View). v.laid) split.view ∙ is.laid;
   part = ap (λ v. part_of v 1) split.view ∙ is.part;
   places = omega (arith, split.places, is.places);
@@ -56,9 +69,9 @@ IsSplitting-more whole rest after one seats n is split = record {
           one,
           get_or_push seats (Some one) None place (is.count ∙ sym here),
           subst (λ i. IsPart whole i one) (sym here) (record {
-            is_place = record { of_ring = split.new_ring ∙ is.ring; of_key = split.new_key ∙ is.key; member = split.new_member; places = split.new_places };
+            is_place = record { of_ring = split.new_ring ∙ is.stays.ring; of_key = split.new_key ∙ is.stays.key; member = split.new_member; places = split.new_places };
             view = split.new_view ∙ is.part;
-            seen = split.new_seen ∙ is.seen;
+            seen = split.new_seen ∙ is.stays.seen;
           }),
         )
   ];
@@ -71,6 +84,6 @@ ArePlaces-split whole rest seats n is place s at = elim (cases_lt place n) [
       let found = is.each place before in
       let p : IsPlace (ring_of whole) (key_of whole) place found.0 = found.2.is_place in
       subst (IsPlace (ring_of rest) (key_of rest) place) (same_Some found.0 s (sym found.1 ∙ at))
-      (record { of_ring = p.of_ring ∙ sym is.ring; of_key = p.of_key ∙ sym is.key; member = p.member; places = p.places })
+      (record { of_ring = p.of_ring ∙ sym is.stays.ring; of_key = p.of_key ∙ sym is.stays.key; member = p.member; places = p.places })
   | inr past ↦ absurd (none-some s (sym (get_or-eq_default seats None (omega (arith, is.count))) ∙ at))
 ]

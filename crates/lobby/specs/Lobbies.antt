@@ -1,5 +1,5 @@
 -- What contracts say of a lobby, and what its calls do.
-use Rattle.std.specs.Prelude.{◌≡◌, ℕ, ◌+◌, ◌<◌, List, [], length, Option, None, Some, Result, IfSome, MatchResult, slice_set}
+use Rattle.std.specs.Prelude.{◌≡◌, ℕ, ◌+◌, ◌<◌, List, [], ◌∷◌, length, Option, None, Some, Result, IfSome, MatchResult, slice_set}
 use Rattle.std.specs.List.{flat_map}
 use Rattle.snd_base.specs.declared.errors.PcmError.{PcmError}
 use Rattle.snd_base.specs.Places.{first_frame}
@@ -7,8 +7,8 @@ use Rattle.mix_core.specs.declared.port.Entry.{Entry}
 use Rattle.mix_core.specs.declared.port.Position.{Position}
 use Rattle.sum_table.specs.declared.seats.mix.MixSeat.{MixSeat}
 use Rattle.sum_table.specs.declared.view.Key.{Key}
-use Rattle.sum_table.specs.Cuts.{part_of}
-use Rattle.sum_table.specs.Joins.{OneRing}
+use Rattle.sum_table.specs.Cuts.{part_of, without}
+use Rattle.sum_table.specs.Joins.{HasJoined, OneRing, Stays}
 use Rattle.sum_table.specs.Seats.{TableId, key_of, member_of, places_of_seat, ring_of, seen_of, view_of}
 use Rattle.lobby.specs.declared.lobby.Lobby.{Lobby}
 use Rattle.lobby.specs.Seats.{IsBusy, IsOut, IsPlace, last_of, lowest_silent, seat_at}
@@ -24,6 +24,10 @@ key_of_lobby l = key_of l.base
 abbrev pub free_seats : Lobby → List (Option MixSeat)
 free_seats l = l.seats.items
 
+-- the seat that the places were split from
+abbrev pub base_of : Lobby → MixSeat
+base_of l = l.base
+
 -- how many places it has, free or not
 abbrev pub places_of_lobby : Lobby → ℕ
 places_of_lobby l = length (free_seats l)
@@ -36,8 +40,10 @@ seen_of_lobby l = l.seen
 abbrev pub reaped_of : Lobby → ℕ
 reaped_of l = l.reaped
 
--- a lobby later, with the same places of one ring, and the same number of reaped clients
+-- a lobby later, with the same places of one ring, and the same number of reaped clients; the seat that the places were split from
+-- did nothing
 pub record GoesOn (l m : Lobby) : Type 0 where
+  pub base : base_of m ≡ base_of l
   pub ring : ring_of_lobby m ≡ ring_of_lobby l
   pub key : key_of_lobby m ≡ key_of_lobby l
   pub places : places_of_lobby m ≡ places_of_lobby l
@@ -49,8 +55,10 @@ pub record IsPart (whole : MixSeat) (place : ℕ) (s : MixSeat) : Type 0 where
   pub view : view_of s ≡ part_of (view_of whole) 1
   pub seen : seen_of s ≡ seen_of whole
 
--- a new lobby: each place of the whole seat is free
+-- a new lobby: each place of the whole seat is free, and the whole seat gave them away and did nothing else
 pub record IsNewLobby (whole : MixSeat) (l : Lobby) : Type 0 where
+  pub base : Stays whole (base_of l)
+  pub base_view : view_of (base_of l) ≡ without (view_of whole) (places_of_seat whole)
   pub ring : ring_of_lobby l ≡ ring_of whole
   pub key : key_of_lobby l ≡ key_of whole
   pub places : places_of_lobby l ≡ places_of_seat whole
@@ -94,8 +102,9 @@ pub record CanTakeBack (l : Lobby) (s : MixSeat) : Type 0 where
   pub one_place : places_of_seat s ≡ 1
   pub out : IsOut (free_seats l) (member_of s)
 
--- the seat of a place was taken back
+-- the seat of a place was taken back, and no other seat did anything
 pub record TakesBack (l m : Lobby) (s : MixSeat) : Type 0 where
+  pub base : base_of m ≡ base_of l
   pub ring : ring_of_lobby m ≡ ring_of_lobby l
   pub key : key_of_lobby m ≡ key_of_lobby l
   pub places : places_of_lobby m ≡ places_of_lobby l
@@ -110,8 +119,15 @@ laid_by (Some s) = (view_of s).laid
 abbrev pub laid_by_all : List (Option MixSeat) → List Entry
 laid_by_all seats = flat_map laid_by seats
 
+-- a seat took over those of some places, one after the other, and did nothing else
+abbrev pub JoinsEach : MixSeat → List (Option MixSeat) → MixSeat → Type 0
+JoinsEach whole [] joined = joined ≡ whole
+JoinsEach whole (None ∷ seats) joined = JoinsEach whole seats joined
+JoinsEach whole (Some s ∷ seats) joined = (more : MixSeat) × HasJoined whole more s × JoinsEach more seats joined
+
 -- the seats of all places were joined into one
 pub record JoinsAll (l : Lobby) (s : MixSeat) : Type 0 where
+  pub joins : JoinsEach (base_of l) (free_seats l) s
   pub one_ring : OneRing (ring_of s) (key_of s) (ring_of_lobby l) (key_of_lobby l)
   pub places : places_of_seat s ≡ places_of_lobby l
   pub laid : (view_of s).laid ≡ laid_by_all (free_seats l)

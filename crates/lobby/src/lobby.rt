@@ -66,7 +66,8 @@ impl<'a> Lobby<'a> {
     }
 
     /// Hands out the seat of the lowest place that is free and silent: its last frame, if anything was laid by it, is below
-    /// the card's position. The seat of the lowest free place loads this position, in one step, and no other step is made.
+    /// the card's position. The seat of the lowest free place loads this position, once, and no other seat of the lobby loads
+    /// one.
     ///
     /// `Busy` comes exactly where no free place is silent. Its `until` is the position from which one of them is: the least
     /// last frame of the free seats, plus one. Where no place is free, `until` is None and nothing is loaded. Its `seen` is the

@@ -1,13 +1,17 @@
-use Rattle.std.proofs.Common.{◌≡◌, ◌-◌, List, ℕ, get_or, take, drop, arith, length, sym, ◌∙◌, ap}
+use Rattle.std.proofs.Common.{◌≡◌, ◌-◌, List, ℕ, get_or, set, take, drop, arith, length, sym, ◌∙◌, ap}
 use Rattle.asound_conf.specs.declared.conf.Node.{Node}
-use Rattle.asound_conf.specs.Place.{base, put}
-use Rattle.asound_conf.specs.View.{added, entries_of, put_node, tree_of, IsLast}
+use Rattle.asound_conf.specs.Tree as trees
+use Rattle.asound_conf.specs.Tree.{Tree}
+use Rattle.asound_conf.specs.Answer.{seen}
+use Rattle.asound_conf.specs.Place.{base, placed}
+use Rattle.asound_conf.specs.View.{added, entries_of, is_leaf, placed_node, tree_of, IsLast}
 use Rattle.asound_conf.proofs.Indexes.{IsIndex-set}
-use Rattle.asound_conf.proofs.Puts.{put-at, put-nil, first_and_rest, OnOk-map}
+use Rattle.asound_conf.proofs.Places.{set-IsLast}
+use Rattle.asound_conf.proofs.Puts.{placed-at, placed-nil, first_and_rest, Leads-seen, Leads-along}
 use Rattle.asound_conf.proofs.group.+put.Goals as goal
 
 pub put-returns-in_default : goal.put-returns-in_default
-put-returns-in_default t c = put-nil c.args.text c.args.parts.now c.args.group.now c.in_default.len_below
+put-returns-in_default t c = placed-nil c.args.text c.args.parts.now c.args.group.now c.in_default.len_below
 
 pub put-invariant_of-group-2 : goal.put-invariant_of-group-2
 put-invariant_of-group-2 t c =
@@ -20,6 +24,7 @@ put-returns t c =
     let part = c.part-item.result in
     let parts = c.args.parts.now in
     let rest = take (length parts - 1) (drop 1 parts) in
+    let text = c.args.text in
     let g = c.args.group.now in
     let items = c.place_or_add.new.items.items in
     let at = c.in_ok-at.at in
@@ -28,9 +33,18 @@ put-returns t c =
     let whole = first_and_rest parts part (omega arith) c.part-item.is in
     let named : c.as_bytes.result.now ≡ part.name = c.as_bytes.ensures in
     let inside : entries_of c.group.inside.items.items ≡ base part g = c.group.view_is ∙ c.clear.ensures in
-    let are : entries_of items ≡ added part.name (base part g) = c.in_ok-at.ensures.items ∙ ap (λ n. added n (entries_of c.group.inside.items.items)) named ∙ ap (added part.name) inside in
+    let are : entries_of items ≡ added part.name (is_leaf text rest) (base part g) =
+    c.in_ok-at.ensures.items
+    ∙ ap (λ n. added n c.is_leaf.result (entries_of c.group.inside.items.items)) named
+    ∙ ap (λ l. added part.name l (entries_of c.group.inside.items.items)) c.is_leaf.ensures
+    ∙ ap (added part.name (is_leaf text rest)) inside in
     let place : IsLast part.name items at = rw named at c.in_ok-at.ensures.place in
     let value = c.index_mut.ensures.value in
     let same : new.0 ≡ (get_or items at item).0 = ap (λ (p : List ℕ × Node). p.0) value in
-    let goes_on = λ (p : List ℕ × Node). put_node c.args.text rest (tree_of p.1) in
-    OnOk-map c.put_node.result (λ puts. put-at c.args.text part rest g items at item new are place same (puts ∙ ap goes_on value) ∙ ap (λ ps. put c.args.text ps g) (sym whole)) c.put_node.ensures
+    let goes_on = λ (p : List ℕ × Node). placed_node text rest (tree_of p.1) in
+    let is_set = λ (tree : Tree). trees.set part.name tree (entries_of items) in
+    let r = c.put_node.result in
+    Leads-along r (is_set (tree_of new.1)) (entries_of (set items at new)) (seen is_set (placed_node text rest (tree_of item.1))) (placed text parts g)
+    (sym (set-IsLast part.name items at item new place same))
+    (ap (λ (p : List ℕ × Node). seen is_set (goes_on p)) value ∙ sym (placed-at text part rest g items at item are place) ∙ ap (λ ps. placed text ps g) (sym whole))
+    (Leads-seen r (tree_of new.1) is_set (placed_node text rest (tree_of item.1)) c.put_node.ensures)

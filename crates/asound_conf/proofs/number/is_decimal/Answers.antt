@@ -1,6 +1,6 @@
 use Rattle.std.proofs.Common.{◌≡◌, ◌&&◌, ◌==◌, true, sym, ap, ◌∙◌}
 use Rattle.std.specs.Str.Parse.{digits_value}
-use Rattle.asound_conf.specs.Device.{is_canonical}
+use Rattle.asound_conf.specs.Number.{is_canonical}
 use Rattle.asound_conf.proofs.Numerals.{bytes_eq-decimal, is_canonical-true}
 use Rattle.asound_conf.proofs.number.is_decimal.Goals as goal
 

@@ -1,6 +1,6 @@
-use Rattle.std.proofs.Common.{◌≡◌, ◌<◌, ◌∷◌, length, arith, false, true, sym, ◌∙◌, ap₂}
+use Rattle.std.proofs.Common.{◌≡◌, ◌<◌, ◌∷◌, length, arith, false, true, sym, ◌∙◌, ap, ap₂}
 use Rattle.std.specs.Prelude.{slice_index}
-use Rattle.asound_conf.specs.Token.{LineToken, is_skipped, tokens}
+use Rattle.asound_conf.specs.Token.{LineToken, is_skipped, token_of, tokens}
 use Rattle.asound_conf.proofs.Tokens.{tokens-token, tokens-skipped, tokens-none}
 use Rattle.asound_conf.proofs.token.next_token.Goals as goal
 
@@ -10,16 +10,18 @@ returns-then-not-is_skipped-clause-some c =
     let some : 0 < length text = grind arith in
     let kept : is_skipped (slice_index text 0) ≡ false = sym c.is_skipped.ensures ∙ c.if-not-is_skipped.true in
     let line = c.loop-rest.line in
+    let first = c.first_lexeme.ensures in
     c.loop-rest.invariant.0
-    ∙ tokens-token line text some c.after_first-behind.ensures.moves kept
-    ∙ ap₂ (λ t r. let one : LineToken = record { line = line; token = t } in one ∷ tokens 0 line r) (sym c.token_at.ensures) (sym c.after_first-behind.ensures.value)
+    ∙ tokens-token line text some first.moves kept
+    ∙ ap₂ (λ t r. let one : LineToken = record { line = line; token = t } in one ∷ tokens 0 line r) (sym first.token) (sym first.rest)
+    ∙ ap (λ l. let one : LineToken = record { line = l; token = token_of c.first_lexeme.result.token } in one ∷ tokens 0 l c.first_lexeme.result.rest.now) (sym first.line)
 
 pub loop-rest-preserved : goal.loop-rest-preserved
 loop-rest-preserved c =
     let text = c.loop-rest.rest.now in
     let some : 0 < length text = grind arith in
     let skipped : is_skipped (slice_index text 0) ≡ true = sym c.is_skipped.ensures ∙ c.if-not-is_skipped.false in
-    (c.loop-rest.invariant.0 ∙ tokens-skipped c.loop-rest.line text some c.after_first-behind.ensures.moves skipped ∙ ap₂ (tokens 0) (sym c.line_after-line.ensures.value) (sym c.after_first-behind.ensures.value), omega arith)
+    (c.loop-rest.invariant.0 ∙ tokens-skipped c.loop-rest.line text some c.after_skipped-rest.ensures.moves skipped ∙ ap₂ (tokens 0) (sym c.line_after-line.ensures.value) (sym c.after_skipped-rest.ensures.value), omega arith)
 
 pub returns-clause-none : goal.returns-clause-none
 returns-clause-none c =

@@ -1,8 +1,6 @@
-use Rattle.std.proofs.Common.{◌≡◌, ℕ, ◌+◌, ◌*◌, ◌%◌, ◌<◌, ◌∙◌, ap, refl, subst, arith, length, pos}
-use Rattle.std.specs.Prelude.{slice_index_or}
+use Rattle.std.proofs.Common.{ℕ, ◌+◌, refl, subst, arith}
 use Rattle.mix_core.specs.declared.port.Ended.{Ended}
 use Rattle.mix_core.specs.declared.port.Ended.TheVariants.{Whole}
-use Rattle.mix_core.specs.Port.{PortView}
 use Rattle.course.specs.AtPort.{TakesAt}
 use Rattle.bindings.specs.Bound.{rising}
 use Rattle.dmix_client.specs.Course.{lay_frame}
@@ -29,37 +27,22 @@ loop-frame-preserved g c =
     let before = c.loop-frame.invariant in
     let plain = c.args.plain.now in
     let number : ℕ = plain.stretch.committed + c.loop-frame.frame in
-    let is_slot : c.slot_of-slot.result ≡ (plain.stretch.source + number) % plain.setup.config.buffer_size * length plain.setup.bindings =
-    c.slot_of-slot.ensures.value ∙ ap (λ (n : ℕ). (plain.stretch.source + number) % plain.setup.config.buffer_size * n) c.len-channels.ensures.value in
-    let same : (k : ℕ) → k < length plain.setup.bindings → slice_index_or c.frame_of-samples.result.now k (pos 0) ≡ held plain c.args.ring.now number k =
-    λ k within. c.frame_of-samples.ensures.samples k (omega (arith, c.len-channels.ensures.value)) ∙ ap (λ (n : ℕ). slice_index_or c.args.ring.now (n + k) (pos 0)) is_slot in
-    let step : TakesAt port g.G.Gate (c.loop-frame.port, c.loop-frame.gate) (lay_frame plain.identity.member (plain.stretch.card + number) plain.setup.bindings (λ q. slice_index_or c.frame_of-samples.result.now q (pos 0))) (c.place_frame-placed.new.port, c.place_frame-placed.new.gate) (c.place_frame-placed.result.placed, Whole) =
-    subst (λ (m : ℕ). TakesAt port g.G.Gate (c.loop-frame.port, c.loop-frame.gate) (lay_frame m (plain.stretch.card + number) plain.setup.bindings (λ q. slice_index_or c.frame_of-samples.result.now q (pos 0))) (c.place_frame-placed.new.port, c.place_frame-placed.new.gate) (c.place_frame-placed.result.placed, Whole))
-    (ap (λ (v : PortView). v.member) before.view_is ∙ c.requires.member)
-    (subst (λ (e : Ended). TakesAt port g.G.Gate (c.loop-frame.port, c.loop-frame.gate) (lay_frame (port.view c.loop-frame.port).member (plain.stretch.card + number) plain.setup.bindings (λ q. slice_index_or c.frame_of-samples.result.now q (pos 0))) (c.place_frame-placed.new.port, c.place_frame-placed.new.gate) (c.place_frame-placed.result.placed, e)) c.in-Whole.is c.place_frame-placed.ensures) in
-    let frame = TakesAt-frame port g.G.Gate g.met.P.MixPort.laid_composes g.met.P.MixPort.loaded_composes plain.identity.member (plain.stretch.card + number) plain.setup.bindings (λ q. slice_index_or c.frame_of-samples.result.now q (pos 0)) (rising plain.setup.bindings)
+    let step : TakesAt port g.G.Gate (c.loop-frame.port, c.loop-frame.gate) (lay_frame plain.identity.member (plain.stretch.card + number) plain.setup.bindings (held plain c.args.ring.now number)) (c.place_frame-placed.new.port, c.place_frame-placed.new.gate) (c.place_frame-placed.result.placed, Whole) =
+    subst (λ (e : Ended). TakesAt port g.G.Gate (c.loop-frame.port, c.loop-frame.gate) (lay_frame plain.identity.member (plain.stretch.card + number) plain.setup.bindings (held plain c.args.ring.now number)) (c.place_frame-placed.new.port, c.place_frame-placed.new.gate) (c.place_frame-placed.result.placed, e)) c.in-Whole.is c.place_frame-placed.ensures in
+    let frame = TakesAt-frame port g.G.Gate g.met.P.MixPort.laid_composes g.met.P.MixPort.loaded_composes plain.identity.member (plain.stretch.card + number) plain.setup.bindings (held plain c.args.ring.now number) (rising plain.setup.bindings)
     (c.loop-frame.port, c.loop-frame.gate) (c.place_frame-placed.new.port, c.place_frame-placed.new.gate) c.place_frame-placed.result.placed Whole step in
     record {
       view_is = marks-joined (port.view c.args.port.now) (port.view c.loop-frame.port) (port.view c.place_frame-placed.new.port) _ before.view_is frame.view_is;
       cursor = omega (arith, frame.free (least_channel plain.setup.bindings) (IsFrom-next (port.view c.loop-frame.port).marks.cursor (plain.stretch.card + number) (least_channel plain.setup.bindings) (least_channel plain.setup.bindings) (omega (arith, before.cursor))));
       takes = RestFrames-next port g.G.Gate plain.identity.member plain.stretch.card plain.setup.bindings (held plain c.args.ring.now) c.args.count plain.stretch.committed (c.args.port.now, c.args.gate.now) (c.loop-frame.port, c.loop-frame.gate) (c.place_frame-placed.new.port, c.place_frame-placed.new.gate)
-          c.loop-frame.frame (plain.stretch.card + number) c.place_frame-placed.result.placed (λ q. slice_index_or c.frame_of-samples.result.now q (pos 0)) c.loop-frame-test.true c.requires.bound.bound refl same before.takes step;
+          c.loop-frame.frame c.place_frame-placed.result.placed c.loop-frame-test.true before.takes step;
     }
 
 pub returns-in_default : goal.returns-in_default
 returns-in_default g c =
-    let port = g.P.MixPort in
-    let before = c.loop-frame.invariant in
     let plain = c.args.plain.now in
-    let number : ℕ = plain.stretch.committed + c.loop-frame.frame in
-    let is_slot : c.slot_of-slot.result ≡ (plain.stretch.source + number) % plain.setup.config.buffer_size * length plain.setup.bindings =
-    c.slot_of-slot.ensures.value ∙ ap (λ (n : ℕ). (plain.stretch.source + number) % plain.setup.config.buffer_size * n) c.len-channels.ensures.value in
-    let same : (k : ℕ) → k < length plain.setup.bindings → slice_index_or c.frame_of-samples.result.now k (pos 0) ≡ held plain c.args.ring.now number k =
-    λ k within. c.frame_of-samples.ensures.samples k (omega (arith, c.len-channels.ensures.value)) ∙ ap (λ (n : ℕ). slice_index_or c.args.ring.now (n + k) (pos 0)) is_slot in
-    RestFrames-ended port g.G.Gate plain.identity.member plain.stretch.card plain.setup.bindings (held plain c.args.ring.now) c.args.count plain.stretch.committed (c.args.port.now, c.args.gate.now) (c.loop-frame.port, c.loop-frame.gate) (c.place_frame-placed.new.port, c.place_frame-placed.new.gate)
-    c.loop-frame.frame (plain.stretch.card + number) c.place_frame-placed.result.placed (λ q. slice_index_or c.frame_of-samples.result.now q (pos 0)) c.place_frame-placed.result.ended c.loop-frame-test.true c.requires.bound.bound refl same c.in_default.not-Whole before.takes
-    (subst (λ (m : ℕ). TakesAt port g.G.Gate (c.loop-frame.port, c.loop-frame.gate) (lay_frame m (plain.stretch.card + number) plain.setup.bindings (λ q. slice_index_or c.frame_of-samples.result.now q (pos 0))) (c.place_frame-placed.new.port, c.place_frame-placed.new.gate) (c.place_frame-placed.result.placed, c.place_frame-placed.result.ended))
-    (ap (λ (v : PortView). v.member) before.view_is ∙ c.requires.member) c.place_frame-placed.ensures)
+    RestFrames-ended g.P.MixPort g.G.Gate plain.identity.member plain.stretch.card plain.setup.bindings (held plain c.args.ring.now) c.args.count plain.stretch.committed (c.args.port.now, c.args.gate.now) (c.loop-frame.port, c.loop-frame.gate) (c.place_frame-placed.new.port, c.place_frame-placed.new.gate)
+    c.loop-frame.frame c.place_frame-placed.result.placed c.place_frame-placed.result.ended c.loop-frame-test.true c.in_default.not-Whole c.loop-frame.invariant.takes c.place_frame-placed.ensures
 
 pub returns : goal.returns
 returns g c =

@@ -4,7 +4,7 @@ use Rattle.mix_core.specs.Port.{load_of}
 use Rattle.course.specs.AtPort.{LoadsAt}
 use Rattle.dmix_client.specs.Calls.{sync_count}
 use Rattle.dmix_client.specs.CourseLaws.{TakesAt-looks}
-use Rattle.dmix_client.proofs.Growing.{configured-moving}
+use Rattle.dmix_client.proofs.Sound.{configured-moving}
 use Rattle.dmix_client.proofs.Looking.{looks-none, looks-some}
 use Rattle.dmix_client.proofs.commit.look_and_commit.Goals as goal
 

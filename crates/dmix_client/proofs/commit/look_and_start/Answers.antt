@@ -5,7 +5,7 @@ use Rattle.pcm_states.specs.declared.states.State.TheVariants.{Running}
 use Rattle.course.specs.AtPort.{LoadsAt}
 use Rattle.dmix_client.specs.Calls.{start_count, started_in}
 use Rattle.dmix_client.specs.CourseLaws.{TakesAt-looks}
-use Rattle.dmix_client.proofs.Growing.{configured-prepared}
+use Rattle.dmix_client.proofs.Sound.{configured-prepared}
 use Rattle.dmix_client.proofs.Looking.{looks-none, looks-some}
 use Rattle.dmix_client.proofs.commit.look_and_start.Goals as goal
 

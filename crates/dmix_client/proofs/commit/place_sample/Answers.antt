@@ -11,7 +11,7 @@ pub returns : goal.returns
 returns g c =
     let port = g.P.MixPort in
     let view = port.view c.args.port.now in
-    let fits : SFits w16 c.args.sample = search rules in
-    subst (λ (ended : Ended). LaysAt port g.G.Gate (c.args.port.now, c.args.gate.now) (an_add view.member c.args.frame c.args.channel c.args.sample) ended (c.place.new.self, c.place.new.gate)) (sym c.of.ensures)
-    (subst (λ (sample : ℤ). LaysAt port g.G.Gate (c.args.port.now, c.args.gate.now) (an_add view.member c.args.frame c.args.channel sample) (ended_of c.place.result) (c.place.new.self, c.place.new.gate)) (to_z-of_z fits)
+    let fits : SFits w16 c.args.bound.sample = search rules in
+    subst (λ (ended : Ended). LaysAt port g.G.Gate (c.args.port.now, c.args.gate.now) (an_add view.member c.args.frame c.args.bound.channel c.args.bound.sample) ended (c.place.new.self, c.place.new.gate)) (sym c.of.ensures)
+    (subst (λ (sample : ℤ). LaysAt port g.G.Gate (c.args.port.now, c.args.gate.now) (an_add view.member c.args.frame c.args.bound.channel sample) (ended_of c.place.result) (c.place.new.self, c.place.new.gate)) (to_z-of_z fits)
     (c.place.ensures.step (lap-below c.args.frame view.geometry.frames c.requires.fits)))

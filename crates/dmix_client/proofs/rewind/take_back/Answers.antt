@@ -1,4 +1,4 @@
-use Rattle.std.proofs.Common.{◌≤◌, ◌-◌, ℕ, length, refl, subst, sym, arith}
+use Rattle.std.proofs.Common.{rules, ◌-◌, ℕ, length, refl, subst, sym, arith}
 use Rattle.dmix_client.specs.Expansion.{run_entries}
 use Rattle.dmix_client.specs.Rewind.{back_of}
 use Rattle.dmix_client.specs.View.{IsMoving, held}
@@ -16,33 +16,27 @@ take_frames-left-requires-clause-held g c =
     subst (λ (b : ℕ). port.ends_in c.args.port.now (run_entries d.identity.member d.setup.bindings (held d c.args.ring.now) d.stretch.card (d.stretch.committed - b) b 0)) (sym c.back.ensures)
     (g.met.P.MixPort.ends_in_part c.args.port.now _ _ (subst (port.ends_in c.args.port.now) (held-last d c.args.ring.now floor c.args.frames m is) c.requires.standing))
 
-pub rewound-after-requires-clause-committed : goal.rewound-after-requires-clause-committed
-rewound-after-requires-clause-committed g c =
+pub rewound-after-requires : goal.rewound-after-requires
+rewound-after-requires g c =
     let port = g.P.MixPort in
     let d = c.args.plain.now in
     let floor = (port.view c.args.port.now).marks.floor in
     let m : IsMoving d = c.requires.sound.moving (rw c.requires.running refl) c.requires.unstopped in
     let holds : HoldsBy port = record { laid_composes = g.met.P.MixPort.laid_composes; loaded_composes = g.met.P.MixPort.loaded_composes; part = g.met.P.MixPort.ends_in_part; nothing = g.met.P.MixPort.held_nothing; back = g.met.P.MixPort.held_back } in
     let x = c.take_frames-left.result in
-    let are = take_frames-took d c.args.ring.now floor c.args.frames c.requires.sound c.requires.running c.requires.unstopped (IsBack-of d floor c.args.frames m c.requires.few) port g.G.Gate holds
+    let is = IsBack-of d floor c.args.frames m c.requires.few in
+    let are = take_frames-took d c.args.ring.now floor c.args.frames c.requires.sound c.requires.running c.requires.unstopped is port g.G.Gate holds
     (c.args.port.now, c.args.gate.now) (c.take_frames-left.new.port, c.take_frames-left.new.gate) c.back.result x c.back.ensures refl c.requires.port c.take_frames-left.ensures in
-    (left-few x.ended x.frames x.part (back_of d c.args.frames) (length d.setup.bindings) are).0
-
-pub rewound-after-requires-clause-few : goal.rewound-after-requires-clause-few
-rewound-after-requires-clause-few g c =
-    let few : c.take_frames-left.result.frames ≤ back_of c.args.plain.now c.args.frames = rewound-after-requires-clause-committed g c in omega (arith, few)
-
-pub rewound-after-requires-clause-part : goal.rewound-after-requires-clause-part
-rewound-after-requires-clause-part g c =
-    let port = g.P.MixPort in
-    let d = c.args.plain.now in
-    let floor = (port.view c.args.port.now).marks.floor in
-    let m : IsMoving d = c.requires.sound.moving (rw c.requires.running refl) c.requires.unstopped in
-    let holds : HoldsBy port = record { laid_composes = g.met.P.MixPort.laid_composes; loaded_composes = g.met.P.MixPort.loaded_composes; part = g.met.P.MixPort.ends_in_part; nothing = g.met.P.MixPort.held_nothing; back = g.met.P.MixPort.held_back } in
-    let x = c.take_frames-left.result in
-    let are = take_frames-took d c.args.ring.now floor c.args.frames c.requires.sound c.requires.running c.requires.unstopped (IsBack-of d floor c.args.frames m c.requires.few) port g.G.Gate holds
-    (c.args.port.now, c.args.gate.now) (c.take_frames-left.new.port, c.take_frames-left.new.gate) c.back.result x c.back.ensures refl c.requires.port c.take_frames-left.ensures in
-    left-part x.ended x.frames x.part (back_of d c.args.frames) (length d.setup.bindings) are
+    let few = left-few x.ended x.frames x.part (back_of d c.args.frames) (length d.setup.bindings) are in
+    record {
+      few = omega (arith, few.0);
+      written = is.few;
+      fed = omega (arith, c.requires.sound.fed);
+      committed = few.0;
+      back = is.back;
+      fits = search rules;
+      part = left-part x.ended x.frames x.part (back_of d c.args.frames) (length d.setup.bindings) are;
+    }
 
 pub returns : goal.returns
 returns g c =

@@ -4,7 +4,7 @@ use Rattle.dmix_client.specs.Course.{commits}
 use Rattle.dmix_client.specs.CourseLaws.{TakesAt-frames}
 use Rattle.dmix_client.specs.View.{held}
 use Rattle.dmix_client.specs.Writes.{count_with}
-use Rattle.dmix_client.proofs.Growing.{configured-moving}
+use Rattle.dmix_client.proofs.Sound.{configured-moving}
 use Rattle.dmix_client.proofs.write.commit_taken.Goals as goal
 
 pub returns-clause-takes : goal.returns-clause-takes

@@ -1,10 +1,7 @@
-use Rattle.std.proofs.Common.{rules, ◌≡◌, ◌≤◌, ◌+◌, ℕ, arith, subst, sym}
+use Rattle.std.proofs.Common.{rules, ◌≡◌, ◌≤◌, ℕ, arith, subst, sym}
 use Rattle.std.specs.Prelude.{IfOk, Ok, Err, Result}
 use Rattle.snd_base.specs.declared.errors.PcmError.{PcmError}
 use Rattle.dmix_client.specs.declared.plain.Plain.{Plain}
-use Rattle.pcm_states.specs.declared.states.State.TheVariants.{Running}
-use Rattle.dmix_client.specs.Calls.{accepted_if, start_count, started, started_in}
-use Rattle.dmix_client.specs.Causes.{Explains}
 use Rattle.dmix_client.specs.Growth.{Follows, Keeps}
 use Rattle.dmix_client.proofs.Keeping.{client, filled-kept, stored-kept}
 use Rattle.dmix_client.proofs.write.write_prepared.Goals as goal
@@ -16,28 +13,19 @@ returns-then-plain-taken-clause-keeps g c =
     (stored-kept g.P.MixPort g.G.Gate g.met.P.MixPort.laid_composes g.met.P.MixPort.loaded_composes (c.args.port.now, c.args.gate.now) plain c.args.ring.now c.store_taken.new.ring c.args.samples.now c.args.frames c.taken-taken.result
     c.taken-taken.ensures c.store_taken.ensures.ring c.requires.sound c.store_taken.ensures.sound c.requires.prepared c.requires.held c.requires.port)
 
-pub returns-clause-keeps : goal.returns-clause-keeps
-returns-clause-keeps g c =
-    (filled-kept g.P.MixPort g.G.Gate g.met.P.MixPort.laid_composes g.met.P.MixPort.loaded_composes (c.args.port.now, c.args.gate.now) (c.start_write.new.port, c.start_write.new.gate) c.args.plain.now c.args.ring.now c.store_taken.new.ring c.args.samples.now c.args.frames c.taken-taken.result
-    (c.start_write.new.plain, c.start_write.result) c.taken-taken.ensures c.store_taken.ensures.ring c.requires.sound c.store_taken.ensures.sound c.requires.prepared c.requires.held c.start_write.ensures.near c.requires.port c.start_write.ensures.takes).keeps
-
-pub returns-clause-sound : goal.returns-clause-sound
-returns-clause-sound g c = (returns-clause-keeps g c).sound
-
 few : (r : Result ℕ PcmError) (m : ℕ) → m ≤ 16384 → IfOk r (λ k. k ≡ m) → IfOk r (λ k. k ≤ 16384)
 few (Ok k) m low is = omega (arith, low, is)
 few (Err e) m low is = tt
 
-pub returns-clause-count : goal.returns-clause-count
-returns-clause-count g c =
-    few c.start_write.result c.taken-taken.result (search rules)
-    (filled-kept g.P.MixPort g.G.Gate g.met.P.MixPort.laid_composes g.met.P.MixPort.loaded_composes (c.args.port.now, c.args.gate.now) (c.start_write.new.port, c.start_write.new.gate) c.args.plain.now c.args.ring.now c.store_taken.new.ring c.args.samples.now c.args.frames c.taken-taken.result
-    (c.start_write.new.plain, c.start_write.result) c.taken-taken.ensures c.store_taken.ensures.ring c.requires.sound c.store_taken.ensures.sound c.requires.prepared c.requires.held c.start_write.ensures.near c.requires.port c.start_write.ensures.takes).count
-
-pub returns-clause-explains : goal.returns-clause-explains
-returns-clause-explains g c starts =
-    let plain = c.args.plain.now in
-    subst (λ (m : ℕ). Explains g.P.MixPort g.G.Gate (c.args.port.now, c.args.gate.now) (c.start_write.new.port, c.start_write.new.gate) (client plain c.store_taken.new.ring) (λ position. started_in plain Running position (g.P.MixPort.view c.args.port.now).marks.cursor)
-    (λ position. start_count plain (g.P.MixPort.view c.args.port.now).marks.cursor position (plain.stretch.written + m)) (λ load commit. accepted_if m (started plain Running (g.P.MixPort.view c.args.port.now).marks.cursor load commit)) (c.start_write.new.plain, c.start_write.result)) c.taken-taken.ensures
-    (filled-kept g.P.MixPort g.G.Gate g.met.P.MixPort.laid_composes g.met.P.MixPort.loaded_composes (c.args.port.now, c.args.gate.now) (c.start_write.new.port, c.start_write.new.gate) c.args.plain.now c.args.ring.now c.store_taken.new.ring c.args.samples.now c.args.frames c.taken-taken.result
-    (c.start_write.new.plain, c.start_write.result) c.taken-taken.ensures c.store_taken.ensures.ring c.requires.sound c.store_taken.ensures.sound c.requires.prepared c.requires.held c.start_write.ensures.near c.requires.port c.start_write.ensures.takes).explains
+pub returns : goal.returns
+returns g c =
+    let kept = filled-kept g.P.MixPort g.G.Gate g.met.P.MixPort.laid_composes g.met.P.MixPort.loaded_composes (c.args.port.now, c.args.gate.now) (c.start_write.new.port, c.start_write.new.gate) c.args.plain.now c.args.ring.now c.store_taken.new.ring c.args.samples.now c.args.frames c.taken-taken.result
+    (c.start_write.new.plain, c.start_write.result) c.taken-taken.ensures c.store_taken.ensures.ring c.requires.sound c.store_taken.ensures.sound c.requires.prepared c.requires.held c.start_write.ensures.near c.requires.port c.start_write.ensures.takes in
+    record {
+      takes = search rules;
+      ring = search rules;
+      sound = kept.keeps.sound;
+      count = few c.start_write.result c.taken-taken.result (search rules) kept.count;
+      keeps = kept.keeps;
+      explains = λ starts. rw (← c.taken-taken.ensures) kept.explains;
+    }

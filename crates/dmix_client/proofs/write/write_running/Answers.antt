@@ -9,7 +9,7 @@ use Rattle.dmix_client.specs.Course.{syncs}
 use Rattle.dmix_client.specs.Growth.{AnySamples, Keeps}
 use Rattle.pcm_stream.specs.Status.{is_moving}
 use Rattle.dmix_client.proofs.Going.{ok-of}
-use Rattle.dmix_client.proofs.Growing.{configured-moving}
+use Rattle.dmix_client.proofs.Sound.{configured-moving}
 use Rattle.dmix_client.proofs.Keeping.{client, syncs-runs, writes-explained, writes-kept}
 use Rattle.dmix_client.proofs.Looking.{writes_on-by}
 use Rattle.dmix_client.proofs.write.write_running.Goals as goal

@@ -1,6 +1,5 @@
-use Rattle.std.proofs.Common.{refl, sym, subst, ◌∙◌}
+use Rattle.std.proofs.Common.{sym, subst, ◌∙◌}
 use Rattle.lab_script.specs.declared.line.Op.{Op}
-use Rattle.lab_script.specs.declared.line.Op.TheVariants as op
 use Rattle.lab_report.specs.declared.row.Answer.TheVariants.{Done}
 use Rattle.lab_actor.specs.ClientLines.{HasAnswered}
 use Rattle.lab_actor.specs.Countdown.{by_gate_of, left_of}

@@ -1,20 +1,19 @@
 use Rattle.std.proofs.Common.{rules, ◌≡◌, refl, subst, sym}
-use Rattle.std.specs.Prelude.{List, None, Ok, Result, ℤ}
+use Rattle.std.specs.Prelude.{None, Ok, Result}
 use Rattle.snd_base.specs.declared.errors.PcmError.{PcmError}
 use Rattle.pcm_states.specs.declared.calls.Call.TheVariants as call
 use Rattle.course.specs.AtPort.{TakesAt}
 use Rattle.dmix_client.specs.declared.plain.Plain.{Plain}
 use Rattle.pcm_stream.specs.Status.{refusal_of}
 use Rattle.pcm_stream.specs.declared.direction.Direction.TheVariants.{Playback}
-use Rattle.dmix_client.specs.Calls.{draining, sync_count, synced}
-use Rattle.dmix_client.specs.Causes.{Explains}
+use Rattle.dmix_client.specs.Calls.{draining}
 use Rattle.dmix_client.specs.Course.{syncs}
 use Rattle.dmix_client.specs.Growth.{AnySamples, Keeps}
 use Rattle.dmix_client.specs.Port.{CanUse}
 use Rattle.dmix_client.specs.View.{ClientView}
 use Rattle.dmix_client.proofs.Going.{refusal_of-unstopped}
-use Rattle.dmix_client.proofs.Growing.{configured-moving}
-use Rattle.dmix_client.proofs.Keeping.{client, dropped-kept, syncs-explained, syncs-still}
+use Rattle.dmix_client.proofs.Sound.{configured-moving}
+use Rattle.dmix_client.proofs.Keeping.{client, dropped-kept, syncs-still}
 use Rattle.dmix_client.proofs.client.Client.drain.Goals as goal
 
 pub returns-then-is_moving-clause-keeps : goal.returns-then-is_moving-clause-keeps
@@ -33,13 +32,7 @@ returns-then-is_moving-clause-again g c admitted =
     (subst (λ (d : Plain). TakesAt g.P.MixPort g.G.Gate (c.args.port.now, c.args.gate.now) (syncs d call.Drain c.as_slice-ring.result.now) (c.sync_call.new.port, c.sync_call.new.gate) (c.sync_call.new.plain, c.sync_call.result)) c.draining-self-inside.ensures c.sync_call.ensures.takes)
 
 pub returns-then-is_moving-clause-causes : goal.returns-then-is_moving-clause-causes
-returns-then-is_moving-clause-causes g c admitted moves =
-    let plain = c.self.inside.plain in
-    let bound = (configured-moving plain c.self.inside.ring.items c.self.invariant (search rules)).bound in
-    subst (λ (v : ClientView). Explains g.P.MixPort g.G.Gate (c.args.port.now, c.args.gate.now) (c.sync_call.new.port, c.sync_call.new.gate) (client (draining v.plain) v.ring) (λ position. draining v.plain) (sync_count (draining v.plain)) (synced (draining v.plain) call.Drain) (c.sync_call.new.plain, c.sync_call.result)) c.self.view_is
-    (subst (λ (r : List ℤ). Explains g.P.MixPort g.G.Gate (c.args.port.now, c.args.gate.now) (c.sync_call.new.port, c.sync_call.new.gate) (client (draining plain) r) (λ position. draining plain) (sync_count (draining plain)) (synced (draining plain) call.Drain) (c.sync_call.new.plain, c.sync_call.result)) c.as_slice-ring.ensures.value
-    (syncs-explained g.P.MixPort g.G.Gate g.met.P.MixPort.laid_composes g.met.P.MixPort.loaded_composes (c.args.port.now, c.args.gate.now) (c.sync_call.new.port, c.sync_call.new.gate) (draining plain) c.as_slice-ring.result.now call.Drain (c.sync_call.new.plain, c.sync_call.result) bound tt
-    (subst (λ (d : Plain). TakesAt g.P.MixPort g.G.Gate (c.args.port.now, c.args.gate.now) (syncs d call.Drain c.as_slice-ring.result.now) (c.sync_call.new.port, c.sync_call.new.gate) (c.sync_call.new.plain, c.sync_call.result)) c.draining-self-inside.ensures c.sync_call.ensures.takes)))
+returns-then-is_moving-clause-causes g c admitted moves = rw (← c.self.view_is, ← c.as_slice-ring.ensures.value, ← c.draining-self-inside.ensures) c.sync_call.ensures.explains
 
 pub returns-then-not-has_frames-clause-keeps : goal.returns-then-not-has_frames-clause-keeps
 returns-then-not-has_frames-clause-keeps g c =

@@ -1,32 +1,22 @@
 use Rattle.std.proofs.Common.{rules, ◌≡◌, subst, sym}
-use Rattle.std.specs.Prelude.{List, None, Ok, Result, ℤ}
+use Rattle.std.specs.Prelude.{None, Ok, Result}
 use Rattle.snd_base.specs.declared.errors.PcmError.{PcmError}
-use Rattle.pcm_states.specs.declared.states.State.TheVariants.{Running}
 use Rattle.pcm_states.specs.declared.calls.Call.TheVariants as call
-use Rattle.course.specs.AtPort.{TakesAt}
 use Rattle.dmix_client.specs.declared.plain.Plain.{Plain}
 use Rattle.pcm_stream.specs.Status.{refusal_of}
 use Rattle.pcm_stream.specs.declared.direction.Direction.TheVariants.{Playback}
-use Rattle.dmix_client.specs.Calls.{base_of, pending_of, rebased, resumed, start_count, started_in}
-use Rattle.dmix_client.specs.Causes.{Explains}
-use Rattle.dmix_client.specs.Course.{resumes}
+use Rattle.dmix_client.specs.Calls.{base_of}
 use Rattle.dmix_client.specs.Growth.{AnySamples, Keeps}
 use Rattle.dmix_client.specs.Port.{CanUse}
 use Rattle.dmix_client.specs.View.{ClientView}
-use Rattle.dmix_client.proofs.Keeping.{client, paused-kept, rebased-kept, refusal_of-resume, refused-kept, resumes-explained, resumes-kept}
+use Rattle.dmix_client.proofs.Keeping.{client, paused-kept, rebased-kept, base-kept}
 use Rattle.dmix_client.proofs.client.Client.pause.Goals as goal
 
 pub returns-in_err-admit-clause-keeps : goal.returns-in_err-admit-clause-keeps
-returns-in_err-admit-clause-keeps g c =
-    let v = c.args.self.now in
-    let k : Keeps g.P.MixPort g.G.Gate (c.args.port.now, c.args.gate.now) (c.args.port.now, c.args.gate.now) (client v.plain v.ring) (client v.plain v.ring) c.from_residual.result AnySamples = search rules in
-    refused-kept g.P.MixPort g.G.Gate g.met.P.MixPort.laid_composes g.met.P.MixPort.loaded_composes (c.args.port.now, c.args.gate.now) v.plain v.ring c.from_residual.result k
+returns-in_err-admit-clause-keeps g c = rw (base-kept c.args.self.now.plain c.args.self.now.plain (λ is. is)) (search rules)
 
 pub returns-in_err-admit-2-clause-keeps : goal.returns-in_err-admit-2-clause-keeps
-returns-in_err-admit-2-clause-keeps g c =
-    let v = c.args.self.now in
-    let k : Keeps g.P.MixPort g.G.Gate (c.args.port.now, c.args.gate.now) (c.args.port.now, c.args.gate.now) (client v.plain v.ring) (client v.plain v.ring) c.from_residual-in_err-admit-2.result AnySamples = search rules in
-    refused-kept g.P.MixPort g.G.Gate g.met.P.MixPort.laid_composes g.met.P.MixPort.loaded_composes (c.args.port.now, c.args.gate.now) v.plain v.ring c.from_residual-in_err-admit-2.result k
+returns-in_err-admit-2-clause-keeps g c = rw (base-kept c.args.self.now.plain c.args.self.now.plain (λ is. is)) (search rules)
 
 pub returns-then-on-clause-keeps : goal.returns-then-on-clause-keeps
 returns-then-on-clause-keeps g c =
@@ -45,24 +35,10 @@ returns-then-pending-eq0-clause-keeps g c =
     rw (← c.self.view_is) (subst (λ (d : Plain). Keeps g.P.MixPort g.G.Gate (c.args.port.now, c.args.gate.now) (c.args.port.now, c.args.gate.now) (client (base_of plain d) c.self.inside.ring.items) (client d c.self.inside.ring.items) (let r : Result (Unit {0}) PcmError = Ok tt in r) AnySamples) (sym c.rebased-self-inside.ensures) k)
 
 pub returns-clause-keeps : goal.returns-clause-keeps
-returns-clause-keeps g c =
-    let plain = c.self.inside.plain in
-    let ring : List ℤ = c.self.inside.ring.items in
-    let admitted : refusal_of Playback plain.status call.Resume ≡ None = search rules in
-    rw (← c.self.view_is) (resumes-kept g.P.MixPort g.G.Gate g.met.P.MixPort.laid_composes g.met.P.MixPort.loaded_composes (c.args.port.now, c.args.gate.now) (c.resume.new.port, c.resume.new.gate)
-    plain ring (c.resume.new.plain, c.resume.result) c.self.invariant (refusal_of-resume plain admitted) c.resume.ensures.near (subst (λ (v : ClientView). CanUse v.plain (g.P.MixPort.view c.args.port.now)) (sym c.self.view_is) c.requires)
-    (subst (λ (r : List ℤ). TakesAt g.P.MixPort g.G.Gate (c.args.port.now, c.args.gate.now) (resumes plain (g.P.MixPort.view c.args.port.now).marks.cursor r) (c.resume.new.port, c.resume.new.gate) (c.resume.new.plain, c.resume.result)) c.as_slice-ring.ensures.value c.resume.ensures.takes))
+returns-clause-keeps g c = rw (← c.self.view_is, ← c.as_slice-ring.ensures.value) c.resume.ensures.keeps
 
 pub invariant_of-self-2 : goal.invariant_of-self-2
-invariant_of-self-2 g c = (returns-clause-keeps g c).sound
+invariant_of-self-2 g c = rw (← c.as_slice-ring.ensures.value) c.resume.ensures.keeps.sound
 
 pub returns-clause-causes : goal.returns-clause-causes
-returns-clause-causes g c not_refused off some =
-    let plain = c.self.inside.plain in
-    let ring : List ℤ = c.self.inside.ring.items in
-    let cursor = (g.P.MixPort.view c.args.port.now).marks.cursor in
-    let admitted : refusal_of Playback plain.status call.Resume ≡ None = search rules in
-    subst (λ (v : ClientView). Explains g.P.MixPort g.G.Gate (c.args.port.now, c.args.gate.now) (c.resume.new.port, c.resume.new.gate) (client (rebased v.plain) v.ring) (λ position. started_in (rebased v.plain) Running position cursor)
-    (λ position. start_count (rebased v.plain) cursor position (pending_of v.plain)) (resumed v.plain cursor) (c.resume.new.plain, c.resume.result)) c.self.view_is
-    (resumes-explained g.P.MixPort g.G.Gate g.met.P.MixPort.laid_composes g.met.P.MixPort.loaded_composes (c.args.port.now, c.args.gate.now) (c.resume.new.port, c.resume.new.gate) plain ring cursor (c.resume.new.plain, c.resume.result) c.self.invariant (refusal_of-resume plain admitted)
-    (subst (λ (r : List ℤ). TakesAt g.P.MixPort g.G.Gate (c.args.port.now, c.args.gate.now) (resumes plain cursor r) (c.resume.new.port, c.resume.new.gate) (c.resume.new.plain, c.resume.result)) c.as_slice-ring.ensures.value c.resume.ensures.takes))
+returns-clause-causes g c not_refused off some = rw (← c.self.view_is, ← c.as_slice-ring.ensures.value) c.resume.ensures.explains

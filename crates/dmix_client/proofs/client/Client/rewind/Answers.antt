@@ -1,50 +1,24 @@
-use Rattle.std.proofs.Common.{rules, ◌≡◌, ◌≤◌, ℕ, arith, subst, sym}
-use Rattle.std.proofs.lemmas.Bool.Decides.{nat_tests}
-use Rattle.std.specs.Prelude.{List, Ok, Result, ℤ, false, min}
+use Rattle.std.proofs.Common.{rules, ◌≡◌, ◌≤◌, ℕ, subst, sym}
+use Rattle.std.specs.Prelude.{Ok, Result}
 use Rattle.snd_base.specs.declared.errors.PcmError.{PcmError}
-use denote.Enum.Bare.{same_true}
-use Rattle.pcm_states.specs.contracts.states.State.{the_type}
-use Rattle.pcm_states.specs.declared.states.State.TheVariants.{Prepared, Running}
-use Rattle.course.specs.AtPort.{TakesAt}
+use Rattle.pcm_states.specs.declared.states.State.TheVariants.{Prepared}
 use Rattle.dmix_client.specs.declared.plain.Plain.{Plain}
 use Rattle.dmix_client.specs.Growth.{KeepsBack}
 use Rattle.dmix_client.specs.Port.{CanUse}
-use Rattle.dmix_client.specs.Rewind.{rewinds}
-use Rattle.dmix_client.specs.RewindCauses.{ExplainsRewind}
 use Rattle.dmix_client.specs.View.{ClientView}
 use Rattle.dmix_client.proofs.Keeping.{client}
-use Rattle.dmix_client.proofs.Rewinding.{rewinds-kept, without-kept}
+use Rattle.dmix_client.proofs.Rewinding.{few-of, without-kept}
 use Rattle.dmix_client.proofs.Withdrawing.{HoldsBy}
 use Rattle.dmix_client.proofs.client.Client.rewind.Goals as goal
 
 pub returns-then-eq-clause-keeps : goal.returns-then-eq-clause-keeps
-returns-then-eq-clause-keeps g c =
-    let holds : HoldsBy g.P.MixPort = record { laid_composes = g.met.P.MixPort.laid_composes; loaded_composes = g.met.P.MixPort.loaded_composes; part = g.met.P.MixPort.ends_in_part; nothing = g.met.P.MixPort.held_nothing; back = g.met.P.MixPort.held_back } in
-    let plain = c.self.inside.plain in
-    let ring : List ℤ = c.self.inside.ring.items in
-    let runs : plain.status.state ≡ Running = same_true the_type (search rules) _ _ (sym c.if-eq.ensures) in
-    let going : plain.status.stopped ≡ false = search rules in
-    rw (← c.self.view_is) (rewinds-kept g.P.MixPort g.G.Gate holds (c.args.port.now, c.args.gate.now) (c.rewind_running.new.port, c.rewind_running.new.gate) plain ring c.args.frames (c.rewind_running.new.plain, c.rewind_running.result)
-    c.self.invariant runs going (subst (λ (v : ClientView). CanUse v.plain (g.P.MixPort.view c.args.port.now)) (sym c.self.view_is) c.requires.port)
-    (subst (λ (r : List ℤ). TakesAt g.P.MixPort g.G.Gate (c.args.port.now, c.args.gate.now) (rewinds plain r (g.P.MixPort.view c.args.port.now).marks.floor c.args.frames) (c.rewind_running.new.port, c.rewind_running.new.gate) (c.rewind_running.new.plain, c.rewind_running.result)) c.as_slice-ring.ensures.value c.rewind_running.ensures)).keeps
+returns-then-eq-clause-keeps g c = rw (← c.self.view_is, ← c.as_slice-ring.ensures.value) c.rewind_running.ensures.keeps
 
 pub invariant_of-self : goal.invariant_of-self
-invariant_of-self g c = (returns-then-eq-clause-keeps g c).sound
+invariant_of-self g c = rw (← c.as_slice-ring.ensures.value) c.rewind_running.ensures.keeps.sound
 
 pub returns-then-eq-clause-causes : goal.returns-then-eq-clause-causes
-returns-then-eq-clause-causes g c admitted running =
-    let holds : HoldsBy g.P.MixPort = record { laid_composes = g.met.P.MixPort.laid_composes; loaded_composes = g.met.P.MixPort.loaded_composes; part = g.met.P.MixPort.ends_in_part; nothing = g.met.P.MixPort.held_nothing; back = g.met.P.MixPort.held_back } in
-    let plain = c.self.inside.plain in
-    let ring : List ℤ = c.self.inside.ring.items in
-    let runs : plain.status.state ≡ Running = same_true the_type (search rules) _ _ (sym c.if-eq.ensures) in
-    let going : plain.status.stopped ≡ false = search rules in
-    subst (λ (v : ClientView). ExplainsRewind g.P.MixPort g.G.Gate (c.args.port.now, c.args.gate.now) (c.rewind_running.new.port, c.rewind_running.new.gate) v.plain v.ring (g.P.MixPort.view c.args.port.now).marks.floor c.args.frames (c.rewind_running.new.plain, c.rewind_running.result)) c.self.view_is
-    (rewinds-kept g.P.MixPort g.G.Gate holds (c.args.port.now, c.args.gate.now) (c.rewind_running.new.port, c.rewind_running.new.gate) plain ring c.args.frames (c.rewind_running.new.plain, c.rewind_running.result)
-    c.self.invariant runs going (subst (λ (v : ClientView). CanUse v.plain (g.P.MixPort.view c.args.port.now)) (sym c.self.view_is) c.requires.port)
-    (subst (λ (r : List ℤ). TakesAt g.P.MixPort g.G.Gate (c.args.port.now, c.args.gate.now) (rewinds plain r (g.P.MixPort.view c.args.port.now).marks.floor c.args.frames) (c.rewind_running.new.port, c.rewind_running.new.gate) (c.rewind_running.new.plain, c.rewind_running.result)) c.as_slice-ring.ensures.value c.rewind_running.ensures)).explains
-
-few-of : (n r : ℕ) → min n r ≤ r
-few-of n r = grind (arith, nat_tests)
+returns-then-eq-clause-causes g c admitted running = rw (← c.self.view_is, ← c.as_slice-ring.ensures.value) c.rewind_running.ensures.explains
 
 pub returns-clause-keeps : goal.returns-clause-keeps
 returns-clause-keeps g c =

@@ -1,28 +1,26 @@
-use Rattle.std.proofs.Common.{refl, rules, subst, sym}
-use Rattle.std.specs.Prelude.{List, Ok, Result, ℤ}
+use Rattle.std.proofs.Common.{refl, subst, sym, rules, ◌≡◌}
+use Rattle.std.specs.Prelude.{Ok, Result, true}
 use Rattle.snd_base.specs.declared.errors.PcmError.{PcmError}
 use Rattle.dmix_client.specs.Growth.{AnySamples}
 use Rattle.dmix_client.specs.Port.{CanUse}
-use Rattle.pcm_states.specs.declared.calls.Call.TheVariants as call
-use Rattle.dmix_client.specs.Calls.{sync_count, synced}
-use Rattle.dmix_client.specs.Causes.{Explains}
 use Rattle.dmix_client.specs.View.{ClientView}
-use Rattle.dmix_client.proofs.Caused.{step-sync}
-use Rattle.dmix_client.proofs.Growing.{configured-moving}
-use Rattle.dmix_client.proofs.Keeping.{Keeps-none, client, syncs-explained}
+use Rattle.dmix_client.proofs.Keeping.{Keeps-none, client}
+use Rattle.pcm_stream.specs.Status.{is_moving}
+use Rattle.dmix_client.proofs.Looking.{admitted-ok}
+use Rattle.pcm_states.specs.declared.calls.Call.TheVariants as call
 use Rattle.dmix_client.proofs.client.Client.sync.Goals as goal
 
 pub returns-clause-keeps : goal.returns-clause-keeps
 returns-clause-keeps g c = rw (← c.self.view_is, ← c.as_slice-ring.ensures.value) c.sync_call.ensures.keeps
 
+pub returns-clause-takes : goal.returns-clause-takes
+returns-clause-takes g c =
+    let moves : is_moving c.self.inside.plain.status.state ≡ true = search rules in
+    rw (← c.self.view_is, ← c.as_slice-ring.ensures.value) (admitted-ok g.P.MixPort g.G.Gate (c.args.port.now, c.args.gate.now) (c.sync_call.new.port, c.sync_call.new.gate) c.self.inside.plain call.Sync _ (c.sync_call.new.plain, c.sync_call.result)
+    c.admit.result c.admit.ensures.answer c.in_ok-admit.was (rw moves c.sync_call.ensures.takes))
+
 pub returns-clause-causes : goal.returns-clause-causes
-returns-clause-causes g c admitted moves =
-    let plain = c.self.inside.plain in
-    let here : _ = subst (λ (v : ClientView). Explains g.P.MixPort g.G.Gate (c.args.port.now, c.args.gate.now) (c.sync_call.new.port, c.sync_call.new.gate) v (λ position. v.plain) (sync_count v.plain) (synced v.plain call.Sync) (c.sync_call.new.plain, c.sync_call.result)) c.self.view_is
-    (subst (λ (r : List ℤ). Explains g.P.MixPort g.G.Gate (c.args.port.now, c.args.gate.now) (c.sync_call.new.port, c.sync_call.new.gate) (client plain r) (λ position. plain) (sync_count plain) (synced plain call.Sync) (c.sync_call.new.plain, c.sync_call.result)) c.as_slice-ring.ensures.value
-    (syncs-explained g.P.MixPort g.G.Gate g.met.P.MixPort.laid_composes g.met.P.MixPort.loaded_composes (c.args.port.now, c.args.gate.now) (c.sync_call.new.port, c.sync_call.new.gate) plain c.as_slice-ring.result.now call.Sync (c.sync_call.new.plain, c.sync_call.result)
-    (configured-moving plain c.self.inside.ring.items c.self.invariant (search rules)).bound (step-sync plain.status.state (search rules)) c.sync_call.ensures.takes)) in
-    here
+returns-clause-causes g c admitted moves = rw (← c.self.view_is, ← c.as_slice-ring.ensures.value) c.sync_call.ensures.explains
 
 pub returns-then-not-is_moving-clause-keeps : goal.returns-then-not-is_moving-clause-keeps
 returns-then-not-is_moving-clause-keeps g c =

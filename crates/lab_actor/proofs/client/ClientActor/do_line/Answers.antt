@@ -1,5 +1,5 @@
-use Rattle.std.proofs.Common.{◌≡◌, ◌+◌, ◌≤◌, List, [], ◌∷◌, ◌++◌, ap, arith, refl, subst, sym, ◌∙◌}
-use Rattle.std.specs.Prelude.{Some, if◌then◌else◌, vec_len}
+use Rattle.std.proofs.Common.{◌≡◌, List, [], ◌∷◌, ◌++◌, ap, arith, refl, subst, sym, ◌∙◌}
+use Rattle.std.specs.Prelude.{Some, if◌then◌else◌}
 use Rattle.snd_base.specs.declared.places.Segment.{Segment}
 use Rattle.lab_script.specs.declared.line.Actor.TheVariants as actor
 use Rattle.lab_report.specs.declared.row.Row.{Row}

@@ -34,8 +34,8 @@ do_own-requires g c =
     record {
       few = c.requires.few index none within;
       ready = before.ready;
-      rows_room = λ own_is. room-own mine lines index line (vec_len x.rows) (vec_capacity x.rows) within (sym (get_or_default lines index none line within)) before.rows_room (own own_is);
-      ended_room = λ own_is. room-own mine lines index line (vec_len x.ended) (vec_capacity x.ended) within (sym (get_or_default lines index none line within)) before.ended_room (own own_is);
+      rows_room = λ own_is. room-own mine lines index line x.rows within (sym (get_or_default lines index none line within)) before.rows_room (own own_is);
+      ended_room = λ own_is. room-own mine lines index line x.ended within (sym (get_or_default lines index none line within)) before.ended_room (own own_is);
     }
 
 pub loop-index-preserved : goal.loop-index-preserved
@@ -61,8 +61,8 @@ loop-index-preserved g c =
           before.part (λ own. call.own (own_is own)) others;
       ready = call.ready;
       same_gate = call.same_gate ∙ before.same_gate;
-      rows_room = room-next mine lines index line (vec_len x.rows) (vec_capacity x.rows) (vec_len b.rows) (vec_capacity b.rows) within is before.rows_room
+      rows_room = room-next mine lines index line x.rows b.rows within is before.rows_room
           (λ own. call.rows_room (own_is own)) (λ other. (ap (λ (y : ClientActor). vec_len y.rows) (others other).0, ap (λ (y : ClientActor). vec_capacity y.rows) (others other).0));
-      ended_room = room-next mine lines index line (vec_len x.ended) (vec_capacity x.ended) (vec_len b.ended) (vec_capacity b.ended) within is before.ended_room
+      ended_room = room-next mine lines index line x.ended b.ended within is before.ended_room
           (λ own. call.ended_room (own_is own)) (λ other. (ap (λ (y : ClientActor). vec_len y.ended) (others other).0, ap (λ (y : ClientActor). vec_capacity y.ended) (others other).0));
     }

@@ -3,7 +3,7 @@ use Rattle.lobby.proofs.Closing.{IsJoining-more, all_joined, next_place}
 use Rattle.lobby.proofs.lobby.Lobby.close.Goals as goal
 
 pub loop-seat-init : goal.loop-seat-init
-loop-seat-init c = record { parts = search rules; one_ring = (refl, refl); places = c.args.self.no_places; laid = c.args.self.laid_nothing }
+loop-seat-init c = record { parts = search rules; joins = refl; one_ring = (refl, refl); places = c.args.self.no_places; laid = c.args.self.laid_nothing }
 
 pub join-requires : goal.join-requires
 join-requires c =

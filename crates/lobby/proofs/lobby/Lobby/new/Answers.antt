@@ -1,8 +1,9 @@
-use Rattle.std.proofs.Common.{◌+◌, ◌<◌, ◌≡◌, ◌∙◌, List, Option, ap, arith, refl, subst, sym}
+use Rattle.std.proofs.Common.{◌+◌, ◌<◌, ◌≡◌, ◌∙◌, ℕ, List, Option, ap, arith, refl, subst, sym}
 use Rattle.snd_base.specs.Places.{first_frame}
 use Rattle.sum_table.specs.declared.view.Key.{Key}
 use Rattle.sum_table.specs.declared.seats.mix.MixSeat.{MixSeat}
-use Rattle.sum_table.specs.Seats.{places_of_seat}
+use Rattle.sum_table.specs.Cuts.{without}
+use Rattle.sum_table.specs.Seats.{places_of_seat, view_of}
 use Rattle.lobby.proofs.Splitting.{ArePlaces-split, IsSplitting, IsSplitting-more, IsSplitting-none}
 use Rattle.lobby.proofs.lobby.Lobby.new.Goals as goal
 
@@ -33,10 +34,12 @@ returns-clause-ok c =
     let is : IsSplitting c.args.seat c.loop-place.base c.loop-place.seats.items c.loop-place.place = c.loop-place.invariant.splitting in
     let all : c.loop-place.place ≡ places_of_seat c.args.seat = omega (arith, c.loop-place-test.false, c.loop-place.auto.place-end, c.places-places.ensures.value) in
     record {
-      ring = is.ring;
-      key = is.key;
+      base = is.stays;
+      base_view = is.view ∙ ap (λ (n : ℕ). without (view_of c.args.seat) n) all;
+      ring = is.stays.ring;
+      key = is.stays.key;
       places = is.count ∙ all;
       each = λ place below. is.each place (subst (λ n. place < n) (sym all) below);
-      saw_none = c.first_frame-seen.ensures ∙ (ap first_frame c.geometry.ensures ∙ ap (λ (k : Key). first_frame k.geometry) is.key);
+      saw_none = c.first_frame-seen.ensures ∙ (ap first_frame c.geometry.ensures ∙ ap (λ (k : Key). first_frame k.geometry) is.stays.key);
       reaped_none = refl;
     }

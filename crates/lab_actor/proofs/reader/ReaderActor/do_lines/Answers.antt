@@ -1,0 +1,64 @@
+use Rattle.std.proofs.Common.{◌≡◌, ℕ, ◌+◌, ◌<◌, drop, get_or, length, refl, subst, sym, ◌∙◌}
+use Rattle.std.proofs.lemmas.List.{get_or_default}
+use Rattle.std.specs.Prelude.{true, false}
+use Rattle.lab_script.specs.declared.line.Actor.TheVariants as actor
+use Rattle.lab_script.specs.declared.line.Line.{Line}
+use Rattle.lab_script.specs.declared.line.Op.TheVariants as op
+use Rattle.lab_run.specs.Phases.{is_reader, ops_by}
+use Rattle.lab_actor.specs.Countdown.{by_gate_of, left_of}
+use Rattle.lab_actor.proofs.Gates.{both}
+use Rattle.lab_actor.proofs.ReaderParts.{ReaderPart-next, ReaderPart-none, room-first, room-next, room-own}
+use Rattle.lab_actor.proofs.reader.ReaderActor.do_lines.Goals as goal
+
+pub loop-index-init : goal.loop-index-init
+loop-index-init g c = record {
+  part = ReaderPart-none g.P.SnoopPort g.met.P.SnoopPort.got_composes left_of (by_gate_of g.G.Gate.stops) (both c.args.port.now c.args.gate.now) c.args.phase c.args.self.now;
+  usable = c.requires.usable;
+  same_gate = refl;
+  room = c.requires.room;
+}
+
+pub do_own-requires : goal.do_own-requires
+do_own-requires g c =
+    let lines = c.args.lines.now in
+    let index = c.loop-index.index in
+    let none : Line = record { number = 0; actor = actor.Card; op = op.Play 0 } in
+    let line : Line = get_or lines index none in
+    let within : index < length lines = c.loop-index-test.true in
+    let before = c.loop-index.invariant in
+    let x = c.loop-index.self in
+    let mine = is_reader c.args.self.now.number in
+    record {
+      few = c.requires.few index none within;
+      usable = before.usable;
+      room = λ own_is. room-first x line.op (ops_by mine (drop (index + 1) lines))
+          (room-own x mine lines index line within (sym (get_or_default lines index none line within))
+          (subst (λ (n : ℕ). is_reader n line.actor ≡ true) before.part.same.number own_is) before.room);
+    }
+
+pub loop-index-preserved : goal.loop-index-preserved
+loop-index-preserved g c =
+    let lines = c.args.lines.now in
+    let index = c.loop-index.index in
+    let none : Line = record { number = 0; actor = actor.Card; op = op.Play 0 } in
+    let line : Line = get_or lines index none in
+    let within : index < length lines = c.loop-index-test.true in
+    let is : get_or lines index line ≡ line = sym (get_or_default lines index none line within) in
+    let before = c.loop-index.invariant in
+    let x = c.loop-index.self in
+    let b = c.do_own.new.self in
+    let mine = is_reader c.args.self.now.number in
+    let same = before.part.same.number in
+    let call = c.do_own.ensures in
+    let own_is : mine line.actor ≡ true → is_reader x.number line.actor ≡ true = λ own. subst (λ (n : ℕ). is_reader n line.actor ≡ true) (sym same) own in
+    let other_is : mine line.actor ≡ false → is_reader x.number line.actor ≡ false = λ other. subst (λ (n : ℕ). is_reader n line.actor ≡ false) (sym same) other in
+    let others = λ (other : mine line.actor ≡ false). call.others (other_is other) in
+    record {
+      part = ReaderPart-next g.P.SnoopPort g.met.P.SnoopPort.got_composes left_of (by_gate_of g.G.Gate.stops) c.parts_grow.ensures.readers
+          (both c.args.port.now c.args.gate.now) (both c.loop-index.port c.loop-index.gate) (both c.do_own.new.port c.do_own.new.gate) c.args.phase c.args.self.now x b mine lines index line within is
+          before.part (λ own. call.own (own_is own)) others;
+      usable = call.usable;
+      same_gate = call.same_gate ∙ before.same_gate;
+      room = room-next x b mine lines index line within is before.room
+          (λ own. (call.room (own_is own), (call.own (own_is own)).same)) (λ other. (others other).0);
+    }

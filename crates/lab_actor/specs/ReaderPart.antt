@@ -1,0 +1,78 @@
+-- What the lines of an open reader did in a phase: its part of a run, its rows, and its frames with their samples.
+use Rattle.std.specs.Prelude.{◌≡◌, ℕ, ◌+◌, ◌*◌, ◌≤◌, ℤ, List, [], ◌∷◌, ◌++◌, length, Option, Some, sum_by}
+use Rattle.snd_base.specs.declared.geometry.Geometry.{Geometry}
+use Rattle.snoop_core.specs.declared.port.SnoopPort as snoopport
+use Rattle.lab_script.specs.declared.line.Line.{Line}
+use Rattle.lab_script.specs.declared.line.Op.{Op}
+use Rattle.lab_report.specs.declared.row.Answer.{Answer}
+use Rattle.lab_report.specs.declared.row.Row.{Row}
+use Rattle.lab_run.specs.ActorPart.{ActorPart, Doing}
+use Rattle.lab_run.specs.Phases.{is_reader, ops_by}
+use Rattle.lab_run.specs.Reader.{Reader, reader_kind, row_by}
+use Rattle.lab_run.specs.ReaderAtPort.{IsAtSnoop, IsReaderLine}
+use Rattle.lab_actor.specs.declared.reader.ReaderActor.{ReaderActor}
+use Rattle.lab_actor.specs.FrameRuns.{frames_in}
+use Rattle.lab_actor.specs.ReaderLines.{AreSamples, HasSameSetup}
+use Rattle.lab_actor.specs.Room.{GrowsBy, HasSpace, asked_by, samples_asked}
+
+-- the reader of an actor, as a run has it
+abbrev pub reader_of : ReaderActor → Reader
+reader_of a = record { own = Some a.reader; frames = frames_in a.frames.runs }
+
+-- what stays of an actor
+pub record IsSameActor (a b : ReaderActor) : Type 0 where
+  pub number : b.number ≡ a.number
+  pub setup : HasSameSetup a.reader b.reader
+
+-- how many channels an actor's reader has
+abbrev pub channels_of : ReaderActor → ℕ
+channels_of a = length a.reader.setup.bindings
+
+-- an actor has the room that lines want which ask for this: a row and a run each, and the samples of all frames
+pub record HasRoomFor (a : ReaderActor) (ops : List Op) : Type 0 where
+  pub rows : HasSpace (length ops) a.rows
+  pub runs : length ops ≤ a.frames.room
+  pub samples : HasSpace (sum_by asked_by ops * channels_of a) a.samples
+
+-- it has the room for its lines of a phase
+abbrev pub HasRoom : ReaderActor → List Line → Type 0
+HasRoom a lines = HasRoomFor a (ops_by (is_reader a.number) lines)
+
+-- a line took no more room than it wants
+pub record TakesRoom (a b : ReaderActor) (asked : Op) : Type 0 where
+  pub rows : GrowsBy 1 a.rows b.rows
+  pub runs : a.frames.room ≤ b.frames.room + 1
+  pub samples : GrowsBy (samples_asked (channels_of a) asked) a.samples b.samples
+
+-- frames were appended to the runs of an actor, and their samples to its samples
+pub record Appends {S : Type 0} (P : snoopport.Ghosts S) (p q : S) (a b : ReaderActor) : Type 0 where
+  pub numbers : List ℕ
+  pub numbers_are : frames_in b.frames.runs ≡ frames_in a.frames.runs ++ numbers
+  pub more : List ℤ
+  pub more_are : b.samples.items ≡ a.samples.items ++ more
+  pub samples : AreSamples P p q a.reader numbers more
+
+-- lines were done at a port and a gate, after which it is so
+pub record HasDone {S T : Type 0} (P : snoopport.Ghosts S) (left : T → Option ℕ) (by_gate : T → ℕ) (first : S) (ring : Geometry) (t : S × T)
+    (phase number : ℕ) (before : Doing) (reader : Reader) (ops : List Op) (after : Reader) (rows : List Row) : Type 0 where
+  pub doing : Doing
+  pub done : ActorPart (reader_kind phase number) ring ((before.0, reader), before.1) ops ((doing.0, after), doing.1) rows
+  pub at : IsAtSnoop P left by_gate first ring t doing
+
+-- An actor did one line. Whichever state of the port is taken as the first: the line is a line of the reader, as a run has it.
+pub record ReaderLine {S T : Type 0} (P : snoopport.Ghosts S) (left : T → Option ℕ) (by_gate : T → ℕ) (s t : S × T) (phase : ℕ) (a b : ReaderActor) (asked : Op) : Type 0 where
+  pub answer : Answer
+  pub rows_are : b.rows.items ≡ a.rows.items ++ row_by phase a.number asked (Some b.reader) answer ∷ []
+  pub line : (first : S) (ring : Geometry) (before : Doing) → IsAtSnoop P left by_gate first ring s before
+      → IsReaderLine P left by_gate first ring t phase a.number before (reader_of a) asked (reader_of b) answer
+  pub appends : Appends P s.0 t.0 a b
+  pub same : IsSameActor a b
+
+-- an actor did some lines, likewise
+pub record ReaderPart {S T : Type 0} (P : snoopport.Ghosts S) (left : T → Option ℕ) (by_gate : T → ℕ) (s t : S × T) (phase : ℕ) (a b : ReaderActor) (ops : List Op) : Type 0 where
+  pub rows : List Row
+  pub rows_are : b.rows.items ≡ a.rows.items ++ rows
+  pub part : (first : S) (ring : Geometry) (before : Doing) → IsAtSnoop P left by_gate first ring s before
+      → HasDone P left by_gate first ring t phase a.number before (reader_of a) ops (reader_of b) rows
+  pub appends : Appends P s.0 t.0 a b
+  pub same : IsSameActor a b

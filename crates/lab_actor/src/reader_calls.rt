@@ -1,0 +1,72 @@
+//! The calls that the lines of an open reader name.
+ghost use Rattle.std.specs.Prelude.{◌≡◌, ◌*◌, ◌≤◌, ◌++◌, length, pos, replicate};
+ghost use Rattle.dsnoop_client.specs.View.{CanUse};
+ghost use Rattle.lab_actor.specs.ReaderLines.{HasCalled, IsFewRead};
+ghost use Rattle.lab_actor.specs.Room.{GrowsBy, HasSpace, samples_asked};
+
+use crate::answer::{counted, done, moved};
+use dsnoop_client::Reader;
+use lab_report::Answer;
+use lab_script::Op;
+use mix_core::Gate;
+use snd_base::PcmError;
+use snoop_core::SnoopPort;
+
+/// Appends so many samples, for which there is room; each is 0.
+fn push_silence(samples: &mut Vec<i16>, count: usize)
+    requires { HasSpace count samples.old }
+    ensures items { samples.new.items ≡ samples.old.items ++ replicate count (pos 0) }
+    ensures room { GrowsBy count samples.old samples.new }
+{
+    samples.resize(samples.len() + count, 0).unwrap();
+}
+
+/// The reader reads up to `frames` frames, and appends the samples of those that it got.
+fn read<P: SnoopPort, G: Gate>(
+    reader: &mut Reader,
+    port: &mut P,
+    gate: &mut G,
+    samples: &mut Vec<i16>,
+    frames: u32,
+) -> Answer
+    requires few { frames ≤ 4194304 }
+    requires usable { CanUse reader.old (P.view port.old) }
+    requires room { HasSpace (frames * length reader.old.setup.bindings) samples.old }
+    ensures called { HasCalled P.SnoopPort G.Gate (port.old, gate.old) (port.new, gate.new)
+        reader.old reader.new samples.old.items samples.new.items (Op.Read frames) result }
+    ensures room { GrowsBy (frames * length reader.old.setup.bindings) samples.old samples.new }
+{
+    let channels = reader.channels() as usize;
+    let before = samples.len();
+    push_silence(samples, frames as usize * channels);
+    let answer = reader.readi(port, gate, &mut samples[before..]);
+    samples.truncate(before + answer.unwrap_or(0) as usize * channels);
+    moved(answer)
+}
+
+/// The call that a line of an open reader names. The samples of the frames that a read got are appended.
+pub(crate) fn call<P: SnoopPort, G: Gate>(
+    reader: &mut Reader,
+    port: &mut P,
+    gate: &mut G,
+    samples: &mut Vec<i16>,
+    asked: Op,
+) -> Answer
+    requires few { IsFewRead asked }
+    requires usable { CanUse reader.old (P.view port.old) }
+    requires room { HasSpace (samples_asked (length reader.old.setup.bindings) asked) samples.old }
+    ensures called { HasCalled P.SnoopPort G.Gate (port.old, gate.old) (port.new, gate.new)
+        reader.old reader.new samples.old.items samples.new.items asked result }
+    ensures room { GrowsBy (samples_asked (length reader.old.setup.bindings) asked) samples.old samples.new }
+{
+    match asked {
+        Op::Read(frames) => read(reader, port, gate, samples, frames),
+        Op::Start => done(reader.start(port, gate)),
+        Op::Sync => done(reader.sync(port, gate)),
+        Op::Avail => counted(reader.avail_update(port, gate)),
+        Op::Drop => done(reader.drop_pending()),
+        Op::Prepare => done(reader.prepare()),
+        Op::Pause => done(reader.pause(true)),
+        _ => Answer::Failed(PcmError::BadState),
+    }
+}
