@@ -1,5 +1,5 @@
 -- A reader's note, heard by the card's writer.
-use Rattle.std.proofs.Common.{◌≡◌, sym, subst, ◌∙◌}
+use Rattle.std.proofs.Common.{sym, subst}
 use Rattle.snd_base.specs.declared.geometry.Geometry.{Geometry}
 use Rattle.snoop_table.specs.declared.seats.desk.Desk.{Desk}
 use Rattle.snoop_table.specs.declared.seats.reader.ReaderSeat.{ReaderSeat}

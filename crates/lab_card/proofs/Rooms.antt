@@ -1,6 +1,5 @@
 -- The room of a card, as it is used.
-use Rattle.std.proofs.Common.{◌≡◌, ℕ, ◌+◌, ◌*◌, ◌≤◌, refl, sym, ap, subst, ◌∙◌, arith}
-use Rattle.std.specs.Prelude.{vec_capacity, vec_len}
+use Rattle.std.proofs.Common.{◌≡◌, ℕ, ◌+◌, ◌*◌, ◌≤◌, refl, ap, ◌∙◌, arith}
 use Rattle.std.proofs.Math.Nat.{mul-le-mul_right}
 use Rattle.snd_base.specs.declared.geometry.Geometry.{Geometry}
 use Rattle.card_sim.specs.Runs.{period_of}

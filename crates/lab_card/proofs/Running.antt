@@ -1,5 +1,5 @@
 -- One run of a card, as a part of a phase.
-use Rattle.std.proofs.Common.{◌≡◌, ℕ, suc, ◌+◌, ◌-◌, ◌*◌, ◌/◌, ◌%◌, ◌<◌, ◌≤◌, ℤ, List, [], ◌++◌, length, take, drop, refl, sym, ap, subst, ◌∙◌, arith, inl, inr}
+use Rattle.std.proofs.Common.{◌≡◌, ℕ, ◌+◌, ◌-◌, ◌*◌, ◌/◌, ◌%◌, ◌<◌, ◌≤◌, ℤ, List, [], ◌++◌, length, take, drop, refl, sym, ap, subst, ◌∙◌, arith, inl, inr}
 use Rattle.std.specs.Prelude.{Bool, true, false, ◌||◌, ◌⊎◌, ◌==◌, min, Option}
 use borrow.Rule.Slice.PartMut.{post_of}
 use Rattle.std.proofs.Math.ListN.{drop_of_length-le}
@@ -16,7 +16,7 @@ use Rattle.lab_script.specs.declared.line.Op.{Op}
 use Rattle.lab_script.specs.declared.line.Op.TheVariants as op
 use Rattle.lab_script.specs.Ops.{played_by}
 use Rattle.lab_script.specs.Script.{is_unplug}
-use Rattle.card_player.specs.Plays.{HasPlayed, frame_of, frames_left, geometry_of, is_multiple, periods_to, positions_of, samples_of, seat_of}
+use Rattle.card_player.specs.Plays.{HasPlayed, frames_left, is_multiple, periods_to, positions_of, samples_of, seat_of}
 use Rattle.card_sim.specs.declared.card.Card.{Card}
 use Rattle.card_sim.specs.Runs.{HasCaptured, RunsFrames, RunsThrough, period_of, player_of, writer_of}
 use Rattle.lab_card.specs.declared.card.CardActor.{CardActor}

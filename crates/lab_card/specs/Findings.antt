@@ -10,8 +10,8 @@ use mathlib.Core.Option.{some}
 use lib.ListN.{get_elem?}
 use Rattle.snd_base.specs.declared.geometry.Geometry.{Geometry}
 use Rattle.snd_base.specs.declared.places.Cursor.{Cursor}
-use Rattle.snd_base.specs.Places.{first_frame, first_free, lap, slot}
-use Rattle.snd_base.specs.PlaceLaws.{div-lt_same, mod-same_lt, mod-window}
+use Rattle.snd_base.specs.Places.{first_frame, first_free}
+use Rattle.snd_base.specs.PlaceLaws.{mod-same_lt, mod-window}
 use Rattle.lap_word.specs.Word.{lap_of}
 use Rattle.ring_rule.specs.Lists.{at_append, at_second}
 use Rattle.ring_rule.specs.Positions.{IsPosition}
@@ -19,7 +19,6 @@ use Rattle.ring_rule.specs.Words.{index_of}
 use Rattle.mix_core.specs.declared.port.Position.{Position}
 use Rattle.mix_core.specs.Port as mix_port
 use Rattle.mix_core.specs.Port.{AreRisingFrom}
-use Rattle.mix_core.specs.Sound.{IsNow}
 use Rattle.sum_table.specs.declared.seats.mix.MixSeat.{MixSeat}
 use Rattle.sum_table.specs.declared.view.Key.{Key}
 use Rattle.sum_table.specs.declared.view.Track.{Track}
@@ -27,7 +26,6 @@ use Rattle.sum_table.specs.declared.view.View.{View}
 use Rattle.sum_table.specs.Players.{next_of_player, player_geometry, player_key, track_of}
 use Rattle.sum_table.specs.Seats.{SeatLoaded, key_of, seat_view, seen_of, shown, view_of}
 use Rattle.snoop_core.specs.Port as snoop_port
-use Rattle.snoop_core.specs.Stored.{IsLast, IsUnused}
 use Rattle.snoop_core.specs.Word.{laps_of}
 use Rattle.snoop_table.specs.declared.seats.reader.ReaderSeat.{ReaderSeat}
 use Rattle.snoop_table.specs.declared.view.Track as snoop_track
@@ -40,7 +38,6 @@ use Rattle.card_player.specs.Plays.{at_frame}
 use Rattle.card_sim.specs.declared.card.Card.{Card}
 use Rattle.card_sim.specs.Runs.{period_of, writer_of}
 use Rattle.lab_script.specs.declared.line.Line.{Line}
-use Rattle.lab_script.specs.declared.line.Op.{Op}
 use Rattle.lab_script.specs.Script.{is_of_card}
 use Rattle.lab_run.specs.ActorPart.{AreOf, Each, Findings}
 use Rattle.lab_run.specs.Phases.{ops_by, published, published_by}

@@ -1,6 +1,5 @@
 -- The meets between a card and the seats of clients and readers.
-use Rattle.std.specs.Prelude.{◌≡◌, ℕ, ◌≤◌, ◌||◌, ◌++◌, true, None, Some, max}
-use Rattle.std.specs.List.{slice_index_or}
+use Rattle.std.specs.Prelude.{◌≡◌, ℕ, ◌≤◌, ◌||◌, ◌++◌, true, Some, max}
 use mathlib.Core.Option.{some}
 use lib.ListN.{get_elem?}
 use Rattle.snd_base.specs.Places.{lap}
@@ -10,7 +9,7 @@ use Rattle.sum_table.specs.declared.seats.mix.MixSeat.{MixSeat}
 use Rattle.sum_table.specs.declared.seats.player.PlayerSeat.{PlayerSeat}
 use Rattle.sum_table.specs.Exact.{IsPublished}
 use Rattle.sum_table.specs.Joins.{OneRing}
-use Rattle.sum_table.specs.Players.{next_of_player, player_geometry, player_key, player_ring, position_of_player, track_of}
+use Rattle.sum_table.specs.Players.{next_of_player, player_geometry, player_key, player_ring, track_of}
 use Rattle.sum_table.specs.Seats.{key_of, last_of_seat, marks_of_seat, member_of, places_of_seat, ring_of, seen_of, shown, view_of}
 use Rattle.snoop_table.specs.declared.seats.reader.ReaderSeat.{ReaderSeat}
 use Rattle.snoop_table.specs.declared.seats.writer.WriterSeat.{WriterSeat}

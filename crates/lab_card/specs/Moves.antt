@@ -1,5 +1,5 @@
 -- What a card did at its two rings.
-use Rattle.std.specs.Prelude.{◌≡◌, ℕ, ◌+◌, ◌-◌, ◌*◌, ◌||◌, Bool, ℤ, List, ◌++◌, length, Option}
+use Rattle.std.specs.Prelude.{◌≡◌, ℕ, ◌+◌, ◌-◌, ◌*◌, ◌||◌, Bool, ℤ, List, ◌++◌, length}
 use Rattle.snd_base.specs.declared.geometry.Geometry.{Geometry}
 use Rattle.snd_base.specs.Places.{first_frame}
 use Rattle.sum_table.specs.declared.seats.player.PlayerSeat.{PlayerSeat}

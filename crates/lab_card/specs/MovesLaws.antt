@@ -1,12 +1,11 @@
 -- What a card did first and then, put together.
-use Rattle.std.specs.Prelude.{◌≡◌, ℕ, zero, suc, ◌+◌, ◌-◌, ◌*◌, ◌≤◌, ◌||◌, Bool, true, false, if◌then◌else◌, ℤ, List, [], ◌∷◌, ◌++◌, length, Option}
-use Rattle.std.specs.List.{flat_map, list_any, range_with_len, sum_by}
+use Rattle.std.specs.Prelude.{◌≡◌, ℕ, ◌+◌, ◌*◌, ◌≤◌, ◌||◌, Bool, true, false, ℤ, List, [], ◌∷◌, ◌++◌, length, Option}
+use Rattle.std.specs.List.{flat_map, range_with_len}
 use Rattle.std.proofs.Common.{refl, sym, ap, subst, ◌∙◌, arith, append_assoc}
 use Rattle.std.proofs.lemmas.Grind.{flat_map-append}
 use Rattle.std.proofs.lemmas.List.{append-nil, length-append}
 use Rattle.std.proofs.lemmas.List.Folds.{list_any-append}
 use Rattle.std.proofs.lemmas.List.Sums.{sum_by-append, sum_by-cons}
-use Rattle.std.proofs.Math.Nat.{add-mul}
 use Rattle.snd_base.specs.declared.geometry.Geometry.{Geometry}
 use Rattle.snd_base.specs.declared.places.Cursor.{Cursor}
 use Rattle.snd_base.specs.Places.{first_frame}
@@ -19,7 +18,7 @@ use Rattle.snoop_table.specs.Captured.{next_of}
 use Rattle.snoop_table.specs.Writers.{next_frame, writer_geometry, writer_track}
 use Rattle.wav_io.specs.Sound.{Sound}
 use Rattle.card_player.specs.PlayLaws.{behind_words-append, words_at-append}
-use Rattle.card_player.specs.Plays.{at_frame, behind_words, ends_period, period_at, periods_to, positions_of, words_at}
+use Rattle.card_player.specs.Plays.{at_frame, behind_words, words_at}
 use Rattle.card_sim.specs.declared.card.Card.{Card}
 use Rattle.card_sim.specs.Runs.{period_of, writer_of}
 use Rattle.lab_script.specs.declared.line.Op.{Op}

@@ -1,5 +1,5 @@
 -- The positions that a card publishes, put together, and that a run has them.
-use Rattle.std.specs.Prelude.{◌≡◌, ◌⊎◌, ℕ, zero, suc, ◌+◌, ◌*◌, ◌%◌, ◌==◌, ◌<◌, ◌≤◌, ◌&&◌, nat_lt, Bool, true, false, if◌then◌else◌, List, [], ◌∷◌, ◌++◌, length, Contains, filter, ⊤}
+use Rattle.std.specs.Prelude.{◌≡◌, ℕ, zero, suc, ◌+◌, ◌%◌, ◌==◌, ◌<◌, ◌≤◌, ◌&&◌, Bool, true, false, if◌then◌else◌, List, [], ◌∷◌, ◌++◌, Contains, filter}
 use Rattle.std.specs.List.{range_with_len}
 use Rattle.std.proofs.Common.{refl, sym, ap, subst, ◌∙◌, arith, append_assoc, inl, inr}
 use Rattle.std.proofs.lemmas.Bool.{lt-ltb}
@@ -9,17 +9,15 @@ use Rattle.std.proofs.lemmas.List.Elements.{Contains-append_cases, Contains-appe
 use Rattle.ring_rule.specs.Positions.{last_of}
 use Rattle.card_player.specs.PlayLaws.{last_of-append, last_of-positions_of, periods_to-ended}
 use Rattle.card_player.specs.Plays.{ends_period, is_multiple, period_at, periods_to, positions_of}
-use Rattle.lab_script.specs.declared.line.Actor.{Actor}
-use Rattle.lab_script.specs.declared.line.Actor.TheVariants.{Card, Client, Reader}
 use Rattle.lab_script.specs.declared.line.Line.{Line}
 use Rattle.lab_script.specs.declared.line.Op.{Op}
 use Rattle.lab_script.specs.declared.line.Op.TheVariants as op
 use Rattle.lab_script.specs.Ops.{played_by}
-use Rattle.lab_script.specs.Script.{is_card_line, is_of_card}
+use Rattle.lab_script.specs.Script.{is_of_card}
 use Rattle.lab_run.specs.ActorPart.{Each}
 use Rattle.lab_run.specs.Phases.{on_the_way, ops_by, played_at, played_in, published_by}
 use Rattle.lab_card.specs.CardLines.{frames_by, positions_at, positions_by}
-use Rattle.lab_card.specs.Lists.{Each-append, Each-less, range_with_len-append}
+use Rattle.lab_card.specs.Lists.{Each-append, range_with_len-append}
 
 pub periods_to-append : (period first n m : ℕ) → periods_to period first (n + m) ≡ periods_to period first n ++ periods_to period (first + n) m
 periods_to-append period first n zero = ap (periods_to period first) (let e : n + 0 ≡ n = omega arith in e) ∙ sym (append-nil (periods_to period first n))

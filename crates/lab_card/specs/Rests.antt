@@ -1,14 +1,12 @@
 -- A card between phases.
-use Rattle.std.specs.Prelude.{◌≡◌, ℕ, ◌+◌, ◌≤◌, ◌||◌, Bool, List, [], ◌++◌, Option}
-use Rattle.std.proofs.Common.{refl, sym, ap, subst, ◌∙◌, arith}
-use Rattle.snd_base.specs.declared.geometry.Geometry.{Geometry}
+use Rattle.std.specs.Prelude.{◌≡◌, ℕ, ◌≤◌, ◌||◌, Bool, List, [], Option}
+use Rattle.std.proofs.Common.{sym, ap, subst, ◌∙◌, arith}
 use Rattle.snd_base.specs.Places.{first_frame}
 use Rattle.wav_io.specs.Sound.{Sound}
 use Rattle.ring_rule.specs.Positions.{last_of}
 use Rattle.sum_table.specs.declared.view.Key.{Key}
 use Rattle.sum_table.specs.Players.{track_of}
 use Rattle.snoop_table.specs.Writers.{writer_track}
-use Rattle.snoop_table.specs.Captured.{position_of}
 use Rattle.card_player.specs.PlayLaws.{last_of-append}
 use Rattle.card_sim.specs.declared.card.Card.{Card}
 use Rattle.card_sim.specs.Runs.{period_of, writer_of}

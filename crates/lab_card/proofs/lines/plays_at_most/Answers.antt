@@ -1,4 +1,4 @@
-use Rattle.std.proofs.Common.{◌≡◌, ◌<◌, ◌≤◌, ◌+◌, arith, get_or, length, sym}
+use Rattle.std.proofs.Common.{◌<◌, ◌+◌, arith, get_or, length, sym}
 use Rattle.std.proofs.lemmas.Bool.{false≢true}
 use Rattle.std.proofs.lemmas.List.{get_or_default}
 use Rattle.lab_script.specs.declared.line.Actor.TheVariants as actor

@@ -1,4 +1,4 @@
-use Rattle.std.proofs.Common.{◌≡◌, ◌<◌, ℕ, ◌+◌, ◌-◌, ap, arith, inl, inr, refl, subst, sym, ◌∙◌}
+use Rattle.std.proofs.Common.{◌≡◌, ◌<◌, ℕ, ◌+◌, ◌-◌, arith, inl, inr, refl, subst, ◌∙◌}
 use Rattle.std.specs.Prelude.{Option, false, ◌⊎◌}
 use Rattle.std.specs.Option.{option_copied}
 use Rattle.wav_io.specs.Sound.{Sound}

@@ -1,7 +1,7 @@
-use Rattle.std.proofs.Common.{◌≡◌, ◌<◌, ◌≤◌, ℕ, ◌+◌, List, ap, arith, get_or, length, subst, sym, take, ◌∙◌}
+use Rattle.std.proofs.Common.{◌<◌, ℕ, ◌+◌, List, ap, arith, get_or, length, subst, sym, take}
 use Rattle.std.proofs.lemmas.List.{get_or_default}
 use Rattle.std.specs.Option.{option_copied}
-use Rattle.std.specs.Prelude.{Option, [], ◌∷◌, ◌++◌}
+use Rattle.std.specs.Prelude.{Option, [], ◌∷◌}
 use Rattle.snd_base.specs.Places.{end_frame}
 use Rattle.wav_io.specs.Sound.{Sound}
 use Rattle.lab_script.specs.declared.line.Actor.TheVariants as actor
@@ -9,10 +9,10 @@ use Rattle.lab_script.specs.declared.line.Line.{Line}
 use Rattle.lab_script.specs.declared.line.Op.{Op}
 use Rattle.lab_script.specs.declared.line.Op.TheVariants as op
 use Rattle.lab_card.specs.CardLines.{CardPart, frames_by}
-use Rattle.lab_card.specs.MovesLaws.{CardPart-joined, CardPart-none}
+use Rattle.lab_card.specs.MovesLaws.{CardPart-joined}
 use Rattle.lab_card.specs.Room.{KeepsRoom}
 use Rattle.lab_card.proofs.OwnLines.{count-most, count-next, frames-most, frames-next, ops, ops-next}
-use Rattle.lab_card.proofs.Rooms.{HasRoom-after, KeepsRoom-joined, KeepsRoom-none}
+use Rattle.lab_card.proofs.Rooms.{HasRoom-after, KeepsRoom-joined}
 use Rattle.lab_card.proofs.card.CardActor.run_lines.Goals as goal
 
 no_line : Line

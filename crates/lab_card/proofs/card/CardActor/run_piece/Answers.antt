@@ -1,4 +1,4 @@
-use Rattle.std.proofs.Common.{◌≡◌, ℕ, ℤ, ◌+◌, ◌-◌, ◌*◌, List, length, take, drop, ap, arith, sym, ◌∙◌}
+use Rattle.std.proofs.Common.{◌≡◌, ℕ, ℤ, ◌+◌, ◌-◌, ◌*◌, List, length, take, drop, ap, arith, ◌∙◌}
 use Rattle.std.proofs.lemmas.List.{length-append, length-drop}
 use borrow.Rule.Slice.PartMut.{post_of}
 use Rattle.std.specs.Option.{option_copied}
