@@ -64,9 +64,6 @@ pub bool_byte-most : (test : Bool) → bool_byte test ≤ 1
 bool_byte-most true = omega arith
 bool_byte-most false = omega arith
 
--- what the card is asked for by a line of its own, and by another's
-pub ops-own : (line : Line) → is_of_card line.actor ≡ true → ops (line ∷ []) ≡ line.op ∷ []
-ops-own line own = ap (λ (b : Bool). (if b then line.op ∷ [] else []) ++ []) own
-
+-- another's line asks nothing of the card
 pub ops-other : (line : Line) → is_of_card line.actor ≡ false → ops (line ∷ []) ≡ []
 ops-other line other = ap (λ (b : Bool). (if b then line.op ∷ [] else []) ++ []) other

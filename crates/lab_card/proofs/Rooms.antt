@@ -47,7 +47,3 @@ HasRoom-after a b r q n m count frames keeps room rows played =
       played = omega (arith, keeps.played, keeps.played_room, room.played, same, most, sum);
       captured = omega (arith, keeps.captured_room, room.captured, piece);
     }
-
--- no more rows are wanted than there is room for
-pub HasRoom-less : (a : CardActor) (count frames q m : ℕ) → HasRoom a count frames → q ≤ count → m ≤ frames → HasRoom a q m
-HasRoom-less a count frames q m room rows played = HasRoom-after a a 0 q 0 m count frames (KeepsRoom-none a) room (omega (arith, rows)) (omega (arith, played))

@@ -22,13 +22,9 @@ use Rattle.card_sim.specs.Runs.{HasCaptured, RunsFrames, RunsThrough, period_of,
 use Rattle.lab_card.specs.declared.card.CardActor.{CardActor}
 use Rattle.lab_card.specs.Captures.{captured_frames}
 use Rattle.lab_card.specs.CardLines.{CardDid, positions_at}
-use Rattle.lab_card.specs.MovesLaws.{CardDid-joined, CardDid-none}
+use Rattle.lab_card.specs.MovesLaws.{CardDid-joined, CardDid-none, or-false}
 use Rattle.lab_card.specs.PositionLaws.{periods_to-append, positions_of-append, positions_of-period}
 use Rattle.lab_card.specs.Moves.{CardMoves, PlayerMoves, WriterMoves, frame_of_card, frames_since_first, geometry_of_card}
-
-or-false : (a : Bool) → a ≡ (a || false)
-or-false true = refl
-or-false false = refl
 
 played-moves : (p q : PlayerSeat) (xs : List ℤ) (ps : List ℕ) → HasPlayed p q xs ps → PlayerMoves p q xs ps false
 played-moves p q xs ps played = record {

@@ -1,5 +1,5 @@
 -- What the meets before a phase and after it tell of what an actor found in it: it is what the phase allows.
-use Rattle.std.specs.Prelude.{◌≡◌, ◌⊎◌, ℕ, ◌+◌, ◌%◌, ◌<◌, ◌≤◌, ◌||◌, ◌-◌, ◌*◌, ◌/◌, nat_lt, if◌then◌else◌, Bool, true, false, List, [], ◌∷◌, ◌++◌, length, map, max, All, Contains, Option, None, Some}
+use Rattle.std.specs.Prelude.{◌≡◌, suc, ◌⊎◌, ℕ, ◌+◌, ◌%◌, ◌<◌, ◌≤◌, ◌||◌, ◌-◌, ◌*◌, ◌/◌, nat_lt, if◌then◌else◌, Bool, true, false, List, [], ◌∷◌, ◌++◌, length, map, max, All, Contains, Option, None, Some}
 use Rattle.std.specs.List.{list_any, slice_index_or}
 use Rattle.std.proofs.Common.{refl, sym, ap, subst, ◌∙◌, arith, inl, inr, append_assoc}
 use Rattle.std.proofs.lemmas.Bool.{cases_lt, false≢true}
@@ -47,7 +47,7 @@ use Rattle.lab_card.specs.CardLines.{CardPart, positions_by, unplugs_by}
 use Rattle.lab_card.specs.Lists.{Contains-at, Each-at, Each-both, Each-less}
 use Rattle.lab_card.specs.Meets.{IsClientOf, IsInformedClient, IsInformedReader, IsReaderOf, IsSameCard, IsSameClient, IsSameReader, KnowsClient, KnowsReader}
 use Rattle.lab_card.specs.Moves.{frame_of_card, geometry_of_card, is_gone, seat_of_card}
-use Rattle.lab_card.specs.MovesLaws.{frame-least, next-at_frame, writer-least, writer-next}
+use Rattle.lab_card.specs.MovesLaws.{frame-least, next-at_frame, or-false, writer-least, writer-next}
 use Rattle.lab_card.specs.PositionLaws.{positions_by-published_by}
 use Rattle.lab_card.specs.Rests.{Rests}
 
@@ -106,19 +106,15 @@ loads-each Q from low old (p ∷ ps) start rising known =
 
 All-each : {X : Type 0} (P : X → Type 0) (xs : List X) → All P xs → Each P xs
 All-each P [] all = tt
-All-each P (x ∷ xs) all = (all 0 x (omega arith), All-each P xs (λ k d inside. all (Rattle.std.specs.Prelude.suc k) d (omega (arith, inside))))
+All-each P (x ∷ xs) all = (all 0 x (omega arith), All-each P xs (λ k d inside. all (suc k) d (omega (arith, inside))))
 
-or-false : (a b : Bool) → (a || b) ≡ false → (a ≡ false) × (b ≡ false)
-or-false true b is = absurd (false≢true (sym is))
-or-false false b is = (refl, is)
+or-both_false : (a b : Bool) → (a || b) ≡ false → (a ≡ false) × (b ≡ false)
+or-both_false true b is = absurd (false≢true (sym is))
+or-both_false false b is = (refl, is)
 
 none-gone : (ps : List Position) → list_any (λ (p : Position). p.gone) ps ≡ false → Each (λ (p : Position). p.gone ≡ false) ps
 none-gone [] none = tt
-none-gone (p ∷ ps) none = let parts = or-false p.gone (list_any (λ (x : Position). x.gone) ps) none in (parts.0, none-gone ps parts.1)
-
-or-same : (a : Bool) → a ≡ (a || false)
-or-same true = refl
-or-same false = refl
+none-gone (p ∷ ps) none = let parts = or-both_false p.gone (list_any (λ (x : Position). x.gone) ps) none in (parts.0, none-gone ps parts.1)
 
 or-true : (a : Bool) → (a || true) ≡ true
 or-true true = refl
@@ -130,7 +126,7 @@ loaded-gone : (gone before after : Bool) (seen : Bool) (ps : List Position) → 
 loaded-gone true before after seen ps informed loaded later known = All-each (λ (p : Position). p.gone ≡ true) ps (later (informed ∙ or-true seen))
 loaded-gone false before true seen ps informed loaded later known = absurd (false≢true (known refl))
 loaded-gone false before false seen ps informed loaded later known =
-    none-gone ps (or-false before (list_any (λ (p : Position). p.gone) ps) (sym loaded)).1
+    none-gone ps (or-both_false before (list_any (λ (p : Position). p.gone) ps) (sym loaded)).1
 
 -- a position that was published, of a card that rested, is published in the phase, where it isn't below the first one
 published-position : (period first from : ℕ) (before : List ℕ) (lines : List Line) (x : ℕ) → first ≤ from → Each (λ (y : ℕ). y ≤ from) before
@@ -148,7 +144,7 @@ published-position period first from before lines x least rested is up = elim is
     head same = (0, omega arith, same)
 
     tail : Contains (published_by period from lines) x → Contains (published period from lines) x
-    tail there = (Rattle.std.specs.Prelude.suc there.0, omega (arith, there.1), there.2)
+    tail there = (suc there.0, omega (arith, there.1), there.2)
 
 -- ---- words of later laps
 
@@ -221,7 +217,7 @@ module _ {capture : Option Sound} {phase : ℕ} (c : Card) (a b : CardActor) (d 
   gone-between =
       ap (λ (t : Track). t.gone) is.after.player.track
       ∙ (is.part.did.moves.player.gone
-      ∙ (ap (λ (x : Bool). is_gone a.card || x) is.plugged ∙ (sym (or-same (is_gone a.card)) ∙ ap (λ (t : Track). t.gone) is.before.player.track)))
+      ∙ (ap (λ (x : Bool). is_gone a.card || x) is.plugged ∙ (sym (or-false (is_gone a.card)) ∙ ap (λ (t : Track). t.gone) is.before.player.track)))
 
   positions-between : positions_by (period_of a.card) (frame_of_card a.card) (ops_by is_of_card lines) ≡ positions_by (period_of c) (frame_of_card c) (ops_by is_of_card lines)
   positions-between =
@@ -291,7 +287,7 @@ module _ {capture : Option Sound} {phase : ℕ} (c : Card) (a b : CardActor) (d 
       ap (λ (t : snoop_track.Track). t.gone) is.after.writer.track
       ∙ (is.part.did.moves.writer.gone
       ∙ (ap (λ (x : Bool). (writer_track (writer_of a.card)).gone || x) is.plugged
-      ∙ (sym (or-same (writer_track (writer_of a.card)).gone) ∙ (ap (λ (t : snoop_track.Track). t.gone) is.before.writer.track ∙ is.rests.gone))))
+      ∙ (sym (or-false (writer_track (writer_of a.card)).gone) ∙ (ap (λ (t : snoop_track.Track). t.gone) is.before.writer.track ∙ is.rests.gone))))
 
   stored-positions : (writer_track (writer_of d)).published ≡ (writer_track (writer_of c)).published ++ positions_by (period_of c) (frame_of_card c) (ops_by is_of_card lines)
   stored-positions =

@@ -1,7 +1,7 @@
 -- Facts of lists.
 use Rattle.std.specs.Prelude.{◌≡◌, ℕ, zero, suc, ◌+◌, List, [], ◌∷◌, ◌++◌, Contains}
 use Rattle.std.specs.List.{range_with_len}
-use Rattle.std.proofs.Common.{refl, sym, ap, ◌∙◌, arith}
+use Rattle.std.proofs.Common.{sym, ap, subst, ◌∙◌, arith}
 use mathlib.Core.Option.{some, some-injective, some-ne-none}
 use lib.ListN.{get_elem?}
 use Rattle.lab_run.specs.ActorPart.{Each}
@@ -29,10 +29,7 @@ Each-both P Q (x ∷ xs) first then_ = ((first.0, then_.0), Each-both P Q xs fir
 
 pub Each-at : {X : Type 0} (P : X → Type 0) (xs : List X) (i : ℕ) (x : X) → get_elem? xs i ≡ some x → Each P xs → P x
 Each-at P [] i x is each = absurd (some-ne-none x (sym is))
-Each-at P (y ∷ xs) zero x is each = subst_P (some-injective y x is) each.0
-  where
-    subst_P : y ≡ x → P y → P x
-    subst_P same holds = Rattle.std.proofs.Common.subst P same holds
+Each-at P (y ∷ xs) zero x is each = subst P (some-injective y x is) each.0
 Each-at P (y ∷ xs) (suc i) x is each = Each-at P xs i x is each.1
 
 pub Contains-at : {X : Type 0} (xs : List X) (i : ℕ) (x : X) → get_elem? xs i ≡ some x → Contains xs x

@@ -32,7 +32,7 @@ use Rattle.lab_card.specs.CardLines.{CardDid, CardPart, frames_by, positions_at,
 use Rattle.lab_card.specs.Lists.{range_with_len-append}
 use Rattle.lab_card.specs.Moves.{CardMoves, PlayerMoves, WriterMoves, frame_of_card, frames_since_first, geometry_of_card, seat_of_card}
 
-or-false : (a : Bool) → a ≡ (a || false)
+pub or-false : (a : Bool) → a ≡ (a || false)
 or-false true = refl
 or-false false = refl
 

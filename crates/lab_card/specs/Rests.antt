@@ -13,7 +13,7 @@ use Rattle.card_sim.specs.Runs.{period_of, writer_of}
 use Rattle.lab_script.specs.declared.line.Op.{Op}
 use Rattle.lab_run.specs.ActorPart.{Each}
 use Rattle.lab_card.specs.declared.card.CardActor.{CardActor}
-use Rattle.lab_card.specs.CardLines.{CardPart, frames_by, positions_by}
+use Rattle.lab_card.specs.CardLines.{CardPart, positions_by, unplugs_by}
 use Rattle.lab_card.specs.Lists.{Each-append, Each-less}
 use Rattle.lab_card.specs.Moves.{frame_of_card, geometry_of_card, is_gone, seat_of_card}
 use Rattle.lab_card.specs.PositionLaws.{last_of-positions_by, positions_by-most}
@@ -59,5 +59,5 @@ Rests-after capture phase a b ops rests part =
           ∙ (ap (last_of (first_frame (geometry_of_card c))) moves.writer.published
           ∙ (last_of-append (first_frame (geometry_of_card c)) (writer_track (writer_of c)).published positions
           ∙ (ap (λ (n : ℕ). last_of n positions) rests.position ∙ (last_of-positions_by period from ops ∙ sym moves.frame))));
-      gone = moves.writer.gone ∙ (ap (λ (b : Bool). b || Rattle.lab_card.specs.CardLines.unplugs_by ops) rests.gone ∙ sym moves.player.gone);
+      gone = moves.writer.gone ∙ (ap (λ (b : Bool). b || unplugs_by ops) rests.gone ∙ sym moves.player.gone);
     }

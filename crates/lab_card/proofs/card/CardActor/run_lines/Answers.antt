@@ -15,9 +15,6 @@ use Rattle.lab_card.proofs.OwnLines.{count-most, count-next, frames-most, frames
 use Rattle.lab_card.proofs.Rooms.{HasRoom-after, KeepsRoom-joined}
 use Rattle.lab_card.proofs.card.CardActor.run_lines.Goals as goal
 
-no_line : Line
-no_line = record { number = 0; actor = actor.Card; op = op.Play 0 }
-
 pub do_own-requires-clause-fits : goal.do_own-requires-clause-fits
 do_own-requires-clause-fits c =
     let lines : List Line = c.args.lines.now in
