@@ -2,7 +2,7 @@
 ghost use Rattle.std.specs.Prelude.{◌≤◌};
 
 use snd_base::{Cursor, Geometry, PcmError};
-use sum_table::PlayerSeat;
+use sum_table::{PlayerSeat, SeatNote};
 
 /// The player of a card, over its seat at the sum ring. It takes the words of whole frames, in the order of frames and then
 /// channels, and publishes the card's position at each multiple of the period, as a card's interrupts do (ALSA's
@@ -19,7 +19,8 @@ pub struct CardPlayer<'a> {
 impl<'a> CardPlayer<'a> {
     ghost use Rattle.std.specs.Prelude.{◌≡◌, ◌+◌, ◌*◌, ◌≤◌, ◌↔◌, IsTrue, [], length, IfErr, OnErr, OnOk, IsErrOf, nat_lt, ◌&&◌};
     ghost use Rattle.snd_base.specs.Places.{end_frame};
-    ghost use Rattle.sum_table.specs.Players.{HasPublished, HasUnplugged, next_of_player, position_of_player};
+    ghost use Rattle.sum_table.specs.Joins.{HasHeard, HasPlayerNote, OneRing, note_key, note_ring};
+    ghost use Rattle.sum_table.specs.Players.{HasPublished, HasUnplugged, next_of_player, player_key, player_ring, position_of_player};
     ghost use Rattle.card_player.specs.Plays.{EndsEarly, HasFrame, HasRoom, IsAtFrame, IsAtLapEnd, PlaysAndPublishes, PlaysFrames, PublishesPeriod, TakesFrameAt, frame_of, frames_left, geometry_of, is_multiple, period_of, seat_of};
 
     /// A player over this seat, with a period of so many frames, at least 1.
@@ -137,6 +138,24 @@ impl<'a> CardPlayer<'a> {
         ensures period { period_of self.new ≡ period_of self.old }
     {
         self.seat.unplug();
+    }
+
+    /// A note of all that the player has seen, and so of each position that it published, for a seat of the ring to meet.
+    pub fn note(&mut self) -> SeatNote<'a>
+        ensures note { HasPlayerNote (seat_of self.old) (seat_of self.new) result }
+        ensures period { period_of self.new ≡ period_of self.old }
+    {
+        self.seat.note()
+    }
+
+    /// Meets a note of a seat, and learns that what it has seen is what this player did. The caller shows that both are of one
+    /// ring.
+    pub fn meet(&mut self, note: SeatNote<'_>)
+        requires { OneRing (note_ring note) (note_key note) (player_ring (seat_of self.old)) (player_key (seat_of self.old)) }
+        ensures heard { HasHeard (seat_of self.old) (seat_of self.new) note.entry }
+        ensures period { period_of self.new ≡ period_of self.old }
+    {
+        self.seat.meet(note);
     }
 
     /// Gives the seat back.

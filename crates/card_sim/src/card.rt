@@ -6,9 +6,9 @@ use crate::run::run_frames;
 use crate::watch::{NoWatch, Watch};
 use card_player::CardPlayer;
 use pcm_stream::is_same_ring;
-use snd_base::PcmError;
-use snoop_table::WriterSeat;
-use sum_table::PlayerSeat;
+use snd_base::{Geometry, PcmError};
+use snoop_table::{SnoopNote, WriterSeat};
+use sum_table::{PlayerSeat, SeatNote};
 
 /// A duplex card: a player at the sum ring and a writer at the snoop ring, which are always at the same frame. `'p` is the
 /// borrow of the sum ring, and `'w` that of the snoop ring.
@@ -26,8 +26,10 @@ pub struct Card<'p, 'w> {
 
 impl<'p, 'w> Card<'p, 'w> {
     ghost use Rattle.std.specs.Prelude.{◌≡◌, ◌<◌, ◌≤◌, ◌%◌, ◌↔◌, IsTrue, length, IfErr, IsErrOf};
-    ghost use Rattle.sum_table.specs.Players.{HasUnplugged, position_of_player};
-    ghost use Rattle.snoop_table.specs.Writers.{HasUnplugged as WriterHasUnplugged, desk_of};
+    ghost use Rattle.sum_table.specs.Joins.{HasHeard, HasPlayerNote, OneRing, note_key, note_ring};
+    ghost use Rattle.sum_table.specs.Players.{HasUnplugged, player_key, player_ring, position_of_player};
+    ghost use Rattle.snoop_table.specs.Joins.{HasHeard as WriterHasHeard, HasWriterNote, OneRing as OneSnoopRing, note_geometry, note_ring as snoop_note_ring};
+    ghost use Rattle.snoop_table.specs.Writers.{HasUnplugged as WriterHasUnplugged, desk_of, writer_geometry, writer_ring};
     ghost use Rattle.card_player.specs.Plays.{EndsEarly, frame_of, geometry_of, seat_of};
     ghost use Rattle.card_sim.specs.Steps.{AreInStep, IsPublished};
     ghost use Rattle.card_sim.specs.Runs.{RunsThrough, moments_through, period_of, player_of, writer_of};
@@ -67,6 +69,20 @@ impl<'p, 'w> Card<'p, 'w> {
         ensures { result ≡ (geometry_of (player_of self.now)).channels }
     {
         self.player.geometry().channels
+    }
+
+    /// How many frames a period has.
+    pub fn period(&self) -> u32
+        ensures { result ≡ period_of self.now }
+    {
+        self.period
+    }
+
+    /// The geometry of both rings.
+    pub fn geometry(&self) -> Geometry
+        ensures { result ≡ geometry_of (player_of self.now) }
+    {
+        self.player.geometry()
     }
 
     /// The position that both rings published last, a frame number, or the number of the first frame.
@@ -136,6 +152,46 @@ impl<'p, 'w> Card<'p, 'w> {
     {
         self.player.unplug();
         self.writer.unplug();
+    }
+
+    /// A note of the sum ring's player: of all that it has seen, and so of each position that it published.
+    pub fn note_of_player(&mut self) -> SeatNote<'p>
+        ensures note { HasPlayerNote (seat_of (player_of self.old)) (seat_of (player_of self.new)) result }
+        ensures writer { writer_of self.new ≡ writer_of self.old }
+        ensures period { period_of self.new ≡ period_of self.old }
+    {
+        self.player.note()
+    }
+
+    /// The sum ring's player meets a note of a client's seat, and learns that what the seat has seen is what this player did.
+    /// The caller shows that both are of one ring.
+    pub fn meet_client(&mut self, note: SeatNote<'_>)
+        requires { OneRing (note_ring note) (note_key note) (player_ring (seat_of (player_of self.old))) (player_key (seat_of (player_of self.old))) }
+        ensures heard { HasHeard (seat_of (player_of self.old)) (seat_of (player_of self.new)) note.entry }
+        ensures writer { writer_of self.new ≡ writer_of self.old }
+        ensures period { period_of self.new ≡ period_of self.old }
+    {
+        self.player.meet(note);
+    }
+
+    /// A note of the snoop ring's writer: of all that it has seen, and so of each position that it published.
+    pub fn note_of_writer(&mut self) -> SnoopNote<'w>
+        ensures note { HasWriterNote (writer_of self.old) (writer_of self.new) result }
+        ensures player { player_of self.new ≡ player_of self.old }
+        ensures period { period_of self.new ≡ period_of self.old }
+    {
+        self.writer.note()
+    }
+
+    /// The snoop ring's writer meets a note of a reader's seat, and learns that what the seat has seen is what this writer did.
+    /// The caller shows that both are of one ring.
+    pub fn meet_reader(&mut self, note: SnoopNote<'_>)
+        requires { OneSnoopRing (snoop_note_ring note) (note_geometry note) (writer_ring (writer_of self.old)) (writer_geometry (writer_of self.old)) }
+        ensures heard { WriterHasHeard (writer_of self.old) (writer_of self.new) note.entry }
+        ensures player { player_of self.new ≡ player_of self.old }
+        ensures period { period_of self.new ≡ period_of self.old }
+    {
+        self.writer.meet(note);
     }
 
     /// Gives the seats of both rings back.

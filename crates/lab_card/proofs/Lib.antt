@@ -1,0 +1,4 @@
+pub mod OwnLines
+pub mod Meeting
+pub mod Rooms
+pub mod Running

@@ -1,0 +1,23 @@
+-- A reader's note, heard by the card's writer.
+use Rattle.std.proofs.Common.{sym, subst}
+use Rattle.snd_base.specs.declared.geometry.Geometry.{Geometry}
+use Rattle.snoop_table.specs.declared.seats.desk.Desk.{Desk}
+use Rattle.snoop_table.specs.declared.seats.reader.ReaderSeat.{ReaderSeat}
+use Rattle.snoop_table.specs.declared.view.Track.{Track}
+use Rattle.snoop_table.specs.declared.view.View.{View}
+use Rattle.snoop_table.specs.Cuts.{part_of}
+use Rattle.snoop_table.specs.Joins.{DeskHeard, HasSplit, IsBorneOut}
+use Rattle.snoop_table.specs.Readers.{view_of}
+use Rattle.snoop_table.specs.Writers.{desk_track}
+
+-- a note tells as much as its seat
+borne-part : (g : Geometry) (t : Track) (v : View) → IsBorneOut g t (part_of v) → IsBorneOut g t v
+borne-part g t v is = record { positions = is.positions; noted = is.noted; unused = is.unused; gone = is.gone; got = is.got }
+
+pub borne-heard : (d e : Desk) (s t note : ReaderSeat) → HasSplit s t note → DeskHeard d e note → IsBorneOut e.geometry (desk_track e) (view_of t)
+borne-heard d e s t note split heard =
+    subst (λ (v : View). IsBorneOut e.geometry (desk_track e) v) (sym split.view)
+    (borne-part e.geometry (desk_track e) (view_of s)
+    (subst (λ (v : View). IsBorneOut e.geometry (desk_track e) v) split.new_view
+    (subst (λ (u : Track). IsBorneOut e.geometry u (view_of note)) (sym heard.track)
+    (subst (λ (g : Geometry). IsBorneOut g (desk_track d) (view_of note)) (sym heard.geometry) heard.borne_out))))

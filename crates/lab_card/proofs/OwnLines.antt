@@ -1,0 +1,69 @@
+-- The card's lines among those of a phase, one after the other.
+use Rattle.std.proofs.Common.{◌≡◌, ℕ, suc, ◌+◌, ◌<◌, ◌≤◌, List, [], ◌∷◌, ◌++◌, refl, sym, ◌∙◌, ap, arith, append_assoc, length, get_or, take, drop}
+use Rattle.std.proofs.Math.Seq.{take-suc}
+use Rattle.std.proofs.lemmas.List.{length-append, take-append-drop}
+use Rattle.std.proofs.lemmas.List.Sums.{sum_by-append}
+use mir.Val.{bool_byte}
+use Rattle.std.specs.Prelude.{Bool, true, false, if◌then◌else◌}
+use Rattle.lab_script.specs.declared.line.Line.{Line}
+use Rattle.lab_script.specs.declared.line.Op.{Op}
+use Rattle.lab_script.specs.Ops.{played_by}
+use Rattle.lab_script.specs.Script.{is_of_card}
+use Rattle.lab_run.specs.Phases.{ops_by}
+use Rattle.lab_card.specs.CardLines.{frames_by}
+
+-- what the card is asked for by some lines
+abbrev pub ops : List Line → List Op
+ops lines = ops_by is_of_card lines
+
+pub ops-append : (xs ys : List Line) → ops (xs ++ ys) ≡ ops xs ++ ops ys
+ops-append [] ys = refl
+ops-append (x ∷ xs) ys =
+    ap (λ (others : List Op). (if is_of_card x.actor then x.op ∷ [] else []) ++ others) (ops-append xs ys)
+    ∙ sym (append_assoc (if is_of_card x.actor then x.op ∷ [] else []) (ops xs) (ops ys))
+
+-- by the next line, and by those that are left
+pub ops-next : (lines : List Line) (k : ℕ) (line : Line) → k < length lines → get_or lines k line ≡ line → ops (take (k + 1) lines) ≡ ops (take k lines) ++ ops (line ∷ [])
+ops-next lines k line within is =
+    ap (λ (j : ℕ). ops (take j lines)) (let e : k + 1 ≡ suc k = omega arith in e)
+    ∙ (ap ops (take-suc lines k line within ∙ ap (λ (x : Line). take k lines ++ x ∷ []) is) ∙ ops-append (take k lines) (line ∷ []))
+
+pub ops-split : (lines : List Line) (k : ℕ) → ops lines ≡ ops (take k lines) ++ ops (drop k lines)
+ops-split lines k = ap ops (sym (take-append-drop k lines)) ∙ ops-append (take k lines) (drop k lines)
+
+-- how many frames, and how many lines
+pub frames-next : (lines : List Line) (k : ℕ) (line : Line) → k < length lines → get_or lines k line ≡ line
+    → frames_by (ops (take (k + 1) lines)) ≡ frames_by (ops (take k lines)) + frames_by (ops (line ∷ []))
+frames-next lines k line within is = ap frames_by (ops-next lines k line within is) ∙ sum_by-append played_by (ops (take k lines)) (ops (line ∷ []))
+
+pub frames-most : (lines : List Line) (k : ℕ) → frames_by (ops (take k lines)) ≤ frames_by (ops lines)
+frames-most lines k =
+    let all : frames_by (ops lines) ≡ frames_by (ops (take k lines)) + frames_by (ops (drop k lines)) =
+    ap frames_by (ops-split lines k) ∙ sum_by-append played_by (ops (take k lines)) (ops (drop k lines)) in
+    omega (arith, all)
+
+pub count-next : (lines : List Line) (k : ℕ) (line : Line) → k < length lines → get_or lines k line ≡ line
+    → length (ops (take (k + 1) lines)) ≡ length (ops (take k lines)) + length (ops (line ∷ []))
+count-next lines k line within is = ap length (ops-next lines k line within is) ∙ length-append (ops (take k lines)) (ops (line ∷ []))
+
+pub count-most : (lines : List Line) (k : ℕ) → length (ops (take k lines)) ≤ length (ops lines)
+count-most lines k =
+    let all : length (ops lines) ≡ length (ops (take k lines)) + length (ops (drop k lines)) =
+    ap length (ops-split lines k) ∙ length-append (ops (take k lines)) (ops (drop k lines)) in
+    omega (arith, all)
+
+-- a line is one of the card's, or none
+pub own-count : (line : Line) (test : Bool) → test ≡ is_of_card line.actor → length (ops (line ∷ [])) ≡ bool_byte test
+own-count line test is = ap (λ (b : Bool). length ((if b then line.op ∷ [] else []) ++ [])) (sym is) ∙ by_case test
+  where
+    by_case : (b : Bool) → length ((if b then line.op ∷ [] else []) ++ []) ≡ bool_byte b
+    by_case true = refl
+    by_case false = refl
+
+pub bool_byte-most : (test : Bool) → bool_byte test ≤ 1
+bool_byte-most true = omega arith
+bool_byte-most false = omega arith
+
+-- another's line asks nothing of the card
+pub ops-other : (line : Line) → is_of_card line.actor ≡ false → ops (line ∷ []) ≡ []
+ops-other line other = ap (λ (b : Bool). (if b then line.op ∷ [] else []) ++ []) other

@@ -1,0 +1,13 @@
+use Rattle.std.proofs.Common.{sym, subst, ◌∙◌, List}
+use Rattle.std.specs.Option.{option_copied}
+use Rattle.lab_script.specs.declared.line.Op.{Op}
+use Rattle.lab_card.specs.CardLines.{CardPart}
+use Rattle.lab_card.specs.MovesLaws.{CardPart-none}
+use Rattle.lab_card.proofs.OwnLines.{ops-other}
+use Rattle.lab_card.proofs.card.CardActor.do_own.Goals as goal
+
+pub returns-else-is_of_card-clause-part : goal.returns-else-is_of_card-clause-part
+returns-else-is_of_card-clause-part c =
+    subst (λ (ops : List Op). CardPart (option_copied c.args.capture) c.args.phase c.args.self.now c.args.self.now ops)
+    (sym (ops-other c.args.line.now (sym c.is_of_card.ensures ∙ c.if-is_of_card.false)))
+    (CardPart-none (option_copied c.args.capture) c.args.phase c.args.self.now)

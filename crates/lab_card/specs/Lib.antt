@@ -1,0 +1,11 @@
+pub mod Captures
+pub mod CardLines
+pub mod Findings
+pub mod Lists
+pub mod MeetLaws
+pub mod Meets
+pub mod Moves
+pub mod MovesLaws
+pub mod PositionLaws
+pub mod Rests
+pub mod Room
