@@ -56,7 +56,8 @@ fn push_row(rows: &mut Vec<Row>, row: Row)
 fn run_over(card: &mut Card<'_, '_>, captured: &[i16], out: &mut [i16])
     requires same { length captured.now ≡ length out.old }
     requires whole { length out.old % (geometry_of_card card.old).channels ≡ 0 }
-    requires fits { frame_of_card card.old + length out.old / (geometry_of_card card.old).channels ≤ end_frame (geometry_of_card card.old) }
+    requires fits { frame_of_card card.old + length out.old / (geometry_of_card card.old).channels
+        ≤ end_frame (geometry_of_card card.old) }
     ensures runs { RunsThrough card.old card.new captured.now out.old out.new }
     ensures period { period_of card.new ≡ period_of card.old }
 {
@@ -104,7 +105,8 @@ impl<'a> CardActor<'a> {
     /// The caller knows that the frames that the lines play are before the rings' end (`can_run`).
     pub fn take_room(&mut self, lines: &[Line]) -> Result<(), PcmError>
         requires { FitsRing self.old (ops_by is_of_card lines.now) }
-        ensures room { OnOk result (HasRoom self.new (length (ops_by is_of_card lines.now)) (frames_by (ops_by is_of_card lines.now))) }
+        ensures room { OnOk result
+            (HasRoom self.new (length (ops_by is_of_card lines.now)) (frames_by (ops_by is_of_card lines.now))) }
         ensures card { self.new.card ≡ self.old.card }
         ensures played { self.new.played.items ≡ self.old.played.items }
         ensures rows { self.new.rows.items ≡ self.old.rows.items }
@@ -125,7 +127,8 @@ impl<'a> CardActor<'a> {
         requires fits { frame_of_card self.old.card + frames ≤ end_frame (geometry_of_card self.old.card) }
         requires room { HasRoom self.old 0 frames }
         requires few { frames ≤ period_of self.old.card }
-        ensures did { CardDid (option_copied capture.entry) self.old self.new frames (positions_of (period_of self.old.card) (frame_of_card self.old.card) frames) false }
+        ensures did { CardDid (option_copied capture.entry) self.old self.new frames
+            (positions_of (period_of self.old.card) (frame_of_card self.old.card) frames) false }
         ensures room { KeepsRoom self.old self.new 0 frames }
         ensures rows { self.new.rows ≡ self.old.rows }
     {
@@ -145,7 +148,8 @@ impl<'a> CardActor<'a> {
     fn play(&mut self, capture: Option<&Wav>, frames: u32)
         requires fits { frame_of_card self.old.card + frames ≤ end_frame (geometry_of_card self.old.card) }
         requires room { HasRoom self.old 0 frames }
-        ensures did { CardDid (option_copied capture.entry) self.old self.new frames (positions_of (period_of self.old.card) (frame_of_card self.old.card) frames) false }
+        ensures did { CardDid (option_copied capture.entry) self.old self.new frames
+            (positions_of (period_of self.old.card) (frame_of_card self.old.card) frames) false }
         ensures room { KeepsRoom self.old self.new 0 frames }
         ensures rows { self.new.rows ≡ self.old.rows }
     {
@@ -163,7 +167,8 @@ impl<'a> CardActor<'a> {
     fn do_op(&mut self, capture: Option<&Wav>, asked: Op)
         requires fits { frame_of_card self.old.card + played_by asked ≤ end_frame (geometry_of_card self.old.card) }
         requires room { HasRoom self.old 0 (played_by asked) }
-        ensures did { CardDid (option_copied capture.entry) self.old self.new (frames_by (asked ∷ [])) (positions_by (period_of self.old.card) (frame_of_card self.old.card) (asked ∷ [])) (unplugs_by (asked ∷ [])) }
+        ensures did { CardDid (option_copied capture.entry) self.old self.new (frames_by (asked ∷ []))
+            (positions_by (period_of self.old.card) (frame_of_card self.old.card) (asked ∷ [])) (unplugs_by (asked ∷ [])) }
         ensures room { KeepsRoom self.old self.new 0 (played_by asked) }
         ensures rows { self.new.rows ≡ self.old.rows }
     {
@@ -189,10 +194,14 @@ impl<'a> CardActor<'a> {
 
     // Does a line where it is the card's.
     fn do_own(&mut self, capture: Option<&Wav>, phase: u32, line: &Line)
-        requires fits { frame_of_card self.old.card + frames_by (ops_by is_of_card (line.now ∷ [])) ≤ end_frame (geometry_of_card self.old.card) }
-        requires room { HasRoom self.old (length (ops_by is_of_card (line.now ∷ []))) (frames_by (ops_by is_of_card (line.now ∷ []))) }
-        ensures part { CardPart (option_copied capture.entry) phase self.old self.new (ops_by is_of_card (line.now ∷ [])) }
-        ensures room { KeepsRoom self.old self.new (length (ops_by is_of_card (line.now ∷ []))) (frames_by (ops_by is_of_card (line.now ∷ []))) }
+        requires fits { frame_of_card self.old.card + frames_by (ops_by is_of_card (line.now ∷ []))
+            ≤ end_frame (geometry_of_card self.old.card) }
+        requires room { HasRoom self.old (length (ops_by is_of_card (line.now ∷ [])))
+            (frames_by (ops_by is_of_card (line.now ∷ []))) }
+        ensures part { CardPart (option_copied capture.entry) phase self.old self.new
+            (ops_by is_of_card (line.now ∷ [])) }
+        ensures room { KeepsRoom self.old self.new (length (ops_by is_of_card (line.now ∷ [])))
+            (frames_by (ops_by is_of_card (line.now ∷ []))) }
     {
         if is_of_card(line) {
             self.do_line(capture, phase, line.op);
@@ -210,7 +219,8 @@ impl<'a> CardActor<'a> {
     /// and at the end. `unplug` unplugs it from both rings. Each line appends its row.
     pub fn run_lines(&mut self, capture: Option<&Wav>, phase: u32, lines: &[Line])
         requires fits { FitsRing self.old (ops_by is_of_card lines.now) }
-        requires room { HasRoom self.old (length (ops_by is_of_card lines.now)) (frames_by (ops_by is_of_card lines.now)) }
+        requires room { HasRoom self.old (length (ops_by is_of_card lines.now))
+            (frames_by (ops_by is_of_card lines.now)) }
         ensures { CardPart (option_copied capture.entry) phase self.old self.new (ops_by is_of_card lines.now) }
     {
         for index in 0..lines.len() {
