@@ -38,7 +38,8 @@ impl Client<'_> {
         if answer != Ok(Placed::In) {
             return false;
         }
-        self.count(frame as usize * geometry.channels as usize + channel as usize);
+        let first = (frame as usize).saturating_mul(geometry.channels as usize);
+        self.count(first.saturating_add(channel as usize));
         true
     }
 
