@@ -19,6 +19,7 @@ use Rattle.pcm_stream.specs.Status.{is_moving, refusal_of, refused_by}
 use Rattle.pcm_stream.specs.declared.direction.Direction.TheVariants.{Playback}
 use Rattle.dmix_client.specs.Calls.{Answered, is_running, pending_of, rebased, resumed, start_count, started, started_in, sync_count, synced, taken_of, with_number, written_after}
 use Rattle.dmix_client.specs.Course.{admitted, admitted_by, commits, drain_on, drains, fills, looks, nothing, number_course, numbered, resumes, starts, syncs, takes_more, write_course, write_on, writes_on}
+use Rattle.dmix_client.specs.Rewind.{rewind_course, rewinds}
 use Rattle.dmix_client.specs.Writes.{count_with, frames_in, ring_with}
 
 module _ {S T : Type 0} (P : mixport.Ghosts S) (G : gates.Ghosts T) where
@@ -98,6 +99,11 @@ module _ {S T : Type 0} (P : mixport.Ghosts S) (G : gates.Ghosts T) where
   pub write-running : (s t : S × T) (c : Plain) (ring samples : List ℤ) (cursor : Cursor) (n : ℕ) (done : Answered ℕ) → is_running c.status.state ≡ true → n ≡ frames_in c samples
       → TakesAt P G s (writes_on c ring samples n) t done → TakesAt P G s (write_course c ring samples cursor) t done
   write-running s t c ring samples cursor n done runs is takes = rw runs (subst (λ k. TakesAt P G s (writes_on c ring samples k) t done) is takes)
+
+  -- the rewind of a client that runs
+  pub rewind-running : (s t : S × T) (c : Plain) (ring : List ℤ) (floor : Cursor) (n : ℕ) (done : Answered ℕ) → is_running c.status.state ≡ true
+      → TakesAt P G s (rewinds c ring floor n) t done → TakesAt P G s (rewind_course c ring floor n) t done
+  rewind-running s t c ring floor n done runs takes = rw runs takes
 
   -- the write of a client that is prepared
   pub write-prepared : (s t : S × T) (c : Plain) (ring samples : List ℤ) (cursor : Cursor) (n : ℕ) (done : Answered ℕ) → is_running c.status.state ≡ false → n ≡ frames_in c samples

@@ -44,7 +44,7 @@ use Rattle.dmix_client.specs.Growth.{AnySamples, Keeps, KeepsBack, Loses, Stands
 use Rattle.dmix_client.specs.Port.{CanUse, IsStep, least_channel}
 use Rattle.dmix_client.specs.Rewind.{back_of, checks, held_entries, last_channel, last_laid, rewind_on, rewindable_of, rewinds, rewound, take_frames, taken_back, takes_back, without}
 use Rattle.dmix_client.specs.RewindCauses.{ExplainsCheck, ExplainsRewind, IsKeptCause}
-use Rattle.dmix_client.specs.View.{IsGoing, IsMoving, IsSound, held, hw_of, queued_of}
+use Rattle.dmix_client.specs.View.{ClientView, IsGoing, IsMoving, IsSound, held, hw_of, queued_of}
 use Rattle.dmix_client.specs.declared.commit.Commit.{Commit}
 use Rattle.dmix_client.specs.declared.plain.Plain.{Plain}
 
@@ -557,6 +557,16 @@ module _ {S T : Type 0} (P : mixport.Ghosts S) (G : gates.Ghosts T) (holds : Hol
       }))
 
   -- a rewind of a stream that is prepared
+  -- where nothing is done, all is kept
+  pub KeepsBack-none : {X : Type 0} (s : S × T) (c : ClientView) (answer : Result X PcmError) → Keeps P G s s c c answer AnySamples → KeepsBack P G s s c c answer
+  KeepsBack-none s c answer keeps = record {
+    sound = keeps.sound;
+    port = keeps.port;
+    told = keeps.told;
+    loses = λ samples stands. record { away = TakesAway-none P G holds s.0 s.0 (segment_entries c.plain samples) (holds.laid_composes.none s.0); same_member = refl; same_bindings = refl };
+    stands = λ samples stands. stands;
+  }
+
   pub without-kept : (s : S × T) (c : Plain) (ring : List ℤ) (n : ℕ) → IsSound c ring → c.status.state ≡ Prepared → n ≤ c.stretch.written → CanUse c (P.view s.0)
       → KeepsBack P G s s (client c ring) (client (without c n) ring) (let r : Result ℕ PcmError = Ok n in r)
   without-kept s c ring n sound waits few port =

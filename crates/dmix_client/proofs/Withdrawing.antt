@@ -1,13 +1,16 @@
 -- The withdrawals of a rewind take their courses, and which adds a port lost by them at the end of those that stand.
-use Rattle.std.proofs.Common.{◌≡◌, ℕ, ◌+◌, ◌<◌, ◌≤◌, suc, zero, refl, sym, ◌∙◌, ap, subst, arith, List, length, ◌-◌, [], ◌∷◌, ◌++◌, take, map, get_or, append_assoc}
-use Rattle.std.specs.Prelude.{ℤ, slice_index, Bool, true, false, nat_eq, if◌then◌else◌, fold}
+use Rattle.std.proofs.Common.{◌≡◌, ℕ, ◌+◌, ◌<◌, ◌≤◌, suc, zero, refl, sym, ◌∙◌, ap, subst, arith, inl, inr, List, length, ◌-◌, [], ◌∷◌, ◌++◌, take, map, get_or, append_assoc}
+use Rattle.std.specs.Prelude.{ℤ, pos, ◌+ℤ◌, ◌-ℤ◌, ◌==◌, ◌&&◌, slice_index, Bool, true, false, nat_eq, if◌then◌else◌, fold}
 use Rattle.std.proofs.Math.Seq.{take-suc}
+use Rattle.std.proofs.lemmas.Bool.{cases_Bool}
 use Rattle.std.proofs.lemmas.Bool.Decides.{nat_tests}
+use Rattle.std.proofs.lemmas.Int.{ints}
 use Rattle.std.proofs.lemmas.List.{append-nil, map-append}
 use Rattle.std.proofs.lemmas.List.Sums.{fold-append}
 use Rattle.mix_core.specs.declared.port.Ended.{Ended}
 use Rattle.mix_core.specs.declared.port.Ended.TheVariants.{Whole, Late, Stopped}
-use Rattle.mix_core.specs.Laid.{a_withdrawal, an_add, stand_after, without_last}
+use Rattle.mix_core.specs.Laid.{a_withdrawal, an_add, stand_after, total, without_last}
+use Rattle.mix_core.specs.HistoryLaws.{total-append}
 use Rattle.course.specs.AtPort.{LaysAt, LoadsAt, NoGet, TakesAt}
 use Rattle.course.specs.CourseLaws.{Takes-then, Takes-parts}
 use Rattle.bindings.specs.Bound.{AreBindings, rising}
@@ -168,9 +171,22 @@ last_frame frames part = if nat_eq part 0 then frames - 1 else frames
 abbrev pub last_place : ℕ → ℕ → ℕ
 last_place part channels = (if nat_eq part 0 then channels else part) - 1
 
+-- an add and its withdrawal give nothing to a sum
+total-back : (member f c : ℕ) (s : ℤ) (g k : ℕ) → total (an_add member f c s ∷ []) g k +ℤ total (a_withdrawal member f c s ∷ []) g k ≡ pos 0
+total-back member f c s g k = elim (cases_Bool ((f == g) && (c == k))) [
+  | inl here ↦
+      let added : total (an_add member f c s ∷ []) g k ≡ pos 0 +ℤ s = rw here refl in
+      let back : total (a_withdrawal member f c s ∷ []) g k ≡ pos 0 +ℤ (pos 0 -ℤ s) = rw here refl in
+      omega (arith, ints, added, back)
+  | inr apart ↦
+      let added : total (an_add member f c s ∷ []) g k ≡ pos 0 = rw apart refl in
+      let back : total (a_withdrawal member f c s ∷ []) g k ≡ pos 0 = rw apart refl in
+      omega (arith, ints, added, back)
+]
+
 module _ {S T : Type 0} (P : mixport.Ghosts S) (G : gates.Ghosts T) (holds : HoldsBy P) where
   pub TakesAway-none : (p q : S) (es : List Entry) → P.laid p q [] → TakesAway P.laid P.ends_in p q es es
-  TakesAway-none p q es laid = record { entries = []; laid_them = laid; lost = λ xs. refl; held = λ xs ends. holds.nothing p q (xs ++ es) laid ends }
+  TakesAway-none p q es laid = record { entries = []; laid_them = laid; lost = λ xs. refl; held = λ xs ends. holds.nothing p q (xs ++ es) laid ends; totals = λ f k. omega (arith, ints) }
 
   pub TakesAway-joined : (p q r : S) (a b c : List Entry) → TakesAway P.laid P.ends_in p q a b → TakesAway P.laid P.ends_in q r b c → TakesAway P.laid P.ends_in p r a c
   TakesAway-joined p q r a b c one two = record {
@@ -178,6 +194,7 @@ module _ {S T : Type 0} (P : mixport.Ghosts S) (G : gates.Ghosts T) (holds : Hol
     laid_them = holds.laid_composes.joined p q r one.entries two.entries one.laid_them two.laid_them;
     lost = λ xs. fold-append stand_after (xs ++ a) one.entries two.entries ∙ ap (λ (es : List Entry). fold stand_after es two.entries) (one.lost xs) ∙ two.lost xs;
     held = λ xs ends. two.held xs (one.held xs ends);
+    totals = λ f k. omega (arith, ints, total-append one.entries two.entries f k, one.totals f k, two.totals f k);
   }
 
   pub TakesAway-behind : (p q : S) (ys a b : List Entry) → TakesAway P.laid P.ends_in p q a b → TakesAway P.laid P.ends_in p q (ys ++ a) (ys ++ b)
@@ -186,6 +203,7 @@ module _ {S T : Type 0} (P : mixport.Ghosts S) (G : gates.Ghosts T) (holds : Hol
     laid_them = one.laid_them;
     lost = λ xs. ap (λ (es : List Entry). fold stand_after es one.entries) (sym (append_assoc xs ys a)) ∙ one.lost (xs ++ ys) ∙ append_assoc xs ys b;
     held = λ xs ends. subst (P.ends_in q) (append_assoc xs ys b) (one.held (xs ++ ys) (subst (P.ends_in p) (sym (append_assoc xs ys a)) ends));
+    totals = λ f k. omega (arith, ints, total-append ys a f k, total-append ys b f k, one.totals f k);
   }
 
   TakesAway-last : (p q : S) (member : ℕ) (es : List Entry) (f c : ℕ) (s : ℤ) → (P.view p).member ≡ member → IsFrom (P.view p).marks.floor f c → P.laid p q (a_withdrawal member f c s ∷ [])
@@ -196,6 +214,7 @@ module _ {S T : Type 0} (P : mixport.Ghosts S) (G : gates.Ghosts T) (holds : Hol
     lost = λ xs. ap without_last (sym (append_assoc xs es (an_add member f c s ∷ []))) ∙ without_last-more (xs ++ es) (an_add member f c s);
     held = λ xs ends. holds.back p q (xs ++ es) f c s floor (subst (λ (m : ℕ). P.laid p q (a_withdrawal m f c s ∷ [])) (sym own) laid)
         (subst (λ (m : ℕ). P.ends_in p (xs ++ es ++ an_add m f c s ∷ [])) (sym own) (subst (P.ends_in p) (sym (append_assoc xs es (an_add member f c s ∷ []))) ends));
+    totals = λ g k. omega (arith, ints, total-append es (an_add member f c s ∷ []) g k, total-back member f c s g k);
   }
 
   -- what the withdrawals of some channels of a frame came to

@@ -1,10 +1,10 @@
 -- For which accepted frames a client stands, and how its segment grows by what a port laid for it.
-use Rattle.std.specs.Prelude.{◌≡◌, ℕ, ◌+◌, ◌<◌, ◌≤◌, false, fold, min, ℤ, List, ◌++◌, length, Result, ⊤}
+use Rattle.std.specs.Prelude.{◌≡◌, ℕ, ◌+◌, ◌<◌, ◌≤◌, false, fold, min, ℤ, ◌+ℤ◌, List, ◌++◌, length, Result, ⊤}
 use Rattle.snd_base.specs.declared.errors.PcmError.{PcmError}
 use Rattle.mix_core.specs.declared.gate.Gate as gates
 use Rattle.mix_core.specs.declared.port.Entry.{Entry}
 use Rattle.mix_core.specs.declared.port.MixPort as mixport
-use Rattle.mix_core.specs.Laid.{stand_after}
+use Rattle.mix_core.specs.Laid.{stand_after, total}
 use Rattle.dmix_client.specs.declared.plain.Plain.{Plain}
 use Rattle.dmix_client.specs.Calls.{segment_of}
 use Rattle.dmix_client.specs.Expansion.{expand, sample_at}
@@ -57,13 +57,14 @@ pub record Keeps {S T X : Type 0} (P : mixport.Ghosts S) (G : gates.Ghosts T) (s
       → StandsFor d.plain d.ring samples
 
 -- a port lost at the end of its standing adds: they ended in some entries, and end in others now, whatever is before these; what
--- it laid in between takes the one to the other
+-- it laid in between takes the one to the other, and gives each sum what these gain or lose
 pub record TakesAway {S : Type 0} (laid : S → S → List Entry → Type 0)
     (ends_in : S → List Entry → Type 0) (p q : S) (before after : List Entry) : Type 0 where
   pub entries : List Entry
   pub laid_them : laid p q entries
   pub lost : (early : List Entry) → fold stand_after (early ++ before) entries ≡ early ++ after
   pub held : (early : List Entry) → ends_in p (early ++ before) → ends_in q (early ++ after)
+  pub totals : (f k : ℕ) → total before f k +ℤ total entries f k ≡ total after f k
 
 -- it lost exactly what a client's segment lost, by some samples
 pub record Loses {S : Type 0} (laid : S → S → List Entry → Type 0)

@@ -1,6 +1,7 @@
 -- How the segments of a client grow and end by what its port laid.
 use Rattle.std.proofs.Common.{◌≡◌, ℕ, List, [], ◌∷◌, ◌++◌, refl, sym, ◌∙◌, ap, subst, arith, append_assoc, length}
 use Rattle.std.proofs.lemmas.Bool.Decides.{nat_tests}
+use Rattle.std.proofs.lemmas.Int.{ints}
 use Rattle.std.proofs.lemmas.List.{append-nil}
 use Rattle.std.proofs.lemmas.List.Sums.{fold-append}
 use Rattle.std.proofs.lemmas.List.Concat.{flat_map-append}
@@ -10,7 +11,8 @@ use Rattle.snd_base.specs.declared.places.Segment.{Segment}
 use Rattle.snd_base.specs.Relations.{Composes}
 use Rattle.mix_core.specs.declared.port.Entry.{Entry}
 use Rattle.mix_core.specs.declared.port.MixPort as mixport
-use Rattle.mix_core.specs.Laid.{AreAdds, stand_after}
+use Rattle.mix_core.specs.HistoryLaws.{total-append}
+use Rattle.mix_core.specs.Laid.{AreAdds, stand_after, total}
 use Rattle.mix_core.specs.PortLaws.{standing-adds}
 use Rattle.dmix_client.specs.declared.plain.Plain.{Plain}
 use Rattle.dmix_client.specs.Calls.{segment_of}
@@ -56,6 +58,7 @@ module _ {S : Type 0} (P : mixport.Ghosts S) (composes : Composes P.laid) where
       laid_them = composes.none p;
       lost = λ early. ap (λ (es : List Entry). early ++ es) same;
       held = λ early held. subst (P.ends_in p) (ap (λ (es : List Entry). early ++ es) same) held;
+      totals = λ f k. let is = ap (λ (es : List Entry). total es f k) same in omega (arith, ints, is);
     };
     same_member = member;
     same_bindings = bindings;
@@ -75,6 +78,8 @@ module _ {S : Type 0} (P : mixport.Ghosts S) (composes : Composes P.laid) where
           laid_them = w.laid_them;
           lost = λ early. standing-adds (early ++ segment_entries c samples) w.entries adds ∙ more early;
           held = λ early held. subst (P.ends_in q) (more early) (held_laid p q (early ++ segment_entries c samples) w.entries adds w.laid_them held);
+          totals = λ f k.
+              sym (total-append (segment_entries c samples) w.entries f k) ∙ ap (λ (es : List Entry). total es f k) (sym w.grown);
         };
         same_member = w.same_member;
         same_bindings = w.same_bindings;
@@ -109,6 +114,18 @@ module _ {S : Type 0} (P : mixport.Ghosts S) (composes : Composes P.laid) where
               ∙ there early;
           held = λ early held. subst (P.ends_in r) (there early)
               (two.held (early ++ old) (subst (P.ends_in q) (sym (append_assoc early old was)) (one.held early held)));
+          totals = λ f k.
+              let all = ap (λ (es : List Entry). total es f k) is in
+              omega (
+                arith,
+                ints,
+                all,
+                total-append one.entries two.entries f k,
+                total-append old was f k,
+                total-append old (stretches_entries e samples others) f k,
+                one.totals f k,
+                two.totals f k,
+              );
         };
         same_member = later.same_member ∙ first.same_member;
         same_bindings = later.same_bindings ∙ first.same_bindings;
