@@ -9,3 +9,5 @@ pub mod MovesLaws
 pub mod PositionLaws
 pub mod Rests
 pub mod Room
+pub mod Stages
+pub mod Unplugs

@@ -48,10 +48,11 @@ IsSameCard-joined c d e first then_ = record {
   period = then_.period ∙ first.period;
 }
 
-frame-same : (c d : Card) → IsSameCard c d → frame_of_card d ≡ frame_of_card c
+-- it plays the same frame next, and its rings have the same shape
+pub frame-same : (c d : Card) → IsSameCard c d → frame_of_card d ≡ frame_of_card c
 frame-same c d same = ap (λ (at : Cursor). at.frame) same.player.next
 
-geometry-same : (c d : Card) → IsSameCard c d → geometry_of_card d ≡ geometry_of_card c
+pub geometry-same : (c d : Card) → IsSameCard c d → geometry_of_card d ≡ geometry_of_card c
 geometry-same c d same = ap (λ (k : Key). k.geometry) same.player.key
 
 -- a card that rested rests
