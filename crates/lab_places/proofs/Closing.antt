@@ -1,7 +1,6 @@
 -- A place that is given back is that of a run.
 use Rattle.std.proofs.Common.{◌≡◌, ℕ, zero, suc, Bool, true, List, [], ◌∷◌, Option, None, Some, map, set, if◌then◌else◌, arith, refl, sym, ap, subst, ◌∙◌}
 use Rattle.std.proofs.lemmas.Bool.Decides.{nat_tests}
-use Rattle.std.proofs.lemmas.Bool.{false≢true}
 use Rattle.sum_table.specs.declared.seats.mix.MixSeat.{MixSeat}
 use Rattle.sum_table.specs.Seats.{member_of}
 use Rattle.lobby.specs.declared.lobby.Lobby.{Lobby as Free}
@@ -12,7 +11,7 @@ use Rattle.lab_script.specs.declared.script.Share.{Share}
 use Rattle.lab_run.specs.Claims.{with_release}
 use Rattle.lab_run.specs.Items.{Held}
 use Rattle.lab_run.specs.PortSteps.{last_from}
-use Rattle.lab_run.specs.Places.{Place, is_free, is_held_by, last_of, left_place}
+use Rattle.lab_run.specs.Places.{Place, is_held_by, last_of, left_place}
 use Rattle.lab_places.specs.Held.{AreAtPlaces, HoldsNone, HoldsPlace, IsAtPlace, IsOwnLast, closed_held}
 
 abbrev left_if : Bool → Option ℕ → Place → Place
@@ -39,17 +38,6 @@ back-at number (suc place) before own (seat ∷ more) (first ∷ places) s at ho
   subst (IsAtPlace seat) (sym (ap (λ is. left_if is own first) holds.0)) at.0,
   back-at number place before own more places s at.1 holds.1 last,
 )
-
--- that place was given out, so its seat can be taken back
-pub out-at : (number place : ℕ) (before : Option ℕ) (more : List (Option MixSeat)) (places : List Place) → AreAtPlaces more places → HoldsPlace number place before places
-    → seats.IsOut more place
-out-at number place before more [] at holds = absurd holds
-out-at number place before [] (first ∷ places) at holds = absurd at
-out-at number zero before (None ∷ more) (first ∷ places) at holds = record { number = omega arith; is_none = refl }
-out-at number zero before (Some s ∷ more) (first ∷ places) at holds = absurd (false≢true (sym (ap is_free holds.0) ∙ at.0.0))
-out-at number (suc place) before (seat ∷ more) (first ∷ places) at holds =
-    let rest = out-at number place before more places at.1 holds.1 in
-    record { number = omega (arith, rest.number); is_none = rest.is_none }
 
 -- a client is closed: its seat is back, and its channels are released with its own last frame
 pub closed-is : (sharing : Share) (l k m : Free) (v : shared.Held) (number : ℕ) (channels : List ℕ) (position : ℕ) (s : MixSeat) (held : Held) (before own : Option ℕ)

@@ -159,12 +159,12 @@ pub record IsOwnLast (position : ℕ) (before own last : Option ℕ) : Type 0 wh
   pub own_is : own ≡ last_from position last
 
 -- the channels of the card are owned, where clients share it by channels
+abbrev pub AreReleasable : Share → shared.Held → List ℕ → Type 0
+AreReleasable Dmix v channels = ⊤
+AreReleasable Dshare v channels = shared.AreOfCard v channels × shared.AreOwned v channels
+
 abbrev pub CanRelease : Places → List ℕ → Type 0
-CanRelease p channels = can_release p.share
-  where
-    can_release : Share → Type 0
-    can_release Dmix = ⊤
-    can_release Dshare = shared.AreOfCard (shares_of p) channels × shared.AreOwned (shares_of p) channels
+CanRelease p channels = AreReleasable p.share p.shares channels
 
 -- a client's seat can be taken back with its bindings
 pub record CanClose (p : Places) (s : MixSeat) (channels : List ℕ) : Type 0 where
