@@ -1,0 +1,5 @@
+use Rattle.std.proofs.Common.{◌≡◌, ◌++◌, map, take}
+use Rattle.lab_client.proofs.segments.push_segments.Given as goal
+
+abbrev pub invariant-loop-segment : goal.invariant-loop-segment
+invariant-loop-segment l = l.all.items ≡ l.fn.all.items ++ map (λ s. (l.number, s)) (take l.segment-index l.segments)
