@@ -1,0 +1,83 @@
+-- A reader is of its card's snoop ring through all that either does.
+use Rattle.std.specs.Prelude.{◌≡◌, ℕ, Bool, ℤ, List, Option, Some, None}
+use Rattle.std.proofs.Common.{sym, subst, ◌∙◌}
+use Rattle.atomic_table.specs.Seated.{TableId}
+use Rattle.snd_base.specs.declared.geometry.Geometry.{Geometry}
+use Rattle.snoop_table.specs.declared.seats.reader.ReaderSeat.{ReaderSeat}
+use Rattle.snoop_table.specs.Readers.{geometry_of, ring_of}
+use Rattle.snoop_table.specs.Writers.{writer_geometry, writer_ring}
+use Rattle.card_sim.specs.declared.card.Card.{Card}
+use Rattle.card_sim.specs.Runs.{writer_of}
+use Rattle.lab_script.specs.declared.line.Line.{Line}
+use Rattle.lab_run.specs.Rules.{AtPort}
+use Rattle.lab_card.specs.MeetLaws.{IsReaderOf-moved, IsReaderOf-same}
+use Rattle.lab_card.specs.Meets.{IsInformedReader, IsReaderOf, IsSameCard, IsSameReader}
+use Rattle.lab_card.specs.Moves.{CardMoves}
+use Rattle.lab_reader.specs.declared.reader.LabReader.{LabReader}
+use Rattle.lab_reader.specs.Readers.{IsAt, IsOf, IsSeatedAt, OnSeat, OnSeats, ops_of}
+use Rattle.lab_reader.specs.Runs.{HasRun, HasRunAt, IsHeard, IsInformed, IsSame}
+
+-- a card is over a snoop ring of a geometry
+pub record IsOver (ring : TableId) (geometry : Geometry) (c : Card) : Type 0 where
+  pub of_ring : writer_ring (writer_of c) ≡ ring
+  pub of_geometry : writer_geometry (writer_of c) ≡ geometry
+
+-- it stays over it, whatever it does
+pub IsOver-same : (ring : TableId) (geometry : Geometry) (c d : Card) → IsSameCard c d → IsOver ring geometry c → IsOver ring geometry d
+IsOver-same ring geometry c d same over = record { of_ring = same.writer.ring ∙ over.of_ring; of_geometry = same.writer.geometry ∙ over.of_geometry }
+
+pub IsOver-moved : (ring : TableId) (geometry : Geometry) (c d : Card) (n : ℕ) (xs ys : List ℤ) (ps : List ℕ) (b : Bool) → CardMoves c d n xs ys ps b → IsOver ring geometry c
+    → IsOver ring geometry d
+IsOver-moved ring geometry c d n xs ys ps b moves over = record { of_ring = moves.writer.ring ∙ over.of_ring; of_geometry = moves.writer.geometry ∙ over.of_geometry }
+
+-- ---- a reader of a card
+
+-- a reader that is at its port is of each card over its ring
+pub IsOf-at : (ring : TableId) (geometry : Geometry) (c : Card) (r : LabReader) (before : AtPort) → IsOver ring geometry c → IsAt ring geometry r before → IsOf c r
+IsOf-at ring geometry c r before over at = by_seat r.seat at
+  where
+    by_seat : (p : Option ReaderSeat) → IsSeatedAt ring geometry r.actor p before → OnSeat p (IsReaderOf c)
+    by_seat None is = tt
+    by_seat (Some s) is = (is.of_ring ∙ sym over.of_ring, is.of_geometry ∙ sym over.of_geometry)
+
+-- seats of one ring are of one card
+of-ring : (c : Card) (s t : ReaderSeat) → ring_of t ≡ ring_of s → geometry_of t ≡ geometry_of s → IsReaderOf c s → IsReaderOf c t
+of-ring c s t ring geometry is = (ring ∙ is.0, geometry ∙ is.1)
+
+OnSeat-more : (P Q : ReaderSeat → Type 0) (p : Option ReaderSeat) → ((s : ReaderSeat) → P s → Q s) → OnSeat p P → OnSeat p Q
+OnSeat-more P Q None more is = tt
+OnSeat-more P Q (Some s) more is = more s is
+
+OnSeats-follow : (P Q : ReaderSeat → Type 0) (R : ReaderSeat → ReaderSeat → Type 0) (p q : Option ReaderSeat) → ((s t : ReaderSeat) → R s t → P s → Q t) → OnSeats p q R → OnSeat p P
+    → OnSeat q Q
+OnSeats-follow P Q R None None follow on is = tt
+OnSeats-follow P Q R (Some s) (Some t) follow on is = follow s t on is
+OnSeats-follow P Q R None (Some t) follow on is = absurd on
+OnSeats-follow P Q R (Some s) None follow on is = absurd on
+
+-- whatever the card does
+pub IsOf-same : (c d : Card) (r : LabReader) → IsSameCard c d → IsOf c r → IsOf d r
+IsOf-same c d r same is = OnSeat-more (IsReaderOf c) (IsReaderOf d) r.seat (λ s. IsReaderOf-same c d s same) is
+
+pub IsOf-moved : (c d : Card) (r : LabReader) (n : ℕ) (xs ys : List ℤ) (ps : List ℕ) (b : Bool) → CardMoves c d n xs ys ps b → IsOf c r → IsOf d r
+IsOf-moved c d r n xs ys ps b moves is = OnSeat-more (IsReaderOf c) (IsReaderOf d) r.seat (λ s. IsReaderOf-moved c d s n xs ys ps b moves) is
+
+-- whatever the reader does
+pub IsOf-kept : (c : Card) (r s : LabReader) → IsSame r s → IsOf c r → IsOf c s
+IsOf-kept c r s same is = subst (λ (seat : Option ReaderSeat). OnSeat seat (IsReaderOf c)) (sym same.seat) is
+
+pub IsOf-informed : (c d : Card) (r s : LabReader) → IsInformed d r s → IsOf c r → IsOf c s
+IsOf-informed c d r s informed is =
+    OnSeats-follow (IsReaderOf c) (IsReaderOf c) (IsInformedReader d) r.seat s.seat (λ p q on. of-ring c p q on.ring on.geometry) informed.seats is
+
+pub IsOf-heard : (c d : Card) (r s : LabReader) → IsHeard d r s → IsOf c r → IsOf c s
+IsOf-heard c d r s heard is = OnSeats-follow (IsReaderOf c) (IsReaderOf c) IsSameReader r.seat s.seat (λ p q on. of-ring c p q on.ring on.geometry) heard.seats is
+
+pub IsOf-ran : (c : Card) (phase stops after : ℕ) (lines : List Line) (r s : LabReader) → HasRun phase stops after lines r s → IsOf c r → IsOf c s
+IsOf-ran c phase stops after lines r s ran is = by_seats r.seat s.seat ran is
+  where
+    by_seats : (p q : Option ReaderSeat) → HasRunAt phase stops after (ops_of r lines) r.actor s.actor p q → OnSeat p (IsReaderOf c) → OnSeat q (IsReaderOf c)
+    by_seats None None has of = tt
+    by_seats (Some t) (Some u) has of = of-ring c t u has.same_ring.0 has.same_ring.1 of
+    by_seats None (Some u) has of = absurd has
+    by_seats (Some t) None has of = absurd has

@@ -1,0 +1,85 @@
+-- What the steps of a phase, an opening and a closing make of a reader.
+use Rattle.std.specs.Prelude.{◌≡◌, ℕ, List, [], ◌++◌, Option, Some, None}
+use Rattle.snoop_table.specs.declared.seats.reader.ReaderSeat.{ReaderSeat}
+use Rattle.snoop_table.specs.Readers.{SameReader, geometry_of, seat_view}
+use Rattle.dsnoop_client.specs.View.{CanUse}
+use Rattle.card_sim.specs.declared.card.Card.{Card}
+use Rattle.lab_script.specs.declared.line.Actor.TheVariants as actor
+use Rattle.lab_script.specs.declared.line.Line.{Line}
+use Rattle.lab_script.specs.declared.line.Op.{Op}
+use Rattle.lab_run.specs.Stage.{Setup, opened_reader}
+use Rattle.lab_actor.specs.declared.reader.ReaderActor.{ReaderActor}
+use Rattle.lab_actor.specs.ClientPart.{left_in, stops_in}
+use Rattle.lab_actor.specs.ReaderPart.{ReaderPart}
+use Rattle.lab_actor.specs.Refused.{AreRefused, refused_rows}
+use Rattle.lab_card.specs.Meets.{IsInformedReader, IsSameReader, KnowsReader}
+use Rattle.lab_reader.specs.declared.reader.LabReader.{LabReader}
+use Rattle.lab_reader.specs.Readers.{OnSeats, ops_of, seat_port}
+
+-- it met a note of the card, where it is open
+pub record IsInformed (card : Card) (r s : LabReader) : Type 0 where
+  pub actor : s.actor ≡ r.actor
+  pub seats : OnSeats r.seat s.seat (IsInformedReader card)
+
+-- the card met its note, where it is open
+pub record IsHeard (card : Card) (r s : LabReader) : Type 0 where
+  pub actor : s.actor ≡ r.actor
+  pub seats : OnSeats r.seat s.seat IsSameReader
+  pub knows : OnSeats r.seat s.seat (λ seat after. KnowsReader card after)
+
+-- its number and what it read are as before
+pub record HasSameFile (a b : ReaderActor) : Type 0 where
+  pub number : b.number ≡ a.number
+  pub frames : b.frames.runs ≡ a.frames.runs
+  pub samples : b.samples.items ≡ a.samples.items
+
+-- it is as before but for its rows
+pub record IsSame (r s : LabReader) : Type 0 where
+  pub seat : s.seat ≡ r.seat
+  pub stream : s.actor.reader ≡ r.actor.reader
+  pub left : s.actor.left ≡ r.actor.left
+  pub file : HasSameFile r.actor s.actor
+
+-- it was never open
+pub record IsNew (number : ℕ) (r : LabReader) : Type 0 where
+  pub number_is : r.actor.number ≡ number
+  pub closed : r.seat ≡ None
+  pub frames : r.actor.frames.runs ≡ []
+  pub samples : r.actor.samples.items ≡ []
+  pub rows : r.actor.rows.items ≡ []
+
+-- what lines made of an open reader at its seat, behind a gate that stopped so often before them and after them
+pub record HasRunOpen (phase stops after : ℕ) (ops : List Op) (a b : ReaderActor) (seat later : ReaderSeat) : Type 0 where
+  pub part : ReaderPart seat_port left_in stops_in (seat, (a.left, stops)) (later, (b.left, after)) phase a b ops
+  pub same_ring : SameReader seat later
+  pub usable : CanUse b.reader (seat_view later)
+
+-- what lines made of one that isn't open: each was refused
+pub record HasRefused (phase stops after : ℕ) (ops : List Op) (a b : ReaderActor) : Type 0 where
+  pub rows : b.rows.items ≡ a.rows.items ++ refused_rows phase (actor.Reader a.number) ops
+  pub part : AreRefused phase a.number ops
+  pub file : HasSameFile a b
+  pub same_stops : after ≡ stops
+
+abbrev pub HasRunAt : ℕ → ℕ → ℕ → List Op → ReaderActor → ReaderActor → Option ReaderSeat → Option ReaderSeat → Type 0
+HasRunAt phase stops after ops a b None None = HasRefused phase stops after ops a b
+HasRunAt phase stops after ops a b (Some seat) (Some later) = HasRunOpen phase stops after ops a b seat later
+HasRunAt phase stops after ops a b seat later = ⊥
+
+-- it did its lines of a phase
+abbrev pub HasRun : ℕ → ℕ → ℕ → List Line → LabReader → LabReader → Type 0
+HasRun phase stops after lines r s = HasRunAt phase stops after (ops_of r lines) r.actor s.actor r.seat s.seat
+
+-- it is open at a seat, with a stream that is set up so, and with what it read before
+pub record HasOpened (seat : ReaderSeat) (setup : Setup) (r s : LabReader) : Type 0 where
+  pub seat_is : s.seat ≡ Some seat
+  pub stream : s.actor.reader ≡ opened_reader (geometry_of seat) setup
+  pub left : s.actor.left ≡ None
+  pub file : HasSameFile r.actor s.actor
+  pub rows : s.actor.rows.items ≡ r.actor.rows.items
+
+-- it gave its seat back, and else it is as before
+pub record HasClosed (seat : ReaderSeat) (r s : LabReader) : Type 0 where
+  pub seat_was : r.seat ≡ Some seat
+  pub seat_is : s.seat ≡ None
+  pub actor : s.actor ≡ r.actor
