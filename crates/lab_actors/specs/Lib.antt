@@ -1,0 +1,4 @@
+pub mod Actors
+pub mod Gates
+pub mod Pairs
+pub mod Walks

@@ -1,0 +1,89 @@
+-- Two lists item by item: each item of the one is in a relation, which may know its number, to that of the other.
+use Rattle.std.specs.Prelude.{◌≡◌, ℕ, zero, suc, ◌+◌, ◌<◌, ◌≤◌, List, [], ◌∷◌, length, slice_index_or, slice_set, ⊤}
+use Rattle.std.proofs.Common.{refl, sym, ◌∙◌, ap, subst, arith, inl, inr}
+use Rattle.std.proofs.lemmas.Bool.{cases_eq}
+use Rattle.std.proofs.lemmas.List.{get_or-set_other, get_or-set_same, length-set}
+
+-- the first items of both lists have a number
+abbrev pub AreEach : {X Y : Type 0} → (ℕ → X → Y → Type 0) → ℕ → List X → List Y → Type 0
+AreEach R number [] [] = ⊤
+AreEach R number (x ∷ xs) (y ∷ ys) = R number x y × AreEach R (number + 1) xs ys
+AreEach R number [] (y ∷ ys) = ⊥
+AreEach R number (x ∷ xs) [] = ⊥
+
+-- a walk along a list: its items up to a place became others, and the items from there on are as before
+pub record HasWalked {X : Type 0} (R : ℕ → X → X → Type 0) (before after : List X) (to : ℕ) : Type 0 where
+  pub len : length after ≡ length before
+  pub each : (i : ℕ) (d : X) → i < to → i < length before → R i (slice_index_or before i d) (slice_index_or after i d)
+  pub others : (i : ℕ) (d : X) → to ≤ i → slice_index_or after i d ≡ slice_index_or before i d
+
+pub HasWalked-none : {X : Type 0} (R : ℕ → X → X → Type 0) (xs : List X) → HasWalked R xs xs 0
+HasWalked-none R xs = record { len = refl; each = λ i d below inside. absurd (omega (arith, below)); others = λ i d from. refl }
+
+pub HasWalked-next : {X : Type 0} (R : ℕ → X → X → Type 0) (xs ys : List X) (to : ℕ) (y : X) → to < length xs → HasWalked R xs ys to
+    → ((d : X) → R to (slice_index_or xs to d) y) → HasWalked R xs (slice_set ys to y) (to + 1)
+HasWalked-next {X = X} R xs ys to y inside so_far step = record {
+  len = length-set ys to y ∙ so_far.len;
+  each = λ i d below within. elim (cases_eq i to) [
+    | inl here ↦ subst (λ k. R k (slice_index_or xs k d) (slice_index_or (slice_set ys to y) k d)) (sym here)
+        (subst (R to (slice_index_or xs to d)) (sym (get_or-set_same ys to y d (let len = so_far.len in omega (arith, inside, len)))) (step d))
+    | inr other ↦ subst (R i (slice_index_or xs i d)) (sym (get_or-set_other ys to i y d other))
+        (so_far.each i d (omega (arith, below, other)) within)
+  ];
+  others = λ i d from. get_or-set_other ys to i y d (λ is. omega (arith, from, is)) ∙ so_far.others i d (omega (arith, from));
+}
+
+-- a walk to the end, from a number on
+pub AreEach-from : {X : Type 0} (R : ℕ → X → X → Type 0) (number : ℕ) (xs ys : List X) → length ys ≡ length xs
+    → ((i : ℕ) (d : X) → i < length xs → R (number + i) (slice_index_or xs i d) (slice_index_or ys i d)) → AreEach R number xs ys
+AreEach-from R number [] [] len each = tt
+AreEach-from R number [] (y ∷ ys) len each = absurd (omega (arith, len))
+AreEach-from R number (x ∷ xs) [] len each = absurd (omega (arith, len))
+AreEach-from R number (x ∷ xs) (y ∷ ys) len each = (
+  subst (λ n. R n x y) (omega arith) (each 0 x (omega arith)),
+  AreEach-from R (number + 1) xs ys (omega (arith, len)) (λ i d inside. subst (λ n. R n (slice_index_or xs i d) (slice_index_or ys i d)) (omega arith) (each (suc i) d (omega (arith, inside)))),
+)
+
+pub AreEach-walked : {X : Type 0} (R : ℕ → X → X → Type 0) (xs ys : List X) (to : ℕ) → length xs ≤ to → HasWalked R xs ys to → AreEach R 0 xs ys
+AreEach-walked R xs ys to all walked =
+    AreEach-from R 0 xs ys walked.len
+    (λ i d inside. subst (λ n. R n (slice_index_or xs i d) (slice_index_or ys i d)) (omega arith) (walked.each i d (omega (arith, all, inside)) inside))
+
+pub AreEach-length : {X Y : Type 0} (R : ℕ → X → Y → Type 0) (number : ℕ) (xs : List X) (ys : List Y) → AreEach R number xs ys → length ys ≡ length xs
+AreEach-length R number [] [] are = refl
+AreEach-length R number (x ∷ xs) (y ∷ ys) are = ap suc (AreEach-length R (number + 1) xs ys are.1)
+AreEach-length R number [] (y ∷ ys) are = absurd are
+AreEach-length R number (x ∷ xs) [] are = absurd are
+
+-- one item of each
+pub AreEach-at : {X Y : Type 0} (R : ℕ → X → Y → Type 0) (number : ℕ) (xs : List X) (ys : List Y) → AreEach R number xs ys → (i : ℕ) (d : X) (e : Y) → i < length xs
+    → R (number + i) (slice_index_or xs i d) (slice_index_or ys i e)
+AreEach-at R number [] ys are i d e inside = absurd (omega (arith, inside))
+AreEach-at R number (x ∷ xs) [] are i d e inside = absurd are
+AreEach-at R number (x ∷ xs) (y ∷ ys) are zero d e inside = subst (λ n. R n x y) (omega arith) are.0
+AreEach-at R number (x ∷ xs) (y ∷ ys) are (suc i) d e inside =
+    subst (λ n. R n (slice_index_or xs i d) (slice_index_or ys i e)) (omega arith) (AreEach-at R (number + 1) xs ys are.1 i d e (omega (arith, inside)))
+
+-- a relation that follows from another, item by item
+pub AreEach-map : {X Y : Type 0} (R T : ℕ → X → Y → Type 0) (number : ℕ) (xs : List X) (ys : List Y) → ((n : ℕ) (x : X) (y : Y) → R n x y → T n x y) → AreEach R number xs ys
+    → AreEach T number xs ys
+AreEach-map R T number [] [] then are = tt
+AreEach-map R T number (x ∷ xs) (y ∷ ys) then are = (then number x y are.0, AreEach-map R T (number + 1) xs ys then are.1)
+AreEach-map R T number [] (y ∷ ys) then are = absurd are
+AreEach-map R T number (x ∷ xs) [] then are = absurd are
+
+-- two relations one after the other, item by item
+pub record AreJoined {X Y Z : Type 0} (R : ℕ → X → Y → Type 0) (T : ℕ → Y → Z → Type 0) (number : ℕ) (x : X) (z : Z) : Type 0 where
+  pub between : Y
+  pub first : R number x between
+  pub then : T number between z
+
+pub AreEach-joined : {X Y Z : Type 0} (R : ℕ → X → Y → Type 0) (T : ℕ → Y → Z → Type 0) (number : ℕ) (xs : List X) (ys : List Y) (zs : List Z) → AreEach R number xs ys → AreEach T number ys zs
+    → AreEach (AreJoined R T) number xs zs
+AreEach-joined R T number [] [] [] first then = tt
+AreEach-joined R T number (x ∷ xs) (y ∷ ys) (z ∷ zs) first then =
+    (record { between = y; first = first.0; then = then.0 }, AreEach-joined R T (number + 1) xs ys zs first.1 then.1)
+AreEach-joined R T number [] (y ∷ ys) zs first then = absurd first
+AreEach-joined R T number (x ∷ xs) [] zs first then = absurd first
+AreEach-joined R T number [] [] (z ∷ zs) first then = absurd then
+AreEach-joined R T number (x ∷ xs) (y ∷ ys) [] first then = absurd then
