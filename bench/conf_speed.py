@@ -4,8 +4,7 @@
 usage: bench/conf_speed.py        from the top of the repository; proves and builds crates/conf_bench if needed
 
 Each text is read nine times in one run, and there are ROUNDS runs; the least time counts. The limit is 40 ms for a text of
-1 MiB; the second time has the letting go of what was read too. A list has a name and a text for each of its values, so the last row,
-with two bytes for a value, is without limit.
+1 MiB; the second time has the letting go of what was read too. The last row, a list of groups, is without limit: each of its values takes a walk.
 """
 import subprocess
 import sys
@@ -54,7 +53,9 @@ def texts():
     yield "devices of many names", filled(lambda i: DEVICE.format(name=f"dmix{i}", key=1024 + i, card=i % 8)), True
     yield "names in one group", filled(lambda i: f"k{i} {i % 10}\n"), True
     yield "a list of 20,000 values", "a [\n" + "".join(f"{i % 10}\n" for i in range(20000)) + "]\n", True
-    yield "a list of values", "a [\n" + filled(lambda i: f"{i % 10}\n")[: SIZE - 6] + "]\n", False
+    yield "a list of values", "a [\n" + filled(lambda i: f"{i % 10}\n")[: SIZE - 6] + "]\n", True
+    yield "a list of values, with commas", "a [\n" + filled(lambda i: f"{i % 10},")[: SIZE - 6] + "]\n", True
+    yield "a list of empty groups", "a [\n" + filled(lambda i: "{}")[: SIZE - 6] + "]\n", False
 
 
 def milliseconds(path):

@@ -1,8 +1,9 @@
 -- Items of a name behind a place, as items are added, changed and removed.
-use Rattle.std.proofs.Common.{◌≡◌, ℕ, zero, suc, ◌+◌, ◌≤◌, Bool, true, false, cond, ◌||◌, List, [], ◌∷◌, ◌++◌, length, get_or, set, drop, take, min, Option, Some, None, refl, sym, ap, subst, ◌∙◌, arith, inl, inr, length-append, length-set}
+use Rattle.std.proofs.Common.{◌≡◌, ℕ, zero, suc, ◌+◌, ◌≤◌, ◌<◌, ◌^◌, Bool, true, false, cond, ◌||◌, List, [], ◌∷◌, ◌++◌, length, get_or, set, drop, take, min, Option, Some, None, refl, sym, ap, subst, ◌∙◌, arith, inl, inr, length-append, length-set}
 use Rattle.std.specs.Prelude.{nat_eq}
 use Rattle.std.specs.HashMap.{get}
 use Rattle.std.specs.Str.{bytes_eq}
+use Rattle.std.specs.Fmt.{decimal}
 use Rattle.std.proofs.lemmas.Bool.{cases_lt}
 use Rattle.std.proofs.lemmas.Bool.Decides.{nat_tests}
 use Rattle.std.proofs.lemmas.List.{drop_all, drop-append-le}
@@ -13,6 +14,7 @@ use Rattle.asound_conf.specs.declared.index.Index.TheVariants.{Few, Numbers, Has
 use Rattle.asound_conf.specs.Index.{Bounds, IsBounded, IsIndex, bound_of, hash_of, number_bound, number_named, past_below}
 use Rattle.asound_conf.specs.Tree.{has}
 use Rattle.asound_conf.specs.View.{entries_of}
+use Rattle.asound_conf.proofs.Numerals.{number_named-decimal}
 
 -- neither of two tests
 second : (a b : Bool) → (a || b) ≡ false → b ≡ false
@@ -142,6 +144,13 @@ IsIndex-Numbers_push next items x count number is = record {
     by_name name false other =
         has-drop_push name items (number_bound (next + 1) name) x other
         (has-drop_more name items (number_bound next name) (number_bound (next + 1) name) (number_bound-more next (next + 1) name (omega arith)) (is.bounded name))
+
+-- the next number is no name yet
+pub has-Numbers : (next : ℕ) (items : List (List ℕ × Node)) → next < 2 ^ 63 → IsIndex (Numbers next) items → has (decimal next) (entries_of items) ≡ false
+unfolding number_bound
+has-Numbers next items small is =
+    let none : number_bound next (decimal next) ≡ 0 = ap (past_below next) (number_named-decimal next small) ∙ grind (arith, nat_tests) in
+    subst (λ b. has (decimal next) (entries_of (drop b items)) ≡ false) none (is.bounded (decimal next))
 
 length-removed : (items : List (List ℕ × Node)) (at : ℕ) → length (take at items ++ drop (suc at) items) ≤ length items
 length-removed [] zero = omega arith

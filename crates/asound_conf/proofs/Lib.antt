@@ -8,3 +8,4 @@ pub mod Numerals
 pub mod NumberedValues
 pub mod Indexes
 pub mod Keys
+pub mod Listings

@@ -1,5 +1,5 @@
 -- Decimal digits and the numbers that they are.
-use Rattle.std.proofs.Common.{◌≡◌, ℕ, ◌+◌, ◌-◌, ◌*◌, ◌^◌, ◌<◌, ◌≤◌, Bool, true, false, List, [], ◌∷◌, length, take, get_or, refl, sym, ap, ◌∙◌, arith, ◌&&◌, inl, inr}
+use Rattle.std.proofs.Common.{◌≡◌, ℕ, ◌+◌, ◌-◌, ◌*◌, ◌^◌, ◌<◌, ◌≤◌, Bool, true, false, List, [], ◌∷◌, length, take, get_or, Some, refl, sym, ap, ◌∙◌, arith, ◌&&◌, inl, inr}
 use Rattle.std.specs.Prelude.{slice_index, nat_le, not, ◌||◌, ◌==◌}
 use Rattle.std.specs.List.{list_all}
 use Rattle.std.specs.Fmt.{decimal}
@@ -8,6 +8,7 @@ use Rattle.std.proofs.lemmas.Bool.{false≢true, cases_eq}
 use Rattle.std.proofs.lemmas.Bool.Decides.{nat_tests, same_from_decides}
 use Rattle.std.proofs.lemmas.Slice.Eq.{bytes_eq-Decides}
 use Rattle.std.proofs.lemmas.Fmt.{decimal_nonempty, length-decimal-le, digits_decimal, decimal_digit, first_decimal, decimal-digits_value, digits_value-decimal}
+use Rattle.asound_conf.specs.Index.{number_named}
 use Rattle.asound_conf.specs.Number.{is_canonical}
 use Rattle.std.specs.Str.{all_ascii_digits}
 use Rattle.std.specs.Char.{is_ascii_digit}
@@ -99,3 +100,10 @@ bytes_eq-decimal name n small = same_from_decides (bytes_eq name (decimal n)) (i
         let value : digits_value 10 name ≡ n = ap (digits_value 10) h ∙ digits_value-decimal own n fits in
         let same : (digits_value 10 name == n) ≡ true = grind (arith, nat_tests, value) in
         rw (canonical, same) refl
+
+-- the number of a decimal text is the one that it is the text of
+pub number_named-decimal : (n : ℕ) → n < 2 ^ 63 → number_named (decimal n) ≡ Some n
+number_named-decimal n small =
+    let fits : n < 2 ^ 64 = omega arith in
+    let canonical : is_canonical (decimal n) ≡ true = IsCanonical-true (decimal n) (IsCanonical-decimal n small) in
+    rw canonical (ap Some (digits_value-decimal own n fits))

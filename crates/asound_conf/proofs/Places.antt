@@ -101,22 +101,32 @@ has-without name (entry other old rest) = without-entry name other old rest (byt
     without-entry name other old rest true is later = later
     without-entry name other old rest false is later = rw (is, later) refl
 
--- what a name has that was set where it wasn't
-pub get-set_new : (name : List ℕ) (new : Tree) (g : Entries) → has name g ≡ false → get name (tree.set name new g) ≡ Some new
-get-set_new name new empty none = rw (bytes_eq-self name) refl
-get-set_new name new (entry other old rest) none = set-entry name other new old rest (bytes_eq other name) (has name rest) refl refl none (get-set_new name new rest)
+-- what a name has that was set
+pub get-set : (name : List ℕ) (new : Tree) (g : Entries) → get name (tree.set name new g) ≡ Some new
+get-set name new empty = rw (bytes_eq-self name) refl
+get-set name new (entry other old rest) = set-entry name other new old rest (bytes_eq other name) (has name rest) refl refl (get-set name new rest)
   where
-    set-entry : (name other : List ℕ) (new old : Tree) (rest : Entries) (b h : Bool) → bytes_eq other name ≡ b → has name rest ≡ h → (b || h) ≡ false → (has name rest ≡ false → get name (tree.set name new rest) ≡ Some new) → get name (cond h (entry other old (tree.set name new rest)) (cond b (entry other new rest) (entry other old (tree.set name new rest)))) ≡ Some new
-    set-entry name other new old rest true h is same none later = cc
-    set-entry name other new old rest false true is same none later = cc
-    set-entry name other new old rest false false is same none later = rw (has-set name new rest) (later same)
+    set-entry : (name other : List ℕ) (new old : Tree) (rest : Entries) (b h : Bool) → bytes_eq other name ≡ b → has name rest ≡ h → get name (tree.set name new rest) ≡ Some new → get name (cond h (entry other old (tree.set name new rest)) (cond b (entry other new rest) (entry other old (tree.set name new rest)))) ≡ Some new
+    set-entry name other new old rest b true is same later = rw (has-set name new rest) later
+    set-entry name other new old rest true false is same later = rw (same, is) refl
+    set-entry name other new old rest false false is same later = rw (has-set name new rest) later
 
--- the later node of a name that wasn't there stays
-pub set-set_new : (name : List ℕ) (x y : Tree) (g : Entries) → has name g ≡ false → tree.set name x (tree.set name y g) ≡ tree.set name x g
-set-set_new name x y empty none = rw (bytes_eq-self name) refl
-set-set_new name x y (entry other old rest) none = set-entry name other x y old rest (bytes_eq other name) (has name rest) refl refl none (set-set_new name x y rest)
+-- the later node of a name stays
+pub set-set : (name : List ℕ) (x y : Tree) (g : Entries) → tree.set name x (tree.set name y g) ≡ tree.set name x g
+set-set name x y empty = rw (bytes_eq-self name) refl
+set-set name x y (entry other old rest) = set-entry name other x y old rest (bytes_eq other name) (has name rest) refl refl (set-set name x y rest)
   where
-    set-entry : (name other : List ℕ) (x y old : Tree) (rest : Entries) (b h : Bool) → bytes_eq other name ≡ b → has name rest ≡ h → (b || h) ≡ false → (has name rest ≡ false → tree.set name x (tree.set name y rest) ≡ tree.set name x rest) → tree.set name x (cond h (entry other old (tree.set name y rest)) (cond b (entry other y rest) (entry other old (tree.set name y rest)))) ≡ cond h (entry other old (tree.set name x rest)) (cond b (entry other x rest) (entry other old (tree.set name x rest)))
-    set-entry name other x y old rest true h is same none later = cc
-    set-entry name other x y old rest false true is same none later = cc
-    set-entry name other x y old rest false false is same none later = rw (has-set name y rest) (ap (entry other old) (later same))
+    set-entry : (name other : List ℕ) (x y old : Tree) (rest : Entries) (b h : Bool) → bytes_eq other name ≡ b → has name rest ≡ h → tree.set name x (tree.set name y rest) ≡ tree.set name x rest → tree.set name x (cond h (entry other old (tree.set name y rest)) (cond b (entry other y rest) (entry other old (tree.set name y rest)))) ≡ cond h (entry other old (tree.set name x rest)) (cond b (entry other x rest) (entry other old (tree.set name x rest)))
+    set-entry name other x y old rest b true is same later = rw (has-set name y rest) (ap (entry other old) later)
+    set-entry name other x y old rest true false is same later = rw (same, is) refl
+    set-entry name other x y old rest false false is same later = rw (has-set name y rest) (ap (entry other old) later)
+
+-- the node that a name has is set again
+pub set-get : (name : List ℕ) (x : Tree) (g : Entries) → get name g ≡ Some x → tree.set name x g ≡ g
+set-get name x empty is = cc
+set-get name x (entry other old rest) is = set-entry name other x old rest (bytes_eq other name) (has name rest) is (set-get name x rest)
+  where
+    set-entry : (name other : List ℕ) (x old : Tree) (rest : Entries) (b h : Bool) → cond h (get name rest) (cond b (Some old) None) ≡ Some x → (get name rest ≡ Some x → tree.set name x rest ≡ rest) → cond h (entry other old (tree.set name x rest)) (cond b (entry other x rest) (entry other old (tree.set name x rest))) ≡ entry other old rest
+    set-entry name other x old rest b true is later = ap (entry other old) (later is)
+    set-entry name other x old rest true false is later = let same : x ≡ old = cc in ap (λ t. entry other t rest) same
+    set-entry name other x old rest false false is later = cc

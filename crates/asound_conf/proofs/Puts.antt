@@ -10,7 +10,7 @@ use Rattle.asound_conf.specs.declared.error.ConfWhy.TheVariants as why
 use Rattle.asound_conf.specs.Answer.{Leads, Refuses, seen}
 use Rattle.asound_conf.specs.Place.{base, clashes, met, placed, put, put_there, meets_text, node_at}
 use Rattle.asound_conf.specs.View.{added, blank, entries_of, is_leaf, placed_node, tree_of, IsLast}
-use Rattle.asound_conf.proofs.Places.{get-IsLast, get-none, has-without, get-set_new, set-set_new}
+use Rattle.asound_conf.proofs.Places.{get-IsLast, get-none, has-without, get-set, set-set}
 
 -- a part of a key meets nothing in an empty group
 met-empty : (part : Part) → met part empty ≡ None
@@ -51,12 +51,12 @@ seen-cond f false cause x = refl
 placed-blank : (value : Option (List ℕ)) (part : Part) (rest : List Part) (g : Entries) → met part g ≡ None → has part.name (base part g) ≡ false
     → placed value (part ∷ rest) g ≡ seen (λ t. tree.set part.name t (tree.set part.name (blank (is_leaf value rest)) (base part g))) (placed_node value rest (blank (is_leaf value rest)))
 unfolding node_at put
-placed-blank (Some t) part [] g meets none = rw meets (ap Ok (sym (set-set_new part.name (text t) (text []) (base part g) none)))
-placed-blank None part [] g meets none = rw meets (ap Ok (sym (set-set_new part.name (group empty) (group empty) (base part g) none)))
+placed-blank (Some t) part [] g meets none = rw meets (ap Ok (sym (set-set part.name (text t) (text []) (base part g))))
+placed-blank None part [] g meets none = rw meets (ap Ok (sym (set-set part.name (group empty) (group empty) (base part g))))
 placed-blank (Some t) part (next ∷ rest) g meets none =
-    rw (meets, node_at-empty (next ∷ rest)) (ap Ok (sym (set-set_new part.name (group (put (Some t) (next ∷ rest) empty)) (group empty) (base part g) none)))
+    rw (meets, node_at-empty (next ∷ rest)) (ap Ok (sym (set-set part.name (group (put (Some t) (next ∷ rest) empty)) (group empty) (base part g))))
 placed-blank None part (next ∷ rest) g meets none =
-    rw (meets, node_at-empty (next ∷ rest)) (ap Ok (sym (set-set_new part.name (group (put None (next ∷ rest) empty)) (group empty) (base part g) none)))
+    rw (meets, node_at-empty (next ∷ rest)) (ap Ok (sym (set-set part.name (group (put None (next ∷ rest) empty)) (group empty) (base part g))))
 
 -- what is put where a node was
 placed-there : (value : Option (List ℕ)) (part : Part) (rest : List Part) (g : Entries) (old : Tree) → met part g ≡ Some old
@@ -85,7 +85,7 @@ placed-at value part rest g items at item are place =
     by_name true is old there = placed-there value part rest g old (sym (get-base part g) ∙ there)
     by_name false is old there =
         let meets : met part g ≡ None = sym (get-base part g) ∙ get-none part.name (base part g) is in
-        let was : Some old ≡ Some (blank (is_leaf value rest)) = sym there ∙ get-set_new part.name (blank (is_leaf value rest)) (base part g) is in
+        let was : Some old ≡ Some (blank (is_leaf value rest)) = sym there ∙ get-set part.name (blank (is_leaf value rest)) (base part g) in
         let fresh : old ≡ blank (is_leaf value rest) = cc in
         rw fresh (placed-blank value part rest g meets is)
 

@@ -1,5 +1,5 @@
 -- What tokens mean, one by one.
-use Rattle.std.proofs.Common.{◌≡◌, ℕ, List, [], ◌∷◌, Result, Ok, refl, sym, ap, ◌∙◌, subst}
+use Rattle.std.proofs.Common.{◌≡◌, ℕ, List, [], ◌∷◌, Result, Ok, Err, refl, sym, ap, ◌∙◌, subst}
 use Rattle.asound_conf.specs.declared.error.ConfError.{ConfError}
 use Rattle.asound_conf.specs.declared.error.ConfWhy.{ConfWhy}
 use Rattle.asound_conf.specs.declared.error.ConfWhy.TheVariants as why
@@ -31,3 +31,7 @@ meaning-refused cause s last t ts given is refuses = refused-by cause t.line (st
 -- what was read is what is given
 pub Reads-along : (result given other : Result Entries ConfError) → given ≡ other → Reads result other → Reads result given
 Reads-along result given other same reads = subst (λ g. Reads result g) (sym same) reads
+
+-- want of memory says nothing of a text
+pub Reads-memory : (e : ConfError) (given : Result Entries ConfError) → e.why ≡ why.Memory → Reads (Err e) given
+Reads-memory e given is = subst (λ cause. RefusesText cause e given) (sym is) tt

@@ -5,7 +5,9 @@ pub mod Key
 pub mod NodeFalls
 pub mod Number
 pub mod Place
+pub mod InPlace
 pub mod Index
+pub mod Listing
 pub mod Reading
 pub mod Text
 pub mod Token

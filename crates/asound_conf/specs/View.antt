@@ -14,7 +14,7 @@ use Rattle.asound_conf.specs.Place.{clashes, is_last, placed, put_there}
 -- the node that a `Node` is
 abbrev pub tree_of : Node → Tree
 tree_of (Text t) = text t
-tree_of (Group g) = group g
+tree_of (Group g) = group g.value
 
 -- the group of these items
 abbrev pub entries_of : List (List ℕ × Node) → Entries

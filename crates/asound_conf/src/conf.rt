@@ -22,8 +22,8 @@ pub struct Conf {
 pub enum Node {
     /// A text.
     Text(ConfText),
-    /// A group of its own.
-    Group(Conf),
+    /// A group of its own, in a box, so that a node takes little memory: most nodes are texts.
+    Group(Box<Conf>),
 }
 
 impl Model for Conf {

@@ -14,7 +14,7 @@ use crate::text::ConfText;
 use std::alloc::{AllocError, Global};
 
 /// The place of the node of this name. It is sought from the last place on that the index tells.
-fn place_of(items: &[(ConfText, Node)], index: &Index, name: &[u8]) -> Option<usize>
+pub fn place_of(items: &[(ConfText, Node)], index: &Index, name: &[u8]) -> Option<usize>
     requires { IsIndex index.now items.now }
     ensures some { IfSome result (λ at. IsLast name.now items.now at) }
     ensures within { IfSome result (λ at. at < length items.now) }
@@ -51,14 +51,13 @@ fn clear(group: &mut Conf, part: &Part)
 }
 
 /// A node for a name that isn't there yet: an empty text, or an empty group.
-fn blank(alloc: Global, is_text: bool) -> Node
-    ensures { tree_of result ≡ blank is_text }
+fn blank(alloc: Global, is_text: bool) -> Result<Node, AllocError>
+    ensures { IfOk result (λ node. tree_of node ≡ blank is_text) }
 {
     if is_text {
-        Node::Text(ConfText::from_vec(Vec::new(alloc)))
-    } else {
-        Node::Group(Conf::new(alloc))
+        return Ok(Node::Text(ConfText::empty()));
     }
+    Ok(Node::Group(Box::new(alloc, Conf::new(alloc))?))
 }
 
 /// The place of the node of this name. An empty text or an empty group is added at the end where there is none.
@@ -81,8 +80,9 @@ fn place_or_add(
     }
     let at = items.len();
     let name = ConfText::copied(alloc, name)?;
+    let node = blank(alloc, is_text)?;
     index.add(alloc, items.as_slice(), name.as_bytes())?;
-    items.push((name, blank(alloc, is_text)))?;
+    items.push((name, node))?;
     Ok(at)
 }
 
@@ -104,12 +104,13 @@ fn clashes(text: &Option<ConfText>, node: &Node) -> bool
 }
 
 /// Makes a text an empty group, and leaves a group as it is.
-fn make_group(alloc: Global, node: &mut Node)
-    ensures { tree_of node.new ≡ group (group_in (Some (tree_of node.old))) }
+fn make_group(alloc: Global, node: &mut Node) -> Result<(), AllocError>
+    ensures { OnOk result (tree_of node.new ≡ group (group_in (Some (tree_of node.old)))) }
 {
     if let Node::Text(_) = node {
-        *node = Node::Group(Conf::new(alloc));
+        *node = Node::Group(Box::new(alloc, Conf::new(alloc))?);
     }
+    Ok(())
 }
 
 /// Puts an item's text where a text is. A group where a group is stays.
@@ -138,7 +139,7 @@ fn put_node(
     if parts.is_empty() {
         return put_there(node, text);
     }
-    make_group(alloc, node);
+    make_group(alloc, node)?;
     match node {
         Node::Group(group) => put(alloc, group, parts, text),
         Node::Text(_) => Ok(()),

@@ -1,5 +1,6 @@
 //! An index of the names of a group, so that a name is found without a look at all of them.
 ghost use Rattle.std.specs.Prelude.{◌≡◌, ℕ, ◌≤◌, ◌<◌, ◌^◌, ◌++◌, ◌∷◌, [], List, length, false, drop, IsTrue, OnOk, IfOk, IfSome, Some};
+ghost use Rattle.std.specs.Fmt.{decimal};
 ghost use Rattle.asound_conf.specs.declared.conf.Node.{Node};
 ghost use Rattle.asound_conf.specs.declared.index.Index.TheVariants.{Numbers};
 ghost use Rattle.asound_conf.specs.Index.{IsBounded, IsIndex, hash_of, number_bound, number_named};
@@ -116,6 +117,32 @@ impl Index {
             Index::Numbers(next) if is_next(*next, items, name) => Some(*next + 1),
             _ => None,
         }
+    }
+
+    /// Whether the names are the numbers below this one, or could be.
+    fn is_before(&self, items: &[(ConfText, Node)], number: usize) -> bool
+        ensures { IsTrue result → (self.now ≡ Numbers number) × (length items.now ≡ number) }
+    {
+        match self {
+            Index::Numbers(next) => *next == number && items.len() == number,
+            _ => false,
+        }
+    }
+
+    /// Makes ready for one item more, whose name is this number, where so many items have lower numbers for names. It says
+    /// whether they have.
+    pub(crate) fn add_number(&mut self, items: &[(ConfText, Node)], number: u32) -> bool
+        requires { IsIndex self.old items.now }
+        ensures kept { IsIndex self.new items.now }
+        ensures other { IsTrue result → has (decimal number) (entries_of items.now) ≡ false }
+        ensures added { IsTrue result → (node : Node)
+            → IsIndex self.new (items.now ++ (decimal number, node) ∷ []) }
+    {
+        if !self.is_before(items, number as usize) {
+            return false;
+        }
+        *self = Index::Numbers(number as usize + 1);
+        true
     }
 
     /// Makes ready for one item more, of this name.

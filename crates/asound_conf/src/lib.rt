@@ -9,7 +9,7 @@ mod error;
 mod find;
 mod group;
 mod index;
-mod name;
+mod list;
 mod number;
 mod part;
 mod plugin;

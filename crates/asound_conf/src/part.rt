@@ -4,7 +4,7 @@ ghost use Rattle.std.specs.List.{list_all, list_any, slice_split};
 ghost use Rattle.asound_conf.specs.Key.{begins, has_prefix, is_dot, is_function, is_nameless, is_plain, key_defect, named, part_of, word_parts};
 
 use crate::error::ConfWhy;
-use crate::name::Name;
+use crate::text::ConfText;
 use std::alloc::{AllocError, Global};
 
 /// A part of a key: the name of a node in its group.
@@ -13,7 +13,7 @@ pub struct Part {
     /// Whether `!` stands before the part: the node of this name is removed first.
     pub removes: bool,
     /// The node's name.
-    pub name: Name,
+    pub name: ConfText,
 }
 
 /// Whether some bytes begin with this one.
@@ -29,7 +29,7 @@ pub fn named(alloc: Global, name: &[u8]) -> Result<Part, AllocError>
 {
     Ok(Part {
         removes: false,
-        name: Name::copied(alloc, name)?,
+        name: ConfText::copied(alloc, name)?,
     })
 }
 
@@ -40,7 +40,7 @@ fn part_of(alloc: Global, piece: &[u8]) -> Result<Part, AllocError>
     if begins(piece, b'!') {
         return Ok(Part {
             removes: true,
-            name: Name::copied(alloc, &piece[1..])?,
+            name: ConfText::copied(alloc, &piece[1..])?,
         });
     }
     named(alloc, piece)

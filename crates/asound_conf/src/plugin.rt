@@ -70,7 +70,7 @@ fn as_group(node: Option<&Node>) -> Result<&Conf, ConfWhy>
         ≡ as_group (option_map (λ n. tree_of n.now) node.entry) }
 {
     match node {
-        Some(Node::Group(group)) => Ok(group),
+        Some(Node::Group(group)) => Ok(&**group),
         Some(Node::Text(_)) => Err(ConfWhy::Missing),
         None => Err(ConfWhy::Missing),
     }
@@ -91,7 +91,7 @@ fn slave_of<'a>(root: &'a Conf, node: Option<&'a Node>) -> Result<&'a Conf, Conf
         ≡ slave_of root.now (option_map (λ n. tree_of n.now) node.entry) }
 {
     match node {
-        Some(Node::Group(group)) => Ok(group),
+        Some(Node::Group(group)) => Ok(&**group),
         Some(Node::Text(name)) => defined(b"pcm_slave", name.as_bytes(), root),
         None => Err(ConfWhy::Missing),
     }

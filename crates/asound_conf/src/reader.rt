@@ -44,8 +44,12 @@ fn read_tokens(alloc: Global, text: &[u8]) -> Result<Conf, ConfError>
                 why,
             });
         }
-        line = lexeme.line;
-        rest = lexeme.rest;
+        let behind = match reading.take_values(alloc, lexeme.line, lexeme.rest) {
+            Ok(behind) => behind,
+            Err(error) => return Err(error),
+        };
+        line = behind.0;
+        rest = behind.1;
     }
     reading.finish(last_line(text))
 }

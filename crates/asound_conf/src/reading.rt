@@ -1,16 +1,18 @@
 //! What each token does at its place.
-ghost use Rattle.std.specs.Prelude.{◌≡◌, ◌+◌, ◌∷◌, [], ◌++◌, map, drop, take, length, IfOk, OnOk, IsTrue, Ok, reverse, ◌≤◌, not, if◌then◌else◌};
+ghost use Rattle.std.specs.Prelude.{◌≡◌, ◌+◌, ◌∷◌, [], ◌++◌, map, drop, take, length, IfErr, IfOk, IfSome, OnOk, IsTrue, Ok, ℕ, ◌<◌, ◌^◌, reverse, ◌≤◌, not, if◌then◌else◌};
 ghost use Rattle.std.specs.Fmt.{decimal};
-ghost use Rattle.asound_conf.specs.Grammar.{after_item, at_number, close_group, equals_at, finished, open_at, open_group, put_text, separator_at, misplaced, settled, start, step, take_mark, take_text, value_place, put_key};
+ghost use Rattle.asound_conf.specs.Grammar.{after_item, at_number, close_group, equals_at, finished, meaning, open_at, open_group, put_text, separator_at, misplaced, settled, start, step, take_mark, take_text, value_place, put_key};
 ghost use Rattle.asound_conf.specs.Key.{key_defect, named, word_parts};
 ghost use Rattle.asound_conf.specs.Answer.{Leads};
 ghost use Rattle.asound_conf.specs.Reading.{state_of, key_checked, Places, Reads};
-ghost use Rattle.asound_conf.specs.Token.{token_of};
+ghost use Rattle.asound_conf.specs.Listing.{IsWithin};
+ghost use Rattle.asound_conf.specs.Token.{token_of, tokens};
 
 use crate::bracket::{Awaits, Bracket};
 use crate::conf::Conf;
 use crate::error::{ConfError, ConfWhy};
 use crate::group::{meets_text, put};
+use crate::list::{Listing, extend};
 use crate::part::{Part, begins, key_defect, named, push_parts};
 use crate::text::ConfText;
 use crate::token::{Mark, Token};
@@ -297,6 +299,51 @@ impl Reading {
             Token::Mark(mark) => self.take_mark(alloc, line, mark),
             Token::Bad(why) => Err(why),
         }
+    }
+
+    /// Where the reader is among values, if it is where one can come, or a `,` or `;` behind one.
+    fn listing<'a>(&self, line: u32, text: &'a [u8]) -> Option<Listing<'a>>
+        ensures place { IfSome result (λ at. (at.line ≡ line) × (at.rest.now ≡ text.now)) }
+        ensures within { IfSome result (λ at. IsWithin (state_of self.now) at) }
+    {
+        let Awaits::Item { separator } = self.awaits else {
+            return None;
+        };
+        if !self.here.array || self.path.len() != self.here.names {
+            return None;
+        }
+        Some(Listing {
+            line,
+            rest: text,
+            values: self.here.values,
+            separator,
+        })
+    }
+
+    /// Takes the values of `[ ]` at the front of a text, or as many of them as are new, and gives the text that follows, with
+    /// its line. It refuses for memory alone.
+    pub fn take_values<'a>(
+        &mut self,
+        alloc: Global,
+        line: u32,
+        text: &'a [u8],
+    ) -> Result<(u32, &'a [u8]), ConfError>
+        requires { line + length text.now < 2 ^ 32 }
+        ensures same { IfOk result (λ to. (last : ℕ)
+            → meaning (state_of self.old) last (tokens 0 line text.now)
+            ≡ meaning (state_of self.new) last (tokens 0 to.0 to.1.now)) }
+        ensures shorter { IfOk result (λ to. to.0 + length to.1.now ≤ line + length text.now) }
+        ensures memory { IfErr result (λ e. e.why ≡ ConfWhy.Memory) }
+    {
+        let Some(from) = self.listing(line, text) else {
+            return Ok((line, text));
+        };
+        let to = extend(alloc, &mut self.root, self.path.as_slice(), from)?;
+        self.here.values = to.values;
+        self.awaits = Awaits::Item {
+            separator: to.separator,
+        };
+        Ok((to.line, to.rest))
     }
 
     /// The group at the text's end, whose last line has this number.

@@ -16,7 +16,7 @@ pub returns-clause-place : goal.returns-clause-place
 returns-clause-place c =
     let name = c.args.name.now in
     let items = c.args.items.now.items in
-    let new : List ℕ × Node = (c.in_ok-name.name, c.blank.result) in
+    let new : List ℕ × Node = (c.in_ok-name.name, c.in_ok-node.node) in
     let same : c.in_ok-name.name ≡ name = grind arith in
     let named : bytes_eq c.in_ok-name.name name ≡ true = rw same (bytes_eq-self name) in
     let at : c.len-at.result ≡ length items = grind arith in
@@ -27,8 +27,8 @@ pub returns-clause-items : goal.returns-clause-items
 returns-clause-items c =
     let name = c.args.name.now in
     let items = c.args.items.now.items in
-    let new : List ℕ × Node = (c.in_ok-name.name, c.blank.result) in
+    let new : List ℕ × Node = (c.in_ok-name.name, c.in_ok-node.node) in
     let same : c.in_ok-name.name ≡ name = grind arith in
     let none : has name (entries_of items) ≡ false = grind arith in
     let pushed : c.push.new.self.items ≡ items ++ new ∷ [] = c.in_ok-push.ensures.items in
-    ap entries_of pushed ∙ set-new name items new none same ∙ grind (arith, none, c.blank.ensures)
+    ap entries_of pushed ∙ set-new name items new none same ∙ grind (arith, none, c.in_ok-node.ensures)
