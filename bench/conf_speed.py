@@ -3,8 +3,8 @@
 
 usage: bench/conf_speed.py        from the top of the repository; proves and builds crates/conf_bench if needed
 
-Each text is read nine times in one run, and there are ROUNDS runs; the least time counts. The limit is 40 ms for a text of
-1 MiB; the second time has the letting go of what was read too. The last row, a list of groups, is without limit: each of its values takes a walk.
+Each text is read nine times in one run, and there are ROUNDS runs; the least time counts. The limit is 40 ms for each
+text. The second time has the letting go of what was read too. It ends with an error that names the rows above the limit.
 """
 import subprocess
 import sys
@@ -44,18 +44,49 @@ def filled(piece):
     return "".join(text)
 
 
+LETTERS = "abcdefghijklmnopqrstuvwxyzABCDEFGHIJKLMNOPQRSTUVWXYZ0123456789"
+
+
+def short_name(number):
+    """A name of few bytes for each number."""
+    number += len(LETTERS)
+    name = ""
+    while number:
+        number, digit = divmod(number, len(LETTERS))
+        name = LETTERS[digit] + name
+    return name
+
+
+def within(before, piece, after):
+    """As many numbered pieces as fit between two texts, where all are as long as the first."""
+    room = (SIZE - len(before) - len(after)) // len(piece(0)) * len(piece(0))
+    return before + filled(piece)[:room] + after
+
+
+def listed(piece):
+    """As many numbered pieces as fit in a list."""
+    return within("a [\n", piece, "]\n")
+
+
 def texts():
-    """Each text with what it is, and whether the limit is for it."""
-    yield "one device, defined again and again", filled(lambda i: DEVICE.format(name="dmixer", key=1024 + i, card=i % 8)), True
-    yield "comments", filled(lambda i: "# a line of a comment that is as long as they are\n"), True
-    yield "keys of 15 parts", filled(lambda i: f"a.b.c.d.e.f.g.h.i.j.k.l.m.n.o {i % 10}\n"), True
-    yield "keys of 15 parts, each with another last one", filled(lambda i: f"a.b.c.d.e.f.g.h.i.j.k.l.m.n.o{i} {i % 10}\n"), True
-    yield "devices of many names", filled(lambda i: DEVICE.format(name=f"dmix{i}", key=1024 + i, card=i % 8)), True
-    yield "names in one group", filled(lambda i: f"k{i} {i % 10}\n"), True
-    yield "a list of 20,000 values", "a [\n" + "".join(f"{i % 10}\n" for i in range(20000)) + "]\n", True
-    yield "a list of values", "a [\n" + filled(lambda i: f"{i % 10}\n")[: SIZE - 6] + "]\n", True
-    yield "a list of values, with commas", "a [\n" + filled(lambda i: f"{i % 10},")[: SIZE - 6] + "]\n", True
-    yield "a list of empty groups", "a [\n" + filled(lambda i: "{}")[: SIZE - 6] + "]\n", False
+    """Each text with what it is."""
+    yield "one device, defined again and again", filled(lambda i: DEVICE.format(name="dmixer", key=1024 + i, card=i % 8))
+    yield "comments", filled(lambda i: "# a line of a comment that is as long as they are\n")
+    yield "keys of 15 parts", filled(lambda i: f"a.b.c.d.e.f.g.h.i.j.k.l.m.n.o {i % 10}\n")
+    yield "keys of 15 parts, each with another last one", filled(lambda i: f"a.b.c.d.e.f.g.h.i.j.k.l.m.n.o{i} {i % 10}\n")
+    yield "devices of many names", filled(lambda i: DEVICE.format(name=f"dmix{i}", key=1024 + i, card=i % 8))
+    yield "names in one group", filled(lambda i: f"k{i} {i % 10}\n")
+    yield "short names in one group, with empty texts", filled(lambda i: f'{short_name(i)}""')
+    yield "one name, 15 groups deep", within("".join(f"{name}{{" for name in "abcdefghijklmno"), lambda i: 'k""', "}" * 15)
+    yield "a list of 20,000 values", "a [\n" + "".join(f"{i % 10}\n" for i in range(20000)) + "]\n"
+    yield "a list of values", listed(lambda i: f"{i % 10}\n")
+    yield "a list of values, with commas", listed(lambda i: f"{i % 10},")
+    yield "a list of empty groups", listed(lambda i: "{}")
+    yield "a list of empty lists", listed(lambda i: "[]")
+    yield "a list of groups and values in turn", listed(lambda i: "{}1 ")
+    yield "a list of empty groups, 15 lists deep", within("a " + "[" * 14, lambda i: "{}", "]" * 14 + "\n")
+    yield "a list of groups with a text each", listed(lambda i: "{a 1}")
+    yield "a list of lists of one value", listed(lambda i: "[1]")
 
 
 def milliseconds(path):
@@ -78,11 +109,11 @@ def main():
     late = []
     with tempfile.TemporaryDirectory() as folder:
         path = Path(folder) / "asound.conf"
-        for what, text, limited in texts():
+        for what, text in texts():
             path.write_text(text)
             time, whole = milliseconds(path)
             print(f"| {what} | {len(text)} bytes | {time:.1f} ms | {whole:.1f} ms |")
-            if limited and time >= LIMIT:
+            if time >= LIMIT:
                 late.append(what)
     if late:
         sys.exit(f"above {LIMIT} ms: {', '.join(late)}")

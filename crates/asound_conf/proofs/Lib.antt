@@ -2,10 +2,11 @@ pub mod Places
 pub mod Puts
 pub mod Tokens
 pub mod Splits
-pub mod Settles
 pub mod Readings
 pub mod Numerals
 pub mod NumberedValues
 pub mod Indexes
 pub mod Keys
 pub mod Listings
+pub mod Nestings
+pub mod Takes

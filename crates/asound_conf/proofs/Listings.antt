@@ -1,23 +1,20 @@
 -- Values of `[ ]` that follow each other, in the group of their list.
-use Rattle.std.proofs.Common.{◌≡◌, ℕ, ◌+◌, ◌<◌, Bool, true, false, cond, List, [], ◌∷◌, ◌++◌, length, take, Option, Some, None, Result, Ok, Err, refl, sym, ap, ap₂, ◌∙◌, subst, arith}
-use Rattle.std.specs.Prelude.{IfOk, IfSome}
+use Rattle.std.proofs.Common.{◌≡◌, ℕ, ◌+◌, ◌<◌, Bool, true, false, cond, List, [], ◌∷◌, ◌++◌, length, length-append, nat_le, not, take, Option, Some, None, Ok, Err, refl, sym, ap, ap₂, ◌∙◌, arith}
 use Rattle.std.specs.Fmt.{decimal}
-use Rattle.std.proofs.lemmas.List.{take-append-le}
+use Rattle.std.proofs.lemmas.Bool.Decides.{nat_tests}
 use Rattle.asound_conf.specs.declared.bracket.Awaits.TheVariants.{Item}
-use Rattle.asound_conf.specs.declared.bracket.Bracket.{Bracket}
-use Rattle.asound_conf.specs.declared.error.ConfWhy.{ConfWhy}
 use Rattle.asound_conf.specs.declared.error.ConfWhy.TheVariants as why
 use Rattle.asound_conf.specs.declared.list.Listing.{Listing}
 use Rattle.asound_conf.specs.declared.part.Part.{Part}
 use Rattle.asound_conf.specs.declared.token.Lexeme.{Lexeme}
 use Rattle.asound_conf.specs.declared.token.Mark.TheVariants.{OpenBrace, CloseBrace, OpenBracket, CloseBracket, Equals, Comma, Semicolon}
 use Rattle.asound_conf.specs.Answer.{seen}
-use Rattle.asound_conf.specs.Grammar.{State, after_item, at_number, meaning, separator_at, step, text_at, value_place}
+use Rattle.asound_conf.specs.Grammar.{State, after_item, at_number, close_group, meaning, open_at, separator_at, settled, step, text_at, value_place, within}
 use Rattle.asound_conf.specs.Key.{begins, named, word_parts}
-use Rattle.asound_conf.specs.Listing.{Extends, GoesOn, IsIn, IsWithin, LeadsOn, Took, found_in, group_at, group_of, is_separator, listed, value_text, with_group}
+use Rattle.asound_conf.specs.Listing.{GoesOn, IsIn, LeadsOn, closed, found_in, group_at, group_of, is_separator, listed, opened, value_text, with_group}
 use Rattle.asound_conf.specs.Place.{base, clashes, is_last, met, node_at, placed, put}
 use Rattle.asound_conf.specs.Token.{LineToken, Token, word, quoted, mark, bad, token_of, tokens}
-use Rattle.asound_conf.specs.Tree.{Tree, text, group, Entries, get, group_in, has}
+use Rattle.asound_conf.specs.Tree.{Tree, text, group, Entries, empty, get, group_in, has}
 use Rattle.asound_conf.specs.Tree as tree
 use Rattle.asound_conf.proofs.Places.{get-none, get-set, set-get, set-set}
 use Rattle.asound_conf.proofs.Readings.{meaning-next}
@@ -91,11 +88,11 @@ with_group-same (part ∷ parts) g list is =
     ∙ ap (λ h. tree.set part.name (group h) g) (with_group-same parts u.inner list u.leads)
     ∙ set-get part.name (group u.inner) g (meets part g (group u.inner) u.meets_it).has_it
 
-is_last-more : (parts : List Part) (part : Part) → is_last (parts ++ part ∷ []) ≡ false
+pub is_last-more : (parts : List Part) (part : Part) → is_last (parts ++ part ∷ []) ≡ false
 is_last-more [] part = refl
 is_last-more (other ∷ parts) part = refl
 
-put-further : (value : Option (List ℕ)) (part : Part) (parts : List Part) (g : Entries) → is_last parts ≡ false → put value (part ∷ parts) g ≡ tree.set part.name (group (put value parts (group_in (met part g)))) (base part g)
+pub put-further : (value : Option (List ℕ)) (part : Part) (parts : List Part) (g : Entries) → is_last parts ≡ false → put value (part ∷ parts) g ≡ tree.set part.name (group (put value parts (group_in (met part g)))) (base part g)
 unfolding put
 put-further value part [] g more = cc
 put-further value part (next ∷ parts) g more = refl
@@ -114,7 +111,7 @@ put-below value (first ∷ parts) part g list is =
     put-further value first more g (is_last-more parts part)
     ∙ ap₂ (λ h b. tree.set first.name (group h) b) inside (base-met first g (group u.inner) u.meets_it)
 
-node_at-further : (part : Part) (parts : List Part) (g : Entries) → is_last parts ≡ false → node_at (part ∷ parts) g ≡ node_at parts (group_in (met part g))
+pub node_at-further : (part : Part) (parts : List Part) (g : Entries) → is_last parts ≡ false → node_at (part ∷ parts) g ≡ node_at parts (group_in (met part g))
 unfolding node_at
 node_at-further part [] g more = cc
 node_at-further part (next ∷ parts) g more = refl
@@ -129,6 +126,16 @@ node_at-below (first ∷ parts) part g list is =
     ∙ ap (λ m. node_at (parts ++ part ∷ []) (group_in m)) u.meets_it
     ∙ node_at-below parts part u.inner list u.leads
 
+-- an empty group with a new name, one part below a place
+group-below : (name : List ℕ) (parts : List Part) (g list : Entries) → group_at parts g ≡ Some list → has name list ≡ false → placed None (parts ++ named name ∷ []) g ≡ Ok (with_group parts (tree.set name (group empty) list) g)
+unfolding put
+group-below name parts g list is none =
+    let absent : get name list ≡ None = get-none name list none in
+    let nothing : node_at (parts ++ named name ∷ []) g ≡ None = node_at-below parts (named name) g list is ∙ absent in
+    ap (λ m. cond (clashes None m) (Err why.Kind) (Ok (put None (parts ++ named name ∷ []) g))) nothing
+    ∙ ap Ok (put-below None parts (named name) g list is)
+    ∙ ap (λ m. Ok (with_group parts (tree.set name (group (group_in m)) list) g)) absent
+
 -- a text with a new name, one part below a place
 placed-below : (t name : List ℕ) (parts : List Part) (g list : Entries) → group_at parts g ≡ Some list → has name list ≡ false → placed (Some t) (parts ++ named name ∷ []) g ≡ Ok (with_group parts (tree.set name (text t) list) g)
 unfolding put
@@ -137,7 +144,7 @@ placed-below t name parts g list is none =
     ap (λ m. cond (clashes (Some t) m) (Err why.Kind) (Ok (put (Some t) (parts ++ named name ∷ []) g))) nothing
     ∙ ap Ok (put-below (Some t) parts (named name) g list is)
 
-take-front : (front more : List Part) → take (length front) (front ++ more) ≡ front
+pub take-front : (front more : List Part) → take (length front) (front ++ more) ≡ front
 take-front [] more = refl
 take-front (part ∷ front) more = ap (λ parts. part ∷ parts) (take-front front more)
 
@@ -198,9 +205,69 @@ step-separator s list from to line (word w) is in_it can count next = cc
 step-separator s list from to line (quoted q) is in_it can count next = cc
 step-separator s list from to line (bad w) is in_it can count next = cc
 
+step-opened : (s : State) (line : ℕ) (token : Token) (array : Bool) → opened token ≡ Some array → step s line token ≡ open_at (value_place s s.awaits s.here.array) line array
+step-opened s line (mark OpenBrace) array is = let same : array ≡ false = cc in rw same refl
+step-opened s line (mark OpenBracket) array is = let same : array ≡ true = cc in rw same refl
+step-opened s line (mark CloseBrace) array is = cc
+step-opened s line (mark CloseBracket) array is = cc
+step-opened s line (mark Equals) array is = cc
+step-opened s line (mark Comma) array is = cc
+step-opened s line (mark Semicolon) array is = cc
+step-opened s line (word w) array is = cc
+step-opened s line (quoted q) array is = cc
+step-opened s line (bad w) array is = cc
+
+step-closed : (s : State) (line : ℕ) (token : Token) (array : Bool) → closed token ≡ Some array → s.here.array ≡ array → step s line token ≡ close_group s s.awaits true
+step-closed s line (mark CloseBrace) array is here = let same : s.here.array ≡ false = cc in ap (λ b. close_group s s.awaits (not b)) same
+step-closed s line (mark CloseBracket) array is here = let same : s.here.array ≡ true = cc in ap (close_group s s.awaits) same
+step-closed s line (mark OpenBrace) array is here = cc
+step-closed s line (mark OpenBracket) array is here = cc
+step-closed s line (mark Equals) array is here = cc
+step-closed s line (mark Comma) array is here = cc
+step-closed s line (mark Semicolon) array is here = cc
+step-closed s line (word w) array is here = cc
+step-closed s line (quoted q) array is here = cc
+step-closed s line (bad w) array is here = cc
+
+settled-append : (front parts : List Part) → settled (front ++ parts) ≡ settled front ++ settled parts
+settled-append [] parts = refl
+settled-append (part ∷ front) parts = ap (λ more. named part.name ∷ more) (settled-append front parts)
+
+-- the steps of an empty group or list
+pub meaning-empty : (s : State) (list : Entries) (from to : Listing) (line next : ℕ) (opening closing : Token) (array : Bool) (last : ℕ) (ts : List LineToken)
+    → opened opening ≡ Some array → closed closing ≡ Some array → IsIn s list from → from.shallow ≡ true → has (decimal from.values) list ≡ false → to.values ≡ from.values + 1 → to.separator ≡ true
+    → meaning s last (record { line = line; token = opening } ∷ record { line = next; token = closing } ∷ ts) ≡ meaning (listed s (tree.set (decimal from.values) (group empty) list) to) last ts
+meaning-empty s list from to line next opening closing array last ts opens closes is can none count separates =
+    let new = tree.set (decimal from.values) (group empty) list in
+    let root = with_group s.path new s.root in
+    let part = named (decimal s.here.values) in
+    let place = at_number s in
+    let inner : State = within place line array root in
+    let here : value_place s s.awaits s.here.array ≡ Some place = ap₂ (value_place s) is.within.next is.within.array in
+    let less : length s.path < 15 = is.within.shallow can in
+    let size : length (s.path ++ part ∷ []) < 16 = omega (arith, length-append s.path (part ∷ []), less) in
+    let room : nat_le 16 (length (s.path ++ part ∷ [])) ≡ false = grind (arith, nat_tests, size) in
+    let placed_there : placed None (s.path ++ part ∷ []) s.root ≡ Ok root =
+    ap (λ n. placed None (s.path ++ named (decimal n) ∷ []) s.root) is.within.count ∙ group-below (decimal from.values) s.path s.root list is.place none in
+    let first : step s line opening ≡ Ok inner =
+    step-opened s line opening array opens
+    ∙ ap (λ o. open_at o line array) here
+    ∙ ap (λ b. cond b (Err why.Deep) (seen (within place line array) (placed None (s.path ++ part ∷ []) s.root))) room
+    ∙ ap (seen (within place line array)) placed_there in
+    let path : take s.here.names (settled (s.path ++ part ∷ [])) ≡ s.path =
+    ap (λ n. take n (settled (s.path ++ part ∷ []))) is.within.depth
+    ∙ ap (take (length s.path)) (settled-append s.path (part ∷ []) ∙ ap (λ front. front ++ part ∷ []) is.within.stays)
+    ∙ take-front s.path (part ∷ []) in
+    let more : s.here.values + 1 ≡ to.values = ap (λ n. n + 1) is.within.count ∙ sym count in
+    let second : step inner next closing ≡ Ok (listed s new to) =
+    step-closed inner next closing array closes refl
+    ∙ (λ i. Ok (record { root = root; path = path i; here = record { line = s.here.line; array = s.here.array; names = s.here.names; values = more i }; outer = s.outer; awaits = Item (sym separates i) })) in
+    meaning-next s inner last (record { line = line; token = opening }) (record { line = next; token = closing } ∷ ts) first
+    ∙ meaning-next inner (listed s new to) last (record { line = next; token = closing }) ts second
+
 -- where a reader is once its list has another group
-IsIn-listed : (s : State) (old new : Entries) (from to : Listing) → IsIn s old from → IsIn (listed s new to) new to
-IsIn-listed s old new from to is = record { within = record { array = is.within.array; depth = is.within.depth; count = refl; next = refl }; place = group_at-with_group s.path s.root old new is.place }
+IsIn-listed : (s : State) (old new : Entries) (from to : Listing) → to.shallow ≡ from.shallow → IsIn s old from → IsIn (listed s new to) new to
+IsIn-listed s old new from to same is = record { within = record { array = is.within.array; depth = is.within.depth; count = refl; next = refl; stays = is.within.stays; shallow = λ can. is.within.shallow (sym same ∙ can) }; place = group_at-with_group s.path s.root old new is.place }
 
 listed-listed : (s : State) (old x y : Entries) (from at to : Listing) → IsIn s old from → listed (listed s y at) x to ≡ listed s x to
 listed-listed s old x y from at to is =
@@ -209,80 +276,28 @@ listed-listed s old x y from at to is =
 
 -- nothing was taken
 pub GoesOn-none : (list : Entries) (at : Listing) → GoesOn list at list at
-GoesOn-none list at s is last = ap (λ r. meaning r last (tokens 0 at.line at.rest.now)) (listed-same s list at is)
+GoesOn-none list at = (refl, λ s is last. ap (λ r. meaning r last (tokens 0 at.line at.rest.now)) (listed-same s list at is))
 
 -- a token more was taken
 pub GoesOn-more : (first old new : Entries) (start from to : Listing) (lexeme : Lexeme) → GoesOn first start old from
     → tokens 0 from.line from.rest.now ≡ record { line = lexeme.line; token = token_of lexeme.token } ∷ tokens 0 lexeme.line lexeme.rest.now
     → LeadsOn old from lexeme new to → GoesOn first start new to
-GoesOn-more first old new start from to lexeme goes are on s is last =
-    let at = listed s old from in
-    let t : LineToken = record { line = lexeme.line; token = token_of lexeme.token } in
-    let rest = tokens 0 lexeme.line lexeme.rest.now in
-    goes s is last
-    ∙ ap (meaning at last) are
-    ∙ meaning-next at (listed at new to) last t rest (on.leads at (IsIn-listed s first old start from is))
-    ∙ ap₂ (λ r ts. meaning r last ts) (listed-listed s first new old start from to is) (ap₂ (tokens 0) (sym on.line) (sym on.rest))
+GoesOn-more first old new start from to lexeme goes are on = (
+  on.shallow ∙ goes.0,
+  λ s is last.
+      let at = listed s old from in
+      goes.1 s is last
+      ∙ ap (meaning at last) are
+      ∙ on.leads at (IsIn-listed s first old start from goes.0 is) last
+      ∙ ap (λ r. meaning r last (tokens 0 to.line to.rest.now)) (listed-listed s first new old start from to is),
+)
 
--- a token was taken, or nothing was
-pub Took-kept : (to : Option Listing) (list : Entries) (from : Listing) (lexeme : Lexeme) → IfSome to (λ at. (g : Entries) → LeadsOn g from lexeme g at) → Took to list from lexeme list
-Took-kept (Some at) list from lexeme leads = leads list
-Took-kept None list from lexeme leads = refl
-
--- values of a group to which no part leads
-pub Extends-here : (E : Type 0) (r : Result Listing E) (parts : List Part) (g new : Entries) (from : Listing) → length parts < 1 → IfOk r (λ to. GoesOn g from new to) → IfOk r (λ to. Extends (group_at parts g) (λ list. with_group parts list g) g new from to)
-unfolding group_at with_group
-Extends-here E (Ok to) [] g new from none on = (new, (refl, on))
-Extends-here E (Err e) [] g new from none on = on
-Extends-here E r (part ∷ parts) g new from none on = absurd (omega arith)
-
--- no values, where a part leads to no node
-pub Extends-none : (part : Part) (parts : List Part) (g : Entries) (from : Listing) → met part g ≡ None → Extends (group_at (part ∷ parts) g) (λ list. with_group (part ∷ parts) list g) g g from from
-unfolding group_at
-Extends-none part parts g from nothing =
-    let none : None ≡ found_in (group_of (met part g)) (group_at parts) = ap (λ m. found_in (group_of m) (group_at parts)) (sym nothing) in
-    subst (λ o. Extends o (λ list. with_group (part ∷ parts) list g) g g from from) none (refl, refl)
-
--- values of a group that is at a node of a group
-Extends-set : (o : Option Entries) (part : Part) (parts : List Part) (g made : Entries) (old new : Tree) (from to : Listing) → met part g ≡ Some old → made ≡ tree.set part.name new g
-    → Extends o (λ list. group (with_group parts list (group_in (Some old)))) old new from to → Extends o (λ list. with_group (part ∷ parts) list g) g made from to
-unfolding with_group
-Extends-set (Some list) part parts g made old new from to meets_it is_made extends =
-    (extends.0, (is_made ∙ ap (λ t. tree.set part.name t g) extends.1.0 ∙ ap (λ m. tree.set part.name (group (with_group parts extends.0 (group_in m))) g) (sym meets_it), extends.1.1))
-Extends-set None part parts g made old new from to meets_it is_made extends =
-    (is_made ∙ ap (λ t. tree.set part.name t g) extends.0 ∙ set-get part.name old g (meets part g old meets_it).has_it, extends.1)
-
-pub Extends-under : (E : Type 0) (r : Result Listing E) (part : Part) (parts : List Part) (g made : Entries) (old new : Tree) (from : Listing) → met part g ≡ Some old → made ≡ tree.set part.name new g
-    → IfOk r (λ to. Extends (found_in (group_of (Some old)) (group_at parts)) (λ list. group (with_group parts list (group_in (Some old)))) old new from to)
-    → IfOk r (λ to. Extends (group_at (part ∷ parts) g) (λ list. with_group (part ∷ parts) list g) g made from to)
-unfolding group_at
-Extends-under E (Ok to) part parts g made old new from meets_it is_made extends =
-    let same : found_in (group_of (Some old)) (group_at parts) ≡ found_in (group_of (met part g)) (group_at parts) = ap (λ m. found_in (group_of m) (group_at parts)) (sym meets_it) in
-    subst (λ o. Extends o (λ list. with_group (part ∷ parts) list g) g made from to) same
-    (Extends-set (found_in (group_of (Some old)) (group_at parts)) part parts g made old new from to meets_it is_made extends)
-Extends-under E (Err e) part parts g made old new from meets_it is_made extends = extends
-
--- what a part meets that removes nothing
-pub met-stays : (part : Part) (g : Entries) (m : Option Tree) → part.removes ≡ false → get part.name g ≡ m → met part g ≡ m
-met-stays part g m stays is = ap (λ b. cond b None (get part.name g)) stays ∙ is
-
-pub met-removes : (part : Part) (g : Entries) → part.removes ≡ true → met part g ≡ None
-met-removes part g removes = ap (λ b. cond b None (get part.name g)) removes
-
--- a reader whose list took values goes on
-pub meaning-extended : (s made : State) (from to : Listing) (last : ℕ) → IsWithin s from
-    → made ≡ record s { root = made.root; here = record { line = s.here.line; array = s.here.array; names = s.here.names; values = to.values }; awaits = Item to.separator }
-    → (o : Option Entries) → group_at s.path s.root ≡ o → Extends o (λ list. with_group s.path list s.root) s.root made.root from to
-    → meaning s last (tokens 0 from.line from.rest.now) ≡ meaning made last (tokens 0 to.line to.rest.now)
-meaning-extended s made from to last within is (Some list) place extends =
-    extends.1.1 s (record { within = within; place = place }) last
-    ∙ ap (λ r. meaning (record s { root = r; here = record { line = s.here.line; array = s.here.array; names = s.here.names; values = to.values }; awaits = Item to.separator }) last (tokens 0 to.line to.rest.now)) (sym extends.1.0)
-    ∙ ap (λ r. meaning r last (tokens 0 to.line to.rest.now)) (sym is)
-meaning-extended s made from to last within is None place extends =
-    let values : s.here.values ≡ to.values = within.count ∙ ap (λ (l : Listing). l.values) (sym extends.1) in
-    let awaits : s.awaits ≡ Item to.separator = within.next ∙ ap (λ (l : Listing). Item l.separator) (sym extends.1) in
-    ap (λ (l : Listing). meaning s last (tokens 0 l.line l.rest.now)) (sym extends.1)
-    ∙ ap (λ r. meaning r last (tokens 0 to.line to.rest.now)) (same_state made.root (sym extends.0) values awaits ∙ sym is)
-  where
-    same_state : (root : Entries) → s.root ≡ root → s.here.values ≡ to.values → s.awaits ≡ Item to.separator → s ≡ record s { root = root; here = record { line = s.here.line; array = s.here.array; names = s.here.names; values = to.values }; awaits = Item to.separator }
-    same_state root roots values awaits i = record { root = roots i; path = s.path; here = record { line = s.here.line; array = s.here.array; names = s.here.names; values = values i }; outer = s.outer; awaits = awaits i }
+-- a step within a list leads on
+pub LeadsOn-step : (old new : Entries) (from to : Listing) (lexeme : Lexeme) → to.line ≡ lexeme.line → to.rest.now ≡ lexeme.rest.now → to.shallow ≡ from.shallow
+    → ((s : State) → IsIn s old from → step s lexeme.line (token_of lexeme.token) ≡ Ok (listed s new to)) → LeadsOn old from lexeme new to
+LeadsOn-step old new from to lexeme line rest shallow steps = record {
+  bound = omega (arith, line, ap length rest);
+  shallow = shallow;
+  leads = λ s is last. meaning-next s (listed s new to) last (record { line = lexeme.line; token = token_of lexeme.token }) (tokens 0 lexeme.line lexeme.rest.now) (steps s is)
+      ∙ ap₂ (λ l r. meaning (listed s new to) last (tokens 0 l r)) (sym line) (sym rest);
+}

@@ -13,7 +13,7 @@ use Rattle.asound_conf.specs.View.{added, blank, entries_of, is_leaf, placed_nod
 use Rattle.asound_conf.proofs.Places.{get-IsLast, get-none, has-without, get-set, set-set}
 
 -- a part of a key meets nothing in an empty group
-met-empty : (part : Part) → met part empty ≡ None
+pub met-empty : (part : Part) → met part empty ≡ None
 met-empty part = elim part.removes as (λ b. cond b None (get part.name empty) ≡ None) [ true ↦ refl | false ↦ refl ]
 
 -- and no text is on its way there
@@ -30,7 +30,7 @@ node_at-empty (part ∷ []) = met-empty part
 node_at-empty (part ∷ next ∷ parts) = rw (met-empty part) (node_at-empty (next ∷ parts))
 
 -- a part meets what its group has once the part has cleared it
-get-base : (part : Part) (g : Entries) → get part.name (base part g) ≡ met part g
+pub get-base : (part : Part) (g : Entries) → get part.name (base part g) ≡ met part g
 get-base part g = base-get part.name g part.removes
   where
     base-get : (name : List ℕ) (g : Entries) (removes : Bool) → get name (cond removes (without name g) g) ≡ cond removes None (get name g)
@@ -38,12 +38,12 @@ get-base part g = base-get part.name g part.removes
     base-get name g false = refl
 
 -- nothing clashes with what isn't there
-clashes-None : (value : Option (List ℕ)) → clashes value None ≡ false
+pub clashes-None : (value : Option (List ℕ)) → clashes value None ≡ false
 clashes-None (Some t) = refl
 clashes-None None = refl
 
 -- what is made of an answer is set in a group
-seen-cond : {X Y : Type 0} (f : X → Y) (b : Bool) (cause : ConfWhy) (x : X) → seen f (cond b (Err cause) (Ok x)) ≡ cond b (Err cause) (Ok (f x))
+pub seen-cond : {X Y : Type 0} (f : X → Y) (b : Bool) (cause : ConfWhy) (x : X) → seen f (cond b (Err cause) (Ok x)) ≡ cond b (Err cause) (Ok (f x))
 seen-cond f true cause x = refl
 seen-cond f false cause x = refl
 
@@ -59,7 +59,7 @@ placed-blank None part (next ∷ rest) g meets none =
     rw (meets, node_at-empty (next ∷ rest)) (ap Ok (sym (set-set part.name (group (put None (next ∷ rest) empty)) (group empty) (base part g))))
 
 -- what is put where a node was
-placed-there : (value : Option (List ℕ)) (part : Part) (rest : List Part) (g : Entries) (old : Tree) → met part g ≡ Some old
+pub placed-there : (value : Option (List ℕ)) (part : Part) (rest : List Part) (g : Entries) (old : Tree) → met part g ≡ Some old
     → placed value (part ∷ rest) g ≡ seen (λ t. tree.set part.name t (base part g)) (placed_node value rest old)
 unfolding node_at put
 placed-there value part [] g old meets = rw meets (sym (seen-cond (λ t. tree.set part.name t (base part g)) (clashes value (Some old)) why.Kind (put_there value (Some old))))
@@ -88,6 +88,11 @@ placed-at value part rest g items at item are place =
         let was : Some old ≡ Some (blank (is_leaf value rest)) = sym there ∙ get-set part.name (blank (is_leaf value rest)) (base part g) in
         let fresh : old ≡ blank (is_leaf value rest) = cc in
         rw fresh (placed-blank value part rest g meets is)
+
+-- a cause of one answer is that of another that was made of it
+pub Refuses-seen : {X Y : Type 0} (cause : ConfWhy) (f : X → Y) (given : Result X ConfWhy) (wanted : Result Y ConfWhy) → wanted ≡ seen f given → Refuses cause given → Refuses cause wanted
+Refuses-seen why.Memory f given wanted is refuses = tt
+Refuses-seen cause f given wanted is refuses = is ∙ ap (seen f) refuses
 
 -- an answer that was made of another one
 pub Leads-seen : {X S T : Type 0} (r : Result X ConfWhy) (new : S) (f : S → T) (given : Result S ConfWhy) → Leads r new given → Leads r (f new) (seen f given)

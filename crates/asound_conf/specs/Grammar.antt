@@ -7,7 +7,6 @@ use Rattle.asound_conf.specs.declared.error.ConfWhy.TheVariants as why
 use Rattle.asound_conf.specs.declared.part.Part.{Part}
 use Rattle.asound_conf.specs.declared.bracket.Awaits.{Awaits}
 use Rattle.asound_conf.specs.declared.bracket.Awaits.TheVariants.{Item, Value}
-use Rattle.asound_conf.specs.declared.bracket.Bracket.{Bracket}
 use Rattle.asound_conf.specs.declared.token.Mark.{Mark}
 use Rattle.asound_conf.specs.declared.token.Mark.TheVariants as marks
 use Rattle.asound_conf.specs.Token.{LineToken, Token, word, quoted, mark, bad, tokens}
@@ -15,6 +14,14 @@ use Rattle.asound_conf.specs.Key.{begins, key_defect, named, word_parts}
 use Rattle.asound_conf.specs.Answer.{seen}
 use Rattle.asound_conf.specs.Place.{meets_text, placed}
 use Rattle.asound_conf.specs.Tree.{Entries, empty}
+
+-- A `{` or `[` that is open, or the text itself: its line, whether it is a `[`, how many parts of keys lead to its
+-- group, and how many values it has so far, where it is a `[`.
+pub record Bracket : Type 0 where
+  pub line : ℕ
+  pub array : Bool
+  pub names : ℕ
+  pub values : ℕ
 
 -- Where a reader of tokens is: the group so far, the parts that lead to the place of what comes next, the innermost
 -- `{` or `[` that is open, or the text itself, those around it from the inside out, and what may come next.

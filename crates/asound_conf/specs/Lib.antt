@@ -8,6 +8,7 @@ pub mod Place
 pub mod InPlace
 pub mod Index
 pub mod Listing
+pub mod Nesting
 pub mod Reading
 pub mod Text
 pub mod Token

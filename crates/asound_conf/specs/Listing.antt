@@ -1,12 +1,12 @@
 -- Values of `[ ]` that follow each other, as they are put into the group of their list.
-use Rattle.std.specs.Prelude.{◌≡◌, ℕ, ◌+◌, Bool, true, false, List, [], ◌∷◌, length, Option, Some, None, Result, Ok, Err, if◌then◌else◌}
+use Rattle.std.specs.Prelude.{◌≡◌, ℕ, ◌+◌, ◌<◌, ◌≤◌, Bool, true, false, List, [], ◌∷◌, length, Option, Some, None, Result, Ok, Err, if◌then◌else◌}
 use Rattle.std.specs.Fmt.{decimal}
 use Rattle.asound_conf.specs.declared.bracket.Awaits.TheVariants.{Item}
 use Rattle.asound_conf.specs.declared.list.Listing.{Listing}
 use Rattle.asound_conf.specs.declared.part.Part.{Part}
 use Rattle.asound_conf.specs.declared.token.Lexeme.{Lexeme}
-use Rattle.asound_conf.specs.declared.token.Mark.TheVariants.{Comma, Semicolon}
-use Rattle.asound_conf.specs.Grammar.{State, meaning, step}
+use Rattle.asound_conf.specs.declared.token.Mark.TheVariants.{OpenBrace, CloseBrace, OpenBracket, CloseBracket, Comma, Semicolon}
+use Rattle.asound_conf.specs.Grammar.{State, meaning, settled}
 use Rattle.asound_conf.specs.Key.{begins}
 use Rattle.asound_conf.specs.Place.{met}
 use Rattle.asound_conf.specs.Token.{Token, word, quoted, mark, token_of, tokens}
@@ -23,6 +23,18 @@ abbrev pub is_separator : Token → Bool
 is_separator (mark Comma) = true
 is_separator (mark Semicolon) = true
 is_separator other = false
+
+-- a token opens a group, or a list
+abbrev pub opened : Token → Option Bool
+opened (mark OpenBrace) = Some false
+opened (mark OpenBracket) = Some true
+opened other = None
+
+-- a token closes a group, or a list
+abbrev pub closed : Token → Option Bool
+closed (mark CloseBrace) = Some false
+closed (mark CloseBracket) = Some true
+closed other = None
 
 -- the group that a node is
 abbrev pub group_of : Option Tree → Option Entries
@@ -51,6 +63,8 @@ pub record IsWithin (s : State) (at : Listing) : Type 0 where
   pub depth : s.here.names ≡ length s.path
   pub count : s.here.values ≡ at.values
   pub next : s.awaits ≡ Item at.separator
+  pub stays : settled s.path ≡ s.path
+  pub shallow : at.shallow ≡ true → length s.path < 15
 
 -- a reader is within a `[ ]` whose values go into this group
 pub record IsIn (s : State) (list : Entries) (at : Listing) : Type 0 where
@@ -65,23 +79,24 @@ listed s list at = record s {
   awaits = Item at.separator;
 }
 
--- a token leads on within a list
+-- a token, or two, lead on within a list
 pub record LeadsOn (old : Entries) (from : Listing) (lexeme : Lexeme) (new : Entries) (to : Listing) : Type 0 where
-  pub line : to.line ≡ lexeme.line
-  pub rest : to.rest.now ≡ lexeme.rest.now
-  pub leads : (s : State) → IsIn s old from → step s lexeme.line (token_of lexeme.token) ≡ Ok (listed s new to)
+  pub bound : to.line + length to.rest.now ≤ lexeme.line + length lexeme.rest.now
+  pub shallow : to.shallow ≡ from.shallow
+  pub leads : (s : State) → IsIn s old from → (last : ℕ)
+      → meaning s last (record { line = lexeme.line; token = token_of lexeme.token } ∷ tokens 0 lexeme.line lexeme.rest.now)
+      ≡ meaning (listed s new to) last (tokens 0 to.line to.rest.now)
 
 -- a text means the same from two places of a list
 abbrev pub GoesOn : Entries → Listing → Entries → Listing → Type 0
-GoesOn old from new to =
-    (s : State) → IsIn s old from → (last : ℕ)
-    → meaning s last (tokens 0 from.line from.rest.now) ≡ meaning (listed s new to) last (tokens 0 to.line to.rest.now)
+GoesOn old from new to = (to.shallow ≡ from.shallow) × ((s : State) → IsIn s old from → (last : ℕ)
+    → meaning s last (tokens 0 from.line from.rest.now) ≡ meaning (listed s new to) last (tokens 0 to.line to.rest.now))
 
--- a text was added under the name of a number, which gives the next number, or nothing was done
-abbrev pub Adds : {E : Type 0} → Result (Option ℕ) E → ℕ → List ℕ → Entries → Entries → Type 0
-Adds (Ok (Some next)) number t old new = (next ≡ number + 1) × (has (decimal number) old ≡ false) × (new ≡ set (decimal number) (text t) old)
-Adds (Ok None) number t old new = new ≡ old
-Adds (Err e) number t old new = Unit {0}
+-- a node was added under the name of a number, which gives the next number, or nothing was done
+abbrev pub Adds : {E : Type 0} → Result (Option ℕ) E → ℕ → Tree → Entries → Entries → Type 0
+Adds (Ok (Some next)) number tree old new = (next ≡ number + 1) × (has (decimal number) old ≡ false) × (new ≡ set (decimal number) tree old)
+Adds (Ok None) number tree old new = new ≡ old
+Adds (Err e) number tree old new = Unit {0}
 
 -- a token was taken, which says where it leads, or nothing was done
 abbrev pub Took : Option Listing → Entries → Listing → Lexeme → Entries → Type 0
@@ -92,8 +107,3 @@ Took None old from lexeme new = new ≡ old
 abbrev pub Takes : {E : Type 0} → Result (Option Listing) E → Entries → Listing → Lexeme → Entries → Type 0
 Takes (Ok to) old from lexeme new = Took to old from lexeme new
 Takes (Err e) old from lexeme new = Unit {0}
-
--- the group of a list, where there is one, took values: what it is in was made anew with it
-abbrev pub Extends : {X : Type 0} → Option Entries → (Entries → X) → X → X → Listing → Listing → Type 0
-Extends (Some list) with old new from to = (more : Entries) × ((new ≡ with more) × GoesOn list from more to)
-Extends None with old new from to = (new ≡ old) × (to ≡ from)

@@ -5,11 +5,12 @@ use Rattle.asound_conf.specs.declared.error.ConfWhy.{ConfWhy}
 use Rattle.asound_conf.specs.declared.error.ConfWhy.TheVariants as why
 use Rattle.asound_conf.specs.declared.reading.Reading.{Reading}
 use Rattle.asound_conf.specs.Grammar.{State, at_key}
+use Rattle.asound_conf.specs.Nesting.{state_in}
 use Rattle.asound_conf.specs.Tree.{Entries}
 
 -- where the reader is
 abbrev pub state_of : Reading → State
-state_of r = record { root = r.root; path = r.path.items; here = r.here; outer = reverse r.outer.items; awaits = r.awaits }
+state_of r = state_in (reverse r.outer.items) r.group r.path.items r.here r.awaits
 
 -- a value can come where a call led, or it can't and nothing changed
 abbrev pub Places : Result Bool ConfWhy → State → State → Option State → Type 0

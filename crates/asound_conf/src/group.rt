@@ -42,7 +42,7 @@ fn remove_all(items: &mut Vec<(ConfText, Node)>, index: &Index, name: &[u8])
 }
 
 /// Leaves a group as a part of a key does before it goes on: without the part's node, where `!` stands before the part.
-fn clear(group: &mut Conf, part: &Part)
+pub fn clear(group: &mut Conf, part: &Part)
     ensures { group.new ≡ base part.now group.old }
 {
     if part.removes {
@@ -61,7 +61,7 @@ fn blank(alloc: Global, is_text: bool) -> Result<Node, AllocError>
 }
 
 /// The place of the node of this name. An empty text or an empty group is added at the end where there is none.
-fn place_or_add(
+pub fn place_or_add(
     alloc: Global,
     items: &mut Vec<(ConfText, Node)>,
     index: &mut Index,
@@ -104,7 +104,7 @@ fn clashes(text: &Option<ConfText>, node: &Node) -> bool
 }
 
 /// Makes a text an empty group, and leaves a group as it is.
-fn make_group(alloc: Global, node: &mut Node) -> Result<(), AllocError>
+pub fn make_group(alloc: Global, node: &mut Node) -> Result<(), AllocError>
     ensures { OnOk result (tree_of node.new ≡ group (group_in (Some (tree_of node.old)))) }
 {
     if let Node::Text(_) = node {

@@ -10,6 +10,7 @@ mod find;
 mod group;
 mod index;
 mod list;
+mod nested;
 mod number;
 mod part;
 mod plugin;

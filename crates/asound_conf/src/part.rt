@@ -1,5 +1,5 @@
 //! The parts of a key.
-ghost use Rattle.std.specs.Prelude.{◌≡◌, ◌++◌, [], ◌∷◌, IfOk, OnOk, IfNone, IfSome, option_map, map, position, drop, false, length, ◌<◌};
+ghost use Rattle.std.specs.Prelude.{◌≡◌, ◌++◌, ◌≤◌, [], ◌∷◌, IfOk, OnOk, IfNone, IfSome, option_map, map, position, drop, false, length, ◌<◌};
 ghost use Rattle.std.specs.List.{list_all, list_any, slice_split};
 ghost use Rattle.asound_conf.specs.Key.{begins, has_prefix, is_dot, is_function, is_nameless, is_plain, key_defect, named, part_of, word_parts};
 
@@ -66,7 +66,9 @@ fn split_piece(word: &[u8]) -> Option<(&[u8], &[u8])>
 
 /// Adds the parts of a word to some parts.
 pub fn push_parts(alloc: Global, parts: &mut Vec<Part>, word: &[u8]) -> Result<(), AllocError>
-    ensures { OnOk result (parts.new.items ≡ parts.old.items ++ word_parts word.now) }
+    ensures parts { OnOk result (parts.new.items ≡ parts.old.items ++ word_parts word.now) }
+    ensures some { OnOk result (1 ≤ length parts.new.items) }
+    ensures longer { length parts.old.items ≤ length parts.new.items }
 {
     let mut rest = word;
     while let Some((piece, behind)) = split_piece(rest) {

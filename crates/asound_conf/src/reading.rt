@@ -1,50 +1,44 @@
 //! What each token does at its place.
-ghost use Rattle.std.specs.Prelude.{◌≡◌, ◌+◌, ◌∷◌, [], ◌++◌, map, drop, take, length, IfErr, IfOk, IfSome, OnOk, IsTrue, Ok, ℕ, ◌<◌, ◌^◌, reverse, ◌≤◌, not, if◌then◌else◌};
+ghost use Rattle.std.specs.Prelude.{◌≡◌, ◌≤◌, IfOk, length, reverse};
 ghost use Rattle.std.specs.Fmt.{decimal};
-ghost use Rattle.asound_conf.specs.Grammar.{after_item, at_number, close_group, equals_at, finished, meaning, open_at, open_group, put_text, separator_at, misplaced, settled, start, step, take_mark, take_text, value_place, put_key};
-ghost use Rattle.asound_conf.specs.Key.{key_defect, named, word_parts};
-ghost use Rattle.asound_conf.specs.Answer.{Leads};
-ghost use Rattle.asound_conf.specs.Reading.{state_of, key_checked, Places, Reads};
-ghost use Rattle.asound_conf.specs.Listing.{IsWithin};
-ghost use Rattle.asound_conf.specs.Token.{token_of, tokens};
+ghost use Rattle.asound_conf.specs.Key.{named};
+ghost use Rattle.asound_conf.specs.Nesting.{parts_owed, path_of};
 
-use crate::bracket::{Awaits, Bracket};
+use crate::bracket::{Around, Awaits, Bracket};
 use crate::conf::Conf;
 use crate::error::{ConfError, ConfWhy};
 use crate::group::{meets_text, put};
-use crate::list::{Listing, extend};
+use crate::list::{Listing, take_values};
+use crate::nested::{put_group, take_group};
 use crate::part::{Part, begins, key_defect, named, push_parts};
 use crate::text::ConfText;
 use crate::token::{Mark, Token};
 use itoa::Buffer;
 use std::alloc::{AllocError, Global};
+use std::mem;
 
 /// Groups may be within each other this deep, the text's own counted.
 const DEEPEST: usize = 16;
 
-/// Where a reader of tokens is.
+/// Where a reader of tokens is. Each group that is open was taken out of the one around it, so that its items are put
+/// with no walk from the text's own group.
 #[derive(Drop)]
 pub struct Reading {
-    /// The group so far.
-    root: Conf,
-    /// The parts that lead to the place of what comes next.
+    /// The innermost group that is open, so far.
+    group: Conf,
+    /// The parts of a key that lead from there to the place of what comes next.
     path: Vec<Part>,
     /// The innermost bracket that is open, or the text itself.
     here: Bracket,
-    /// The brackets around it, the outermost first.
-    outer: Vec<Bracket>,
+    /// The brackets around it with their groups, the outermost first.
+    outer: Vec<Around>,
     /// What may come next.
     awaits: Awaits,
-}
-
-/// Takes the `!` from some parts, once it has done its work.
-fn settle(path: &mut Vec<Part>)
-    ensures { path.new.items ≡ settled path.old.items }
-{
-    for place in 0..path.len() {
-        let part = &mut path[place];
-        part.removes = false;
-    }
+    /// How many parts of keys lead to the innermost group.
+    names: usize,
+    ghost depth: { names ≡ length (path_of (reverse outer.items)) },
+    ghost room: { names ≤ 16 },
+    ghost keyed: { parts_owed awaits ≤ length path.items },
 }
 
 /// The part whose name is a number.
@@ -56,21 +50,29 @@ fn numbered(alloc: Global, number: u32) -> Result<Part, AllocError>
 }
 
 impl Reading {
+    ghost use Rattle.std.specs.Prelude.{◌+◌, ◌∷◌, [], ◌++◌, drop, IfErr, IfSome, IsTrue, Ok, ℕ, ◌<◌, ◌^◌, not, if◌then◌else◌};
+    ghost use Rattle.asound_conf.specs.Answer.{Leads};
+    ghost use Rattle.asound_conf.specs.Grammar.{at_number, close_group, close_to, equals_at, finished, meaning, misplaced, open_at, open_group, put_key, put_text, separator_at, start, step, take_mark, take_text, value_place};
+    ghost use Rattle.asound_conf.specs.Key.{key_defect, word_parts};
+    ghost use Rattle.asound_conf.specs.Listing.{IsWithin};
+    ghost use Rattle.asound_conf.specs.Reading.{Places, Reads, key_checked, state_of};
+    ghost use Rattle.asound_conf.specs.Token.{token_of, tokens};
+
     /// A reader before the first token.
     pub fn new(alloc: Global) -> Reading
         ensures { state_of result ≡ start }
     {
         Reading {
-            root: Conf::new(alloc),
+            group: Conf::new(alloc),
             path: Vec::new(alloc),
             here: Bracket {
                 line: 0,
                 array: false,
-                names: 0,
                 values: 0,
             },
             outer: Vec::new(alloc),
             awaits: Awaits::Item { separator: false },
+            names: 0,
         }
     }
 
@@ -90,8 +92,9 @@ impl Reading {
 
     /// Goes to where a value is put, and says whether one can come: behind a key, or within `[ ]`.
     fn go_to_value(&mut self, alloc: Global) -> Result<bool, ConfWhy>
-        ensures { Places result (state_of self.old) (state_of self.new)
+        ensures place { Places result (state_of self.old) (state_of self.new)
             (value_place (state_of self.old) self.old.awaits self.old.here.array) }
+        ensures key { IfOk result (λ can. IsTrue can → 1 ≤ length self.new.path.items) }
     {
         if let Awaits::Value { .. } = self.awaits {
             return Ok(true);
@@ -105,28 +108,30 @@ impl Reading {
 
     /// Puts a text at its place.
     fn put_text(&mut self, alloc: Global, text: &[u8]) -> Result<(), ConfWhy>
+        requires { 1 ≤ length self.old.path.items }
         ensures { Leads result (state_of self.new) (put_text (state_of self.old) text.now) }
     {
         let text = ConfText::copied(alloc, text)?;
-        put(alloc, &mut self.root, self.path.as_slice(), Some(text))?;
-        self.path.truncate(self.here.names);
+        let answer = put(alloc, &mut self.group, self.path.as_slice(), Some(text));
         self.awaits = Awaits::Item { separator: true };
-        Ok(())
+        self.path.clear();
+        answer
     }
 
     /// Takes the key whose parts are the last of the path, behind the first `from` of it.
     fn check_key(&mut self, from: usize) -> Result<(), ConfWhy>
-        requires { from ≤ length self.old.path.items }
+        requires within { from ≤ length self.old.path.items }
+        requires key { 1 ≤ length self.old.path.items }
         ensures { Leads result (state_of self.new)
             (key_checked (state_of self.old) (key_defect (drop from self.old.path.items))) }
     {
         if let Some(why) = key_defect(&self.path.as_slice()[from..]) {
             return Err(why);
         }
-        if self.path.len() > DEEPEST {
+        if self.path.len() > DEEPEST - self.names {
             return Err(ConfWhy::Deep);
         }
-        if meets_text(&self.root, self.path.as_slice()) {
+        if meets_text(&self.group, self.path.as_slice()) {
             return Err(ConfWhy::Kind);
         }
         self.awaits = Awaits::Value { equals: true };
@@ -180,21 +185,30 @@ impl Reading {
 
     /// Opens a group or an array at its place.
     fn open_group(&mut self, alloc: Global, line: u32, array: bool) -> Result<(), ConfWhy>
+        requires { 1 ≤ length self.old.path.items }
         ensures { Leads result (state_of self.new) (open_group (state_of self.old) line array) }
     {
-        if self.path.len() >= DEEPEST {
+        let count = self.path.len();
+        if count >= DEEPEST - self.names {
             return Err(ConfWhy::Deep);
         }
-        put(alloc, &mut self.root, self.path.as_slice(), None)?;
-        settle(&mut self.path);
-        self.outer.push(self.here)?;
+        let inner = match take_group(alloc, &mut self.group, self.path.as_slice()) {
+            Ok(inner) => inner,
+            Err(why) => return Err(why),
+        };
+        self.awaits = Awaits::Item { separator: false };
+        let around = Around {
+            bracket: self.here,
+            group: mem::replace(&mut self.group, inner),
+            parts: mem::replace(&mut self.path, Vec::new(alloc)),
+        };
+        self.outer.push(around)?;
+        self.names += count;
         self.here = Bracket {
             line,
             array,
-            names: self.path.len(),
             values: 0,
         };
-        self.awaits = Awaits::Item { separator: false };
         Ok(())
     }
 
@@ -210,8 +224,26 @@ impl Reading {
         }
     }
 
+    /// Goes to what is around the innermost group, which is put there again.
+    fn leave(&mut self, alloc: Global) -> Result<(), ConfWhy>
+        ensures { Leads result (state_of self.new)
+            (close_to (state_of self.old) (state_of self.old).outer) }
+    {
+        let Some(around) = self.outer.pop() else {
+            return Err(ConfWhy::Close);
+        };
+        self.names -= around.parts.len();
+        self.awaits = Awaits::Item { separator: true };
+        let inner = mem::replace(&mut self.group, around.group);
+        put_group(alloc, &mut self.group, around.parts.as_slice(), inner)?;
+        self.here = around.bracket;
+        self.path = around.parts;
+        self.path.clear();
+        Ok(())
+    }
+
     /// Takes a mark that closes a group, or an array.
-    fn close(&mut self, array: bool) -> Result<(), ConfWhy>
+    fn close(&mut self, alloc: Global, array: bool) -> Result<(), ConfWhy>
         ensures { Leads result (state_of self.new) (close_group (state_of self.old) self.old.awaits
             (if array then self.old.here.array else not self.old.here.array)) }
     {
@@ -221,13 +253,7 @@ impl Reading {
         if self.here.array != array {
             return Err(ConfWhy::Close);
         }
-        let Some(around) = self.outer.pop() else {
-            return Err(ConfWhy::Close);
-        };
-        self.path.truncate(around.names);
-        self.here = around;
-        self.awaits = Awaits::Item { separator: true };
-        Ok(())
+        self.leave(alloc)
     }
 
     /// What a mark is that has no place here.
@@ -276,8 +302,8 @@ impl Reading {
         match mark {
             Mark::OpenBrace => self.open(alloc, line, false),
             Mark::OpenBracket => self.open(alloc, line, true),
-            Mark::CloseBrace => self.close(false),
-            Mark::CloseBracket => self.close(true),
+            Mark::CloseBrace => self.close(alloc, false),
+            Mark::CloseBracket => self.close(alloc, true),
             Mark::Equals => self.equals(),
             Mark::Comma | Mark::Semicolon => self.separator(),
         }
@@ -309,7 +335,7 @@ impl Reading {
         let Awaits::Item { separator } = self.awaits else {
             return None;
         };
-        if !self.here.array || self.path.len() != self.here.names {
+        if !self.here.array || !self.path.is_empty() {
             return None;
         }
         Some(Listing {
@@ -317,6 +343,7 @@ impl Reading {
             rest: text,
             values: self.here.values,
             separator,
+            shallow: self.names + 1 < DEEPEST,
         })
     }
 
@@ -338,7 +365,7 @@ impl Reading {
         let Some(from) = self.listing(line, text) else {
             return Ok((line, text));
         };
-        let to = extend(alloc, &mut self.root, self.path.as_slice(), from)?;
+        let to = take_values(alloc, &mut self.group, from)?;
         self.here.values = to.values;
         self.awaits = Awaits::Item {
             separator: to.separator,
@@ -348,7 +375,7 @@ impl Reading {
 
     /// The group at the text's end, whose last line has this number.
     pub fn finish(self, last_line: u32) -> Result<Conf, ConfError>
-        ensures { Reads result (finished (state_of self) last_line (reverse self.outer.items) self.awaits) }
+        ensures { Reads result (finished (state_of self) last_line (state_of self).outer self.awaits) }
     {
         if !self.outer.is_empty() {
             return Err(ConfError {
@@ -362,6 +389,6 @@ impl Reading {
                 why: ConfWhy::Value,
             });
         }
-        Ok(self.root)
+        Ok(self.group)
     }
 }

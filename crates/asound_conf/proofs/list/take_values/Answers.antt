@@ -1,4 +1,4 @@
-use Rattle.std.proofs.Common.{arith, ap, length}
+use Rattle.std.proofs.Common.{arith}
 use Rattle.asound_conf.proofs.Listings.{GoesOn-more, GoesOn-none}
 use Rattle.asound_conf.proofs.list.take_values.Goals as goal
 
@@ -12,5 +12,5 @@ loop-lexeme-preserved c =
     let leads = rw c.in-Ok-Some.field-0-is at c.in-Ok-Some.ensures in
     rw c.in-Ok-Some.field-0-is (record {
       on = GoesOn-more c.args.group.now c.loop-lexeme.group c.take_one.new.group c.args.from at c.in-Ok-Some.next lexeme c.loop-lexeme.invariant.on c.in-Some.ensures.some leads;
-      bound = omega (arith, leads.line, ap length leads.rest, c.in-Some.ensures.shorter, c.loop-lexeme.invariant.bound);
+      bound = omega (arith, leads.bound, c.in-Some.ensures.shorter, c.loop-lexeme.invariant.bound);
     })

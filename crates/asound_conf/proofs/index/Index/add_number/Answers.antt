@@ -1,6 +1,5 @@
-use Rattle.std.proofs.Common.{◌≡◌, ◌+◌, ◌<◌, ◌^◌, length, arith}
+use Rattle.std.proofs.Common.{◌+◌, arith}
 use Rattle.asound_conf.specs.declared.index.Index.TheVariants.{Numbers}
-use Rattle.asound_conf.specs.Index.{IsIndex}
 use Rattle.asound_conf.proofs.Indexes.{IsIndex-along, IsIndex-Numbers_more, IsIndex-Numbers_push, has-Numbers}
 use Rattle.asound_conf.proofs.Numerals.{number_named-decimal}
 use Rattle.std.specs.Fmt.{decimal}
