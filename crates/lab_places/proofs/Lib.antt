@@ -3,6 +3,7 @@ pub mod Attaching
 pub mod Claiming
 pub mod Closing
 pub mod Fresh
+pub mod Laying
 pub mod Least
 pub mod Opening
 pub mod Starting

@@ -1,5 +1,6 @@
 pub mod Held
 pub mod HeldLaws
 pub mod Holdings
+pub mod Laid
 pub mod OwnedLaws
 pub mod StageLaws

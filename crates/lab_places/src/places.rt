@@ -35,7 +35,7 @@ impl<'a> Places<'a> {
     ghost use Rattle.sum_table.specs.Players.{player_key, player_ring, position_of_player};
     ghost use Rattle.sum_table.specs.Seats.{key_of, places_of_seat, ring_of, view_of};
     ghost use Rattle.lobby.specs.Loads.{PlayerStays};
-    ghost use Rattle.lobby.specs.Lobbies.{reaped_of};
+    ghost use Rattle.lobby.specs.Lobbies.{free_seats, reaped_of};
     ghost use Rattle.dshare.specs.Owners.{Row};
     ghost use Rattle.dshare.specs.Shared.{AreOfCard, StandsFor};
     ghost use Rattle.lab_run.specs.Items.{Held};
@@ -44,6 +44,7 @@ impl<'a> Places<'a> {
     ghost use Rattle.lab_run.specs.PortSteps.{last_from};
     ghost use Rattle.lobby.specs.Seats.{last_of};
     ghost use Rattle.lab_places.specs.Held.{AttachesAt, CanClose, CanRelease, Closes, IsClaimed, IsGiven, IsHeldBy, IsLobby, IsSameCard, IsSameLobby, Opens, key_of_places, lobby_of, new_held, ring_of_places, share_of, shares_of};
+    ghost use Rattle.lab_places.specs.Laid.{IsLaidWith, IsUnlaid, KeepsLaid};
 
     /// The places of a new ring, by the seat that has all of them, each free, and the channels of its card. The caller shows
     /// that nothing was laid by the seat.
@@ -58,6 +59,7 @@ impl<'a> Places<'a> {
         ensures share { IfOk result (λ places. share_of places ≡ share) }
         ensures channels { IfOk result
             (λ places. (shares_of places).channels ≡ (key_of seat.entry).geometry.channels) }
+        ensures laid { IfOk result (λ places. IsUnlaid (free_seats (lobby_of places))) }
         ensures only_memory { IfErr result (λ e. e ≡ PcmError.Memory) }
     {
         let channels = seat.geometry().channels;
@@ -88,6 +90,7 @@ impl<'a> Places<'a> {
         ensures opens { (number : ℕ) (held : Held) → IsHeldBy self.old held
             → Opens (share_of self.old) number bindings.now (position_of_player player.old) held result self.new }
         ensures given { IfOk result (IsGiven self.old (position_of_player player.old)) }
+        ensures laid { KeepsLaid (free_seats (lobby_of self.old)) result (free_seats (lobby_of self.new)) }
         ensures player { PlayerStays player.old player.new }
         ensures card { IsSameCard self.old self.new }
         ensures reaped { reaped_of (lobby_of self.new) ≡ reaped_of (lobby_of self.old) }
@@ -119,6 +122,8 @@ impl<'a> Places<'a> {
         requires can { CanClose self.old seat bindings.now }
         ensures closes { (number : ℕ) (held : Held) → IsHeldBy self.old held
             → Closes (share_of self.old) number bindings.now opened_at seat.entry held self.new }
+        ensures laid { IsLaidWith (free_seats (lobby_of self.old)) seat.entry
+            (free_seats (lobby_of self.new)) }
         ensures card { IsSameCard self.old self.new }
         ensures reaped { reaped_of (lobby_of self.new) ≡ reaped_of (lobby_of self.old) }
     {
@@ -133,6 +138,8 @@ impl<'a> Places<'a> {
         requires can { CanClose self.old seat bindings.now }
         ensures closes { (number : ℕ) (held : Held) → IsHeldBy self.old held
             → Closes (share_of self.old) number bindings.now opened_at seat.entry held self.new }
+        ensures laid { IsLaidWith (free_seats (lobby_of self.old)) seat.entry
+            (free_seats (lobby_of self.new)) }
         ensures card { IsSameCard self.old self.new }
         ensures reaped { reaped_of (lobby_of self.new)
             ≡ min (reaped_of (lobby_of self.old) + 1) 4294967295 }
@@ -194,6 +201,7 @@ impl<'a> Places<'a> {
         ensures attaches { (number : ℕ) (lobby : runs.Lobby) → IsLobby self.old lobby
             → AttachesAt number (position_of_player player.old) lobby result self.new }
         ensures given { IfOk result (IsGiven self.old (position_of_player player.old)) }
+        ensures laid { KeepsLaid (free_seats (lobby_of self.old)) result (free_seats (lobby_of self.new)) }
         ensures player { PlayerStays player.old player.new }
         ensures same { IsSameCard self.old self.new }
         ensures shares { shares_of self.new ≡ shares_of self.old }

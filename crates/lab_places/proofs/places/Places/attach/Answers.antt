@@ -1,9 +1,11 @@
 use Rattle.std.proofs.Common.{Err, Ok, refl}
 use Rattle.sum_table.specs.Players.{position_of_player}
+use Rattle.lobby.specs.Lobbies.{free_seats}
 use Rattle.lobby.specs.Loads.{HasLoadedBeside}
 use Rattle.lab_places.specs.Held.{lobby_of}
 use Rattle.lab_places.proofs.Attached.{attaches-met, attaches-refused, free-given, given-is}
 use Rattle.lab_places.proofs.Attaching.{lobby-attaches}
+use Rattle.lab_places.proofs.Laying.{laid-attached, laid-met}
 use Rattle.lab_places.proofs.places.Places.attach.Goals as goal
 
 pub returns-in-Ok-clause-attaches : goal.returns-in-Ok-clause-attaches
@@ -25,3 +27,15 @@ returns-in-Err-clause-attaches c number lobby is =
     attaches-refused number (position_of_player c.args.player.now) lobby c.in-Err.e _
     (lobby-attaches (λ x s t. HasLoadedBeside c.args.player.now s c.attach_beside.new.player t x) number (position_of_player c.args.player.now) lobby
     (lobby_of c.args.self.now) c.attach_beside.new.self (Err c.in-Err.e) is.places is.seen (λ none. let came = c.in-Err.ensures.none_free none in (came.0, came.1)) c.in-Err.ensures.free c.in-Err.ensures.published_last)
+
+pub returns-in-Ok-clause-laid : goal.returns-in-Ok-clause-laid
+returns-in-Ok-clause-laid c =
+    laid-met c.attach_beside.new.player c.meet_player.new.player (free_seats (lobby_of c.args.self.now)) (free_seats c.attach_beside.new.self) c.in-Ok.seat c.meet_player.new.seat
+    c.meet_player.ensures
+    (laid-attached (λ x s t. HasLoadedBeside c.args.player.now s c.attach_beside.new.player t x) (lobby_of c.args.self.now) c.attach_beside.new.self (Ok c.in-Ok.seat)
+    (λ none. let came = c.in-Ok.ensures.none_free none in (came.0, came.1)) c.in-Ok.ensures.free)
+
+pub returns-in-Err-clause-laid : goal.returns-in-Err-clause-laid
+returns-in-Err-clause-laid c =
+    laid-attached (λ x s t. HasLoadedBeside c.args.player.now s c.attach_beside.new.player t x) (lobby_of c.args.self.now) c.attach_beside.new.self (Err c.in-Err.e)
+    (λ none. let came = c.in-Err.ensures.none_free none in (came.0, came.1)) c.in-Err.ensures.free
