@@ -33,6 +33,26 @@ HasWalked-next {X = X} R xs ys to y inside so_far step = record {
   others = λ i d from. get_or-set_other ys to i y d (λ is. omega (arith, from, is)) ∙ so_far.others i d (omega (arith, from));
 }
 
+-- an item of a list, whatever the default
+get_or-any : {X : Type 0} (xs : List X) (i : ℕ) (d e : X) → i < length xs → slice_index_or xs i d ≡ slice_index_or xs i e
+get_or-any [] i d e inside = absurd (omega (arith, inside))
+get_or-any (x ∷ xs) zero d e inside = refl
+get_or-any (x ∷ xs) (suc i) d e inside = get_or-any xs i d e (omega (arith, inside))
+
+-- the item at a place, which is as before, became another one
+pub HasWalked-step : {X : Type 0} (R : ℕ → X → X → Type 0) (xs ys : List X) (to : ℕ) (y e : X) → to < length xs → HasWalked R xs ys to → R to (slice_index_or ys to e) y
+    → HasWalked R xs (slice_set ys to y) (to + 1)
+HasWalked-step R xs ys to y e inside so_far step =
+    HasWalked-next R xs ys to y inside so_far (λ d. subst (λ x. R to x y) (so_far.others to e (omega arith) ∙ get_or-any xs to e d inside) step)
+
+-- a relation that follows from another at the places so far
+pub HasWalked-map : {X : Type 0} (R T : ℕ → X → X → Type 0) (xs ys : List X) (to : ℕ) → ((i : ℕ) (x y : X) → i < to → R i x y → T i x y) → HasWalked R xs ys to → HasWalked T xs ys to
+HasWalked-map R T xs ys to then so_far = record {
+  len = so_far.len;
+  each = λ i d below inside. then i (slice_index_or xs i d) (slice_index_or ys i d) below (so_far.each i d below inside);
+  others = so_far.others;
+}
+
 -- a walk to the end, from a number on
 pub AreEach-from : {X : Type 0} (R : ℕ → X → X → Type 0) (number : ℕ) (xs ys : List X) → length ys ≡ length xs
     → ((i : ℕ) (d : X) → i < length xs → R (number + i) (slice_index_or xs i d) (slice_index_or ys i d)) → AreEach R number xs ys
