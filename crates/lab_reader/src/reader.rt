@@ -3,6 +3,7 @@ ghost use Rattle.std.specs.Prelude.{◌≡◌, ◌≢◌, ◌++◌, ◌<◌, ◌
 ghost use Rattle.lab_script.specs.declared.line.Line.{Line};
 ghost use Rattle.lab_run.specs.Items.{is_reader_stopped};
 ghost use Rattle.lab_run.specs.LabRun.{runs_of};
+ghost use Rattle.lab_run.specs.Reader.{row_by};
 ghost use Rattle.lab_run.specs.Stage.{opened_reader};
 ghost use Rattle.lab_actor.specs.ReaderLines.{IsFewRead};
 ghost use Rattle.lab_actor.specs.Room.{HasSpace};
@@ -17,10 +18,11 @@ use card_sim::Card;
 use dsnoop_client::Reader;
 use lab_actor::{FrameRuns, ReaderActor, line_count, refuse_lines};
 use lab_card::{hear_reader, inform_reader};
-use lab_report::Row;
-use lab_script::{Actor, Line};
+use lab_report::{Answer, Row};
+use lab_script::{Actor, Line, Op};
 use lab_setup::Opening;
 use mix_core::Gate;
+use pcm_states::State;
 use snd_base::{Geometry, PcmError};
 use snoop_core::SnoopPort;
 use snoop_table::ReaderSeat;
@@ -107,11 +109,36 @@ impl<'r> LabReader<'r> {
         self.actor.rows.as_slice()
     }
 
+    /// The row of a line of it that isn't in a phase, as it is after the line: an opening or a closing.
+    pub fn row(&self, phase: u32, op: Op, answer: Answer) -> Row
+        ensures { result ≡ row_by phase (number_of self.now) op (reader_in self.now).own answer }
+    {
+        let (state, seen) = match &self.seat {
+            Some(_) => (self.actor.reader.state(), self.actor.reader.seen()),
+            None => (State::Open, None),
+        };
+        Row {
+            phase,
+            actor: Actor::Reader(self.actor.number),
+            op,
+            answer,
+            state,
+            seen,
+        }
+    }
+
     /// All samples that it read, interleaved.
     pub fn samples(&self) -> &[i16]
         ensures { result.now ≡ (actor_of self.now).samples.items }
     {
         self.actor.samples.as_slice()
+    }
+
+    /// All samples that it read, interleaved. Its seat, where it is open, is let go.
+    pub fn into_samples(self) -> Vec<i16>
+        ensures { result ≡ (actor_of self.entry).samples }
+    {
+        self.actor.samples
     }
 
     /// All frames that it read, as runs: each by its first frame and how many frames it has. They are the runs that a report has
