@@ -1,0 +1,314 @@
+-- The clients at the beginning of a run, and at its end.
+use Rattle.std.specs.Prelude.{◌≡◌, ℕ, zero, suc, ◌+◌, ◌<◌, ◌≤◌, ◌+ℤ◌, ℤ, pos, true, false, List, [], ◌∷◌, ◌++◌, length, map, is_none, is_some, Option, Some, None, slice_index_or}
+use Rattle.std.specs.List.{AllByRecursion, flat_map}
+use Rattle.std.proofs.Common.{refl, sym, ◌∙◌, ap, subst, take, arith, inl, inr}
+use Rattle.std.proofs.lemmas.Bool.{cases_eq, cases_lt, false≢true}
+use Rattle.std.proofs.lemmas.Bool.Decides.{nat_tests}
+use Rattle.std.proofs.lemmas.Int.{ints}
+use Rattle.std.proofs.lemmas.List.{append-nil, length-map, take_more}
+use Rattle.std.proofs.lemmas.List.Concat.{flat_map-append}
+use Rattle.std.proofs.lemmas.List.Elements.{All-from_recursion}
+use Rattle.snd_base.specs.Places as rings
+use Rattle.snd_base.specs.declared.geometry.Geometry.{Geometry}
+use Rattle.mix_core.specs.declared.port.Entry.{Entry}
+use Rattle.mix_core.specs.HistoryLaws.{total-append}
+use Rattle.mix_core.specs.Laid.{total}
+use Rattle.mix_core.specs.Marks.{high_frame}
+use Rattle.sum_table.specs.declared.seats.mix.MixSeat.{MixSeat}
+use Rattle.sum_table.specs.declared.view.Key.{Key}
+use Rattle.sum_table.specs.Known.{greater, last_frame}
+use Rattle.sum_table.specs.Seats.{TableId, key_of, places_of_seat, view_of}
+use Rattle.lobby.specs.Lobbies.{free_seats, laid_by_all}
+use Rattle.lobby.specs.Seats.{AreFree}
+use Rattle.dmix_client.specs.declared.plain.Plain.{Plain}
+use Rattle.lab_script.specs.declared.script.Share.{Share}
+use Rattle.lab_script.specs.Script.{first_frame}
+use Rattle.lab_run.specs.Client.{Client, segments_of}
+use Rattle.lab_run.specs.Items.{Held, held_of, held_without}
+use Rattle.lab_run.specs.LabRun.{all_segments, entries_of, numbered}
+use Rattle.lab_run.specs.Places.{Place, is_free, is_held_by, left_place}
+use Rattle.lab_run.specs.Rules.{AtPort}
+use Rattle.lab_run.specs.Stage.{Session, Setup, ended_client, first_stage, new_port, no_client}
+use Rattle.lab_places.specs.Held.{AreAtPlaces, HoldsNone, IsHeldBy, key_of_places, lobby_of, new_held, ring_of_places, share_of, shares_of}
+use Rattle.lab_places.specs.Holdings.{AreHeld-new, Holding, Holdings}
+use Rattle.lab_actors.specs.Walks.{AreEach}
+use Rattle.lab_client.specs.declared.client.LabClient.{LabClient}
+use Rattle.lab_client.specs.declared.open_client.OpenClient.{OpenClient}
+use Rattle.lab_client.specs.Clients.{IsAt, client_by, client_in, ended_of, open_of}
+use Rattle.lab_client.specs.OpeningLaws.{IsAt-closed}
+use Rattle.lab_clients.specs.declared.clients.LabClients.{LabClients}
+use Rattle.lab_clients.specs.AtStage.{AreAt, IsClientAt, IsNewCardOf, IsSetUp, clients_of, holding_by, laid_for, laid_free, laid_open, places_of}
+use Rattle.lab_clients.specs.End.{AreNewClients, HasEnded, IsNewClient, segments_by}
+use Rattle.lab_clients.specs.Exchanged.{all_segments-set}
+use Rattle.lab_clients.specs.Opening.{AreOfRun, IsClosedAt, client_among, clients_but, held_but, open_at}
+use Rattle.lab_clients.specs.Steps.{sound_at}
+use Rattle.lab_clients.proofs.OpenAt.{open_at-past}
+
+-- ---- the beginning
+
+-- one more client that was never open
+pub AreNewClients-more : (number : ℕ) (ds : List LabClient) (d : LabClient) → AreNewClients number ds → IsNewClient (number + length ds) d → AreNewClients number (ds ++ d ∷ [])
+AreNewClients-more number [] d are new = (subst (λ n. IsNewClient n d) (omega arith) new, tt)
+AreNewClients-more number (first ∷ ds) d are new =
+    (are.0, AreNewClients-more (number + 1) ds d are.1 (subst (λ n. IsNewClient n d) (omega arith) new))
+
+-- a client without a stream isn't open
+none-open : (d : LabClient) → (client_in d).own ≡ None → open_of d ≡ None
+none-open d is = by_open (open_of d) is
+  where
+    by_open : (o : Option OpenClient) → (client_by (ended_of d) o).own ≡ None → o ≡ None
+    by_open None is = refl
+    by_open (Some o) is = absurd (cc)
+
+-- nobody holds anything
+abbrev no_holdings : ℕ → Option Holding
+no_holdings n = None
+
+module _ (session : Session) (ring : TableId) (key : Key) (ring_is : key.geometry ≡ session.ring) where
+  -- it is a client of a run that was never open
+  IsClientAt-new : (number : ℕ) (d : LabClient) → IsNewClient number d → IsClientAt session ring key no_holdings number d (no_client session.ring)
+  IsClientAt-new number d new =
+      let closed = none-open d (ap (λ (c : Client). c.own) new.client) in
+      record {
+        is = record {
+          numbered = new.numbered;
+          client = new.client;
+          last = None;
+          at = subst (λ (g : Geometry). IsAt ring key (sound_at session.sounds number) None d (new_port g 0)) ring_is
+              (IsAt-closed ring key (sound_at session.sounds number) None d 0 closed);
+          holds = ap (holding_by None) (sym closed);
+          setup = subst (IsSetUp (slice_index_or session.clients number None)) (sym closed) tt;
+        };
+        goes = refl;
+        rows = new.rows;
+      }
+
+  AreEach-new : (number : ℕ) (ds : List LabClient) (setups : List (Option Setup)) → length setups ≡ length ds → AreNewClients number ds
+      → AreEach (IsClientAt session ring key no_holdings) number ds (map (λ setup. no_client session.ring) setups)
+  AreEach-new number [] [] len are = tt
+  AreEach-new number [] (setup ∷ setups) len are = absurd (omega (arith, len))
+  AreEach-new number (d ∷ ds) [] len are = absurd (omega (arith, len))
+  AreEach-new number (d ∷ ds) (setup ∷ setups) len are = (IsClientAt-new number d are.0, AreEach-new (number + 1) ds setups (omega (arith, len)) are.1)
+
+-- nothing was laid for clients that were never open, and they have no segments
+laid_open-new : (number : ℕ) (ds : List LabClient) (f k : ℕ) → AreNewClients number ds → laid_open ds f k ≡ pos 0
+laid_open-new number [] f k are = refl
+laid_open-new number (d ∷ ds) f k are =
+    let closed : laid_for (open_of d) f k ≡ pos 0 = ap (λ (o : Option OpenClient). laid_for o f k) (none-open d (ap (λ (c : Client). c.own) are.0.client)) in
+    let more = laid_open-new (number + 1) ds f k are.1 in
+    omega (arith, ints, closed, more)
+
+numbered-none : (ring : Geometry) (number : ℕ) (setups : List (Option Setup))
+    → numbered (λ (client : AtPort × Client). segments_of client.1) number (map (λ setup. no_client ring) setups) ≡ []
+numbered-none ring number [] = refl
+numbered-none ring number (setup ∷ setups) = numbered-none ring (number + 1) setups
+
+-- a seat without a last frame laid nothing, so the seats of a new card's places laid nothing
+laid-none : (es : List Entry) → last_frame es ≡ None → es ≡ []
+laid-none [] is = refl
+laid-none (e ∷ es) is = by_last (last_frame es) is
+  where
+    by_last : (last : Option ℕ) → greater (Some e.frame) last ≡ None → e ∷ es ≡ []
+    by_last None is = absurd (cc)
+    by_last (Some frame) is = absurd (cc)
+
+laid_free-new : (seats : List (Option MixSeat)) (places first : ℕ) (f k : ℕ) → AreAtPlaces seats (new_held places first).lobby.places → laid_free seats f k ≡ pos 0
+laid_free-new [] places first f k at = refl
+laid_free-new (seat ∷ seats) zero first f k at = absurd at
+laid_free-new (None ∷ seats) (suc places) first f k at = let more = laid_free-new seats places first f k at.1 in omega (arith, ints, more)
+laid_free-new (Some s ∷ seats) (suc places) first f k at =
+    let more = laid_free-new seats places first f k at.1 in
+    let here : total (view_of s).laid f k ≡ pos 0 = ap (λ (es : List Entry). total es f k) (laid-none (view_of s).laid (sym at.0.1)) in
+    omega (arith, ints, here, more)
+
+-- The clients of a new card are those of a run before its first item.
+pub AreAt-new : (session : Session) (seat : MixSeat) (sharing : Share) (count : ℕ) (cs : LabClients) → IsNewCardOf session seat sharing → length session.clients ≡ count
+    → IsHeldBy (places_of cs) (new_held (places_of_seat seat) (rings.first_frame (key_of seat).geometry)) → key_of_places (places_of cs) ≡ key_of seat → share_of (places_of cs) ≡ sharing
+    → (shares_of (places_of cs)).channels ≡ (key_of seat).geometry.channels → AreNewClients 0 (clients_of cs) → length (clients_of cs) ≡ count
+    → AreAt session (held_of (first_stage session)) (first_stage session).clients cs
+AreAt-new session seat sharing count cs card setups held_by key_is share_is channels_is new len =
+    let ring_is : (key_of_places (places_of cs)).geometry ≡ session.ring = ap (λ (key : Key). key.geometry) key_is ∙ card.ring in
+    let held_is : new_held (places_of_seat seat) (rings.first_frame (key_of seat).geometry) ≡ held_of (first_stage session) =
+    ap (λ n. new_held n (rings.first_frame (key_of seat).geometry)) card.places
+    ∙ ap (new_held session.card.places) (ap rings.first_frame card.ring ∙ sym card.first) in
+    record {
+      card = record {
+        setups = card.setups;
+        ring = ring_is;
+        share = share_is ∙ card.share_is;
+        channels = channels_is ∙ ap (λ (g : Geometry). g.channels) card.ring;
+      };
+      holdings = no_holdings;
+      held_by = subst (IsHeldBy (places_of cs)) held_is held_by;
+      are_held = AreHeld-new (share_of (places_of cs)) session.card.places (first_frame session.card) no_holdings (λ n. refl);
+      no_others = λ n past. refl;
+      each = AreEach-new session (ring_of_places (places_of cs)) (key_of_places (places_of cs)) ring_is 0 (clients_of cs) session.clients (setups ∙ sym len) new;
+      reported = λ f k.
+          let free = laid_free-new (free_seats (lobby_of (places_of cs))) (places_of_seat seat) (rings.first_frame (key_of seat).geometry) f k held_by.lobby.places in
+          let open_ones = laid_open-new 0 (clients_of cs) f k new in
+          let none : total (entries_of session (all_segments (first_stage session).clients)) f k ≡ pos 0 =
+          ap (λ segments. total (entries_of session segments) f k) (numbered-none session.ring 0 session.clients) in
+          omega (arith, ints, free, open_ones, none);
+    }
+
+-- ---- the segments
+
+-- those of the clients are those of the run
+flat_map-segments : (session : Session) (ring : TableId) (key : Key) (holdings : Holdings) (number : ℕ) (ds : List LabClient) (xs : List (AtPort × Client))
+    → AreEach (IsClientAt session ring key holdings) number ds xs → flat_map segments_by ds ≡ numbered (λ (client : AtPort × Client). segments_of client.1) number xs
+flat_map-segments session ring key holdings number [] [] are = refl
+flat_map-segments session ring key holdings number [] (x ∷ xs) are = absurd are
+flat_map-segments session ring key holdings number (d ∷ ds) [] are = absurd are
+flat_map-segments session ring key holdings number (d ∷ ds) (x ∷ xs) are =
+    ap (λ n. map (λ segment. (n, segment)) (segments_of (client_in d)) ++ flat_map segments_by ds) are.0.is.numbered
+    ∙ (ap (λ (c : Client). map (λ segment. (number, segment)) (segments_of c) ++ flat_map segments_by ds) are.0.is.client
+    ∙ ap (λ more. map (λ segment. (number, segment)) (segments_of x.1) ++ more) (flat_map-segments session ring key holdings (number + 1) ds xs are.1))
+
+pub all_segments-listed : (session : Session) (held : Held) (xs : List (AtPort × Client)) (cs : LabClients) → AreAt session held xs cs
+    → flat_map segments_by (clients_of cs) ≡ all_segments xs
+all_segments-listed session held xs cs are =
+    flat_map-segments session (ring_of_places (places_of cs)) (key_of_places (places_of cs)) are.holdings 0 (clients_of cs) xs are.each
+
+-- those of one client more, and of all
+pub segments-more : (ds : List LabClient) (i : ℕ) (d : LabClient) → i < length ds → d ≡ slice_index_or ds i d
+    → flat_map segments_by (take (i + 1) ds) ≡ flat_map segments_by (take i ds) ++ segments_by d
+segments-more ds i d inside is =
+    ap (flat_map segments_by) (take_more ds i d inside)
+    ∙ (flat_map-append segments_by (take i ds) (slice_index_or ds i d ∷ [])
+    ∙ (ap (λ (e : LabClient). flat_map segments_by (take i ds) ++ flat_map segments_by (e ∷ [])) (sym is)
+    ∙ ap (λ more. flat_map segments_by (take i ds) ++ more) (append-nil (segments_by d))))
+
+pub take-past : (ds : List LabClient) (n : ℕ) → length ds ≤ n → take n ds ≡ ds
+take-past [] zero past = refl
+take-past [] (suc n) past = refl
+take-past (d ∷ ds) zero past = absurd (omega (arith, past))
+take-past (d ∷ ds) (suc n) past = ap (λ more. d ∷ more) (take-past ds n (omega (arith, past)))
+
+-- ---- clients are closed
+
+-- before any is
+pub HasEnded-none : (session : Session) (held : Held) (xs : List (AtPort × Client)) (cs : LabClients) → AreAt session held xs cs → HasEnded session held xs cs
+HasEnded-none session held xs cs are = record { then_held = held; ys = xs; are = are; segments = refl; places = refl }
+
+length-held_but : (session : Session) (held : Held) (xs : List (AtPort × Client)) (number : ℕ) → length (held_but session held xs number).lobby.places ≡ length held.lobby.places
+length-held_but session held xs number = by_own (client_among session xs number).1.own
+  where
+    by_own : (own : Option Plain) → length (held_without session number (client_among session xs number).0 own held).lobby.places ≡ length held.lobby.places
+    by_own None = refl
+    by_own (Some c) = length-map held.lobby.places (left_place number (high_frame session.ring (client_among session xs number).0.marks))
+
+-- and after one more is
+pub HasEnded-more : (session : Session) (held : Held) (xs : List (AtPort × Client)) (number : ℕ) (cs ds : LabClients)
+    → ((at : Held) (ys : List (AtPort × Client)) → AreAt session at ys cs → AreAt session (held_but session at ys number) (clients_but session ys number) ds)
+    → HasEnded session held xs cs → HasEnded session held xs ds
+HasEnded-more session held xs number cs ds closes has = record {
+  then_held = held_but session has.then_held has.ys number;
+  ys = clients_but session has.ys number;
+  are = closes has.then_held has.ys has.are;
+  segments = all_segments-set has.ys number (ended_client session.ring (client_among session has.ys number)) (no_client session.ring)
+      (append-nil (segments_of (client_among session has.ys number).1))
+      ∙ has.segments;
+  places = length-held_but session has.then_held has.ys number ∙ has.places;
+}
+
+-- they are those of a run still
+pub AreOfRun-ended : (cs ds : LabClients) (run : AreOfRun cs) → HasEnded run.session run.held run.xs ds → AreOfRun ds
+AreOfRun-ended cs ds run has = record { session = run.session; held = has.then_held; xs = has.ys; are = has.are }
+
+-- the clients below a number are closed, after one more is, or isn't open
+pub AllClosed-more : (cs ds : LabClients) (number : ℕ) → IsClosedAt number (clients_of cs) (clients_of ds) → ((n : ℕ) → n < number → open_at (clients_of cs) n ≡ None)
+    → (n : ℕ) → n < number + 1 → open_at (clients_of ds) n ≡ None
+AllClosed-more cs ds number closed below n within = elim (cases_eq n number) [
+  | inl here ↦ ap (open_at (clients_of ds)) here ∙ closed.own
+  | inr other ↦ closed.others n other ∙ below n (omega (arith, within, other))
+]
+
+pub AllClosed-still : (cs : LabClients) (number : ℕ) → open_at (clients_of cs) number ≡ None → ((n : ℕ) → n < number → open_at (clients_of cs) n ≡ None)
+    → (n : ℕ) → n < number + 1 → open_at (clients_of cs) n ≡ None
+AllClosed-still cs number here below n within = elim (cases_eq n number) [
+  | inl same ↦ ap (open_at (clients_of cs)) same ∙ here
+  | inr other ↦ below n (omega (arith, within, other))
+]
+
+pub AllClosed-past : (cs : LabClients) (number : ℕ) → length (clients_of cs) ≤ number → ((n : ℕ) → n < number → open_at (clients_of cs) n ≡ None) → (n : ℕ) → open_at (clients_of cs) n ≡ None
+AllClosed-past cs number all below n = elim (cases_lt n number) [
+  | inl within ↦ below n within
+  | inr past ↦ open_at-past (clients_of cs) n (omega (arith, all, past))
+]
+
+-- ---- the end
+
+-- where nobody is open, nobody holds anything
+none-held : (session : Session) (held : Held) (xs : List (AtPort × Client)) (cs : LabClients) (are : AreAt session held xs cs) → ((n : ℕ) → open_at (clients_of cs) n ≡ None)
+    → (n : ℕ) → are.holdings n ≡ None
+none-held session held xs cs are closed n = elim (cases_lt n (length (clients_of cs))) [
+  | inl inside ↦ subst (λ k. are.holdings k ≡ None) (omega arith) (by_item 0 (clients_of cs) xs n are.each inside (closed n))
+  | inr past ↦ are.no_others n (omega (arith, past))
+]
+  where
+    by_item : (m : ℕ) (ds : List LabClient) (ys : List (AtPort × Client)) (i : ℕ)
+        → AreEach (IsClientAt session (ring_of_places (places_of cs)) (key_of_places (places_of cs)) are.holdings) m ds ys → i < length ds → open_at ds i ≡ None
+        → are.holdings (m + i) ≡ None
+    by_item m [] ys i each inside none = absurd (omega (arith, inside))
+    by_item m (d ∷ ds) [] i each inside none = absurd each
+    by_item m (d ∷ ds) (y ∷ ys) zero each inside none =
+        subst (λ k. are.holdings k ≡ None) (omega arith) (each.0.is.holds ∙ ap (holding_by each.0.is.last) none)
+    by_item m (d ∷ ds) (y ∷ ys) (suc i) each inside none =
+        subst (λ k. are.holdings k ≡ None) (omega arith) (by_item (m + 1) ds ys i each.1 (omega (arith, inside)) none)
+
+-- each place is free where nobody holds one
+free-place : (place : Place) → ((n : ℕ) → is_held_by n place.holder ≡ false) → is_free place ≡ true
+free-place place nobody = by_holder place.holder nobody
+  where
+    by_holder : (holder : Option ℕ) → ((n : ℕ) → is_held_by n holder ≡ false) → is_none holder ≡ true
+    by_holder None nobody = refl
+    by_holder (Some n) nobody = let own : is_held_by n (Some n) ≡ true = grind (arith, nat_tests) in absurd (false≢true (sym (nobody n) ∙ own))
+
+are-free : (seats : List (Option MixSeat)) (places : List Place) → AreAtPlaces seats places → ((n : ℕ) → HoldsNone n places) → AllByRecursion (λ seat. is_some seat ≡ true) seats
+are-free [] places at nobody = tt
+are-free (seat ∷ seats) [] at nobody = absurd at
+are-free (None ∷ seats) (place ∷ places) at nobody = absurd (false≢true (sym at.0 ∙ free-place place (λ n. (nobody n).0)))
+are-free (Some s ∷ seats) (place ∷ places) at nobody = (refl, are-free seats places at.1 (λ n. (nobody n).1))
+
+length-at : (seats : List (Option MixSeat)) (places : List Place) → AreAtPlaces seats places → length seats ≡ length places
+length-at [] [] at = refl
+length-at [] (place ∷ places) at = absurd at
+length-at (seat ∷ seats) [] at = absurd at
+length-at (seat ∷ seats) (place ∷ places) at = ap suc (length-at seats places at.1)
+
+-- so the lobby can be closed
+pub AreFree-closed : (session : Session) (held : Held) (xs : List (AtPort × Client)) (cs : LabClients) → AreAt session held xs cs → ((n : ℕ) → open_at (clients_of cs) n ≡ None)
+    → AreFree (free_seats (lobby_of (places_of cs)))
+AreFree-closed session held xs cs are closed =
+    All-from_recursion (λ seat. is_some seat ≡ true) (free_seats (lobby_of (places_of cs)))
+    (are-free (free_seats (lobby_of (places_of cs))) held.lobby.places are.held_by.lobby.places (λ n. are.are_held.none n (none-held session held xs cs are closed n)))
+
+-- what was laid by all places, as one list
+total-laid_by_all : (seats : List (Option MixSeat)) (f k : ℕ) → total (laid_by_all seats) f k ≡ laid_free seats f k
+total-laid_by_all [] f k = refl
+total-laid_by_all (None ∷ seats) f k = let more = total-laid_by_all seats f k in omega (arith, ints, more)
+total-laid_by_all (Some s ∷ seats) f k =
+    total-append (view_of s).laid (laid_by_all seats) f k ∙ ap (λ (sum : ℤ). total (view_of s).laid f k +ℤ sum) (total-laid_by_all seats f k)
+
+laid_open-closed : (ds : List LabClient) (f k : ℕ) → ((n : ℕ) → open_at ds n ≡ None) → laid_open ds f k ≡ pos 0
+laid_open-closed [] f k closed = refl
+laid_open-closed (d ∷ ds) f k closed =
+    let here : laid_for (open_of d) f k ≡ pos 0 = ap (λ (o : Option OpenClient). laid_for o f k) (closed 0) in
+    let more = laid_open-closed ds f k (λ n. closed (suc n)) in
+    omega (arith, ints, here, more)
+
+-- and it is what the segments say
+pub total-ended : (session : Session) (held : Held) (xs : List (AtPort × Client)) (cs : LabClients) (seat : MixSeat) (f k : ℕ) → HasEnded session held xs cs
+    → ((n : ℕ) → open_at (clients_of cs) n ≡ None) → (view_of seat).laid ≡ laid_by_all (free_seats (lobby_of (places_of cs)))
+    → total (view_of seat).laid f k ≡ total (entries_of session (all_segments xs)) f k
+total-ended session held xs cs seat f k has closed laid =
+    let one : total (view_of seat).laid f k ≡ laid_free (free_seats (lobby_of (places_of cs))) f k =
+    ap (λ (es : List Entry). total es f k) laid ∙ total-laid_by_all (free_seats (lobby_of (places_of cs))) f k in
+    let none = laid_open-closed (clients_of cs) f k closed in
+    let said = has.are.reported f k in
+    let sums : total (view_of seat).laid f k ≡ total (entries_of session (all_segments has.ys)) f k = omega (arith, ints, one, none, said) in
+    sums ∙ ap (λ segments. total (entries_of session segments) f k) has.segments
+
+pub places-ended : (session : Session) (held : Held) (xs : List (AtPort × Client)) (cs : LabClients) → HasEnded session held xs cs
+    → length (free_seats (lobby_of (places_of cs))) ≡ length held.lobby.places
+places-ended session held xs cs has = length-at (free_seats (lobby_of (places_of cs))) has.then_held.lobby.places has.are.held_by.lobby.places ∙ has.places

@@ -1,0 +1,18 @@
+use Rattle.std.proofs.Common.{◌≡◌, ℕ, ◌<◌, List, None, length}
+use Rattle.lab_run.specs.Client.{Client}
+use Rattle.lab_run.specs.Items.{Held}
+use Rattle.lab_run.specs.Rules.{AtPort}
+use Rattle.lab_run.specs.Stage.{Session}
+use Rattle.lab_places.specs.Held.{IsSameCard}
+use Rattle.lab_clients.specs.AtStage.{AreAt, clients_of, places_of}
+use Rattle.lab_clients.specs.End.{HasEnded}
+use Rattle.lab_clients.specs.Opening.{open_at}
+use Rattle.lab_clients.proofs.clients.LabClients.close_all.Given as goal
+
+abbrev pub invariant-loop-number : goal.invariant-loop-number
+invariant-loop-number l = record {
+  ended : (session : Session) (held : Held) (xs : List (AtPort × Client)) → AreAt session held xs l.fn.self → HasEnded session held xs l.self;
+  card : IsSameCard (places_of l.fn.self) (places_of l.self);
+  len : length (clients_of l.self) ≡ length (clients_of l.fn.self);
+  closed : (n : ℕ) → n < l.number → open_at (clients_of l.self) n ≡ None;
+}

@@ -1,0 +1,6 @@
+use Rattle.std.proofs.Common.{◌≡◌, length}
+use Rattle.lab_clients.specs.End.{AreNewClients}
+use Rattle.lab_clients.proofs.end.new_clients.Given as goal
+
+abbrev pub invariant-loop-number : goal.invariant-loop-number
+invariant-loop-number l = record { new : AreNewClients 0 l.clients.items; count : length l.clients.items ≡ l.number }

@@ -1,0 +1,11 @@
+use Rattle.std.proofs.Common.{◌≡◌, ◌++◌, take}
+use Rattle.std.specs.List.{flat_map}
+use Rattle.lab_actors.specs.Walks.{HasWalked}
+use Rattle.lab_client.specs.Clients.{rows_of}
+use Rattle.lab_clients.specs.Steps.{HasClientRows}
+use Rattle.lab_clients.proofs.steps.take_client_rows.Given as goal
+
+abbrev pub invariant-loop-index : goal.invariant-loop-index
+invariant-loop-index l =
+    HasWalked HasClientRows l.fn.clients l.clients l.index
+    × (l.rows.items ≡ l.fn.rows.items ++ flat_map rows_of (take l.index l.fn.clients))

@@ -1,0 +1,215 @@
+-- Lists of clients in which one is exchanged: what all others are and hold stays, and so do the sums of what was laid, and the segments, but for the one's.
+use Rattle.std.specs.Prelude.{◌≡◌, ◌≢◌, ℕ, zero, suc, ◌+◌, ◌≤◌, ◌<◌, ◌+ℤ◌, ℤ, List, [], ◌∷◌, ◌++◌, map, length, nat_eq, if◌then◌else◌, Bool, true, false, Option, None, slice_index_or, slice_set}
+use Rattle.std.proofs.Common.{refl, sym, ◌∙◌, ap, subst, arith}
+use Rattle.std.proofs.lemmas.Bool.Decides.{nat_tests}
+use Rattle.std.proofs.lemmas.Int.{ints}
+use Rattle.std.proofs.lemmas.List.{length-set}
+use Rattle.mix_core.specs.Laid.{total}
+use Rattle.sum_table.specs.declared.seats.mix.MixSeat.{MixSeat}
+use Rattle.sum_table.specs.declared.view.Key.{Key}
+use Rattle.sum_table.specs.Seats.{TableId}
+use Rattle.lobby.specs.Lobbies.{free_seats}
+use Rattle.lab_run.specs.Client.{Client, segments_of}
+use Rattle.lab_run.specs.Items.{Held}
+use Rattle.lab_run.specs.LabRun.{all_segments, entries_of, numbered}
+use Rattle.lab_run.specs.Rules.{AtPort}
+use Rattle.lab_run.specs.Stage.{Session}
+use Rattle.lab_places.specs.declared.places.Places.{Places}
+use Rattle.lab_places.specs.Held.{IsHeldBy, IsSameCard, key_of_places, lobby_of, ring_of_places, share_of}
+pub use Rattle.lab_places.specs.Laid.{IsLaidAlike, IsLaidWith}
+use Rattle.lab_places.specs.Holdings.{AreHeld, ChangesAt, Holding, Holdings}
+use Rattle.lab_actors.specs.Walks.{AreEach}
+use Rattle.lab_client.specs.declared.client.LabClient.{LabClient}
+use Rattle.lab_client.specs.Clients.{open_of}
+use Rattle.lab_clients.specs.declared.clients.LabClients.{LabClients}
+use Rattle.lab_clients.specs.AtStage.{AreIn, IsCardOf, IsClientAt, IsClientIn, IsReported, clients_of, laid_by, laid_for, laid_free, laid_open, places_of}
+
+-- ---- two lists item by item
+
+-- a relation that follows from another at the numbers from one on
+pub AreEach-past : {X Y : Type 0} (R T : ℕ → X → Y → Type 0) (from number : ℕ) (xs : List X) (ys : List Y) → from ≤ number
+    → ((n : ℕ) (x : X) (y : Y) → from ≤ n → R n x y → T n x y) → AreEach R number xs ys → AreEach T number xs ys
+AreEach-past R T from number [] [] past follows are = tt
+AreEach-past R T from number (x ∷ xs) (y ∷ ys) past follows are =
+    (follows number x y past are.0, AreEach-past R T from (number + 1) xs ys (omega (arith, past)) follows are.1)
+AreEach-past R T from number [] (y ∷ ys) past follows are = absurd are
+AreEach-past R T from number (x ∷ xs) [] past follows are = absurd are
+
+-- one item of each list is exchanged
+pub AreEach-set : {X Y : Type 0} (R T : ℕ → X → Y → Type 0) (number at : ℕ) (xs : List X) (ys : List Y) (x : X) (y : Y)
+    → ((n : ℕ) (a : X) (b : Y) → n ≢ number + at → R n a b → T n a b) → T (number + at) x y → AreEach R number xs ys → AreEach T number (slice_set xs at x) (slice_set ys at y)
+AreEach-set R T number at [] [] x y others own are = tt
+AreEach-set R T number at [] (b ∷ ys) x y others own are = absurd are
+AreEach-set R T number at (a ∷ xs) [] x y others own are = absurd are
+AreEach-set R T number zero (a ∷ xs) (b ∷ ys) x y others own are = (
+  subst (λ n. T n x y) (omega arith) own,
+  AreEach-past R T (number + 1) (number + 1) xs ys (omega arith) (λ n c d past is. others n c d (λ same. absurd (omega (arith, past, same))) is) are.1,
+)
+AreEach-set R T number (suc at) (a ∷ xs) (b ∷ ys) x y others own are = (
+  others number a b (λ same. absurd (omega (arith, same))) are.0,
+  AreEach-set R T (number + 1) at xs ys x y (λ n c d differ is. others n c d (λ same. differ (omega (arith, same))) is) (subst (λ n. T n x y) (omega arith) own) are.1,
+)
+
+-- ---- what was laid, and the segments
+
+-- the seat of a place, or none, is exchanged
+pub laid_free-set : (seats : List (Option MixSeat)) (place : ℕ) (seat : Option MixSeat) (f k : ℕ) → place < length seats
+    → laid_free (slice_set seats place seat) f k +ℤ laid_by (slice_index_or seats place None) f k ≡ laid_free seats f k +ℤ laid_by seat f k
+laid_free-set [] place seat f k inside = absurd (omega (arith, inside))
+laid_free-set (first ∷ seats) zero seat f k inside = omega (arith, ints)
+laid_free-set (first ∷ seats) (suc place) seat f k inside =
+    let more = laid_free-set seats place seat f k (omega (arith, inside)) in omega (arith, ints, more)
+
+-- a client is exchanged
+pub laid_open-set : (ds : List LabClient) (at : ℕ) (d e : LabClient) (f k : ℕ) → at < length ds
+    → laid_open (slice_set ds at e) f k +ℤ laid_for (open_of (slice_index_or ds at d)) f k ≡ laid_open ds f k +ℤ laid_for (open_of e) f k
+laid_open-set [] at d e f k inside = absurd (omega (arith, inside))
+laid_open-set (first ∷ ds) zero d e f k inside = omega (arith, ints)
+laid_open-set (first ∷ ds) (suc at) d e f k inside =
+    let more = laid_open-set ds at d e f k (omega (arith, inside)) in omega (arith, ints, more)
+
+-- one that has as much as the one before
+pub numbered-set : {X Y : Type 0} (of : X → List Y) (number at : ℕ) (xs : List X) (x d : X) → of x ≡ of (slice_index_or xs at d)
+    → numbered of number (slice_set xs at x) ≡ numbered of number xs
+numbered-set of number at [] x d same = refl
+numbered-set of number zero (first ∷ xs) x d same = ap (λ more. map (λ y. (number, y)) more ++ numbered of (number + 1) xs) same
+numbered-set of number (suc at) (first ∷ xs) x d same =
+    ap (λ more. map (λ y. (number, y)) (of first) ++ more) (numbered-set of (number + 1) at xs x d same)
+
+-- the segments of all clients stay where the one has those that it had
+pub all_segments-set : (xs : List (AtPort × Client)) (at : ℕ) (x d : AtPort × Client) → segments_of x.1 ≡ segments_of (slice_index_or xs at d).1
+    → all_segments (slice_set xs at x) ≡ all_segments xs
+all_segments-set xs at x d same = numbered-set (λ (client : AtPort × Client). segments_of client.1) 0 at xs x d same
+
+-- what the free places gained by an exchange, the one client lost, and the other way round
+abbrev pub MovesLaid : List (Option MixSeat) → LabClient → List (Option MixSeat) → LabClient → Type 0
+MovesLaid seats d after e = (f k : ℕ) → laid_free after f k +ℤ laid_for (open_of e) f k ≡ laid_free seats f k +ℤ laid_for (open_of d) f k
+
+-- all that was laid is still what the segments say
+pub IsReported-exchanged : (session : Session) (seats after : List (Option MixSeat)) (ds : List LabClient) (at : ℕ) (d e : LabClient) (xs : List (AtPort × Client)) (x y : AtPort × Client)
+    → at < length ds → segments_of y.1 ≡ segments_of (slice_index_or xs at x).1 → MovesLaid seats (slice_index_or ds at d) after e → IsReported session seats ds xs
+    → IsReported session after (slice_set ds at e) (slice_set xs at y)
+IsReported-exchanged session seats after ds at d e xs x y inside same moves reported f k =
+    let clients = laid_open-set ds at d e f k inside in
+    let places = moves f k in
+    let sums : laid_free after f k +ℤ laid_open (slice_set ds at e) f k ≡ laid_free seats f k +ℤ laid_open ds f k = omega (arith, ints, clients, places) in
+    sums ∙ (reported f k ∙ ap (λ segments. total (entries_of session segments) f k) (sym (all_segments-set xs at y x same)))
+
+-- ---- what clients hold
+
+-- one client holds something else
+abbrev pub with_holding : ℕ → Option Holding → Holdings → ℕ → Option Holding
+with_holding client now holdings n = if nat_eq client n then now else holdings n
+
+pub ChangesAt-with_holding : (client : ℕ) (now : Option Holding) (holdings : Holdings) → ChangesAt client holdings (with_holding client now holdings) now
+ChangesAt-with_holding client now holdings = record {
+  own = ap (λ (b : Bool). if b then now else holdings client) (own-test client);
+  others = λ n differ. ap (λ (b : Bool). if b then now else holdings n) (other-test n differ);
+}
+  where
+    own-test : (n : ℕ) → nat_eq n n ≡ true
+    own-test n = grind (arith, nat_tests)
+
+    other-test : (n : ℕ) → client ≢ n → nat_eq client n ≡ false
+    other-test n differ = grind (arith, nat_tests)
+
+-- a client is what it was where it holds what it held
+pub IsClientIn-holding : (session : Session) (ring : TableId) (key : Key) (holdings after : Holdings) (n : ℕ) (d : LabClient) (x : AtPort × Client) → after n ≡ holdings n
+    → IsClientIn session ring key holdings n d x → IsClientIn session ring key after n d x
+IsClientIn-holding session ring key holdings after n d x same is = record {
+  numbered = is.numbered;
+  client = is.client;
+  last = is.last;
+  at = is.at;
+  holds = same ∙ is.holds;
+  setup = is.setup;
+}
+
+pub IsClientAt-holding : (session : Session) (ring : TableId) (key : Key) (holdings after : Holdings) (n : ℕ) (d : LabClient) (x : AtPort × Client) → after n ≡ holdings n
+    → IsClientAt session ring key holdings n d x → IsClientAt session ring key after n d x
+IsClientAt-holding session ring key holdings after n d x same at =
+    record { is = IsClientIn-holding session ring key holdings after n d x same at.is; goes = at.goes; rows = at.rows }
+
+-- ---- all clients of the lab
+
+-- what a client is in a run, by what all hold
+abbrev pub Relation : Type 0 → Type 1
+Relation X = Session → TableId → Key → Holdings → ℕ → LabClient → X → Type 0
+
+-- it is so of a client as long as that holds what it held
+abbrev pub KeepsHolding : Relation (AtPort × Client) → Type 0
+KeepsHolding Is =
+    (session : Session) (ring : TableId) (key : Key) (holdings after : Holdings) (n : ℕ) (d : LabClient) (x : AtPort × Client) → after n ≡ holdings n
+    → Is session ring key holdings n d x → Is session ring key after n d x
+
+-- the card of a session at the places later
+pub IsCardOf-same : (session : Session) (p q : Places) → IsSameCard p q → IsCardOf session p → IsCardOf session q
+IsCardOf-same session p q same card = record {
+  setups = card.setups;
+  ring = ap (λ (key : Key). key.geometry) same.key ∙ card.ring;
+  share = same.share ∙ card.share;
+  channels = same.channels ∙ card.channels;
+}
+
+-- One client is exchanged at the same card, and what it holds changes with it: all are clients of a run again.
+module _ (Is : Relation (AtPort × Client)) (keeps : KeepsHolding Is) (session : Session) (held after : Held) (xs : List (AtPort × Client)) (cs ds : LabClients) (number : ℕ)
+    (e : LabClient) (y : AtPort × Client) (now : Option Holding) (are : AreIn Is session held xs cs) (same : IsSameCard (places_of cs) (places_of ds)) where
+  abbrev then_holdings : Holdings
+  then_holdings = with_holding number now are.holdings
+
+  no-others : number < length (clients_of cs) → length (clients_of ds) ≡ length (clients_of cs) → (n : ℕ) → length (clients_of ds) ≤ n → then_holdings n ≡ None
+  no-others inside len n past =
+      (ChangesAt-with_holding number now are.holdings).others n (λ same. absurd (omega (arith, inside, len, past, same)))
+      ∙ are.no_others n (omega (arith, len, past))
+
+  pub AreIn-exchanged : number < length (clients_of cs) → clients_of ds ≡ slice_set (clients_of cs) number e → IsHeldBy (places_of ds) after
+      → AreHeld (share_of (places_of cs)) after then_holdings
+      → Is session (ring_of_places (places_of cs)) (key_of_places (places_of cs)) then_holdings number e y
+      → IsReported session (free_seats (lobby_of (places_of ds))) (slice_set (clients_of cs) number e) (slice_set xs number y)
+      → AreIn Is session after (slice_set xs number y) ds
+  AreIn-exchanged inside clients held_by are_held own reported = record {
+    card = IsCardOf-same session (places_of cs) (places_of ds) same are.card;
+    holdings = then_holdings;
+    held_by = held_by;
+    are_held = subst (λ share. AreHeld share after then_holdings) (sym same.share) are_held;
+    no_others = no-others inside (ap length clients ∙ length-set (clients_of cs) number e);
+    each = subst (λ items. AreEach (Is session (ring_of_places (places_of ds)) (key_of_places (places_of ds)) then_holdings) 0 items (slice_set xs number y)) (sym clients)
+        (subst (λ key. AreEach (Is session (ring_of_places (places_of ds)) key then_holdings) 0 (slice_set (clients_of cs) number e) (slice_set xs number y)) (sym same.key)
+        (subst (λ ring. AreEach (Is session ring (key_of_places (places_of cs)) then_holdings) 0 (slice_set (clients_of cs) number e) (slice_set xs number y)) (sym same.ring)
+        (AreEach-set (Is session (ring_of_places (places_of cs)) (key_of_places (places_of cs)) are.holdings) (Is session (ring_of_places (places_of cs)) (key_of_places (places_of cs)) then_holdings)
+        0 number (clients_of cs) xs e y
+        (λ n d x differ is. keeps session (ring_of_places (places_of cs)) (key_of_places (places_of cs)) are.holdings then_holdings n d x
+        ((ChangesAt-with_holding number now are.holdings).others n (λ client. differ (sym client ∙ omega arith))) is)
+        (subst (λ n. Is session (ring_of_places (places_of cs)) (key_of_places (places_of cs)) then_holdings n e y) (omega arith) own)
+        are.each)));
+    reported = subst (λ items. IsReported session (free_seats (lobby_of (places_of ds))) items (slice_set xs number y)) (sym clients) reported;
+  }
+
+-- The clients stay, and their places are others: what is held is still what they hold, and nothing was laid in between.
+pub AreIn-places : (Is : Relation (AtPort × Client)) (session : Session) (held after : Held) (xs : List (AtPort × Client)) (cs ds : LabClients) (are : AreIn Is session held xs cs)
+    → IsSameCard (places_of cs) (places_of ds) → clients_of ds ≡ clients_of cs → IsHeldBy (places_of ds) after → AreHeld (share_of (places_of cs)) after are.holdings
+    → IsLaidAlike (free_seats (lobby_of (places_of cs))) (free_seats (lobby_of (places_of ds))) → AreIn Is session after xs ds
+AreIn-places Is session held after xs cs ds are same clients held_by are_held laid = record {
+  card = IsCardOf-same session (places_of cs) (places_of ds) same are.card;
+  holdings = are.holdings;
+  held_by = held_by;
+  are_held = subst (λ share. AreHeld share after are.holdings) (sym same.share) are_held;
+  no_others = λ n past. are.no_others n (subst (λ items. length items ≤ n) clients past);
+  each = subst (λ items. AreEach (Is session (ring_of_places (places_of ds)) (key_of_places (places_of ds)) are.holdings) 0 items xs) (sym clients)
+      (subst (λ key. AreEach (Is session (ring_of_places (places_of ds)) key are.holdings) 0 (clients_of cs) xs) (sym same.key)
+      (subst (λ ring. AreEach (Is session ring (key_of_places (places_of cs)) are.holdings) 0 (clients_of cs) xs) (sym same.ring) are.each));
+  reported = subst (λ items. IsReported session (free_seats (lobby_of (places_of ds))) items xs) (sym clients)
+      (λ f k. ap (λ (sum : ℤ). sum +ℤ laid_open (clients_of cs) f k) (laid f k) ∙ are.reported f k);
+}
+
+-- the same card, and once more the same card
+pub IsSameCard-same : (p : Places) → IsSameCard p p
+IsSameCard-same p = record { ring = refl; key = refl; share = refl; channels = refl }
+
+pub IsSameCard-joined : (p q r : Places) → IsSameCard p q → IsSameCard q r → IsSameCard p r
+IsSameCard-joined p q r first second = record {
+  ring = second.ring ∙ first.ring;
+  key = second.key ∙ first.key;
+  share = second.share ∙ first.share;
+  channels = second.channels ∙ first.channels;
+}

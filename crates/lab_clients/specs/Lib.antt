@@ -1,0 +1,10 @@
+pub mod AtStage
+pub mod End
+pub mod Exchanged
+pub mod Kept
+pub mod Opening
+pub mod Phase
+pub mod Reaped
+pub mod Reported
+pub mod StepLaws
+pub mod Steps

@@ -1,0 +1,69 @@
+-- All clients of a script, in a phase: what each step of it makes of them.
+use Rattle.std.specs.Prelude.{◌≡◌, ℕ, ◌<◌, ◌≤◌, nat_lt, Bool, List, [], length, slice_index_or}
+use Rattle.wav_io.specs.Sound.{Sound}
+use Rattle.card_sim.specs.declared.card.Card.{Card}
+use Rattle.lab_script.specs.declared.line.Line.{Line}
+use Rattle.lab_run.specs.Items.{no_sound}
+use Rattle.lab_run.specs.Phases.{is_client, ops_by}
+use Rattle.lab_card.specs.Meets.{IsSameCard}
+use Rattle.lab_actors.specs.Gates.{stops_at}
+use Rattle.lab_client.specs.declared.client.LabClient.{LabClient}
+use Rattle.lab_client.specs.Clients.{CanRun, HasRoom, IsClientHeard, IsClientInformed, IsOfCard, IsSameBut, RunsLines, number_of, rows_of}
+
+-- the file of a number
+abbrev pub sound_at : List Sound → ℕ → Sound
+sound_at sounds i = slice_index_or sounds i no_sound
+
+-- each client that is open has a seat of the card's ring
+abbrev pub AreOfCard : Card → List LabClient → Type 0
+AreOfCard c ds = (i : ℕ) (d : LabClient) → i < length ds → IsOfCard c (slice_index_or ds i d)
+
+-- whether some of a phase's lines are a client's
+abbrev pub has_lines : List Line → LabClient → Bool
+has_lines lines d = nat_lt 0 (length (ops_by (is_client (number_of d)) lines))
+
+-- a client is as before, but for its room, and maybe for its rows
+abbrev pub IsSameAt : ℕ → LabClient → LabClient → Type 0
+IsSameAt i d e = IsSameBut d e
+
+pub record IsSameWithRows (i : ℕ) (d e : LabClient) : Type 0 where
+  pub same : IsSameBut d e
+  pub rows : rows_of e ≡ rows_of d
+
+-- a client took the room of its lines
+pub record HasTakenRoom (lines : List Line) (i : ℕ) (d e : LabClient) : Type 0 where
+  pub room : HasRoom lines e
+  pub same : IsSameBut d e
+  pub rows : rows_of e ≡ rows_of d
+
+-- a client can use its seat with its file, and has the room of its lines
+pub record IsReadyAt (sounds : List Sound) (lines : List Line) (i : ℕ) (d : LabClient) : Type 0 where
+  pub ready : CanRun (sound_at sounds i) d
+  pub room : HasRoom lines d
+
+abbrev pub AreReady : List Sound → List Line → List LabClient → Type 0
+AreReady sounds lines ds = (i : ℕ) (d : LabClient) → i < length ds → IsReadyAt sounds lines i (slice_index_or ds i d)
+
+-- a client met a note of the card, which met notes of others before it; or the card met its note
+pub record IsInformedBy (c : Card) (i : ℕ) (d e : LabClient) : Type 0 where
+  pub card : Card
+  pub same : IsSameCard c card
+  pub informed : IsClientInformed card d e
+
+pub record IsHeardBy (c : Card) (i : ℕ) (d e : LabClient) : Type 0 where
+  pub card : Card
+  pub same : IsSameCard c card
+  pub heard : IsClientHeard card d e
+
+-- a client did its lines behind its gate
+abbrev pub RunsAt : {G : Type 0} → (G → ℕ) → List G → List G → List Sound → ℕ → List Line → ℕ → LabClient → LabClient → Type 0
+RunsAt stops gates after sounds phase lines i d e = RunsLines (stops_at stops gates i) (stops_at stops after i) phase (sound_at sounds i) lines d e
+
+-- the gates from a number on are as they were
+abbrev pub AreSameFrom : {G : Type 0} → ℕ → List G → List G → Type 0
+AreSameFrom {G = G} from gates after = (i : ℕ) (g : G) → from ≤ i → slice_index_or after i g ≡ slice_index_or gates i g
+
+-- a client's rows were taken
+pub record HasClientRows (i : ℕ) (d e : LabClient) : Type 0 where
+  pub none : rows_of e ≡ []
+  pub same : IsSameBut d e
