@@ -1,0 +1,7 @@
+use Rattle.std.proofs.Common.{◌≡◌, take}
+use Rattle.std.specs.List.{flat_map}
+use Rattle.lab_readers.specs.End.{runs_by}
+use Rattle.lab_readers.proofs.end.list_runs.Given as goal
+
+abbrev pub invariant-loop-index : goal.invariant-loop-index
+invariant-loop-index l = l.all.items ≡ flat_map runs_by (take l.index l.fn.readers)

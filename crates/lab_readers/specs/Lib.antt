@@ -1,0 +1,10 @@
+pub mod AtStage
+pub mod Counted
+pub mod End
+pub mod Idle
+pub mod Lists
+pub mod Opening
+pub mod Phase
+pub mod Ready
+pub mod Reaped
+pub mod Steps

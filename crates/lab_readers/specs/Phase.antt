@@ -1,0 +1,230 @@
+-- All readers of the lab in a phase: what its steps made of them is what a run of the script may have of them.
+use Rattle.std.specs.Prelude.{◌≡◌, ℕ, ◌+◌, List, ◌++◌, Option, None, slice_index_or}
+use Rattle.std.specs.List.{flat_map}
+use Rattle.std.proofs.Common.{refl, sym, ap, subst, ◌∙◌}
+use Rattle.atomic_table.specs.Seated.{TableId}
+use Rattle.snd_base.specs.declared.geometry.Geometry.{Geometry}
+use Rattle.snoop_table.specs.declared.seats.reader.ReaderSeat.{ReaderSeat}
+use Rattle.snoop_table.specs.Readers as seats
+use Rattle.wav_io.specs.Sound.{Sound}
+use Rattle.card_sim.specs.declared.card.Card.{Card}
+use Rattle.lab_script.specs.declared.line.Line.{Line}
+use Rattle.lab_report.specs.declared.row.Row.{Row}
+use Rattle.lab_run.specs.ActorPart.{PartsAreRuns}
+use Rattle.lab_run.specs.Items.{reader_kinds, rules_of}
+use Rattle.lab_run.specs.LabRun.{bindings_of}
+use Rattle.lab_run.specs.Lines.{EachMay, LinesMay}
+use Rattle.lab_run.specs.Phases.{is_reader, ops_by}
+use Rattle.lab_run.specs.Reader.{Reader, reader_kind}
+use Rattle.lab_run.specs.Rules.{AtPort, Rules}
+use Rattle.lab_run.specs.Stage.{Session, Stage}
+use Rattle.lab_actors.specs.Actors.{ActorMay, ActorsMay, actors-may}
+use Rattle.lab_actors.specs.Gates.{AreCounted}
+use Rattle.lab_actors.specs.Walks.{AreEach, AreEach-joined, AreEach-map, AreJoined}
+use Rattle.lab_card.specs.declared.card.CardActor.{CardActor}
+use Rattle.lab_card.specs.Findings.{CardPhase, rules_between}
+use Rattle.lab_card.specs.MeetLaws.{IsSameCard-joined, Rests-same, rules_between-same}
+use Rattle.lab_card.specs.Meets.{IsSameCard}
+use Rattle.lab_card.specs.Stages.{CardPhase-rules, IsCardAt}
+use Rattle.lab_reader.specs.declared.reader.LabReader.{LabReader}
+use Rattle.lab_reader.specs.OfCards.{IsOver, IsOver-moved, IsOver-same}
+use Rattle.lab_reader.specs.ReaderLaws.{IsAt-same, IsRecorded-same, reader_in-same}
+use Rattle.lab_reader.specs.ReaderPhase.{ReaderMay, Steps, reader-may}
+use Rattle.lab_reader.specs.Readers.{number_of, ops_of, reader_in, rows_of}
+use Rattle.lab_reader.specs.Recorded.{IsCapturedUpTo, IsRecorded}
+use Rattle.lab_reader.specs.RecordedLaws.{IsCapturedUpTo-phase, IsCapturedUpTo-same, IsRecorded-phase}
+use Rattle.lab_readers.specs.declared.readers.LabReaders.{LabReaders}
+use Rattle.lab_readers.specs.AtStage.{AreAt, AreDone, IsReaderAt, IsReaderDone, IsReaderIn, readers_of, ring_of, spare_of}
+use Rattle.lab_readers.specs.Counted.{AreCounted-each, AreEach-counted, IsCounted}
+use Rattle.lab_readers.specs.Lists.{AreEach-moved}
+use Rattle.lab_readers.specs.Steps.{EachReader, HasRowsTaken, HasTakenRoom, IsHeardBy, IsInformedBy, RunsBehind}
+
+-- a reader's part in a phase is what the phase allows to it (lab_run: `parts_are_runs`)
+abbrev pub ReaderPartsAreRuns : Type 0
+ReaderPartsAreRuns = (phase number : ℕ) (rules : Rules) → PartsAreRuns (reader_kind phase number) rules
+
+-- ---- the card
+
+-- a card that gave notes and met some is the same, seen from either end
+pub IsSameCard-back : (c d : Card) → IsSameCard c d → IsSameCard d c
+IsSameCard-back c d same = record {
+  player = record { ring = sym same.player.ring; key = sym same.player.key; track = sym same.player.track; next = sym same.player.next };
+  writer = record { ring = sym same.writer.ring; geometry = sym same.writer.geometry; track = sym same.writer.track; next = sym same.writer.next };
+  period = sym same.period;
+}
+
+-- a phase of a card, from any of the meets before it to any of those after it
+pub CardPhase-between : (capture : Option Sound) (phase : ℕ) (c : Card) (a b : CardActor) (d e f : Card) (lines : List Line) → IsSameCard c e → IsSameCard d f
+    → CardPhase capture phase c a b d lines → CardPhase capture phase e a b f lines
+CardPhase-between capture phase c a b d e f lines before after is = record {
+  rests = Rests-same c e before is.rests;
+  before = IsSameCard-joined e c a.card (IsSameCard-back c e before) is.before;
+  part = is.part;
+  plugged = is.plugged;
+  after = IsSameCard-joined b.card d f is.after after;
+}
+
+-- it is over its snoop ring after it
+pub IsOver-phase : (ring : TableId) (geometry : Geometry) (capture : Option Sound) (phase : ℕ) (c : Card) (a b : CardActor) (d : Card) (lines : List Line)
+    → CardPhase capture phase c a b d lines → IsOver ring geometry c → IsOver ring geometry d
+IsOver-phase ring geometry capture phase c a b d lines is over =
+    IsOver-same ring geometry b.card d is.after (IsOver-moved ring geometry a.card b.card _ _ _ _ _ is.part.did.moves (IsOver-same ring geometry c a.card is.before over))
+
+-- ---- the readers
+
+-- The steps of all readers in a phase: they took the room of their lines, met notes of the card, did their lines behind their gates, the card met
+-- their notes, and their rows were taken.
+pub record ReadersSteps (c d : Card) (phase : ℕ) (stops after : ℕ → ℕ) (lines : List Line) (before end : LabReaders) (rows : List Row) : Type 0 where
+  pub roomy : LabReaders
+  pub informed : LabReaders
+  pub run : LabReaders
+  pub heard : LabReaders
+  pub take_room : EachReader (HasTakenRoom lines) before roomy
+  pub inform : EachReader (IsInformedBy c) roomy informed
+  pub run_lines : EachReader (RunsBehind stops after phase lines) informed run
+  pub hear : EachReader (IsHeardBy d) run heard
+  pub take_rows : EachReader HasRowsTaken heard end
+  pub rows_are : rows ≡ flat_map rows_of (readers_of heard)
+
+-- Readers may do their lines of a phase so, with these rows, and are so afterwards; their gates had stopped them so often before the lab began, and
+-- have stopped them so often after the phase.
+pub record ReadersMay (session : Session) (stage : Stage) (capture : Option Sound) (lines : List Line) (base after : ℕ → ℕ) (xs : List (AtPort × Reader)) (rows : List Row)
+    (rs : LabReaders) : Type 0 where
+  pub next : List (AtPort × Reader)
+  pub may : EachMay (reader_kinds stage) (rules_of session stage lines) (λ n. ops_by (is_reader n) lines) 0 xs next rows
+  pub done : AreDone session capture next rs
+  pub counted : AreCounted base after 0 next
+
+-- what a phase does to one reader after the other, up to the meet after its lines
+abbrev StepsOf : Card → Card → ℕ → (ℕ → ℕ) → (ℕ → ℕ) → List Line → ℕ → LabReader → LabReader → Type 0
+StepsOf c d phase stops after lines =
+    AreJoined (AreJoined (AreJoined (HasTakenRoom lines) (IsInformedBy c)) (RunsBehind stops after phase lines)) (IsHeardBy d)
+
+module _ (session : Session) (stage : Stage) (capture : Option Sound) (ring : TableId) (lines : List Line) (base stops after : ℕ → ℕ) (c : Card) (a b : CardActor) (d : Card)
+    (is : CardPhase capture (stage.phases + 1) c a b d lines) (card : IsCardAt session stage c) (over : IsOver ring session.ring c) (up_to : IsCapturedUpTo capture c)
+    (runs : ReaderPartsAreRuns) where
+  -- a reader's part between its meets with the card
+  module _ (number : ℕ) (r s t u v : LabReader) (took : HasTakenRoom lines number r s) (informed : IsInformedBy c number s t)
+      (ran : RunsBehind stops after (stage.phases + 1) lines number t u) (heard : IsHeardBy d number u v) (x : AtPort × Reader)
+      (at : IsReaderAt session capture ring session.ring number r x) (counted : IsCounted base stops number x) where
+    own-phase : CardPhase capture (stage.phases + 1) informed.card a b heard.card lines
+    own-phase = CardPhase-between capture (stage.phases + 1) c a b d informed.card heard.card lines informed.same heard.same is
+
+    own-over : IsOver ring session.ring informed.card
+    own-over = IsOver-same ring session.ring c informed.card informed.same over
+
+    over-after : IsOver ring session.ring heard.card
+    over-after = IsOver-phase ring session.ring capture (stage.phases + 1) informed.card a b heard.card lines own-phase own-over
+
+    own-steps : Steps informed.card heard.card (stage.phases + 1) (stops number) (after number) lines s t u v
+    own-steps = record { informed = informed.informed; ran = ran; heard = heard.heard }
+
+    own-rules : rules_between informed.card b.card lines ≡ rules_of session stage lines
+    own-rules =
+        rules_between-same c informed.card b.card lines informed.same ∙ CardPhase-rules session stage capture (stage.phases + 1) c a b d lines is card
+
+    numbered : number_of s ≡ number
+    numbered = took.kept.same.file.number ∙ at.is.numbered
+
+    reader-is : reader_in s ≡ x.1
+    reader-is = reader_in-same r s took.kept.same ∙ at.is.reader
+
+    own-may : ReaderMay ring session.ring (rules_between informed.card b.card lines) (stage.phases + 1) (base number) (after number) lines x.0 s v
+    own-may =
+        reader-may ring session.ring informed.card heard.card own-over (stage.phases + 1) (base number) (stops number) (after number) x.0 counted a b lines own-phase s t u v
+        (runs (stage.phases + 1) (number_of s) (rules_between informed.card b.card lines)) (IsAt-same ring session.ring r s x.0 took.kept.same at.is.at) own-steps
+
+    rows-are : own-may.rows ≡ rows_of v
+    rows-are = sym (own-may.rows_are ∙ ap (λ (rows : List Row). rows ++ own-may.rows) (took.kept.rows ∙ at.rows))
+
+    lines-may : LinesMay (reader_kind (stage.phases + 1) number) (rules_of session stage lines) x (ops_by (is_reader number) lines) (own-may.end, reader_in v) (rows_of v)
+    lines-may =
+        subst (λ (rows : List Row). LinesMay (reader_kind (stage.phases + 1) number) (rules_of session stage lines) x (ops_by (is_reader number) lines) (own-may.end, reader_in v) rows)
+        rows-are
+        (subst (λ (rules : Rules). LinesMay (reader_kind (stage.phases + 1) number) rules x (ops_by (is_reader number) lines) (own-may.end, reader_in v) own-may.rows) own-rules
+        (subst (λ (n : ℕ). LinesMay (reader_kind (stage.phases + 1) n) (rules_between informed.card b.card lines) x (ops_by (is_reader n) lines) (own-may.end, reader_in v) own-may.rows)
+        numbered
+        (subst (λ (y : Reader). LinesMay (reader_kind (stage.phases + 1) (number_of s)) (rules_between informed.card b.card lines) (x.0, y) (ops_of s lines) (own-may.end, reader_in v)
+        own-may.rows) reader-is own-may.may)))
+
+    recorded : IsRecorded capture session.ring (bindings_of (slice_index_or session.readers number None)) v
+    recorded =
+        let bindings = bindings_of (slice_index_or session.readers number None) in
+        IsRecorded-phase capture ring session.ring heard.card over-after
+        (IsCapturedUpTo-phase capture informed.card a b heard.card lines own-phase (IsCapturedUpTo-same capture c informed.card informed.same up_to)) bindings informed.card
+        (stage.phases + 1) (stops number) (after number) lines s t u v (IsRecorded-same capture session.ring bindings r s took.kept.same at.is.recorded) own-steps
+
+    reader-after : ActorMay (reader_kinds stage) (rules_of session stage lines) (λ n. ops_by (is_reader n) lines)
+        (λ n w y. IsReaderIn session capture ring session.ring n w y × IsCounted base after n y) rows_of number x v
+    reader-after = record {
+      next = (own-may.end, reader_in v);
+      may = lines-may;
+      is = (
+        record { numbered = own-may.number ∙ numbered; reader = refl; at = own-may.is; recorded = recorded },
+        own-may.gate,
+      );
+    }
+
+  -- the parts of all readers
+  parts-may : (xs : List (AtPort × Reader)) (rs ss : List LabReader) → AreEach (IsReaderAt session capture ring session.ring) 0 rs xs → AreCounted base stops 0 xs
+      → AreEach (StepsOf c d (stage.phases + 1) stops after lines) 0 rs ss
+      → ActorsMay (reader_kinds stage) (rules_of session stage lines) (λ n. ops_by (is_reader n) lines)
+      (λ n w y. IsReaderIn session capture ring session.ring n w y × IsCounted base after n y) rows_of 0 xs ss
+  parts-may xs rs ss are counted steps =
+      actors-may (reader_kinds stage) (rules_of session stage lines) (λ n. ops_by (is_reader n) lines)
+      (λ n r x. IsReaderAt session capture ring session.ring n r x × IsCounted base stops n x)
+      (λ n w y. IsReaderIn session capture ring session.ring n w y × IsCounted base after n y) rows_of 0 rs ss xs
+      (AreEach-counted (IsReaderAt session capture ring session.ring) base stops 0 rs xs are counted)
+      (AreEach-map (StepsOf c d (stage.phases + 1) stops after lines)
+      (λ n r v. (x : AtPort × Reader) → IsReaderAt session capture ring session.ring n r x × IsCounted base stops n x
+      → ActorMay (reader_kinds stage) (rules_of session stage lines) (λ m. ops_by (is_reader m) lines)
+      (λ m w y. IsReaderIn session capture ring session.ring m w y × IsCounted base after m y) rows_of n x v) 0 rs ss
+      (λ n r v all x now. reader-after n r all.first.first.between all.first.between all.between v all.first.first.first all.first.first.then all.first.then all.then x now.0 now.1) steps)
+
+-- rows that are taken leave a reader as it is
+IsReaderDone-taken : (session : Session) (capture : Option Sound) (ring : TableId) (number : ℕ) (r s : LabReader) (x : AtPort × Reader)
+    → IsReaderIn session capture ring session.ring number r x → HasRowsTaken number r s → IsReaderDone session capture ring session.ring number s x
+IsReaderDone-taken session capture ring number r s x is taken = record {
+  is = record {
+    numbered = taken.same.file.number ∙ is.numbered;
+    reader = reader_in-same r s taken.same ∙ is.reader;
+    at = IsAt-same ring session.ring r s x.0 taken.same is.at;
+    recorded = IsRecorded-same capture session.ring (bindings_of (slice_index_or session.readers number None)) r s taken.same is.recorded;
+  };
+  rows = taken.rows;
+}
+
+-- What the steps of a phase make of all readers is what the phase may make of the readers of a run, whichever meets with the card they had: the card
+-- gave notes and met some from c on, did its lines, and gave notes and met some up to d and beyond.
+pub readers-phase : (session : Session) (stage : Stage) (capture : Option Sound) (lines : List Line) (base stops after : ℕ → ℕ) (c : Card) (a b : CardActor) (d : Card)
+    → CardPhase capture (stage.phases + 1) c a b d lines → IsCardAt session stage c → IsCapturedUpTo capture c → ReaderPartsAreRuns
+    → (xs : List (AtPort × Reader)) (rs ss : LabReaders) (rows : List Row) → IsOver (ring_of rs) session.ring c → AreAt session capture xs rs → AreCounted base stops 0 xs
+    → ReadersSteps c d (stage.phases + 1) stops after lines rs ss rows → ReadersMay session stage capture lines base after xs rows ss
+readers-phase session stage capture lines base stops after c a b d is card up_to runs xs rs ss rows over are counted steps =
+    let phase : ℕ = stage.phases + 1 in
+    let first : List LabReader = readers_of rs in
+    let last : List LabReader = readers_of steps.heard in
+    let inform : AreEach (AreJoined (HasTakenRoom lines) (IsInformedBy c)) 0 first (readers_of steps.informed) =
+    AreEach-joined (HasTakenRoom lines) (IsInformedBy c) 0 first (readers_of steps.roomy) (readers_of steps.informed) steps.take_room.each steps.inform.each in
+    let run : AreEach (AreJoined (AreJoined (HasTakenRoom lines) (IsInformedBy c)) (RunsBehind stops after phase lines)) 0 first (readers_of steps.run) =
+    AreEach-joined (AreJoined (HasTakenRoom lines) (IsInformedBy c)) (RunsBehind stops after phase lines) 0 first (readers_of steps.informed) (readers_of steps.run) inform
+    steps.run_lines.each in
+    let all : AreEach (StepsOf c d phase stops after lines) 0 first last =
+    AreEach-joined (AreJoined (AreJoined (HasTakenRoom lines) (IsInformedBy c)) (RunsBehind stops after phase lines)) (IsHeardBy d) 0 first (readers_of steps.run) last run
+    steps.hear.each in
+    let parts = parts-may session stage capture (ring_of rs) lines base stops after c a b d is card over up_to runs xs first last are.each counted all in
+    let seat : spare_of ss ≡ spare_of rs =
+    steps.take_rows.spare ∙ (steps.hear.spare ∙ (steps.run_lines.spare ∙ (steps.inform.spare ∙ steps.take_room.spare))) in
+    let done : AreEach (IsReaderDone session capture (ring_of rs) session.ring) 0 (readers_of ss) parts.next =
+    AreEach-moved (λ n w y. IsReaderIn session capture (ring_of rs) session.ring n w y × IsCounted base after n y) HasRowsTaken (IsReaderDone session capture (ring_of rs) session.ring) 0
+    last (readers_of ss) parts.next (λ n r s x now taken. IsReaderDone-taken session capture (ring_of rs) n r s x now.0 taken) parts.are steps.take_rows.each in
+    record {
+      next = parts.next;
+      may = subst (λ (own : List Row). EachMay (reader_kinds stage) (rules_of session stage lines) (λ n. ops_by (is_reader n) lines) 0 xs parts.next own)
+          (parts.rows_are ∙ sym steps.rows_are) parts.may;
+      done = record {
+        card = record { ring = ap seats.geometry_of seat ∙ are.card.ring; first = are.card.first };
+        each = subst (λ (own : ReaderSeat). AreEach (IsReaderDone session capture (seats.ring_of own) session.ring) 0 (readers_of ss) parts.next) (sym seat) done;
+      };
+      counted = AreCounted-each (λ n w y. IsReaderIn session capture (ring_of rs) session.ring n w y × IsCounted base after n y) base after 0 last parts.next (λ n w y now. now.1) parts.are;
+    }

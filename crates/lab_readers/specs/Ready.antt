@@ -1,0 +1,77 @@
+-- What the steps of a phase ask of the readers of the lab.
+use Rattle.std.specs.Prelude.{ℕ, ◌+◌, List, [], ◌∷◌, All, Option, slice_index_or}
+use Rattle.std.proofs.Common.{arith}
+use Rattle.std.proofs.lemmas.List.Elements.{All-cons, All-head, All-tail}
+use Rattle.wav_io.specs.Sound.{Sound}
+use Rattle.card_sim.specs.declared.card.Card.{Card}
+use Rattle.lab_script.specs.declared.line.Line.{Line}
+use Rattle.lab_run.specs.Reader.{Reader}
+use Rattle.lab_run.specs.Rules.{AtPort}
+use Rattle.lab_run.specs.Stage.{Session}
+use Rattle.lab_actors.specs.Walks.{AreEach, AreEach-joined, AreJoined}
+use Rattle.lab_card.specs.Meets.{IsSameCard}
+use Rattle.lab_reader.specs.declared.reader.LabReader.{LabReader}
+use Rattle.lab_reader.specs.OfCards.{IsOf-at, IsOf-informed, IsOf-kept, IsOf-ran, IsOf-same, IsOver}
+use Rattle.lab_reader.specs.ReaderLaws.{HasRoom-informed, IsAt-same}
+use Rattle.lab_reader.specs.ReaderPhase.{CanRun-informed}
+use Rattle.lab_reader.specs.Readers.{IsOf}
+use Rattle.lab_readers.specs.declared.readers.LabReaders.{LabReaders}
+use Rattle.lab_readers.specs.AtStage.{AreAt, IsReaderAt, readers_of, ring_of}
+use Rattle.lab_readers.specs.Lists.{AreEach-moved}
+use Rattle.lab_readers.specs.Steps.{EachReader, HasTakenRoom, IsInformedBy, IsReady, RunsBehind}
+
+-- a fact of each item of a list that follows from a relation to another list
+All-each : {X Y : Type 0} (R : ℕ → X → Y → Type 0) (P : X → Type 0) (number : ℕ) (xs : List X) (ys : List Y) → ((n : ℕ) (x : X) (y : Y) → R n x y → P x)
+    → AreEach R number xs ys → All P xs
+All-each R P number [] [] then are = λ k d inside. absurd (omega (arith, inside))
+All-each R P number (x ∷ xs) (y ∷ ys) then are = All-cons P x xs (then number x y are.0) (All-each R P (number + 1) xs ys then are.1)
+All-each R P number [] (y ∷ ys) then are = absurd are
+All-each R P number (x ∷ xs) [] then are = absurd are
+
+-- a fact of each item of a list that became another one
+All-moved : {X : Type 0} (R : ℕ → X → X → Type 0) (P Q : X → Type 0) (number : ℕ) (xs ys : List X) → ((n : ℕ) (x y : X) → R n x y → P x → Q y) → AreEach R number xs ys
+    → All P xs → All Q ys
+All-moved R P Q number [] [] then are all = λ k d inside. absurd (omega (arith, inside))
+All-moved R P Q number (x ∷ xs) (y ∷ ys) then are all =
+    All-cons Q y ys (then number x y are.0 (All-head P x xs all)) (All-moved R P Q (number + 1) xs ys then are.1 (All-tail P x xs all))
+All-moved R P Q number [] (y ∷ ys) then are all = absurd are
+All-moved R P Q number (x ∷ xs) [] then are all = absurd are
+
+-- ---- readers of a card
+
+-- the readers of the lab are of each card over their ring
+pub AreOf-at : (session : Session) (capture : Option Sound) (xs : List (AtPort × Reader)) (rs : LabReaders) (c : Card) → AreAt session capture xs rs → IsOver (ring_of rs) session.ring c
+    → All (IsOf c) (readers_of rs)
+AreOf-at session capture xs rs c are over =
+    All-each (IsReaderAt session capture (ring_of rs) session.ring) (IsOf c) 0 (readers_of rs) xs
+    (λ n r x is. IsOf-at (ring_of rs) session.ring c r x.0 over is.is.at) are.each
+
+-- they stay so, whatever they do and whichever notes the card meets
+pub AreOf-same : (c d : Card) (rs : List LabReader) → IsSameCard c d → All (IsOf c) rs → All (IsOf d) rs
+AreOf-same c d rs same all = λ k r inside. IsOf-same c d (slice_index_or rs k r) same (all k r inside)
+
+pub AreOf-room : (c : Card) (lines : List Line) (rs ss : LabReaders) → EachReader (HasTakenRoom lines) rs ss → All (IsOf c) (readers_of rs) → All (IsOf c) (readers_of ss)
+AreOf-room c lines rs ss took = All-moved (HasTakenRoom lines) (IsOf c) (IsOf c) 0 (readers_of rs) (readers_of ss) (λ n r s has. IsOf-kept c r s has.kept.same) took.each
+
+pub AreOf-informed : (c d : Card) (rs ss : LabReaders) → EachReader (IsInformedBy d) rs ss → All (IsOf c) (readers_of rs) → All (IsOf c) (readers_of ss)
+AreOf-informed c d rs ss informed =
+    All-moved (IsInformedBy d) (IsOf c) (IsOf c) 0 (readers_of rs) (readers_of ss) (λ n r s is. IsOf-informed c is.card r s is.informed) informed.each
+
+pub AreOf-ran : (c : Card) (stops after : ℕ → ℕ) (phase : ℕ) (lines : List Line) (rs ss : LabReaders) → EachReader (RunsBehind stops after phase lines) rs ss
+    → All (IsOf c) (readers_of rs) → All (IsOf c) (readers_of ss)
+AreOf-ran c stops after phase lines rs ss ran =
+    All-moved (RunsBehind stops after phase lines) (IsOf c) (IsOf c) 0 (readers_of rs) (readers_of ss)
+    (λ n r s has. IsOf-ran c phase (stops n) (after n) lines r s has) ran.each
+
+-- ---- readers that can do their lines
+
+-- once they took the room of their lines, and met the card's notes
+pub AreReady-informed : (session : Session) (capture : Option Sound) (xs : List (AtPort × Reader)) (c : Card) (lines : List Line) (rs ss ts : LabReaders) → AreAt session capture xs rs
+    → EachReader (HasTakenRoom lines) rs ss → EachReader (IsInformedBy c) ss ts → All (IsReady lines) (readers_of ts)
+AreReady-informed session capture xs c lines rs ss ts are took informed =
+    All-each (λ n t x. IsReady lines t) (IsReady lines) 0 (readers_of ts) xs (λ n t x is. is)
+    (AreEach-moved (IsReaderAt session capture (ring_of rs) session.ring) (AreJoined (HasTakenRoom lines) (IsInformedBy c)) (λ n t x. IsReady lines t) 0 (readers_of rs) (readers_of ts) xs
+    (λ n r t x is both. record {
+      usable = CanRun-informed (ring_of rs) session.ring both.then.card both.between t x.0 (IsAt-same (ring_of rs) session.ring r both.between x.0 both.first.kept.same is.is.at) both.then.informed;
+      room = HasRoom-informed both.then.card both.between t lines both.then.informed both.first.room;
+    }) are.each (AreEach-joined (HasTakenRoom lines) (IsInformedBy c) 0 (readers_of rs) (readers_of ss) (readers_of ts) took.each informed.each))

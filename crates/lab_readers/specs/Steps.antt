@@ -1,0 +1,74 @@
+-- All readers of a script, in a phase: what each step of it makes of them.
+use Rattle.std.specs.Prelude.{◌≡◌, ℕ, Bool, true, false, List, [], ◌∷◌}
+use Rattle.std.proofs.Common.{refl}
+use Rattle.snoop_table.specs.declared.seats.reader.ReaderSeat.{ReaderSeat}
+use Rattle.card_sim.specs.declared.card.Card.{Card}
+use Rattle.lab_script.specs.declared.line.Line.{Line}
+use Rattle.lab_script.specs.declared.line.Op.{Op}
+use Rattle.lab_run.specs.Items.{is_reader_stopped}
+use Rattle.lab_actors.specs.Walks.{AreEach}
+use Rattle.lab_card.specs.Meets.{IsSameCard}
+use Rattle.lab_reader.specs.declared.reader.LabReader.{LabReader}
+use Rattle.lab_reader.specs.Readers.{CanRun, HasRoom, ops_of, reader_in, rows_of}
+use Rattle.lab_reader.specs.Runs.{HasClosed, HasRun, IsHeard, IsInformed, IsSame}
+use Rattle.lab_readers.specs.AtStage.{readers_of, spare_of}
+use Rattle.lab_readers.specs.declared.readers.LabReaders.{LabReaders}
+
+-- each reader is in a relation, which knows its number, to what became of it, and the spare seat is as before
+pub record EachReader (R : ℕ → LabReader → LabReader → Type 0) (before after : LabReaders) : Type 0 where
+  pub spare : spare_of after ≡ spare_of before
+  pub each : AreEach R 0 (readers_of before) (readers_of after)
+
+-- a reader is as before, but for its room
+pub record HasKept (number : ℕ) (r s : LabReader) : Type 0 where
+  pub same : IsSame r s
+  pub rows : rows_of s ≡ rows_of r
+
+pub HasKept-none : (number : ℕ) (r : LabReader) → HasKept number r r
+HasKept-none number r = record {
+  same = record { seat = refl; stream = refl; left = refl; file = record { number = refl; frames = refl; samples = refl } };
+  rows = refl;
+}
+
+-- a reader took the room of its lines
+pub record HasTakenRoom (lines : List Line) (number : ℕ) (r s : LabReader) : Type 0 where
+  pub room : HasRoom s lines
+  pub kept : HasKept number r s
+
+-- a reader can use its seat, and has the room of its lines
+pub record IsReady (lines : List Line) (r : LabReader) : Type 0 where
+  pub usable : CanRun r
+  pub room : HasRoom r lines
+
+-- a reader met a note of the card, which met notes of others before it; or the card met its note, before it met those of others
+pub record IsInformedBy (c : Card) (number : ℕ) (r s : LabReader) : Type 0 where
+  pub card : Card
+  pub same : IsSameCard c card
+  pub informed : IsInformed card r s
+
+pub record IsHeardBy (c : Card) (number : ℕ) (r s : LabReader) : Type 0 where
+  pub card : Card
+  pub same : IsSameCard c card
+  pub heard : IsHeard card r s
+
+-- a reader did its lines behind the gate of its number, which stopped so often before them and after them
+abbrev pub RunsBehind : (ℕ → ℕ) → (ℕ → ℕ) → ℕ → List Line → ℕ → LabReader → LabReader → Type 0
+RunsBehind stops after phase lines number r s = HasRun phase (stops number) (after number) lines r s
+
+-- a reader's rows were taken
+pub record HasRowsTaken (number : ℕ) (r s : LabReader) : Type 0 where
+  pub same : IsSame r s
+  pub rows : rows_of s ≡ []
+
+-- some of a phase's lines are a reader's
+abbrev pub is_some_op : List Op → Bool
+is_some_op [] = false
+is_some_op (asked ∷ more) = true
+
+abbrev pub is_busy : List Line → LabReader → Bool
+is_busy lines r = is_some_op (ops_of r lines)
+
+-- a reader was closed if it was stopped, and else it is as before
+pub record IsReaped (number : ℕ) (r s : LabReader) : Type 0 where
+  pub stopped : is_reader_stopped (reader_in r).own ≡ true → (seat : ReaderSeat) × HasClosed seat r s
+  pub goes : is_reader_stopped (reader_in r).own ≡ false → s ≡ r

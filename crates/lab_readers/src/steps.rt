@@ -1,0 +1,120 @@
+//! Lists of readers, in a phase.
+ghost use Rattle.std.specs.Prelude.{◌≡◌, ◌++◌, ◌≤◌, All, IfErr, OnOk, count_by, length};
+ghost use Rattle.std.specs.List.{flat_map};
+ghost use Rattle.lab_script.specs.declared.line.Line.{Line};
+ghost use Rattle.lab_actor.specs.ReaderLines.{IsFewRead};
+ghost use Rattle.lab_actors.specs.Gates.{stops_at};
+ghost use Rattle.lab_actors.specs.Walks.{AreEach};
+ghost use Rattle.lab_card.specs.Meets.{IsSameCard};
+ghost use Rattle.lab_reader.specs.Readers.{IsOf, rows_of};
+ghost use Rattle.lab_readers.specs.Steps.{HasKept, HasRowsTaken, HasTakenRoom, IsHeardBy, IsInformedBy, IsReady, IsReaped, RunsBehind, is_busy};
+
+use card_sim::Card;
+use lab_reader::LabReader;
+use lab_report::Row;
+use lab_script::Line;
+use mix_core::Gate;
+use snd_base::PcmError;
+
+/// Takes the room of all readers' lines. It refuses, with `Memory`, only where no memory is left.
+pub(crate) fn take_reader_room(
+    readers: &mut [LabReader<'_>],
+    lines: &[Line],
+) -> Result<(), PcmError>
+    ensures room { OnOk result (AreEach (HasTakenRoom lines.now) 0 readers.old readers.new) }
+    ensures kept { AreEach HasKept 0 readers.old readers.new }
+    ensures only { IfErr result (λ e. e ≡ PcmError.Memory) }
+{
+    for index in 0..readers.len() {
+        readers[index].take_room(lines)?;
+    }
+    Ok(())
+}
+
+/// Before a phase each reader's seat meets a note of the card.
+pub(crate) fn inform_readers(card: &mut Card<'_, '_>, readers: &mut [LabReader<'_>])
+    requires { All (IsOf card.old) readers.old }
+    ensures card { IsSameCard card.old card.new }
+    ensures informed { AreEach (IsInformedBy card.old) 0 readers.old readers.new }
+{
+    for index in 0..readers.len() {
+        readers[index].inform(card);
+    }
+}
+
+/// After a phase the card meets a note of each reader's seat.
+pub(crate) fn hear_readers(card: &mut Card<'_, '_>, readers: &mut [LabReader<'_>])
+    requires { All (IsOf card.old) readers.old }
+    ensures card { IsSameCard card.old card.new }
+    ensures heard { AreEach (IsHeardBy card.old) 0 readers.old readers.new }
+{
+    for index in 0..readers.len() {
+        readers[index].hear(card);
+    }
+}
+
+/// All readers do their lines, one reader after the other, each behind its gate.
+pub(crate) fn run_in_turn<G: Gate>(
+    readers: &mut [LabReader<'_>],
+    gates: &mut [G],
+    phase: u32,
+    lines: &[Line],
+)
+    requires few { All (λ (line : Line). IsFewRead line.op) lines.now }
+    requires gates { length readers.old ≤ length gates.old }
+    requires ready { All (IsReady lines.now) readers.old }
+    ensures { AreEach (RunsBehind (stops_at G.stops gates.old) (stops_at G.stops gates.new)
+        phase lines.now) 0 readers.old readers.new }
+{
+    for index in 0..readers.len() {
+        readers[index].run_lines(&mut gates[index], phase, lines);
+    }
+}
+
+/// Moves the rows of all readers to the end of the lab's. It refuses, with `Memory`, only where no memory is left.
+pub(crate) fn take_reader_rows(
+    rows: &mut Vec<Row>,
+    readers: &mut [LabReader<'_>],
+) -> Result<(), PcmError>
+    ensures rows { OnOk result (rows.new.items ≡ rows.old.items ++ flat_map rows_of readers.old) }
+    ensures readers { OnOk result (AreEach HasRowsTaken 0 readers.old readers.new) }
+    ensures only { IfErr result (λ e. e ≡ PcmError.Memory) }
+{
+    for index in 0..readers.len() {
+        rows.reserve(readers[index].rows().len())?;
+        readers[index].take_rows(rows);
+    }
+    Ok(())
+}
+
+/// How many readers have lines among those of a phase.
+pub(crate) fn count_busy(readers: &[LabReader<'_>], lines: &[Line]) -> usize
+    ensures value { result ≡ count_by (is_busy lines.now) readers.now }
+    ensures most { result ≤ length readers.now }
+{
+    let mut count = 0;
+    for index in 0..readers.len() {
+        if readers[index].has_lines(lines) {
+            count += 1;
+        }
+    }
+    count
+}
+
+/// Closes a reader if it was stopped; its seat is let go.
+fn reap_reader(reader: &mut LabReader<'_>)
+    ensures { IsReaped 0 reader.old reader.new }
+{
+    if reader.is_stopped() {
+        let _seat = reader.close();
+    }
+}
+
+/// Closes each reader that was stopped; its seat is let go.
+pub(crate) fn reap_readers(readers: &mut [LabReader<'_>])
+    ensures { AreEach IsReaped 0 readers.old readers.new }
+{
+    for index in 0..readers.len() {
+        reap_reader(&mut readers[index]);
+    }
+}
