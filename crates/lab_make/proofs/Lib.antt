@@ -1,0 +1,11 @@
+pub mod Appended
+pub mod Generator
+pub mod Numerals
+pub mod LineTexts
+pub mod NumberTests
+pub mod Names
+pub mod Places
+pub mod Sizes
+pub mod LineSteps
+pub mod Reading
+pub mod Turns

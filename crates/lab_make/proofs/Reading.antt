@@ -1,0 +1,240 @@
+-- The text of a workload spells its script: the reader of scripts goes through its lines.
+use Rattle.std.proofs.Common.{◌≡◌, ℕ, zero, suc, ◌+◌, ◌*◌, ◌<◌, ◌≤◌, ◌==◌, true, false, List, [], ◌∷◌, ◌++◌, length, map, codes, Option, Some, None, option_map, Ok, nat_le, nat_lt, is_none, refl, ap, sym, ◌∙◌, arith, add-zero, zero-add}
+use Rattle.std.specs.List.{enumerate_from, position, range_with_len}
+use Rattle.std.specs.Fmt.{decimal, digits}
+use Rattle.std.proofs.lemmas.Bool.{false≢true}
+use Rattle.std.proofs.lemmas.Bool.Decides.{nat_tests, Decides-eqb}
+use Rattle.std.proofs.lemmas.List.FromFn.{length-map-range_with_len, map-range_with_len_more}
+use Rattle.lab_script.specs.declared.line.Actor.{Actor}
+use Rattle.lab_script.specs.declared.line.Actor.TheVariants.{Card, Client, Reader}
+use Rattle.lab_script.specs.declared.line.Item.{Item}
+use Rattle.lab_script.specs.declared.line.Line.{Line}
+use Rattle.lab_script.specs.declared.line.Op.TheVariants as op
+use Rattle.lab_script.specs.Causes.{◌>>=◌}
+use Rattle.lab_script.specs.Draft.{State, ends_lap, inside, is_beside, is_client, is_reader, keywords, named, or_else, unknown_inside, with_client, with_line, with_words}
+use Rattle.lab_script.specs.Keys.{row_of}
+use Rattle.lab_script.specs.Reading.{after, on_line}
+use Rattle.lab_make.specs.Files.{file_name}
+use Rattle.lab_make.specs.Lines.{client_name, client_words, frames_written, open_words, write_words}
+use Rattle.lab_make.specs.Script.{made_card, made_client, made_opening, turn_line, write_line}
+use Rattle.lab_make.proofs.LineSteps.{IsTaken, client_of-plain, number_of-decimal, op_of-play, op_of-write, with_line-plain, with_open-plain, with_phase-plain}
+use Rattle.lab_make.proofs.Names.{client_name-is_name, client_name-same, file_name-is_file, frames_written-lt}
+use Rattle.lab_make.proofs.Places.{position-first, position-none}
+use Rattle.lab_make.proofs.NumberTests.{below_test}
+
+-- outside a phase: so many clients are declared, these items are done, and so many turns
+abbrev pub outside_of : ℕ → List Item → ℕ → State
+outside_of clients body turns = record {
+  card = made_card;
+  clients = map made_client (range_with_len 0 clients);
+  readers = [];
+  body = body;
+  phase = None;
+  lines = [];
+  phases = 2 * turns;
+  played = 64 * turns;
+  gone = false;
+}
+
+-- in a phase that began on this line and has these lines, after so many phases and frames
+abbrev pub inside_of : ℕ → List Item → ℕ → List Line → ℕ → ℕ → State
+inside_of clients body begin lines phases played = record {
+  card = made_card;
+  clients = map made_client (range_with_len 0 clients);
+  readers = [];
+  body = body;
+  phase = Some begin;
+  lines = lines;
+  phases = phases;
+  played = played;
+  gone = false;
+}
+
+-- a line that is taken
+pub after-step : (s t : State) (n : ℕ) (words : List (List ℕ)) (lines : List (ℕ × List (List ℕ))) → with_words s n words ≡ Ok t → after s ((n, words) ∷ lines) ≡ after t lines
+after-step s t n words lines e = ap (λ r. on_line n r (λ next. after next lines)) e
+
+none_is : {A : Type 0} (o : Option A) → is_none o ≡ true → o ≡ None
+none_is None e = refl
+none_is (Some x) e = absurd (false≢true e)
+
+nat_eq-lt : (j k : ℕ) → j < k → (j == k) ≡ false
+nat_eq-lt j k h = grind (arith, nat_tests)
+
+nat_le-lt : (a b : ℕ) → b < a → nat_le a b ≡ false
+nat_le-lt a b h = grind (arith, nat_tests)
+
+nat_le-le : (a b : ℕ) → a ≤ b → nat_le a b ≡ true
+nat_le-le a b h = grind (arith, nat_tests)
+
+pub nat_lt-le : (a b : ℕ) → b ≤ a → nat_lt a b ≡ false
+nat_lt-le a b h = grind (arith, nat_tests)
+
+-- no client has the name of a later one
+position-later : (k : ℕ) → k < 64 → position (is_client (client_name k)) (map made_client (range_with_len 0 k)) ≡ None
+position-later k h =
+    position-none (is_client (client_name k)) made_client k
+    (λ j l. client_name-same (0 + j) k (omega arith) h ∙ nat_eq-lt (0 + j) k (omega arith))
+
+-- the client of a name
+position-own : (clients k : ℕ) → clients ≤ 64 → k < clients → position (is_client (client_name k)) (map made_client (range_with_len 0 clients)) ≡ Some k
+position-own clients k few h =
+    position-first (is_client (client_name k)) made_client clients k h
+    (λ j l. client_name-same (0 + j) k (omega arith) (omega arith) ∙ nat_eq-lt (0 + j) k (omega arith))
+    (client_name-same (0 + k) k (omega arith) (omega arith) ∙ (Decides-eqb (0 + k) k).1 (zero-add k))
+
+-- a client by its place
+abbrev pub by_place : Option ℕ → List ℕ → Option Actor
+by_place place name = or_else (option_map Client place) (option_map Reader (position (is_reader name) []))
+
+-- a client is declared
+with_words-client : (k : ℕ) → k < 64 → with_words (outside_of k [] 0) (k + 2) (client_words k) ≡ Ok (outside_of (k + 1) [] 0)
+unfolding with_client
+with_words-client k h =
+    let s = outside_of k [] 0 in
+    let new : named s (client_name k) ≡ None = ap (λ place. by_place place (client_name k)) (position-later k h) in
+    let count = length-map-range_with_len made_client 0 k in
+    let room : nat_le 64 (length s.clients) ≡ false = ap (nat_le 64) count ∙ nat_le-lt 64 k h in
+    let client = client_of-plain s (k + 2) (client_name k) (file_name k) (client_name-is_name k h) (file_name-is_file k h) new room refl in
+    ap (λ c. c >>= (λ client. Ok (record s { clients = s.clients ++ client ∷ [] }))) client
+    ∙ ap (λ cs. Ok (record s { clients = cs })) (sym (map-range_with_len_more made_client 0 k k (zero-add k)))
+
+-- the lines of clients
+pub after-clients : (j k m : ℕ) (tail : List (List (List ℕ))) → m ≡ k + 2 → k + j ≤ 64
+    → after (outside_of k [] 0) (enumerate_from m (map client_words (range_with_len k j) ++ tail)) ≡ after (outside_of (k + j) [] 0) (enumerate_from (m + j) tail)
+after-clients zero k m tail at few =
+    ap (λ n. after (outside_of n [] 0) (enumerate_from m tail)) (sym (add-zero k)) ∙ ap (λ n. after (outside_of (k + 0) [] 0) (enumerate_from n tail)) (sym (add-zero m))
+after-clients (suc j) k m tail at few =
+    let rest = map client_words (range_with_len (k + 1) j) ++ tail in
+    let here : with_words (outside_of k [] 0) m (client_words k) ≡ Ok (outside_of (k + 1) [] 0) =
+    ap (λ n. with_words (outside_of k [] 0) n (client_words k)) at ∙ with_words-client k (omega arith) in
+    let next = after-clients j (k + 1) (m + 1) tail (omega arith) (omega arith) in
+    let clients : k + 1 + j ≡ k + suc j = omega arith in
+    let line : m + 1 + j ≡ m + suc j = omega arith in
+    after-step (outside_of k [] 0) (outside_of (k + 1) [] 0) m (client_words k) (enumerate_from (m + 1) rest) here
+    ∙ next
+    ∙ ap (λ n. after (outside_of n [] 0) (enumerate_from (m + 1 + j) tail)) clients
+    ∙ ap (λ n. after (outside_of (k + suc j) [] 0) (enumerate_from n tail)) line
+
+-- the openings of the first clients
+abbrev pub openings : ℕ → ℕ → List Item
+openings clients k = map (made_opening clients) (range_with_len 0 k)
+
+-- a client is opened
+with_words-open : (clients k : ℕ) → clients ≤ 64 → k < clients
+    → with_words (outside_of clients (openings clients k) 0) (clients + 2 + k) (open_words k) ≡ Ok (outside_of clients (openings clients (k + 1)) 0)
+with_words-open clients k few h =
+    let s = outside_of clients (openings clients k) 0 in
+    let known : named s (client_name k) ≡ Some (Client k) = ap (λ place. by_place place (client_name k)) (position-own clients k few h) in
+    with_open-plain s (clients + 2 + k) (client_name k) (Client k) known
+    ∙ ap (λ items. Ok (outside_of clients items 0)) (sym (map-range_with_len_more (made_opening clients) 0 k k (zero-add k)))
+
+-- the lines that open clients
+pub after-opens : (clients j k m : ℕ) (tail : List (List (List ℕ))) → m ≡ clients + 2 + k → clients ≤ 64 → k + j ≤ clients
+    → after (outside_of clients (openings clients k) 0) (enumerate_from m (map open_words (range_with_len k j) ++ tail))
+    ≡ after (outside_of clients (openings clients (k + j)) 0) (enumerate_from (m + j) tail)
+after-opens clients zero k m tail at few within =
+    ap (λ n. after (outside_of clients (openings clients n) 0) (enumerate_from m tail)) (sym (add-zero k))
+    ∙ ap (λ n. after (outside_of clients (openings clients (k + 0)) 0) (enumerate_from n tail)) (sym (add-zero m))
+after-opens clients (suc j) k m tail at few within =
+    let s = outside_of clients (openings clients k) 0 in
+    let t = outside_of clients (openings clients (k + 1)) 0 in
+    let rest = map open_words (range_with_len (k + 1) j) ++ tail in
+    let here : with_words s m (open_words k) ≡ Ok t = ap (λ n. with_words s n (open_words k)) at ∙ with_words-open clients k few (omega arith) in
+    let next = after-opens clients j (k + 1) (m + 1) tail (omega arith) few (omega arith) in
+    let opened : k + 1 + j ≡ k + suc j = omega arith in
+    let line : m + 1 + j ≡ m + suc j = omega arith in
+    after-step s t m (open_words k) (enumerate_from (m + 1) rest) here
+    ∙ next
+    ∙ ap (λ n. after (outside_of clients (openings clients n) 0) (enumerate_from (m + 1 + j) tail)) opened
+    ∙ ap (λ n. after (outside_of clients (openings clients (k + suc j)) 0) (enumerate_from n tail)) line
+
+-- the lines of the first clients that write in a turn
+abbrev pub written : ℕ → ℕ → ℕ → List Line
+written clients turn k = map (write_line clients turn) (range_with_len 0 k)
+
+-- no line of the clients is one that unplugs the card
+is_beside-written : (clients turn k n : ℕ) → is_beside (written clients turn k) (op.Write n) ≡ false
+is_beside-written clients turn zero n = refl
+is_beside-written clients turn (suc k) n = refl
+
+-- the card is far from the last lap of its ring
+ends_lap-made : (played : ℕ) → played ≤ 64000 → ends_lap made_card played ≡ false
+ends_lap-made played h = nat_lt-le (4294967295 * 1024) (0 * 1024 + played + 1024) (omega arith)
+
+-- the name of a client is no keyword
+keyword_of-name : (k : ℕ) → k < 64 → row_of keywords (client_name k) ≡ None
+unfolding digits
+keyword_of-name k h = none_is (row_of keywords (client_name k)) (below_test (λ j. is_none (row_of keywords (client_name j))) 64 k refl h)
+
+-- in a phase a line of a client
+with_words-inside : (clients k m : ℕ) (body : List Item) (begin phases played : ℕ) (lines : List Line) (words : List (List ℕ)) → clients ≤ 64 → k < clients
+    → with_words (inside_of clients body begin lines phases played) m (client_name k ∷ words)
+    ≡ with_line (inside_of clients body begin lines phases played) m (Client k) words
+with_words-inside clients k m body begin phases played lines words few h =
+    let s = inside_of clients body begin lines phases played in
+    let known : named s (client_name k) ≡ Some (Client k) = ap (λ place. by_place place (client_name k)) (position-own clients k few h) in
+    ap (λ word. inside s m (client_name k) word words) (keyword_of-name k (omega arith)) ∙ ap (λ actor. unknown_inside s m actor words) known
+
+-- a client writes
+with_words-write : (clients turn k : ℕ) (body : List Item) (phases played : ℕ) → clients ≤ 64 → k < clients → played ≤ 64000
+    → with_words (inside_of clients body (turn_line clients turn) (written clients turn k) phases played) (turn_line clients turn + 1 + k) (write_words turn k)
+    ≡ Ok (inside_of clients body (turn_line clients turn) (written clients turn (k + 1)) phases played)
+with_words-write clients turn k body phases played few h short =
+    let begin = turn_line clients turn in
+    let s = inside_of clients body begin (written clients turn k) phases played in
+    let n = frames_written turn k in
+    let small = frames_written-lt turn k in
+    let asked = op_of-write k n (decimal n) (number_of-decimal n small) (nat_le-le n 4194304 (omega arith)) in
+    let taken : IsTaken s (Client k) (op.Write n) = record {
+      alone = is_beside-written clients turn k n;
+      plugged = refl;
+      frames = nat_lt-le 4194304 (played + 0) (omega arith);
+      laps = ends_lap-made (played + 0) (omega arith);
+    } in
+    with_words-inside clients k (begin + 1 + k) body begin phases played (written clients turn k) (codes "write" ∷ decimal n ∷ []) few h
+    ∙ with_line-plain s (begin + 1 + k) (Client k) (codes "write" ∷ decimal n ∷ []) (op.Write n) asked taken
+    ∙ ap (λ lines. Ok (inside_of clients body begin lines phases (played + 0))) (sym (map-range_with_len_more (write_line clients turn) 0 k k (zero-add k)))
+    ∙ ap (λ frames. Ok (inside_of clients body begin (written clients turn (k + 1)) phases frames)) (add-zero played)
+
+-- the lines with which clients write
+pub after-writes : (clients turn : ℕ) (body : List Item) (phases played j k m : ℕ) (tail : List (List (List ℕ))) → m ≡ turn_line clients turn + 1 + k
+    → clients ≤ 64 → k + j ≤ clients → played ≤ 64000
+    → after (inside_of clients body (turn_line clients turn) (written clients turn k) phases played) (enumerate_from m (map (write_words turn) (range_with_len k j) ++ tail))
+    ≡ after (inside_of clients body (turn_line clients turn) (written clients turn (k + j)) phases played) (enumerate_from (m + j) tail)
+after-writes clients turn body phases played zero k m tail at few within short =
+    let state : ℕ → State = λ n. inside_of clients body (turn_line clients turn) (written clients turn n) phases played in
+    ap (λ n. after (state n) (enumerate_from m tail)) (sym (add-zero k)) ∙ ap (λ n. after (state (k + 0)) (enumerate_from n tail)) (sym (add-zero m))
+after-writes clients turn body phases played (suc j) k m tail at few within short =
+    let state : ℕ → State = λ n. inside_of clients body (turn_line clients turn) (written clients turn n) phases played in
+    let rest = map (write_words turn) (range_with_len (k + 1) j) ++ tail in
+    let here : with_words (state k) m (write_words turn k) ≡ Ok (state (k + 1)) =
+    ap (λ n. with_words (state k) n (write_words turn k)) at ∙ with_words-write clients turn k body phases played few (omega arith) short in
+    let next = after-writes clients turn body phases played j (k + 1) (m + 1) tail (omega arith) few (omega arith) short in
+    let lines : k + 1 + j ≡ k + suc j = omega arith in
+    let line : m + 1 + j ≡ m + suc j = omega arith in
+    after-step (state k) (state (k + 1)) m (write_words turn k) (enumerate_from (m + 1) rest) here
+    ∙ next
+    ∙ ap (λ n. after (state n) (enumerate_from (m + 1 + j) tail)) lines
+    ∙ ap (λ n. after (state (k + suc j)) (enumerate_from n tail)) line
+
+-- a phase begins
+pub with_words-phase : (clients : ℕ) (body : List Item) (phases played n : ℕ) (s : State) → s ≡ record (inside_of clients body 0 [] phases played) { phase = None } → phases < 4096
+    → with_words s n (codes "phase" ∷ []) ≡ Ok (inside_of clients body n [] (phases + 1) played)
+with_words-phase clients body phases played n s is h =
+    let t = record (inside_of clients body 0 [] phases played) { phase = None } in
+    ap (λ u. with_words u n (codes "phase" ∷ [])) is ∙ with_phase-plain t n (nat_le-lt 4096 phases h)
+
+-- the card plays
+pub with_words-play : (clients : ℕ) (body : List Item) (begin phases played n : ℕ) → played + 64 ≤ 64000
+    → with_words (inside_of clients body begin [] phases played) n (codes "card" ∷ codes "play" ∷ codes "64" ∷ [])
+    ≡ Ok (inside_of clients body begin ((record { number = n; actor = Card; op = op.Play 64 }) ∷ []) phases (played + 64))
+with_words-play clients body begin phases played n short =
+    let s = inside_of clients body begin [] phases played in
+    let taken : IsTaken s Card (op.Play 64) = record {
+      alone = refl;
+      plugged = refl;
+      frames = nat_lt-le 4194304 (played + 64) (omega arith);
+      laps = ends_lap-made (played + 64) short;
+    } in
+    with_line-plain s n Card (codes "play" ∷ codes "64" ∷ []) (op.Play 64) op_of-play taken

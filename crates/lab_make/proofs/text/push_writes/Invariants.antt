@@ -1,0 +1,9 @@
+-- The lines so far are those of the first clients.
+use Rattle.std.proofs.Common.{◌≡◌, ◌++◌, map, string_bytes}
+use Rattle.std.specs.List.{range_with_len}
+use Rattle.lab_make.specs.Lines.{lines_text, write_words}
+use Rattle.lab_make.proofs.text.push_writes.Given as goal
+
+abbrev pub invariant-loop-client : goal.invariant-loop-client
+invariant-loop-client l =
+    string_bytes l.text ≡ string_bytes l.fn.text ++ lines_text (map (write_words l.turn) (range_with_len 0 l.client))

@@ -1,0 +1,5 @@
+pub mod Files
+pub mod Workload
+pub mod Lines
+pub mod Script
+pub mod Summary

@@ -1,0 +1,20 @@
+//! Workloads: WAV files of pseudorandom samples and a script that plays them, each made from a seed
+//! and two counts, and the summary of a run of them.
+#![tactic(auto)]
+
+mod files;
+mod input;
+mod script;
+mod summary;
+mod text;
+mod workload;
+
+pub use files::{file_name, made_files};
+pub use input::{Made, make};
+pub use script::made_script;
+pub use summary::{Summary, summary_of};
+pub use text::made_text;
+pub use workload::{Workload, WorkloadError, read_workload};
+
+#[cfg(test)]
+mod tests;
