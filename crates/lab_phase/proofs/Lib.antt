@@ -1,0 +1,4 @@
+mod Beginning
+mod FirstSetups
+mod Numbers
+mod Rings

@@ -1,0 +1,55 @@
+use Rattle.std.proofs.Common.{arith, refl, sym, ap, subst, ◌<◌, length, ℕ}
+use Rattle.lab_script.specs.declared.line.Actor.{Actor}
+use Rattle.lab_script.specs.declared.line.Actor.TheVariants as whose
+use Rattle.lab_script.specs.Limits.{IsBorder}
+use Rattle.lab_run.specs.Stage.{after_close}
+use Rattle.lab_phase.specs.declared.lab.Lab.{Lab}
+use Rattle.lab_phase.specs.AtStage.{DoesRow, capture_of, session_of}
+use Rattle.lab_phase.specs.Borders.{after_close-keeps_clients, after_close-keeps_readers}
+use Rattle.lab_phase.specs.BorderLaws.{DoesRow-clients, DoesRow-reader}
+use Rattle.snoop_table.specs.Readers as seats
+use Rattle.lab_phase.proofs.Numbers.{client_count, reader_count}
+use Rattle.lab_phase.proofs.lab.Lab.close.Goals as goal
+
+pub close-requires-clause-number : goal.close-requires-clause-number
+close-requires-clause-number c =
+    let lab : Lab = c.args.self.now in
+    let low : c.in-Client.number < length lab.script.now.clients =
+    subst (IsBorder (length lab.script.now.clients) (length lab.script.now.readers)) c.in-Client.is c.requires.actor in
+    let count = client_count lab c.requires.at.stage c.requires.at.at in
+    omega (arith, low, count)
+
+pub close-requires-in-Reader : goal.close-requires-in-Reader
+close-requires-in-Reader c =
+    let lab : Lab = c.args.self.now in
+    let low : c.in-Reader.number < length lab.script.now.readers =
+    subst (IsBorder (length lab.script.now.clients) (length lab.script.now.readers)) c.in-Reader.is c.requires.actor in
+    let count = reader_count lab c.requires.at.stage c.requires.at.at in
+    omega (arith, low, count)
+
+pub returns-in-Client : goal.returns-in-Client
+returns-in-Client c =
+    let lab : Lab = c.args.self.now in
+    let number : ℕ = c.in-Client.number in
+    let after : Lab = record lab { clients = c.close.new.self } in
+    record {
+      does = subst (λ (who : Actor). DoesRow (λ stage. after_close (session_of lab) stage who) lab c.close.result after) (sym c.in-Client.is)
+          (DoesRow-clients lab after (λ stage. after_close (session_of lab) stage (whose.Client number)) c.close.result
+          (record { script = refl; wavs = refl; capture = refl; openings = refl }) (record { rows = refl; phases = refl; next = refl }) refl refl c.close.ensures.card
+          (λ stage. after_close-keeps_readers (session_of lab) stage number)
+          (λ stage at. c.close.ensures.after (session_of lab) stage (record { are = at.actors.clients_are; phase_is = at.phases })));
+    }
+
+pub returns-in-Reader : goal.returns-in-Reader
+returns-in-Reader c =
+    let lab : Lab = c.args.self.now in
+    let number : ℕ = c.in-Reader.number in
+    let after : Lab = record lab { readers = c.close-in-Reader.new.self } in
+    record {
+      does = subst (λ (who : Actor). DoesRow (λ stage. after_close (session_of lab) stage who) lab c.close-in-Reader.result after) (sym c.in-Reader.is)
+          (DoesRow-reader lab after (λ stage. after_close (session_of lab) stage (whose.Reader number)) c.close-in-Reader.result
+          (record { script = refl; wavs = refl; capture = refl; openings = refl }) (record { rows = refl; phases = refl; next = refl }) refl refl
+          (record { ring = ap (λ s. seats.ring_of s) c.close-in-Reader.ensures.spare; geometry = ap (λ s. seats.geometry_of s) c.close-in-Reader.ensures.spare })
+          (λ stage. after_close-keeps_clients (session_of lab) stage number)
+          (λ stage at. c.close-in-Reader.ensures.closed (session_of lab) (capture_of lab) stage (record { are = at.actors.readers_are; phases = at.phases })));
+    }

@@ -1,0 +1,78 @@
+use Rattle.std.specs.Prelude.{[], Option}
+use Rattle.std.specs.Option.{option_copied}
+use Rattle.std.proofs.Common.{refl, sym, ap, ◌∙◌, ◌≡◌, length}
+use Rattle.sum_table.specs.Players.{player_key, player_ring}
+use Rattle.sum_table.specs.Seats.{key_of}
+use Rattle.snoop_table.specs.declared.seats.reader.ReaderSeat.{ReaderSeat}
+use Rattle.snoop_table.specs.Readers as seats
+use Rattle.snoop_table.specs.Writers.{writer_geometry, writer_ring}
+use Rattle.card_player.specs.declared.player.CardPlayer.{CardPlayer}
+use Rattle.card_player.specs.Plays.{seat_of}
+use Rattle.card_sim.specs.declared.card.Card.{Card}
+use Rattle.card_sim.specs.Runs.{period_of, writer_of}
+use Rattle.wav_io.specs.Sound.{Sound}
+use Rattle.lab_run.specs.Stage.{Session}
+use Rattle.lab_card.specs.declared.card.CardActor.{CardActor}
+use Rattle.lab_card.specs.Moves.{seat_of_card}
+use Rattle.lab_setup.specs.Sessions.{session_with}
+use Rattle.lab_phase.proofs.Beginning.{IsCardIn-new}
+use Rattle.lab_phase.proofs.FirstSetups.{AllFitCard-session, AreUsable-ring, first_frame-ring}
+use Rattle.lab_phase.proofs.Numbers.{AreClientOpenings-length, AreReaderOpenings-length}
+use Rattle.lab_phase.proofs.Rings.{IsRingOf-unique}
+use Rattle.lab_phase.proofs.lab.Lab.new.Goals as goal
+
+pub returns-clause-first : goal.returns-clause-first
+returns-clause-first c =
+    let script = c.args.script.now in
+    let session : Session = session_with script c.args.wavs.now c.in_ok-openings.openings in
+    let capture : Option Sound = option_copied c.args.capture in
+    let is = c.in_ok-openings.ensures.session in
+    let shape : (key_of c.args.mix).geometry ≡ session.ring = IsRingOf-unique script.card (key_of c.args.mix).geometry session.ring c.requires.ring is.ring in
+    let first = first_frame-ring session.card session.ring is.ring in
+    let a : CardActor = c.new-4.result in
+    let seat : seat_of_card a.card ≡ c.args.player =
+    ap (λ (d : Card). seat_of_card d) c.new-4.ensures.card ∙ (ap (λ (p : CardPlayer). seat_of p) c.new-card.ensures.player ∙ c.new-3.ensures.seat) in
+    let writer : writer_of a.card ≡ c.args.writer = ap (λ (d : Card). writer_of d) c.new-4.ensures.card ∙ c.new-card.ensures.writer in
+    let period : period_of a.card ≡ session.card.period = ap (λ (d : Card). period_of d) c.new-4.ensures.card ∙ c.new-card.ensures.period in
+    let usable_clients = AreUsable-ring script.card session.ring session.clients is.ring c.in_ok-openings.ensures.clients in
+    let usable_readers = AreUsable-ring script.card session.ring session.readers is.ring c.in_ok-openings.ensures.readers in
+    record {
+      actors = record {
+        card_is = record {
+          is = IsCardIn-new session capture a (key_of c.args.mix) c.args.player c.args.mix (seats.geometry_of c.args.reader) c.args.writer c.args.reader c.requires.sum_ring
+              c.requires.snoop_ring seat writer period shape first (ap (λ v. v) c.new-4.ensures.played);
+          rows = c.new-4.ensures.rows;
+          rings = record {
+            sum_ring = c.in_ok-clients.ensures.ring ∙ (sym c.requires.sum_ring.one_ring ∙ ap player_ring (sym seat));
+            sum_key = c.in_ok-clients.ensures.key ∙ (sym c.requires.sum_ring.player_key ∙ ap player_key (sym seat));
+            snoop_ring = ap (λ (s : ReaderSeat). seats.ring_of s) c.in_ok-readers.ensures.spare ∙ (sym c.requires.snoop_ring.one_ring ∙ ap writer_ring (sym writer));
+            snoop_geometry = ap (λ (s : ReaderSeat). seats.geometry_of s) c.in_ok-readers.ensures.spare
+                ∙ (sym c.requires.snoop_ring.of_writer ∙ ap writer_geometry (sym writer));
+          };
+        };
+        clients_are = c.in_ok-clients.ensures.first session
+            (record {
+              setups = AllFitCard-session session script.clients c.args.wavs.now refl is.clients usable_clients;
+              ring = shape;
+              places = c.requires.sum_ring.places ∙ c.requires.places;
+              first = first;
+              share_is = refl;
+            })
+            (AreClientOpenings-length script.card script.clients c.args.wavs.now session.clients is.clients ∙ ap length (sym c.as_slice.ensures));
+        readers_are = c.in_ok-readers.ensures.stage session capture
+            (record {
+              card = record { ring = c.requires.one_shape ∙ shape; first = first };
+              usable = usable_readers;
+              count_is = AreReaderOpenings-length script.card script.readers session.readers is.readers ∙ ap length (sym c.as_slice-2.ensures);
+            });
+      };
+      rows = c.new-5.ensures.items;
+      phases = refl;
+      has_done = record {
+        done = [];
+        others = script.body;
+        next = refl;
+        reached = record { script_is = c.requires.script; session_is = is; body = refl; may = refl };
+      };
+      set_up = record { clients = c.in_ok-openings.ensures.clients; readers = c.in_ok-openings.ensures.readers };
+    }

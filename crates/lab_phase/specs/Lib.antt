@@ -1,0 +1,11 @@
+pub mod Alone
+pub mod AtStage
+pub mod BorderLaws
+pub mod Borders
+pub mod CardStage
+pub mod Counts
+pub mod PhaseLaws
+pub mod PhaseSteps
+pub mod Played
+pub mod Reached
+pub mod Scripts

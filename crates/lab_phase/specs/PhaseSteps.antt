@@ -1,0 +1,97 @@
+-- What the steps of a phase make of the card, the clients and the readers of a lab.
+use Rattle.std.specs.Prelude.{◌≡◌, ℕ, List, [], ◌++◌, Option}
+use Rattle.std.specs.List.{flat_map}
+use Rattle.wav_io.specs.Sound.{Sound}
+use Rattle.card_sim.specs.declared.card.Card.{Card}
+use Rattle.lab_script.specs.declared.line.Line.{Line}
+use Rattle.lab_script.specs.Script.{is_of_card}
+use Rattle.lab_report.specs.declared.row.Row.{Row}
+use Rattle.lab_run.specs.Phases.{ops_by}
+use Rattle.lab_actors.specs.Gates.{stops_at}
+use Rattle.lab_actors.specs.Walks.{AreEach}
+use Rattle.lab_card.specs.declared.card.CardActor.{CardActor}
+use Rattle.lab_card.specs.CardLines.{CardPart, frames_by}
+use Rattle.lab_card.specs.Meets.{IsSameCard}
+use Rattle.lab_card.specs.Room as card_room
+use Rattle.lab_client.specs.Clients as client
+use Rattle.lab_clients.specs.declared.clients.LabClients.{LabClients}
+use Rattle.lab_clients.specs.AtStage.{clients_of, places_of}
+use Rattle.lab_clients.specs.Steps as clients
+use Rattle.lab_reader.specs.Readers as reader
+use Rattle.lab_readers.specs.declared.readers.LabReaders.{LabReaders}
+use Rattle.lab_readers.specs.AtStage.{readers_of}
+use Rattle.lab_readers.specs.Steps as readers
+use Rattle.lab_readers.specs.Steps.{EachReader}
+
+-- what a phase asks of its actors: its number and its lines, the clients' files, and the file that the card captures
+pub record Asks : Type 0 where
+  pub sounds : List Sound
+  pub capture : Option Sound
+  pub phase : ℕ
+  pub lines : List Line
+
+-- all have the room that the lines want, and are else as they were
+pub record HaveRoom (lines : List Line) (a b : CardActor) (cs ds : LabClients) (rs ss : LabReaders) : Type 0 where
+  pub card : b.card ≡ a.card
+  pub played : b.played.items ≡ a.played.items
+  pub rows : b.rows.items ≡ a.rows.items
+  pub room : card_room.HasRoom b (Rattle.std.specs.Prelude.length (ops_by is_of_card lines)) (frames_by (ops_by is_of_card lines))
+  pub clients : AreEach (clients.HasTakenRoom lines) 0 (clients_of cs) (clients_of ds)
+  pub places : places_of ds ≡ places_of cs
+  pub readers : EachReader (readers.HasTakenRoom lines) rs ss
+
+-- the card did its lines; the clients, and the readers, did theirs, each behind its gate
+abbrev pub CardHasRun : Asks → CardActor → CardActor → Type 0
+CardHasRun asked a b = CardPart asked.capture asked.phase a b (ops_by is_of_card asked.lines)
+
+pub record ClientsHaveRun {G : Type 0} (stops : G → ℕ) (gates after : List G) (asked : Asks) (cs ds : LabClients) : Type 0 where
+  pub each : AreEach (clients.RunsAt stops gates after asked.sounds asked.phase asked.lines) 0 (clients_of cs) (clients_of ds)
+  pub places : places_of ds ≡ places_of cs
+
+abbrev pub ReadersHaveRun : {G : Type 0} → (G → ℕ) → List G → List G → Asks → LabReaders → LabReaders → Type 0
+ReadersHaveRun stops gates after asked rs ss = EachReader (readers.RunsBehind (stops_at stops gates) (stops_at stops after) asked.phase asked.lines) rs ss
+
+-- all did their lines
+pub record HaveRun {G : Type 0} (stops : G → ℕ) (near near_after far far_after : List G) (asked : Asks) (a b : CardActor) (cs ds : LabClients) (rs ss : LabReaders) : Type 0 where
+  pub card : CardHasRun asked a b
+  pub clients : ClientsHaveRun stops near near_after asked cs ds
+  pub readers : ReadersHaveRun stops far far_after asked rs ss
+
+-- a card that met notes or gave some, and did nothing else
+pub record IsSameButCard (a b : CardActor) : Type 0 where
+  pub card : IsSameCard a.card b.card
+  pub played : b.played ≡ a.played
+  pub rows : b.rows ≡ a.rows
+  pub captured : b.captured ≡ a.captured
+
+-- The meets before the lines, the lines, and the meets after them.
+pub record HaveMet {G : Type 0} (stops : G → ℕ) (near near_after far far_after : List G) (asked : Asks) (a : CardActor) (cs : LabClients) (rs : LabReaders)
+    (f : CardActor) (fs : LabClients) (gs : LabReaders) : Type 0 where
+  pub between : Card
+  pub before : CardActor
+  pub after : CardActor
+  pub heard : Card
+  pub informed_clients : LabClients
+  pub informed_readers : LabReaders
+  pub run_clients : LabClients
+  pub run_readers : LabReaders
+  pub first : IsSameCard a.card between
+  pub second : IsSameButCard a before
+  pub inform_clients : AreEach (clients.IsInformedBy a.card) 0 (clients_of cs) (clients_of informed_clients)
+  pub inform_readers : EachReader (readers.IsInformedBy between) rs informed_readers
+  pub run : HaveRun stops near near_after far far_after asked before after informed_clients run_clients informed_readers run_readers
+  pub third : IsSameCard after.card heard
+  pub last : IsSameButCard after f
+  pub hear_clients : AreEach (clients.IsHeardBy after.card) 0 (clients_of run_clients) (clients_of fs)
+  pub hear_readers : EachReader (readers.IsHeardBy heard) run_readers gs
+  pub places : places_of fs ≡ places_of cs
+
+-- the rows of all were moved to the end of the lab's
+pub record HaveGivenRows (rows after : List Row) (a b : CardActor) (cs ds : LabClients) (rs ss : LabReaders) : Type 0 where
+  pub all : after ≡ rows ++ a.rows.items ++ flat_map client.rows_of (clients_of cs) ++ flat_map reader.rows_of (readers_of rs)
+  pub card : b.card ≡ a.card
+  pub played : b.played ≡ a.played
+  pub none : b.rows.items ≡ []
+  pub clients : AreEach clients.HasClientRows 0 (clients_of cs) (clients_of ds)
+  pub places : places_of ds ≡ places_of cs
+  pub readers : EachReader readers.HasRowsTaken rs ss

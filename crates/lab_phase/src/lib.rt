@@ -1,0 +1,9 @@
+//! The lab: a script's clients, readers and card over the seats of a sum ring and a snoop ring, from the first item of the script's body
+//! to the end of its run.
+#![tactic(auto)]
+
+mod border;
+mod lab;
+mod seats;
+
+pub use lab::Lab;
