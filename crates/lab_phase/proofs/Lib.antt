@@ -1,4 +1,5 @@
 mod Beginning
+mod Ending
 mod FirstSetups
 mod Numbers
 mod Rings

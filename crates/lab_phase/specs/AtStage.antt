@@ -1,5 +1,5 @@
 -- The lab is at a stage of a run of its script.
-use Rattle.std.specs.Prelude.{◌≡◌, ◌+◌, ℤ, List, [], ◌∷◌, ◌++◌, length, slice_get, Option, Some, None, IsSomeAnd, ⊤}
+use Rattle.std.specs.Prelude.{◌≡◌, ℕ, ◌+◌, ℤ, List, [], ◌∷◌, ◌++◌, length, slice_get, Option, Some, None, IsSomeAnd, ⊤}
 use Rattle.std.specs.Option.{option_copied}
 use Rattle.sum_table.specs.Players.{player_key, player_ring}
 use Rattle.snoop_table.specs.Writers.{writer_geometry, writer_ring}
@@ -39,11 +39,12 @@ pub record AreOfRings (c : Card) (cs : LabClients) (rs : LabReaders) : Type 0 wh
   pub snoop_ring : readers.ring_of rs ≡ writer_ring (writer_of c)
   pub snoop_geometry : readers.geometry_of rs ≡ writer_geometry (writer_of c)
 
--- the card of a lab between two items: its rows are the lab's
+-- the card of a lab between two items: its rows are the lab's, and its sum ring has as many places as the session's card
 pub record IsCardOf (session : Session) (capture : Option Sound) (stage : Stage) (cs : LabClients) (rs : LabReaders) (a : CardActor) : Type 0 where
   pub is : IsCardIn session capture stage a
   pub rows : a.rows.items ≡ []
   pub rings : AreOfRings a.card cs rs
+  pub all_places : (key_of_places (clients.places_of cs)).places ≡ session.card.places
 
 -- the card, the clients and the readers of a lab are those of a stage
 pub record AreActorsOf (session : Session) (capture : Option Sound) (stage : Stage) (card : Option CardActor) (cs : LabClients) (rs : LabReaders) : Type 0 where

@@ -3,6 +3,8 @@ use Rattle.std.specs.Prelude.{◌≡◌, ℕ, zero, suc, ◌+◌, ◌<◌, List,
 use Rattle.std.specs.Global.{Vec}
 use Rattle.std.proofs.Common.{refl, sym, ap, subst, ◌∙◌, arith}
 use Rattle.std.proofs.lemmas.Option.{none-some}
+use Rattle.sum_table.specs.declared.view.Key.{Key}
+use Rattle.sum_table.specs.Seats.{TableId}
 use Rattle.wav_io.specs.Sound.{Sound}
 use Rattle.lab_script.specs.declared.line.Item.{Item}
 use Rattle.lab_script.specs.declared.line.Item.TheVariants as item
@@ -14,13 +16,13 @@ use Rattle.lab_run.specs.Stage.{Session, Stage}
 use Rattle.lab_card.specs.declared.card.CardActor.{CardActor}
 use Rattle.lab_setup.specs.declared.session.Openings.{Openings}
 use Rattle.lab_setup.specs.Sessions.{AreUsable, session_with}
-use Rattle.lab_places.specs.Held.{IsSameCard}
+use Rattle.lab_places.specs.Held.{IsSameCard, key_of_places, ring_of_places}
 use Rattle.lab_clients.specs.AtStage as clients
 use Rattle.lab_clients.specs.declared.clients.LabClients.{LabClients}
 use Rattle.lab_readers.specs.AtStage as readers
 use Rattle.lab_readers.specs.declared.readers.LabReaders.{LabReaders}
 use Rattle.lab_phase.specs.declared.lab.Lab.{Lab}
-use Rattle.lab_phase.specs.AtStage.{AddsRow, AreActorsAt, AreActorsOf, DoesItem, DoesRow, HasDone, AreSetUp, IsBorderItem, IsAtStage, IsNext, IsSameCount, IsSameRing, IsSameScript, border_after, capture_of, session_of}
+use Rattle.lab_phase.specs.AtStage.{AddsRow, AreActorsAt, AreActorsOf, AreOfRings, DoesItem, DoesRow, HasDone, AreSetUp, HasRowAt, IsBorderItem, IsAtStage, IsCardOf, IsNext, IsSameCount, IsSameRing, IsSameScript, border_after, capture_of, session_of}
 use Rattle.lab_phase.specs.Borders.{KeepsClients, KeepsReaders}
 use Rattle.lab_phase.specs.CardStage.{IsCardIn-same, IsSameActor, IsSameActor-none}
 use Rattle.lab_phase.specs.Reached.{IsFirstOf-next, IsReached-next, length-next}
@@ -42,6 +44,7 @@ module _ (session : Session) (capture : Option Sound) (stage next : Stage) where
             snoop_ring = own.rings.snoop_ring ∙ sym same.card.writer.ring;
             snoop_geometry = own.rings.snoop_geometry ∙ sym same.card.writer.geometry;
           };
+          all_places = ap (λ (key : Key). key.places) places.key ∙ own.all_places;
         };
         clients_are = after;
         readers_are = subst (λ xs. readers.AreAt session capture xs rs) (sym keeps.readers) are.readers_are;
@@ -63,6 +66,7 @@ module _ (session : Session) (capture : Option Sound) (stage next : Stage) where
             snoop_ring = ring.ring ∙ own.rings.snoop_ring;
             snoop_geometry = ring.geometry ∙ own.rings.snoop_geometry;
           };
+          all_places = own.all_places;
         };
         clients_are = subst (λ (held : Held). clients.AreAt session held next.clients cs) (sym keeps.held)
             (subst (λ xs. clients.AreAt session (held_of stage) xs cs) (sym keeps.clients) are.clients_are);

@@ -4,8 +4,10 @@ pub mod BorderLaws
 pub mod Borders
 pub mod CardStage
 pub mod Counts
+pub mod Ended
 pub mod PhaseLaws
 pub mod PhaseSteps
+pub mod Places
 pub mod Played
 pub mod Reached
 pub mod Scripts

@@ -3,7 +3,9 @@
 #![tactic(auto)]
 
 mod border;
+mod finish;
 mod lab;
 mod seats;
 
+pub use finish::Outcome;
 pub use lab::Lab;

@@ -1,8 +1,8 @@
-use Rattle.std.proofs.Common.{arith, refl, sym, ap, subst, ◌<◌, length, ℕ}
+use Rattle.std.proofs.Common.{arith, refl, sym, ap, subst, ◌≡◌, ◌<◌, length, ℕ}
 use Rattle.lab_script.specs.declared.line.Actor.{Actor}
 use Rattle.lab_script.specs.declared.line.Actor.TheVariants as whose
 use Rattle.lab_script.specs.Limits.{IsBorder}
-use Rattle.lab_run.specs.Stage.{after_close}
+use Rattle.lab_run.specs.Stage.{Stage, after_close}
 use Rattle.lab_phase.specs.declared.lab.Lab.{Lab}
 use Rattle.lab_phase.specs.AtStage.{DoesRow, capture_of, session_of}
 use Rattle.lab_phase.specs.Borders.{after_close-keeps_clients, after_close-keeps_readers}

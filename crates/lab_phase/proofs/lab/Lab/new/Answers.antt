@@ -1,6 +1,9 @@
 use Rattle.std.specs.Prelude.{[], Option}
 use Rattle.std.specs.Option.{option_copied}
-use Rattle.std.proofs.Common.{refl, sym, ap, ◌∙◌, ◌≡◌, length}
+use Rattle.std.proofs.Common.{refl, sym, ap, subst, ◌∙◌, ◌≡◌, List, length, ℕ}
+use Rattle.snd_base.specs.declared.geometry.Geometry.{Geometry}
+use Rattle.sum_table.specs.declared.seats.player.PlayerSeat.{PlayerSeat}
+use Rattle.sum_table.specs.declared.view.Key.{Key}
 use Rattle.sum_table.specs.Players.{player_key, player_ring}
 use Rattle.sum_table.specs.Seats.{key_of}
 use Rattle.snoop_table.specs.declared.seats.reader.ReaderSeat.{ReaderSeat}
@@ -9,7 +12,7 @@ use Rattle.snoop_table.specs.Writers.{writer_geometry, writer_ring}
 use Rattle.card_player.specs.declared.player.CardPlayer.{CardPlayer}
 use Rattle.card_player.specs.Plays.{seat_of}
 use Rattle.card_sim.specs.declared.card.Card.{Card}
-use Rattle.card_sim.specs.Runs.{period_of, writer_of}
+use Rattle.card_sim.specs.Runs.{period_of, player_of, writer_of}
 use Rattle.wav_io.specs.Sound.{Sound}
 use Rattle.lab_run.specs.Stage.{Session}
 use Rattle.lab_card.specs.declared.card.CardActor.{CardActor}
@@ -49,6 +52,7 @@ returns-clause-first c =
             snoop_geometry = ap (λ (s : ReaderSeat). seats.geometry_of s) c.in_ok-readers.ensures.spare
                 ∙ (sym c.requires.snoop_ring.of_writer ∙ ap writer_geometry (sym writer));
           };
+          all_places = ap (λ (key : Key). key.places) c.in_ok-clients.ensures.key ∙ c.requires.places;
         };
         clients_are = c.in_ok-clients.ensures.first session
             (record {

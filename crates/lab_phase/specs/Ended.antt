@@ -1,0 +1,63 @@
+-- What a run leaves, as the lab gives it at its end.
+use Rattle.std.specs.Prelude.{◌≡◌, ℕ, ℤ, List, length, map}
+use Rattle.std.specs.Global.{Vec}
+use Rattle.mix_core.specs.History.{AreExact, AreInOrder}
+use Rattle.mix_core.specs.Laid.{total}
+use Rattle.mix_core.specs.declared.port.Entry.{Entry}
+use Rattle.snd_base.specs.declared.places.Segment.{Segment}
+use Rattle.sum_table.specs.Players.{track_of}
+use Rattle.card_sim.specs.declared.card.Card.{Card}
+use Rattle.lab_run.specs.Client.{Client}
+use Rattle.lab_run.specs.Items.{Held}
+use Rattle.lab_run.specs.LabRun as runs
+use Rattle.lab_run.specs.LabRun.{AreWithin, LabRun, all_segments, entries_of, outcome_of}
+use Rattle.lab_run.specs.Rules.{AtPort}
+use Rattle.lab_run.specs.Stage.{Session, Stage}
+use Rattle.lab_card.specs.Moves.{geometry_of_card, seat_of_card}
+use Rattle.lab_places.specs.Held.{key_of_places}
+use Rattle.lab_clients.specs.AtStage as clients
+use Rattle.lab_clients.specs.declared.clients.LabClients.{LabClients}
+use Rattle.lab_phase.specs.declared.finish.Outcome.{Outcome}
+use Rattle.lab_phase.specs.declared.lab.Lab.{Lab}
+use Rattle.lab_phase.specs.AtStage.{IsAtStage, capture_of, session_of}
+
+-- what was left, as a run has it
+abbrev pub outcome_in : Outcome → runs.Outcome
+outcome_in outcome = record {
+  report = outcome.report;
+  played = outcome.played.items;
+  recorded = map (λ (samples : Vec ℤ). samples.items) outcome.recorded.items;
+}
+
+-- all items of its script's body are done
+abbrev pub IsAtEnd : Lab → Type 0
+IsAtEnd lab = lab.next ≡ length lab.script.now.body
+
+-- at whatever stage the lab was, this is what a run leaves that ends there
+abbrev pub LeavesStage : Lab → Outcome → Type 0
+LeavesStage lab outcome = (stage : Stage) → IsAtStage lab stage → outcome_in outcome ≡ outcome_of (session_of lab) (capture_of lab) stage
+
+-- a run of the script may leave it, where the actors' own gates stop them as often as at that stage
+abbrev pub LeavesRun : Lab → Outcome → Type 0
+LeavesRun lab outcome =
+    (stage : Stage) (client_stops reader_stops : ℕ → ℕ) → IsAtStage lab stage → AreWithin client_stops 0 stage.clients → AreWithin reader_stops 0 stage.readers
+    → LabRun (session_of lab) (capture_of lab) lab.script.now.body client_stops reader_stops (outcome_in outcome)
+
+-- the clients are those of a run, which has all places of their ring
+pub record HaveAllPlaces (cs : LabClients) : Type 0 where
+  pub session : Session
+  pub held : Held
+  pub xs : List (AtPort × Client)
+  pub are : clients.AreAt session held xs cs
+  pub all : length held.lobby.places ≡ (key_of_places (clients.places_of cs)).places
+
+-- a card took the words of its ring in order, and each is the saturated total of what segments say
+pub record IsMixOf (session : Session) (segments : List (ℕ × Segment)) (c : Card) : Type 0 where
+  pub in_order : AreInOrder (geometry_of_card c) (track_of (seat_of_card c)).taken
+  pub laid : List Entry
+  pub values : AreExact laid (track_of (seat_of_card c)).taken
+  pub totals : (f k : ℕ) → total laid f k ≡ total (entries_of session segments) f k
+
+-- and the segments are those of clients, of whatever run they are
+abbrev pub IsMixBy : LabClients → Card → Type 0
+IsMixBy cs c = (session : Session) (held : Held) (xs : List (AtPort × Client)) → clients.AreAt session held xs cs → IsMixOf session (all_segments xs) c

@@ -1,0 +1,108 @@
+//! The end of a run.
+ghost use Rattle.std.specs.Prelude.{◌≡◌};
+ghost use Rattle.snd_base.specs.Places.{first_frame};
+ghost use Rattle.sum_table.specs.Joins.{OneRing};
+ghost use Rattle.sum_table.specs.Players.{player_key, player_ring};
+ghost use Rattle.lab_card.specs.Moves.{frames_since_first, geometry_of_card, seat_of_card};
+ghost use Rattle.lab_places.specs.Held.{key_of_places, ring_of_places};
+ghost use Rattle.lab_clients.specs.AtStage.{places_of};
+ghost use Rattle.lab_phase.specs.Ended.{HaveAllPlaces, IsMixBy};
+
+use crate::lab::Lab;
+use card_sim::Card;
+use lab_card::CardActor;
+use lab_clients::LabClients;
+use lab_report::{Report, Row, Rows, Runs, Segments};
+use snd_base::{PcmError, Segment};
+
+/// What a run leaves: its report, the samples that the card played, and each reader's samples, all interleaved.
+#[derive(Drop)]
+pub struct Outcome {
+    pub report: Report,
+    pub played: Vec<i16>,
+    pub recorded: Vec<Vec<i16>>,
+}
+
+/// The report of a run with these rows, segments and runs, which ends with this card.
+fn report_at(
+    card: &Card<'_, '_>,
+    rows: Vec<Row>,
+    segments: Vec<(u32, Segment)>,
+    runs: Vec<(u32, u64, u64)>,
+) -> Report
+    ensures rows { result.rows ≡ rows.items }
+    ensures segments { result.segments ≡ segments.items }
+    ensures runs { result.runs ≡ runs.items }
+    ensures first { result.first ≡ first_frame (geometry_of_card card.now) }
+    ensures frames { result.frames ≡ frames_since_first card.now }
+{
+    let first = card.geometry().first_frame();
+    Report {
+        rows: Rows::from_vec(rows),
+        segments: Segments::from_vec(segments),
+        runs: Runs::from_vec(runs),
+        first,
+        frames: card.position() - first,
+    }
+}
+
+/// Closes the clients that are still open, and the card's two rings.
+///
+/// The caller has the clients of a run with all places of the card's sum ring.
+fn close_rings<'r>(clients: LabClients<'r>, card: Card<'r, 'r>)
+    requires places { HaveAllPlaces clients }
+    requires one_ring { OneRing (player_ring (seat_of_card card)) (player_key (seat_of_card card))
+        (ring_of_places (places_of clients)) (key_of_places (places_of clients)) }
+    ensures mix { IsMixBy clients.entry card.entry }
+{
+    let (player, _writer) = card.into_seats();
+    let _closed = clients.into_seat().close(player);
+}
+
+impl<'r> Lab<'r, '_> {
+    ghost use Rattle.std.specs.Prelude.{◌≡◌, IfErr, IfOk};
+    ghost use Rattle.lab_phase.specs.AtStage.{IsLab};
+    ghost use Rattle.lab_phase.specs.Ended.{IsAtEnd, LeavesRun, LeavesStage};
+
+    /// Ends the run: closes what is still open and both rings, and gives the report with all segments and runs, what the card played and
+    /// what each reader recorded. It refuses, with `Memory`, only where no memory is left.
+    ///
+    /// The caller has done all items of the script's body.
+    pub fn finish(self) -> Result<Outcome, PcmError>
+        requires at { IsLab self }
+        requires end { IsAtEnd self }
+        ensures stage { IfOk result (λ outcome. LeavesStage self.entry outcome) }
+        ensures run { IfOk result (λ outcome. LeavesRun self.entry outcome) }
+        ensures only { IfErr result (λ e. e ≡ PcmError.Memory) }
+    {
+        let segments = self.clients.segments(self.alloc)?;
+        let runs = self.readers.runs(self.alloc)?;
+        let Lab {
+            alloc,
+            script: _,
+            wavs: _,
+            capture: _,
+            openings: _,
+            card,
+            clients,
+            readers,
+            rows,
+            phases: _,
+            next: _,
+        } = self;
+        let recorded = readers.into_recorded(alloc)?;
+        let CardActor {
+            card,
+            played,
+            rows: _,
+            captured: _,
+        } = card.unwrap();
+        let report = report_at(&card, rows, segments, runs);
+        close_rings(clients, card);
+        Ok(Outcome {
+            report,
+            played,
+            recorded,
+        })
+    }
+}
