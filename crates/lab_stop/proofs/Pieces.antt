@@ -1,0 +1,62 @@
+-- What a loop over the pieces of a file keeps.
+use Rattle.std.proofs.Common.{◌≡◌, ℕ, ◌≤◌, ◌<◌, ◌⊎◌, true, false, List, [], ◌++◌, length, take, sym, ap, subst, refl, inl, inr, ◌∙◌}
+use Rattle.std.specs.Prelude.{Bool, Option, Ok, Err}
+use Rattle.std.specs.Option.{ForSome}
+use Rattle.lab_shelf.specs.Files.{Files}
+use Rattle.lab_stop.specs.declared.stop.Stop.{Stop}
+use Rattle.lab_stop.specs.Causes.{fetched, fetched_from, piece_bytes}
+use Rattle.lab_stop.specs.Passing.{IsCauseOf-passed, Misses-passed}
+use Rattle.lab_stop.specs.Pieces.{IsFetched, IsFetched-next, IsFetched-most, refused_alike}
+use Rattle.lab_stop.specs.Stops.{IsCauseOf, Misses}
+
+-- what a loop over the pieces keeps
+pub record Fetching (files now : Option Files) (name bytes : List ℕ) (last : Bool)
+    (faults faults_now writes writes_now : ℕ) (before after : Type 0) : Type 0 where
+  pub so_far : ForSome files (λ m. IsFetched m name bytes last)
+  pub same_files : now ≡ files
+  pub no_fault : faults_now ≡ faults
+  pub no_write_fault : writes_now ≡ writes
+  pub reliable : before → after
+
+-- the first piece is fetched
+pub fetched-first : (files : Option Files) (name piece : List ℕ) (last : Bool)
+    → ForSome files (λ m. fetched_from m name 0 piece_bytes ≡ Ok piece) → (last ≡ true → length piece < piece_bytes)
+    → ForSome files (λ m. IsFetched m name piece last)
+fetched-first files name piece last next short m told =
+    IsFetched-next m name [] piece false last (inl (refl, refl)) (next m told) short
+
+-- the next piece is fetched
+pub fetched-next : (files now : Option Files) (name bytes piece longer : List ℕ) (from : ℕ) (last then_last : Bool)
+    → ForSome files (λ m. IsFetched m name bytes last) → now ≡ files
+    → ForSome now (λ m. fetched_from m name from piece_bytes ≡ Ok piece) → from ≡ length bytes
+    → (then_last ≡ true → length piece < piece_bytes) → longer ≡ bytes ++ piece
+    → ForSome files (λ m. IsFetched m name longer then_last)
+fetched-next files now name bytes piece longer from last then_last so_far same next behind short all m told =
+    subst (λ (b : List ℕ). IsFetched m name b then_last) (sym all)
+    (
+    IsFetched-next m name bytes piece last then_last (inr (so_far m told))
+    (ap (λ (n : ℕ). fetched_from m name n piece_bytes) (sym behind) ∙ next m (same ∙ told)) short
+    )
+
+-- enough is fetched
+pub fetched-most : (files : Option Files) (name bytes first : List ℕ) (last : Bool) (most : ℕ)
+    → ForSome files (λ m. IsFetched m name bytes last) → (last ≡ true) ⊎ (most ≤ length bytes) → first ≡ take most bytes
+    → ForSome files (λ m. fetched m name most ≡ Ok first)
+fetched-most files name bytes first last most so_far enough is m told =
+    IsFetched-most m name bytes last most (so_far m told) enough ∙ ap Ok (sym is)
+
+-- a stop at a piece is one at the bytes that are wanted
+pub stop-passed : (files now : Option Files) (name : List ℕ) (from most : ℕ) (stop : Stop) → now ≡ files
+    → ForSome now (λ m. IsCauseOf stop (fetched_from m name from piece_bytes))
+    → ForSome files (λ m. IsCauseOf stop (fetched m name most))
+stop-passed files now name from most stop same is m told =
+    IsCauseOf-passed stop (fetched_from m name from piece_bytes) (fetched m name most)
+    (refused_alike m name from piece_bytes 0 most) (is m (same ∙ told))
+
+-- over reliable files a file that is missing at a piece is missing
+pub missing-passed : (files now : Option Files) (name : List ℕ) (from most : ℕ) (stop : Stop) → now ≡ files
+    → ForSome now (λ m. Misses {X = Unit {0}} (Err stop) (fetched_from m name from piece_bytes))
+    → ForSome files (λ m. Misses {X = Unit {0}} (Err stop) (fetched m name most))
+missing-passed files now name from most stop same is m told =
+    Misses-passed stop (fetched_from m name from piece_bytes) (fetched m name most)
+    (refused_alike m name from piece_bytes 0 most) (is m (same ∙ told))

@@ -1,0 +1,4 @@
+pub mod Causes
+pub mod Passing
+pub mod Pieces
+pub mod Stops

@@ -1,0 +1,95 @@
+//! Calls of a shelf and of a sink that stop a command where they fail.
+ghost use Rattle.std.specs.Prelude.{◌≡◌, ◌≢◌, ◌≤◌, ◌++◌, Err, IfErr, IfOk, OnErr, OnOk, vec_len};
+ghost use Rattle.std.specs.Option.{ForSome, option_map};
+ghost use Rattle.lab_shelf.specs.Files.{TookPart};
+ghost use Rattle.lab_stop.specs.declared.stop.Stop.TheVariants as stops;
+ghost use Rattle.lab_stop.specs.Causes.{fetched, fetched_from, piece_bytes};
+ghost use Rattle.lab_stop.specs.Stops.{FetchFaults, Follows, IsWriteStop, Misses, WriteFaults};
+
+use crate::stop::Stop;
+use lab_shelf::{Shelf, ShelfFault, Sink};
+use std::alloc::Global;
+
+/// How many bytes each piece of a file has, but for the last, which has fewer.
+pub const PIECE_BYTES: usize = 65_536;
+
+/// The piece of a file of the shelf that begins at the byte `from`: `PIECE_BYTES` bytes, or as many
+/// as there are. A piece that has fewer is the file's last; behind a full one there may be another,
+/// also one of no byte.
+///
+/// It stops with `Read` and the file's name where the shelf fails, which counts that, and with
+/// `Memory` only where no memory is left.
+pub fn fetch_piece<S: Shelf>(
+    shelf: &mut S,
+    alloc: Global,
+    name: &[u8],
+    from: u64,
+) -> Result<Vec<u8>, Stop>
+    ensures bytes { ForSome (S.files shelf.old)
+        (λ files. Follows (λ v. v.items) result (fetched_from files name.now from piece_bytes)) }
+    ensures most { IfOk result (λ v. vec_len v ≤ piece_bytes) }
+    ensures files { S.files shelf.new ≡ S.files shelf.old }
+    ensures faults { FetchFaults result (S.fetch_faults shelf.old) (S.fetch_faults shelf.new) }
+    ensures write_faults { S.write_faults shelf.new ≡ S.write_faults shelf.old }
+    ensures reliable { S.is_reliable shelf.old → S.is_reliable shelf.new }
+    ensures missing { S.is_reliable shelf.old → ForSome (S.files shelf.old)
+        (λ files. Misses result (fetched_from files name.now from piece_bytes)) }
+{
+    match shelf.fetch(alloc, name, from, PIECE_BYTES as u64) {
+        Ok(bytes) => Ok(bytes),
+        Err(ShelfFault::Failed) => Err(Stop::Read {
+            name: Vec::from_slice(alloc, name)?,
+        }),
+        Err(ShelfFault::Memory) => Err(Stop::Memory),
+    }
+}
+
+/// The first bytes of a file of the shelf, at most so many. They are fetched piece by piece, up to
+/// the piece that has the last of them.
+///
+/// It stops with `Read` and the file's name where the shelf fails, which counts that, and with
+/// `Memory` only where no memory is left.
+pub fn fetch_most<S: Shelf>(
+    shelf: &mut S,
+    alloc: Global,
+    name: &[u8],
+    most: u64,
+) -> Result<Vec<u8>, Stop>
+    ensures bytes { ForSome (S.files shelf.old)
+        (λ files. Follows (λ v. v.items) result (fetched files name.now most)) }
+    ensures most { IfOk result (λ v. vec_len v ≤ most) }
+    ensures files { S.files shelf.new ≡ S.files shelf.old }
+    ensures faults { FetchFaults result (S.fetch_faults shelf.old) (S.fetch_faults shelf.new) }
+    ensures write_faults { S.write_faults shelf.new ≡ S.write_faults shelf.old }
+    ensures reliable { S.is_reliable shelf.old → S.is_reliable shelf.new }
+    ensures missing { S.is_reliable shelf.old → ForSome (S.files shelf.old)
+        (λ files. Misses result (fetched files name.now most)) }
+{
+    let mut bytes = fetch_piece(shelf, alloc, name, 0)?;
+    let mut is_last = bytes.len() < PIECE_BYTES;
+    while !is_last && (bytes.len() as u64) < most {
+        let piece = fetch_piece(shelf, alloc, name, bytes.len() as u64)?;
+        is_last = piece.len() < PIECE_BYTES;
+        bytes.extend_from_slice(&piece)?;
+    }
+    bytes.truncate(most as usize);
+    Ok(bytes)
+}
+
+/// Puts a text on a sink. It stops with `Write` where the sink fails, which counts that, and with
+/// `Memory` only where no memory is left; the sink took the first bytes of the text then.
+pub fn put<K: Sink>(out: &mut K, text: &[u8]) -> Result<(), Stop>
+    ensures taken { OnOk result
+        (K.taken out.new ≡ option_map (λ taken. taken ++ text.now) (K.taken out.old)) }
+    ensures text { OnErr result (TookPart (K.taken out.old) (K.taken out.new) text.now) }
+    ensures only { IfErr result IsWriteStop }
+    ensures faults { WriteFaults result (K.faults out.old) (K.faults out.new) }
+    ensures still { K.is_reliable out.old → K.is_reliable out.new }
+    ensures reliable { K.is_reliable out.old → result ≢ Err stops.Write }
+{
+    match out.put(text) {
+        Ok(()) => Ok(()),
+        Err(ShelfFault::Failed) => Err(Stop::Write),
+        Err(ShelfFault::Memory) => Err(Stop::Memory),
+    }
+}
