@@ -1,0 +1,4 @@
+mod Feeding
+mod Long
+mod Reading
+mod Sounds

@@ -1,0 +1,166 @@
+-- A WAV file that is fetched and read piece by piece.
+use Rattle.std.proofs.Common.{◌≡◌, ◌≢◌, ℕ, ◌+◌, ◌<◌, ◌≤◌, ◌⊎◌, true, false, List, [], ◌++◌, length, sym, ap, subst, refl, inl, inr, ◌∙◌, arith, append_assoc, append-nil}
+use Rattle.std.proofs.lemmas.List.{length-append}
+use Rattle.std.specs.Prelude.{Bool, Option, Some, Result, Ok, Err}
+use Rattle.std.specs.Option.{ForSome}
+use Rattle.lab_shelf.specs.Files.{Files}
+use Rattle.lab_stop.specs.declared.stop.Stop.{Stop}
+use Rattle.lab_stop.specs.declared.stop.Stop.TheVariants.{Words, Script, Conf, Wav, Read, Write, Memory}
+use Rattle.lab_stop.specs.Causes.{Cause, missing, wav_refused, content_in, fetched_from, piece_bytes, ◌>>=◌}
+use Rattle.lab_stop.specs.Passing.{IsCauseOf-passed, Misses-passed}
+use Rattle.lab_stop.specs.Pieces.{IsFetched, IsBegun, IsFetched-next, IsFetched-rest, whole_refused}
+use Rattle.lab_stop.specs.Stops.{IsCauseOf, IsWavStop, Misses, NamesWav}
+use Rattle.wav_io.specs.declared.error.WavError.{WavError}
+use Rattle.wav_io.specs.declared.error.WavError.TheVariants as wav_whys
+use Rattle.wav_io.specs.Reading.{IsRefusal, wav_file, most_bytes}
+use Rattle.wav_io.specs.Sound.{Sound}
+use Rattle.lab_input.specs.declared.sound.SoundReader.{SoundReader}
+use Rattle.lab_input.specs.Input.{as_sound, counted, wav_in}
+use Rattle.lab_input.specs.Sound.{IsAfter}
+use Rattle.lab_input.proofs.Long.{wav_file-long, wav_file-refused}
+
+-- what a loop over the pieces keeps: the bytes that were read, and that they are the first of the file
+pub record Reading (files now : Option Files) (name : List ℕ) (reader : SoundReader) (bytes : ℕ) (last : Bool)
+    (faults faults_now writes writes_now : ℕ) (before after : Type 0) : Type 0 where
+  pub seen : List ℕ
+  pub read : IsAfter reader seen
+  pub count : bytes ≡ length seen
+  pub few : bytes ≤ 67_174_400
+  pub so_far : ForSome files (λ m. IsBegun m name seen last)
+  pub same_files : now ≡ files
+  pub no_fault : faults_now ≡ faults
+  pub no_write_fault : writes_now ≡ writes
+  pub reliable : before → after
+
+-- a file that isn't there has no sound
+missing_sound : (r : Result (List ℕ) Cause) (name : List ℕ) (e : Cause) → r ≡ Err e
+    → (r >>= λ bytes. counted name (length bytes) (wav_file bytes)) ≡ Err e
+missing_sound r name e is = ap (λ (s : Result (List ℕ) Cause). s >>= λ bytes. counted name (length bytes) (wav_file bytes)) is
+
+pub wav_in-missing : (files : Files) (name : List ℕ) (from : ℕ) (e : Cause)
+    → fetched_from files name from piece_bytes ≡ Err e → wav_in files name ≡ Err e
+unfolding wav_in
+wav_in-missing files name from e is = missing_sound (content_in files name) name e (whole_refused files name from piece_bytes e is)
+
+-- the sound of a file that is there
+pub wav_in-of : (files : Files) (name content : List ℕ) → content_in files name ≡ Ok content
+    → wav_in files name ≡ counted name (length content) (wav_file content)
+unfolding wav_in
+wav_in-of files name content is =
+    ap (λ (s : Result (List ℕ) Cause). s >>= λ bytes. counted name (length bytes) (wav_file bytes)) is
+
+-- the sound of a file of which all, or more than a WAV file may have, is fetched
+pub wav_in-fetched : (files : Files) (name seen : List ℕ) (last : Bool) → IsFetched files name seen last
+    → (last ≡ true) ⊎ (most_bytes < length seen) → wav_in files name ≡ counted name (length seen) (wav_file seen)
+wav_in-fetched files name seen last so_far (inl all) = wav_in-of files name seen (so_far.whole all)
+wav_in-fetched files name seen last so_far (inr long) =
+    let rest = IsFetched-rest files name seen last so_far in
+    let why = wav_file-refused seen long in
+    wav_in-of files name (seen ++ rest.0) rest.1
+    ∙ ap (counted name (length (seen ++ rest.0))) (wav_file-long seen rest.0 long ∙ why.1)
+    ∙ ap (counted name (length seen)) (sym why.1)
+
+-- ---- stops
+
+-- a stop that names a file and why it is refused is at that cause
+named_cause : {X : Type 0} (why : WavError) (name : List ℕ) (stop : Stop) (given : Result X Cause)
+    → given ≡ Err (wav_refused name why) → NamesWav why name stop → IsCauseOf stop given
+named_cause why name (Wav file because) given so is = let same = is.0 in let alike = is.1 in cc
+named_cause why name Memory given so is = tt
+named_cause why name Words given so is = is
+named_cause why name (Script error) given so is = absurd is
+named_cause why name (Conf error) given so is = absurd is
+named_cause why name (Read file) given so is = absurd is
+named_cause why name Write given so is = absurd is
+
+-- a stop at a WAV file that is refused is at that cause
+pub IsCauseOf-refusal : {X : Type 0} (why : WavError) (name : List ℕ) (stop : Stop) (sound : Result Sound WavError) (given : Result X Cause)
+    → ((e : WavError) → sound ≡ Err e → given ≡ Err (wav_refused name e))
+    → IsRefusal why sound → IsWavStop why name stop → IsCauseOf stop given
+IsCauseOf-refusal {X} wav_whys.Memory name stop sound given so refusal is =
+    subst (λ (s : Stop). IsCauseOf s given) (sym is) tt
+IsCauseOf-refusal wav_whys.NotRiff name stop sound given so refusal is = named_cause wav_whys.NotRiff name stop given (so wav_whys.NotRiff refusal) is
+IsCauseOf-refusal wav_whys.NotWave name stop sound given so refusal is = named_cause wav_whys.NotWave name stop given (so wav_whys.NotWave refusal) is
+IsCauseOf-refusal wav_whys.NoFormat name stop sound given so refusal is = named_cause wav_whys.NoFormat name stop given (so wav_whys.NoFormat refusal) is
+IsCauseOf-refusal wav_whys.FormatTwice name stop sound given so refusal is = named_cause wav_whys.FormatTwice name stop given (so wav_whys.FormatTwice refusal) is
+IsCauseOf-refusal wav_whys.ShortFormat name stop sound given so refusal is = named_cause wav_whys.ShortFormat name stop given (so wav_whys.ShortFormat refusal) is
+IsCauseOf-refusal (wav_whys.Tag n) name stop sound given so refusal is = named_cause (wav_whys.Tag n) name stop given (so (wav_whys.Tag n) refusal) is
+IsCauseOf-refusal (wav_whys.Bits n) name stop sound given so refusal is = named_cause (wav_whys.Bits n) name stop given (so (wav_whys.Bits n) refusal) is
+IsCauseOf-refusal (wav_whys.Channels n) name stop sound given so refusal is = named_cause (wav_whys.Channels n) name stop given (so (wav_whys.Channels n) refusal) is
+IsCauseOf-refusal wav_whys.RateZero name stop sound given so refusal is = named_cause wav_whys.RateZero name stop given (so wav_whys.RateZero refusal) is
+IsCauseOf-refusal wav_whys.NoData name stop sound given so refusal is = named_cause wav_whys.NoData name stop given (so wav_whys.NoData refusal) is
+IsCauseOf-refusal wav_whys.TooLong name stop sound given so refusal is = named_cause wav_whys.TooLong name stop given (so wav_whys.TooLong refusal) is
+
+-- ---- the loop
+
+-- a stop at a piece is one at the sound
+pub reading-stop : (files now : Option Files) (name : List ℕ) (from : ℕ) (stop : Stop) → now ≡ files
+    → ForSome now (λ m. IsCauseOf stop (fetched_from m name from piece_bytes))
+    → ForSome files (λ m. IsCauseOf stop (wav_in m name))
+reading-stop files now name from stop same is m told =
+    IsCauseOf-passed stop (fetched_from m name from piece_bytes) (wav_in m name) (wav_in-missing m name from) (is m (same ∙ told))
+
+-- over reliable files a file that is missing at a piece is missing
+pub reading-missing : (files now : Option Files) (name : List ℕ) (from : ℕ) (stop : Stop) → now ≡ files
+    → ForSome now (λ m. Misses {X = Unit {0}} (Err stop) (fetched_from m name from piece_bytes))
+    → ForSome files (λ m. Misses {X = Unit {0}} (Err stop) (wav_in m name))
+reading-missing files now name from stop same is m told =
+    Misses-passed stop (fetched_from m name from piece_bytes) (wav_in m name) (wav_in-missing m name from) (is m (same ∙ told))
+
+-- one piece more is fetched
+next_fetched : (files : Files) (now : Option Files) (name seen piece fed : List ℕ) (from : ℕ) (last then_last : Bool)
+    → IsBegun files name seen last → now ≡ Some files
+    → ForSome now (λ m. fetched_from m name from piece_bytes ≡ Ok piece) → from ≡ length seen → fed ≡ piece
+    → (then_last ≡ true → length piece < piece_bytes) → IsFetched files name (seen ++ fed) then_last
+next_fetched files now name seen piece fed from last then_last so_far told next behind same short =
+    subst (λ (b : List ℕ). IsFetched files name (seen ++ b) then_last) (sym same)
+    (
+    IsFetched-next files name seen piece last then_last so_far
+    (ap (λ (n : ℕ). fetched_from files name n piece_bytes) (sym behind) ∙ next files told) short
+    )
+
+pub reading-next : (files now : Option Files) (name seen piece fed : List ℕ) (from : ℕ) (last then_last : Bool)
+    → ForSome files (λ m. IsBegun m name seen last) → now ≡ files
+    → ForSome now (λ m. fetched_from m name from piece_bytes ≡ Ok piece) → from ≡ length seen → fed ≡ piece
+    → (then_last ≡ true → length piece < piece_bytes) → ForSome files (λ m. IsBegun m name (seen ++ fed) then_last)
+reading-next files now name seen piece fed from last then_last so_far unchanged next behind same short m told =
+    inr (next_fetched m now name seen piece fed from last then_last (so_far m told) (unchanged ∙ told) next behind same short)
+
+-- a piece that shows why the file is refused
+pub reading-refused : (files now : Option Files) (name seen piece fed : List ℕ) (from : ℕ) (last : Bool) (why : WavError) (stop : Stop)
+    → ForSome files (λ m. IsBegun m name seen last) → now ≡ files
+    → ForSome now (λ m. fetched_from m name from piece_bytes ≡ Ok piece) → from ≡ length seen → fed ≡ piece
+    → ((rest : List ℕ) → IsRefusal why (wav_file ((seen ++ fed) ++ rest))) → IsWavStop why name stop
+    → ForSome files (λ m. IsCauseOf stop (wav_in m name))
+reading-refused files now name seen piece fed from last why stop so_far unchanged next behind same refusal is m told =
+    let fetched_now = next_fetched m now name seen piece fed from last false (so_far m told) (unchanged ∙ told) next behind same (λ no_way. absurd (cc)) in
+    let rest = IsFetched-rest m name (seen ++ fed) false fetched_now in
+    let content : List ℕ = (seen ++ fed) ++ rest.0 in
+    IsCauseOf-refusal why name stop (wav_file content) (wav_in m name)
+    (λ e err. wav_in-of m name content rest.1 ∙ ap (counted name (length content)) err) (refusal rest.0) is
+
+-- ---- behind the loop
+
+ended_at : (files : Files) (name seen : List ℕ) (last : Bool) (bytes : ℕ) → IsBegun files name seen last
+    → (last ≡ true) ⊎ (most_bytes < bytes) → bytes ≡ length seen → wav_in files name ≡ counted name bytes (wav_file seen)
+ended_at files name seen last bytes (inl none) (inl all) count = let no_byte = none.1 in absurd (cc)
+ended_at files name seen last bytes (inl none) (inr long) count = absurd (omega (arith, count, ap length none.0, long))
+ended_at files name seen last bytes (inr fetched_now) (inl all) count =
+    wav_in-fetched files name seen last fetched_now (inl all) ∙ ap (λ (n : ℕ). counted name n (wav_file seen)) (sym count)
+ended_at files name seen last bytes (inr fetched_now) (inr long) count =
+    wav_in-fetched files name seen last fetched_now (inr (omega (arith, count, long))) ∙ ap (λ (n : ℕ). counted name n (wav_file seen)) (sym count)
+
+-- the file ends, and is a sound
+pub reading-ok : (files : Option Files) (name seen : List ℕ) (last : Bool) (bytes : ℕ) (sound : Sound)
+    → ForSome files (λ m. IsBegun m name seen last) → (last ≡ true) ⊎ (most_bytes < bytes) → bytes ≡ length seen
+    → wav_file seen ≡ Ok sound → ForSome files (λ m. wav_in m name ≡ Ok (sound, bytes))
+reading-ok files name seen last bytes sound so_far ended count is m told =
+    ended_at m name seen last bytes (so_far m told) ended count ∙ ap (counted name bytes) is
+
+-- the file ends, and is refused
+pub reading-err : (files : Option Files) (name seen : List ℕ) (last : Bool) (bytes : ℕ) (why : WavError) (stop : Stop)
+    → ForSome files (λ m. IsBegun m name seen last) → (last ≡ true) ⊎ (most_bytes < bytes) → bytes ≡ length seen
+    → IsRefusal why (wav_file seen) → IsWavStop why name stop → ForSome files (λ m. IsCauseOf stop (wav_in m name))
+reading-err files name seen last bytes why stop so_far ended count refusal is m told =
+    IsCauseOf-refusal why name stop (wav_file seen) (wav_in m name)
+    (λ e err. ended_at m name seen last bytes (so_far m told) ended count ∙ ap (counted name bytes) err) refusal is

@@ -1,0 +1,11 @@
+//! What a run of the lab reads: its script, the WAV file that its card captures, and the WAV files of its
+//! clients.
+#![tactic(auto)]
+
+mod input;
+mod sound;
+#[cfg(test)]
+mod tests;
+mod wavs;
+
+pub use input::{Input, read_input};

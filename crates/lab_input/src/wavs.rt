@@ -1,0 +1,100 @@
+//! The WAV files of a run, one after the other, and how many bytes they have together.
+ghost use Rattle.std.specs.Prelude.{◌≡◌, ◌≤◌, IfOk, length};
+ghost use Rattle.std.specs.Option.{ForSome};
+ghost use Rattle.lab_stop.specs.Stops.{FetchFaults, Follows, Misses};
+ghost use Rattle.lab_input.specs.Input.{capture_in, most_of_run, sound_in, sounds_in};
+
+use crate::sound::read_sound;
+use lab_script::{CardLine, ClientLine};
+use lab_shelf::Shelf;
+use lab_stop::{Stop, wav_stop};
+use std::alloc::Global;
+use wav_io::{Wav, WavError};
+
+/// The most bytes that the WAV files of a run have together.
+const RUN_MOST: u64 = 268_435_456;
+
+/// The sound in a WAV file of a run, and how many bytes the run's WAV files have so far; those before
+/// it have `before`. It stops with `Wav` and `TooLong` also where they have too many.
+#[tactic(auto, unfolding(crate::specs::Input::sound_in))]
+fn read_within<S: Shelf>(
+    shelf: &mut S,
+    alloc: Global,
+    before: u64,
+    name: &[u8],
+) -> Result<(Wav, u64), Stop>
+    requires few { before ≤ most_of_run }
+    ensures sound { ForSome (S.files shelf.old)
+        (λ files. Follows (λ r. r) result (sound_in files before name.now)) }
+    ensures few { IfOk result (λ r. r.1 ≤ most_of_run) }
+    ensures files { S.files shelf.new ≡ S.files shelf.old }
+    ensures faults { FetchFaults result (S.fetch_faults shelf.old) (S.fetch_faults shelf.new) }
+    ensures write_faults { S.write_faults shelf.new ≡ S.write_faults shelf.old }
+    ensures reliable { S.is_reliable shelf.old → S.is_reliable shelf.new }
+    ensures missing { S.is_reliable shelf.old → ForSome (S.files shelf.old)
+        (λ files. Misses result (sound_in files before name.now)) }
+{
+    let (wav, bytes) = read_sound(shelf, alloc, name)?;
+    let total = before + bytes;
+    if total <= RUN_MOST {
+        Ok((wav, total))
+    } else {
+        Err(wav_stop(alloc, name, WavError::TooLong))
+    }
+}
+
+/// The sound of the file that the card captures, if it has one, and how many bytes that file has.
+#[tactic(auto, unfolding(crate::specs::Input::capture_in))]
+pub(crate) fn read_capture<S: Shelf>(
+    shelf: &mut S,
+    alloc: Global,
+    card: &CardLine,
+) -> Result<(Option<Wav>, u64), Stop>
+    ensures sound { ForSome (S.files shelf.old)
+        (λ files. Follows (λ r. r) result (capture_in files card.now.capture)) }
+    ensures few { IfOk result (λ r. r.1 ≤ most_of_run) }
+    ensures files { S.files shelf.new ≡ S.files shelf.old }
+    ensures faults { FetchFaults result (S.fetch_faults shelf.old) (S.fetch_faults shelf.new) }
+    ensures write_faults { S.write_faults shelf.new ≡ S.write_faults shelf.old }
+    ensures reliable { S.is_reliable shelf.old → S.is_reliable shelf.new }
+    ensures missing { S.is_reliable shelf.old → ForSome (S.files shelf.old)
+        (λ files. Misses result (capture_in files card.now.capture)) }
+{
+    match &card.capture {
+        Some(file) => {
+            let (wav, total) = read_within(shelf, alloc, 0, file.as_str().as_bytes())?;
+            Ok((Some(wav), total))
+        }
+        None => Ok((None, 0)),
+    }
+}
+
+/// The sounds in the clients' files, in the order of the clients. The WAV files before them have
+/// `before` bytes.
+pub(crate) fn read_wavs<S: Shelf>(
+    shelf: &mut S,
+    alloc: Global,
+    before: u64,
+    clients: &[ClientLine],
+) -> Result<Vec<Wav>, Stop>
+    requires few { before ≤ most_of_run }
+    ensures sounds { ForSome (S.files shelf.old)
+        (λ files. Follows (λ v. v.items) result (sounds_in files before clients.now)) }
+    ensures number { IfOk result (λ wavs. length wavs.items ≡ length clients.now) }
+    ensures files { S.files shelf.new ≡ S.files shelf.old }
+    ensures faults { FetchFaults result (S.fetch_faults shelf.old) (S.fetch_faults shelf.new) }
+    ensures write_faults { S.write_faults shelf.new ≡ S.write_faults shelf.old }
+    ensures reliable { S.is_reliable shelf.old → S.is_reliable shelf.new }
+    ensures missing { S.is_reliable shelf.old → ForSome (S.files shelf.old)
+        (λ files. Misses result (sounds_in files before clients.now)) }
+{
+    let mut wavs = Vec::new(alloc);
+    let mut total = before;
+    for client in clients {
+        let name = client.file.as_str().as_bytes();
+        let (wav, bytes) = read_within(shelf, alloc, total, name)?;
+        wavs.push(wav)?;
+        total = bytes;
+    }
+    Ok(wavs)
+}
