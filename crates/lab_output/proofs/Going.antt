@@ -1,0 +1,369 @@
+-- A run's files from call to call.
+use Rattle.std.proofs.Common.{◌≡◌, inl, inr, ℕ, ◌<◌, ◌≤◌, List, [], ◌∷◌, ◌++◌, length, length-append, take, drop, map, get_or, arith, refl, sym, ap, subst, ◌∙◌, suc, zero, Some, None, option_map}
+use Rattle.std.proofs.Math.ListN.{set, length-set}
+use Rattle.std.specs.Prelude.{ℤ, Option, All, IfSome, Result, Ok, Err, OnOk, OnErr}
+use Rattle.std.specs.List.{flat_map}
+use Rattle.std.specs.Option.{option_map_or}
+use Rattle.std.proofs.lemmas.List.{get_or-set_same}
+use Rattle.wav_io.specs.Canonical.{sample_bytes}
+use Rattle.lab_shelf.specs.Files.{Files, held, with_file, changed, overwritten, IsPartAppended, IsPartFinished}
+use Rattle.lab_shelf.specs.Changes.{Changes, Changes-nothing, Changes-then, Changes-with_file, Changes-part}
+use Rattle.lab_output.specs.declared.file.OutputFile.{OutputFile}
+use Rattle.lab_output.specs.Files.{AreApart, begun, stored, nothing, open_head_of, head_of, open_file, finished_file, IsFormOf, MayHold}
+use Rattle.lab_output.specs.Going.{opened, OpenedInPart, closed, ClosedInPart, HaveHeadRoom, AreLonger, IsPartOf, IsGoingOn}
+use Rattle.lab_output.specs.GoingLaws.{AreLonger-forms, IsGoingOn-Changes, Into, open_file-more, with_outputs-Changes, written-Changes}
+use Rattle.lab_output.proofs.Shelves.{changed-first, changed-output, held-output}
+use Rattle.lab_output.proofs.Forms.{length-open_head, AllForms-open, AllForms-finished, IsFormOf-head, IsFormOf-opened, IsFormOf-closing, IsFormOf-finished, MayHold-at, open_file-nothing, finished_file-made}
+use Rattle.lab_output.proofs.Longer.{longer-at, longer-before, longer-form, longer-length}
+
+-- outputs that were begun have an open head and no sample
+opened-begun : (outputs : List OutputFile) (m : Files) → opened outputs m ≡ begun outputs (nothing outputs) m
+opened-begun [] m = refl
+opened-begun (output ∷ outputs) m =
+    opened-begun outputs (with_file m output.name (open_head_of output))
+    ∙ ap (λ (bytes : List ℕ). begun outputs (nothing outputs) (with_file m output.name bytes)) (sym (open_file-nothing output))
+
+-- the same of files that may not be told
+pub opened_where-begun : (outputs : List OutputFile) (before after : Option Files) → after ≡ option_map (opened outputs) before
+    → after ≡ option_map (begun outputs (nothing outputs)) before
+opened_where-begun outputs None after is = is
+opened_where-begun outputs (Some m) after is = is ∙ ap Some (opened-begun outputs m)
+
+-- outputs of which some were begun have changed so
+opened-Changes : (may_hold : List ℕ → List ℕ → Type 0) (outputs : List OutputFile) (before after : Option Files)
+    → Into outputs (nothing outputs) may_hold → OpenedInPart outputs before after → Changes may_hold before after
+opened-Changes may_hold [] before after into is =
+    subst (λ (a : Option Files). Changes may_hold before a) (sym is) (Changes-nothing may_hold before)
+opened-Changes may_hold (output ∷ outputs) before after into (inl part) =
+    Changes-part may_hold before after output.name (open_head_of output)
+    (λ k. into output.name (take k (open_head_of output)) (inl (refl, IsFormOf-head output k))) part
+opened-Changes may_hold (output ∷ outputs) before after into (inr rest) =
+    Changes-then may_hold before (option_map (λ files. with_file files output.name (open_head_of output)) before) after
+    (Changes-with_file may_hold before output.name (open_head_of output)
+    (into output.name (open_head_of output) (inl (refl, IsFormOf-opened output))))
+    (opened-Changes may_hold outputs (option_map (λ files. with_file files output.name (open_head_of output)) before) after
+    (λ name bytes may. into name bytes (inr may)) rest)
+
+-- what begins that fail leave
+pub OpenedInPart-Changes : (outputs : List OutputFile) (before after : Option Files) → OpenedInPart outputs before after
+    → Changes (MayHold outputs (nothing outputs)) before after
+OpenedInPart-Changes outputs before after part =
+    opened-Changes (MayHold outputs (nothing outputs)) outputs before after (λ name bytes may. may) part
+
+-- outputs with true heads are finished
+closed-stored : (outputs : List OutputFile) (sounds : List (List ℤ)) (m : Files) → AreApart outputs
+    → closed outputs (map length sounds) (begun outputs sounds m) ≡ stored outputs sounds m
+closed-stored [] sounds m apart = refl
+closed-stored (output ∷ outputs) [] m apart = refl
+closed-stored (output ∷ outputs) (samples ∷ sounds) m apart =
+    ap (closed outputs (map length sounds))
+    (changed-first open_file (overwritten (head_of output (length samples))) output outputs samples sounds m apart
+    ∙ ap (λ (bytes : List ℕ). begun outputs sounds (with_file m output.name bytes)) (finished_file-made output samples))
+    ∙ closed-stored outputs sounds (with_file m output.name (finished_file output samples)) apart.1
+
+-- the same of files that may not be told
+closed_where-stored : (outputs : List OutputFile) (sounds : List (List ℤ)) (before : Option Files) → AreApart outputs
+    → option_map (closed outputs (map length sounds)) (option_map (begun outputs sounds) before) ≡ option_map (stored outputs sounds) before
+closed_where-stored outputs sounds None apart = refl
+closed_where-stored outputs sounds (Some m) apart = ap Some (closed-stored outputs sounds m apart)
+
+-- a run's files are finished
+pub IsGoingOn-stored : (outputs : List OutputFile) (counts : List ℕ) (sounds : List (List ℤ)) (before now after : Option Files)
+    → AreApart outputs → IsGoingOn outputs counts sounds before now → after ≡ option_map (closed outputs counts) now
+    → after ≡ option_map (stored outputs sounds) before
+IsGoingOn-stored outputs counts sounds before now after apart going is =
+    is
+    ∙ ap (option_map (closed outputs counts)) going.files
+    ∙ ap (λ (ns : List ℕ). option_map (closed outputs ns) (option_map (begun outputs sounds) before)) (sym going.counted)
+    ∙ closed_where-stored outputs sounds before apart
+
+-- outputs of which some have true heads have changed so
+closed-Changes : (may_hold : List ℕ → List ℕ → Type 0) (outputs : List OutputFile) (sounds : List (List ℤ)) (m : Files) (after : Option Files)
+    → AreApart outputs → Into outputs sounds may_hold → ClosedInPart outputs (map length sounds) (Some (begun outputs sounds m)) after
+    → Changes may_hold (Some m) after
+closed-Changes may_hold [] sounds m after apart into is =
+    subst (λ (a : Option Files). Changes may_hold (Some m) a) (sym is) (Changes-nothing may_hold (Some m))
+closed-Changes may_hold (output ∷ outputs) [] m after apart into is =
+    subst (λ (a : Option Files). Changes may_hold (Some m) a) (sym is) (Changes-nothing may_hold (Some m))
+closed-Changes may_hold (output ∷ outputs) (samples ∷ sounds) m after apart into (inl (inl same)) =
+    subst (λ (a : Option Files). Changes may_hold (Some m) a) (sym same)
+    (with_outputs-Changes may_hold open_file (output ∷ outputs) (samples ∷ sounds) (samples ∷ sounds) m
+    (AllForms-open (output ∷ outputs) (samples ∷ sounds)) into)
+closed-Changes may_hold (output ∷ outputs) (samples ∷ sounds) m after apart into (inl (inr part)) =
+    let head : List ℕ = take part.0 (head_of output (length samples)) in
+    let bytes : List ℕ = overwritten head (open_file output samples) in
+    let is : after ≡ Some (begun outputs sounds (with_file m output.name bytes)) =
+    part.2 ∙ ap Some (changed-first open_file (overwritten head) output outputs samples sounds m apart) in
+    subst (λ (a : Option Files). Changes may_hold (Some m) a) (sym is)
+    (Changes-then may_hold (Some m) (Some (with_file m output.name bytes)) (Some (begun outputs sounds (with_file m output.name bytes)))
+    (Changes-with_file may_hold (Some m) output.name bytes
+    (into output.name bytes (inl (refl, IsFormOf-closing output samples part.0 part.1))))
+    (with_outputs-Changes may_hold open_file outputs sounds sounds (with_file m output.name bytes) (AllForms-open outputs sounds)
+    (λ name b may. into name b (inr may))))
+closed-Changes may_hold (output ∷ outputs) (samples ∷ sounds) m after apart into (inr rest) =
+    let bytes : List ℕ = finished_file output samples in
+    let is : changed (overwritten (head_of output (length samples))) (begun (output ∷ outputs) (samples ∷ sounds) m) output.name
+    ≡ begun outputs sounds (with_file m output.name bytes) =
+    changed-first open_file (overwritten (head_of output (length samples))) output outputs samples sounds m apart
+    ∙ ap (λ (b : List ℕ). begun outputs sounds (with_file m output.name b)) (finished_file-made output samples) in
+    Changes-then may_hold (Some m) (Some (with_file m output.name bytes)) after
+    (Changes-with_file may_hold (Some m) output.name bytes (into output.name bytes (inl (refl, IsFormOf-finished output samples))))
+    (closed-Changes may_hold outputs sounds (with_file m output.name bytes) after apart.1 (λ name b may. into name b (inr may))
+    (subst (λ (f : Files). ClosedInPart outputs (map length sounds) (Some f) after) is rest))
+
+-- no file is told
+closed-untold : (may_hold : List ℕ → List ℕ → Type 0) (after : Option Files) → Changes may_hold None after
+closed-untold may_hold after m is = cc
+
+-- what finishes that fail leave
+pub IsGoingOn-closing : (outputs : List OutputFile) (counts : List ℕ) (sounds : List (List ℤ)) (before now after : Option Files)
+    → AreApart outputs → IsGoingOn outputs counts sounds before now → ClosedInPart outputs counts now after
+    → Changes (MayHold outputs sounds) before after
+IsGoingOn-closing outputs counts sounds None now after apart going part = closed-untold (MayHold outputs sounds) after
+IsGoingOn-closing outputs counts sounds (Some m) now after apart going part =
+    closed-Changes (MayHold outputs sounds) outputs sounds m after apart (λ name bytes may. may)
+    (subst (λ (ns : List ℕ). ClosedInPart outputs ns (Some (begun outputs sounds m)) after) (sym going.counted)
+    (subst (λ (f : Option Files). ClosedInPart outputs counts f after) going.files part))
+
+-- the lengths of samples of which one output has others
+map-length-set : (sounds : List (List ℤ)) (n : ℕ) (samples : List ℤ) → map length (set sounds n samples) ≡ set (map length sounds) n (length samples)
+map-length-set [] n samples = refl
+map-length-set (sound ∷ sounds) zero samples = refl
+map-length-set (sound ∷ sounds) (suc n) samples = ap (λ (ns : List ℕ). length sound ∷ ns) (map-length-set sounds n samples)
+
+-- an output to which its new samples were appended
+appended-begun : (outputs : List OutputFile) (sounds : List (List ℤ)) (before : Option Files) (n : ℕ) (output : OutputFile) (samples : List ℤ) (k : ℕ)
+    → AreApart outputs → length sounds ≡ length outputs → n < length outputs → output ≡ get_or outputs n output
+    → get_or sounds n [] ≡ take k samples
+    → option_map (λ files. changed (λ content. content ++ flat_map sample_bytes (drop k samples)) files output.name) (option_map (begun outputs sounds) before)
+    ≡ option_map (begun outputs (set sounds n samples)) before
+appended-begun outputs sounds None n output samples k apart even within is first = refl
+appended-begun outputs sounds (Some m) n output samples k apart even within is first =
+    ap Some (changed-output open_file (λ content. content ++ flat_map sample_bytes (drop k samples)) outputs sounds m n output samples
+    apart even within is (open_file-more output samples (get_or sounds n []) k first))
+
+-- a run goes on with the samples that were appended
+pub IsGoingOn-appended : (outputs : List OutputFile) (counts : List ℕ) (sounds : List (List ℤ)) (before now after : Option Files)
+    (n : ℕ) (output : OutputFile) (samples : List ℤ) (k : ℕ)
+    → AreApart outputs → IsGoingOn outputs counts sounds before now → n < length outputs → output ≡ get_or outputs n output
+    → get_or sounds n [] ≡ take k samples
+    → after ≡ option_map (λ files. changed (λ content. content ++ flat_map sample_bytes (drop k samples)) files output.name) now
+    → IsGoingOn outputs (set counts n (length samples)) (set sounds n samples) before after
+IsGoingOn-appended outputs counts sounds before now after n output samples k apart going within is first appended = record {
+  counted = map-length-set sounds n samples ∙ ap (λ (ns : List ℕ). set ns n (length samples)) going.counted;
+  number = length-set sounds n samples ∙ going.number;
+  files =
+      appended
+      ∙ ap (option_map (λ files. changed (λ content. content ++ flat_map sample_bytes (drop k samples)) files output.name)) going.files
+      ∙ appended-begun outputs sounds before n output samples k apart going.number within is first;
+}
+
+-- a change of one file, which it may hold
+changed-Changes : (may_hold : List ℕ → List ℕ → Type 0) (make : List ℕ → List ℕ) (m : Files) (name content : List ℕ)
+    → held m name ≡ Some content → may_hold name (make content) → Changes may_hold (Some m) (Some (changed make m name))
+changed-Changes may_hold make m name content is may =
+    subst (λ (o : Option (List ℕ)). Changes may_hold (Some m) (Some (option_map_or (λ c. with_file m name (make c)) o m))) (sym is)
+    (Changes-with_file may_hold (Some m) name (make content) may)
+
+-- what an append that fails leaves
+part-Changes : (outputs : List OutputFile) (sounds targets : List (List ℤ)) (m : Files) (after : Option Files)
+    (n : ℕ) (output : OutputFile) (samples : List ℤ) (k : ℕ)
+    → AreApart outputs → length sounds ≡ length outputs → n < length outputs → output ≡ get_or outputs n output
+    → get_or sounds n [] ≡ take k samples → AreLonger (set sounds n samples) targets
+    → IsPartAppended (Some (begun outputs sounds m)) after output.name (flat_map sample_bytes (drop k samples))
+    → Changes (MayHold outputs targets) (Some m) after
+part-Changes outputs sounds targets m after n output samples k apart even within is first longer (inl same) =
+    subst (λ (a : Option Files). Changes (MayHold outputs targets) (Some m) a) (sym same)
+    (written-Changes open_file outputs sounds targets (Some m)
+    (AreLonger-forms outputs sounds targets (longer-before sounds targets n samples k first longer)))
+part-Changes outputs sounds targets m after n output samples k apart even within is first longer (inr part) =
+    let may : List ℕ → List ℕ → Type 0 = MayHold outputs targets in
+    let new : List ℕ = flat_map sample_bytes (drop k samples) in
+    let now : Files = begun outputs sounds m in
+    let there : IsPartOf samples (get_or targets n []) =
+    subst (λ (s : List ℤ). IsPartOf s (get_or targets n []))
+    (get_or-set_same sounds n samples [] (omega (arith, even, within)))
+    (longer-at (set sounds n samples) targets n longer) in
+    subst (λ (a : Option Files). Changes may (Some m) a) (sym part.1)
+    (Changes-then may (Some m) (Some now) (Some (changed (λ content. take part.0 (content ++ new)) now output.name))
+    (written-Changes open_file outputs sounds targets (Some m)
+    (AreLonger-forms outputs sounds targets (longer-before sounds targets n samples k first longer)))
+    (changed-Changes may (λ content. take part.0 (content ++ new)) now output.name (open_file output (get_or sounds n []))
+    (held-output open_file outputs sounds m n output apart even within is)
+    (MayHold-at outputs targets n output (take part.0 (open_file output (get_or sounds n []) ++ new))
+    (longer-length (set sounds n samples) targets longer ∙ length-set sounds n samples ∙ even) within is
+    (subst (λ (bytes : List ℕ). IsFormOf output (get_or targets n []) (take part.0 bytes))
+    (sym (open_file-more output samples (get_or sounds n []) k first))
+    (longer-form output samples (get_or targets n []) part.0 there)))))
+
+-- what an append leaves, whatever it answers
+pub IsGoingOn-part : (outputs : List OutputFile) (counts : List ℕ) (sounds targets : List (List ℤ)) (before now after : Option Files)
+    (n : ℕ) (output : OutputFile) (samples : List ℤ) (k : ℕ)
+    → AreApart outputs → IsGoingOn outputs counts sounds before now → n < length outputs → output ≡ get_or outputs n output
+    → get_or sounds n [] ≡ take k samples → AreLonger (set sounds n samples) targets
+    → IsPartAppended now after output.name (flat_map sample_bytes (drop k samples))
+    → Changes (MayHold outputs targets) before after
+IsGoingOn-part outputs counts sounds targets None now after n output samples k apart going within is first longer part =
+    closed-untold (MayHold outputs targets) after
+IsGoingOn-part outputs counts sounds targets (Some m) now after n output samples k apart going within is first longer part =
+    part-Changes outputs sounds targets m after n output samples k apart going.number within is first longer
+    (subst (λ (f : Option Files). IsPartAppended f after output.name (flat_map sample_bytes (drop k samples))) going.files part)
+
+-- the files of a run that is done have changed so
+pub stored-Changes : (outputs : List OutputFile) (sounds : List (List ℤ)) (before after : Option Files)
+    → after ≡ option_map (stored outputs sounds) before → Changes (MayHold outputs sounds) before after
+stored-Changes outputs sounds before after is =
+    subst (λ (f : Option Files). Changes (MayHold outputs sounds) before f) (sym is)
+    (written-Changes finished_file outputs sounds sounds before (AllForms-finished outputs sounds))
+
+-- no sample is counted of outputs that have none
+counted-nothing : (outputs : List OutputFile) (counts : List ℕ) → length counts ≡ length outputs
+    → ((k d : ℕ) → k < length counts → get_or counts k d ≡ 0) → map length (nothing outputs) ≡ counts
+counted-nothing [] [] even zeros = refl
+counted-nothing [] (n ∷ counts) even zeros = absurd (omega (arith, even))
+counted-nothing (output ∷ outputs) [] even zeros = absurd (omega (arith, even))
+counted-nothing (output ∷ outputs) (n ∷ counts) even zeros =
+    ap (λ (m : ℕ). m ∷ map length (nothing outputs)) (sym (zeros 0 0 (omega arith)))
+    ∙ ap (λ (ns : List ℕ). n ∷ ns) (counted-nothing outputs counts (omega (arith, even)) (λ k d within. zeros (suc k) d (omega (arith, within))))
+
+-- so many outputs that have no sample
+length-nothing : (outputs : List OutputFile) → length (nothing outputs) ≡ length outputs
+length-nothing [] = refl
+length-nothing (output ∷ outputs) = ap suc (length-nothing outputs)
+
+-- a run begins
+pub IsGoingOn-begun : (outputs : List OutputFile) (counts : List ℕ) (before after : Option Files) → length counts ≡ length outputs
+    → All (λ (n : ℕ). n ≡ 0) counts → after ≡ option_map (opened outputs) before
+    → IsGoingOn outputs counts (nothing outputs) before after
+IsGoingOn-begun outputs counts before after even zeros is = record {
+  counted = counted-nothing outputs counts even (λ k d within. zeros k d within);
+  number = length-nothing outputs;
+  files = opened_where-begun outputs before after is;
+}
+
+-- a run that has begun has changed its files so
+pub opened_all-Changes : (outputs : List OutputFile) (before after : Option Files) → after ≡ option_map (opened outputs) before
+    → Changes (MayHold outputs (nothing outputs)) before after
+opened_all-Changes outputs before after is =
+    subst (λ (f : Option Files). Changes (MayHold outputs (nothing outputs)) before f) (sym (opened_where-begun outputs before after is))
+    (written-Changes open_file outputs (nothing outputs) (nothing outputs) before (AllForms-open outputs (nothing outputs)))
+
+-- each output has room for a head while a run goes on
+rooms : (outputs : List OutputFile) (sounds : List (List ℤ)) (m : Files) → AreApart outputs → length sounds ≡ length outputs
+    → HaveHeadRoom (Some (begun outputs sounds m)) outputs
+rooms [] sounds m apart even = tt
+rooms (output ∷ outputs) [] m apart even = absurd (omega (arith, even))
+rooms (output ∷ outputs) (samples ∷ sounds) m apart even = (
+  subst (λ (o : Option (List ℕ)). IfSome o (λ content. 44 ≤ length content))
+      (sym (held-output open_file (output ∷ outputs) (samples ∷ sounds) m zero output apart even (omega arith) refl))
+      (room output samples),
+  rooms outputs sounds (with_file m output.name (open_file output samples)) apart.1 (omega (arith, even)),
+)
+  where
+    room : (o : OutputFile) (s : List ℤ) → 44 ≤ length (open_file o s)
+    room o s = omega (arith, length-append (open_head_of o) (flat_map sample_bytes s), length-open_head o)
+
+-- no room is asked of files that aren't told
+untold-rooms : (outputs : List OutputFile) → HaveHeadRoom None outputs
+untold-rooms [] = tt
+untold-rooms (output ∷ outputs) = (tt, untold-rooms outputs)
+
+-- the same of files that may not be told
+pub IsGoingOn-rooms : (outputs : List OutputFile) (counts : List ℕ) (sounds : List (List ℤ)) (before now : Option Files)
+    → AreApart outputs → IsGoingOn outputs counts sounds before now → HaveHeadRoom now outputs
+IsGoingOn-rooms outputs counts sounds None now apart going =
+    subst (λ (f : Option Files). HaveHeadRoom f outputs) (sym going.files) (untold-rooms outputs)
+IsGoingOn-rooms outputs counts sounds (Some m) now apart going =
+    subst (λ (f : Option Files). HaveHeadRoom f outputs) (sym going.files) (rooms outputs sounds m apart going.number)
+
+-- a run begins, where all files were begun
+pub begin-going_on : {T E : Type 0} (result : Result T E) (files outputs : List OutputFile) (counts : List ℕ) (before after : Option Files)
+    → files ≡ outputs → length counts ≡ length outputs → All (λ (n : ℕ). n ≡ 0) counts
+    → OnOk result (after ≡ option_map (opened files) before)
+    → OnOk result (IsGoingOn outputs counts (nothing outputs) before after)
+begin-going_on (Ok x) files outputs counts before after same even zeros is =
+    IsGoingOn-begun outputs counts before after even zeros
+    (subst (λ (os : List OutputFile). after ≡ option_map (opened os) before) same is)
+begin-going_on (Err e) files outputs counts before after same even zeros is = tt
+
+-- what begins leave, whatever they answer
+pub begin-Changes : {T E : Type 0} (result : Result T E) (files outputs : List OutputFile) (before after : Option Files)
+    → files ≡ outputs → OnOk result (after ≡ option_map (opened files) before) → OnErr result (OpenedInPart files before after)
+    → Changes (MayHold outputs (nothing outputs)) before after
+begin-Changes (Ok x) files outputs before after same is part =
+    opened_all-Changes outputs before after (subst (λ (os : List OutputFile). after ≡ option_map (opened os) before) same is)
+begin-Changes (Err e) files outputs before after same is part =
+    OpenedInPart-Changes outputs before after (subst (λ (os : List OutputFile). OpenedInPart os before after) same part)
+
+-- a run's files are finished, where all finishes worked
+pub finish-stored : {T E : Type 0} (result : Result T E) (files outputs : List OutputFile) (numbers counts : List ℕ) (sounds : List (List ℤ))
+    (before now after : Option Files) → files ≡ outputs → numbers ≡ counts → AreApart outputs → IsGoingOn outputs counts sounds before now
+    → OnOk result (after ≡ option_map (closed files numbers) now)
+    → OnOk result (after ≡ option_map (stored outputs sounds) before)
+finish-stored (Ok x) files outputs numbers counts sounds before now after same counted apart going is =
+    IsGoingOn-stored outputs counts sounds before now after apart going
+    (subst (λ (ns : List ℕ). after ≡ option_map (closed outputs ns) now) counted
+    (subst (λ (os : List OutputFile). after ≡ option_map (closed os numbers) now) same is))
+finish-stored (Err e) files outputs numbers counts sounds before now after same counted apart going is = tt
+
+-- what finishes leave, whatever they answer
+pub finish-Changes : {T E : Type 0} (result : Result T E) (files outputs : List OutputFile) (numbers counts : List ℕ) (sounds : List (List ℤ))
+    (before now after : Option Files) → files ≡ outputs → numbers ≡ counts → AreApart outputs → IsGoingOn outputs counts sounds before now
+    → OnOk result (after ≡ option_map (closed files numbers) now) → OnErr result (ClosedInPart files numbers now after)
+    → Changes (MayHold outputs sounds) before after
+finish-Changes (Ok x) files outputs numbers counts sounds before now after same counted apart going is part =
+    stored-Changes outputs sounds before after
+    (finish-stored {T = Unit {0}} {E = Unit {0}} (Ok tt) files outputs numbers counts sounds before now after same counted apart going is)
+finish-Changes (Err e) files outputs numbers counts sounds before now after same counted apart going is part =
+    IsGoingOn-closing outputs counts sounds before now after apart going
+    (subst (λ (ns : List ℕ). ClosedInPart outputs ns now after) counted
+    (subst (λ (os : List OutputFile). ClosedInPart os numbers now after) same part))
+
+-- samples that were put in their places have the numbers of theirs
+pub append-going_on : (outputs : List OutputFile) (counts : List ℕ) (sounds : List (List ℤ)) (before now after : Option Files)
+    (n : ℕ) (output : OutputFile) (samples new : List ℤ)
+    → AreApart outputs → IsGoingOn outputs counts sounds before now → n < length outputs → output ≡ get_or outputs n output
+    → get_or sounds n [] ≡ take (get_or counts n 0) samples → new ≡ drop (get_or counts n 0) samples
+    → after ≡ option_map (λ files. changed (λ content. content ++ flat_map sample_bytes new) files output.name) now
+    → IsGoingOn outputs (set counts n (length samples)) (set sounds n samples) before after
+append-going_on outputs counts sounds before now after n output samples new apart going within is first rest appended =
+    IsGoingOn-appended outputs counts sounds before now after n output samples (get_or counts n 0) apart going within is first
+    (subst (λ (s : List ℤ). after ≡ option_map (λ files. changed (λ content. content ++ flat_map sample_bytes s) files output.name) now) rest appended)
+
+-- what an append leaves that worked
+pub append-Changes : (outputs : List OutputFile) (counts : List ℕ) (sounds targets : List (List ℤ)) (before now after : Option Files)
+    (n : ℕ) (output : OutputFile) (samples new : List ℤ)
+    → AreApart outputs → IsGoingOn outputs counts sounds before now → n < length outputs → output ≡ get_or outputs n output
+    → get_or sounds n [] ≡ take (get_or counts n 0) samples → new ≡ drop (get_or counts n 0) samples
+    → AreLonger (set sounds n samples) targets
+    → after ≡ option_map (λ files. changed (λ content. content ++ flat_map sample_bytes new) files output.name) now
+    → Changes (MayHold outputs targets) before after
+append-Changes outputs counts sounds targets before now after n output samples new apart going within is first rest longer appended =
+    IsGoingOn-Changes outputs (set counts n (length samples)) (set sounds n samples) targets before after
+    (append-going_on outputs counts sounds before now after n output samples new apart going within is first rest appended) longer
+
+-- what an append leaves that failed
+pub append_part-Changes : (outputs : List OutputFile) (counts : List ℕ) (sounds targets : List (List ℤ)) (before now after : Option Files)
+    (n : ℕ) (output : OutputFile) (samples new : List ℤ)
+    → AreApart outputs → IsGoingOn outputs counts sounds before now → n < length outputs → output ≡ get_or outputs n output
+    → get_or sounds n [] ≡ take (get_or counts n 0) samples → new ≡ drop (get_or counts n 0) samples
+    → AreLonger (set sounds n samples) targets
+    → IsPartAppended now after output.name (flat_map sample_bytes new)
+    → Changes (MayHold outputs targets) before after
+append_part-Changes outputs counts sounds targets before now after n output samples new apart going within is first rest longer part =
+    IsGoingOn-part outputs counts sounds targets before now after n output samples (get_or counts n 0) apart going within is first longer
+    (subst (λ (s : List ℤ). IsPartAppended now after output.name (flat_map sample_bytes s)) rest part)
+
+-- a head in a file's place, where both are known by other words
+pub named-closed : (now after : Option Files) (n name h head : List ℕ) → n ≡ name → h ≡ head
+    → after ≡ option_map (λ files. changed (overwritten h) files n) now
+    → after ≡ option_map (λ files. changed (overwritten head) files name) now
+named-closed now after n name h head named is closes =
+    subst (λ (b : List ℕ). after ≡ option_map (λ files. changed (overwritten b) files name) now) is
+    (subst (λ (q : List ℕ). after ≡ option_map (λ files. changed (overwritten h) files q) now) named closes)
+
+-- the same of a head that is there in part
+pub named-part : (now after : Option Files) (n name h head : List ℕ) → n ≡ name → h ≡ head
+    → IsPartFinished now after n h → IsPartFinished now after name head
+named-part now after n name h head named is part =
+    subst (λ (b : List ℕ). IsPartFinished now after name b) is (subst (λ (q : List ℕ). IsPartFinished now after q h) named part)

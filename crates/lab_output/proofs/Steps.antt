@@ -1,0 +1,215 @@
+-- A run's files one after the other.
+use Rattle.std.proofs.Common.{◌≡◌, inl, inr, ℕ, Bool, true, false, cond, ◌+◌, ◌<◌, ◌≤◌, List, [], ◌∷◌, length, length-append, add-one, drop, get_or, arith, refl, sym, ap, subst, ◌∙◌, suc, Some, None, option_map}
+use Rattle.std.proofs.Math.Seq.{drop-cons}
+use Rattle.std.proofs.Math.ListN.{drop_of_length-le}
+use Rattle.std.proofs.lemmas.List.{length-drop}
+use Rattle.std.proofs.lemmas.List.Elements.{All-from_recursion}
+use Rattle.lab_output.proofs.Shelves.{held-written, test}
+use Rattle.std.specs.Prelude.{Option, IfSome}
+use Rattle.std.specs.Option.{option_map_or}
+use Rattle.lab_shelf.specs.Files.{Files, held, with_file, changed, overwritten, IsPartWritten, IsPartFinished}
+use Rattle.lab_output.specs.declared.file.OutputFile.{OutputFile}
+use Rattle.lab_output.specs.Files.{open_head_of, head_of}
+use Rattle.lab_output.specs.Going.{opened, OpenedInPart, closed, ClosedInPart, HasHeadRoom, HaveFiles, HaveHeadRoom}
+use Rattle.lab_output.proofs.Held.{changed-files}
+
+-- the first files are begun, and what is left to do does all
+pub record Opening (before now : Option Files) (outputs : List OutputFile) (n : ℕ) (fetches fetches_now writes writes_now : ℕ)
+    (steady steady_now : Type 0) : Type 0 where
+  pub rest : option_map (opened (drop n outputs)) now ≡ option_map (opened outputs) before
+  pub part : (after : Option Files) → OpenedInPart (drop n outputs) now after → OpenedInPart outputs before after
+  pub fetch_faults : fetches_now ≡ fetches
+  pub write_faults : writes_now ≡ writes
+  pub reliable : steady → steady_now
+
+-- what is left begins with the file at its place
+left : (outputs : List OutputFile) (n : ℕ) (output : OutputFile) → n < length outputs → output ≡ get_or outputs n output
+    → drop n outputs ≡ output ∷ drop (n + 1) outputs
+left outputs n output within is =
+    drop-cons outputs n output within
+    ∙ ap (λ (o : OutputFile). o ∷ drop (suc n) outputs) (sym is)
+    ∙ ap (λ (k : ℕ). output ∷ drop k outputs) (sym (add-one n))
+
+-- a file is begun, and then those behind it
+opened-joined : (output : OutputFile) (outputs : List OutputFile) (now : Option Files)
+    → option_map (opened outputs) (option_map (λ files. with_file files output.name (open_head_of output)) now)
+    ≡ option_map (opened (output ∷ outputs)) now
+opened-joined output outputs None = refl
+opened-joined output outputs (Some m) = refl
+
+-- no file is left to begin
+opened-none : (now : Option Files) → option_map (opened []) now ≡ now
+opened-none None = refl
+opened-none (Some m) = refl
+
+-- the next file is begun
+pub Opening-next : (before now then : Option Files) (outputs : List OutputFile) (n : ℕ) (output : OutputFile)
+    (fetches fetches_now fetches_then writes writes_now writes_then : ℕ) (reliable reliable_now reliable_then : Type 0)
+    → Opening before now outputs n fetches fetches_now writes writes_now reliable reliable_now
+    → n < length outputs → output ≡ get_or outputs n output
+    → then ≡ option_map (λ files. with_file files output.name (open_head_of output)) now
+    → fetches_then ≡ fetches_now → writes_then ≡ writes_now → (reliable_now → reliable_then)
+    → Opening before then outputs (n + 1) fetches fetches_then writes writes_then reliable reliable_then
+Opening-next before now then outputs n output fetches fetches_now fetches_then writes writes_now writes_then reliable reliable_now reliable_then so_far within is begun same_fetches same_writes stays = record {
+  rest =
+      ap (option_map (opened (drop (n + 1) outputs))) begun
+      ∙ opened-joined output (drop (n + 1) outputs) now
+      ∙ ap (λ (os : List OutputFile). option_map (opened os) now) (sym (left outputs n output within is))
+      ∙ so_far.rest;
+  part = λ after part. so_far.part after
+      (subst (λ (os : List OutputFile). OpenedInPart os now after) (sym (left outputs n output within is))
+      (inr (subst (λ (f : Option Files). OpenedInPart (drop (n + 1) outputs) f after) begun part)));
+  fetch_faults = same_fetches ∙ so_far.fetch_faults;
+  write_faults = same_writes ∙ so_far.write_faults;
+  reliable = λ r. stays (so_far.reliable r);
+}
+
+-- the next file is begun in part
+pub Opening-stop : (before now after : Option Files) (outputs : List OutputFile) (n : ℕ) (output : OutputFile)
+    (fetches fetches_now writes writes_now : ℕ) (reliable reliable_now : Type 0)
+    → Opening before now outputs n fetches fetches_now writes writes_now reliable reliable_now
+    → n < length outputs → output ≡ get_or outputs n output
+    → IsPartWritten now after output.name (open_head_of output) → OpenedInPart outputs before after
+Opening-stop before now after outputs n output fetches fetches_now writes writes_now reliable reliable_now so_far within is part =
+    so_far.part after
+    (subst (λ (os : List OutputFile). OpenedInPart os now after) (sym (left outputs n output within is)) (inl part))
+
+-- all files are begun
+pub Opening-all : (before now : Option Files) (outputs : List OutputFile) (n : ℕ)
+    (fetches fetches_now writes writes_now : ℕ) (reliable reliable_now : Type 0)
+    → Opening before now outputs n fetches fetches_now writes writes_now reliable reliable_now
+    → length outputs ≤ n → now ≡ option_map (opened outputs) before
+Opening-all before now outputs n fetches fetches_now writes writes_now reliable reliable_now so_far all =
+    sym (opened-none now)
+    ∙ ap (λ (os : List OutputFile). option_map (opened os) now) (sym (drop_of_length-le outputs all))
+    ∙ so_far.rest
+
+-- the first files have their true heads, what is left to do does all, there is room for each head, and each file stays there
+pub record Closing (before now : Option Files) (outputs : List OutputFile) (counts : List ℕ) (n : ℕ)
+    (fetches fetches_now writes writes_now : ℕ) (steady steady_now : Type 0) : Type 0 where
+  pub rest : option_map (closed (drop n outputs) (drop n counts)) now ≡ option_map (closed outputs counts) before
+  pub part : (after : Option Files) → ClosedInPart (drop n outputs) (drop n counts) now after → ClosedInPart outputs counts before after
+  pub rooms : HaveHeadRoom now outputs
+  pub there : HaveFiles before outputs → HaveFiles now outputs
+  pub fetch_faults : fetches_now ≡ fetches
+  pub write_faults : writes_now ≡ writes
+  pub reliable : steady → steady_now
+
+-- what is left begins with the number at its place
+left_counts : (counts : List ℕ) (n count : ℕ) → n < length counts → count ≡ get_or counts n 0 → drop n counts ≡ count ∷ drop (n + 1) counts
+left_counts counts n count within is =
+    drop-cons counts n 0 within
+    ∙ ap (λ (c : ℕ). c ∷ drop (suc n) counts) (sym is)
+    ∙ ap (λ (k : ℕ). count ∷ drop k counts) (sym (add-one n))
+
+-- a file gets its true head, and then those behind it
+closed-joined : (output : OutputFile) (outputs : List OutputFile) (count : ℕ) (counts : List ℕ) (now : Option Files)
+    → option_map (closed outputs counts) (option_map (λ files. changed (overwritten (head_of output count)) files output.name) now)
+    ≡ option_map (closed (output ∷ outputs) (count ∷ counts)) now
+closed-joined output outputs count counts None = refl
+closed-joined output outputs count counts (Some m) = refl
+
+-- no file is left to finish
+closed-none : (counts : List ℕ) (now : Option Files) → option_map (closed [] counts) now ≡ now
+closed-none counts None = refl
+closed-none counts (Some m) = refl
+
+-- a head in the place of the first bytes leaves room
+overwritten-room : (head content : List ℕ) → 44 ≤ length content → 44 ≤ length (overwritten head content)
+overwritten-room head content room =
+    omega (arith, room, length-append head (drop (length head) content), length-drop (length head) content)
+
+-- what is held of a name once a file was written there is room in
+written-room : (m : Files) (name bytes q : List ℕ) → 44 ≤ length bytes → IfSome (held m q) (λ content. 44 ≤ length content)
+    → IfSome (held (with_file m name bytes) q) (λ content. 44 ≤ length content)
+written-room m name bytes q room before =
+    subst (λ (o : Option (List ℕ)). IfSome o (λ content. 44 ≤ length content)) (sym (held-written m name bytes q)) (chosen (test q name))
+  where
+    chosen : (b : Bool) → IfSome (cond b (Some bytes) (held m q)) (λ content. 44 ≤ length content)
+    chosen true = room
+    chosen false = before
+
+-- a file's new head leaves room in each file
+changed-room : (m : Files) (name head q : List ℕ)
+    → IfSome (held m name) (λ content. 44 ≤ length content) → IfSome (held m q) (λ content. 44 ≤ length content)
+    → IfSome (held (changed (overwritten head) m name) q) (λ content. 44 ≤ length content)
+changed-room m name head q named before = of (held m name) named
+  where
+    of : (o : Option (List ℕ)) → IfSome o (λ content. 44 ≤ length content)
+        → IfSome (held (option_map_or (λ c. with_file m name (overwritten head c)) o m) q) (λ content. 44 ≤ length content)
+    of None room = before
+    of (Some c) room = written-room m name (overwritten head c) q (overwritten-room head c room) before
+
+-- the same of each output
+changed-rooms : (outputs : List OutputFile) (m : Files) (name head : List ℕ)
+    → IfSome (held m name) (λ content. 44 ≤ length content) → HaveHeadRoom (Some m) outputs
+    → HaveHeadRoom (Some (changed (overwritten head) m name)) outputs
+changed-rooms [] m name head named rooms = tt
+changed-rooms (output ∷ outputs) m name head named rooms =
+    (changed-room m name head output.name named rooms.0, changed-rooms outputs m name head named rooms.1)
+
+-- the same of files that may not be told
+kept-rooms : (outputs : List OutputFile) (now : Option Files) (name head : List ℕ) → HasHeadRoom now name → HaveHeadRoom now outputs
+    → HaveHeadRoom (option_map (λ files. changed (overwritten head) files name) now) outputs
+kept-rooms outputs None name head named rooms = rooms
+kept-rooms outputs (Some m) name head named rooms = changed-rooms outputs m name head named rooms
+
+-- there is room for the head at a place
+pub room-at : (now : Option Files) (outputs : List OutputFile) (n : ℕ) (output : OutputFile) → HaveHeadRoom now outputs
+    → n < length outputs → output ≡ get_or outputs n output → HasHeadRoom now output.name
+room-at now outputs n output rooms within is =
+    subst (λ (o : OutputFile). HasHeadRoom now o.name) (sym is)
+    (All-from_recursion (λ (o : OutputFile). HasHeadRoom now o.name) outputs rooms n output within)
+
+-- the next file gets its true head
+pub Closing-next : (before now then : Option Files) (outputs : List OutputFile) (counts : List ℕ) (n : ℕ) (output : OutputFile) (count : ℕ)
+    (fetches fetches_now fetches_then writes writes_now writes_then : ℕ) (reliable reliable_now reliable_then : Type 0)
+    → Closing before now outputs counts n fetches fetches_now writes writes_now reliable reliable_now
+    → n < length outputs → length counts ≡ length outputs → output ≡ get_or outputs n output → count ≡ get_or counts n 0
+    → then ≡ option_map (λ files. changed (overwritten (head_of output count)) files output.name) now
+    → fetches_then ≡ fetches_now → writes_then ≡ writes_now → (reliable_now → reliable_then)
+    → Closing before then outputs counts (n + 1) fetches fetches_then writes writes_then reliable reliable_then
+Closing-next before now then outputs counts n output count fetches fetches_now fetches_then writes writes_now writes_then reliable reliable_now reliable_then so_far within even is counted closes same_fetches same_writes stays =
+    let here : drop n outputs ≡ output ∷ drop (n + 1) outputs = left outputs n output within is in
+    let count_here : drop n counts ≡ count ∷ drop (n + 1) counts = left_counts counts n count (omega (arith, even, within)) counted in
+    record {
+      rest =
+          ap (option_map (closed (drop (n + 1) outputs) (drop (n + 1) counts))) closes
+          ∙ closed-joined output (drop (n + 1) outputs) count (drop (n + 1) counts) now
+          ∙ ap (λ (os : List OutputFile). option_map (closed os (count ∷ drop (n + 1) counts)) now) (sym here)
+          ∙ ap (λ (cs : List ℕ). option_map (closed (drop n outputs) cs) now) (sym count_here)
+          ∙ so_far.rest;
+      part = λ after part. so_far.part after
+          (subst (λ (os : List OutputFile). ClosedInPart os (drop n counts) now after) (sym here)
+          (subst (λ (cs : List ℕ). ClosedInPart (output ∷ drop (n + 1) outputs) cs now after) (sym count_here)
+          (inr (subst (λ (f : Option Files). ClosedInPart (drop (n + 1) outputs) (drop (n + 1) counts) f after) closes part))));
+      rooms = subst (λ (f : Option Files). HaveHeadRoom f outputs) (sym closes)
+          (kept-rooms outputs now output.name (head_of output count) (room-at now outputs n output so_far.rooms within is) so_far.rooms);
+      there = λ there. subst (λ (f : Option Files). HaveFiles f outputs) (sym closes)
+          (changed-files (overwritten (head_of output count)) outputs now output.name (so_far.there there));
+      fetch_faults = same_fetches ∙ so_far.fetch_faults;
+      write_faults = same_writes ∙ so_far.write_faults;
+      reliable = λ r. stays (so_far.reliable r);
+    }
+
+-- the next file gets its true head in part
+pub Closing-stop : (before now after : Option Files) (outputs : List OutputFile) (counts : List ℕ) (n : ℕ) (output : OutputFile) (count : ℕ)
+    (fetches fetches_now writes writes_now : ℕ) (reliable reliable_now : Type 0)
+    → Closing before now outputs counts n fetches fetches_now writes writes_now reliable reliable_now
+    → n < length outputs → length counts ≡ length outputs → output ≡ get_or outputs n output → count ≡ get_or counts n 0
+    → IsPartFinished now after output.name (head_of output count) → ClosedInPart outputs counts before after
+Closing-stop before now after outputs counts n output count fetches fetches_now writes writes_now reliable reliable_now so_far within even is counted part =
+    so_far.part after
+    (subst (λ (os : List OutputFile). ClosedInPart os (drop n counts) now after) (sym (left outputs n output within is))
+    (subst (λ (cs : List ℕ). ClosedInPart (output ∷ drop (n + 1) outputs) cs now after)
+    (sym (left_counts counts n count (omega (arith, even, within)) counted)) (inl part)))
+
+-- all files have their true heads
+pub Closing-all : (before now : Option Files) (outputs : List OutputFile) (counts : List ℕ) (n : ℕ)
+    (fetches fetches_now writes writes_now : ℕ) (reliable reliable_now : Type 0)
+    → Closing before now outputs counts n fetches fetches_now writes writes_now reliable reliable_now
+    → length outputs ≤ n → now ≡ option_map (closed outputs counts) before
+Closing-all before now outputs counts n fetches fetches_now writes writes_now reliable reliable_now so_far all =
+    sym (closed-none (drop n counts) now)
+    ∙ ap (λ (os : List OutputFile). option_map (closed os (drop n counts)) now) (sym (drop_of_length-le outputs all))
+    ∙ so_far.rest

@@ -1,0 +1,15 @@
+//! What a run writes: the WAV file with what the card played, one for each reader, and the text of the
+//! report. It is written while the run goes on.
+#![tactic(auto)]
+
+mod append;
+mod begin;
+mod file;
+mod finish;
+mod outputs;
+#[cfg(test)]
+mod tests;
+mod text;
+
+pub use file::{OutputFile, OutputName, output_files};
+pub use outputs::{Outputs, outputs_of};

@@ -1,0 +1,47 @@
+//! The lines of the report that are put together.
+ghost use Rattle.std.specs.Prelude.{◌≡◌, ◌++◌, All, IfErr, IfOk, OnOk};
+ghost use Rattle.std.specs.List.{flat_map};
+ghost use Rattle.lab_report.specs.Text.{IsRowOf, IsTailOf, row_line, tail_text};
+ghost use Rattle.lab_stop.specs.declared.stop.Stop.TheVariants as stops;
+
+use lab_report::{Report, Row, print_row, print_tail};
+use lab_script::Script;
+use lab_stop::Stop;
+use std::alloc::Global;
+
+/// Appends the line of a row.
+fn push_row(text: &mut Vec<u8>, script: &Script, row: &Row) -> Result<(), Stop>
+    requires { IsRowOf script.now row.now }
+    ensures ok { OnOk result (text.new.items ≡ text.old.items ++ row_line script.now row.now) }
+    ensures only { IfErr result (λ stop. stop ≡ stops.Memory) }
+{
+    match print_row(row, script, text) {
+        Ok(()) => Ok(()),
+        Err(_) => Err(Stop::Memory),
+    }
+}
+
+/// The lines of some rows.
+pub fn rows_from(alloc: Global, script: &Script, rows: &[Row]) -> Result<Vec<u8>, Stop>
+    requires { All (IsRowOf script.now) rows.now }
+    ensures text { IfOk result (λ text. text.items ≡ flat_map (row_line script.now) rows.now) }
+    ensures only { IfErr result (λ stop. stop ≡ stops.Memory) }
+{
+    let mut text = Vec::new(alloc);
+    for row in rows {
+        push_row(&mut text, script, row)?;
+    }
+    Ok(text)
+}
+
+/// Appends what is below the rows of a report.
+pub fn push_tail(text: &mut Vec<u8>, script: &Script, report: &Report) -> Result<(), Stop>
+    requires { IsTailOf script.now report.now }
+    ensures ok { OnOk result (text.new.items ≡ text.old.items ++ tail_text script.now report.now) }
+    ensures only { IfErr result (λ stop. stop ≡ stops.Memory) }
+{
+    match print_tail(report, script, text) {
+        Ok(()) => Ok(()),
+        Err(_) => Err(Stop::Memory),
+    }
+}
