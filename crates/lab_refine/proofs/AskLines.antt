@@ -1,0 +1,86 @@
+-- What lines ask, read one after the other.
+use Rattle.std.proofs.Common.{◌≡◌, ℕ, List, [], ◌∷◌, ◌++◌, ap, refl, sym, ◌∙◌, append_assoc, subst, All}
+use Rattle.std.specs.Prelude.{Some, None, Result, Ok, Err, IfOk}
+use Rattle.std.proofs.lemmas.List.{append-nil}
+use Rattle.std.specs.Result.{IsErrAnd}
+use Rattle.lab_script.specs.declared.error.ScriptWhy.{ScriptWhy}
+use Rattle.lab_script.specs.declared.error.ScriptWhy.TheVariants as why
+use Rattle.lab_script.specs.Lexing.{first_and_rest}
+use Rattle.lab_script.specs.declared.error.ScriptError.{ScriptError}
+use Rattle.lab_refine.specs.declared.request.Ask.{Ask}
+use Rattle.lab_refine.specs.Grammar.{ask_of, IsAsk}
+use Rattle.std.proofs.lemmas.List.Elements.{All-append, All-cons, All-nil}
+use Rattle.lab_refine.specs.Reading.{asks_of, on_line, Reads, Refuses, ◌>>=◌}
+
+-- asks that were read before others
+abbrev pub joined : List Ask → Result (List Ask) ScriptError → Result (List Ask) ScriptError
+joined front (Ok rest) = Ok (front ++ rest)
+joined front (Err e) = Err e
+
+-- a first line, and those after it
+lines-are : (lines more : List (ℕ × List (List ℕ))) (line : ℕ × List (List ℕ))
+    → Some (line, more) ≡ first_and_rest lines → lines ≡ line ∷ more
+lines-are [] more line e = absurd (let n = e in cc)
+lines-are (l ∷ ls) more line e =
+    let pair : (line, more) ≡ (l, ls) = cc in
+    sym (ap (λ (p : (ℕ × List (List ℕ)) × List (ℕ × List (List ℕ))). p.0 ∷ p.1) pair)
+
+-- no line is left
+pub asks_of-none : (front : List Ask) (lines : List (ℕ × List (List ℕ))) → None ≡ first_and_rest lines
+    → joined front (asks_of lines) ≡ Ok front
+unfolding asks_of
+asks_of-none front [] e = ap Ok (append-nil front)
+asks_of-none front (line ∷ lines) e = absurd (let n = e in cc)
+
+-- one more in front
+joined-cons : (front : List Ask) (ask : Ask) (rest : Result (List Ask) ScriptError)
+    → joined front (rest >>= λ asks. Ok (ask ∷ asks)) ≡ joined (front ++ ask ∷ []) rest
+joined-cons front ask (Ok asks) = ap Ok (sym (append_assoc front (ask ∷ []) asks))
+joined-cons front ask (Err e) = refl
+
+-- one line more asks something
+pub asks_of-more : (front longer : List Ask) (lines more : List (ℕ × List (List ℕ))) (number : ℕ) (words : List (List ℕ))
+    (ask : Ask)
+    → Some ((number, words), more) ≡ first_and_rest lines
+    → Ok ask ≡ on_line number (ask_of words)
+    → longer ≡ front ++ ask ∷ []
+    → joined longer (asks_of more) ≡ joined front (asks_of lines)
+unfolding asks_of
+asks_of-more front longer lines more number words ask first is longer_is =
+    ap (λ l. joined l (asks_of more)) longer_is
+    ∙ sym (ap (λ ls. joined front (asks_of ls)) (lines-are lines more (number, words) first)
+    ∙ ap (λ r. joined front (r >>= λ a. asks_of more >>= λ asks. Ok (a ∷ asks))) (sym is)
+    ∙ joined-cons front ask (asks_of more))
+
+-- the next line is refused
+pub asks_of-refused : (front : List Ask) (lines more : List (ℕ × List (List ℕ))) (number : ℕ) (words : List (List ℕ))
+    (e : ScriptError)
+    → Some ((number, words), more) ≡ first_and_rest lines
+    → Err e ≡ on_line number (ask_of words)
+    → joined front (asks_of lines) ≡ Err e
+unfolding asks_of
+asks_of-refused front lines more number words e first is =
+    ap (λ ls. joined front (asks_of ls)) (lines-are lines more (number, words) first)
+    ∙ ap (λ r. joined front (r >>= λ a. asks_of more >>= λ asks. Ok (a ∷ asks))) (sym is)
+
+-- what is given is refused so, for want of memory or else
+Refuses-of : {X : Type 0} (cause : ScriptWhy) (e : ScriptError) (given : Result X ScriptError) → given ≡ Err e
+    → Refuses cause e given
+Refuses-of why.Memory e given is = tt
+Refuses-of cause e given is = is
+
+-- a call that ended so read what is given
+pub Reads-refused : {X Y : Type 0} (view : X → Y) (r : Result X ScriptError) (e : ScriptError) (given : Result Y ScriptError)
+    → IsErrAnd r (λ x. x ≡ e) → given ≡ Err e → Reads view r given
+Reads-refused view (Ok x) e given is same = absurd is
+Reads-refused view (Err x) e given is same = Refuses-of x.why x given (same ∙ ap Err (sym is))
+
+-- a line that says something can say it
+pub All-read : (ask : Ask) (number : ℕ) (r : Result Ask ScriptWhy) → Ok ask ≡ on_line number r → IfOk r IsAsk → IsAsk ask
+All-read ask number (Ok a) is can = subst IsAsk (let e : a ≡ ask = cc in e) can
+All-read ask number (Err cause) is can = absurd (let e = is in cc)
+
+-- one more that can be asked
+pub All-asks : (asks longer : List Ask) (ask : Ask) → All IsAsk asks → IsAsk ask → longer ≡ asks ++ ask ∷ [] → All IsAsk longer
+All-asks asks longer ask can one is =
+    subst (All IsAsk) (sym is) (All-append IsAsk asks (ask ∷ []) can (All-cons IsAsk ask [] one (All-nil IsAsk)))

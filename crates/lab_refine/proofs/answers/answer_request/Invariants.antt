@@ -1,0 +1,7 @@
+use Rattle.std.proofs.Common.{string_bytes, take}
+use Rattle.lab_refine.specs.Answers.{Answers}
+use Rattle.lab_refine.proofs.answers.answer_request.Given as goal
+
+abbrev pub invariant-loop-ask : goal.invariant-loop-ask
+invariant-loop-ask l =
+    Answers l.fn.request.slave.period l.initial.space (take l.ask-index l.ask-items) (string_bytes l.text) l.space

@@ -1,0 +1,6 @@
+pub mod Params
+pub mod Grammar
+pub mod Reading
+pub mod Values
+pub mod Answers
+pub mod Answered
