@@ -1,0 +1,81 @@
+-- The words of a card's line with its channels, rate, period and ring are read as this card.
+use Rattle.std.proofs.Common.{◌≡◌, ◌≤◌, ◌%◌, ◌*◌, ◌/◌, ℕ, true, List, [], ◌∷◌, codes, Some, None, Ok, nat_le, refl, arith}
+use Rattle.std.proofs.lemmas.Bool.Decides.{nat_tests}
+use Rattle.asound_conf.specs.Device.{IsCard}
+use Rattle.lab_script.specs.declared.script.Share.TheVariants as share
+use Rattle.lab_script.specs.Draft.{card_of, divides}
+use Rattle.lab_script.specs.Keys.{key_of}
+use Rattle.lab_script.specs.Reading.{card_line}
+use Rattle.lab_script.specs.Word.{number_of}
+
+-- the words of a card's line, with these words for its channels, rate, period and ring
+abbrev pub words_with : (channels rate period ring : List ℕ) → List (List ℕ)
+words_with channels rate period ring =
+    codes "card" ∷ codes "channels" ∷ channels ∷ codes "rate" ∷ rate ∷ codes "period" ∷ period ∷ codes "ring" ∷ ring ∷ []
+
+-- words are numerals of the numbers of a card
+pub record AreNumerals (channels rate period ring : List ℕ) (c r p n : ℕ) : Type 0 where
+  pub is_channels : number_of channels ≡ Some c
+  pub is_rate : number_of rate ≡ Some r
+  pub is_period : number_of period ≡ Some p
+  pub is_ring : number_of ring ≡ Some n
+
+-- the tests that a card's numbers pass
+record AreTested (c r p n : ℕ) : Type 0 where
+  channels_low : nat_le 1 c ≡ true
+  channels_high : nat_le c 8 ≡ true
+  channels_most : nat_le c 255 ≡ true
+  rate_low : nat_le 4000 r ≡ true
+  rate_high : nat_le r 192000 ≡ true
+  rate_most : nat_le r 4294967295 ≡ true
+  period_low : nat_le 16 p ≡ true
+  period_high : nat_le p 9999999999999999999 ≡ true
+  ring_low : nat_le 64 n ≡ true
+  ring_high : nat_le n 16384 ≡ true
+  ring_most : nat_le n 4294967295 ≡ true
+  divides : divides p n ≡ true
+
+-- a number that is at most another one passes the test of it
+nat_le-le : (a b : ℕ) → a ≤ b → nat_le a b ≡ true
+nat_le-le a b h = grind (arith, nat_tests)
+
+-- a period that divides its ring at least twice
+divides-card : (p n : ℕ) → 16 ≤ p → p * 2 ≤ n → n % p ≡ 0 → divides p n ≡ true
+divides-card p n low twice whole =
+    let half : p ≤ n / 2 = omega (arith, twice) in
+    grind (arith, nat_tests, low, half, whole)
+
+-- the numbers of a card pass these tests
+AreTested-card : (c r p n : ℕ) → IsCard c r p n → AreTested c r p n
+AreTested-card c r p n card = record {
+  channels_low = nat_le-le 1 c card.channels_low;
+  channels_high = nat_le-le c 8 card.channels_high;
+  channels_most = nat_le-le c 255 (omega (arith, card.channels_high));
+  rate_low = nat_le-le 4000 r card.rate_low;
+  rate_high = nat_le-le r 192000 card.rate_high;
+  rate_most = nat_le-le r 4294967295 (omega (arith, card.rate_high));
+  period_low = nat_le-le 16 p card.period_low;
+  period_high = nat_le-le p 9999999999999999999 (omega (arith, card.period_twice, card.ring_high));
+  ring_low = nat_le-le 64 n card.ring_low;
+  ring_high = nat_le-le n 16384 card.ring_high;
+  ring_most = nat_le-le n 4294967295 (omega (arith, card.ring_high));
+  divides = divides-card p n card.period_low card.period_twice card.period_divides;
+}
+
+-- the card of such words, on the first line
+pub card_line-words : (channels rate period ring : List ℕ) (c r p n : ℕ) → AreNumerals channels rate period ring c r p n → IsCard c r p n
+    → card_line 1 (words_with channels rate period ring) ≡ Ok (record {
+      number = 1;
+      channels = c;
+      rate = r;
+      period = p;
+      ring = n;
+      places = 64;
+      lap = 0;
+      capture = None;
+      share = share.Dmix;
+    })
+unfolding card_of key_of
+card_line-words channels rate period ring c r p n are card =
+    let t = AreTested-card c r p n card in
+    rw (are.is_channels, are.is_rate, are.is_period, are.is_ring, t.channels_low, t.channels_high, t.channels_most, t.rate_low, t.rate_high, t.rate_most, t.period_low, t.period_high, t.ring_low, t.ring_high, t.ring_most, t.divides) refl

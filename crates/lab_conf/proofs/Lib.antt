@@ -1,0 +1,4 @@
+mod LineWords
+mod Numerals
+mod CardWords
+mod CardLines
