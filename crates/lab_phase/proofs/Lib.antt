@@ -1,5 +1,9 @@
+mod AloneStages
 mod Beginning
 mod Ending
 mod FirstSetups
+mod MeetLaws
 mod Numbers
+mod PhaseStages
 mod Rings
+mod StageLaws

@@ -1,6 +1,7 @@
 -- The lab is at a stage of a run of its script.
 use Rattle.std.specs.Prelude.{◌≡◌, ℕ, ◌+◌, ℤ, List, [], ◌∷◌, ◌++◌, length, slice_get, Option, Some, None, IsSomeAnd, ⊤}
 use Rattle.std.specs.Option.{option_copied}
+use Rattle.std.proofs.Common.{ap, ◌∙◌}
 use Rattle.sum_table.specs.Players.{player_key, player_ring}
 use Rattle.snoop_table.specs.Writers.{writer_geometry, writer_ring}
 use Rattle.wav_io.specs.Sound.{Sound}
@@ -24,6 +25,13 @@ use Rattle.lab_readers.specs.AtStage as readers
 use Rattle.lab_readers.specs.declared.readers.LabReaders.{LabReaders}
 use Rattle.lab_phase.specs.declared.lab.Lab.{Lab}
 use Rattle.lab_phase.specs.CardStage.{IsCardIn}
+
+-- the script that a lab runs, and how many items of its body are done
+abbrev pub script_of : Lab → Script
+script_of lab = lab.script.now
+
+abbrev pub items_done : Lab → ℕ
+items_done lab = lab.next
 
 -- the session that a lab runs, and the file that its card captures
 abbrev pub session_of : Lab → Session
@@ -96,11 +104,18 @@ pub record HasDoneItem (lab : Lab) (item : Item) (after : Lab) (stage : Stage) :
 -- the lab did an item, at whatever stage it was, of the script that it runs
 pub record DoesItem (lab : Lab) (item : Item) (after : Lab) : Type 0 where
   pub same : IsSameScript lab after
+  pub next : items_done after ≡ items_done lab + 1
   pub does : (stage : Stage) → IsAtStage lab stage → HasDoneItem lab item after stage
 
 -- this is the next item of its script
 abbrev pub IsNext : Lab → Item → Type 0
 IsNext lab item = slice_get lab.script.now.body lab.next ≡ Some item
+
+-- the item of a script whose number is that of the items that are done
+pub IsNext-at : (lab : Lab) (script : Script) (done : ℕ) (item : Item) → script_of lab ≡ script → items_done lab ≡ done → slice_get script.body done ≡ Some item
+    → IsNext lab item
+IsNext-at lab script done item same count is =
+    ap (λ (n : ℕ). slice_get lab.script.now.body n) count ∙ (ap (λ (s : Script). slice_get s.body done) same ∙ is)
 
 -- it is at a stage of a run
 pub record IsLab (lab : Lab) : Type 0 where

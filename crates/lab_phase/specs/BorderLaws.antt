@@ -4,7 +4,6 @@ use Rattle.std.specs.Global.{Vec}
 use Rattle.std.proofs.Common.{refl, sym, ap, subst, ◌∙◌, arith}
 use Rattle.std.proofs.lemmas.Option.{none-some}
 use Rattle.sum_table.specs.declared.view.Key.{Key}
-use Rattle.sum_table.specs.Seats.{TableId}
 use Rattle.wav_io.specs.Sound.{Sound}
 use Rattle.lab_script.specs.declared.line.Item.{Item}
 use Rattle.lab_script.specs.declared.line.Item.TheVariants as item
@@ -16,13 +15,13 @@ use Rattle.lab_run.specs.Stage.{Session, Stage}
 use Rattle.lab_card.specs.declared.card.CardActor.{CardActor}
 use Rattle.lab_setup.specs.declared.session.Openings.{Openings}
 use Rattle.lab_setup.specs.Sessions.{AreUsable, session_with}
-use Rattle.lab_places.specs.Held.{IsSameCard, key_of_places, ring_of_places}
+use Rattle.lab_places.specs.Held.{IsSameCard}
 use Rattle.lab_clients.specs.AtStage as clients
 use Rattle.lab_clients.specs.declared.clients.LabClients.{LabClients}
 use Rattle.lab_readers.specs.AtStage as readers
 use Rattle.lab_readers.specs.declared.readers.LabReaders.{LabReaders}
 use Rattle.lab_phase.specs.declared.lab.Lab.{Lab}
-use Rattle.lab_phase.specs.AtStage.{AddsRow, AreActorsAt, AreActorsOf, AreOfRings, DoesItem, DoesRow, HasDone, AreSetUp, HasRowAt, IsBorderItem, IsAtStage, IsCardOf, IsNext, IsSameCount, IsSameRing, IsSameScript, border_after, capture_of, session_of}
+use Rattle.lab_phase.specs.AtStage.{AddsRow, AreActorsAt, AreActorsOf, DoesItem, DoesRow, HasDone, AreSetUp, IsBorderItem, IsAtStage, IsNext, IsSameCount, IsSameRing, IsSameScript, border_after, capture_of, session_of}
 use Rattle.lab_phase.specs.Borders.{KeepsClients, KeepsReaders}
 use Rattle.lab_phase.specs.CardStage.{IsCardIn-same, IsSameActor, IsSameActor-none}
 use Rattle.lab_phase.specs.Reached.{IsFirstOf-next, IsReached-next, length-next}
@@ -79,7 +78,7 @@ session_of-same lab after same =
     ap (λ (s : Script). session_with s after.wavs.now after.openings) same.script
     ∙ (ap (λ (wavs : List Sound). session_with lab.script.now wavs after.openings) same.wavs ∙ ap (session_with lab.script.now lab.wavs.now) same.openings)
 
-AreSetUp-same : (lab after : Lab) → IsSameScript lab after → AreSetUp lab → AreSetUp after
+pub AreSetUp-same : (lab after : Lab) → IsSameScript lab after → AreSetUp lab → AreSetUp after
 AreSetUp-same lab after same set_up = record {
   clients = subst (λ (s : Script). AreUsable s.card.channels s.card.ring after.openings.clients.items) (sym same.script)
       (subst (λ (o : Openings). AreUsable lab.script.now.card.channels lab.script.now.card.ring o.clients.items) (sym same.openings) set_up.clients);
@@ -129,6 +128,7 @@ module _ (lab mid after : Lab) (one : Item) (row : Row) (step : Stage → Stage)
   pub DoesItem-row : DoesItem lab one after
   DoesItem-row = record {
     same = same-after;
+    next = adds.next ∙ ap (λ (n : ℕ). n + 1) does.count.next;
     does = λ stage at. record {
       next = step stage;
       may = may stage;

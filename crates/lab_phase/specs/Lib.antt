@@ -1,4 +1,5 @@
 pub mod Alone
+pub mod Asked
 pub mod AtStage
 pub mod BorderLaws
 pub mod Borders
@@ -6,8 +7,10 @@ pub mod CardStage
 pub mod Counts
 pub mod Ended
 pub mod PhaseLaws
+pub mod PhaseRuns
 pub mod PhaseSteps
 pub mod Places
 pub mod Played
 pub mod Reached
 pub mod Scripts
+pub mod StopLaws

@@ -10,7 +10,7 @@ impl<'r> Lab<'r, '_> {
     ghost use Rattle.lab_script.specs.declared.line.Actor.TheVariants as whose;
     ghost use Rattle.lab_script.specs.Limits.{IsBorder};
     ghost use Rattle.lab_run.specs.Stage.{after_close, after_open};
-    ghost use Rattle.lab_phase.specs.AtStage.{AddsRow, DoesItem, DoesRow, IsNext, IsBorderItem, IsLab, border_after, session_of};
+    ghost use Rattle.lab_phase.specs.AtStage.{AddsRow, DoesItem, DoesRow, IsNext, IsBorderItem, IsLab, border_after, played_of, session_of};
 
     /// Does an `open` or a `close` of the script's body, which has one row. It refuses, with `Memory`, only where no memory is left; the
     /// lab isn't called again then.
@@ -21,6 +21,7 @@ impl<'r> Lab<'r, '_> {
         requires next { IsNext self.old item.now }
         requires border { IsBorderItem item.now }
         ensures does { OnOk result (DoesItem self.old item.now self.new) }
+        ensures played { OnOk result (played_of self.new ≡ played_of self.old) }
         ensures only { IfErr result (λ e. e ≡ PcmError.Memory) }
     {
         let row = self.do_item(item)?;
@@ -34,6 +35,7 @@ impl<'r> Lab<'r, '_> {
         requires border { IsBorderItem item.now }
         ensures does { IfOk result
             (λ row. DoesRow (λ stage. border_after (session_of self.old) stage item.now) self.old row self.new) }
+        ensures played { played_of self.new ≡ played_of self.old }
         ensures only { IfErr result (λ e. e ≡ PcmError.Memory) }
     {
         match *item {
@@ -61,6 +63,7 @@ impl<'r> Lab<'r, '_> {
         requires actor { IsBorder (length self.old.script.now.clients) (length self.old.script.now.readers) actor }
         ensures does { IfOk result
             (λ row. DoesRow (λ stage. after_open (session_of self.old) stage actor) self.old row self.new) }
+        ensures played { played_of self.new ≡ played_of self.old }
         ensures only { IfErr result (λ e. e ≡ PcmError.Memory) }
     {
         match actor {
@@ -76,6 +79,7 @@ impl<'r> Lab<'r, '_> {
         requires number { number < length self.old.script.now.clients }
         ensures does { IfOk result
             (λ row. DoesRow (λ stage. after_open (session_of self.old) stage (whose.Client number)) self.old row self.new) }
+        ensures played { played_of self.new ≡ played_of self.old }
         ensures only { IfErr result (λ e. e ≡ PcmError.Memory) }
     {
         let actor = self.card.take().unwrap();
@@ -98,6 +102,7 @@ impl<'r> Lab<'r, '_> {
         requires number { number < length self.old.script.now.readers }
         ensures does { IfOk result
             (λ row. DoesRow (λ stage. after_open (session_of self.old) stage (whose.Reader number)) self.old row self.new) }
+        ensures played { played_of self.new ≡ played_of self.old }
         ensures only { IfErr result (λ e. e ≡ PcmError.Memory) }
     {
         let opening = self.openings.readers[number as usize].as_ref();
@@ -109,6 +114,7 @@ impl<'r> Lab<'r, '_> {
         requires at { IsLab self.old }
         requires actor { IsBorder (length self.old.script.now.clients) (length self.old.script.now.readers) actor }
         ensures does { DoesRow (λ stage. after_close (session_of self.old) stage actor) self.old result self.new }
+        ensures played { played_of self.new ≡ played_of self.old }
     {
         match actor {
             Actor::Client(number) => self.clients.close(number, self.phases),

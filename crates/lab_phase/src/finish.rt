@@ -61,7 +61,7 @@ fn close_rings<'r>(clients: LabClients<'r>, card: Card<'r, 'r>)
 
 impl<'r> Lab<'r, '_> {
     ghost use Rattle.std.specs.Prelude.{◌≡◌, IfErr, IfOk};
-    ghost use Rattle.lab_phase.specs.AtStage.{IsLab};
+    ghost use Rattle.lab_phase.specs.AtStage.{IsLab, played_of};
     ghost use Rattle.lab_phase.specs.Ended.{IsAtEnd, LeavesRun, LeavesStage};
 
     /// Ends the run: closes what is still open and both rings, and gives the report with all segments and runs, what the card played and
@@ -73,6 +73,7 @@ impl<'r> Lab<'r, '_> {
         requires end { IsAtEnd self }
         ensures stage { IfOk result (λ outcome. LeavesStage self.entry outcome) }
         ensures run { IfOk result (λ outcome. LeavesRun self.entry outcome) }
+        ensures played { IfOk result (λ outcome. outcome.played.items ≡ played_of self.entry) }
         ensures only { IfErr result (λ e. e ≡ PcmError.Memory) }
     {
         let segments = self.clients.segments(self.alloc)?;

@@ -34,7 +34,7 @@ pub struct Lab<'r, 's> {
 }
 
 impl<'r, 's> Lab<'r, 's> {
-    ghost use Rattle.std.specs.Prelude.{◌≡◌, ◌<◌, IfErr, IfOk, List, Option, length, slice_index_or, ℕ};
+    ghost use Rattle.std.specs.Prelude.{◌≡◌, ◌<◌, IfErr, IfOk, List, Option, [], length, slice_index_or, ℕ};
     ghost use Rattle.std.specs.Option.{option_copied};
     ghost use Rattle.snoop_table.specs.Readers.{geometry_of};
     ghost use Rattle.snoop_table.specs.Rings as snoop;
@@ -48,7 +48,7 @@ impl<'r, 's> Lab<'r, 's> {
     ghost use Rattle.lab_run.specs.LabRun.{recorded_by};
     ghost use Rattle.lab_run.specs.Stage.{Stage};
     ghost use Rattle.lab_readers.specs.AtStage.{readers_of};
-    ghost use Rattle.lab_phase.specs.AtStage.{IsAtStage, IsOfScript, capture_of, played_of, readers_in, rows_of, session_of};
+    ghost use Rattle.lab_phase.specs.AtStage.{IsAtStage, IsOfScript, capture_of, items_done, played_of, readers_in, rows_of, session_of};
 
     /// The lab of a script, before the first item of its body. Its clients have these files, in the order of their lines, and its card
     /// captures a file, or silence. It refuses, with `Memory`, only where no memory is left; the seats have ended then.
@@ -73,6 +73,8 @@ impl<'r, 's> Lab<'r, 's> {
         requires places { (key_of mix).places ≡ script.now.card.places }
         ensures script { IfOk result (IsOfScript script.now wavs.now (option_copied capture.entry)) }
         ensures first { IfOk result (λ lab. IsAtStage lab (first_stage (session_of lab))) }
+        ensures none { IfOk result (λ lab. items_done lab ≡ 0) }
+        ensures silent { IfOk result (λ lab. played_of lab ≡ []) }
         ensures only { IfErr result (λ e. e ≡ PcmError.Memory) }
     {
         let openings = openings_of(alloc, script, wavs)?;

@@ -5,7 +5,9 @@
 mod border;
 mod finish;
 mod lab;
+mod phase;
 mod seats;
+mod steps;
 
 pub use finish::Outcome;
 pub use lab::Lab;

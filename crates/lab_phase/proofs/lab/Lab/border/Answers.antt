@@ -2,7 +2,6 @@ use Rattle.std.proofs.Common.{sym, subst, ◌<◌, length, ℕ}
 use Rattle.lab_report.specs.declared.row.Row.{Row}
 use Rattle.lab_script.specs.declared.line.Item.{Item}
 use Rattle.lab_script.specs.declared.script.Script.{Script}
-use Rattle.lab_run.specs.Stage.{Stage}
 use Rattle.lab_phase.specs.declared.lab.Lab.{Lab}
 use Rattle.lab_phase.specs.AtStage.{AddsRow, DoesItem, border_after, session_of}
 use Rattle.lab_phase.specs.BorderLaws.{DoesItem-row, ItemMay-border, OnOk-more, next-inside}

@@ -1,8 +1,8 @@
-use Rattle.std.proofs.Common.{arith, refl, sym, ap, subst, ◌≡◌, ◌<◌, length, ℕ}
+use Rattle.std.proofs.Common.{arith, refl, sym, ap, subst, ◌<◌, length, ℕ}
 use Rattle.lab_script.specs.declared.line.Actor.{Actor}
 use Rattle.lab_script.specs.declared.line.Actor.TheVariants as whose
 use Rattle.lab_script.specs.Limits.{IsBorder}
-use Rattle.lab_run.specs.Stage.{Stage, after_close}
+use Rattle.lab_run.specs.Stage.{after_close}
 use Rattle.lab_phase.specs.declared.lab.Lab.{Lab}
 use Rattle.lab_phase.specs.AtStage.{DoesRow, capture_of, session_of}
 use Rattle.lab_phase.specs.Borders.{after_close-keeps_clients, after_close-keeps_readers}
@@ -38,6 +38,7 @@ returns-in-Client c =
           (record { script = refl; wavs = refl; capture = refl; openings = refl }) (record { rows = refl; phases = refl; next = refl }) refl refl c.close.ensures.card
           (λ stage. after_close-keeps_readers (session_of lab) stage number)
           (λ stage at. c.close.ensures.after (session_of lab) stage (record { are = at.actors.clients_are; phase_is = at.phases })));
+      played = refl;
     }
 
 pub returns-in-Reader : goal.returns-in-Reader
@@ -52,4 +53,5 @@ returns-in-Reader c =
           (record { ring = ap (λ s. seats.ring_of s) c.close-in-Reader.ensures.spare; geometry = ap (λ s. seats.geometry_of s) c.close-in-Reader.ensures.spare })
           (λ stage. after_close-keeps_clients (session_of lab) stage number)
           (λ stage at. c.close-in-Reader.ensures.closed (session_of lab) (capture_of lab) stage (record { are = at.actors.readers_are; phases = at.phases })));
+      played = refl;
     }

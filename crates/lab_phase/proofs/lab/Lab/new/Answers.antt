@@ -1,8 +1,6 @@
 use Rattle.std.specs.Prelude.{[], Option}
 use Rattle.std.specs.Option.{option_copied}
-use Rattle.std.proofs.Common.{refl, sym, ap, subst, ◌∙◌, ◌≡◌, List, length, ℕ}
-use Rattle.snd_base.specs.declared.geometry.Geometry.{Geometry}
-use Rattle.sum_table.specs.declared.seats.player.PlayerSeat.{PlayerSeat}
+use Rattle.std.proofs.Common.{refl, sym, ap, ◌∙◌, ◌≡◌, length}
 use Rattle.sum_table.specs.declared.view.Key.{Key}
 use Rattle.sum_table.specs.Players.{player_key, player_ring}
 use Rattle.sum_table.specs.Seats.{key_of}
@@ -12,7 +10,7 @@ use Rattle.snoop_table.specs.Writers.{writer_geometry, writer_ring}
 use Rattle.card_player.specs.declared.player.CardPlayer.{CardPlayer}
 use Rattle.card_player.specs.Plays.{seat_of}
 use Rattle.card_sim.specs.declared.card.Card.{Card}
-use Rattle.card_sim.specs.Runs.{period_of, player_of, writer_of}
+use Rattle.card_sim.specs.Runs.{period_of, writer_of}
 use Rattle.wav_io.specs.Sound.{Sound}
 use Rattle.lab_run.specs.Stage.{Session}
 use Rattle.lab_card.specs.declared.card.CardActor.{CardActor}

@@ -1,9 +1,7 @@
-use Rattle.std.specs.Prelude.{None, Option, IfOk}
-use Rattle.std.proofs.Common.{rules, arith, refl, sym, ap, ◌≡◌, ◌<◌, length, ℕ, slice_index_or}
+use Rattle.std.specs.Prelude.{None, Option}
+use Rattle.std.proofs.Common.{rules, arith, refl, ◌≡◌, ℕ, slice_index_or}
 use Rattle.std.specs.Option.{option_copied}
-use Rattle.snoop_table.specs.Readers as seats
 use Rattle.wav_io.specs.Sound.{Sound}
-use Rattle.lab_report.specs.declared.row.Row.{Row}
 use Rattle.lab_script.specs.declared.line.Actor.TheVariants as whose
 use Rattle.lab_run.specs.Stage.{Session, Stage, after_open}
 use Rattle.lab_readers.specs.AtStage.{AreAfter}

@@ -1,0 +1,135 @@
+-- The meets and the lines of a phase, one after the other: what each of them asks follows from what a phase asks of its actors.
+use Rattle.std.specs.Prelude.{◌≡◌, ℕ, ◌+◌, ◌*◌, ◌≤◌, ◌++◌, ℤ, List, All, drop, length, slice_index_or, take, vec_capacity, vec_len}
+use Rattle.std.specs.Global.{Vec}
+use Rattle.std.proofs.Common.{ap, sym, ◌∙◌, subst, arith}
+use Rattle.std.proofs.lemmas.List.{drop-append-le, drop_all, take-append-le, take_all}
+use Rattle.snd_base.specs.declared.geometry.Geometry.{Geometry}
+use Rattle.snd_base.specs.Places.{end_frame}
+use Rattle.sum_table.specs.Players.{player_key, player_ring}
+use Rattle.card_sim.specs.declared.card.Card.{Card}
+use Rattle.card_sim.specs.Runs.{period_of}
+use Rattle.lab_script.specs.declared.line.Line.{Line}
+use Rattle.lab_script.specs.declared.line.Op.{Op}
+use Rattle.lab_script.specs.Script.{is_of_card}
+use Rattle.lab_report.specs.declared.row.Row.{Row}
+use Rattle.lab_run.specs.Phases.{ops_by}
+use Rattle.lab_actors.specs.Gates.{stops_at}
+use Rattle.lab_actors.specs.Walks.{AreEach, AreEach-length}
+use Rattle.lab_card.specs.declared.card.CardActor.{CardActor}
+use Rattle.lab_card.specs.CardLines.{frames_by}
+use Rattle.lab_card.specs.MeetLaws.{frame-same, geometry-same}
+use Rattle.lab_card.specs.Meets.{IsSameCard}
+use Rattle.lab_card.specs.Moves.{frame_of_card, geometry_of_card, seat_of_card}
+use Rattle.lab_card.specs.Room.{FitsRing, HasRoom}
+use Rattle.lab_client.specs.Keeps.{IsOfRing-card}
+use Rattle.lab_clients.specs.declared.clients.LabClients.{LabClients}
+use Rattle.lab_clients.specs.AtStage.{clients_of}
+use Rattle.lab_clients.specs.StepLaws.{AreOfCard-ring, AreOfRing, AreOfRing-informed, AreOfRing-run}
+use Rattle.lab_clients.specs.Steps as clients
+use Rattle.lab_clients.specs.Steps.{AreOfCard}
+use Rattle.lab_reader.specs.OfCards.{IsOf-moved}
+use Rattle.lab_reader.specs.Readers.{IsOf}
+use Rattle.lab_readers.specs.declared.readers.LabReaders.{LabReaders}
+use Rattle.lab_readers.specs.AtStage.{readers_of}
+use Rattle.lab_readers.specs.Ready.{AreOf-informed, AreOf-ran, AreOf-same}
+use Rattle.lab_readers.specs.Steps as readers
+use Rattle.lab_readers.specs.Steps.{EachReader}
+use Rattle.lab_phase.specs.declared.steps.Asked.{Asked}
+use Rattle.lab_phase.specs.Asked.{CanMeet, CardCanRun, ClientsCanRun, ReadersCanRun}
+use Rattle.lab_phase.specs.PhaseSteps.{Asks, CardHasRun, ClientsHaveRun, HaveRun, IsSameButCard, ReadersHaveRun}
+
+-- ---- before the lines
+
+FitsRing-met : (ops : List Op) (a b : CardActor) → IsSameButCard a b → FitsRing a ops → FitsRing b ops
+FitsRing-met ops a b same fits =
+    subst (λ (g : Geometry). frame_of_card b.card + frames_by ops ≤ end_frame g) (sym (geometry-same a.card b.card same.card))
+    (subst (λ (n : ℕ). n + frames_by ops ≤ end_frame (geometry_of_card a.card)) (sym (frame-same a.card b.card same.card)) fits)
+
+HasRoom-met : (count frames : ℕ) (a b : CardActor) → IsSameButCard a b → HasRoom a count frames → HasRoom b count frames
+HasRoom-met count frames a b same room =
+    let shape : geometry_of_card b.card ≡ geometry_of_card a.card = geometry-same a.card b.card same.card in
+    record {
+      rows = subst (λ (rows : Vec Row). vec_len rows + count ≤ vec_capacity rows) (sym same.rows) room.rows;
+      played = subst (λ (g : Geometry). vec_len b.played + frames * g.channels ≤ vec_capacity b.played) (sym shape)
+          (subst (λ (samples : Vec ℤ). vec_len samples + frames * (geometry_of_card a.card).channels ≤ vec_capacity samples) (sym same.played) room.played);
+      captured = subst (λ (g : Geometry). period_of b.card * g.channels ≤ vec_capacity b.captured) (sym shape)
+          (subst (λ (n : ℕ). n * (geometry_of_card a.card).channels ≤ vec_capacity b.captured) (sym same.card.period)
+          (subst (λ (samples : Vec ℤ). period_of a.card * (geometry_of_card a.card).channels ≤ vec_capacity samples) (sym same.captured) room.captured));
+    }
+
+pub CardCanRun-met : (lines : List Line) (a b : CardActor) → IsSameButCard a b → CardCanRun lines a → CardCanRun lines b
+CardCanRun-met lines a b same can = record {
+  fits = FitsRing-met (ops_by is_of_card lines) a b same can.fits;
+  room = HasRoom-met (length (ops_by is_of_card lines)) (frames_by (ops_by is_of_card lines)) a b same can.room;
+}
+
+module _ (gates : ℕ) (asked : Asked) (a : CardActor) (cs ds : LabClients) (rs ss : LabReaders) (can : CanMeet gates asked a cs rs) where
+  pub ClientsCanRun-met : (near : ℕ) → 64 ≤ near → AreEach (clients.IsInformedBy a.card) 0 (clients_of cs) (clients_of ds) → ClientsCanRun near asked ds
+  ClientsCanRun-met near many informed =
+      let len = AreEach-length (clients.IsInformedBy a.card) 0 (clients_of cs) (clients_of ds) informed in
+      let few = can.few_clients in
+      let files = can.files in
+      record {
+        writes = can.writes;
+        enough = omega (arith, many, len, few);
+        files = omega (arith, files, len);
+        ready = can.clients_ready a.card ds informed;
+      }
+
+  pub ReadersCanRun-met : (far : ℕ) (c : Card) → gates ≤ 64 + far → EachReader (readers.IsInformedBy c) rs ss → ReadersCanRun far asked ss
+  ReadersCanRun-met far c many informed =
+      let len = AreEach-length (readers.IsInformedBy c) 0 (readers_of rs) (readers_of ss) informed.each in
+      let few = can.few_readers in
+      record {
+        reads = can.reads;
+        enough = omega (arith, many, len, few);
+        ready = can.readers_ready c ss informed;
+      }
+
+-- ---- after the lines
+
+-- the clients are of the ring of the card, which did its lines
+pub AreOfCard-ran : {G : Type 0} (stops : G → ℕ) (gates after : List G) (asked : Asks) (a b d : CardActor) (cs ds es : LabClients) → IsSameCard a.card b.card → CardHasRun asked b d
+    → AreEach (clients.IsInformedBy a.card) 0 (clients_of cs) (clients_of ds) → ClientsHaveRun stops gates after asked ds es → AreOfCard a.card (clients_of cs)
+    → AreOfCard d.card (clients_of es)
+AreOfCard-ran stops gates after asked a b d cs ds es same card informed run are =
+    let ring = player_ring (seat_of_card a.card) in
+    let key = player_key (seat_of_card a.card) in
+    let before : AreOfRing ring key (clients_of cs) = λ i x inside. IsOfRing-card a.card (slice_index_or (clients_of cs) i x) (are i x inside) in
+    let met : AreOfRing ring key (clients_of ds) = AreOfRing-informed ring key a.card (clients_of cs) (clients_of ds) informed before in
+    AreOfCard-ring ring key d.card (clients_of es)
+    (record { of_ring = card.did.moves.player.ring ∙ same.player.ring; of_key = card.did.moves.player.key ∙ same.player.key })
+    (AreOfRing-run ring key stops gates after asked.sounds asked.phase asked.lines (clients_of ds) (clients_of es) run.each met)
+
+-- so are the readers, also once it met others
+pub AreOf-lines : {G : Type 0} (stops : G → ℕ) (gates after : List G) (asked : Asks) (a b d : CardActor) (between heard : Card) (rs ss ts : LabReaders) → IsSameCard a.card b.card
+    → CardHasRun asked b d → IsSameCard d.card heard → EachReader (readers.IsInformedBy between) rs ss → ReadersHaveRun stops gates after asked ss ts → All (IsOf a.card) (readers_of rs)
+    → All (IsOf heard) (readers_of ts)
+AreOf-lines stops gates after asked a b d between heard rs ss ts same card hears informed run are =
+    let met : All (IsOf a.card) (readers_of ss) = AreOf-informed a.card between rs ss informed are in
+    let here : All (IsOf b.card) (readers_of ss) = AreOf-same a.card b.card (readers_of ss) same met in
+    let ran : All (IsOf b.card) (readers_of ts) = AreOf-ran b.card (stops_at stops gates) (stops_at stops after) asked.phase asked.lines ss ts run here in
+    let moved : All (IsOf d.card) (readers_of ts) =
+    λ k r inside. IsOf-moved b.card d.card (slice_index_or (readers_of ts) k r) _ _ _ _ _ card.did.moves (ran k r inside) in
+    AreOf-same d.card heard (readers_of ts) hears moved
+
+-- ---- the gates of clients, and those of readers behind them
+
+take-front : {X : Type 0} (n : ℕ) (front back : List X) → length front ≡ n → take n (front ++ back) ≡ front
+take-front n front back len = take-append-le n front back (omega (arith, len)) ∙ take_all n front (omega (arith, len))
+
+drop-front : {X : Type 0} (n : ℕ) (front back : List X) → length front ≡ n → drop n (front ++ back) ≡ back
+drop-front n front back len = drop-append-le n front back (omega (arith, len)) ∙ ap (λ xs. xs ++ back) (drop_all n front (omega (arith, len)))
+
+-- all did their lines behind the gates of a list, of which the first are the clients'
+pub HaveRun-halves : {G : Type 0} (stops : G → ℕ) (count : ℕ) (gates near near_after far far_after : List G) (asked : Asks) (a b : CardActor) (cs ds : LabClients) (rs ss : LabReaders)
+    → gates ≡ near ++ far → length near ≡ count → length near_after ≡ length near → HaveRun stops near near_after far far_after asked a b cs ds rs ss
+    → HaveRun stops (take count gates) (take count (near_after ++ far_after)) (drop count gates) (drop count (near_after ++ far_after)) asked a b cs ds rs ss
+HaveRun-halves {G = G} stops count gates near near_after far far_after asked a b cs ds rs ss halves len same run =
+    let after : length near_after ≡ count = same ∙ len in
+    let front : take count gates ≡ near = ap (take count) halves ∙ take-front count near far len in
+    let back : drop count gates ≡ far = ap (drop count) halves ∙ drop-front count near far len in
+    subst (λ (gs : List G). HaveRun stops gs (take count (near_after ++ far_after)) (drop count gates) (drop count (near_after ++ far_after)) asked a b cs ds rs ss) (sym front)
+    (subst (λ (gs : List G). HaveRun stops near gs (drop count gates) (drop count (near_after ++ far_after)) asked a b cs ds rs ss) (sym (take-front count near_after far_after after))
+    (subst (λ (gs : List G). HaveRun stops near near_after gs (drop count (near_after ++ far_after)) asked a b cs ds rs ss) (sym back)
+    (subst (λ (gs : List G). HaveRun stops near near_after far gs asked a b cs ds rs ss) (sym (drop-front count near_after far_after after)) run)))

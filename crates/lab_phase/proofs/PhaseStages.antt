@@ -1,0 +1,297 @@
+-- A phase of a lab: what its script says of it, and that the stage after it is one of a run.
+use Rattle.std.specs.Prelude.{◌≡◌, ◌≢◌, ℕ, ◌+◌, ◌≤◌, ◌<◌, ℤ, List, [], ◌∷◌, ◌++◌, length, map, slice_get, Option, Some, take, drop, Bool, true, false}
+use Rattle.std.specs.List.{flat_map}
+use Rattle.std.proofs.Common.{sym, ap, subst, ◌∙◌, arith, append_assoc}
+use Rattle.snd_base.specs.declared.geometry.Geometry.{Geometry}
+use Rattle.sum_table.specs.declared.view.Key.{Key}
+use Rattle.sum_table.specs.Players.{player_key, player_ring}
+use Rattle.snoop_table.specs.Writers.{writer_geometry, writer_ring}
+use Rattle.wav_io.specs.Sound.{Sound}
+use Rattle.card_sim.specs.declared.card.Card.{Card}
+use Rattle.card_sim.specs.Runs.{writer_of}
+use Rattle.lab_script.specs.declared.line.Item.{Item}
+use Rattle.lab_script.specs.declared.line.Item.TheVariants as item
+use Rattle.lab_script.specs.declared.line.Line.{Line}
+use Rattle.lab_script.specs.Limits.{IsPhase}
+use Rattle.lab_script.specs.Script.{is_of_card, phases_of}
+use Rattle.lab_report.specs.declared.row.Row.{Row}
+use Rattle.lab_run.specs.Client.{Client}
+use Rattle.lab_run.specs.Items.{held_of, is_reader_stopped, is_stopped, phase_end, reaped_client, reaped_client_if, reaped_reader, reaped_reader_if}
+use Rattle.lab_run.specs.Phases.{card_rows, ops_by}
+use Rattle.lab_run.specs.Reader.{Reader}
+use Rattle.lab_run.specs.Rules.{AtPort}
+use Rattle.lab_run.specs.ScriptWords.{IsReached, PhasesAreOfScripts, StagesAreOfScripts}
+use Rattle.lab_run.specs.Stage.{Session, Stage}
+use Rattle.lab_actors.specs.Gates.{AreCounted}
+use Rattle.lab_card.specs.declared.card.CardActor.{CardActor}
+use Rattle.lab_card.specs.Moves.{seat_of_card}
+use Rattle.lab_card.specs.Room.{FitsRing}
+use Rattle.lab_places.specs.Held.{key_of_places, ring_of_places}
+use Rattle.lab_client.specs.Clients as client
+use Rattle.lab_clients.specs.AtStage as clients
+use Rattle.lab_clients.specs.declared.clients.LabClients.{LabClients}
+use Rattle.lab_reader.specs.Readers as reader
+use Rattle.lab_readers.specs.AtStage as readers
+use Rattle.lab_readers.specs.declared.readers.LabReaders.{LabReaders}
+use Rattle.lab_phase.specs.declared.lab.Lab.{Lab}
+use Rattle.lab_phase.specs.declared.steps.Asked.{Asked}
+use Rattle.lab_phase.specs.Alone.{unplugs_by-others}
+use Rattle.lab_phase.specs.Asked.{CanMeet}
+use Rattle.lab_phase.specs.AtStage.{AreActorsOf, AreOfRings, IsAtStage, IsCardOf, IsNext, capture_of, played_by, played_of, session_of}
+use Rattle.lab_phase.specs.BorderLaws.{HasDone-next, AreSetUp-same, session_of-same}
+use Rattle.lab_phase.specs.PhaseLaws.{ActorLaws, HaveDone, asks_at, have-done}
+use Rattle.lab_phase.specs.PhaseRuns.{AreStopsOf, CountsPhase, DoesPhase, HasRunLines, HasRunPhase, IsLonger, Reaps, RunsPhase, Stops, stops_by}
+use Rattle.lab_phase.specs.PhaseSteps.{HaveMet, HaveRoom}
+use Rattle.lab_phase.specs.Reached.{IsFirstOf, IsFirstOf-next}
+use Rattle.lab_phase.specs.Scripts.{IsPhase-next}
+use Rattle.lab_phase.proofs.StageLaws.{CanMeet-at, FitsRing-reached, IsAskedAt-reached, files-reached}
+
+-- ---- the next phase of a script
+
+length-phases_of : (done others : List Item) (lines : List Line) → length (phases_of done) + 1 ≤ length (phases_of (done ++ item.Phase lines ∷ others))
+length-phases_of [] others lines = omega arith
+length-phases_of (item.Phase more ∷ done) others lines = let rest = length-phases_of done others lines in omega (arith, rest)
+length-phases_of (item.Opens number who ∷ done) others lines = length-phases_of done others lines
+length-phases_of (item.Closes number who ∷ done) others lines = length-phases_of done others lines
+
+module _ (lab : Lab) (stage : Stage) (lines : List Line) (at : IsAtStage lab stage) (is : IsNext lab (item.Phase lines)) where
+  pub first-item : IsFirstOf (item.Phase lines) at.has_done.others
+  first-item =
+      let has = at.has_done in
+      IsFirstOf-next has.done has.others (item.Phase lines)
+      (ap (λ (n : ℕ). slice_get (has.done ++ has.others) n) (sym has.next) ∙ (ap (λ (items : List Item). slice_get items lab.next) (sym has.reached.body) ∙ is))
+
+  pub reached-phase : IsReached lab.script.now lab.wavs.now (session_of lab) at.has_done.done (item.Phase lines ∷ first-item.others) stage
+  reached-phase =
+      subst (λ (items : List Item). IsReached lab.script.now lab.wavs.now (session_of lab) at.has_done.done items stage) first-item.is at.has_done.reached
+
+  pub phase-lines : IsPhase (length lab.script.now.clients) (length lab.script.now.readers) lines
+  phase-lines = IsPhase-next lab.script.now at.has_done.done first-item.others lines reached-phase.script_is reached-phase.body
+
+  -- few phases are done before it
+  pub phases-few : StagesAreOfScripts → lab.phases < 4294967295
+  phases-few laws =
+      let after = laws lab.script.now lab.wavs.now (session_of lab) at.has_done.done (item.Phase lines ∷ first-item.others) stage reached-phase in
+      let count = after.phases in
+      let more = length-phases_of at.has_done.done first-item.others lines in
+      let all = reached-phase.script_is.phases in
+      let body = ap (λ (items : List Item). length (phases_of items)) reached-phase.body in
+      let own = at.phases in
+      omega (arith, count, more, all, body, own)
+
+-- its actors can do it: the card's frames are before its rings' end, and all can meet once they took the room of the lines
+module _ (lab : Lab) (stage : Stage) (asked : Asked) (at : IsAtStage lab stage) (is : IsNext lab (item.Phase asked.lines.now)) (a0 : CardActor) (card_is : lab.card ≡ Some a0)
+    (laws : PhasesAreOfScripts) where
+  actors-at : AreActorsOf (session_of lab) (capture_of lab) stage (Some a0) lab.clients lab.readers
+  actors-at = subst (λ (card : Option CardActor). AreActorsOf (session_of lab) (capture_of lab) stage card lab.clients lab.readers) card_is at.actors
+
+  pub fits-phase : FitsRing a0 (ops_by is_of_card asked.lines.now)
+  fits-phase =
+      FitsRing-reached lab.script.now lab.wavs.now (session_of lab) at.has_done.done (first-item lab stage asked.lines.now at is).others stage asked
+      (reached-phase lab stage asked.lines.now at is) a0 laws actors-at.card_is.is.at
+
+  pub can-meet : (gates : ℕ) → 128 ≤ gates → asked.wavs.now ≡ lab.wavs.now → (a : CardActor) (cs : LabClients) (rs : LabReaders)
+      → HaveRoom asked.lines.now a0 a lab.clients cs lab.readers rs → CanMeet gates asked a cs rs
+  can-meet gates many files a cs rs room =
+      CanMeet-at (session_of lab) (capture_of lab) stage gates (length lab.script.now.clients) (length lab.script.now.readers) asked a0 a lab.clients cs lab.readers rs
+      (IsAskedAt-reached lab.script.now lab.wavs.now (session_of lab) at.has_done.done (first-item lab stage asked.lines.now at is).others stage asked
+      (reached-phase lab stage asked.lines.now at is) gates files many)
+      fits-phase actors-at room
+
+-- ---- the gates
+
+AreCounted-reaped_clients : (ring : Geometry) (base stops : ℕ → ℕ) (number : ℕ) (xs : List (AtPort × Client)) → AreCounted base stops number xs
+    → AreCounted base stops number (map (reaped_client ring) xs)
+AreCounted-reaped_clients ring base stops number [] counted = tt
+AreCounted-reaped_clients ring base stops number (x ∷ xs) counted =
+    (by_stop (is_stopped x.1.own), AreCounted-reaped_clients ring base stops (number + 1) xs counted.1)
+  where
+    by_stop : (stopped : Bool) → (reaped_client_if stopped ring x).0.by_gate + base number ≡ stops number
+    by_stop true = counted.0
+    by_stop false = counted.0
+
+AreCounted-reaped_readers : (ring : Geometry) (base stops : ℕ → ℕ) (number : ℕ) (xs : List (AtPort × Reader)) → AreCounted base stops number xs
+    → AreCounted base stops number (map (reaped_reader ring) xs)
+AreCounted-reaped_readers ring base stops number [] counted = tt
+AreCounted-reaped_readers ring base stops number (x ∷ xs) counted =
+    (by_stop (is_reader_stopped x.1.own), AreCounted-reaped_readers ring base stops (number + 1) xs counted.1)
+  where
+    by_stop : (stopped : Bool) → (reaped_reader_if stopped ring x).0.by_gate + base number ≡ stops number
+    by_stop true = counted.0
+    by_stop false = counted.0
+
+-- ---- a phase in which clients or readers have lines
+
+-- rows and those of the card, of clients and of readers after them
+rows-joined : (xs xs2 ks ks2 bs bs2 cs cs2 : List Row) → xs ≡ xs2 → ks ++ bs ++ cs ≡ ks2 ++ bs2 ++ cs2 → xs ++ ks ++ bs ++ cs ≡ xs2 ++ ks2 ++ bs2 ++ cs2
+rows-joined xs xs2 ks ks2 bs bs2 cs cs2 first more =
+    let before : xs ++ ks ++ bs ++ cs ≡ xs ++ (ks ++ bs ++ cs) = simp append_assoc in
+    let after : xs2 ++ ks2 ++ bs2 ++ cs2 ≡ xs2 ++ (ks2 ++ bs2 ++ cs2) = simp append_assoc in
+    before ∙ (ap (λ (rows : List Row). xs ++ rows) more ∙ (ap (λ (rows : List Row). rows ++ (ks2 ++ bs2 ++ cs2)) first ∙ sym after))
+
+module _ {G : Type 0} (stops : G → ℕ) (gates gates_after : List G) (lab mid : Lab) (lines : List Line) (laws : ActorLaws) (is : IsNext lab (item.Phase lines))
+    (others : length (ops_by is_of_card lines) ≢ length lines) (run : HasRunLines stops gates gates_after lab lines mid) (stage : Stage) (base : Stops)
+    (at : IsAtStage lab stage) (counted : AreStopsOf base (stops_by stops gates) stage) where
+  actors-before : AreActorsOf (session_of lab) (capture_of lab) stage (Some run.card) lab.clients lab.readers
+  actors-before = subst (λ (card : Option CardActor). AreActorsOf (session_of lab) (capture_of lab) stage card lab.clients lab.readers) run.card_is at.actors
+
+  met-at : HaveMet stops (take 64 gates) (take 64 gates_after) (drop 64 gates) (drop 64 gates_after) (asks_at (session_of lab) (capture_of lab) stage lines) run.run.roomy_card
+      run.run.roomy_clients run.run.roomy_readers run.run.met_card run.run.met_clients run.run.met_readers
+  met-at =
+      subst
+      (λ (n : ℕ). HaveMet stops (take 64 gates) (take 64 gates_after) (drop 64 gates) (drop 64 gates_after)
+      (record { sounds = lab.wavs.now; capture = capture_of lab; phase = n + 1; lines = lines }) run.run.roomy_card run.run.roomy_clients run.run.roomy_readers run.run.met_card
+      run.run.met_clients run.run.met_readers)
+      at.phases run.run.met
+
+  abbrev after_rows : List Row
+  after_rows = run.run.met_card.rows.items ++ flat_map client.rows_of (clients.clients_of run.run.met_clients) ++ flat_map reader.rows_of (readers.readers_of run.run.met_readers)
+
+  pub done-lines : HaveDone (session_of lab) (capture_of lab) stage lines base.clients (stops_by stops gates_after).clients base.readers (stops_by stops gates_after).readers
+      run.card_after mid.clients mid.readers after_rows
+  done-lines =
+      have-done (session_of lab) (capture_of lab) stage lines laws (length lab.script.now.clients) (length lab.script.now.readers) (phase-lines lab stage lines at is)
+      (unplugs_by-others (length lab.script.now.clients) (length lab.script.now.readers) lines (phase-lines lab stage lines at is) others) stops (take 64 gates) (take 64 gates_after)
+      (drop 64 gates) (drop 64 gates_after) run.card run.run.roomy_card run.run.met_card run.card_after lab.clients run.run.roomy_clients run.run.met_clients mid.clients lab.readers
+      run.run.roomy_readers run.run.met_readers mid.readers lab.rows.items mid.rows.items actors-before run.run.room met-at run.run.given base.clients base.readers
+      (files-reached lab.script.now lab.wavs.now (session_of lab) at.has_done.done (first-item lab stage lines at is).others lines stage (reached-phase lab stage lines at is))
+      counted.clients counted.readers
+
+  -- the card and all others are of the same rings as before
+  rings-after : AreOfRings run.card_after.card mid.clients mid.readers
+  rings-after =
+      let a = run.card in
+      let own = actors-before.card_is.rings in
+      let room = run.run.room in
+      let met = run.run.met in
+      let given = run.run.given in
+      let moves = met.run.card.did.moves in
+      let places = given.places ∙ (met.places ∙ room.places) in
+      let spare = given.readers.spare ∙ (met.hear_readers.spare ∙ (met.run.readers.spare ∙ (met.inform_readers.spare ∙ room.readers.spare))) in
+      let card : player_ring (seat_of_card run.card_after.card) ≡ player_ring (seat_of_card a.card) =
+      ap (λ (c : Card). player_ring (seat_of_card c)) given.card
+      ∙ (met.last.card.player.ring ∙ (moves.player.ring ∙ (met.second.card.player.ring ∙ ap (λ (c : Card). player_ring (seat_of_card c)) room.card))) in
+      let key : player_key (seat_of_card run.card_after.card) ≡ player_key (seat_of_card a.card) =
+      ap (λ (c : Card). player_key (seat_of_card c)) given.card
+      ∙ (met.last.card.player.key ∙ (moves.player.key ∙ (met.second.card.player.key ∙ ap (λ (c : Card). player_key (seat_of_card c)) room.card))) in
+      let snoop : writer_ring (writer_of run.card_after.card) ≡ writer_ring (writer_of a.card) =
+      ap (λ (c : Card). writer_ring (writer_of c)) given.card
+      ∙ (met.last.card.writer.ring ∙ (moves.writer.ring ∙ (met.second.card.writer.ring ∙ ap (λ (c : Card). writer_ring (writer_of c)) room.card))) in
+      let shape : writer_geometry (writer_of run.card_after.card) ≡ writer_geometry (writer_of a.card) =
+      ap (λ (c : Card). writer_geometry (writer_of c)) given.card
+      ∙ (met.last.card.writer.geometry ∙ (moves.writer.geometry ∙ (met.second.card.writer.geometry ∙ ap (λ (c : Card). writer_geometry (writer_of c)) room.card))) in
+      record {
+        sum_ring = ap ring_of_places places ∙ (own.sum_ring ∙ sym card);
+        sum_key = ap key_of_places places ∙ (own.sum_key ∙ sym key);
+        snoop_ring = ap Rattle.snoop_table.specs.Readers.ring_of spare ∙ (own.snoop_ring ∙ sym snoop);
+        snoop_geometry = ap Rattle.snoop_table.specs.Readers.geometry_of spare ∙ (own.snoop_geometry ∙ sym shape);
+      }
+
+  places-after : (key_of_places (clients.places_of mid.clients)).places ≡ (session_of lab).card.places
+  places-after =
+      let places = run.run.given.places ∙ (run.run.met.places ∙ run.run.room.places) in
+      ap (λ p. (key_of_places p).places) places ∙ actors-before.card_is.all_places
+
+  module _ (after : Lab) (reaps : Reaps mid after) where
+    abbrev next-stage : Stage
+    next-stage = phase_end (session_of lab) stage lines (done-lines.next_clients, done-lines.client_rows) (done-lines.next_readers, done-lines.reader_rows)
+
+    actors-then : AreActorsOf (session_of lab) (capture_of lab) next-stage (Some run.card_after) after.clients after.readers
+    actors-then = record {
+      card_is = record {
+        is = done-lines.card;
+        rows = done-lines.card_rows_none;
+        rings = record {
+          sum_ring = reaps.places.ring ∙ rings-after.sum_ring;
+          sum_key = reaps.places.key ∙ rings-after.sum_key;
+          snoop_ring = reaps.ring.ring ∙ rings-after.snoop_ring;
+          snoop_geometry = reaps.ring.geometry ∙ rings-after.snoop_geometry;
+        };
+        all_places = ap (λ (key : Key). key.places) reaps.places.key ∙ places-after;
+      };
+      clients_are = reaps.clients (session_of lab) (held_of stage) done-lines.next_clients done-lines.clients;
+      readers_are = reaps.readers (session_of lab) (capture_of lab) done-lines.next_readers done-lines.readers;
+    }
+
+    pub run-phase : HasRunPhase base (stops_by stops gates_after) lab stage lines after
+    run-phase = record {
+      next = next-stage;
+      may = done-lines.may;
+      actors = subst (λ (card : Option CardActor). AreActorsOf (session_of lab) (capture_of lab) next-stage card after.clients after.readers) (sym (reaps.card ∙ run.card_then)) actors-then;
+      rows = ap (λ v. v.items) reaps.rows
+          ∙ (run.run.given.all
+          ∙ rows-joined lab.rows.items stage.rows run.run.met_card.rows.items (card_rows (stage.phases + 1) stage.position (ops_by is_of_card lines))
+          (flat_map client.rows_of (clients.clients_of run.run.met_clients)) done-lines.client_rows (flat_map reader.rows_of (readers.readers_of run.run.met_readers))
+          done-lines.reader_rows at.rows done-lines.rows_are);
+      counted = record {
+        clients = AreCounted-reaped_clients (session_of lab).ring base.clients (stops_by stops gates_after).clients 0 done-lines.next_clients done-lines.clients_counted;
+        readers = AreCounted-reaped_readers (session_of lab).ring base.readers (stops_by stops gates_after).readers 0 done-lines.next_readers done-lines.readers_counted;
+      };
+    }
+
+-- what was played is longer by what the card took
+played-longer : {G : Type 0} (stops : G → ℕ) (gates gates_after : List G) (lab mid after : Lab) (lines : List Line) → HasRunLines stops gates gates_after lab lines mid → Reaps mid after
+    → IsLonger (played_of lab) (played_of after)
+played-longer stops gates gates_after lab mid after lines run reaps =
+    let met = run.run.met in
+    let samples : List ℤ = met.run.card.did.samples in
+    let first : met.before.played.items ≡ played_of lab = ap (λ v. v.items) met.second.played ∙ (run.run.room.played ∙ sym (ap played_by run.card_is)) in
+    record {
+      more = samples;
+      is = ap played_by (reaps.card ∙ run.card_then)
+          ∙ (ap (λ v. v.items) run.run.given.played
+          ∙ (ap (λ v. v.items) met.last.played ∙ (met.run.card.did.played ∙ ap (λ (xs : List ℤ). xs ++ samples) first)));
+    }
+
+-- at whatever stage it was
+pub RunsPhase-reaped : {G : Type 0} (stops : G → ℕ) (gates gates_after : List G) (lab mid after : Lab) (lines : List Line) → ActorLaws → IsNext lab (item.Phase lines)
+    → length (ops_by is_of_card lines) ≢ length lines → HasRunLines stops gates gates_after lab lines mid → Reaps mid after
+    → RunsPhase (stops_by stops gates) (stops_by stops gates_after) lab lines after
+RunsPhase-reaped stops gates gates_after lab mid after lines laws is others run reaps = record {
+  same = record {
+    script = reaps.same.script ∙ run.same.script;
+    wavs = reaps.same.wavs ∙ run.same.wavs;
+    capture = reaps.same.capture ∙ run.same.capture;
+    openings = reaps.same.openings ∙ run.same.openings;
+  };
+  phases = reaps.phases ∙ run.phases;
+  next = reaps.next ∙ run.next;
+  played = played-longer stops gates gates_after lab mid after lines run reaps;
+  does = λ stage base at counted. run-phase stops gates gates_after lab mid lines laws is others run stage base at counted after reaps;
+}
+
+-- ---- a phase that is counted
+
+module _ (stops stops_after : Stops) (lab mid after : Lab) (lines : List Line) (is : IsNext lab (item.Phase lines)) (runs : RunsPhase stops stops_after lab lines mid)
+    (counts : CountsPhase mid after) where
+  same-then : Rattle.lab_phase.specs.AtStage.IsSameScript lab after
+  same-then = record {
+    script = counts.same.script ∙ runs.same.script;
+    wavs = counts.same.wavs ∙ runs.same.wavs;
+    capture = counts.same.capture ∙ runs.same.capture;
+    openings = counts.same.openings ∙ runs.same.openings;
+  }
+
+  pub DoesPhase-counted : DoesPhase stops stops_after lab lines after
+  DoesPhase-counted = record {
+    same = same-then;
+    next = counts.next ∙ ap (λ (n : ℕ). n + 1) runs.next;
+    played = record { more = runs.played.more; is = ap played_by counts.card ∙ runs.played.is };
+    does = λ stage base at counted. let has = runs.does stage base at counted in record {
+      next = has.next;
+      may = has.may;
+      is = record {
+        actors =
+            subst (λ (s : Session). AreActorsOf s (capture_of after) has.next after.card after.clients after.readers) (sym (session_of-same lab after same-then))
+            (subst (λ (capture : Option Sound). AreActorsOf (session_of lab) capture has.next after.card after.clients after.readers) (sym same-then.capture)
+            (subst (λ (card : Option CardActor). AreActorsOf (session_of lab) (capture_of lab) has.next card after.clients after.readers) (sym counts.card)
+            (subst (λ (cs : LabClients). AreActorsOf (session_of lab) (capture_of lab) has.next mid.card cs after.readers) (sym counts.clients)
+            (subst (λ (rs : LabReaders). AreActorsOf (session_of lab) (capture_of lab) has.next mid.card mid.clients rs) (sym counts.readers) has.actors))));
+        rows = counts.rows ∙ has.rows;
+        phases = counts.phases ∙ (ap (λ (n : ℕ). n + 1) (runs.phases ∙ at.phases) ∙ ap (λ (s : Stage). s.phases) (sym has.may.is));
+        has_done = HasDone-next lab after stage has.next (item.Phase lines) same-then is has.may (counts.next ∙ ap (λ (n : ℕ). n + 1) runs.next) at.has_done;
+        set_up = AreSetUp-same lab after same-then at.set_up;
+      };
+      counted = has.counted;
+    };
+  }

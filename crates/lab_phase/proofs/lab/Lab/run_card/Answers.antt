@@ -1,0 +1,30 @@
+use Rattle.std.proofs.Common.{rules, refl, Some, ◌+◌}
+use Rattle.lab_phase.specs.Asked.{asks_of}
+use Rattle.lab_phase.specs.declared.lab.Lab.{Lab}
+use Rattle.lab_phase.specs.declared.steps.Asked.{Asked}
+use Rattle.lab_phase.specs.BorderLaws.{OnOk-more}
+use Rattle.lab_phase.specs.PhaseRuns.{PlaysAlone, RunsPhase, Stops}
+use Rattle.lab_phase.proofs.AloneStages.{RunsPhase-alone}
+use Rattle.lab_phase.proofs.PhaseStages.{fits-phase, phases-few}
+use Rattle.lab_phase.proofs.lab.Lab.run_card.Goals as goal
+
+pub overflow_add-asked : goal.overflow_add-asked
+overflow_add-asked c =
+    let few = phases-few c.args.self.now c.requires.at.stage c.args.lines.now c.requires.at.at c.requires.next c.runs_are_of_scripts.ensures.stages in search (few, rules)
+
+pub play_alone-requires : goal.play_alone-requires
+play_alone-requires c =
+    let lab : Lab = c.args.self.now in
+    let asked : Asked = record { wavs = lab.wavs; capture = lab.capture; phase = lab.phases + 1; lines = c.args.lines } in
+    fits-phase lab c.requires.at.stage asked c.requires.at.at c.requires.next c.in-Some.card c.in-Some.is c.runs_are_of_scripts.ensures.phases
+
+pub returns-clause-runs : goal.returns-clause-runs
+returns-clause-runs c =
+    let lab : Lab = c.args.self.now in
+    let asked : Asked = record { wavs = lab.wavs; capture = lab.capture; phase = lab.phases + 1; lines = c.args.lines } in
+    let after : Lab = record lab { card = Some c.play_alone.new.card; rows = c.play_alone.new.rows } in
+    OnOk-more (PlaysAlone (asks_of asked) lab.rows.items c.play_alone.new.rows.items c.in-Some.card c.play_alone.new.card)
+    ((stops : Stops) → RunsPhase stops stops lab c.args.lines.now after) c.play_alone.result
+    (λ plays. RunsPhase-alone lab after c.args.lines.now c.requires.next c.requires.alone c.in-Some.card c.play_alone.new.card c.in-Some.is refl refl refl plays
+    (record { script = refl; wavs = refl; capture = refl; openings = refl }) refl refl)
+    c.play_alone.ensures.plays

@@ -1,0 +1,221 @@
+//! The phases of the script's body.
+ghost use Rattle.std.specs.Prelude.{◌≡◌, IfErr, OnOk, length};
+ghost use Rattle.lab_script.specs.Script.{is_of_card};
+ghost use Rattle.lab_run.specs.Phases.{ops_by};
+ghost use Rattle.lab_card.specs.declared.card.CardActor.{CardActor};
+ghost use Rattle.lab_card.specs.Room.{FitsRing};
+ghost use Rattle.lab_clients.specs.declared.clients.LabClients.{LabClients};
+ghost use Rattle.lab_readers.specs.declared.readers.LabReaders.{LabReaders};
+ghost use Rattle.lab_phase.specs.Asked.{CanMeet, asks_of};
+ghost use Rattle.lab_phase.specs.PhaseSteps.{HaveRoom};
+ghost use Rattle.lab_phase.specs.PhaseRuns.{HaveRunLines, PlaysAlone};
+
+use crate::lab::Lab;
+use crate::steps::{Asked, run_lines, take_room, take_rows};
+use lab_card::{CardActor, line_count};
+use lab_clients::LabClients;
+use lab_readers::LabReaders;
+use lab_report::Row;
+use lab_run::{last_frames_are_own, members_are_unreported, parts_are_runs, runs_are_of_scripts};
+use lab_script::Line;
+use mix_core::Gate;
+use snd_base::PcmError;
+use std::marker::{Send, Sync};
+use std::thread::Threads;
+
+/// The card takes the room of its lines, does them, and gives its rows to the lab. It refuses, with `Memory`, only where no memory is
+/// left.
+fn play_alone(
+    card: &mut CardActor<'_>,
+    rows: &mut Vec<Row>,
+    asked: &Asked<'_>,
+) -> Result<(), PcmError>
+    requires { FitsRing card.old (ops_by is_of_card asked.now.lines.now) }
+    ensures plays { OnOk result
+        (PlaysAlone (asks_of asked.now) rows.old.items rows.new.items card.old card.new) }
+    ensures only { IfErr result (λ e. e ≡ PcmError.Memory) }
+{
+    card.take_room(asked.lines)?;
+    card.run_lines(asked.capture, asked.phase, asked.lines);
+    rows.append(&mut card.rows)?;
+    Ok(())
+}
+
+/// The card, the clients and the readers take the room of their lines, meet, do the lines, meet again, and give their rows to the lab. It
+/// refuses, with `Memory`, only where no memory is left.
+fn run_together<R: Threads + Sync, G: Gate + Send>(
+    rt: &R,
+    card: &mut CardActor<'_>,
+    clients: &mut LabClients<'_>,
+    readers: &mut LabReaders<'_>,
+    rows: &mut Vec<Row>,
+    gates: &mut [G],
+    asked: &Asked<'_>,
+) -> Result<(), PcmError>
+    requires fits { FitsRing card.old (ops_by is_of_card asked.now.lines.now) }
+    requires meet { (a : CardActor) (cs : LabClients) (rs : LabReaders)
+        → HaveRoom asked.now.lines.now card.old a clients.old cs readers.old rs
+        → CanMeet (length gates.old) asked.now a cs rs }
+    ensures run { OnOk result (HaveRunLines G.stops gates.old gates.new (asks_of asked.now)
+        rows.old.items rows.new.items card.old card.new clients.old clients.new readers.old readers.new) }
+    ensures only { IfErr result (λ e. e ≡ PcmError.Memory) }
+{
+    take_room(card, clients, readers, asked.lines)?;
+    run_lines(rt, card, clients, readers, gates, asked);
+    take_rows(rows, card, clients, readers)
+}
+
+impl<'r> Lab<'r, '_> {
+    ghost use Rattle.std.specs.Prelude.{◌≡◌, ◌≢◌, ◌≤◌, ◌<◌, IfErr, OnOk, length};
+    ghost use Rattle.lab_script.specs.declared.line.Item.TheVariants as item;
+    ghost use Rattle.lab_script.specs.Script.{is_of_card};
+    ghost use Rattle.lab_run.specs.Phases.{ops_by};
+    ghost use Rattle.lab_clients.specs.Reaped.{AreDoneInRun};
+    ghost use Rattle.lab_phase.specs.AtStage.{IsLab, IsNext};
+    ghost use Rattle.lab_phase.specs.PhaseRuns.{CountsPhase, DoesPhase, HasRunLines, IsLabWith, Reaps, RunsPhase, Stops, stops_by};
+
+    /// Does the next phase of the script's body: the card and all clients and readers do their lines, at once where two of them have some,
+    /// each in a thread of its own where one can be made. Before the lines each client and reader gets a note of the card's position, and
+    /// after them the card gets one of each; then those are closed that their gates stopped. It refuses, with `Memory`, only where no memory
+    /// is left; the lab isn't called again then.
+    ///
+    /// The caller has the lines of the script's next item, and 128 gates, the same in each call: the first 64 are the clients', by their
+    /// numbers, and the ones after them the readers'. Nothing else stopped an actor since the lab began.
+    pub fn run_phase<R: Threads + Sync, G: Gate + Send>(
+        &mut self,
+        rt: &R,
+        lines: &[Line],
+        gates: &mut [G],
+    ) -> Result<(), PcmError>
+        requires at { IsLabWith (stops_by G.stops gates.old) self.old }
+        requires next { IsNext self.old (item.Phase lines.now) }
+        requires gates { 128 ≤ length gates.old }
+        ensures does { OnOk result (DoesPhase (stops_by G.stops gates.old) (stops_by G.stops gates.new)
+            self.old lines.now self.new) }
+        ensures only { IfErr result (λ e. e ≡ PcmError.Memory) }
+    {
+        runs_are_of_scripts();
+        self.do_lines(rt, lines, gates)?;
+        self.count_phase();
+        Ok(())
+    }
+
+    // The actors do the lines of a phase.
+    fn do_lines<R: Threads + Sync, G: Gate + Send>(
+        &mut self,
+        rt: &R,
+        lines: &[Line],
+        gates: &mut [G],
+    ) -> Result<(), PcmError>
+        requires at { IsLabWith (stops_by G.stops gates.old) self.old }
+        requires next { IsNext self.old (item.Phase lines.now) }
+        requires gates { 128 ≤ length gates.old }
+        ensures runs { OnOk result (RunsPhase (stops_by G.stops gates.old) (stops_by G.stops gates.new)
+            self.old lines.now self.new) }
+        ensures only { IfErr result (λ e. e ≡ PcmError.Memory) }
+    {
+        if line_count(lines) == lines.len() {
+            self.run_card(lines)
+        } else {
+            self.run_actors(rt, lines, gates)
+        }
+    }
+
+    // A phase whose lines are all the card's: no other actor does anything in it.
+    fn run_card(&mut self, lines: &[Line]) -> Result<(), PcmError>
+        requires at { IsLab self.old }
+        requires next { IsNext self.old (item.Phase lines.now) }
+        requires alone { length (ops_by is_of_card lines.now) ≡ length lines.now }
+        ensures runs { OnOk result ((stops : Stops) → RunsPhase stops stops self.old lines.now self.new) }
+        ensures only { IfErr result (λ e. e ≡ PcmError.Memory) }
+    {
+        runs_are_of_scripts();
+        let asked = Asked {
+            wavs: self.wavs,
+            capture: self.capture,
+            phase: self.phases + 1,
+            lines,
+        };
+        match &mut self.card {
+            Some(card) => play_alone(card, &mut self.rows, &asked),
+            None => unreachable!(),
+        }
+    }
+
+    // A phase in which clients or readers have lines.
+    fn run_actors<R: Threads + Sync, G: Gate + Send>(
+        &mut self,
+        rt: &R,
+        lines: &[Line],
+        gates: &mut [G],
+    ) -> Result<(), PcmError>
+        requires at { IsLabWith (stops_by G.stops gates.old) self.old }
+        requires next { IsNext self.old (item.Phase lines.now) }
+        requires gates { 128 ≤ length gates.old }
+        requires others { length (ops_by is_of_card lines.now) ≢ length lines.now }
+        ensures runs { OnOk result (RunsPhase (stops_by G.stops gates.old) (stops_by G.stops gates.new)
+            self.old lines.now self.new) }
+        ensures only { IfErr result (λ e. e ≡ PcmError.Memory) }
+    {
+        last_frames_are_own();
+        members_are_unreported();
+        parts_are_runs();
+        self.run_unreaped(rt, lines, gates)?;
+        self.reap();
+        Ok(())
+    }
+
+    // The actors go through the lines of a phase; those that were stopped aren't reaped yet.
+    fn run_unreaped<R: Threads + Sync, G: Gate + Send>(
+        &mut self,
+        rt: &R,
+        lines: &[Line],
+        gates: &mut [G],
+    ) -> Result<(), PcmError>
+        requires at { IsLab self.old }
+        requires next { IsNext self.old (item.Phase lines.now) }
+        requires gates { 128 ≤ length gates.old }
+        ensures runs { OnOk result (HasRunLines G.stops gates.old gates.new self.old lines.now self.new) }
+        ensures only { IfErr result (λ e. e ≡ PcmError.Memory) }
+    {
+        runs_are_of_scripts();
+        let asked = Asked {
+            wavs: self.wavs,
+            capture: self.capture,
+            phase: self.phases + 1,
+            lines,
+        };
+        match &mut self.card {
+            Some(card) => run_together(
+                rt,
+                card,
+                &mut self.clients,
+                &mut self.readers,
+                &mut self.rows,
+                gates,
+                &asked,
+            ),
+            None => unreachable!(),
+        }
+    }
+
+    // Closes the clients and readers that their gates stopped.
+    fn reap(&mut self)
+        requires { AreDoneInRun self.old.clients }
+        ensures { Reaps self.old self.new }
+    {
+        self.clients.reap();
+        self.readers.reap();
+    }
+
+    // Counts a phase, which is an item of the body.
+    fn count_phase(&mut self)
+        requires few { self.old.phases < 4294967295 }
+        requires next { self.old.next < length self.old.script.now.body }
+        ensures { CountsPhase self.old self.new }
+    {
+        let _items = self.script.body.as_slice().len();
+        self.phases += 1;
+        self.next += 1;
+    }
+}

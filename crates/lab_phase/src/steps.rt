@@ -1,0 +1,209 @@
+//! The steps of a phase in which clients or readers have lines.
+ghost use Rattle.std.specs.Prelude.{◌≡◌, ◌≤◌, ◌++◌, IfErr, OnOk, drop, length, take};
+ghost use Rattle.std.specs.Thread.{IsSend, IsSync};
+ghost use Rattle.lab_script.specs.Script.{is_of_card};
+ghost use Rattle.lab_run.specs.Phases.{ops_by};
+ghost use Rattle.lab_card.specs.Room.{FitsRing};
+ghost use Rattle.lab_phase.specs.Asked.{CardCanRun, ClientsCanRun, CanMeet, ReadersCanRun, asks_of, busy_in};
+ghost use Rattle.lab_phase.specs.PhaseSteps.{CardHasRun, ClientsHaveRun, HaveGivenRows, HaveMet, HaveRoom, HaveRun, ReadersHaveRun};
+
+use lab_card::{CardActor, line_count};
+use lab_clients::LabClients;
+use lab_readers::LabReaders;
+use lab_report::Row;
+use lab_script::Line;
+use mix_core::Gate;
+use snd_base::PcmError;
+use std::marker::{Send, Sync};
+use std::thread::{Threads, join_mut};
+use wav_io::Wav;
+
+/// How many gates are the clients'; the readers' are the ones after them.
+pub(crate) const CLIENT_GATES: usize = 64;
+
+/// What a phase asks of its actors: its number and its lines, the clients' files, and the file that the card captures.
+#[derive(Clone, Copy)]
+pub(crate) struct Asked<'l> {
+    pub wavs: &'l [Wav],
+    pub capture: Option<&'l Wav>,
+    pub phase: u32,
+    pub lines: &'l [Line],
+}
+
+/// Takes the room that the lines want, so that they take no memory. It refuses, with `Memory`, only where no memory is left.
+///
+/// The caller knows that the frames that the card plays are before its rings' end.
+pub(crate) fn take_room(
+    card: &mut CardActor<'_>,
+    clients: &mut LabClients<'_>,
+    readers: &mut LabReaders<'_>,
+    lines: &[Line],
+) -> Result<(), PcmError>
+    requires { FitsRing card.old (ops_by is_of_card lines.now) }
+    ensures room { OnOk result (HaveRoom lines.now
+        card.old card.new clients.old clients.new readers.old readers.new) }
+    ensures only { IfErr result (λ e. e ≡ PcmError.Memory) }
+{
+    card.take_room(lines)?;
+    clients.take_room(lines)?;
+    readers.take_room(lines)
+}
+
+/// The card and all actors do their lines, one after the other.
+fn run_in_turn<G: Gate>(
+    card: &mut CardActor<'_>,
+    clients: &mut LabClients<'_>,
+    readers: &mut LabReaders<'_>,
+    near: &mut [G],
+    far: &mut [G],
+    asked: &Asked<'_>,
+)
+    requires card { CardCanRun asked.now.lines.now card.old }
+    requires clients { ClientsCanRun (length near.old) asked.now clients.old }
+    requires readers { ReadersCanRun (length far.old) asked.now readers.old }
+    ensures { HaveRun G.stops near.old near.new far.old far.new (asks_of asked.now)
+        card.old card.new clients.old clients.new readers.old readers.new }
+{
+    card.run_lines(asked.capture, asked.phase, asked.lines);
+    clients.run_lines(near, asked.wavs, asked.phase, asked.lines);
+    readers.run_lines(far, asked.phase, asked.lines);
+}
+
+/// All clients and all readers do their lines at once, each in a thread of its own where one can be made.
+fn run_actors_at_once<R: Threads + Sync, G: Gate + Send>(
+    rt: &R,
+    clients: &mut LabClients<'_>,
+    readers: &mut LabReaders<'_>,
+    near: &mut [G],
+    far: &mut [G],
+    asked: &Asked<'_>,
+)
+    requires clients { ClientsCanRun (length near.old) asked.now clients.old }
+    requires readers { ReadersCanRun (length far.old) asked.now readers.old }
+    ensures clients { ClientsHaveRun G.stops near.old near.new (asks_of asked.now)
+        clients.old clients.new }
+    ensures readers { ReadersHaveRun G.stops far.old far.new (asks_of asked.now)
+        readers.old readers.new }
+{
+    let mut play = ||
+        requires shared { IsSync R.row }
+        requires sent { IsSend G.row }
+        requires ready { ClientsCanRun (length near.now) asked.now clients.now }
+        ensures { ClientsHaveRun G.stops near.entry.now near.exit.now (asks_of asked.entry.now)
+            clients.entry.now clients.exit.now }
+    { clients.run_lines_at_once(rt, near, asked.wavs, asked.phase, asked.lines) };
+    let mut record = ||
+        requires shared { IsSync R.row }
+        requires sent { IsSend G.row }
+        requires ready { ReadersCanRun (length far.now) asked.now readers.now }
+        ensures { ReadersHaveRun G.stops far.entry.now far.exit.now (asks_of asked.entry.now)
+            readers.entry.now readers.exit.now }
+    { readers.run_lines_at_once(rt, far, asked.phase, asked.lines) };
+    join_mut(rt, &mut play, &mut record);
+}
+
+/// The card and all actors do their lines at once, each in a thread of its own where one can be made.
+fn run_at_once<R: Threads + Sync, G: Gate + Send>(
+    rt: &R,
+    card: &mut CardActor<'_>,
+    clients: &mut LabClients<'_>,
+    readers: &mut LabReaders<'_>,
+    near: &mut [G],
+    far: &mut [G],
+    asked: &Asked<'_>,
+)
+    requires card { CardCanRun asked.now.lines.now card.old }
+    requires clients { ClientsCanRun (length near.old) asked.now clients.old }
+    requires readers { ReadersCanRun (length far.old) asked.now readers.old }
+    ensures { HaveRun G.stops near.old near.new far.old far.new (asks_of asked.now)
+        card.old card.new clients.old clients.new readers.old readers.new }
+{
+    let mut play = ||
+        requires { CardCanRun asked.now.lines.now card.now }
+        ensures { CardHasRun (asks_of asked.entry.now) card.entry.now card.exit.now }
+    { card.run_lines(asked.capture, asked.phase, asked.lines) };
+    let mut others = ||
+        requires shared { IsSync R.row }
+        requires sent { IsSend G.row }
+        requires clients { ClientsCanRun (length near.now) asked.now clients.now }
+        requires readers { ReadersCanRun (length far.now) asked.now readers.now }
+        ensures clients { ClientsHaveRun G.stops near.entry.now near.exit.now
+            (asks_of asked.entry.now) clients.entry.now clients.exit.now }
+        ensures readers { ReadersHaveRun G.stops far.entry.now far.exit.now
+            (asks_of asked.entry.now) readers.entry.now readers.exit.now }
+    { run_actors_at_once(rt, clients, readers, near, far, asked) };
+    join_mut(rt, &mut play, &mut others);
+}
+
+/// How many of the card, the clients and the readers have lines.
+fn busy_count(clients: &LabClients<'_>, readers: &LabReaders<'_>, lines: &[Line]) -> usize
+    ensures { result ≡ busy_in lines.now clients.now readers.now }
+{
+    let card = (line_count(lines) > 0) as usize;
+    card + clients.busy_count(lines) + readers.busy_count(lines)
+}
+
+/// The card and all actors do their lines, at once where two of them have some. Where no two of them have lines no thread is started.
+fn run_all<R: Threads + Sync, G: Gate + Send>(
+    rt: &R,
+    card: &mut CardActor<'_>,
+    clients: &mut LabClients<'_>,
+    readers: &mut LabReaders<'_>,
+    near: &mut [G],
+    far: &mut [G],
+    asked: &Asked<'_>,
+)
+    requires card { CardCanRun asked.now.lines.now card.old }
+    requires clients { ClientsCanRun (length near.old) asked.now clients.old }
+    requires readers { ReadersCanRun (length far.old) asked.now readers.old }
+    ensures { HaveRun G.stops near.old near.new far.old far.new (asks_of asked.now)
+        card.old card.new clients.old clients.new readers.old readers.new }
+{
+    if busy_count(clients, readers, asked.lines) > 1 {
+        run_at_once(rt, card, clients, readers, near, far, asked);
+    } else {
+        run_in_turn(card, clients, readers, near, far, asked);
+    }
+}
+
+/// Each actor meets a note of the card, then all do their lines, and then the card meets a note of each.
+///
+/// The caller has taken the room of the lines (`take_room`), and has the clients' files and a gate for each actor: the first 64 are the
+/// clients', and the ones after them the readers'. The actors are of the card's rings.
+pub(crate) fn run_lines<R: Threads + Sync, G: Gate + Send>(
+    rt: &R,
+    card: &mut CardActor<'_>,
+    clients: &mut LabClients<'_>,
+    readers: &mut LabReaders<'_>,
+    gates: &mut [G],
+    asked: &Asked<'_>,
+)
+    requires { CanMeet (length gates.old) asked.now card.old clients.old readers.old }
+    ensures { HaveMet G.stops (take 64 gates.old) (take 64 gates.new)
+        (drop 64 gates.old) (drop 64 gates.new) (asks_of asked.now)
+        card.old clients.old readers.old card.new clients.new readers.new }
+{
+    clients.inform(&mut card.card);
+    readers.inform(&mut card.card);
+    let (near, far) = gates.split_at_mut(CLIENT_GATES);
+    run_all(rt, card, clients, readers, near, far, asked);
+    clients.hear(&mut card.card);
+    readers.hear(&mut card.card);
+}
+
+/// Moves the rows of a phase to the end of the lab's: the card's, then the clients', then the readers'. It refuses, with `Memory`, only
+/// where no memory is left.
+pub(crate) fn take_rows(
+    rows: &mut Vec<Row>,
+    card: &mut CardActor<'_>,
+    clients: &mut LabClients<'_>,
+    readers: &mut LabReaders<'_>,
+) -> Result<(), PcmError>
+    ensures given { OnOk result (HaveGivenRows rows.old.items rows.new.items
+        card.old card.new clients.old clients.new readers.old readers.new) }
+    ensures only { IfErr result (λ e. e ≡ PcmError.Memory) }
+{
+    rows.append(&mut card.rows)?;
+    clients.take_rows(rows)?;
+    readers.take_rows(rows)
+}
