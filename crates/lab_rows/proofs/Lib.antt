@@ -1,0 +1,13 @@
+pub mod Borders
+pub mod Captured
+pub mod ClientCalls
+pub mod GrowthLaws
+pub mod Known
+pub mod Lines
+pub mod ReaderCalls
+pub mod ReaderFrames
+pub mod Requests
+pub mod Runs
+pub mod Sizes
+pub mod Stages
+pub mod TableLaws

@@ -1,0 +1,168 @@
+-- What a line of a reader is answered has a text in a report, and its state afterwards.
+use Rattle.std.proofs.Common.{ℕ, ◌+◌, Option, Some, None}
+use Rattle.std.specs.Prelude.{Bool, true, false, ◌&&◌, nat_eq, nat_le, nat_lt, if◌then◌else◌, Ok, Err, IfSome, ⊤}
+use Rattle.snd_base.specs.declared.errors.PcmError.{PcmError}
+use Rattle.snd_base.specs.declared.errors.PcmError.TheVariants as error
+use Rattle.snd_base.specs.declared.errors.XrunWhy.TheVariants as why
+use Rattle.mix_core.specs.declared.port.Position.{Position}
+use Rattle.pcm_states.specs.declared.calls.Call.{Call}
+use Rattle.pcm_states.specs.declared.calls.Call.TheVariants as call
+use Rattle.pcm_states.specs.declared.states.State.TheVariants.{Prepared, Running, Setup}
+use Rattle.pcm_states.specs.Table.{next_of}
+use Rattle.pcm_stream.specs.declared.direction.Direction.TheVariants.{Capture}
+use Rattle.pcm_stream.specs.Status.{refusal_of}
+use Rattle.course.specs.Course.{◌>>=◌, Course, ends}
+use Rattle.snoop_core.specs.declared.port.Got.{Got}
+use Rattle.snoop_core.specs.declared.port.Got.TheVariants as got
+use Rattle.dsnoop_client.specs.declared.plain.Plain.{Plain}
+use Rattle.dsnoop_client.specs.Calls.{Answered, found, in_state, numbered, over_of, read_after, read_to, seen_at, settled, started, synced, taken_of, waits, with_avail}
+use Rattle.dsnoop_client.specs.Course.{admitted, admitted_by, avail_course, counts, gets_frames, read_course, reads_first, reads_on, starts, sync_course, syncs, transfer_on, transfers}
+use Rattle.dsnoop_client.specs.View.{avail_of, is_running}
+use Rattle.lab_script.specs.declared.line.Op.{Op}
+use Rattle.lab_script.specs.declared.line.Op.TheVariants as op
+use Rattle.lab_report.specs.declared.row.Answer.{Answer}
+use Rattle.lab_report.specs.Text.{HasStateText, HasText}
+use Rattle.lab_run.specs.Client.{count_answer, done_answer}
+use Rattle.lab_run.specs.Reader.{Reader, after_call, answered, call_of, line_by, line_if}
+use Rattle.lab_run.proofs.Results.{All, All-then}
+use Rattle.lab_rows.proofs.ClientCalls.{All-after, All-if}
+use Rattle.lab_rows.proofs.TableLaws.{CanReport, CanReportIn, next-reports, refusal-reports, reported-reports}
+
+-- a reader's state has a text
+abbrev pub HasState : Plain → Type 0
+HasState r = HasStateText r.status.state
+
+-- a report can have a call's error, and the state of its reader afterwards
+abbrev Reports : {T : Type 0} → Answered T → Type 0
+Reports (d, r) = CanReportIn r × HasState d
+
+-- ---- the parts of a call
+
+started-reports : (r : Plain) (asked : Call) (load : Option Position) → HasState r → Reports (started r asked load)
+started-reports r asked None is = (tt, is)
+started-reports r asked (Some p) is = next-reports r.status.state asked (found p.gone None None) is
+
+synced-reports : (r : Plain) (asked : Call) (load : Option Position) → HasState r → Reports (synced r asked load)
+synced-reports r asked None is = (tt, is)
+synced-reports r asked (Some p) is = next-reports r.status.state asked (found p.gone (over_of (seen_at r p)) None) is
+
+avail-reports : (done : Answered (Unit {0})) → Reports done → Reports (with_avail done)
+avail-reports (r, Ok done) reports = (tt, reports.1)
+avail-reports (r, Err e) reports = reports
+
+number-reports : (n : ℕ) (done : Answered (Unit {0})) → Reports done → Reports (numbered n done)
+number-reports n (r, Ok done) reports = (tt, reports.1)
+number-reports n (r, Err e) reports = reports
+
+read_to-reports : (r : Plain) (done : ℕ) (ended : Got) → HasState r → Reports (read_to r done ended)
+read_to-reports r done got.Whole is = (tt, is)
+read_to-reports r done (got.Overtaken channel word) is =
+    number-reports 0 (settled r (next_of Running call.Transfer (found false None (Some (why.Overtaken (r.next + done) channel word)))))
+    (next-reports Running call.Transfer (found false None (Some (why.Overtaken (r.next + done) channel word))) tt)
+read_to-reports r done got.Stopped is = (tt, is)
+
+read-reports : (r : Plain) (n done : ℕ) (ended : Got) → HasState r → Reports (read_after r n done ended)
+read-reports r n done ended is = by_test (nat_lt 0 n && nat_eq (avail_of r) 0)
+  where
+    by_test : (none : Bool) → Reports (if none then (r, Err error.Again) else read_to r done ended)
+    by_test true = (tt, is)
+    by_test false = read_to-reports r done ended is
+
+waits-reports : (r : Plain) (n : ℕ) → HasState r → Reports {T = ℕ} (r, waits n)
+waits-reports r n is = by_test (nat_eq n 0)
+  where
+    by_test : (none : Bool) → Reports {T = ℕ} (r, if none then Ok 0 else Err error.Again)
+    by_test true = (tt, is)
+    by_test false = (tt, is)
+
+-- ---- the calls
+
+starts-reports : (r : Plain) (asked : Call) → HasState r → All Reports (starts r asked)
+unfolding starts
+starts-reports r asked is = λ load. started-reports r asked load is
+
+syncs-reports : (r : Plain) (asked : Call) → HasState r → All Reports (syncs r asked)
+unfolding syncs
+syncs-reports r asked is = λ load. synced-reports r asked load is
+
+sync-reports : (r : Plain) → HasState r → All Reports (sync_course r)
+sync-reports r is = All-if Reports (is_running r.status.state) (syncs r call.Sync) (ends (r, Ok tt)) (syncs-reports r call.Sync is) (tt, is)
+
+avail_course-reports : (r : Plain) → HasState r → All Reports (avail_course r)
+unfolding counts
+avail_course-reports r is = All-if Reports (is_running r.status.state) (counts (syncs r call.Sync)) (ends (r, Ok 0))
+    (All-then Reports Reports (syncs r call.Sync) (λ done. ends (with_avail done)) (syncs-reports r call.Sync is) avail-reports) (tt, is)
+
+transfer_on-reports : (n : ℕ) (done : Answered (Unit {0})) → Reports done → All Reports (transfer_on n done)
+unfolding transfers
+transfer_on-reports n (r, Err e) reports = reports
+transfer_on-reports n (r, Ok done) reports =
+    All-after Reports (gets_frames (taken_of r n) r.next) (λ end. ends (read_after r n end.0 end.1)) (λ end. read-reports r n end.0 end.1 reports.1)
+
+read_course-reports : (r : Plain) (n : ℕ) → HasState r → All Reports (read_course r n)
+unfolding reads_on reads_first
+read_course-reports r n is = All-if Reports (is_running r.status.state) (reads_on r n) _
+    (All-then Reports Reports (syncs r call.Transfer) (transfer_on n) (syncs-reports r call.Transfer is) (transfer_on-reports n))
+    (All-if Reports (nat_le r.setup.params.start_threshold n) (reads_first r n) (ends (r, waits n))
+    (All-then Reports Reports (starts r call.Transfer) (transfer_on n) (starts-reports r call.Transfer is) (transfer_on-reports n)) (waits-reports r n is))
+
+admitted-reports : {T : Type 0} (r : Plain) (asked : Call) (m : Course (Answered T)) → HasState r → All Reports m → All Reports (admitted r asked m)
+admitted-reports {T = T} r asked m is all = by_refusal (refusal_of Capture r.status asked) (refusal-reports Capture r.status asked is)
+  where
+    by_refusal : (refusal : Option PcmError) → IfSome refusal CanReport → All Reports (admitted_by refusal r m)
+    by_refusal None reports = all
+    by_refusal (Some e) reports = (reports, is)
+
+-- ---- the lines
+
+-- an answer of a report has a text, and the state of its reader
+abbrev IsSaid : Plain × Answer → Type 0
+IsSaid (d, answer) = HasText answer × HasState d
+
+done-said : (r : Plain) (asked : Call) (m : Course (Answered (Unit {0}))) → HasState r → All Reports m → All IsSaid (answered done_answer (admitted r asked m))
+done-said r asked m is all = All-then Reports IsSaid (admitted r asked m) (λ done. ends (done.0, done_answer done.1)) (admitted-reports r asked m is all) said
+  where
+    said : (x : Answered (Unit {0})) → Reports x → IsSaid (x.0, done_answer x.1)
+    said (d, Ok done) reports = (tt, reports.1)
+    said (d, Err e) reports = (reported-reports e reports.0, reports.1)
+
+count-said : (r : Plain) (asked : Call) (m : Course (Answered ℕ)) → HasState r → All Reports m → All IsSaid (answered count_answer (admitted r asked m))
+count-said r asked m is all = All-then Reports IsSaid (admitted r asked m) (λ done. ends (done.0, count_answer done.1)) (admitted-reports r asked m is all) said
+  where
+    said : (x : Answered ℕ) → Reports x → IsSaid (x.0, count_answer x.1)
+    said (d, Ok n) reports = (tt, reports.1)
+    said (d, Err e) reports = (reported-reports e reports.0, reports.1)
+
+call-said : (r : Plain) (asked : Op) → HasState r → All IsSaid (call_of r asked)
+call-said r (op.Read n) is = count-said r call.Transfer _ is (read_course-reports r n is)
+call-said r op.Start is = done-said r call.Start _ is (starts-reports r call.Start is)
+call-said r op.Sync is = done-said r call.Sync _ is (sync-reports r is)
+call-said r op.Avail is = count-said r call.Sync _ is (avail_course-reports r is)
+call-said r op.Drop is = done-said r call.Drop (ends (in_state r Setup, Ok tt)) is (tt, tt)
+call-said r op.Prepare is = done-said r call.Prepare (ends (in_state r Prepared, Ok tt)) is (tt, tt)
+call-said r op.Pause is = (tt, is)
+call-said r other is = (tt, is)
+
+-- a reader that is open has a state with a text
+abbrev pub IsReportable : Option Plain → Type 0
+IsReportable None = ⊤
+IsReportable (Some r) = HasState r
+
+-- a line's answer has a text, and the reader's state after it
+abbrev pub LineReports : Reader × Answer → Type 0
+LineReports (reader, answer) = IsReportable reader.own × HasText answer
+
+pub reader_line-reports : (reader : Reader) (own : Option Plain) (asked : Op) → IsReportable own → IsReportable reader.own → All LineReports (line_by reader own asked)
+reader_line-reports reader None asked is there = (there, tt)
+reader_line-reports reader (Some r) asked is there = by_stop r.status.stopped asked
+  where
+    by_call : (o : Op) → All LineReports (call_of r o >>= λ done. ends (after_call reader o done))
+    by_call o = All-then IsSaid LineReports (call_of r o) (λ done. ends (after_call reader o done)) (call-said r o is) (λ done said. (said.1, said.0))
+
+    by_op : (o : Op) → All LineReports (line_if false reader r o)
+    by_op (op.Die k) = (there, tt)
+    by_op other = by_call other
+
+    by_stop : (stopped : Bool) (o : Op) → All LineReports (line_if stopped reader r o)
+    by_stop true o = (there, tt)
+    by_stop false o = by_op o

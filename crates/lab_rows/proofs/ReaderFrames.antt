@@ -1,0 +1,275 @@
+-- A reader's frames are at most as many as the card has captured: each that it gets is behind the others, and below the position known.
+use Rattle.std.proofs.Common.{◌≡◌, ℕ, ◌+◌, ◌-◌, ◌≤◌, add-zero, refl, sym, ◌∙◌, ap, subst, arith, length, List, [], Option, Some, None, zero, suc}
+use Rattle.std.proofs.lemmas.List.{length-append}
+use Rattle.std.proofs.lemmas.List.FromFn.{length-range_with_len}
+use Rattle.std.specs.Prelude.{Bool, true, false, ◌&&◌, ◌++◌, nat_eq, nat_le, nat_lt, if◌then◌else◌, Result, Ok, Err, ⊤, unwrap_or}
+use Rattle.std.specs.List.{range_with_len}
+use Rattle.snd_base.specs.declared.errors.PcmError.{PcmError}
+use Rattle.snd_base.specs.declared.errors.PcmError.TheVariants as error
+use Rattle.mix_core.specs.declared.port.Position.{Position}
+use Rattle.pcm_states.specs.declared.calls.Call.{Call}
+use Rattle.pcm_states.specs.declared.calls.Call.TheVariants as call
+use Rattle.pcm_states.specs.declared.calls.Outcome.{Outcome}
+use Rattle.pcm_states.specs.declared.states.State.{State}
+use Rattle.pcm_states.specs.declared.states.State.TheVariants as state
+use Rattle.pcm_states.specs.Table.{next_of}
+use Rattle.pcm_stream.specs.declared.direction.Direction.TheVariants.{Capture}
+use Rattle.pcm_stream.specs.Status.{refusal_of}
+use Rattle.course.specs.Course.{◌>>=◌, Course, ends}
+use Rattle.snoop_core.specs.declared.port.Got.{Got}
+use Rattle.snoop_core.specs.declared.port.Got.TheVariants as got
+use Rattle.dsnoop_client.specs.declared.plain.Plain.{Plain}
+use Rattle.dsnoop_client.specs.Calls.{Answered, found, in_state, over_of, read_after, read_to, seen_at, settled, synced, taken_of, waits, with_avail}
+use Rattle.dsnoop_client.specs.Course.{admitted, admitted_by, avail_course, counts, get_on, gets_frames, one_more, read_course, reads_first, reads_on, starts, sync_course, syncs, transfer_on, transfers}
+use Rattle.dsnoop_client.specs.View.{avail_of, is_running}
+use Rattle.lab_script.specs.declared.line.Op.{Op}
+use Rattle.lab_script.specs.declared.line.Op.TheVariants as op
+use Rattle.lab_report.specs.declared.row.Answer.{Answer}
+use Rattle.lab_report.specs.declared.row.Answer.TheVariants.{Failed}
+use Rattle.lab_run.specs.Client.{count_answer, done_answer}
+use Rattle.lab_run.specs.Reader.{Reader, after_call, answered, call_of, frames_by, line_by, line_if}
+use Rattle.lab_rows.proofs.Known.{AllKnown, AllKnown-then}
+
+-- a reader that runs has its next frame at a frame or past it
+abbrev pub IsPast : ℕ → Plain → Type 0
+IsPast base r = is_running r.status.state ≡ true → base ≤ r.next
+
+-- a call that gets nothing
+abbrev Stays : {T : Type 0} → ℕ → ℕ → Answered T → Type 0
+Stays base known (d, r) = (base ≤ known) × IsPast base d
+
+-- the load of a read: where the call goes on, the next frame and the position are known
+abbrev Begins : ℕ → ℕ → Answered (Unit {0}) → Type 0
+Begins base known (d, Ok done) = (base ≤ known) × (base ≤ d.next) × (d.seen ≡ Some known)
+Begins base known (d, Err e) = (base ≤ known) × IsPast base d
+
+-- a read moves both on by what it counts
+abbrev Reads : ℕ → ℕ → Answered ℕ → Type 0
+Reads base known (d, Ok count) = (base + count ≤ known) × IsPast (base + count) d
+Reads base known (d, Err e) = (base ≤ known) × IsPast base d
+
+-- ---- the parts of a call
+
+settled-begins : (base known : ℕ) (d : Plain) (s : State) (r : Result (Unit {0}) PcmError) → base ≤ known → base ≤ d.next → d.seen ≡ Some known
+    → Begins base known (in_state d s, r)
+settled-begins base known d s (Ok done) low next seen = (low, next, seen)
+settled-begins base known d s (Err e) low next seen = (low, λ runs. next)
+
+-- a reader that doesn't run and finds the card gone doesn't run afterwards, and its read ends there
+gone-begins : (base known : ℕ) (s : State) (d : Plain) → base ≤ known → is_running s ≡ false → Begins base known (settled d (next_of s call.Transfer (found true None None)))
+gone-begins base known state.Running d low not = absurd (cc)
+gone-begins base known other d low not = (low, λ runs. absurd (cc))
+
+gone-stays : (base known : ℕ) (s : State) (d : Plain) → base ≤ known → (is_running s ≡ true → base ≤ d.next)
+    → Stays base known (settled d (next_of s call.Start (found true None None)))
+gone-stays base known state.Running d low next = (low, next)
+gone-stays base known other d low next = (low, λ runs. absurd (cc))
+
+starts-begins : (base known : ℕ) (r : Plain) → base ≤ known → is_running r.status.state ≡ false → AllKnown (Begins base) known (starts r call.Transfer)
+unfolding starts
+starts-begins base known r low not = ((low, λ runs. absurd (cc)), λ p newer. by_gone p (omega (arith, low, newer)) p.gone)
+  where
+    by_gone : (p : Position) → base ≤ p.frame → (gone : Bool)
+        → Begins base p.frame (settled (if gone then seen_at r p else record r { seen = Some p.frame; next = p.frame }) (next_of r.status.state call.Transfer (found gone None None)))
+    by_gone p past true = gone-begins base p.frame r.status.state (seen_at r p) past not
+    by_gone p past false =
+        let d : Plain = record r { seen = Some p.frame; next = p.frame } in
+        let o : Outcome = next_of r.status.state call.Transfer (found false None None) in
+        settled-begins base p.frame d o.state o.answer past past refl
+
+starts-stays : (base known : ℕ) (r : Plain) → base ≤ known → IsPast base r → AllKnown (Stays base) known (starts r call.Start)
+unfolding starts
+starts-stays base known r low next = ((low, next), λ p newer. by_gone p (omega (arith, low, newer)) p.gone)
+  where
+    by_gone : (p : Position) → base ≤ p.frame → (gone : Bool)
+        → Stays base p.frame (settled (if gone then seen_at r p else record r { seen = Some p.frame; next = p.frame }) (next_of r.status.state call.Start (found gone None None)))
+    by_gone p past true = gone-stays base p.frame r.status.state (seen_at r p) past next
+    by_gone p past false = (past, λ runs. past)
+
+syncs-begins : (base known : ℕ) (r : Plain) (asked : Call) → base ≤ known → base ≤ r.next → AllKnown (Begins base) known (syncs r asked)
+unfolding syncs
+syncs-begins base known r asked low next = ((low, λ runs. next), λ p newer. by_load p (omega (arith, low, newer)))
+  where
+    by_load : (p : Position) → base ≤ p.frame → Begins base p.frame (synced r asked (Some p))
+    by_load p past =
+        let o : Outcome = next_of r.status.state asked (found p.gone (over_of (seen_at r p)) None) in
+        settled-begins base p.frame (seen_at r p) o.state o.answer past next refl
+
+syncs-stays : (base known : ℕ) (r : Plain) (asked : Call) → base ≤ known → base ≤ r.next → AllKnown (Stays base) known (syncs r asked)
+unfolding syncs
+syncs-stays base known r asked low next = ((low, λ runs. next), λ p newer. (omega (arith, low, newer), λ runs. next))
+
+-- so many frames are got at most
+gets-few : (known count first : ℕ) → AllKnown (λ later (x : ℕ × Got). (later ≡ known) × (x.0 ≤ count)) known (gets_frames count first)
+unfolding gets_frames
+gets-few known zero first = (refl, omega arith)
+gets-few known (suc count) first = by_end (gets-few known count (first + 1))
+  where
+    by_end : AllKnown (λ later (x : ℕ × Got). (later ≡ known) × (x.0 ≤ count)) known (gets_frames count (first + 1))
+        → (how : Got) → AllKnown (λ later (x : ℕ × Got). (later ≡ known) × (x.0 ≤ suc count)) known (get_on how (gets_frames count (first + 1)))
+    by_end rest got.Whole = AllKnown-then (λ later (x : ℕ × Got). (later ≡ known) × (x.0 ≤ count)) (λ later (x : ℕ × Got). (later ≡ known) × (x.0 ≤ suc count)) known
+        (gets_frames count (first + 1)) (λ end. ends (one_more end)) rest (λ later x few. (few.0, let low = few.1 in omega (arith, low)))
+    by_end rest (got.Overtaken channel word) = (refl, omega arith)
+    by_end rest got.Stopped = (refl, omega arith)
+
+-- a read that got at most what was available
+read_to-reads : (base known : ℕ) (d : Plain) (done : ℕ) (how : Got) → base ≤ known → base ≤ d.next → done ≤ known - d.next → Reads base known (read_to d done how)
+read_to-reads base known d done got.Whole low next few = (omega (arith, low, next, few), λ runs. omega (arith, next))
+read_to-reads base known d done (got.Overtaken channel word) low next few = (low, λ runs. next)
+read_to-reads base known d done got.Stopped low next few = (low, λ runs. next)
+
+read-reads : (base known : ℕ) (d : Plain) (n done : ℕ) (how : Got) → base ≤ known → base ≤ d.next → d.seen ≡ Some known → done ≤ taken_of d n
+    → Reads base known (read_after d n done how)
+read-reads base known d n done how low next seen few = by_test (nat_lt 0 n && nat_eq (avail_of d) 0)
+  where
+    avail : avail_of d ≡ known - d.next
+    avail = ap (λ (s : Option ℕ). unwrap_or s 0 - d.next) seen
+
+    by_test : (none : Bool) → Reads base known (if none then (d, Err error.Again) else read_to d done how)
+    by_test true = (low, λ runs. next)
+    by_test false = read_to-reads base known d done how low next (omega (arith, few, avail))
+
+transfer_on-reads : (base known n : ℕ) (done : Answered (Unit {0})) → Begins base known done → AllKnown (Reads base) known (transfer_on n done)
+unfolding transfers
+transfer_on-reads base known n (d, Err e) is = is
+transfer_on-reads base known n (d, Ok done) (low, next, seen) =
+    AllKnown-then (λ later (x : ℕ × Got). (later ≡ known) × (x.0 ≤ taken_of d n)) (Reads base) known (gets_frames (taken_of d n) d.next)
+    (λ end. ends (read_after d n end.0 end.1)) (gets-few known (taken_of d n) d.next)
+    (λ later x few. subst (λ (k : ℕ). Reads base k (read_after d n x.0 x.1)) (sym few.0) (read-reads base known d n x.0 x.1 low next seen few.1))
+
+waits-reads : (base known : ℕ) (r : Plain) (n : ℕ) → base ≤ known → IsPast base r → Reads base known (r, waits n)
+waits-reads base known r n low next = by_test (nat_eq n 0)
+  where
+    by_test : (none : Bool) → Reads base known (r, if none then Ok 0 else Err error.Again)
+    by_test true = (omega (arith, low), λ runs. let past = next runs in omega (arith, past))
+    by_test false = (low, next)
+
+-- ---- the calls
+
+read_course-reads : (base known : ℕ) (r : Plain) (n : ℕ) → base ≤ known → IsPast base r → AllKnown (Reads base) known (read_course r n)
+unfolding reads_on reads_first
+read_course-reads base known r n low next = by_running (is_running r.status.state) refl
+  where
+    by_start : (b : Bool) → is_running r.status.state ≡ false → AllKnown (Reads base) known (if b then reads_first r n else ends (r, waits n))
+    by_start true not = AllKnown-then (Begins base) (Reads base) known (starts r call.Transfer) (transfer_on n) (starts-begins base known r low not)
+        (λ later done is. transfer_on-reads base later n done is)
+    by_start false not = waits-reads base known r n low next
+
+    by_running : (b : Bool) → is_running r.status.state ≡ b
+        → AllKnown (Reads base) known (if b then reads_on r n else (if nat_le r.setup.params.start_threshold n then reads_first r n else ends (r, waits n)))
+    by_running true runs = AllKnown-then (Begins base) (Reads base) known (syncs r call.Transfer) (transfer_on n)
+        (syncs-begins base known r call.Transfer low (next runs)) (λ later done is. transfer_on-reads base later n done is)
+    by_running false not = by_start (nat_le r.setup.params.start_threshold n) not
+
+sync_course-stays : (base known : ℕ) (r : Plain) → base ≤ known → IsPast base r → AllKnown (Stays base) known (sync_course r)
+sync_course-stays base known r low next = by_running (is_running r.status.state) refl
+  where
+    by_running : (b : Bool) → is_running r.status.state ≡ b → AllKnown (Stays base) known (if b then syncs r call.Sync else ends (r, Ok tt))
+    by_running true runs = syncs-stays base known r call.Sync low (next runs)
+    by_running false not = (low, next)
+
+avail_course-stays : (base known : ℕ) (r : Plain) → base ≤ known → IsPast base r → AllKnown (Stays base) known (avail_course r)
+unfolding counts
+avail_course-stays base known r low next = by_running (is_running r.status.state) refl
+  where
+    with_avail-stays : (later : ℕ) (done : Answered (Unit {0})) → Stays base later done → Stays base later (with_avail done)
+    with_avail-stays later (d, Ok done) is = is
+    with_avail-stays later (d, Err e) is = is
+
+    by_running : (b : Bool) → is_running r.status.state ≡ b → AllKnown (Stays base) known (if b then counts (syncs r call.Sync) else ends (r, Ok 0))
+    by_running true runs = AllKnown-then (Stays base) (Stays base) known (syncs r call.Sync) (λ done. ends (with_avail done))
+        (syncs-stays base known r call.Sync low (next runs)) with_avail-stays
+    by_running false not = (low, next)
+
+-- ---- the lines
+
+-- an open reader with so many frames behind a first one
+abbrev pub IsOwnPast : ℕ → Option Plain → Type 0
+IsOwnPast base None = ⊤
+IsOwnPast base (Some r) = IsPast base r
+
+-- a reader whose frames are behind a first one and below the position known
+abbrev pub HasFrames : ℕ → ℕ → Reader → Type 0
+HasFrames first known reader = (first + length reader.frames ≤ known) × IsOwnPast (first + length reader.frames) reader.own
+
+abbrev pub LineHas : ℕ → ℕ → Reader × Answer → Type 0
+LineHas first known (reader, answer) = HasFrames first known reader
+
+-- what a call leaves of a reader that had some frames
+abbrev IsLeft : ℕ → ℕ → Op → Plain × Answer → Type 0
+IsLeft base known asked (d, answer) = (base + length (frames_by asked answer d) ≤ known) × IsPast (base + length (frames_by asked answer d)) d
+
+admitted-left : {T : Type 0} (base known : ℕ) (r : Plain) (asked : Op) (c : Call) (answer : Result T PcmError → Answer) (R : ℕ → Answered T → Type 0) (m : Course (Answered T))
+    → ((later : ℕ) (x : Answered T) → R later x → IsLeft base later asked (x.0, answer x.1)) → ((e : PcmError) → R known (r, Err e)) → AllKnown R known m
+    → AllKnown (λ later x. IsLeft base later asked x) known (answered answer (admitted r c m))
+admitted-left {T = T} base known r asked c answer R m leaves refused all =
+    AllKnown-then R (λ later x. IsLeft base later asked x) known (admitted r c m) (λ done. ends (done.0, answer done.1)) (by_refusal (refusal_of Capture r.status c)) leaves
+  where
+    by_refusal : (refusal : Option PcmError) → AllKnown R known (admitted_by refusal r m)
+    by_refusal None = all
+    by_refusal (Some e) = refused e
+
+-- a call that got nothing
+none-left : (base known : ℕ) (asked : Op) (d : Plain) (answer : Answer) → frames_by asked answer d ≡ [] → (base ≤ known) × IsPast base d
+    → IsLeft base known asked (d, answer)
+none-left base known asked d answer none is =
+    let same : base + length (frames_by asked answer d) ≡ base = ap (λ (frames : List ℕ). base + length frames) none ∙ add-zero base in
+    let low : base ≤ known = is.0 in
+    (omega (arith, low, same), λ runs. let past = is.1 runs in omega (arith, past, same))
+
+-- a read
+read-left : (base n known : ℕ) (x : Answered ℕ) → Reads base known x → IsLeft base known (op.Read n) (x.0, count_answer x.1)
+read-left base n known (d, Ok count) (low, past) =
+    let same : length (range_with_len (d.next - count) count) ≡ count = length-range_with_len (d.next - count) count in
+    (omega (arith, low, same), λ runs. let next = past runs in omega (arith, next, same))
+read-left base n known (d, Err e) is = none-left base known (op.Read n) d (count_answer (Err e)) refl is
+
+call-left : (base known : ℕ) (r : Plain) (asked : Op) → base ≤ known → IsPast base r → AllKnown (λ later x. IsLeft base later asked x) known (call_of r asked)
+call-left base known r (op.Read n) low next =
+    admitted-left base known r (op.Read n) call.Transfer count_answer (Reads base) (read_course r n) (λ later x is. read-left base n later x is) (λ e. (low, next))
+    (read_course-reads base known r n low next)
+call-left base known r op.Start low next =
+    admitted-left base known r op.Start call.Start done_answer (Stays base) (starts r call.Start)
+    (λ later x is. none-left base later op.Start x.0 (done_answer x.1) refl is) (λ e. (low, next)) (starts-stays base known r low next)
+call-left base known r op.Sync low next =
+    admitted-left base known r op.Sync call.Sync done_answer (Stays base) (sync_course r)
+    (λ later x is. none-left base later op.Sync x.0 (done_answer x.1) refl is) (λ e. (low, next)) (sync_course-stays base known r low next)
+call-left base known r op.Avail low next =
+    admitted-left base known r op.Avail call.Sync count_answer (Stays base) (avail_course r)
+    (λ later x is. none-left base later op.Avail x.0 (count_answer x.1) refl is) (λ e. (low, next)) (avail_course-stays base known r low next)
+call-left base known r op.Drop low next =
+    admitted-left base known r op.Drop call.Drop done_answer (Stays base) (ends (in_state r state.Setup, Ok tt))
+    (λ later x is. none-left base later op.Drop x.0 (done_answer x.1) refl is) (λ e. (low, next)) (low, λ runs. absurd (cc))
+call-left base known r op.Prepare low next =
+    admitted-left base known r op.Prepare call.Prepare done_answer (Stays base) (ends (in_state r state.Prepared, Ok tt))
+    (λ later x is. none-left base later op.Prepare x.0 (done_answer x.1) refl is) (λ e. (low, next)) (low, λ runs. absurd (cc))
+call-left base known r op.Pause low next = none-left base known op.Pause r (Failed error.NotSupported) refl (low, next)
+call-left base known r other low next = none-left base known other r (Failed error.BadState) refl (low, next)
+
+-- a line adds the frames that its call got
+line-left : (first known : ℕ) (reader : Reader) (r : Plain) (asked : Op) (x : Plain × Answer) → IsLeft (first + length reader.frames) known asked x
+    → LineHas first known (after_call reader asked x)
+line-left first known reader r asked (d, answer) (low, past) =
+    let more : length (reader.frames ++ frames_by asked answer d) ≡ length reader.frames + length (frames_by asked answer d) =
+    length-append reader.frames (frames_by asked answer d) in
+    (omega (arith, low, more), λ runs. let next = past runs in omega (arith, next, more))
+
+pub line-has : (first known : ℕ) (reader : Reader) (own : Option Plain) (asked : Op) → reader.own ≡ own → HasFrames first known reader
+    → AllKnown (LineHas first) known (line_by reader own asked)
+line-has first known reader None asked is has = has
+line-has first known reader (Some r) asked is has = by_stop r.status.stopped asked
+  where
+    past : IsPast (first + length reader.frames) r
+    past = subst (IsOwnPast (first + length reader.frames)) is has.1
+
+    by_call : (o : Op) → AllKnown (LineHas first) known (call_of r o >>= λ done. ends (after_call reader o done))
+    by_call o = AllKnown-then (λ later x. IsLeft (first + length reader.frames) later o x) (LineHas first) known (call_of r o) (λ done. ends (after_call reader o done))
+        (call-left (first + length reader.frames) known r o has.0 past) (λ later x left. line-left first later reader r o x left)
+
+    by_op : (o : Op) → AllKnown (LineHas first) known (line_if false reader r o)
+    by_op (op.Die k) = has
+    by_op other = by_call other
+
+    by_stop : (stopped : Bool) (o : Op) → AllKnown (LineHas first) known (line_if stopped reader r o)
+    by_stop true o = has
+    by_stop false o = by_op o
