@@ -1,0 +1,354 @@
+-- A call of a client keeps its bindings, and where it is late, the part of a frame that is placed isn't the whole frame.
+use Rattle.std.proofs.Common.{◌≡◌, ℕ, ◌+◌, ◌-◌, ◌<◌, subst, arith, Option, Some, None, length}
+use Rattle.std.specs.Prelude.{Bool, true, false, ◌&&◌, nat_eq, nat_lt, if◌then◌else◌, List, [], ◌∷◌, ℤ, Result, Ok, Err, IfSome, ⊤, zero, suc, min}
+use Rattle.snd_base.specs.declared.errors.PcmError.{PcmError}
+use Rattle.snd_base.specs.declared.errors.PcmError.TheVariants as error
+use Rattle.snd_base.specs.declared.places.Cursor.{Cursor}
+use Rattle.bindings.specs.Bound.{rising}
+use Rattle.mix_core.specs.declared.marks.Marks.{Marks}
+use Rattle.mix_core.specs.declared.port.Ended.{Ended}
+use Rattle.mix_core.specs.declared.port.Ended.TheVariants as ended
+use Rattle.mix_core.specs.declared.port.Position.{Position}
+use Rattle.pcm_states.specs.declared.calls.Call.{Call}
+use Rattle.pcm_states.specs.declared.calls.Call.TheVariants as call
+use Rattle.pcm_states.specs.declared.calls.Facts.{Facts}
+use Rattle.pcm_states.specs.declared.states.State.{State}
+use Rattle.pcm_states.specs.declared.states.State.TheVariants.{Draining, Prepared, Running}
+use Rattle.pcm_states.specs.Table.{next_of}
+use Rattle.course.specs.Course.{◌>>=◌, Course, ends}
+use Rattle.wav_io.specs.Sound.{Sound}
+use Rattle.dmix_client.specs.declared.commit.Commit.{Commit}
+use Rattle.dmix_client.specs.declared.plain.Plain.{Plain}
+use Rattle.pcm_stream.specs.declared.direction.Direction.TheVariants.{Playback}
+use Rattle.pcm_stream.specs.Status.{is_moving, is_refusal, nothing_found, refusal_in, refusal_of}
+use Rattle.dmix_client.specs.Calls.{Answered, accepted, accepted_if, avail_answer, committed_by, delay_answer, dropped, end_channel, end_of_commit, facts_of, found_at, going_on, going_on_by, is_running, is_stop, late_at, late_of, over_of, paused, pending_of, prepared, rebased, resumed, seen_at, settled, started, started_in, start_count, stopped_in, sync_count, synced, taken_of, with_number, written_after}
+use Rattle.dmix_client.specs.Calls as calls
+use Rattle.dmix_client.specs.Course.{admitted, admitted_by, commits, drain_course, drain_on, drains, fills, commit_at, go_on, lay_each, lay_frame, lay_frames, lay_on, looks, nothing, number_course, numbered, one_frame_more, one_more, pause_course, resumes, start_course, starts, starts_taking, syncs, takes_more, write_on, writes_on}
+use Rattle.dmix_client.specs.Rewind.{back_of, checks, last_channel, last_laid, rewind_course, rewind_on, rewindable_course, rewindable_of, rewinds, rewound, take_frames, taken_back, takes_back}
+use Rattle.dmix_client.specs.View.{avail_of, held}
+use Rattle.dmix_client.specs.Writes.{count_with, ring_with, starts_with}
+use Rattle.lab_script.specs.declared.line.Op.{Op}
+use Rattle.lab_script.specs.declared.line.Op.TheVariants as op
+use Rattle.lab_report.specs.declared.row.Answer.{Answer}
+use Rattle.lab_run.specs.Client.{answered, call_of, count_answer, done_answer, write_course}
+use Rattle.lab_run.specs.LateRows.{is_rewind}
+use Rattle.lab_headline.proofs.LateAnswers.{LateAnswer, LateErr, LateIn, LateWhy, next-late, reported-late}
+use Rattle.lab_headline.proofs.Results.{All, All-any, All-then}
+
+-- ---- what a commit placed of a frame
+
+-- a fact where a commit ended late
+abbrev WhereLate : Type 0 → Ended → Type 0
+WhereLate P ended.Whole = ⊤
+WhereLate P (ended.Late word) = P
+WhereLate P ended.Stopped = ⊤
+
+each-short : (member frame : ℕ) (bindings : List ℕ) (sample_of : ℕ → ℤ) (qs : List ℕ)
+    → All (λ (x : ℕ × Ended). WhereLate (x.0 < length qs) x.1) (lay_each member frame bindings sample_of qs)
+unfolding lay_each
+each-short member frame bindings sample_of [] = tt
+each-short member frame bindings sample_of (q ∷ qs) = by_end (each-short member frame bindings sample_of qs)
+  where
+    further : (x : ℕ × Ended) → WhereLate (x.0 < length qs) x.1 → WhereLate ((one_more x).0 < suc (length qs)) (one_more x).1
+    further (done, ended.Whole) is = tt
+    further (done, ended.Late word) is = omega (arith, is)
+    further (done, ended.Stopped) is = tt
+
+    by_end : All (λ (x : ℕ × Ended). WhereLate (x.0 < length qs) x.1) (lay_each member frame bindings sample_of qs)
+        → (e : Ended) → All (λ (x : ℕ × Ended). WhereLate (x.0 < length (q ∷ qs)) x.1) (lay_on e (lay_each member frame bindings sample_of qs))
+    by_end short ended.Whole = All-then (λ (x : ℕ × Ended). WhereLate (x.0 < length qs) x.1) (λ (x : ℕ × Ended). WhereLate (x.0 < length (q ∷ qs)) x.1)
+        (lay_each member frame bindings sample_of qs) (λ end. ends (one_more end)) short further
+    by_end short (ended.Late word) = omega arith
+    by_end short ended.Stopped = tt
+
+-- a commit of a client with these bindings
+abbrev Short : List ℕ → Commit → Type 0
+Short b x = WhereLate (x.part < length (rising b)) x.ended
+
+frames-short : (member card : ℕ) (b : List ℕ) (samples : ℕ → ℕ → ℤ) (count first : ℕ) → All (Short b) (lay_frames member card b samples count first)
+unfolding lay_frames
+frames-short member card b samples zero first = tt
+frames-short member card b samples (suc count) first =
+    All-then (λ (x : ℕ × Ended). WhereLate (x.0 < length (rising b)) x.1) (Short b) (lay_frame member (card + first) b (samples first))
+    (λ end. go_on end (lay_frames member card b samples count (first + 1))) (each-short member (card + first) b (samples first) (rising b))
+    (on (frames-short member card b samples count (first + 1)))
+  where
+    on : All (Short b) (lay_frames member card b samples count (first + 1)) → (x : ℕ × Ended) → WhereLate (x.0 < length (rising b)) x.1 → All (Short b) (go_on x (lay_frames member card b samples count (first + 1)))
+    on rest (done, ended.Whole) is = All-then (Short b) (Short b) (lay_frames member card b samples count (first + 1)) (λ commit. ends (one_frame_more commit))
+        rest (λ x short. short)
+    on rest (done, ended.Late word) is = is
+    on rest (done, ended.Stopped) is = tt
+
+commits-short : (b : List ℕ) (c : Plain) (ring : List ℤ) (count : ℕ) → c.setup.bindings ≡ b → All (Short b) (commits c ring count)
+commits-short b c ring count is =
+    subst (λ (l : List ℕ). All (Short l) (commits c ring count)) is
+    (frames-short c.identity.member c.stretch.card c.setup.bindings (held c ring) count c.stretch.committed)
+
+looks-short : (b : List ℕ) (at : Position → Plain) (count : Position → ℕ) (ring : List ℤ) → ((p : Position) → (at p).setup.bindings ≡ b)
+    → All (λ (x : Option Position × Commit). Short b x.1) (looks at count ring)
+unfolding looks ◌>>=◌
+looks-short b at count ring are = by_load
+  where
+    by_load : (load : Option Position) → All (λ (x : Option Position × Commit). Short b x.1) (commit_at at count ring load >>= λ commit. ends (load, commit))
+    by_load None = tt
+    by_load (Some p) = All-then (Short b) (λ (x : Option Position × Commit). Short b x.1) (commits (at p) ring (count p)) (λ commit. ends (Some p, commit))
+        (commits-short b (at p) ring (count p) (are p)) (λ x short. short)
+
+-- ---- a call's parts
+
+-- a call left a client with these bindings, and where it was late, with less than a whole frame more
+abbrev Kept : {T : Type 0} → List ℕ → Answered T → Type 0
+Kept b (d, r) = (d.setup.bindings ≡ b) × LateIn (λ frame channel. d.stretch.part < length (rising b)) r
+
+-- the place that is late in a commit
+late-short : (b : List ℕ) (c : Plain) (x : Commit) → Short b x → IfSome (late_of c x) (LateWhy (λ frame channel. x.part < length (rising b)))
+late-short b c x = by_end x.ended
+  where
+    by_end : (e : Ended) → WhereLate (x.part < length (rising b)) e → IfSome (late_at e (end_of_commit c x) (end_channel c x)) (LateWhy (λ frame channel. x.part < length (rising b)))
+    by_end ended.Whole short = tt
+    by_end (ended.Late word) short = short
+    by_end ended.Stopped short = tt
+
+going_on-kept : (b : List ℕ) (c : Plain) (state refused : State) (r : Result (Unit {0}) PcmError) → c.setup.bindings ≡ b
+    → LateIn (λ frame channel. c.stretch.part < length (rising b)) r → Kept b (going_on_by r c state refused)
+going_on-kept b c state refused (Ok done) is late = (is, tt)
+going_on-kept b c state refused (Err e) is late = (is, late)
+
+synced-kept : (b : List ℕ) (c : Plain) (asked : Call) (load : Option Position) (x : Commit) → c.setup.bindings ≡ b → Short b x → Kept b (synced c asked load x)
+synced-kept b c asked None x is short = (is, tt)
+synced-kept b c asked (Some p) x is short = by_stop (is_stop x.ended)
+  where
+    f : Facts
+    f = facts_of (committed_by (seen_at c p) x) p (over_of (seen_at c p) p) (late_of (seen_at c p) x)
+
+    by_stop : (stop : Bool) → Kept b (if stop then stopped_in (committed_by (seen_at c p) x) else settled (committed_by (seen_at c p) x) (next_of c.status.state asked f))
+    by_stop true = (is, tt)
+    by_stop false = (is, next-late (λ frame channel. x.part < length (rising b)) c.status.state asked f (late-short b (seen_at c p) x short))
+
+started-kept : (b : List ℕ) (c : Plain) (state : State) (cursor : Cursor) (load : Option Position) (x : Commit) → c.setup.bindings ≡ b → Short b x
+    → Kept b (started c state cursor load x)
+started-kept b c state cursor None x is short = (is, tt)
+started-kept b c state cursor (Some p) x is short = by_gone p.gone
+  where
+    from : Plain
+    from = started_in c state p cursor
+
+    by_stop : (stop : Bool) → Kept b (if stop then stopped_in (committed_by from x) else going_on (committed_by from x) state (next_of Prepared call.Start (found_at p (late_of from x))))
+    by_stop true = (is, tt)
+    by_stop false = going_on-kept b (committed_by from x) state _ (next_of Prepared call.Start (found_at p (late_of from x))).answer is
+        (next-late (λ frame channel. x.part < length (rising b)) Prepared call.Start (found_at p (late_of from x)) (late-short b from x short))
+
+    by_gone : (gone : Bool) → Kept b (if gone then going_on (seen_at c p) state (next_of Prepared call.Start (found_at p None))
+        else (if is_stop x.ended then stopped_in (committed_by from x) else going_on (committed_by from x) state (next_of Prepared call.Start (found_at p (late_of from x)))))
+    by_gone true = going_on-kept b (seen_at c p) state _ (next_of Prepared call.Start (found_at p None)).answer is
+        (next-late (λ frame channel. c.stretch.part < length (rising b)) Prepared call.Start (found_at p None) tt)
+    by_gone false = by_stop (is_stop x.ended)
+
+resumed-kept : (b : List ℕ) (c : Plain) (cursor : Cursor) (load : Option Position) (x : Commit) → c.setup.bindings ≡ b → Short b x → Kept b (resumed c cursor load x)
+resumed-kept b c cursor None x is short = (is, tt)
+resumed-kept b c cursor (Some p) x is short = started-kept b (rebased c) Running cursor (Some p) x is short
+
+accepted-kept : (b : List ℕ) (n : ℕ) (done : Answered (Unit {0})) → Kept b done → Kept b (accepted_if n done)
+accepted-kept b n (c, Ok done) kept = (kept.0, tt)
+accepted-kept b n (c, Err e) kept = kept
+
+number-kept : (b : List ℕ) (number : Plain → ℕ) (done : Answered (Unit {0})) → Kept b done → Kept b (with_number number done)
+number-kept b number (c, Ok done) kept = (kept.0, tt)
+number-kept b number (c, Err e) kept = kept
+
+written-kept : (b : List ℕ) (c : Plain) (n : ℕ) (x : Commit) → c.setup.bindings ≡ b → Short b x → Kept b (written_after c n x)
+written-kept b c n x is short = by_test (nat_lt 0 n && nat_eq (avail_of c) 0) (is_stop x.ended)
+  where
+    f : Facts
+    f = found_at (record { frame = 0; gone = false }) (late_of c x)
+
+    by_test : (none stop : Bool) → Kept b (if none then (c, Err error.Again) else (if stop then stopped_in (committed_by c x)
+        else accepted_if (taken_of c n) (settled (committed_by c x) (next_of Running call.Transfer f))))
+    by_test true stop = (is, tt)
+    by_test false true = (is, tt)
+    by_test false false = accepted-kept b (taken_of c n) (settled (committed_by c x) (next_of Running call.Transfer f))
+        (is, next-late (λ frame channel. x.part < length (rising b)) Running call.Transfer f (late-short b c x short))
+
+-- ---- the calls
+
+All-if : {X : Type 0} (Q : X → Type 0) (test : Bool) (m n : Course X) → All Q m → All Q n → All Q (if test then m else n)
+All-if Q true m n one two = one
+All-if Q false m n one two = two
+
+-- whatever a course gave, what follows has a fact
+All-after : {X Y : Type 0} (Q : Y → Type 0) (m : Course X) (f : X → Course Y) → ((x : X) → All Q (f x)) → All Q (m >>= f)
+All-after Q m f each = All-then (λ x. ⊤) Q m f (All-any (λ x. ⊤) m (λ x. tt)) (λ x any. each x)
+
+syncs-kept : (b : List ℕ) (c : Plain) (asked : Call) (ring : List ℤ) → c.setup.bindings ≡ b → All (Kept b) (syncs c asked ring)
+unfolding syncs
+syncs-kept b c asked ring is = All-then (λ (x : Option Position × Commit). Short b x.1) (Kept b) (looks (λ position. c) (sync_count c) ring)
+    (λ found. ends (synced c asked found.0 found.1)) (looks-short b (λ position. c) (sync_count c) ring (λ p. is))
+    (λ found short. synced-kept b c asked found.0 found.1 is short)
+
+starts-kept : (b : List ℕ) (c : Plain) (state : State) (cursor : Cursor) (upto : ℕ) (ring : List ℤ) → c.setup.bindings ≡ b → All (Kept b) (starts c state cursor upto ring)
+unfolding starts
+starts-kept b c state cursor upto ring is = All-then (λ (x : Option Position × Commit). Short b x.1) (Kept b)
+    (looks (λ position. started_in c Running position cursor) (λ position. start_count c cursor position upto) ring)
+    (λ found. ends (started c state cursor found.0 found.1))
+    (looks-short b (λ position. started_in c Running position cursor) (λ position. start_count c cursor position upto) ring (λ p. is))
+    (λ found short. started-kept b c state cursor found.0 found.1 is short)
+
+resumes-kept : (b : List ℕ) (c : Plain) (cursor : Cursor) (ring : List ℤ) → c.setup.bindings ≡ b → All (Kept b) (resumes c cursor ring)
+unfolding resumes
+resumes-kept b c cursor ring is = All-then (λ (x : Option Position × Commit). Short b x.1) (Kept b)
+    (looks (λ position. started_in (rebased c) Running position cursor) (λ position. start_count (rebased c) cursor position (pending_of c)) ring)
+    (λ found. ends (resumed c cursor found.0 found.1))
+    (looks-short b (λ position. started_in (rebased c) Running position cursor) (λ position. start_count (rebased c) cursor position (pending_of c)) ring (λ p. is))
+    (λ found short. resumed-kept b c cursor found.0 found.1 is short)
+
+numbered-kept : (b : List ℕ) (number : Plain → ℕ) (m : Course (Answered (Unit {0}))) → All (Kept b) m → All (Kept b) (numbered number m)
+unfolding numbered
+numbered-kept b number m all = All-then (Kept b) (Kept b) m (λ done. ends (with_number number done)) all (number-kept b number)
+
+write_on-kept : (b : List ℕ) (samples : List ℤ) (n : ℕ) (done : Answered (Unit {0})) → Kept b done → All (Kept b) (write_on [] samples n done)
+unfolding takes_more
+write_on-kept b samples n (c, Err e) kept = kept
+write_on-kept b samples n (c, Ok done) kept =
+    All-then (Short b) (Kept b) (commits c (ring_with c [] samples (taken_of c n)) (count_with c (taken_of c n))) (λ last. ends (written_after c n last))
+    (commits-short b c (ring_with c [] samples (taken_of c n)) (count_with c (taken_of c n)) kept.0) (λ x short. written-kept b c n x kept.0 short)
+
+write-kept : (b : List ℕ) (c : Plain) (cursor : Cursor) (n : ℕ) → c.setup.bindings ≡ b → All (Kept b) (write_course c cursor n)
+unfolding writes_on starts_taking
+write-kept b c cursor n is = All-if (Kept b) (is_running c.status.state) (writes_on c [] [] n) (fills c [] [] cursor n)
+    (All-then (Kept b) (Kept b) (syncs c call.Transfer []) (write_on [] [] n) (syncs-kept b c call.Transfer [] is) (write_on-kept b [] n))
+    (All-if (Kept b) (starts_with c n) (starts_taking c (ring_with c [] [] (taken_of c n)) cursor (taken_of c n)) (ends (accepted c (taken_of c n), Ok (taken_of c n)))
+    (All-then (Kept b) (Kept b) (starts c Running cursor (c.stretch.written + taken_of c n) (ring_with c [] [] (taken_of c n))) (λ done. ends (accepted_if (taken_of c n) done))
+    (starts-kept b c Running cursor (c.stretch.written + taken_of c n) (ring_with c [] [] (taken_of c n)) is) (accepted-kept b (taken_of c n)))
+    (is, tt))
+
+start-kept : (b : List ℕ) (c : Plain) (cursor : Cursor) → c.setup.bindings ≡ b → All (Kept b) (start_course c [] cursor)
+start-kept b c cursor is = All-if (Kept b) (nat_eq c.stretch.written 0) (ends (settled c (next_of c.status.state call.Start f))) (starts c Running cursor c.stretch.written [])
+    (is, next-late (λ frame channel. c.stretch.part < length (rising b)) c.status.state call.Start f tt) (starts-kept b c Running cursor c.stretch.written [] is)
+  where
+    f : Facts
+    f = record (nothing_found Playback) { queued = 0 }
+
+drain_on-kept : (b : List ℕ) (done : Answered (Unit {0})) → Kept b done → All (Kept b) (drain_on [] done)
+drain_on-kept b (c, Ok done) kept = syncs-kept b c call.Drain [] kept.0
+drain_on-kept b (c, Err e) kept = kept
+
+drain-kept : (b : List ℕ) (c : Plain) (cursor : Cursor) → c.setup.bindings ≡ b → All (Kept b) (drain_course c [] cursor)
+unfolding drains
+drain-kept b c cursor is = All-if (Kept b) (is_moving c.status.state) (syncs (calls.draining c) call.Drain []) _ (syncs-kept b (calls.draining c) call.Drain [] is)
+    (All-if (Kept b) (calls.has_frames c) (drains c [] cursor) (ends (dropped c, Ok tt))
+    (All-then (Kept b) (Kept b) (starts c Draining cursor c.stretch.written []) (drain_on []) (starts-kept b c Draining cursor c.stretch.written [] is) (drain_on-kept b)) (is, tt))
+
+pause-kept : (b : List ℕ) (on : Bool) (c : Plain) (cursor : Cursor) → c.setup.bindings ≡ b → All (Kept b) (pause_course on c [] cursor)
+pause-kept b on c cursor is = All-if (Kept b) on (ends (paused c, Ok tt)) _ (is, tt)
+    (All-if (Kept b) (nat_eq (pending_of c) 0) (ends (rebased c, Ok tt)) (resumes c cursor []) (is, tt) (resumes-kept b c cursor [] is))
+
+number_course-kept : (b : List ℕ) (number : Plain → ℕ) (c : Plain) → c.setup.bindings ≡ b → All (Kept b) (number_course number c [])
+number_course-kept b number c is = All-if (Kept b) (is_moving c.status.state) (numbered number (syncs c call.Sync [])) (ends (c, Ok (number c)))
+    (numbered-kept b number (syncs c call.Sync []) (syncs-kept b c call.Sync [] is)) (is, tt)
+
+checks-kept : (b : List ℕ) (c : Plain) → c.setup.bindings ≡ b → All (Kept b) (checks c)
+unfolding checks
+checks-kept b c is = λ load. synced-kept b c call.Transfer load nothing is tt
+
+rewindable-kept : (b : List ℕ) (c : Plain) (floor : Cursor) → c.setup.bindings ≡ b → All (Kept b) (rewindable_course c floor)
+rewindable-kept b c floor is = All-if (Kept b) (is_running c.status.state) (numbered (rewindable_of floor) (checks c)) _
+    (numbered-kept b (rewindable_of floor) (checks c) (checks-kept b c is)) (is, tt)
+
+-- a call's refusal isn't late
+refusal-early : (c : Plain) (asked : Call) (P : Type 0) → IfSome (refusal_of Playback c.status asked) (LateErr (λ frame channel. P))
+refusal-early c asked P = by_stop c.status.stopped
+  where
+    Q : ℕ → ℕ → Type 0
+    Q = λ frame channel. P
+
+    by_refusal : (e : PcmError) (test : Bool) → LateErr Q e → IfSome (if test then Some e else None) (LateErr Q)
+    by_refusal e true late = late
+    by_refusal e false late = tt
+
+    by_answer : (r : Result (Unit {0}) PcmError) → LateIn Q r → IfSome (refusal_in r) (LateErr Q)
+    by_answer (Ok done) late = tt
+    by_answer (Err e) late = by_refusal e (is_refusal e) late
+
+    by_stop : (stopped : Bool) → IfSome (if stopped then Some error.Stopped else refusal_in (next_of c.status.state asked (nothing_found Playback)).answer) (LateErr Q)
+    by_stop true = tt
+    by_stop false = by_answer (next_of c.status.state asked (nothing_found Playback)).answer (next-late Q c.status.state asked (nothing_found Playback) tt)
+
+admitted-kept : {T : Type 0} (b : List ℕ) (c : Plain) (asked : Call) (m : Course (Answered T)) → c.setup.bindings ≡ b → All (Kept b) m → All (Kept b) (admitted c asked m)
+admitted-kept {T = T} b c asked m is all = by_refusal (refusal_of Playback c.status asked) (refusal-early c asked (c.stretch.part < length (rising b)))
+  where
+    by_refusal : (refusal : Option PcmError) → IfSome refusal (LateErr (λ frame channel. c.stretch.part < length (rising b))) → All (Kept b) (admitted_by refusal c m)
+    by_refusal None late = all
+    by_refusal (Some e) late = (is, late)
+
+-- ---- the lines
+
+-- a call's answer, as a report has it
+abbrev pub Named : List ℕ → Plain × Answer → Type 0
+Named b (d, answer) = (d.setup.bindings ≡ b) × LateAnswer (λ frame channel. d.stretch.part < length (rising b)) answer
+
+done-named : (b : List ℕ) (m : Course (Answered (Unit {0}))) → All (Kept b) m → All (Named b) (answered done_answer m)
+done-named b m all = All-then (Kept b) (Named b) m (λ done. ends (done.0, done_answer done.1)) all named
+  where
+    named : (x : Answered (Unit {0})) → Kept b x → Named b (x.0, done_answer x.1)
+    named (d, Ok done) kept = (kept.0, tt)
+    named (d, Err e) kept = (kept.0, reported-late (λ frame channel. d.stretch.part < length (rising b)) e kept.1)
+
+count-named : (b : List ℕ) (m : Course (Answered ℕ)) → All (Kept b) m → All (Named b) (answered count_answer m)
+count-named b m all = All-then (Kept b) (Named b) m (λ done. ends (done.0, count_answer done.1)) all named
+  where
+    named : (x : Answered ℕ) → Kept b x → Named b (x.0, count_answer x.1)
+    named (d, Ok n) kept = (kept.0, tt)
+    named (d, Err e) kept = (kept.0, reported-late (λ frame channel. d.stretch.part < length (rising b)) e kept.1)
+
+pub call-named : (b : List ℕ) (wav : Sound) (marks : Marks) (c : Plain) (asked : Op) → is_rewind asked ≡ false → c.setup.bindings ≡ b → All (Named b) (call_of wav marks c asked)
+call-named b wav marks c (op.Write n) not is = count-named b _ (admitted-kept b c call.Transfer _ is (write-kept b c marks.cursor _ is))
+call-named b wav marks c op.Start not is = done-named b _ (admitted-kept b c call.Start _ is (start-kept b c marks.cursor is))
+call-named b wav marks c op.Sync not is = done-named b _ (admitted-kept b c call.Sync _ is
+    (All-if (Kept b) (is_moving c.status.state) (syncs c call.Sync []) (ends (c, Ok tt)) (syncs-kept b c call.Sync [] is) (is, tt)))
+call-named b wav marks c op.Avail not is = count-named b _ (admitted-kept b c call.Sync _ is (number_course-kept b avail_answer c is))
+call-named b wav marks c op.Delay not is = count-named b _ (admitted-kept b c call.Sync _ is (number_course-kept b delay_answer c is))
+call-named b wav marks c op.Drain not is = done-named b _ (admitted-kept b c call.Drain _ is (drain-kept b c marks.cursor is))
+call-named b wav marks c op.Drop not is = done-named b _ (admitted-kept b c call.Drop (ends (dropped c, Ok tt)) is (is, tt))
+call-named b wav marks c op.Prepare not is = done-named b _ (admitted-kept b c call.Prepare (ends (prepared c, Ok tt)) is (is, tt))
+call-named b wav marks c op.Pause not is = done-named b _ (admitted-kept b c call.Pause _ is (pause-kept b true c marks.cursor is))
+call-named b wav marks c op.Resume not is = done-named b _ (admitted-kept b c call.Resume _ is (pause-kept b false c marks.cursor is))
+call-named b wav marks c op.Rewindable not is = count-named b _ (admitted-kept b c call.Transfer _ is (rewindable-kept b c marks.floor is))
+call-named b wav marks c (op.Rewind n) not is = absurd (cc)
+call-named b wav marks c other not is = (is, tt)
+
+-- ---- a rewind keeps the bindings
+
+abbrev pub Bound : {T : Type 0} → List ℕ → Plain × T → Type 0
+Bound b (d, r) = d.setup.bindings ≡ b
+
+rewound-bound : (b : List ℕ) (c : Plain) (n : ℕ) (left : Commit) → c.setup.bindings ≡ b → Bound b (rewound c n left)
+rewound-bound b c n left is = by_stop (is_stop left.ended)
+  where
+    by_answer : (d : Plain) (r : Result (Unit {0}) PcmError) → d.setup.bindings ≡ b → Bound b (with_number (λ (e : Plain). n) (d, r))
+    by_answer d (Ok done) same = same
+    by_answer d (Err e) same = same
+
+    by_stop : (stop : Bool) → Bound b (if stop then stopped_in (taken_back c n left) else with_number (λ (e : Plain). n) (settled (taken_back c n left)
+        (next_of Running call.Transfer (found_at (record { frame = 0; gone = false }) (late_at left.ended (last_laid (taken_back c n left)) (last_channel (taken_back c n left)))))))
+    by_stop true = is
+    by_stop false = by_answer _ _ is
+
+rewind_on-bound : (b : List ℕ) (floor : Cursor) (n : ℕ) (done : Answered (Unit {0})) → Kept b done → All (Bound b) (rewind_on floor [] n done)
+unfolding takes_back
+rewind_on-bound b floor n (c, Ok done) kept = All-after (Bound b) (take_frames c.identity.member c.stretch.card c.setup.bindings (held c [])
+    (c.stretch.committed - back_of c (min n (rewindable_of floor c))) (back_of c (min n (rewindable_of floor c))))
+    (λ left. ends (rewound c (min n (rewindable_of floor c)) left)) (λ left. rewound-bound b c (min n (rewindable_of floor c)) left kept.0)
+rewind_on-bound b floor n (c, Err e) kept = kept.0
+
+rewind-bound : (b : List ℕ) (c : Plain) (floor : Cursor) (n : ℕ) → c.setup.bindings ≡ b → All (Bound b) (rewind_course c [] floor n)
+unfolding rewinds
+rewind-bound b c floor n is = All-if (Bound b) (is_running c.status.state) (rewinds c [] floor n) _
+    (All-then (Kept b) (Bound b) (checks c) (rewind_on floor [] n) (checks-kept b c is) (rewind_on-bound b floor n)) is
+
+pub rewind-named : (b : List ℕ) (wav : Sound) (marks : Marks) (c : Plain) (n : ℕ) → c.setup.bindings ≡ b → All (Bound b) (call_of wav marks c (op.Rewind n))
+rewind-named b wav marks c n is = All-then (Bound b) (Bound b) (admitted c call.Transfer (rewind_course c [] marks.floor n)) (λ done. ends (done.0, count_answer done.1))
+    (by_refusal (refusal_of Playback c.status call.Transfer)) (λ x bound. bound)
+  where
+    by_refusal : (refusal : Option PcmError) → All (Bound b) (admitted_by refusal c (rewind_course c [] marks.floor n))
+    by_refusal None = rewind-bound b c marks.floor n is
+    by_refusal (Some e) = is

@@ -1,0 +1,74 @@
+-- Lists of what each of several members has, with the members' numbers.
+use Rattle.std.proofs.Common.{◌≡◌, ℕ, ◌<◌, ◌≤◌, ◌+◌, refl, sym, ◌∙◌, ap, arith, List, [], ◌∷◌, ◌++◌, length}
+use Rattle.std.proofs.lemmas.Bool.{eq-eqb}
+use Rattle.std.proofs.lemmas.Bool.Decides.{nat_tests}
+use Rattle.std.proofs.lemmas.List.{append-nil, map-append}
+use Rattle.std.proofs.lemmas.List.Concat.{flat_map-append}
+use Rattle.std.proofs.lemmas.List.Elements.{filter-append}
+use Rattle.std.specs.List.{flat_map, range_with_len}
+use Rattle.std.specs.Prelude.{false, zero, suc, nat_eq, filter, map}
+use Rattle.lab_run.specs.LabRun.{numbered}
+
+-- what the member of a number has
+abbrev pub members_of : {Y : Type 0} → ℕ → List (ℕ × Y) → List Y
+members_of {Y = Y} number pairs = map (λ (pair : ℕ × Y). pair.1) (filter (λ (pair : ℕ × Y). nat_eq pair.0 number) pairs)
+
+members-append : {Y : Type 0} (n : ℕ) (xs ys : List (ℕ × Y)) → members_of n (xs ++ ys) ≡ members_of n xs ++ members_of n ys
+members-append n xs ys = ap (map (λ pair. pair.1)) (filter-append _ xs ys) ∙ map-append (λ pair. pair.1) (filter _ xs) (filter _ ys)
+
+members-own : {Y : Type 0} (n : ℕ) (ys : List Y) → members_of n (map (λ y. (n, y)) ys) ≡ ys
+members-own n [] = refl
+members-own n (y ∷ ys) = rw (eq-eqb n n refl) (ap (λ zs. y ∷ zs) (members-own n ys))
+
+members-other : {Y : Type 0} (n m : ℕ) (ys : List Y) → nat_eq m n ≡ false → members_of n (map (λ y. (m, y)) ys) ≡ []
+members-other n m [] is = refl
+members-other n m (y ∷ ys) is = rw is (members-other n m ys is)
+
+numbered-past : {X Y : Type 0} (of : X → List Y) (n number : ℕ) (xs : List X) → n < number → members_of n (numbered of number xs) ≡ []
+numbered-past of n number [] low = refl
+numbered-past of n number (x ∷ xs) low =
+    members-append n (map (λ y. (number, y)) (of x)) (numbered of (number + 1) xs)
+    ∙ ap (λ r. r ++ members_of n (numbered of (number + 1) xs)) (members-other n number (of x) (grind (arith, nat_tests)))
+    ∙ ap (λ r. [] ++ r) (numbered-past of n (number + 1) xs (omega arith))
+
+-- two functions that agree from a number on
+from-range : {A : Type 0} (f g : ℕ → List A) (first n : ℕ) → ((m : ℕ) → first ≤ m → f m ≡ g m)
+    → flat_map f (range_with_len first n) ≡ flat_map g (range_with_len first n)
+from-range f g first zero same = refl
+from-range f g first (suc n) same = ap (λ l. l ++ flat_map f (range_with_len (first + 1) n)) (same first (omega arith))
+    ∙ ap (λ l. g first ++ l) (from-range f g (first + 1) n (λ m low. same m (omega (arith, low))))
+
+flat_map-numbers : {Y A : Type 0} (of : ℕ × Y → List A) (n : ℕ) (ys : List Y) → flat_map of (map (λ y. (n, y)) ys) ≡ flat_map (λ y. of (n, y)) ys
+flat_map-numbers of n [] = refl
+flat_map-numbers of n (y ∷ ys) = ap (λ l. of (n, y) ++ l) (flat_map-numbers of n ys)
+
+-- what is made of a numbered list is what is made of each member's part, one after the other
+pub numbered-parts : {X Y A : Type 0} (has : X → List Y) (of : ℕ × Y → List A) (number : ℕ) (xs : List X)
+    → flat_map of (numbered has number xs)
+    ≡ flat_map (λ n. flat_map (λ y. of (n, y)) (members_of n (numbered has number xs))) (range_with_len number (length xs))
+numbered-parts has of number [] = refl
+numbered-parts {X = X} {Y = Y} {A = A} has of number (x ∷ xs) =
+    flat_map-append of own others
+    ∙ ap (λ l. l ++ flat_map of others) (flat_map-numbers of number (has x))
+    ∙ ap (λ l. flat_map (λ y. of (number, y)) (has x) ++ l) (numbered-parts has of (number + 1) xs)
+    ∙ ap (λ l. flat_map (λ y. of (number, y)) l ++ flat_map (part others) (range_with_len (number + 1) (length xs))) (sym first)
+    ∙ ap (λ l. part (own ++ others) number ++ l) (from-range (part others) (part (own ++ others)) (number + 1) (length xs) after)
+  where
+    own : List (ℕ × Y)
+    own = map (λ y. (number, y)) (has x)
+
+    others : List (ℕ × Y)
+    others = numbered has (number + 1) xs
+
+    part : List (ℕ × Y) → ℕ → List A
+    part pairs n = flat_map (λ y. of (n, y)) (members_of n pairs)
+
+    first : members_of number (own ++ others) ≡ has x
+    first = members-append number own others
+        ∙ ap (λ r. members_of number own ++ r) (numbered-past has number (number + 1) xs (omega arith))
+        ∙ append-nil (members_of number own)
+        ∙ members-own number (has x)
+
+    after : (m : ℕ) → number + 1 ≤ m → part others m ≡ part (own ++ others) m
+    after m low = ap (flat_map (λ y. of (m, y)))
+        (sym (members-append m own others ∙ ap (λ r. r ++ members_of m others) (members-other m number (has x) (grind (arith, nat_tests)))))

@@ -1,0 +1,21 @@
+-- What a run of a script says, all in all.
+use Rattle.std.specs.Prelude.{List, Option}
+use Rattle.wav_io.specs.Sound.{Sound}
+use Rattle.lab_script.specs.declared.script.Script.{Script}
+use Rattle.lab_run.specs.LabRun.{Outcome}
+use Rattle.lab_run.specs.Stage.{Session}
+use Rattle.lab_headline.specs.Clients.{IsSumOfClients}
+use Rattle.lab_headline.specs.Files.{IsMixOfFiles, IsPlacedFrom}
+use Rattle.lab_headline.specs.Late.{LateRowsMiss}
+use Rattle.lab_headline.specs.Recordings.{AreRecordingsOf, ReadersAreBound}
+
+-- The played samples are the saturated sums of exactly the samples that the report's segments placed, which are those of the script and the files; each
+-- client's are there beside those of the others; a late row names a place without a sample of its stretch; and each reader recorded the captured frames
+-- of its runs, one slice in a stretch.
+pub record Headline (script : Script) (wavs : List Sound) (session : Session) (capture : Option Sound) (outcome : Outcome) : Type 0 where
+  pub mix : IsMixOfFiles script wavs outcome.report outcome.played
+  pub placed : IsPlacedFrom script wavs session outcome.report
+  pub clients : IsSumOfClients session outcome.report
+  pub late : LateRowsMiss session script.body outcome.report
+  pub recordings : AreRecordingsOf session capture outcome.report outcome.recorded
+  pub readers : ReadersAreBound script session

@@ -1,0 +1,11 @@
+pub mod Clients
+pub mod Exact
+pub mod Files
+pub mod Headline
+pub mod Late
+pub mod Mix
+pub mod Once
+pub mod OneSession
+pub mod Recordings
+pub mod Shares
+pub mod WorkedRows
