@@ -1,0 +1,89 @@
+-- The beginning of a run: nothing is played, recorded or answered, and so much is written.
+use Rattle.std.specs.Prelude.{◌≡◌, ℕ, suc, ◌+◌, ℤ, List, [], ◌∷◌, ◌++◌, length, map, take, Option}
+use Rattle.std.specs.Option.{option_map}
+use Rattle.std.proofs.Common.{refl, sym, ap, subst, ◌∙◌, arith}
+use Rattle.std.proofs.lemmas.List.{append-nil, length-map}
+use Rattle.wav_io.specs.Sound.{Sound}
+use Rattle.lab_input.specs.Input.{RunInput}
+use Rattle.lab_output.specs.declared.file.OutputFile.{OutputFile}
+use Rattle.lab_output.specs.declared.outputs.Outputs.{Outputs}
+use Rattle.lab_output.specs.Files.{MayHold, nothing, recorded_file}
+use Rattle.lab_output.specs.Going.{IsGoingOn}
+use Rattle.lab_output.specs.Text.{head_text, text_so_far}
+use Rattle.lab_phase.specs.declared.lab.Lab.{Lab}
+use Rattle.lab_phase.specs.AtStage.{capture_of, session_of}
+use Rattle.lab_phase.specs.PhaseRuns.{Stops}
+use Rattle.lab_phase.specs.StopLaws.{AreStopsOf-first}
+use Rattle.lab_run.specs.LabRun.{recorded_from}
+use Rattle.lab_run.specs.Openings.{AreReaderOpenings}
+use Rattle.lab_run.specs.Stage.{Session, Setup, Stage, first_stage, no_reader}
+use Rattle.lab_script.specs.declared.script.CardLine.{CardLine}
+use Rattle.lab_script.specs.declared.script.ReaderLine.{ReaderLine}
+use Rattle.lab_script.specs.declared.script.Script.{Script}
+use Rattle.lab_shelf.specs.Changes.{Changes}
+use Rattle.lab_shelf.specs.Files.{Files, TookPart}
+use Rattle.lab_play.specs.Ends.{IsNewRun}
+use Rattle.lab_play.specs.Playing.{IsLabOf, IsPlaying, IsStopped, Start, scene, sounds_at}
+use Rattle.lab_play.proofs.ItemsStopped.{HasStopped-at}
+
+-- a session has as many readers as its script
+readers-length : (card : CardLine) (lines : List ReaderLine) (setups : List (Option Setup)) → AreReaderOpenings card lines setups → length lines ≡ length setups
+readers-length card [] [] are = refl
+readers-length card (line ∷ lines) (setup ∷ setups) are = ap suc (readers-length card lines setups are.1)
+readers-length card [] (setup ∷ setups) are = absurd are
+readers-length card (line ∷ lines) [] are = absurd are
+
+-- readers that were never open recorded nothing
+nothing-recorded : (session : Session) (capture : Option Sound) (number : ℕ) (outputs : List OutputFile) (setups : List (Option Setup)) → length outputs ≡ length setups
+    → nothing outputs ≡ recorded_from session capture number (map (λ setup. no_reader session.ring) setups)
+nothing-recorded session capture number [] [] same = refl
+nothing-recorded session capture number (output ∷ outputs) (setup ∷ setups) same =
+    ap (λ (sounds : List (List ℤ)). [] ∷ sounds) (nothing-recorded session capture (number + 1) outputs setups (omega (arith, same)))
+nothing-recorded session capture number [] (setup ∷ setups) same = absurd (omega (arith, same))
+nothing-recorded session capture number (output ∷ outputs) [] same = absurd (omega (arith, same))
+
+module _ (input : RunInput) (name : List ℕ) (stops : Stops) (lab : Lab) (outputs : Outputs) (before : Option Files) (taken : Option (List ℕ)) (is : IsNewRun input name lab outputs) where
+  abbrev pub start-of : Start
+  start-of = record { input = input; out = name; stops = stops; files = before; taken = taken }
+
+  abbrev first : Stage
+  first = first_stage (session_of lab)
+
+  lab-first : IsLabOf start-of stops lab first
+  lab-first = record { script_is = is.script_is; stage_is = is.first; counted = AreStopsOf-first stops (session_of lab) }
+
+  sounds-first : nothing outputs.files.items ≡ sounds_at lab first
+  sounds-first =
+      let script : Script = input.script in
+      let recorded : List OutputFile = map (recorded_file script.card name) script.readers in
+      let len : length recorded ≡ length (session_of lab).readers =
+      length-map script.readers (recorded_file script.card name) ∙ readers-length script.card script.readers (session_of lab).readers is.script_is.session_is.readers in
+      ap nothing is.new.files
+      ∙ (ap (λ (sounds : List (List ℤ)). [] ∷ sounds) (nothing-recorded (session_of lab) (capture_of lab) 0 recorded (session_of lab).readers len)
+      ∙ ap (λ (xs : List ℤ). xs ∷ recorded_from (session_of lab) (capture_of lab) 0 first.readers) (sym is.silent))
+
+  -- the files have their open heads, and the first line of the report is put
+  pub IsPlaying-first : (files : Option Files) (taken_after : Option (List ℕ)) → IsGoingOn outputs.files.items outputs.samples.items (nothing outputs.files.items) before files
+      → taken_after ≡ option_map (λ t. t ++ head_text) taken → IsPlaying start-of stops (scene lab outputs files taken_after)
+  IsPlaying-first files taken_after going text = record {
+    stage = first;
+    lab_is = lab-first;
+    written = record {
+      outputs_are = is.outputs_are;
+      files_are = is.new.files;
+      going_on = subst (λ (sounds : List (List ℤ)). IsGoingOn outputs.files.items outputs.samples.items sounds before files) sounds-first going;
+      few = let none = is.new.rows in omega (arith, none);
+      text = text
+          ∙ (ap (λ (line : List ℕ). option_map (λ t. t ++ line) taken) (sym (append-nil head_text))
+          ∙ ap (λ (k : ℕ). option_map (λ t. t ++ text_so_far input.script (take k [])) taken) (sym is.new.rows));
+    };
+  }
+
+  -- some of that is missing
+  pub IsStopped-first : (files : Option Files) (taken_after : Option (List ℕ)) → Changes (MayHold outputs.files.items (nothing outputs.files.items)) before files
+      → TookPart taken taken_after head_text → IsStopped start-of files taken_after
+  IsStopped-first files taken_after changes part =
+      HasStopped-at start-of stops lab first files taken_after lab-first
+      (subst (λ (outs : List OutputFile). Changes (MayHold outs (sounds_at lab first)) before files) is.new.files
+      (subst (λ (sounds : List (List ℤ)). Changes (MayHold outputs.files.items sounds) before files) sounds-first changes))
+      (subst (λ (text : List ℕ). TookPart taken taken_after text) (sym (append-nil head_text)) part)

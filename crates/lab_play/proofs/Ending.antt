@@ -1,0 +1,168 @@
+-- The end of a run: what is written last, and that it is what a run leaves.
+use Rattle.std.specs.Prelude.{◌≡◌, ℕ, ◌≤◌, ℤ, List, [], ◌∷◌, ◌++◌, drop, length, take, Option, Some, None, Result, Ok, Err}
+use Rattle.std.specs.List.{flat_map}
+use Rattle.std.specs.Option.{option_map}
+use Rattle.std.specs.Result.{IsErrAnd}
+use Rattle.std.proofs.Common.{refl, sym, ap, subst, ◌∙◌, arith, append_assoc}
+use Rattle.std.proofs.lemmas.List.{length-append, take-append-drop}
+use Rattle.std.proofs.lemmas.List.Concat.{flat_map-append}
+use Rattle.wav_io.specs.Sound.{Sound}
+use Rattle.lab_headline.specs.Headline.{Headline}
+use Rattle.lab_output.specs.declared.file.OutputFile.{OutputFile}
+use Rattle.lab_output.specs.declared.outputs.Outputs.{Outputs}
+use Rattle.lab_output.specs.Files.{MayHold, output_files, stored}
+use Rattle.lab_output.specs.Text.{head_text, tail_from, text_so_far}
+use Rattle.lab_phase.specs.declared.finish.Outcome as left
+use Rattle.lab_phase.specs.declared.lab.Lab.{Lab}
+use Rattle.lab_phase.specs.AtStage.{capture_of, items_done, played_of, session_of}
+use Rattle.lab_phase.specs.Ended.{LeavesRun, LeavesStage, outcome_in}
+use Rattle.lab_phase.specs.PhaseRuns.{Stops}
+use Rattle.lab_phase.specs.StopLaws.{AreWithin-counted}
+use Rattle.lab_report.specs.declared.report.Report.{Report}
+use Rattle.lab_report.specs.declared.row.Row.{Row}
+use Rattle.lab_report.specs.Text.{IsReportOf, report_text, row_line, tail_text}
+use Rattle.lab_rows.specs.Reports.{OutcomesAreOfScripts}
+use Rattle.lab_run.specs.LabRun.{LabRun, Outcome, outcome_of, recorded_from}
+use Rattle.lab_run.specs.Openings.{IsSessionOf}
+use Rattle.lab_run.specs.Stage.{Session, Stage}
+use Rattle.lab_script.specs.declared.line.Item.{Item}
+use Rattle.lab_script.specs.declared.script.Script.{Script}
+use Rattle.lab_script.specs.Limits.{IsScript}
+use Rattle.lab_shelf.specs.Changes.{Changes, TookPart-all, TookPart-then}
+use Rattle.lab_shelf.specs.Files.{Files, TookPart}
+use Rattle.lab_stop.specs.declared.stop.Stop.{Stop}
+use Rattle.lab_play.specs.Played.{HasPlayed, rises, sounds_of}
+use Rattle.lab_play.specs.Playing.{IsPlaying, IsStopped, Scene, Start, scene, sounds_at, text_at}
+use Rattle.lab_play.proofs.ItemsStopped.{HasStopped-at, HasStopped-with, TookPart-rows}
+
+-- what a law says of each run
+abbrev pub RunFacts : Type 0
+RunFacts =
+    (script : Script) (wavs : List Sound) (session : Session) (capture : Option Sound) (client_stops reader_stops : ℕ → ℕ) (outcome : Outcome)
+    → IsSessionOf script wavs session → LabRun session capture script.body client_stops reader_stops outcome → Headline script wavs session capture outcome
+
+-- ---- the text
+
+-- the rows so far, the rest of them, and what is below them are the whole text
+text-whole : (script : Script) (report : Report) (k : ℕ) → text_so_far script (take k report.rows) ++ tail_from script k report ≡ report_text script report
+text-whole script report k =
+    let first : List ℕ = flat_map (row_line script) (take k report.rows) in
+    let more : List ℕ = flat_map (row_line script) (drop k report.rows) in
+    let end : List ℕ = tail_text script report in
+    let all : first ++ more ≡ flat_map (row_line script) report.rows =
+    sym (flat_map-append (row_line script) (take k report.rows) (drop k report.rows)) ∙ ap (flat_map (row_line script)) (take-append-drop k report.rows) in
+    let joined : (head_text ++ first) ++ (more ++ end) ≡ head_text ++ (first ++ more) ++ end = simp append_assoc in
+    joined ∙ ap (λ (rows : List ℕ). head_text ++ rows ++ end) all
+
+-- what the output took before and took then
+option_map-then : (taken : Option (List ℕ)) (first more : List ℕ) → option_map (λ t. t ++ more) (option_map (λ t. t ++ first) taken) ≡ option_map (λ t. t ++ (first ++ more)) taken
+option_map-then None first more = refl
+option_map-then (Some taken) first more = ap Some (append_assoc taken first more)
+
+-- no item is left
+none-left : (done others : List Item) → length done ≡ length (done ++ others) → others ≡ []
+none-left done [] all = refl
+none-left done (one ∷ others) all = let len = length-append done (one ∷ others) in absurd (omega (arith, len, all))
+
+-- ---- a run whose items are all done
+
+module _ (start : Start) (stops : Stops) (lab : Lab) (outputs : Outputs) (files : Option Files) (taken : Option (List ℕ)) (is : IsPlaying start stops (scene lab outputs files taken))
+    (all : items_done lab ≡ length start.input.script.body) (outcome : left.Outcome) (leaves : LeavesStage lab outcome) (runs : LeavesRun lab outcome)
+    (samples : outcome.played.items ≡ played_of lab) where
+  stage : Stage
+  stage = is.stage
+
+  at-end : outcome_in outcome ≡ outcome_of (session_of lab) (capture_of lab) is.stage
+  at-end = leaves is.stage is.lab_is.stage_is
+
+  rows-at_end : outcome.report.rows ≡ is.stage.rows
+  rows-at_end = ap (λ (o : Outcome). o.report.rows) at-end
+
+  sounds-at_end : sounds_at lab is.stage ≡ sounds_of (outcome_in outcome)
+  sounds-at_end =
+      ap (λ (xs : List ℤ). xs ∷ recorded_from (session_of lab) (capture_of lab) 0 is.stage.readers) (sym samples)
+      ∙ ap (λ (xss : List (List ℤ)). outcome.played.items ∷ xss) (sym (ap (λ (o : Outcome). o.recorded) at-end))
+
+  run-at_end : LabRun (session_of lab) start.input.capture start.input.script.body (rises start.stops stops).clients (rises start.stops stops).readers (outcome_in outcome)
+  run-at_end =
+      let own = is.lab_is.script_is in
+      let counted = is.lab_is.counted in
+      subst (λ (capture : Option Sound). LabRun (session_of lab) capture start.input.script.body (rises start.stops stops).clients (rises start.stops stops).readers (outcome_in outcome))
+      own.capture_is
+      (subst (λ (s : Script). LabRun (session_of lab) (capture_of lab) s.body (rises start.stops stops).clients (rises start.stops stops).readers (outcome_in outcome)) own.script_is
+      (runs is.stage (rises start.stops stops).clients (rises start.stops stops).readers is.lab_is.stage_is
+      (AreWithin-counted start.stops.clients stops.clients 0 is.stage.clients counted.clients)
+      (AreWithin-counted start.stops.readers stops.readers 0 is.stage.readers counted.readers)))
+
+  pub report-at_end : OutcomesAreOfScripts → IsReportOf start.input.script outcome.report
+  report-at_end laws =
+      let own = is.lab_is.script_is in
+      let valid : IsScript start.input.script = subst IsScript own.script_is is.lab_is.stage_is.has_done.reached.script_is in
+      (laws start.input.script start.input.sounds (session_of lab) start.input.capture (rises start.stops stops).clients (rises start.stops stops).readers (outcome_in outcome) valid
+      own.session_is run-at_end).report
+
+  pub rows-few : outputs.rows ≤ length outcome.report.rows
+  rows-few = subst (λ (rows : List Row). outputs.rows ≤ length rows) (sym rows-at_end) is.written.few
+
+  text-written : taken ≡ option_map (λ t. t ++ text_so_far start.input.script (take outputs.rows outcome.report.rows)) start.taken
+  text-written =
+      is.written.text ∙ ap (λ (rows : List Row). option_map (λ t. t ++ text_so_far start.input.script (take outputs.rows rows)) start.taken) (sym rows-at_end)
+
+  -- all is written
+  pub HasPlayed-end : (facts : RunFacts) (files_after : Option Files) (taken_after : Option (List ℕ)) → files_after ≡ option_map (stored outputs.files.items (sounds_at lab is.stage)) start.files
+      → taken_after ≡ option_map (λ t. t ++ tail_from start.input.script outputs.rows outcome.report) taken
+      → HasPlayed start.input start.out (rises start.stops stops) start.files files_after start.taken taken_after
+  HasPlayed-end facts files_after taken_after files_are text = record {
+    session = session_of lab;
+    outcome = outcome_in outcome;
+    is = record {
+      session_is = is.lab_is.script_is.session_is;
+      run = run-at_end;
+      headline = facts start.input.script start.input.sounds (session_of lab) start.input.capture (rises start.stops stops).clients (rises start.stops stops).readers (outcome_in outcome)
+          is.lab_is.script_is.session_is run-at_end;
+    };
+    files = files_are
+        ∙ (ap (λ (outs : List OutputFile). option_map (stored outs (sounds_at lab is.stage)) start.files) is.written.files_are
+        ∙ ap (λ (sounds : List (List ℤ)). option_map (stored (output_files start.input.script start.out) sounds) start.files) sounds-at_end);
+    text = text
+        ∙ (ap (option_map (λ t. t ++ tail_from start.input.script outputs.rows outcome.report)) text-written
+        ∙ (option_map-then start.taken (text_so_far start.input.script (take outputs.rows outcome.report.rows)) (tail_from start.input.script outputs.rows outcome.report)
+        ∙ ap (λ (text : List ℕ). option_map (λ t. t ++ text) start.taken) (text-whole start.input.script outcome.report outputs.rows)));
+  }
+
+  changes-end : (files_after : Option Files) → Changes (MayHold outputs.files.items (sounds_at lab is.stage)) start.files files_after
+      → Changes (MayHold (output_files start.input.script start.out) (sounds_at lab is.stage)) start.files files_after
+  changes-end files_after changes = subst (λ (outs : List OutputFile). Changes (MayHold outs (sounds_at lab is.stage)) start.files files_after) is.written.files_are changes
+
+  -- the files aren't all finished
+  pub IsStopped-finish : (files_after : Option Files) → Changes (MayHold outputs.files.items (sounds_at lab is.stage)) start.files files_after → IsStopped start files_after taken
+  IsStopped-finish files_after changes =
+      HasStopped-at start stops lab is.stage files_after taken is.lab_is (changes-end files_after changes)
+      (TookPart-rows start.input.script is.stage.rows outputs.rows start.taken taken (TookPart-all start.taken taken _ is.written.text))
+
+  -- the rest of the text isn't all put
+  pub IsStopped-tail : (files_after : Option Files) (taken_after : Option (List ℕ)) → Changes (MayHold outputs.files.items (sounds_at lab is.stage)) start.files files_after
+      → TookPart taken taken_after (tail_from start.input.script outputs.rows outcome.report) → IsStopped start files_after taken_after
+  IsStopped-tail files_after taken_after changes part =
+      let has = is.lab_is.stage_is.has_done in
+      let own = is.lab_is.script_is in
+      let body : length has.done ≡ length (has.done ++ has.others) =
+      sym has.next ∙ (all ∙ (ap (λ (s : Script). length s.body) (sym own.script_is) ∙ ap length has.reached.body)) in
+      HasStopped-with start stops lab is.stage files_after taken_after is.lab_is (changes-end files_after changes)
+      (subst (λ (others : List Item). TookPart start.taken taken_after (text_at start.input.script (session_of lab) others is.stage)) (sym (none-left has.done has.others body))
+      (subst (λ (report : Report). TookPart start.taken taken_after (report_text start.input.script report)) (ap (λ (o : Outcome). o.report) at-end)
+      (subst (λ (text : List ℕ). TookPart start.taken taken_after text) (text-whole start.input.script outcome.report outputs.rows)
+      (TookPart-then start.taken taken taken_after (text_so_far start.input.script (take outputs.rows outcome.report.rows)) (tail_from start.input.script outputs.rows outcome.report)
+      text-written part))))
+
+-- ---- results
+
+-- a call stops as the one in it did
+pub stop-passed : {X : Type 0} (r : Result X Stop) (e stop : Stop) → IsErrAnd r (λ x. x ≡ e) → r ≡ Err stop → e ≡ stop
+stop-passed (Ok x) e stop is same = absurd is
+stop-passed (Err x) e stop is same = sym is ∙ (let inner : x ≡ stop = cc in inner)
+
+-- two runs that are at one moment have one script
+pub same-script : (script : Script) (start other : Start) (stops other_stops : Stops) (at : Scene) → start.input.script ≡ script → IsPlaying start stops at → IsPlaying other other_stops at
+    → script ≡ other.input.script
+same-script script start other stops other_stops at same is also = sym same ∙ (sym is.lab_is.script_is.script_is ∙ also.lab_is.script_is.script_is)

@@ -1,0 +1,120 @@
+-- What is left of a run that stops: its lab was at a stage, of which it is known what the files and the output may hold.
+--     HasStopped-at      by what the files and the output hold
+--     HasStopped-playing      where nothing was written since all that the lab holds was written
+use Rattle.std.specs.Prelude.{◌≡◌, ℕ, ◌-◌, ◌*◌, ℤ, List, [], ◌∷◌, ◌++◌, drop, length, take, Option, Some, None, IsSomeAnd}
+use Rattle.std.specs.List.{flat_map}
+use Rattle.std.proofs.Common.{sym, ap, subst, ◌∙◌, append_assoc}
+use Rattle.std.proofs.lemmas.List.{take-append-drop}
+use Rattle.std.proofs.lemmas.List.Concat.{flat_map-append}
+use Rattle.snd_base.specs.Places as rings
+use Rattle.wav_io.specs.Sound.{Sound}
+use Rattle.lab_script.specs.declared.line.Item.{Item}
+use Rattle.lab_script.specs.declared.script.Script.{Script}
+use Rattle.lab_script.specs.Script.{first_frame}
+use Rattle.lab_report.specs.declared.row.Row.{Row}
+use Rattle.lab_report.specs.Text.{row_line, tail_text}
+use Rattle.lab_run.specs.LabRun.{recorded_from, report_of}
+use Rattle.lab_run.specs.Openings.{IsSessionOf}
+use Rattle.lab_run.specs.ScriptWords.{IsReached}
+use Rattle.lab_run.specs.Stage.{Session, Stage}
+use Rattle.lab_card.specs.declared.card.CardActor.{CardActor}
+use Rattle.lab_card.specs.Moves.{frames_since_first, geometry_of_card}
+use Rattle.lab_phase.specs.declared.lab.Lab.{Lab}
+use Rattle.lab_phase.specs.AtStage.{IsCardOf, capture_of, played_by, played_of, session_of}
+use Rattle.lab_phase.specs.CardStage.{IsCardIn}
+use Rattle.lab_phase.specs.PhaseRuns.{Stops}
+use Rattle.lab_output.specs.declared.file.OutputFile.{OutputFile}
+use Rattle.lab_output.specs.Files.{MayHold, output_files}
+use Rattle.lab_output.specs.GoingLaws.{AreLonger-same, IsGoingOn-Changes}
+use Rattle.lab_output.specs.Text.{head_text, text_so_far}
+use Rattle.lab_shelf.specs.Changes.{Changes, TookPart-all, TookPart-first}
+use Rattle.lab_shelf.specs.Files.{Files, TookPart}
+use Rattle.lab_play.specs.Playing.{IsLabOf, IsPlaying, IsStopped, Scene, Start, sounds_at, text_at}
+
+-- ---- what its card played
+
+-- a card at a stage played the frames from the first one to the stage's position
+frames-actor : (script : Script) (wavs : List Sound) (session : Session) (capture : Option Sound) (stage : Stage) (a : CardActor) → IsSessionOf script wavs session
+    → IsCardIn session capture stage a → length a.played.items ≡ (stage.position - first_frame script.card) * script.card.channels
+frames-actor script wavs session capture stage a is own =
+    let first : rings.first_frame (geometry_of_card a.card) ≡ first_frame script.card =
+    ap rings.first_frame own.at.ring
+    ∙ (ap (λ (n : ℕ). n * session.ring.frames) is.ring.first_lap ∙ ap (λ (n : ℕ). script.card.lap * n) is.ring.frames) in
+    let frames : frames_since_first a.card ≡ stage.position - first_frame script.card =
+    ap (λ (n : ℕ). n - rings.first_frame (geometry_of_card a.card)) own.at.frame ∙ ap (λ (n : ℕ). stage.position - n) first in
+    let channels : (geometry_of_card a.card).channels ≡ script.card.channels = ap (λ g. g.channels) own.at.ring ∙ is.ring.channels in
+    own.plays.len
+    ∙ (ap (λ (n : ℕ). n * (geometry_of_card a.card).channels) frames ∙ ap (λ (n : ℕ). (stage.position - first_frame script.card) * n) channels)
+
+pub frames-card : (script : Script) (wavs : List Sound) (session : Session) (capture : Option Sound) (stage : Stage) (P : CardActor → Type 0) (card : Option CardActor)
+    → IsSessionOf script wavs session → ((a : CardActor) → P a → IsCardIn session capture stage a) → IsSomeAnd card P
+    → length (played_by card) ≡ (stage.position - first_frame script.card) * script.card.channels
+frames-card script wavs session capture stage P None is in_card own = absurd own
+frames-card script wavs session capture stage P (Some a) is in_card own = frames-actor script wavs session capture stage a is (in_card a own)
+
+-- ---- the report's text
+
+-- the first rows' text is the beginning of the text of all rows
+pub TookPart-rows : (script : Script) (rows : List Row) (n : ℕ) (taken now : Option (List ℕ)) → TookPart taken now (text_so_far script (take n rows))
+    → TookPart taken now (text_so_far script rows)
+TookPart-rows script rows n taken now part =
+    subst (λ (text : List ℕ). TookPart taken now text)
+    (append_assoc head_text (flat_map (row_line script) (take n rows)) (flat_map (row_line script) (drop n rows))
+    ∙ (ap (λ (text : List ℕ). head_text ++ text) (sym (flat_map-append (row_line script) (take n rows) (drop n rows)))
+    ∙ ap (λ (some : List Row). text_so_far script some) (take-append-drop n rows)))
+    (TookPart-first taken now (text_so_far script (take n rows)) (flat_map (row_line script) (drop n rows)) part)
+
+-- the text of a stage's rows is the beginning of the text of a report of a run that reached it
+pub TookPart-stage : (script : Script) (session : Session) (others : List Item) (stage : Stage) (taken now : Option (List ℕ))
+    → TookPart taken now (text_so_far script stage.rows) → TookPart taken now (text_at script session others stage)
+TookPart-stage script session [] stage taken now part =
+    subst (λ (text : List ℕ). TookPart taken now text)
+    (append_assoc head_text (flat_map (row_line script) stage.rows) (tail_text script (report_of session stage)))
+    (TookPart-first taken now (text_so_far script stage.rows) (tail_text script (report_of session stage)) part)
+TookPart-stage script session (one ∷ others) stage taken now part = part
+
+-- ---- a run that stopped
+
+-- its lab is at a stage, its files have forms of the lab's samples, and the output took the first bytes of the text of a report at that stage
+pub HasStopped-with : (start : Start) (stops : Stops) (lab : Lab) (stage : Stage) (files : Option Files) (taken : Option (List ℕ)) → (is : IsLabOf start stops lab stage)
+    → Changes (MayHold (output_files start.input.script start.out) (sounds_at lab stage)) start.files files
+    → TookPart start.taken taken (text_at start.input.script (session_of lab) is.stage_is.has_done.others stage) → IsStopped start files taken
+HasStopped-with start stops lab stage files taken is changes part =
+    let own = is.script_is in
+    let has = is.stage_is.has_done in
+    record {
+      session = session_of lab;
+      session_is = own.session_is;
+      done = has.done;
+      others = has.others;
+      stage = stage;
+      reached = subst (λ (s : Script). IsReached s start.input.sounds (session_of lab) has.done has.others stage) own.script_is
+          (subst (λ (wavs : List Sound). IsReached lab.script.now wavs (session_of lab) has.done has.others stage) own.wavs_are has.reached);
+      played = played_of lab;
+      frames = frames-card start.input.script start.input.sounds (session_of lab) (capture_of lab) stage
+          (IsCardOf (session_of lab) (capture_of lab) stage lab.clients lab.readers) lab.card own.session_is (λ a is_card. is_card.is) is.stage_is.actors.card_is;
+      changes = subst
+          (λ (capture : Option Sound). Changes
+          (MayHold (output_files start.input.script start.out) (played_of lab ∷ recorded_from (session_of lab) capture 0 stage.readers)) start.files files)
+          own.capture_is changes;
+      text = part;
+    }
+
+-- the output took the first bytes of the text of the lab's rows
+pub HasStopped-at : (start : Start) (stops : Stops) (lab : Lab) (stage : Stage) (files : Option Files) (taken : Option (List ℕ)) → IsLabOf start stops lab stage
+    → Changes (MayHold (output_files start.input.script start.out) (sounds_at lab stage)) start.files files
+    → TookPart start.taken taken (text_so_far start.input.script stage.rows) → IsStopped start files taken
+HasStopped-at start stops lab stage files taken is changes part =
+    HasStopped-with start stops lab stage files taken is changes
+    (TookPart-stage start.input.script (session_of lab) is.stage_is.has_done.others stage start.taken taken part)
+
+-- nothing was written since all that its lab holds was written
+pub HasStopped-playing : (start : Start) (stops : Stops) (at : Scene) → IsPlaying start stops at → IsStopped start at.files at.taken
+HasStopped-playing start stops at is =
+    let written = is.written in
+    let sounds : List (List ℤ) = sounds_at at.lab is.stage in
+    HasStopped-at start stops at.lab is.stage at.files at.taken is.lab_is
+    (subst (λ (outputs : List OutputFile). Changes (MayHold outputs sounds) start.files at.files) written.files_are
+    (IsGoingOn-Changes at.outputs.files.items at.outputs.samples.items sounds sounds start.files at.files written.going_on (AreLonger-same sounds)))
+    (TookPart-rows start.input.script is.stage.rows at.outputs.rows start.taken at.taken
+    (TookPart-all start.taken at.taken (text_so_far start.input.script (take at.outputs.rows is.stage.rows)) written.text))

@@ -1,0 +1,7 @@
+mod Beginning
+mod Ending
+mod ItemsDone
+mod ItemsResults
+mod ItemsStopped
+mod Writing
+mod WritingPhase

@@ -1,0 +1,51 @@
+use Rattle.std.specs.Prelude.{ℕ, ◌+◌, List, length, slice_get}
+use Rattle.std.proofs.Common.{refl, sym, ap, ◌∙◌}
+use Rattle.std.proofs.lemmas.Option.{slice_get_read}
+use Rattle.lab_script.specs.declared.line.Item.{Item}
+use Rattle.lab_phase.specs.AtStage.{IsNext-at}
+use Rattle.lab_phase.specs.PhaseRuns.{stops_by}
+use Rattle.lab_play.specs.Playing.{Scene, StopsWith, scene}
+use Rattle.lab_play.proofs.ItemsResults.{OnErr-all, stopped-with}
+use Rattle.lab_play.proofs.items.do_items.Goals as goal
+
+pub do_item-requires-clause-playing : goal.do_item-requires-clause-playing
+do_item-requires-clause-playing g c κs within =
+    let playing = c.requires.playing in
+    record { start = playing.start; script_is = playing.script_is; is = c.loop-index.invariant.goes_on playing.start playing.is }
+
+pub do_item-requires-clause-next : goal.do_item-requires-clause-next
+do_item-requires-clause-next g c κs within =
+    let playing = c.requires.playing in
+    let now = c.loop-index.invariant.goes_on playing.start playing.is in
+    IsNext-at c.loop-index.lab c.args.script.now c.loop-index.index c.index-items-index.result (now.lab_is.script_is.script_is ∙ playing.script_is)
+    c.loop-index.invariant.done
+    (ap (λ (items : List Item). slice_get items c.loop-index.index) (sym c.as_slice-items.ensures)
+    ∙ slice_get_read c.as_slice-items.result.now (length c.as_slice-items.result.now) c.loop-index.index c.index-items-index.result refl c.loop-index-test.true
+    c.index-items-index.is)
+
+pub returns-in_err-do_item-clause-part : goal.returns-in_err-do_item-clause-part
+returns-in_err-do_item-clause-part g c =
+    let before : Scene = scene c.args.lab.now c.args.outputs.now (g.S.Shelf.files c.args.shelf.now) (g.K.Sink.taken c.args.out.now) in
+    OnErr-all
+    (StopsWith (stops_by g.G.Gate.stops c.args.gates.now) before (g.S.Shelf.files c.do_item.new.shelf) (g.K.Sink.taken c.do_item.new.out)) c.from_residual.result
+    (λ start is. c.in_err-do_item.ensures.part start (c.loop-index.invariant.goes_on start is))
+
+pub returns-in_err-do_item-clause-never : goal.returns-in_err-do_item-clause-never
+returns-in_err-do_item-clause-never g c shelf_reliable out_reliable known =
+    let so_far = c.loop-index.invariant in
+    λ at_write. c.in_err-do_item.ensures.never (so_far.reliable shelf_reliable) (so_far.reliable_out out_reliable)
+    (record { start = known.start; is = so_far.goes_on known.start known.is; known = known.known })
+    (sym (stopped-with c.from_residual.result c.in_err-do_item.field-0.0 c.from_residual.ensures.1) ∙ at_write)
+
+pub loop-index-preserved : goal.loop-index-preserved
+loop-index-preserved g c =
+    let so_far = c.loop-index.invariant in
+    let item = c.in_ok-do_item.ensures in
+    record {
+      goes_on = λ start is. item.done start (so_far.goes_on start is);
+      done = item.next ∙ ap (λ (n : ℕ). n + 1) so_far.done;
+      fetch_faults = item.fetch_faults ∙ so_far.fetch_faults;
+      faults = record { writes_same = item.faults.writes_same ∙ so_far.faults.writes_same; puts_same = item.faults.puts_same ∙ so_far.faults.puts_same };
+      reliable = λ is. item.reliable (so_far.reliable is);
+      reliable_out = λ is. item.reliable_out (so_far.reliable_out is);
+    }

@@ -1,0 +1,21 @@
+-- The run has gone on since the call, and the items before the index are done.
+use Rattle.std.proofs.Common.{◌≡◌}
+use Rattle.lab_phase.specs.AtStage.{items_done}
+use Rattle.lab_phase.specs.PhaseRuns.{stops_by}
+use Rattle.lab_play.specs.Counts.{AreSameCounts}
+use Rattle.lab_play.specs.Playing.{GoesOn, scene}
+use Rattle.lab_play.proofs.items.do_items.Given as goal
+
+abbrev pub invariant-loop-index : goal.invariant-loop-index
+invariant-loop-index g l = record {
+  goes_on : GoesOn
+      (stops_by g.G.Gate.stops l.fn.gates)
+      (scene l.fn.lab l.fn.outputs (g.S.Shelf.files l.fn.shelf) (g.K.Sink.taken l.fn.out))
+      (stops_by g.G.Gate.stops l.gates)
+      (scene l.lab l.outputs (g.S.Shelf.files l.shelf) (g.K.Sink.taken l.out));
+  done : items_done l.lab ≡ l.index;
+  fetch_faults : g.S.Shelf.fetch_faults l.shelf ≡ g.S.Shelf.fetch_faults l.fn.shelf;
+  faults : AreSameCounts (g.S.Shelf.write_faults l.fn.shelf) (g.S.Shelf.write_faults l.shelf) (g.K.Sink.faults l.fn.out) (g.K.Sink.faults l.out);
+  reliable : g.S.Shelf.is_reliable l.fn.shelf → g.S.Shelf.is_reliable l.shelf;
+  reliable_out : g.K.Sink.is_reliable l.fn.out → g.K.Sink.is_reliable l.out;
+}

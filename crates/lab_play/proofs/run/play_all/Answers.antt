@@ -1,0 +1,133 @@
+use Rattle.std.specs.Prelude.{ℕ, List, Option, Err}
+use Rattle.std.proofs.Common.{ap, ◌∙◌}
+use Rattle.lab_input.specs.Input.{RunInput}
+use Rattle.lab_phase.specs.BorderLaws.{OnOk-more}
+use Rattle.lab_phase.specs.PhaseRuns.{Stops, stops_by}
+use Rattle.lab_shelf.specs.Files.{Files}
+use Rattle.lab_stop.specs.declared.stop.Stop.TheVariants as stop
+use Rattle.lab_play.specs.Ends.{EndsWith, IsNewRun, StopsAtEnd}
+use Rattle.lab_play.specs.Played.{HasPlayed, rises}
+use Rattle.lab_play.specs.Playing.{HasStopped, Scene, scene}
+use Rattle.lab_play.proofs.Beginning.{IsPlaying-first, IsStopped-first, start-of}
+use Rattle.lab_play.proofs.Ending.{stop-passed}
+use Rattle.lab_play.proofs.ItemsResults.{OnErr-all, OnErr-more}
+use Rattle.lab_play.proofs.run.play_all.Goals as goal
+
+pub returns-in_err-begin-clause-part : goal.returns-in_err-begin-clause-part
+returns-in_err-begin-clause-part g c =
+    let stops : Stops = stops_by g.G.Gate.stops c.args.gates.now in
+    let files : Option Files = g.S.Shelf.files c.args.shelf.now in
+    let taken : Option (List ℕ) = g.K.Sink.taken c.args.out.now in
+    OnErr-all
+    ((input : RunInput) (name : List ℕ) → IsNewRun input name c.args.lab c.args.outputs
+    → HasStopped input name files (g.S.Shelf.files c.begin.new.shelf) taken (g.K.Sink.taken c.begin.new.out))
+    c.from_residual.result
+    (λ input name is. IsStopped-first input name stops c.args.lab c.args.outputs files taken is (g.S.Shelf.files c.begin.new.shelf) (g.K.Sink.taken c.begin.new.out)
+    c.in_err-begin.ensures.changes c.in_err-begin.ensures.text)
+
+pub do_items-requires-clause-playing : goal.do_items-requires-clause-playing
+do_items-requires-clause-playing g c κs within =
+    let stops : Stops = stops_by g.G.Gate.stops c.args.gates.now in
+    let files : Option Files = g.S.Shelf.files c.args.shelf.now in
+    let taken : Option (List ℕ) = g.K.Sink.taken c.args.out.now in
+    let new = c.requires.new in
+    record {
+      start = start-of new.input new.out stops c.args.lab c.args.outputs files taken new.is;
+      script_is = new.script_is;
+      is = IsPlaying-first new.input new.out stops c.args.lab c.args.outputs files taken new.is (g.S.Shelf.files c.begin.new.shelf) (g.K.Sink.taken c.begin.new.out)
+          c.in_ok-begin.ensures.going_on c.in_ok-begin.ensures.taken;
+    }
+
+pub returns-in_err-do_items-clause-part : goal.returns-in_err-do_items-clause-part
+returns-in_err-do_items-clause-part g c =
+    let stops : Stops = stops_by g.G.Gate.stops c.args.gates.now in
+    let files : Option Files = g.S.Shelf.files c.args.shelf.now in
+    let taken : Option (List ℕ) = g.K.Sink.taken c.args.out.now in
+    OnErr-all
+    ((input : RunInput) (name : List ℕ) → IsNewRun input name c.args.lab c.args.outputs
+    → HasStopped input name files (g.S.Shelf.files c.do_items.new.shelf) taken (g.K.Sink.taken c.do_items.new.out))
+    c.from_residual-in_err-do_items.result
+    (λ input name is. c.in_err-do_items.ensures.part (start-of input name stops c.args.lab c.args.outputs files taken is)
+    (IsPlaying-first input name stops c.args.lab c.args.outputs files taken is (g.S.Shelf.files c.begin.new.shelf) (g.K.Sink.taken c.begin.new.out) c.in_ok-begin.ensures.going_on
+    c.in_ok-begin.ensures.taken))
+
+pub returns-in_err-do_items-clause-never : goal.returns-in_err-do_items-clause-never
+returns-in_err-do_items-clause-never g c shelf out known failed =
+    let stops : Stops = stops_by g.G.Gate.stops c.args.gates.now in
+    let files : Option Files = g.S.Shelf.files c.args.shelf.now in
+    let taken : Option (List ℕ) = g.K.Sink.taken c.args.out.now in
+    let new = c.requires.new in
+    c.do_items.ensures.never (c.begin.ensures.reliable shelf) (c.begin.ensures.reliable_out out)
+    (record {
+      start = start-of new.input new.out stops c.args.lab c.args.outputs files taken new.is;
+      is = IsPlaying-first new.input new.out stops c.args.lab c.args.outputs files taken new.is (g.S.Shelf.files c.begin.new.shelf) (g.K.Sink.taken c.begin.new.out)
+          c.in_ok-begin.ensures.going_on c.in_ok-begin.ensures.taken;
+      known = known;
+    })
+    (c.in_err-do_items.was ∙ ap Err (stop-passed c.from_residual-in_err-do_items.result c.in_err-do_items.field-0.0 stop.Write c.from_residual-in_err-do_items.ensures.1 failed))
+
+pub end-requires-clause-playing : goal.end-requires-clause-playing
+end-requires-clause-playing g c =
+    let stops : Stops = stops_by g.G.Gate.stops c.args.gates.now in
+    let files : Option Files = g.S.Shelf.files c.args.shelf.now in
+    let taken : Option (List ℕ) = g.K.Sink.taken c.args.out.now in
+    let new = c.requires.new in
+    record {
+      start = start-of new.input new.out stops c.args.lab c.args.outputs files taken new.is;
+      stops = stops_by g.G.Gate.stops c.do_items.new.gates;
+      script_is = new.script_is;
+      is = c.in_ok-do_items.ensures.done (start-of new.input new.out stops c.args.lab c.args.outputs files taken new.is)
+          (IsPlaying-first new.input new.out stops c.args.lab c.args.outputs files taken new.is (g.S.Shelf.files c.begin.new.shelf) (g.K.Sink.taken c.begin.new.out)
+          c.in_ok-begin.ensures.going_on c.in_ok-begin.ensures.taken);
+    }
+
+pub returns-clause-done : goal.returns-clause-done
+returns-clause-done g c =
+    let stops : Stops = stops_by g.G.Gate.stops c.args.gates.now in
+    let after : Stops = stops_by g.G.Gate.stops c.do_items.new.gates in
+    let files : Option Files = g.S.Shelf.files c.args.shelf.now in
+    let taken : Option (List ℕ) = g.K.Sink.taken c.args.out.now in
+    let at : Scene = scene c.do_items.new.lab c.do_items.new.outputs (g.S.Shelf.files c.do_items.new.shelf) (g.K.Sink.taken c.do_items.new.out) in
+    OnOk-more (EndsWith at (g.S.Shelf.files c.end.new.shelf) (g.K.Sink.taken c.end.new.out))
+    ((input : RunInput) (name : List ℕ) → IsNewRun input name c.args.lab c.args.outputs
+    → HasPlayed input name (rises stops after) files (g.S.Shelf.files c.end.new.shelf) taken (g.K.Sink.taken c.end.new.out))
+    c.end.result
+    (λ ends input name is. ends (start-of input name stops c.args.lab c.args.outputs files taken is) after
+    (c.in_ok-do_items.ensures.done (start-of input name stops c.args.lab c.args.outputs files taken is)
+    (IsPlaying-first input name stops c.args.lab c.args.outputs files taken is (g.S.Shelf.files c.begin.new.shelf) (g.K.Sink.taken c.begin.new.out) c.in_ok-begin.ensures.going_on
+    c.in_ok-begin.ensures.taken)))
+    c.end.ensures.done
+
+pub returns-clause-part : goal.returns-clause-part
+returns-clause-part g c =
+    let stops : Stops = stops_by g.G.Gate.stops c.args.gates.now in
+    let after : Stops = stops_by g.G.Gate.stops c.do_items.new.gates in
+    let files : Option Files = g.S.Shelf.files c.args.shelf.now in
+    let taken : Option (List ℕ) = g.K.Sink.taken c.args.out.now in
+    let at : Scene = scene c.do_items.new.lab c.do_items.new.outputs (g.S.Shelf.files c.do_items.new.shelf) (g.K.Sink.taken c.do_items.new.out) in
+    OnErr-more (StopsAtEnd at (g.S.Shelf.files c.end.new.shelf) (g.K.Sink.taken c.end.new.out))
+    ((input : RunInput) (name : List ℕ) → IsNewRun input name c.args.lab c.args.outputs
+    → HasStopped input name files (g.S.Shelf.files c.end.new.shelf) taken (g.K.Sink.taken c.end.new.out))
+    c.end.result
+    (λ ends input name is. ends (start-of input name stops c.args.lab c.args.outputs files taken is) after
+    (c.in_ok-do_items.ensures.done (start-of input name stops c.args.lab c.args.outputs files taken is)
+    (IsPlaying-first input name stops c.args.lab c.args.outputs files taken is (g.S.Shelf.files c.begin.new.shelf) (g.K.Sink.taken c.begin.new.out) c.in_ok-begin.ensures.going_on
+    c.in_ok-begin.ensures.taken)))
+    c.end.ensures.part
+
+pub returns-clause-never : goal.returns-clause-never
+returns-clause-never g c shelf out known failed =
+    let stops : Stops = stops_by g.G.Gate.stops c.args.gates.now in
+    let files : Option Files = g.S.Shelf.files c.args.shelf.now in
+    let taken : Option (List ℕ) = g.K.Sink.taken c.args.out.now in
+    let new = c.requires.new in
+    c.end.ensures.never (c.do_items.ensures.reliable (c.begin.ensures.reliable shelf)) (c.do_items.ensures.reliable_out (c.begin.ensures.reliable_out out))
+    (record {
+      start = start-of new.input new.out stops c.args.lab c.args.outputs files taken new.is;
+      stops = stops_by g.G.Gate.stops c.do_items.new.gates;
+      is = c.in_ok-do_items.ensures.done (start-of new.input new.out stops c.args.lab c.args.outputs files taken new.is)
+          (IsPlaying-first new.input new.out stops c.args.lab c.args.outputs files taken new.is (g.S.Shelf.files c.begin.new.shelf) (g.K.Sink.taken c.begin.new.out)
+          c.in_ok-begin.ensures.going_on c.in_ok-begin.ensures.taken);
+      known = known;
+    })
+    failed

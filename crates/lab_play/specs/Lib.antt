@@ -1,0 +1,5 @@
+pub mod Appending
+pub mod Counts
+pub mod Ends
+pub mod Played
+pub mod Playing

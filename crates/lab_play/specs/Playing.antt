@@ -1,0 +1,147 @@
+-- A run of a script that goes on: a lab at a stage of it, and what is written of it so far.
+--     Start      what a run began with
+--     Scene      what it holds and has written at some moment
+--     IsPlaying      all that the lab played and its readers recorded is written, at a moment between two items
+--     IsBehind      a phase is done of which nothing is written yet
+--     HasStopped      what is left of a run that stopped
+use Rattle.std.specs.Prelude.{◌≡◌, ℕ, ◌-◌, ◌*◌, ◌≤◌, ℤ, List, [], ◌∷◌, ◌++◌, length, take, Option, Some}
+use Rattle.std.specs.Option.{option_map}
+use Rattle.lab_script.specs.declared.line.Item.{Item}
+use Rattle.lab_script.specs.declared.script.Script.{Script}
+use Rattle.lab_script.specs.Script.{first_frame}
+use Rattle.lab_report.specs.declared.row.Row.{Row}
+use Rattle.lab_report.specs.Text.{report_text}
+use Rattle.lab_run.specs.LabRun.{recorded_from, report_of}
+use Rattle.lab_run.specs.Openings.{IsSessionOf}
+use Rattle.lab_run.specs.ScriptWords.{IsReached}
+use Rattle.lab_run.specs.Stage.{Session, Stage}
+use Rattle.lab_input.specs.Input.{RunInput}
+use Rattle.lab_phase.specs.declared.lab.Lab.{Lab}
+use Rattle.lab_phase.specs.AtStage.{IsAtStage, IsOfScript, capture_of, played_of, session_of}
+use Rattle.lab_phase.specs.PhaseRuns.{AreStopsOf, Stops}
+use Rattle.lab_output.specs.declared.outputs.Outputs.{Outputs}
+use Rattle.lab_output.specs.Files.{MayHold, output_files}
+use Rattle.lab_output.specs.Going.{AreLonger, AreOutputs, IsGoingOn}
+use Rattle.lab_output.specs.Text.{text_so_far}
+use Rattle.lab_shelf.specs.Changes.{Changes}
+use Rattle.lab_shelf.specs.Files.{Files, TookPart}
+
+-- what a run began with: its input, the name of its output, how often gates had stopped, what files there were, and what the output had taken
+pub record Start : Type 0 where
+  pub input : RunInput
+  pub out : List ℕ
+  pub stops : Stops
+  pub files : Option Files
+  pub taken : Option (List ℕ)
+
+-- what it holds and has written at some moment
+pub record Scene : Type 0 where
+  pub lab : Lab
+  pub outputs : Outputs
+  pub files : Option Files
+  pub taken : Option (List ℕ)
+
+abbrev pub scene : Lab → Outputs → Option Files → Option (List ℕ) → Scene
+scene lab outputs files taken = record { lab = lab; outputs = outputs; files = files; taken = taken }
+
+-- the samples that a lab holds of each output: what its card played, and what each reader recorded
+abbrev pub sounds_at : Lab → Stage → List (List ℤ)
+sounds_at lab stage = played_of lab ∷ recorded_from (session_of lab) (capture_of lab) 0 stage.readers
+
+-- these samples are written of each output, and the lines of some first rows
+pub record AreWritten (start : Start) (sounds : List (List ℤ)) (rows : List Row) (outputs : Outputs) (files : Option Files) (taken : Option (List ℕ)) : Type 0 where
+  pub outputs_are : AreOutputs outputs
+  pub files_are : outputs.files.items ≡ output_files start.input.script start.out
+  pub going_on : IsGoingOn outputs.files.items outputs.samples.items sounds start.files files
+  pub few : outputs.rows ≤ length rows
+  pub text : taken ≡ option_map (λ t. t ++ text_so_far start.input.script (take outputs.rows rows)) start.taken
+
+-- the lab of the run is at a stage, at which its gates have stopped so often
+pub record IsLabOf (start : Start) (stops : Stops) (lab : Lab) (stage : Stage) : Type 0 where
+  pub script_is : IsOfScript start.input.script start.input.sounds start.input.capture lab
+  pub stage_is : IsAtStage lab stage
+  pub counted : AreStopsOf start.stops stops stage
+
+-- all that the lab played and its readers recorded is written
+pub record IsPlaying (start : Start) (stops : Stops) (at : Scene) : Type 0 where
+  pub stage : Stage
+  pub lab_is : IsLabOf start stops at.lab stage
+  pub written : AreWritten start (sounds_at at.lab stage) stage.rows at.outputs at.files at.taken
+
+-- less of it is written
+pub record IsBehind (start : Start) (stops : Stops) (at : Scene) : Type 0 where
+  pub stage : Stage
+  pub lab_is : IsLabOf start stops at.lab stage
+  pub sounds : List (List ℤ)
+  pub longer : AreLonger sounds (sounds_at at.lab stage)
+  pub written : AreWritten start sounds stage.rows at.outputs at.files at.taken
+
+-- the text of a report of a run that reached a stage: all of it where no item is left to do
+abbrev pub text_at : Script → Session → List Item → Stage → List ℕ
+text_at script session [] stage = report_text script (report_of session stage)
+text_at script session (one ∷ others) stage = text_so_far script stage.rows
+
+-- A run stopped: it had reached a stage. Each of its files is as it was before the run, or has one of the forms of its samples so far, and no other file
+-- changed; the first bytes of the report's text were put.
+pub record HasStopped (input : RunInput) (out : List ℕ) (before after : Option Files) (taken taken_after : Option (List ℕ)) : Type 0 where
+  pub session : Session
+  pub session_is : IsSessionOf input.script input.sounds session
+  pub done : List Item
+  pub others : List Item
+  pub stage : Stage
+  pub reached : IsReached input.script input.sounds session done others stage
+  pub played : List ℤ
+  pub frames : length played ≡ (stage.position - first_frame input.script.card) * input.script.card.channels
+  pub changes : Changes (MayHold (output_files input.script out) (played ∷ recorded_from session input.capture 0 stage.readers)) before after
+  pub text : TookPart taken taken_after (text_at input.script session others stage)
+
+-- a run that began so stopped, and left this
+abbrev pub IsStopped : Start → Option Files → Option (List ℕ) → Type 0
+IsStopped start files taken = HasStopped start.input start.out start.files files start.taken taken
+
+-- ---- what calls make of a run, whatever it began with
+
+-- the run goes on
+abbrev pub GoesOn : Stops → Scene → Stops → Scene → Type 0
+GoesOn stops before stops_after after = (start : Start) → IsPlaying start stops before → IsPlaying start stops_after after
+
+-- it stopped, and left this
+abbrev pub StopsWith : Stops → Scene → Option Files → Option (List ℕ) → Type 0
+StopsWith stops before files taken = (start : Start) → IsPlaying start stops before → IsStopped start files taken
+
+-- and all that the lab holds after an item is written still, where it was before, and however often gates have stopped
+abbrev pub StaysWritten : Lab → Lab → Type 0
+StaysWritten lab after =
+    (stops : Stops) (outputs : Outputs) (files : Option Files) (taken : Option (List ℕ)) → GoesOn stops (scene lab outputs files taken) stops (scene after outputs files taken)
+
+-- what was played and recorded is written
+abbrev pub CatchesUp : Scene → Scene → Type 0
+CatchesUp before after = (start : Start) (stops : Stops) → IsBehind start stops before → IsPlaying start stops after
+
+abbrev pub StopsBehind : Scene → Option Files → Option (List ℕ) → Type 0
+StopsBehind before files taken = (start : Start) (stops : Stops) → IsBehind start stops before → IsStopped start files taken
+
+-- there is a run of a script that is at this moment
+pub record CanPlay (script : Script) (stops : Stops) (at : Scene) : Type 0 where
+  pub start : Start
+  pub script_is : start.input.script ≡ script
+  pub is : IsPlaying start stops at
+
+pub record CanCatchUp (script : Script) (at : Scene) : Type 0 where
+  pub start : Start
+  pub stops : Stops
+  pub script_is : start.input.script ≡ script
+  pub is : IsBehind start stops at
+
+-- the files were known when a run at this moment began
+pub record IsKnownRun (stops : Stops) (at : Scene) : Type 0 where
+  pub start : Start
+  pub is : IsPlaying start stops at
+  pub known : Rattle.std.specs.Prelude.IsSome start.files
+
+-- the files were known when a run began of which a phase isn't written yet
+pub record IsKnownBehind (at : Scene) : Type 0 where
+  pub start : Start
+  pub stops : Stops
+  pub is : IsBehind start stops at
+  pub known : Rattle.std.specs.Prelude.IsSome start.files

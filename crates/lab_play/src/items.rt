@@ -1,0 +1,196 @@
+//! The items of a script's body, one after the other.
+ghost use Rattle.std.specs.Prelude.{◌≡◌, ◌≢◌, ◌+◌, ◌≤◌, Err, IfErr, OnErr, OnOk, length};
+ghost use Rattle.lab_script.specs.declared.line.Item.TheVariants as item;
+ghost use Rattle.lab_stop.specs.Stops.{IsWriteStop};
+ghost use Rattle.lab_stop.specs.declared.stop.Stop.TheVariants as stops;
+ghost use Rattle.lab_phase.specs.AtStage.{DoesItem, IsBorderItem, IsLab, IsNext, IsSameScript, items_done, played_of};
+ghost use Rattle.lab_phase.specs.PhaseRuns.{stops_by};
+ghost use Rattle.lab_play.specs.Counts.{PlayFaults};
+ghost use Rattle.lab_play.specs.Playing.{CanPlay, GoesOn, IsKnownRun, StaysWritten, StopsWith, scene};
+
+use crate::write::write_phase;
+use lab_output::Outputs;
+use lab_phase::Lab;
+use lab_rows::stages_grow;
+use lab_script::{Item, Line, Script};
+use lab_shelf::{Shelf, Sink};
+use lab_stop::Stop;
+use mix_core::Gate;
+use std::alloc::Global;
+use std::marker::{Send, Sync};
+use std::thread::Threads;
+
+/// Does all items of the script's body, in order, and writes what each phase played, recorded and
+/// answered. It stops with `Write` where the shelf or the output fails, and with `Memory` only
+/// where no memory is left.
+///
+/// The caller has a lab before the first item of the script's body, whose outputs are begun, and
+/// 128 gates: the first 64 are the clients', by their numbers, and those after them the readers'.
+pub(crate) fn do_items<R: Threads + Sync, S: Shelf, K: Sink, G: Gate + Send>(
+    rt: &R,
+    alloc: Global,
+    script: &Script,
+    lab: &mut Lab<'_, '_>,
+    outputs: &mut Outputs,
+    shelf: &mut S,
+    out: &mut K,
+    gates: &mut [G],
+) -> Result<(), Stop>
+    requires playing { CanPlay script.now (stops_by G.stops gates.old)
+        (scene lab.old outputs.old (S.files shelf.old) (K.taken out.old)) }
+    requires first { items_done lab.old ≡ 0 }
+    requires gates { 128 ≤ length gates.old }
+    ensures done { OnOk result (GoesOn
+        (stops_by G.stops gates.old)
+        (scene lab.old outputs.old (S.files shelf.old) (K.taken out.old))
+        (stops_by G.stops gates.new)
+        (scene lab.new outputs.new (S.files shelf.new) (K.taken out.new))) }
+    ensures all { OnOk result (items_done lab.new ≡ length script.now.body) }
+    ensures part { OnErr result (StopsWith
+        (stops_by G.stops gates.old)
+        (scene lab.old outputs.old (S.files shelf.old) (K.taken out.old))
+        (S.files shelf.new) (K.taken out.new)) }
+    ensures only { IfErr result IsWriteStop }
+    ensures fetch_faults { S.fetch_faults shelf.new ≡ S.fetch_faults shelf.old }
+    ensures faults { PlayFaults result (S.write_faults shelf.old) (S.write_faults shelf.new)
+        (K.faults out.old) (K.faults out.new) }
+    ensures reliable { S.is_reliable shelf.old → S.is_reliable shelf.new }
+    ensures reliable_out { K.is_reliable out.old → K.is_reliable out.new }
+    ensures never { S.is_reliable shelf.old → K.is_reliable out.old
+        → IsKnownRun (stops_by G.stops gates.old)
+        (scene lab.old outputs.old (S.files shelf.old) (K.taken out.old))
+        → result ≢ Err stops.Write }
+{
+    let items = script.body.as_slice();
+    for index in 0..items.len() {
+        do_item(
+            rt,
+            alloc,
+            script,
+            &items[index],
+            lab,
+            outputs,
+            shelf,
+            out,
+            gates,
+        )?;
+    }
+    Ok(())
+}
+
+/// Does the script's next item; what a phase played, recorded and answered is written.
+fn do_item<R: Threads + Sync, S: Shelf, K: Sink, G: Gate + Send>(
+    rt: &R,
+    alloc: Global,
+    script: &Script,
+    item: &Item,
+    lab: &mut Lab<'_, '_>,
+    outputs: &mut Outputs,
+    shelf: &mut S,
+    out: &mut K,
+    gates: &mut [G],
+) -> Result<(), Stop>
+    requires playing { CanPlay script.now (stops_by G.stops gates.old)
+        (scene lab.old outputs.old (S.files shelf.old) (K.taken out.old)) }
+    requires next { IsNext lab.old item.now }
+    requires gates { 128 ≤ length gates.old }
+    ensures done { OnOk result (GoesOn
+        (stops_by G.stops gates.old)
+        (scene lab.old outputs.old (S.files shelf.old) (K.taken out.old))
+        (stops_by G.stops gates.new)
+        (scene lab.new outputs.new (S.files shelf.new) (K.taken out.new))) }
+    ensures next { OnOk result (items_done lab.new ≡ items_done lab.old + 1) }
+    ensures same { OnOk result (IsSameScript lab.old lab.new) }
+    ensures part { OnErr result (StopsWith
+        (stops_by G.stops gates.old)
+        (scene lab.old outputs.old (S.files shelf.old) (K.taken out.old))
+        (S.files shelf.new) (K.taken out.new)) }
+    ensures only { IfErr result IsWriteStop }
+    ensures fetch_faults { S.fetch_faults shelf.new ≡ S.fetch_faults shelf.old }
+    ensures faults { PlayFaults result (S.write_faults shelf.old) (S.write_faults shelf.new)
+        (K.faults out.old) (K.faults out.new) }
+    ensures reliable { S.is_reliable shelf.old → S.is_reliable shelf.new }
+    ensures reliable_out { K.is_reliable out.old → K.is_reliable out.new }
+    ensures never { S.is_reliable shelf.old → K.is_reliable out.old
+        → IsKnownRun (stops_by G.stops gates.old)
+        (scene lab.old outputs.old (S.files shelf.old) (K.taken out.old))
+        → result ≢ Err stops.Write }
+{
+    match item {
+        Item::Phase(lines) => do_phase(
+            rt,
+            alloc,
+            script,
+            lines.as_slice(),
+            lab,
+            outputs,
+            shelf,
+            out,
+            gates,
+        ),
+        Item::Opens { .. } => do_border(lab, item),
+        Item::Closes { .. } => do_border(lab, item),
+    }
+}
+
+/// Does a phase: the lab plays and records it, and then all that is new of it is written.
+fn do_phase<R: Threads + Sync, S: Shelf, K: Sink, G: Gate + Send>(
+    rt: &R,
+    alloc: Global,
+    script: &Script,
+    lines: &[Line],
+    lab: &mut Lab<'_, '_>,
+    outputs: &mut Outputs,
+    shelf: &mut S,
+    out: &mut K,
+    gates: &mut [G],
+) -> Result<(), Stop>
+    requires playing { CanPlay script.now (stops_by G.stops gates.old)
+        (scene lab.old outputs.old (S.files shelf.old) (K.taken out.old)) }
+    requires next { IsNext lab.old (item.Phase lines.now) }
+    requires gates { 128 ≤ length gates.old }
+    ensures done { OnOk result (GoesOn
+        (stops_by G.stops gates.old)
+        (scene lab.old outputs.old (S.files shelf.old) (K.taken out.old))
+        (stops_by G.stops gates.new)
+        (scene lab.new outputs.new (S.files shelf.new) (K.taken out.new))) }
+    ensures next { OnOk result (items_done lab.new ≡ items_done lab.old + 1) }
+    ensures same { OnOk result (IsSameScript lab.old lab.new) }
+    ensures part { OnErr result (StopsWith
+        (stops_by G.stops gates.old)
+        (scene lab.old outputs.old (S.files shelf.old) (K.taken out.old))
+        (S.files shelf.new) (K.taken out.new)) }
+    ensures only { IfErr result IsWriteStop }
+    ensures fetch_faults { S.fetch_faults shelf.new ≡ S.fetch_faults shelf.old }
+    ensures faults { PlayFaults result (S.write_faults shelf.old) (S.write_faults shelf.new)
+        (K.faults out.old) (K.faults out.new) }
+    ensures reliable { S.is_reliable shelf.old → S.is_reliable shelf.new }
+    ensures reliable_out { K.is_reliable out.old → K.is_reliable out.new }
+    ensures never { S.is_reliable shelf.old → K.is_reliable out.old
+        → IsKnownRun (stops_by G.stops gates.old)
+        (scene lab.old outputs.old (S.files shelf.old) (K.taken out.old))
+        → result ≢ Err stops.Write }
+{
+    stages_grow();
+    match lab.run_phase(rt, lines, gates) {
+        Ok(()) => write_phase(alloc, script, lab, outputs, shelf, out),
+        Err(_) => Err(Stop::Memory),
+    }
+}
+
+/// Does an opening or a closing. Its row is put with those of the next phase, or at the end.
+fn do_border(lab: &mut Lab<'_, '_>, item: &Item) -> Result<(), Stop>
+    requires at { IsLab lab.old }
+    requires next { IsNext lab.old item.now }
+    requires border { IsBorderItem item.now }
+    ensures does { OnOk result (DoesItem lab.old item.now lab.new) }
+    ensures played { OnOk result (played_of lab.new ≡ played_of lab.old) }
+    ensures written { OnOk result (StaysWritten lab.old lab.new) }
+    ensures only { IfErr result (λ stop. stop ≡ stops.Memory) }
+{
+    stages_grow();
+    match lab.border(item) {
+        Ok(()) => Ok(()),
+        Err(_) => Err(Stop::Memory),
+    }
+}

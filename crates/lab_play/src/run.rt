@@ -1,0 +1,214 @@
+//! A whole run: the rings, the lab, its items, and the end of what is written.
+ghost use Rattle.std.specs.Prelude.{◌≡◌, ◌≢◌, ◌≤◌, ◌++◌, ℕ, All, Err, IfErr, IfOk, IsSome, List, OnErr, OnOk, length};
+ghost use Rattle.std.specs.Option.{option_map};
+ghost use Rattle.sum_table.specs.Rings as sum;
+ghost use Rattle.snoop_table.specs.Rings as snoop;
+ghost use Rattle.lab_script.specs.Limits.{IsScript};
+ghost use Rattle.lab_input.specs.Input.{RunInput};
+ghost use Rattle.lab_input.specs.Read.{input_of};
+ghost use Rattle.lab_shelf.specs.Changes.{Changes};
+ghost use Rattle.lab_shelf.specs.Files.{TookPart};
+ghost use Rattle.lab_stop.specs.Stops.{IsWriteStop};
+ghost use Rattle.lab_stop.specs.declared.stop.Stop.TheVariants as stops;
+ghost use Rattle.lab_phase.specs.AtStage.{items_done};
+ghost use Rattle.lab_phase.specs.PhaseRuns.{stops_by};
+ghost use Rattle.lab_output.specs.Files.{MayHold, nothing};
+ghost use Rattle.lab_output.specs.Going.{AreOutputs, IsGoingOn};
+ghost use Rattle.lab_output.specs.Text.{head_text};
+ghost use Rattle.lab_play.specs.Counts.{PlayFaults};
+ghost use Rattle.lab_play.specs.Ends.{CanEnd, EndsWith, IsKnownAtEnd, IsNewRun, IsSomeNewRun, StopsAtEnd};
+ghost use Rattle.lab_play.specs.Played.{HasPlayed, HasPlayedPart, rises};
+ghost use Rattle.lab_play.specs.Playing.{HasStopped, scene};
+
+use crate::items::do_items;
+use lab_headline::runs_keep_headline;
+use lab_input::Input;
+use lab_output::{Outputs, outputs_of};
+use lab_phase::Lab;
+use lab_rows::outcomes_are_of_scripts;
+use lab_script::Script;
+use lab_setup::ring_of;
+use lab_shelf::{Shelf, Sink};
+use lab_stop::Stop;
+use mix_core::Gate;
+use snd_base::Geometry;
+use snoop_table::SnoopRing;
+use std::alloc::Global;
+use std::marker::{Send, Sync};
+use std::thread::Threads;
+use sum_table::SumRing;
+
+/// Runs a script on what was read for it, and writes the run's files and the text of its report.
+///
+/// The files are begun with open heads, in this order: `OUT.wav` with what the card plays, and `OUT.NAME.wav` with what each reader records.
+/// At the end of each phase what was played and recorded in it is appended, and then its rows are put on `out`. At the end each file gets its
+/// true head, and then the rest of the report is put. `name` is OUT.
+///
+/// It stops with `Write` where the shelf or `out` fails, which counts that, and with `Memory` only where no memory is left.
+///
+/// The caller has read the input (`lab_input::read_input`), and has 128 gates: the first 64 are the clients', by the numbers of their lines, and
+/// the ones after them the readers'.
+pub fn play<R: Threads + Sync, S: Shelf, K: Sink, G: Gate + Send>(
+    rt: &R,
+    alloc: Global,
+    input: &Input,
+    name: &[u8],
+    shelf: &mut S,
+    out: &mut K,
+    gates: &mut [G],
+) -> Result<(), Stop>
+    requires script { IsScript input.now.script }
+    requires files { length input.now.wavs.items ≡ length input.now.script.clients }
+    requires gates { 128 ≤ length gates.old }
+
+    // The files and the report's text are those of a run of the script, in which each gate stopped its actor at most so often.
+    ensures done { OnOk result (HasPlayed (input_of input.now) name.now
+        (rises (stops_by G.stops gates.old) (stops_by G.stops gates.new))
+        (S.files shelf.old) (S.files shelf.new) (K.taken out.old) (K.taken out.new)) }
+
+    // Otherwise nothing was written, or what is written is of a run that reached a stage.
+    ensures part { OnErr result (HasPlayedPart (input_of input.now) name.now
+        (S.files shelf.old) (S.files shelf.new) (K.taken out.old) (K.taken out.new)) }
+    ensures only { IfErr result IsWriteStop }
+    ensures fetch_faults { S.fetch_faults shelf.new ≡ S.fetch_faults shelf.old }
+    ensures faults { PlayFaults result (S.write_faults shelf.old) (S.write_faults shelf.new)
+        (K.faults out.old) (K.faults out.new) }
+
+    // Over a reliable shelf that tells its files, and a reliable output, nothing fails but for want of memory.
+    ensures never { S.is_reliable shelf.old → K.is_reliable out.old → IsSome (S.files shelf.old)
+        → result ≢ Err stops.Write }
+{
+    let script = &input.script;
+    let geometry = ring_of(&script.card);
+    let mut sum = sum_ring(alloc, geometry, script.card.places)?;
+    let mut snoop = snoop_ring(alloc, geometry)?;
+    let (player, mix) = sum.seats();
+    let (writer, reader) = snoop.seats();
+    let lab = match Lab::new(
+        alloc,
+        script,
+        &input.wavs,
+        input.capture.as_ref(),
+        player,
+        mix,
+        writer,
+        reader,
+    ) {
+        Ok(lab) => lab,
+        Err(_) => return Err(Stop::Memory),
+    };
+    let outputs = outputs_of(alloc, script, name)?;
+    play_all(rt, alloc, script, lab, outputs, shelf, out, gates)
+}
+
+/// The sum ring of a card, with nothing placed.
+fn sum_ring(alloc: Global, geometry: Geometry, places: u32) -> Result<SumRing, Stop>
+    requires least { 1 ≤ places }
+    requires most { places ≤ 64 }
+    ensures ok { IfOk result (λ ring. sum.IsNewRing ring geometry places) }
+    ensures only { IfErr result (λ stop. stop ≡ stops.Memory) }
+{
+    match SumRing::new(alloc, geometry, places) {
+        Ok(ring) => Ok(ring),
+        Err(_) => Err(Stop::Memory),
+    }
+}
+
+/// The snoop ring of a card, with nothing captured.
+fn snoop_ring(alloc: Global, geometry: Geometry) -> Result<SnoopRing, Stop>
+    ensures ok { IfOk result (λ ring. snoop.IsNewRing ring geometry) }
+    ensures only { IfErr result (λ stop. stop ≡ stops.Memory) }
+{
+    match SnoopRing::new(alloc, geometry) {
+        Ok(ring) => Ok(ring),
+        Err(_) => Err(Stop::Memory),
+    }
+}
+
+/// Begins what is written, does all items of the script's body, and ends what is written.
+///
+/// The caller has a lab of the script before the first item of its body, and outputs of which nothing is written.
+fn play_all<R: Threads + Sync, S: Shelf, K: Sink, G: Gate + Send>(
+    rt: &R,
+    alloc: Global,
+    script: &Script,
+    mut lab: Lab<'_, '_>,
+    mut outputs: Outputs,
+    shelf: &mut S,
+    out: &mut K,
+    gates: &mut [G],
+) -> Result<(), Stop>
+    requires new { IsSomeNewRun script.now lab outputs }
+    requires gates { 128 ≤ length gates.old }
+    ensures done { OnOk result ((input : RunInput) (name : List ℕ) → IsNewRun input name lab.entry outputs
+        → HasPlayed input name (rises (stops_by G.stops gates.old) (stops_by G.stops gates.new))
+        (S.files shelf.old) (S.files shelf.new) (K.taken out.old) (K.taken out.new)) }
+    ensures part { OnErr result ((input : RunInput) (name : List ℕ) → IsNewRun input name lab.entry outputs
+        → HasStopped input name (S.files shelf.old) (S.files shelf.new) (K.taken out.old) (K.taken out.new)) }
+    ensures only { IfErr result IsWriteStop }
+    ensures fetch_faults { S.fetch_faults shelf.new ≡ S.fetch_faults shelf.old }
+    ensures faults { PlayFaults result (S.write_faults shelf.old) (S.write_faults shelf.new)
+        (K.faults out.old) (K.faults out.new) }
+    ensures never { S.is_reliable shelf.old → K.is_reliable out.old → IsSome (S.files shelf.old)
+        → result ≢ Err stops.Write }
+{
+    begin(&outputs, shelf, out)?;
+    do_items(rt, alloc, script, &mut lab, &mut outputs, shelf, out, gates)?;
+    end(alloc, script, lab, &outputs, shelf, out)
+}
+
+/// Begins each file with an open head, and puts the first line of the report.
+fn begin<S: Shelf, K: Sink>(outputs: &Outputs, shelf: &mut S, out: &mut K) -> Result<(), Stop>
+    requires outputs { AreOutputs outputs.now }
+    requires new { All (λ n. n ≡ 0) outputs.now.samples.items }
+    ensures going_on { OnOk result
+        (IsGoingOn outputs.now.files.items outputs.now.samples.items (nothing outputs.now.files.items)
+        (S.files shelf.old) (S.files shelf.new)) }
+    ensures taken { OnOk result
+        (K.taken out.new ≡ option_map (λ taken. taken ++ head_text) (K.taken out.old)) }
+    ensures changes { OnErr result (Changes (MayHold outputs.now.files.items (nothing outputs.now.files.items))
+        (S.files shelf.old) (S.files shelf.new)) }
+    ensures text { OnErr result (TookPart (K.taken out.old) (K.taken out.new) head_text) }
+    ensures only { IfErr result IsWriteStop }
+    ensures fetch_faults { S.fetch_faults shelf.new ≡ S.fetch_faults shelf.old }
+    ensures faults { PlayFaults result (S.write_faults shelf.old) (S.write_faults shelf.new)
+        (K.faults out.old) (K.faults out.new) }
+    ensures reliable { S.is_reliable shelf.old → S.is_reliable shelf.new }
+    ensures reliable_out { K.is_reliable out.old → K.is_reliable out.new }
+    ensures never { S.is_reliable shelf.old → K.is_reliable out.old → result ≢ Err stops.Write }
+{
+    outputs.begin(shelf)?;
+    outputs.put_head(out)
+}
+
+/// Ends the run: gives each file its true head, and puts the rest of the report.
+fn end<S: Shelf, K: Sink>(
+    alloc: Global,
+    script: &Script,
+    lab: Lab<'_, '_>,
+    outputs: &Outputs,
+    shelf: &mut S,
+    out: &mut K,
+) -> Result<(), Stop>
+    requires playing { CanEnd script.now (scene lab outputs.now (S.files shelf.old) (K.taken out.old)) }
+    requires all { items_done lab ≡ length script.now.body }
+    ensures done { OnOk result (EndsWith (scene lab.entry outputs.now (S.files shelf.old) (K.taken out.old))
+        (S.files shelf.new) (K.taken out.new)) }
+    ensures part { OnErr result (StopsAtEnd (scene lab.entry outputs.now (S.files shelf.old) (K.taken out.old))
+        (S.files shelf.new) (K.taken out.new)) }
+    ensures only { IfErr result IsWriteStop }
+    ensures fetch_faults { S.fetch_faults shelf.new ≡ S.fetch_faults shelf.old }
+    ensures faults { PlayFaults result (S.write_faults shelf.old) (S.write_faults shelf.new)
+        (K.faults out.old) (K.faults out.new) }
+    ensures never { S.is_reliable shelf.old → K.is_reliable out.old
+        → IsKnownAtEnd (scene lab.entry outputs.now (S.files shelf.old) (K.taken out.old)) → result ≢ Err stops.Write }
+{
+    outcomes_are_of_scripts();
+    runs_keep_headline();
+    let outcome = match lab.finish() {
+        Ok(outcome) => outcome,
+        Err(_) => return Err(Stop::Memory),
+    };
+    outputs.finish(shelf)?;
+    outputs.put_tail(out, alloc, script, &outcome.report)
+}
