@@ -1,0 +1,40 @@
+-- What a client places are adds, which continue every history.
+use Rattle.std.proofs.Common.{◌≡◌, ℕ, List, [], ◌∷◌, ◌++◌, refl, sym, subst, map, take, length}
+use Rattle.std.specs.Prelude.{ℤ}
+use Rattle.std.specs.List.{flat_map, range_with_len}
+use Rattle.bindings.specs.Bound.{identity, rising}
+use Rattle.snd_base.specs.declared.geometry.Geometry.{Geometry}
+use Rattle.snd_base.specs.declared.places.Segment.{Segment}
+use Rattle.mix_core.specs.declared.port.Entry.{Entry}
+use Rattle.mix_core.specs.declared.port.Kind.TheVariants.{Added}
+use Rattle.mix_core.specs.History.{Row, row_of}
+use Rattle.mix_core.specs.Laid.{AreAdds}
+use Rattle.mix_core.specs.Turn.{AllContinue, continues}
+use Rattle.dmix_client.specs.Expansion.{frame_entries}
+use Rattle.examples.specs.Mixing.{entries_of}
+
+AreAdds-append : (es fs : List Entry) → AreAdds es → AreAdds fs → AreAdds (es ++ fs)
+AreAdds-append [] fs one two = two
+AreAdds-append (e ∷ es) fs one two = (one.0, AreAdds-append es fs one.1 two)
+
+AreAdds-map : (entry : ℕ → Entry) → ((q : ℕ) → (entry q).kind ≡ Added) → (qs : List ℕ) → AreAdds (map entry qs)
+AreAdds-map entry add [] = tt
+AreAdds-map entry add (q ∷ qs) = (add q, AreAdds-map entry add qs)
+
+AreAdds-frame : (member : ℕ) (bindings : List ℕ) (sample_of : ℕ → ℤ) (channels card : ℕ) → AreAdds (frame_entries member bindings sample_of channels card)
+AreAdds-frame member bindings sample_of channels card = AreAdds-map _ (λ q. refl) (take channels (rising bindings))
+
+AreAdds-frames : (frame : ℕ → List Entry) → ((j : ℕ) → AreAdds (frame j)) → (js : List ℕ) → AreAdds (flat_map frame js)
+AreAdds-frames frame adds [] = tt
+AreAdds-frames frame adds (j ∷ js) = AreAdds-append (frame j) (flat_map frame js) (adds j) (AreAdds-frames frame adds js)
+
+-- the entries of a segment
+pub AreAdds-entries : (g : Geometry) (member : ℕ) (s : Segment) (samples : List ℤ) → AreAdds (entries_of g member s samples)
+AreAdds-entries g member s samples = AreAdds-append _ _
+    (AreAdds-frames _ (λ j. AreAdds-frame member (identity g.channels) _ (length (identity g.channels)) _) (range_with_len 0 s.whole))
+    (AreAdds-frame member (identity g.channels) _ s.part _)
+
+pub AllContinue-adds : (g : Geometry) (members : ℕ) (h : List Row) (es : List Entry) → AreAdds es → AllContinue g members h es
+AllContinue-adds g members h [] adds = tt
+AllContinue-adds g members h (e ∷ es) adds =
+    (subst (λ k. continues k g members h e.member e.frame e.channel e.sample) (sym adds.0) tt, AllContinue-adds g members (h ++ row_of e ∷ []) es adds.1)

@@ -1,0 +1,4 @@
+pub mod Mixing
+pub mod Adds
+pub mod Words
+pub mod Reading

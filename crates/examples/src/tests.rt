@@ -1,0 +1,98 @@
+use super::*;
+use hw_space::Config;
+use mix_core::Taken;
+use snd_base::{Geometry, PcmError, Segment, Why};
+use std::test::*;
+use wav_io::WavError;
+
+const MONO_RING: Geometry = Geometry {
+    frames: 64,
+    channels: 1,
+    first_lap: 0,
+};
+
+const MONO: Config = Config {
+    channels: 1,
+    rate: 48000,
+    period_size: 16,
+    buffer_size: 64,
+    periods: 4,
+};
+
+/// The segment of a first stretch from the card's first frame on.
+fn from_start(frames: u64) -> Segment {
+    Segment {
+        source: 0,
+        card: 0,
+        whole: frames,
+        part: 0,
+    }
+}
+
+/// What is taken of a channel of its own.
+fn taken(frame: u64, value: i16) -> Taken {
+    Taken {
+        frame,
+        channel: 0,
+        value,
+    }
+}
+
+// Both begin at frame 0. 40000 is past the greatest sample, and -60000 before the least one.
+#[test]
+fn what_two_clients_placed_is_summed_and_saturated(rt: HostRuntime) -> Result<(), Fail> {
+    let first = [1000i16, 20000, -30000];
+    let second = [234i16, 20000, -30000, 7];
+    let mixed = mix_two(rt.alloc(), MONO_RING, MONO, &first, &second, 5)?;
+    let wanted = [
+        taken(0, 1234),
+        taken(1, 32767),
+        taken(2, -32768),
+        taken(3, 7),
+        taken(4, 0),
+    ];
+    assert_eq!(rt; mixed.taken.as_slice(), wanted.as_slice());
+    assert_eq!(rt; mixed.first, from_start(3));
+    assert_eq!(rt; mixed.second, from_start(4));
+    Ok(())
+}
+
+#[test]
+fn a_configuration_that_does_not_fit_is_refused(rt: HostRuntime) -> Result<(), Fail> {
+    let stereo = Config {
+        channels: 2,
+        ..MONO
+    };
+    let refused = mix_two(rt.alloc(), MONO_RING, stereo, &[], &[], 1).err();
+    assert_eq!(rt; refused, Some(PcmError::Invalid(Why::Config)));
+    Ok(())
+}
+
+#[test]
+fn two_threads_add_to_one_word(rt: HostRuntime) -> Result<(), Fail> {
+    assert_eq!(rt; sum_in_threads(&rt, rt.alloc(), -5, 7)?, 2);
+    assert_eq!(rt; sum_in_threads(&rt, rt.alloc(), 20000, 15000)?, 32767);
+    Ok(())
+}
+
+/// The canonical mono file of the samples 1 and -2 at 48000 Hz.
+const FILE: [u8; 48] = [
+    0x52, 0x49, 0x46, 0x46, 0x28, 0x00, 0x00, 0x00, 0x57, 0x41, 0x56, 0x45, 0x66, 0x6d, 0x74, 0x20,
+    0x10, 0x00, 0x00, 0x00, 0x01, 0x00, 0x01, 0x00, 0x80, 0xbb, 0x00, 0x00, 0x00, 0x77, 0x01, 0x00,
+    0x02, 0x00, 0x10, 0x00, 0x64, 0x61, 0x74, 0x61, 0x04, 0x00, 0x00, 0x00, 0x01, 0x00, 0xfe, 0xff,
+];
+
+#[test]
+fn a_file_in_pieces_is_the_whole_file(rt: HostRuntime) -> Result<(), Fail> {
+    let pieces: [&[u8]; 4] = [&FILE[..3], &FILE[3..45], &[], &FILE[45..]];
+    let wav = read_pieces(rt.alloc(), &pieces)
+        .ok()
+        .ok_or("the file is read")?;
+    assert_eq!(rt; wav.channels, 1);
+    assert_eq!(rt; wav.rate, 48000);
+    assert_eq!(rt; wav.samples.as_slice(), [1i16, -2].as_slice());
+    let other: [&[u8]; 2] = [b"RI", b"FX"];
+    let refused = read_pieces(rt.alloc(), &other).err();
+    assert_eq!(rt; refused, Some(WavError::NotRiff));
+    Ok(())
+}
