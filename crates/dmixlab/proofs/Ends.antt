@@ -4,11 +4,11 @@ use Rattle.std.specs.Prelude.{Option, Some, None, IsSome, Result, Ok, Err}
 use Rattle.wav_io.specs.declared.error.WavError.{WavError}
 use Rattle.lab_shelf.specs.Files.{Files}
 use Rattle.lab_shelf.specs.Counts.{Rose}
-use Rattle.dmixlab.specs.declared.stop.Stop.{Stop}
-use Rattle.dmixlab.specs.declared.stop.Stop.TheVariants.{Words, Script, Conf, Wav, Read, Write, Memory}
+use Rattle.lab_stop.specs.declared.stop.Stop.{Stop}
+use Rattle.lab_stop.specs.declared.stop.Stop.TheVariants.{Words, Script, Conf, Wav, Read, Write, Memory}
 use Rattle.dmixlab.specs.Words.{Form, form_of}
-use Rattle.dmixlab.specs.Input.{Cause, wav_refused}
-use Rattle.dmixlab.specs.Stops.{status_of, EndsOf, EndsReliably, Refuses, InputFaults}
+use Rattle.lab_stop.specs.Causes.{Cause, wav_refused}
+use Rattle.lab_stop.specs.Stops.{status_of, EndsOf, EndsReliably, Refuses, InputFaults}
 use Rattle.dmixlab.specs.Top.{cause_in, ComesExactly, EndsWell, IsConfRefused, IsScriptRefused}
 
 -- words without a form have no cause

@@ -1,13 +1,4 @@
-mod Texts
-mod Sounds
-mod Replies
-mod Sessions
-mod Late
-mod Devices
-mod Only
-mod Outputs
-mod Commands
 mod Ends
-mod Answering
-mod Members
-mod Requests
+mod Leaving
+mod Only
+mod Texts

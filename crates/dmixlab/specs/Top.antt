@@ -3,21 +3,19 @@ use Rattle.std.specs.Prelude.{◌≡◌, ◌≢◌, ◌⊎◌, ◌++◌, ℕ, Li
 use Rattle.std.specs.Option.{ForSome, option_map}
 use Rattle.asound_conf.specs.declared.error.ConfError.{ConfError}
 use Rattle.asound_conf.specs.declared.plugin.Device.{Device}
-use Rattle.short_script.specs.declared.error.ScriptError.{ScriptError}
-use Rattle.wav_io.specs.declared.error.WavError.{WavError}
+use Rattle.lab_conf.specs.Described.{Described, DescribedPart, IsOnlyDevice, device_in}
+use Rattle.lab_input.specs.Input.{input_in}
+use Rattle.lab_phase.specs.PhaseRuns.{Stops}
+use Rattle.lab_play.specs.Played.{IsUntouched}
+use Rattle.lab_refine.specs.Answered.{Answered, AnsweredPart, request_in}
+use Rattle.lab_script.specs.declared.error.ScriptError.{ScriptError}
 use Rattle.lab_shelf.specs.Files.{Files, TookPart}
-use Rattle.dmixlab.specs.declared.stop.Stop.{Stop}
-use Rattle.dmixlab.specs.declared.stop.Stop.TheVariants as stops
+use Rattle.lab_stop.specs.Causes.{Cause, cause, missing, script_refused, conf_refused, wav_refused}
+use Rattle.lab_stop.specs.declared.stop.Stop.{Stop}
+use Rattle.lab_stop.specs.declared.stop.Stop.TheVariants as stops
+use Rattle.wav_io.specs.declared.error.WavError.{WavError}
 use Rattle.dmixlab.specs.Words.{Form, run, refine, conf, help, version, form_of, help_text, version_text}
-use Rattle.dmixlab.specs.Input.{Cause, Input, missing, script_refused, conf_refused, wav_refused, input_in}
-use Rattle.dmixlab.specs.Run.{Finished, IsOnlyRun, Unfinished, Untouched}
-use Rattle.dmixlab.specs.Refine.Command.{request_in, Answered, AnsweredPart}
-use Rattle.dmixlab.specs.Conf.{device_in, Described, DescribedPart, IsOnlyDevice}
-
--- why a result is none
-abbrev pub cause : {X : Type 0} → Result X Cause → Option Cause
-cause (Ok x) = None
-cause (Err e) = Some e
+use Rattle.dmixlab.specs.Run.{Finished, IsOnlyRunOf, Unfinished}
 
 -- the first cause in the order of the work, form by form
 abbrev pub cause_in : Option Form → Files → Option Cause
@@ -71,78 +69,62 @@ pub record EndsWell (result : ℕ) (words : List (List ℕ)) (files : Files) : T
   pub valid : IsValid words files → (result ≡ 0) ⊎ (result ≡ 6)
 
 -- a text was put, and no file changed
-pub record Told (text : List ℕ) (before after : Option Files) (taken told : Option (List ℕ)) : Type
-    0 where
+pub record HasPut (text : List ℕ) (before after : Option Files) (taken taken_after : Option (List ℕ)) : Type 0 where
   pub files : after ≡ before
-  pub put : told ≡ option_map (λ t. t ++ text) taken
+  pub put : taken_after ≡ option_map (λ t. t ++ text) taken
 
 -- the first bytes of a text were put, and no file changed
-pub record ToldPart (text : List ℕ) (before after : Option Files)
-    (taken told : Option (List ℕ)) : Type 0 where
+pub record HasPutPart (text : List ℕ) (before after : Option Files) (taken taken_after : Option (List ℕ)) : Type 0 where
   pub files : after ≡ before
-  pub put : TookPart taken told text
+  pub put : TookPart taken taken_after text
 
--- what a command leaves that is done, form by form
-abbrev pub DoneIn : Option Form → Option Files → Option Files → Option (List ℕ) → Option (List ℕ)
-    → Type 0
-DoneIn None before after taken told = ⊥
-DoneIn (Some (run script out)) before after taken told = Finished script out before after taken told
-DoneIn (Some (refine text)) before after taken told = Answered text before after taken told
-DoneIn (Some (conf file name)) before after taken told = Described file name before after taken told
-DoneIn (Some help) before after taken told = Told help_text before after taken told
-DoneIn (Some version) before after taken told = Told version_text before after taken told
+-- what a command leaves that is done, form by form; the gates stopped actors so often
+abbrev pub DoneIn : Option Form → Stops → Option Files → Option Files → Option (List ℕ) → Option (List ℕ) → Type 0
+DoneIn None gates before after taken taken_after = ⊥
+DoneIn (Some (run script out)) gates before after taken taken_after = Finished script out gates before after taken taken_after
+DoneIn (Some (refine text)) gates before after taken taken_after = Answered text before after taken taken_after
+DoneIn (Some (conf file name)) gates before after taken taken_after = Described file name before after taken taken_after
+DoneIn (Some help) gates before after taken taken_after = HasPut help_text before after taken taken_after
+DoneIn (Some version) gates before after taken taken_after = HasPut version_text before after taken taken_after
 
 -- what a command leaves that ended in its output, form by form
-abbrev pub PartIn : Option Form → Option Files → Option Files → Option (List ℕ) → Option (List ℕ)
-    → Type 0
-PartIn None before after taken told = ⊥
-PartIn (Some (run script out)) before after taken told =
-    Unfinished script out before after taken told
-PartIn (Some (refine text)) before after taken told = AnsweredPart text before after taken told
-PartIn (Some (conf file name)) before after taken told =
-    DescribedPart file name before after taken told
-PartIn (Some help) before after taken told = ToldPart help_text before after taken told
-PartIn (Some version) before after taken told = ToldPart version_text before after taken told
+abbrev pub PartIn : Option Form → Option Files → Option Files → Option (List ℕ) → Option (List ℕ) → Type 0
+PartIn None before after taken taken_after = ⊥
+PartIn (Some (run script out)) before after taken taken_after = Unfinished script out before after taken taken_after
+PartIn (Some (refine text)) before after taken taken_after = AnsweredPart text before after taken taken_after
+PartIn (Some (conf file name)) before after taken taken_after = DescribedPart file name before after taken taken_after
+PartIn (Some help) before after taken taken_after = HasPutPart help_text before after taken taken_after
+PartIn (Some version) before after taken taken_after = HasPutPart version_text before after taken taken_after
 
--- what a command leaves that is done is the only thing that it can leave: a run of a script has one report and one file, and
--- a configuration has one device of a name
-abbrev pub OnlyIn : Option Form → Option Files → Option Files → Option (List ℕ) → Option (List ℕ)
-    → Type 0
-OnlyIn (Some (run script out)) before after taken told =
-    ForSome before (λ files. (input : Input) → input_in files script ≡ Ok input
-    → IsOnlyRun script out files after taken told input.script input.sounds)
-OnlyIn (Some (conf file name)) before after taken told =
-    ForSome before (λ files. (device : Device) → device_in files file name ≡ Ok device
-    → IsOnlyDevice after files taken told device)
-OnlyIn other before after taken told = ⊤
+-- what a command leaves that is done is the only thing that it can leave: a run of a script without mixed phases, whose gates stopped nobody, has one
+-- report and one list of samples for each file, and a configuration has one device of a name
+abbrev pub OnlyIn : Option Form → Stops → Option Files → Option Files → Option (List ℕ) → Option (List ℕ) → Type 0
+OnlyIn (Some (run script out)) gates before after taken taken_after = IsOnlyRunOf script out gates before after taken taken_after
+OnlyIn (Some (conf file name)) gates before after taken taken_after =
+    ForSome before (λ files. (device : Device) → device_in files file name ≡ Ok device → IsOnlyDevice after files taken taken_after device)
+OnlyIn other gates before after taken taken_after = ⊤
 
 -- what a call leaves with status 0
-abbrev pub Headline : List (List ℕ) → Option Files → Option Files → Option (List ℕ)
-    → Option (List ℕ) → Type 0
-Headline words before after taken told = DoneIn (form_of words) before after taken told
+abbrev pub Headline : List (List ℕ) → Stops → Option Files → Option Files → Option (List ℕ) → Option (List ℕ) → Type 0
+Headline words gates before after taken taken_after = DoneIn (form_of words) gates before after taken taken_after
 
--- what a call leaves with status 0 is the one report and the one file of the script and the files that it read, or the one text
--- of the device
-abbrev pub IsExact : List (List ℕ) → Option Files → Option Files → Option (List ℕ) → Option (List ℕ)
-    → Type 0
-IsExact words before after taken told = OnlyIn (form_of words) before after taken told
+-- what a call leaves with status 0 is the only thing that it can leave
+abbrev pub IsExact : List (List ℕ) → Stops → Option Files → Option Files → Option (List ℕ) → Option (List ℕ) → Type 0
+IsExact words gates before after taken taken_after = OnlyIn (form_of words) gates before after taken taken_after
 
 -- what a call leaves with another status: nothing was written, or, with 5 or 6, it ended in its output
-abbrev pub IsLeft : ℕ → List (List ℕ) → Option Files → Option Files → Option (List ℕ)
-    → Option (List ℕ) → Type 0
-IsLeft result words before after taken told =
-    Untouched before after taken told
-    ⊎ (((result ≡ 5) ⊎ (result ≡ 6)) × PartIn (form_of words) before after taken told)
+abbrev pub IsLeft : ℕ → List (List ℕ) → Option Files → Option Files → Option (List ℕ) → Option (List ℕ) → Type 0
+IsLeft result words before after taken taken_after =
+    IsUntouched before after taken taken_after
+    ⊎ (((result ≡ 5) ⊎ (result ≡ 6)) × PartIn (form_of words) before after taken taken_after)
 
 -- what a command leaves, by how it ended
-abbrev pub Leaves : {X : Type 0} → Result X Stop → Option Form → Option Files → Option Files
-    → Option (List ℕ) → Option (List ℕ) → Type 0
-Leaves (Ok x) form before after taken told = DoneIn form before after taken told
-Leaves (Err stops.Words) form before after taken told = Untouched before after taken told
-Leaves (Err (stops.Script error)) form before after taken told = Untouched before after taken told
-Leaves (Err (stops.Conf error)) form before after taken told = Untouched before after taken told
-Leaves (Err (stops.Wav name why)) form before after taken told = Untouched before after taken told
-Leaves (Err (stops.Read name)) form before after taken told = Untouched before after taken told
-Leaves (Err stops.Write) form before after taken told = PartIn form before after taken told
-Leaves (Err stops.Memory) form before after taken told = Untouched before after taken told
-    ⊎ PartIn form before after taken told
+abbrev pub Leaves : {X : Type 0} → Result X Stop → Option Form → Stops → Option Files → Option Files → Option (List ℕ) → Option (List ℕ) → Type 0
+Leaves (Ok x) form gates before after taken taken_after = DoneIn form gates before after taken taken_after
+Leaves (Err stops.Words) form gates before after taken taken_after = IsUntouched before after taken taken_after
+Leaves (Err (stops.Script error)) form gates before after taken taken_after = IsUntouched before after taken taken_after
+Leaves (Err (stops.Conf error)) form gates before after taken taken_after = IsUntouched before after taken taken_after
+Leaves (Err (stops.Wav name why)) form gates before after taken taken_after = IsUntouched before after taken taken_after
+Leaves (Err (stops.Read name)) form gates before after taken taken_after = IsUntouched before after taken taken_after
+Leaves (Err stops.Write) form gates before after taken taken_after = IsUntouched before after taken taken_after ⊎ PartIn form before after taken taken_after
+Leaves (Err stops.Memory) form gates before after taken taken_after = IsUntouched before after taken taken_after ⊎ PartIn form before after taken taken_after

@@ -86,7 +86,8 @@ help_text = lines_of (codes "usage: dmixlab run SCRIPT OUT"
     ∷ codes "       dmixlab --version"
     ∷ []
     ∷ codes "run reads SCRIPT and the WAV file of each of its clients, mixes what they write"
-    ∷ codes "as ALSA's dmix does, stores what the card plays as OUT.wav, and prints a report."
+    ∷ codes "as ALSA's dmix does, stores what the card plays as OUT.wav and what each reader"
+    ∷ codes "records as OUT.READER.wav, and prints a report."
     ∷ []
     ∷ codes "refine narrows the hardware parameters that a card leaves to its clients line by"
     ∷ codes "line, as TEXT says, and prints what is left of them."
@@ -94,7 +95,3 @@ help_text = lines_of (codes "usage: dmixlab run SCRIPT OUT"
     ∷ codes "conf reads FILE, which is written as asound.conf is, and prints the type of its"
     ∷ codes "device pcm.NAME, the device's card as a script's card line, and its bindings."
     ∷ [])
-
--- the file that a run stores
-abbrev pub wav_name : List ℕ → List ℕ
-wav_name out = out ++ codes ".wav"

@@ -1,9 +1,9 @@
 // What no clause says of `conf`: its lines byte for byte, the line on the errors' stream for each kind of
 // refusal, and what a fault leaves.
 use crate::top::dmixlab;
+use lab_script::read_script;
 use lab_shelf::{MemoryShelf, MemorySink};
 use mix_core::NeverStops;
-use short_script::read_script;
 use std::alloc::{AllocError, Global};
 use std::test::Fail;
 use std::thread::Threads;

@@ -1,28 +1,23 @@
 //! dmixlab: mixes the clients of a script as ALSA's dmix does, and reports what was mixed.
 #![tactic(auto)]
 
-mod conf;
+mod commands;
 #[cfg(test)]
 mod conf_tests;
-mod load;
-mod output;
-mod refine;
 #[cfg(test)]
 mod refine_tests;
-mod stop;
 #[cfg(test)]
 mod tests;
 mod top;
 mod words;
-mod work;
 
 use lab_shelf::{FileShelf, StdSink};
+use lab_stop::{Stop, status, tell};
 use mix_core::NeverStops;
 use std::alloc::Global;
 use std::process::ExitCode;
 use std::rt::Env;
 use std::{env, io};
-use stop::{Stop, status, tell};
 use top::dmixlab;
 
 /// The program's words after its name. One that isn't UTF-8 is no listed word.

@@ -1,14 +1,25 @@
-// What no clause says: that runs succeed where there is memory, what stands in the report and the
+// What no clause says: that runs succeed where there is memory, what is in the report and the
 // file byte for byte, and the lines on the errors' stream.
 ghost use Rattle.std.specs.Prelude.{◌≤◌, length};
 
+mod at_once;
+mod calls;
+mod checker;
+mod dying;
+mod mixed;
+mod readers;
+mod refusals;
+mod runs;
 mod sessions;
 
 use crate::top::dmixlab;
 use lab_shelf::{MemoryShelf, MemorySink};
-use mix_core::NeverStops;
+use mix_core::{Gate, NeverStops};
+use readers::READERS;
+use runs::RUNS;
 use sessions::{MONO, SESSIONS, Session};
 use std::alloc::{AllocError, Global};
+use std::marker::{Send, Sync};
 use std::test::Fail;
 use std::thread::Threads;
 
@@ -30,6 +41,21 @@ fn call<R: Threads + Sync>(
     files: Vec<(Vec<u8>, Vec<u8>)>,
     failing: (&[u64], &[u64]),
 ) -> Result<Left, AllocError> {
+    let mut gates = [NeverStops; 128];
+    call_gated(rt, alloc, words, files, failing, &mut gates)
+}
+
+// Calls the program with gates of the caller's own, which are at least 128.
+fn call_gated<R: Threads + Sync, G: Gate + Send>(
+    rt: &R,
+    alloc: Global,
+    words: &[&str],
+    files: Vec<(Vec<u8>, Vec<u8>)>,
+    failing: (&[u64], &[u64]),
+    gates: &mut [G],
+) -> Result<Left, AllocError>
+    requires { 128 ≤ length gates.old }
+{
     let mut all = Vec::new(alloc);
     for word in words {
         all.push(Vec::from_slice(alloc, word.as_bytes())?)?;
@@ -37,16 +63,7 @@ fn call<R: Threads + Sync>(
     let mut shelf = MemoryShelf::new(files, Vec::from_slice(alloc, failing.0)?);
     let mut out = MemorySink::new(alloc, Vec::from_slice(alloc, failing.1)?);
     let mut errors = MemorySink::new(alloc, Vec::new(alloc));
-    let mut gates = [NeverStops; 128];
-    let status = dmixlab(
-        rt,
-        alloc,
-        &all,
-        &mut shelf,
-        &mut out,
-        &mut errors,
-        &mut gates,
-    );
+    let status = dmixlab(rt, alloc, &all, &mut shelf, &mut out, &mut errors, gates);
     Ok(Left {
         status,
         shelf,
@@ -66,9 +83,21 @@ fn samples_of(alloc: Global, runs: &[(u16, i16)]) -> Result<Vec<i16>, AllocError
     Ok(samples)
 }
 
-// A WAV file of what stands before its data, and the samples of runs of equal ones.
-fn wav_of(alloc: Global, head: &[u8], runs: &[(u16, i16)]) -> Result<Vec<u8>, AllocError> {
-    let samples = samples_of(alloc, runs)?;
+// The samples of runs that rise or fall: each is a number of samples, the first one, and the step from one to the next.
+fn steps_of(alloc: Global, runs: &[(u16, i16, i16)]) -> Result<Vec<i16>, AllocError> {
+    let mut samples = Vec::new(alloc);
+    for (count, first, step) in runs {
+        let mut sample = *first;
+        for _ in 0..*count {
+            samples.push(sample)?;
+            sample = sample.wrapping_add(*step);
+        }
+    }
+    Ok(samples)
+}
+
+// A WAV file of what is before its data, and of its samples.
+fn wav_around(alloc: Global, head: &[u8], samples: &[i16]) -> Result<Vec<u8>, AllocError> {
     let size = u32::try_from(samples.len()).unwrap_or(0).wrapping_mul(2);
     let before = u32::try_from(head.len()).unwrap_or(0).wrapping_add(8);
     let mut bytes = Vec::new(alloc);
@@ -77,10 +106,16 @@ fn wav_of(alloc: Global, head: &[u8], runs: &[(u16, i16)]) -> Result<Vec<u8>, Al
     bytes.extend_from_slice(head)?;
     bytes.extend_from_slice(b"data")?;
     bytes.extend_from_slice(&size.to_le_bytes())?;
-    for sample in &samples {
+    for sample in samples {
         bytes.extend_from_slice(&sample.to_le_bytes())?;
     }
     Ok(bytes)
+}
+
+// A WAV file of what is before its data, and the samples of runs of equal ones.
+fn wav_of(alloc: Global, head: &[u8], runs: &[(u16, i16)]) -> Result<Vec<u8>, AllocError> {
+    let samples = samples_of(alloc, runs)?;
+    wav_around(alloc, head, &samples)
 }
 
 // A shelf's files: the script `s`, and a WAV file for each name.
@@ -195,7 +230,7 @@ fn sessions_leave_their_report_and_file(rt: HostRuntime) -> Result<(), Fail> {
 
 // A line for each client number, made by a function of it.
 #[test]
-fn sixty_four_clients_are_cut_once(rt: HostRuntime) -> Result<(), Fail> {
+fn sixty_four_clients_are_saturated_once(rt: HostRuntime) -> Result<(), Fail> {
     let alloc = rt.alloc();
     let mut lines = String::new(alloc);
     let mut rows = String::new(alloc);
@@ -252,125 +287,92 @@ fn a_script_has_4096_phases(rt: HostRuntime) -> Result<(), Fail> {
     Ok(())
 }
 
-// A call that isn't done: its words, the script, the numbers of the shelf's and the output's calls
-// that fail, the status, and the line on `errors`.
-struct Refusal<'a> {
-    words: &'a [&'a str],
-    script: &'a str,
-    failing: (&'a [u64], &'a [u64]),
-    status: u8,
-    line: &'a str,
+// An item of a script's body: the opening or closing of an actor with its answer, or a phase, of whose lines each has its answer.
+enum Act<'a> {
+    Opens(&'a str, &'a str),
+    Closes(&'a str, &'a str),
+    Phase(&'a [(&'a str, &'a str)]),
 }
 
-const RIGHT: &str =
-    "card channels 1 rate 48000 period 64 ring 256\nclient a a.wav\nopen a\nphase\na write 64\nend\n";
+// A run: its name; the lines of the card, the clients and the readers; the body, whose lines are in the order of the report; the
+// report's lines behind the rows; the WAV files that are read, and those that are written.
+struct Run<'a> {
+    name: &'a str,
+    declared: &'a [&'a str],
+    body: &'a [Act<'a>],
+    tail: &'a [&'a str],
+    wavs: &'a [(&'a str, &'a [u8], &'a [(u16, i16, i16)])],
+    stored: &'a [(&'a str, &'a [u8], &'a [(u16, i16, i16)])],
+}
 
-const NINE_CHANNELS: &str = "card channels 9 rate 48000 period 64 ring 256\n";
+// The script of a run.
+fn script_of_run(alloc: Global, run: &Run<'_>) -> Result<Vec<u8>, AllocError> {
+    let mut text = String::new(alloc);
+    for line in run.declared {
+        writeln!(text, "{line}")?;
+    }
+    for act in run.body {
+        match act {
+            Act::Opens(name, _) => writeln!(text, "open {name}")?,
+            Act::Closes(name, _) => writeln!(text, "close {name}")?,
+            Act::Phase(lines) => push_phase(&mut text, lines)?,
+        }
+    }
+    Ok(text.into_bytes())
+}
 
-const EMPTY_FILE: &str =
-    "card channels 1 rate 48000 period 64 ring 256\nclient a a.wav\nclient b none\nopen a\nopen b\n";
+// The report that a run is to leave.
+fn report_of_run(alloc: Global, run: &Run<'_>) -> Result<Vec<u8>, AllocError> {
+    let mut text = String::new(alloc);
+    text.push_str("dmixlab 1\n")?;
+    let mut number = 0usize;
+    for act in run.body {
+        match act {
+            Act::Opens(name, answer) => writeln!(text, "{number} {name} open = {answer}")?,
+            Act::Closes(name, answer) => writeln!(text, "{number} {name} close = {answer}")?,
+            Act::Phase(lines) => {
+                number = number.wrapping_add(1);
+                push_rows(&mut text, number, lines)?;
+            }
+        }
+    }
+    for line in run.tail {
+        writeln!(text, "{line}")?;
+    }
+    text.push_str("end\n")?;
+    Ok(text.into_bytes())
+}
 
-const TWICE_BOUND: &str =
-    "card channels 2 rate 48000 period 64 ring 256\nclient a a.wav bindings 0,0\nopen a\n";
-
-const TWO_ACTORS: &str =
-    "card channels 1 rate 48000 period 64 ring 256\nclient a a.wav\nopen a\nphase\na sync\ncard play 1\nend\n";
-
-const REFUSALS: [Refusal<'static>; 11] = [
-    Refusal {
-        words: &["run", "s"],
-        script: RIGHT,
-        failing: (&[], &[]),
-        status: 1,
-        line: "dmixlab: words\n",
-    },
-    Refusal {
-        words: &["run", "", "o"],
-        script: RIGHT,
-        failing: (&[], &[]),
-        status: 1,
-        line: "dmixlab: words\n",
-    },
-    Refusal {
-        words: &["run", "s", "o"],
-        script: NINE_CHANNELS,
-        failing: (&[], &[]),
-        status: 2,
-        line: "dmixlab: script line 1: NotYet\n",
-    },
-    Refusal {
-        words: &["run", "s", "o"],
-        script: EMPTY_FILE,
-        failing: (&[], &[]),
-        status: 3,
-        line: "dmixlab: wav none: NotRiff\n",
-    },
-    Refusal {
-        words: &["run", "s", "o"],
-        script: TWICE_BOUND,
-        failing: (&[], &[]),
-        status: 2,
-        line: "dmixlab: script line 2: NotYet\n",
-    },
-    Refusal {
-        words: &["run", "s", "o"],
-        script: TWO_ACTORS,
-        failing: (&[], &[]),
-        status: 2,
-        line: "dmixlab: script line 6: NotYet\n",
-    },
-    Refusal {
-        words: &["run", "t", "o"],
-        script: RIGHT,
-        failing: (&[], &[]),
-        status: 4,
-        line: "dmixlab: read t\n",
-    },
-    Refusal {
-        words: &["run", "s", "o"],
-        script: RIGHT,
-        failing: (&[1], &[]),
-        status: 4,
-        line: "dmixlab: read s\n",
-    },
-    Refusal {
-        words: &["run", "s", "o"],
-        script: RIGHT,
-        failing: (&[2], &[]),
-        status: 4,
-        line: "dmixlab: read a.wav\n",
-    },
-    Refusal {
-        words: &["run", "s", "o"],
-        script: RIGHT,
-        failing: (&[3], &[]),
-        status: 5,
-        line: "dmixlab: write\n",
-    },
-    Refusal {
-        words: &["run", "s", "o"],
-        script: RIGHT,
-        failing: (&[], &[1]),
-        status: 5,
-        line: "dmixlab: write\n",
-    },
-];
-
-const CLIENTS: &[(&str, &[u8], &[(u16, i16)])] = &[("a.wav", MONO, &[(64, 1000)])];
+// The files that a run reads: the script `s`, and the WAV files.
+fn files_of_run(alloc: Global, run: &Run<'_>) -> Result<Vec<(Vec<u8>, Vec<u8>)>, AllocError> {
+    let mut files = Vec::new(alloc);
+    files.push((Vec::from_slice(alloc, b"s")?, script_of_run(alloc, run)?))?;
+    for (name, head, runs) in run.wavs {
+        let samples = steps_of(alloc, runs)?;
+        files.push((
+            Vec::from_slice(alloc, name.as_bytes())?,
+            wav_around(alloc, head, &samples)?,
+        ))?;
+    }
+    Ok(files)
+}
 
 #[test]
-fn calls_that_are_not_done_say_why(rt: HostRuntime) -> Result<(), Fail> {
+fn runs_leave_their_report_and_files(rt: HostRuntime) -> Result<(), Fail> {
     let alloc = rt.alloc();
-    for refusal in &REFUSALS {
-        let script = Vec::from_slice(alloc, refusal.script.as_bytes())?;
-        let mut files = files_of(alloc, script, CLIENTS)?;
-        files.push((Vec::from_slice(alloc, b"none")?, Vec::new(alloc)))?;
-        let left = call(&rt, alloc, refusal.words, files, refusal.failing)?;
-        assert_eq!(rt; left.status, refusal.status, "{}", refusal.line);
-        assert_eq!(rt; left.errors.bytes(), refusal.line.as_bytes());
-        assert!(rt; left.out.bytes().is_empty());
-        let stored = left.shelf.file(b"o.wav").is_some();
-        assert_eq!(rt; stored, !refusal.failing.1.is_empty());
+    for run in RUNS.iter().chain(READERS.iter()) {
+        let report = report_of_run(alloc, run)?;
+        let files = files_of_run(alloc, run)?;
+        let left = call(&rt, alloc, &["run", "s", "o"], files, (&[], &[]))?;
+        assert_eq!(rt; text_in(left.errors.bytes()), "", "{}", run.name);
+        assert_eq!(rt; left.status, 0, "{}", run.name);
+        assert_eq!(rt; text_in(left.out.bytes()), text_in(&report), "{}", run.name);
+        for (name, head, runs) in run.stored {
+            let samples = steps_of(alloc, runs)?;
+            let file = wav_around(alloc, head, &samples)?;
+            let held = left.shelf.file(name.as_bytes()).unwrap_or(&[]);
+            assert_eq!(rt; held, file.as_slice(), "{name} of {}", run.name);
+        }
     }
     Ok(())
 }
@@ -379,7 +381,7 @@ fn calls_that_are_not_done_say_why(rt: HostRuntime) -> Result<(), Fail> {
 fn help_and_version_are_put(rt: HostRuntime) -> Result<(), Fail> {
     let alloc = rt.alloc();
     let help =
-        "usage: dmixlab run SCRIPT OUT\n       dmixlab refine TEXT\n       dmixlab conf FILE NAME\n       dmixlab --help\n       dmixlab --version\n\nrun reads SCRIPT and the WAV file of each of its clients, mixes what they write\nas ALSA's dmix does, stores what the card plays as OUT.wav, and prints a report.\n\nrefine narrows the hardware parameters that a card leaves to its clients line by\nline, as TEXT says, and prints what is left of them.\n\nconf reads FILE, which is written as asound.conf is, and prints the type of its\ndevice pcm.NAME, the device's card as a script's card line, and its bindings.\n";
+        "usage: dmixlab run SCRIPT OUT\n       dmixlab refine TEXT\n       dmixlab conf FILE NAME\n       dmixlab --help\n       dmixlab --version\n\nrun reads SCRIPT and the WAV file of each of its clients, mixes what they write\nas ALSA's dmix does, stores what the card plays as OUT.wav and what each reader\nrecords as OUT.READER.wav, and prints a report.\n\nrefine narrows the hardware parameters that a card leaves to its clients line by\nline, as TEXT says, and prints what is left of them.\n\nconf reads FILE, which is written as asound.conf is, and prints the type of its\ndevice pcm.NAME, the device's card as a script's card line, and its bindings.\n";
     for (word, text) in [("--help", help), ("--version", "dmixlab 0.1.0\n")] {
         let left = call(&rt, alloc, &[word], Vec::new(alloc), (&[], &[]))?;
         assert_eq!(rt; left.status, 0);

@@ -136,7 +136,8 @@ pub(crate) fn help() -> &'static [u8]
        dmixlab --version
 
 run reads SCRIPT and the WAV file of each of its clients, mixes what they write
-as ALSA's dmix does, stores what the card plays as OUT.wav, and prints a report.
+as ALSA's dmix does, stores what the card plays as OUT.wav and what each reader
+records as OUT.READER.wav, and prints a report.
 
 refine narrows the hardware parameters that a card leaves to its clients line by
 line, as TEXT says, and prints what is left of them.

@@ -6,7 +6,7 @@ use Rattle.dmixlab.proofs.top.dmixlab.Goals as goal
 
 pub returns-clause-exact : goal.returns-clause-exact
 returns-clause-exact g c zero =
-    DoneIn-only c.command-end.result (form_of (texts c.args.words.now)) _ _ _ _ c.command-end.ensures.leaves (sym c.status.ensures ∙ zero)
+    DoneIn-only c.scripts_have_one_session.ensures c.command-end.result (form_of (texts c.args.words.now)) _ _ _ _ _ c.command-end.ensures.leaves (sym c.status.ensures ∙ zero)
 
 pub returns-clause-script : goal.returns-clause-script
 returns-clause-script g c files told =

@@ -1,0 +1,65 @@
+-- How a command ends whose parts read, run and write.
+use Rattle.std.proofs.Common.{◌≡◌, ◌∙◌, ◌⊎◌, ℕ, List, ap, subst, inl, inr}
+use Rattle.std.specs.Prelude.{Option, Some, Result, Ok, Err, IfErr, OnOk, OnErr}
+use Rattle.std.specs.Option.{ForSome, option_map}
+use Rattle.wav_io.specs.Sound.{Sound}
+use Rattle.lab_headline.specs.Exact.{IsExactRun, IsOwnRun, IsUnstoppedRun}
+use Rattle.lab_input.specs.Input.{RunInput, input_in}
+use Rattle.lab_phase.specs.PhaseRuns.{Stops}
+use Rattle.lab_play.specs.Played.{HasPlayed, HasPlayedPart, IsUntouched}
+use Rattle.lab_play.specs.Playing.{HasStopped}
+use Rattle.lab_run.specs.LabRun.{Outcome}
+use Rattle.lab_run.specs.Openings.{IsSessionOf}
+use Rattle.lab_run.specs.Stage.{Session}
+use Rattle.lab_script.specs.declared.line.Item.{Item}
+use Rattle.lab_script.specs.declared.script.Script.{Script as ScriptOf}
+use Rattle.lab_script.specs.Limits.{IsScript}
+use Rattle.lab_shelf.specs.Files.{Files}
+use Rattle.lab_stop.specs.declared.stop.Stop.{Stop}
+use Rattle.lab_stop.specs.declared.stop.Stop.TheVariants.{Words, Script, Conf, Wav, Read, Write, Memory}
+use Rattle.lab_stop.specs.Stops.{IsWriteStop}
+use Rattle.dmixlab.specs.Words.{run}
+use Rattle.dmixlab.specs.Run.{Finished, Unfinished}
+use Rattle.dmixlab.specs.Top.{Leaves}
+
+-- what the laws of runs say of each run
+pub record RunLaws : Type 0 where
+  pub exact : (session : Session) (capture : Option Sound) (body : List Item) (outcome : Outcome) → IsUnstoppedRun session capture body outcome → IsExactRun session capture body outcome
+  pub own : (script : ScriptOf) (wavs : List Sound) (session : Session) (capture : Option Sound) (outcome : Outcome) → IsScript script → IsSessionOf script wavs session
+      → IsUnstoppedRun session capture script.body outcome → IsOwnRun script session outcome
+
+-- a run that is done is finished
+Finished-played : (laws : RunLaws) (input : RunInput) (script out : List ℕ) (gates : Stops) (before between after : Option Files) (taken taken_after : Option (List ℕ))
+    → ForSome before (λ files. input_in files script ≡ Ok input) → IsScript input.script → between ≡ before → HasPlayed input out gates between after taken taken_after
+    → Finished script out gates before after taken taken_after
+Finished-played laws input script out gates before between after taken taken_after read valid same played = record {
+  input = input;
+  read = read;
+  session = played.session;
+  outcome = played.outcome;
+  is = played.is;
+  exact = λ none. laws.exact played.session input.capture input.script.body played.outcome
+      (record { client_stops = gates.clients; reader_stops = gates.readers; clients = none.clients; readers = none.readers; run = played.is.run });
+  own = λ none. laws.own input.script input.sounds played.session input.capture played.outcome valid played.is.session_is
+      (record { client_stops = gates.clients; reader_stops = gates.readers; clients = none.clients; readers = none.readers; run = played.is.run });
+  files = played.files ∙ ap (option_map _) same;
+  text = played.text;
+}
+
+module _ (laws : RunLaws) (input : RunInput) (script out : List ℕ) (gates : Stops) (before between after : Option Files) (taken taken_after : Option (List ℕ))
+    (read : ForSome before (λ files. input_in files script ≡ Ok input)) (valid : IsScript input.script) (same : between ≡ before) where
+  left-part : HasPlayedPart input out between after taken taken_after → IsUntouched before after taken taken_after ⊎ Unfinished script out before after taken taken_after
+  left-part (inl untouched) = inl (record { files = untouched.files ∙ same; text = untouched.text })
+  left-part (inr stopped) = inr (record { input = input; read = read; stopped = subst (λ (b : Option Files). HasStopped input out b after taken taken_after) same stopped })
+
+  -- what a run leaves that was read
+  pub Leaves-played : (r : Result (Unit {0}) Stop) → IfErr r IsWriteStop → OnOk r (HasPlayed input out gates between after taken taken_after)
+      → OnErr r (HasPlayedPart input out between after taken taken_after) → Leaves r (Some (run script out)) gates before after taken taken_after
+  Leaves-played (Ok x) only done part = Finished-played laws input script out gates before between after taken taken_after read valid same done
+  Leaves-played (Err Words) only done part = absurd only
+  Leaves-played (Err (Script error)) only done part = absurd only
+  Leaves-played (Err (Conf error)) only done part = absurd only
+  Leaves-played (Err (Wav name why)) only done part = absurd only
+  Leaves-played (Err (Read name)) only done part = absurd only
+  Leaves-played (Err Write) only done part = left-part part
+  Leaves-played (Err Memory) only done part = left-part part

@@ -1,8 +1,0 @@
-use Rattle.dmixlab.proofs.Sounds.{Loading}
-use Rattle.dmixlab.proofs.load.load_wavs.Given as goal
-
-abbrev pub invariant-loop-client : goal.invariant-loop-client
-invariant-loop-client g l =
-    Loading (g.S.Shelf.files l.fn.shelf) (g.S.Shelf.files l.shelf) l.clients l.client-index l.wavs.items l.total
-    (g.S.Shelf.fetch_faults l.fn.shelf) (g.S.Shelf.fetch_faults l.shelf) (g.S.Shelf.write_faults l.fn.shelf) (g.S.Shelf.write_faults l.shelf)
-    (g.S.Shelf.is_reliable l.fn.shelf) (g.S.Shelf.is_reliable l.shelf)

@@ -1,7 +1,0 @@
--- The command `refine`.
-pub mod Params
-pub mod Grammar
-pub mod Reading
-pub mod Values
-pub mod Answers
-pub mod Command

@@ -1,9 +1,0 @@
--- The lines of the rows so far stand behind the text.
-use Rattle.std.proofs.Common.{◌≡◌, ◌++◌, string_bytes, take}
-use Rattle.std.specs.List.{flat_map}
-use Rattle.short_report.specs.Text.{row_line}
-use Rattle.short_report.proofs.print.push_rows.Given as goal
-
-abbrev pub invariant-loop-row : goal.invariant-loop-row
-invariant-loop-row l =
-    string_bytes l.text ≡ string_bytes l.fn.text ++ flat_map (row_line l.clients) (take l.row-index l.rows)

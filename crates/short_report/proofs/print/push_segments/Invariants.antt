@@ -1,9 +1,0 @@
--- The lines of the segments so far stand behind the text.
-use Rattle.std.proofs.Common.{◌≡◌, ◌++◌, string_bytes, take}
-use Rattle.std.specs.List.{flat_map}
-use Rattle.short_report.specs.Text.{segment_line}
-use Rattle.short_report.proofs.print.push_segments.Given as goal
-
-abbrev pub invariant-loop-client : goal.invariant-loop-client
-invariant-loop-client l =
-    string_bytes l.text ≡ string_bytes l.fn.text ++ flat_map (segment_line l.clients) (take l.client-index l.segments)
