@@ -1,0 +1,78 @@
+"""What the check of docs/CLAIMS.md finds in a document and in a crate's source."""
+import os
+import sys
+import unittest
+
+HERE = os.path.dirname(os.path.abspath(__file__))
+sys.path.insert(0, os.path.dirname(HERE))
+
+import check_claims
+
+DOCUMENT = """# What is proved
+
+## `ring`
+
+| call | clause | what it says |
+|---|---|---|
+| `Ring::put`, `Ring::take` | `ok` | something |
+| `size` | - | something |
+
+## Not a crate
+
+| `a` | `b` | `c` |
+"""
+
+SOURCE = """pub fn size(ring: &Ring) -> u32
+    requires { 1 ≤ ring.now.frames }
+    ensures { result ≡ ring.now.frames }
+{
+    ring.frames
+}
+
+fn without_clauses() -> u32 {
+    2
+}
+
+    pub fn put(&mut self)
+        requires room { record {
+            frames = 1 } }
+        ensures ok { OnOk result (self.new ≡ record {
+            frames = 2 }) }
+        ensures err { OnErr result (self.new ≡ self.old) }
+    {
+    }
+""".split("\n")
+
+
+class Document(unittest.TestCase):
+    def test_each_call_of_a_line_has_each_of_its_clauses(self):
+        wanted = [("ring", "Ring::put", "ok"), ("ring", "Ring::take", "ok"), ("ring", "size", "-")]
+        self.assertEqual(list(check_claims.rows_of(DOCUMENT)), wanted)
+
+
+class Source(unittest.TestCase):
+    def test_a_clause_without_a_name_is_a_dash(self):
+        self.assertEqual(check_claims.clauses_of(SOURCE, 0, ""), ["-"])
+
+    def test_a_body_ends_the_clauses(self):
+        self.assertEqual(check_claims.clauses_of(SOURCE, 7, ""), [])
+
+    def test_a_clause_of_several_lines_doesn_t_end_them(self):
+        self.assertEqual(check_claims.clauses_of(SOURCE, 11, "    "), ["ok", "err"])
+
+    def test_the_owner_is_the_type_and_not_the_trait(self):
+        self.assertEqual(check_claims.owner_of("impl<'a, P: Port> MixPort for Seat<'a> {"), "Seat")
+        self.assertEqual(check_claims.owner_of("pub trait Gate: Sized {"), "Gate")
+
+
+class Whole(unittest.TestCase):
+    def test_a_clause_that_isn_t_there_is_not_found(self):
+        calls = check_claims.calls_of("lap_word")
+        self.assertTrue(check_claims.is_there("lap_word", "clamp", "nearest", calls))
+        self.assertFalse(check_claims.is_there("lap_word", "clamp", "farthest", calls))
+        self.assertFalse(check_claims.is_there("mix_core", "law", "no-such-law", {}))
+        self.assertTrue(check_claims.is_there("mix_core", "law", "IsReply-one", {}))
+
+
+if __name__ == "__main__":
+    unittest.main()
