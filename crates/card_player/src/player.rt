@@ -60,6 +60,13 @@ impl<'a> CardPlayer<'a> {
         self.seat.next().channel == 0
     }
 
+    /// Whether the next frame is before the ring's end, as `take_frame_at` asks.
+    pub fn has_frame(&self) -> bool
+        ensures { IsTrue result ↔ HasFrame self.now }
+    {
+        self.seat.next().frame < self.seat.geometry().end_frame()
+    }
+
     /// Takes the words of the next frame and writes their values into the first samples of `out`, in the order of the card's
     /// channels. Nothing is published.
     ///
@@ -82,8 +89,8 @@ impl<'a> CardPlayer<'a> {
         Ok(())
     }
 
-    /// Takes the words of the next frame, which is before the ring's end, and writes their values into `out` from an index
-    /// on. Nothing is published.
+    /// Takes the words of the next frame, which is before the ring's end (`has_frame`), and writes their values into `out` from
+    /// an index on. Nothing is published.
     ///
     /// The caller has room there for one sample of each channel, and a next word of channel 0 (`is_at_frame`).
     pub fn take_frame_at(&mut self, out: &mut [i16], at: usize)

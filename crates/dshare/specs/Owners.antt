@@ -4,7 +4,7 @@ use Rattle.std.specs.List.{AllByRecursion, flat_map, list_any}
 use Rattle.snd_base.specs.declared.errors.PcmError.{PcmError}
 use Rattle.snd_base.specs.declared.errors.PcmError.TheVariants.{Busy}
 
--- a row of a history: these channels were claimed, or they were released, with the last frame that their owner laid
+-- a row of a history: these channels were claimed, or they were released, with the last frame that their owner placed
 pub data Row : Type 0 where
   claimed : List ℕ → Row
   released : List ℕ → Option ℕ → Row

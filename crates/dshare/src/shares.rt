@@ -9,11 +9,11 @@ use snd_base::PcmError;
 use std::marker::Model;
 
 /// Which channels of a card are owned, and since when the others are silent. Each channel has one owner at most, as with
-/// ALSA's `dshare` plugin (alsa-lib, `snd_pcm_dshare`); that a released channel can be claimed only behind the last frame
-/// that was laid there is this project's own rule.
+/// ALSA's `dshare` plugin (alsa-lib, `snd_pcm_dshare`); that a released channel can be claimed only past the last frame
+/// that was placed there is this project's own rule.
 ///
-/// It keeps no history; that it stands for one is a relation. A new one stands for the empty history, and after a claim or
-/// a release for each history that it stood for before, with that as its last row.
+/// It keeps no history; that it represents one is a relation. A new one represents the empty history, and after a claim or
+/// a release each history that it represented before, with that as its last row.
 #[derive(Clone, Copy, Debug)]
 pub struct Shares {
     channels: u8,
@@ -49,9 +49,9 @@ impl Shares {
     }
 
     /// Claims the card channels of the bindings, all or none, at a position in frames. The caller has bindings of this
-    /// card.
+    /// card (`can_claim`).
     ///
-    /// `Busy` comes exactly where one of them isn't free: where it is owned, or where one of its earlier owners laid a frame
+    /// `Busy` comes exactly where one of them isn't free: where it is owned, or where one of its earlier owners placed a frame
     /// at the position or past it. Its `until` is the position from which all of them are free, as far as that is known:
     /// None where one is owned, else the greatest last frame plus one; `seen` is the position.
     pub fn claim(&mut self, bindings: &Bindings, position: u64) -> Result<(), PcmError>
@@ -82,8 +82,20 @@ impl Shares {
         Ok(())
     }
 
+    /// Whether the bindings are of this card, as `claim` asks: each of their channels is one of the card's.
+    pub fn can_claim(&self, bindings: &Bindings) -> bool
+        ensures { IsTrue result ↔ AreOfCard self.now bindings.now }
+    {
+        for client in 0..bindings.len() {
+            if bindings.card_channel(client) >= self.channels {
+                return false;
+            }
+        }
+        true
+    }
+
     /// Releases the card channels of the bindings, which are of this card and owned (`can_release`), with the last frame that
-    /// their owner laid, if it laid one. With None the last frames of earlier owners still count.
+    /// their owner placed, if it placed one. With None the last frames of earlier owners still count.
     pub fn release(&mut self, bindings: &Bindings, last: Option<u64>)
         requires card { AreOfCard self.old bindings.now }
         requires owned { AreOwned self.old bindings.now }
@@ -152,7 +164,7 @@ impl Shares {
         }
     }
 
-    /// Notes of these channels that a frame was laid there, if one was.
+    /// Notes of these channels that a frame was placed there, if one was.
     fn raise(&mut self, bindings: &Bindings, frame: Option<u64>)
         requires { AreOfCard self.old bindings.now }
         ensures { self.new ≡ record self.old { last = raised frame self.old.last bindings.now } }

@@ -1,3 +1,5 @@
+//! Claims and releases, and the refusals of channels that aren't free.
+
 use super::*;
 use bindings::Bindings;
 use snd_base::PcmError;
@@ -108,6 +110,8 @@ fn only_owned_channels_of_the_card_are_released(rt: HostRuntime) -> Result<(), F
     assert_eq!(rt; shares.can_release(&left), true);
     assert_eq!(rt; shares.can_release(&both), false);
     assert_eq!(rt; shares.can_release(&other_card), false);
+    assert_eq!(rt; shares.can_claim(&both), true);
+    assert_eq!(rt; shares.can_claim(&other_card), false);
     if shares.can_release(&left) {
         shares.release(&left, None);
     }

@@ -1,3 +1,5 @@
+//! Calls of a reader at a core.
+
 use super::*;
 use bindings::Bindings;
 use hw_space::Config;

@@ -1,5 +1,6 @@
 //! The parameters of a space.
-ghost use Rattle.std.specs.Prelude.{◌≡◌};
+ghost use Rattle.std.specs.Prelude.{◌≡◌, ◌↔◌, IsTrue};
+ghost use Rattle.hw_space.specs.Narrowings.{FitsParam};
 ghost use Rattle.hw_space.specs.Params.{kind_of, HasInterval};
 
 use crate::quantity::Quantity;
@@ -54,7 +55,27 @@ impl Param {
         }
     }
 
-    /// The quantity of a parameter that has an interval.
+    /// Whether a parameter has an interval, and isn't a mask, as the calls that narrow one ask.
+    pub fn has_interval(self) -> bool
+        ensures { IsTrue result ↔ HasInterval self }
+    {
+        match self.kind() {
+            ParamKind::Number(_) => true,
+            ParamKind::Access | ParamKind::Format => false,
+        }
+    }
+
+    /// Whether a parameter can have a value, as `Space::set` asks: a mask has the members 0 to 63, and an interval any number.
+    pub fn can_be(self, value: u32) -> bool
+        ensures { IsTrue result ↔ FitsParam self value }
+    {
+        match self.kind() {
+            ParamKind::Number(_) => true,
+            ParamKind::Access | ParamKind::Format => value < 64,
+        }
+    }
+
+    /// The quantity of a parameter that has an interval (`has_interval`).
     pub fn quantity(self) -> Quantity
         requires { HasInterval self }
         ensures { kind_of self ≡ ParamKind.Number result }

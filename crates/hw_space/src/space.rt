@@ -73,7 +73,7 @@ impl Space {
     }
 
     /// Gives a parameter one value, and refines (`snd_pcm_hw_params_set_access` and the like). For the access and the
-    /// format the value is the number of a member, below 64.
+    /// format the value is the number of a member, below 64 (`Param::can_be`).
     ///
     /// `Empty` comes exactly where no space is left, and then the space is as before.
     pub fn set(&mut self, param: Param, value: u32) -> Result<(), Empty>

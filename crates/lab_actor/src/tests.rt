@@ -1,3 +1,5 @@
+//! Lines of one client or reader.
+
 use super::*;
 use bindings::Bindings;
 use dsnoop_client::Reader;

@@ -1,3 +1,4 @@
+//! Places and channels that are opened and closed.
 ghost use Rattle.std.specs.Prelude.{◌≡◌, ◌≤◌, IfOk, Some};
 ghost use Rattle.sum_table.specs.declared.seats.mix.MixSeat.{MixSeat};
 ghost use Rattle.sum_table.specs.Joins.{OneRing};

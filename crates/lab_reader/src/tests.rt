@@ -1,3 +1,4 @@
+//! A reader from phase to phase.
 ghost use Rattle.std.specs.Prelude.{◌≡◌, IfOk, None, OnOk, Some};
 ghost use Rattle.sum_table.specs.Rings.{GaveNone};
 ghost use Rattle.snoop_table.specs.Joins.{OneRing};

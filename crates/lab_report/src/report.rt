@@ -1,3 +1,4 @@
+//! A report: its rows, and what is below them.
 ghost use Rattle.std.specs.Prelude.{◌≡◌};
 
 use crate::row::Row;

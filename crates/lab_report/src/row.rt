@@ -1,3 +1,4 @@
+//! A row of a report: what one line of a script was answered.
 ghost use Rattle.std.specs.Prelude.{◌≡◌};
 ghost use Rattle.lab_report.specs.Text.{request_of_row};
 

@@ -1,4 +1,4 @@
--- The cut of a sum into the range of a sample of 16 bits.
+-- A sum that is saturated to the range of a sample of 16 bits.
 use Rattle.std.specs.Prelude.{◌≢◌, ℕ, ◌+◌, ◌<◌, ℤ, pos, negsuc, ◌≤ℤ◌}
 use Rattle.std.specs.Int.{int_min, int_max, int_gap}
 

@@ -4,18 +4,18 @@ ghost use Rattle.lap_word.specs.Clamp.{clamp_of, IsNearest};
 ghost use Rattle.lap_word.specs.Position.{gone_in, position_in, word_of};
 ghost use Rattle.lap_word.specs.Word.{StandsFor, lap_of, count_of, sum_of};
 
-/// Each number of 64 bits stands for three numbers: its lap, its count and its sum.
+/// Each number of 64 bits represents three numbers: its lap, its count and its sum.
 pub fn word_stands_for_its_fields()
     ensures { (w : ℕ) → w < 2 ^ 64 → StandsFor w (lap_of w) (count_of w) (sum_of w) }
 {}
 
-/// A word stands for nothing else, and no two words stand for the same three numbers.
+/// A word represents nothing else, and no two words represent the same three numbers.
 pub fn fields_are_unique()
     ensures fields { (w l c : ℕ) → (s : ℤ) → StandsFor w l c s → (lap_of w ≡ l) × (count_of w ≡ c) × (sum_of w ≡ s) }
     ensures word { (v w l c : ℕ) → (s : ℤ) → StandsFor v l c s → StandsFor w l c s → v ≡ w }
 {}
 
-/// What a sum is cut to is the number from -32768 to 32767 that is nearest to it.
+/// A sum is saturated to the number from -32768 to 32767 that is nearest to it.
 pub fn clamp_is_nearest()
     ensures { (x : ℤ) → IsNearest x (clamp_of x) }
 {}

@@ -12,4 +12,4 @@ pub use laws::{
 };
 pub use position::{gone_of, position_of, position_word};
 pub use samples::clamp;
-pub use word::{add, count, lap, pack, sum, taken, withdraw};
+pub use word::{add, can_add, can_take, can_withdraw, count, lap, pack, sum, taken, withdraw};

@@ -2,7 +2,7 @@
 ghost use Rattle.std.specs.Prelude.{◌≡◌, ◌<◌, ◌^◌};
 ghost use Rattle.lap_word.specs.Position.{gone_in, position_in, word_of};
 
-/// What the bit of a card that is gone is worth in a position word: 2 to the power 63.
+/// What is added to a position in the word of a card that is gone: 2 to the power 63.
 const GONE: u64 = 9223372036854775808;
 
 /// The word of a position, a frame number below 2 to the power 63, and of whether the card is gone.

@@ -1,3 +1,4 @@
+//! Places that are given and taken back.
 ghost use Rattle.std.specs.Prelude.{◌≡◌, ◌≤◌, All, IfOk};
 ghost use Rattle.sum_table.specs.Joins.{OneRing};
 ghost use Rattle.sum_table.specs.Players.{player_key, player_ring};

@@ -1,4 +1,4 @@
--- What each call of a core does to it, and to every history that it stands for.
+-- What each call of a core does to it, and to every history that it represents.
 use Rattle.std.specs.Prelude.{◌≡◌, ◌≢◌, ℕ, ◌<◌, true, false, List, [], ◌∷◌, ◌++◌, length, slice_index, slice_index_or}
 use Rattle.snd_base.specs.declared.geometry.Geometry.{Geometry}
 use Rattle.snd_base.specs.Places.{behind, first_frame}
@@ -25,7 +25,7 @@ pub record IsNew (v : View) (g : Geometry) (members : ℕ) : Type 0 where
   pub gone : v.gone ≡ false
   pub stands : Stands v []
 
--- an entry was laid, an add or a withdrawal: its member's marks move, and each history that it legally continues has it at its
+-- an entry was placed, an add or a withdrawal: its member's marks move, and each history that it legally continues has it at its
 -- end
 pub record IsLaidBy (v w : View) (e : Entry) : Type 0 where
   pub geometry : w.geometry ≡ v.geometry
@@ -40,7 +40,7 @@ pub record IsLaidBy (v w : View) (e : Entry) : Type 0 where
   pub untaken : (h : List Row) → Stands v h → is_taken (taken_of h) e.frame e.channel ≡ false
   pub stands : (h : List Row) → Stands v h → IsReply v.geometry (length v.marks) h (row_of e) → Stands w (h ++ row_of e ∷ [])
 
--- the next word was taken: its value is the total there, cut to a sample, and each history has the take at its end
+-- the next word was taken: its value is the total there, saturated to a sample, and each history has the take at its end
 pub record IsTaken (v w : View) (t : Taken) : Type 0 where
   pub geometry : w.geometry ≡ v.geometry
   pub marks : w.marks ≡ v.marks

@@ -96,7 +96,7 @@ pub record IsHeld (g : Geometry) (members : ℕ) (h : List Row) (m f c : ℕ) (s
 -- the reply to an event is the one that the history before it determines:
 -- an add is outside exactly where the member may not add there; any other add is late exactly where its frame and
 -- channel were taken, and in time otherwise; a take is refused exactly where the lap of the next word's frame is
--- 4294967295, and otherwise takes the next word, whose value is the total there, cut once to a sample; a publication
+-- 4294967295, and otherwise takes the next word, whose value is the total there, saturated once to a sample; a publication
 -- publishes the frame of the next word
 abbrev pub IsReply : Geometry → ℕ → List Row → Row → Type 0
 IsReply g members h (Add m f c s, Outside) = ¬ (IsInside g members h m f c)
@@ -125,10 +125,10 @@ IsLegal g members h = AreReplies g members [] h
 abbrev pub place_of : Taken → Cursor
 place_of t = record { frame = t.frame; channel = t.channel }
 
--- the list of everything that was taken is in order: its i-th stands at the next word after i taken words
+-- the list of everything that was taken is in order: its i-th is at the next word after i taken words
 abbrev pub AreInOrder : Geometry → List Taken → Type 0
 AreInOrder g ts = (i : ℕ) (d : Taken) → i < length ts → place_of (slice_index_or ts i d) ≡ next_word g i
 
--- each taken value is the total of what was laid there, cut once to a sample
+-- each taken value is the total of what was placed there, saturated once to a sample
 abbrev pub AreExact : List Entry → List Taken → Type 0
 AreExact es ts = All (λ (t : Taken). t.value ≡ clamp_of (total es t.frame t.channel)) ts

@@ -1,4 +1,4 @@
--- Where a member stands: its cursor, its floor and its high, and how they move.
+-- How far a member has got: its cursor, its floor and its high, and how they move.
 use Rattle.std.specs.Prelude.{ℕ, ◌-◌, Bool, ◌==◌, ◌&&◌, ◌||◌, nat_eq, nat_lt, if◌then◌else◌, Option, Some, None}
 use Rattle.snd_base.specs.declared.geometry.Geometry.{Geometry}
 use Rattle.snd_base.specs.declared.places.Cursor.{Cursor}

@@ -1,9 +1,9 @@
 -- The single steps of a port, each between two states of port and gate: a load of the position, a placement, a withdrawal.
-use Rattle.std.specs.Prelude.{◌≡◌, ℕ, ◌-◌, ◌/◌, ◌<◌, ◌≤◌, Bool, List, [], ◌∷◌, ◌++◌, length, Option, None, Some, IfSome, Result, Ok, Err, ⊤}
+use Rattle.std.specs.Prelude.{◌≡◌, ℕ, ◌+◌, ◌-◌, ◌/◌, ◌<◌, ◌≤◌, Bool, List, [], ◌∷◌, ◌++◌, length, Option, None, Some, true, IfSome, Result, Ok, Err, ⊤}
 use Rattle.std.specs.Option.{option_to_list}
 use Rattle.snd_base.specs.declared.errors.PcmError.{PcmError}
 use Rattle.snd_base.specs.declared.geometry.Geometry.{Geometry}
-use Rattle.snd_base.specs.Places.{IsWithin, lap}
+use Rattle.snd_base.specs.Places.{IsFrom, IsWithin, lap}
 use Rattle.lap_word.specs.Word.{lap_of}
 use Rattle.mix_core.specs.declared.gate.Pass.{Pass}
 use Rattle.mix_core.specs.declared.gate.Pass.TheVariants.{Go, Stop}
@@ -28,6 +28,14 @@ pub record PortView : Type 0 where
   pub marks : Marks
   -- the greatest position that was seen, or the first frame
   pub seen : ℕ
+
+-- a sample may be placed at a frame and channel: the port can add, the channel is one of the ring's, the frame and channel aren't
+-- before the cursor, and the frame is less than the ring's length past the position seen
+pub record CanPlace (v : PortView) (f c : ℕ) : Type 0 where
+  pub can_add : v.can_add ≡ true
+  pub channel : c < v.geometry.channels
+  pub from_cursor : IsFrom v.marks.cursor f c
+  pub ahead : f < v.seen + v.geometry.frames
 
 -- how a placement or withdrawal ended, by its result: every error is a stop
 abbrev pub ended_of : Result Placed PcmError → Ended

@@ -1,4 +1,4 @@
--- What a core replies to events one after the other, and which history it stands for afterwards. The standing adds of such a run are
+-- What a core replies to events one after the other, and which history it represents afterwards. The standing adds of such a run are
 -- those of its own events alone.
 use Rattle.std.specs.Prelude.{◌≡◌, ℕ, ◌+◌, ◌<◌, Bool, true, false, List, [], ◌∷◌, ◌++◌, length, filter, fold, drop, slice_index_or, ⊤, ℤ}
 use Rattle.std.specs.List.{zip}

@@ -1,4 +1,4 @@
--- What is true of every core, whatever history it stands for.
+-- What is true of every core, whatever history it represents.
 use Rattle.std.specs.Prelude.{◌≡◌, ℕ, ◌+◌, ◌*◌, ◌<◌, ◌≤◌, List, length, nat_lt, if◌then◌else◌, All, pos, ◌+ℤ◌, ◌≤ℤ◌}
 use Rattle.std.specs.List.{sum_by}
 use Rattle.mix_core.specs.declared.marks.Marks.{Marks}

@@ -1,4 +1,4 @@
--- That a core stands for a legal history: the core keeps no history, so this is a relation.
+-- That a core represents a legal history: the core keeps no history, so this is a relation.
 use Rattle.std.specs.Prelude.{◌≡◌, ℕ, ◌+◌, ◌<◌, ◌≤◌, List, [], length, nat_lt}
 use Rattle.std.specs.List.{slice_index_or}
 use Rattle.mix_core.specs.declared.marks.Marks.{Marks}
@@ -15,16 +15,16 @@ use Rattle.mix_core.specs.View.{View, word_at}
 pub record Agrees (v : View) (es : List Entry) (ts : List Taken) : Type 0 where
   pub next : v.next ≡ next_word v.geometry (length ts)
   pub marks : (m : ℕ) (d : Marks) → m < length v.marks → slice_index_or v.marks m d ≡ marks_of v.geometry m es
-  -- what was taken is what stands before the next word, and nothing is laid a ring's length past the position
+  -- what was taken is what is before the next word, and nothing is placed a ring's length past the position
   pub taken : (f c : ℕ) → c < v.geometry.channels → first_frame v.geometry ≤ f → is_taken ts f c ≡ nat_lt f (first_free v.next c)
   pub ahead : (f c : ℕ) → v.position + v.geometry.frames ≤ f → at es f c ≡ []
   -- each word that the ring has now has the lap of its frame, the number of the samples laid there, and their sum
   pub words : (f c : ℕ) → IsNow v.geometry v.next f c → StandsFor (word_at v f c) (lap v.geometry f) (length (at es f c)) (total es f c)
-  -- what was taken stands in the order of frames and channels, and each value is the sum of all that was laid there
+  -- what was taken is in the order of frames and channels, and each value is the sum of all that was placed there
   pub in_order : AreInOrder v.geometry ts
   pub exact : AreExact es ts
 
--- the core stands for the history: it is legal, and the core's parts are what it says
+-- the core represents the history: it is legal, and the core's parts are what it says
 pub record Stands (v : View) (h : List Row) : Type 0 where
   pub legal : IsLegal v.geometry (length v.marks) h
   pub position : v.position ≡ position_of v.geometry h

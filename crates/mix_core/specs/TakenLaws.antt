@@ -1,4 +1,4 @@
--- What a core's position and the words that it shows say of what was taken, whatever history it stands for.
+-- What a core's position and the words that it shows say of what was taken, whatever history it represents.
 use Rattle.std.specs.Prelude.{◌≡◌, ◌⊎◌, ◌↔◌, ℕ, ◌+◌, ◌<◌, ◌≤◌, List, [], ◌∷◌, ◌++◌, length}
 use Rattle.std.proofs.Common.{refl, sym, subst, ap, arith, inl, inr}
 use Rattle.std.proofs.lemmas.Bool.{cases_lt}
@@ -60,7 +60,7 @@ position_of-most g members h legal =
     ]
     ) [] h (omega (arith, start)) legal
 
--- where a core stands for some history, each frame before its position is taken
+-- where a core represents some history, each frame before its position is taken
 pub taken-published : (v : View) (h : List Row) (f c : ℕ) → Stands v h → f < v.position → f < first_free v.next c
 taken-published v h f c s before =
     let most : v.position ≤ v.next.frame = subst (λ (x : Cursor). v.position ≤ x.frame) (sym s.agrees.next)

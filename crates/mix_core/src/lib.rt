@@ -9,6 +9,7 @@ mod port;
 mod ring;
 mod run;
 mod turn;
+mod usable;
 
 pub use event::{Event, Reply, Taken};
 pub use gate::{Gate, NeverStops, Pass, StepKind, ask};
@@ -16,6 +17,7 @@ pub use marks::{Marks, is_before, later};
 pub use port::{Ended, Entry, Kind, MixPort, Placed, Position};
 pub use ring::Core;
 pub use turn::Turn;
+pub use usable::can_place;
 
 #[cfg(test)]
 mod tests;

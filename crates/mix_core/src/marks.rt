@@ -1,10 +1,10 @@
-//! How far a member has laid, and what it may still withdraw.
+//! How far a member has placed samples, and what it may still withdraw.
 ghost use Rattle.std.specs.Prelude.{◌≡◌, ◌<◌, ◌^◌, ◌+◌, ◌↔◌, IsTrue};
 ghost use Rattle.mix_core.specs.Marks.{added_at, is_before, start_marks, withdrawn_at};
 
 use snd_base::{Cursor, Geometry};
 
-/// Where a member stands: its cursor, the first frame and channel that it may add to; its floor, the frame and channel
+/// How far a member has got: its cursor, the first frame and channel that it may add to; its floor, the frame and channel
 /// before which it withdraws nothing any more; and its high, the greatest cursor that it had.
 #[derive(Clone, Copy, Debug, PartialEq, Eq)]
 pub struct Marks {
@@ -14,7 +14,7 @@ pub struct Marks {
 }
 
 impl Marks {
-    /// The marks before anything was laid: all at the first frame.
+    /// The marks before anything was placed: all at the first frame.
     pub fn start(geometry: &Geometry) -> Marks
         ensures { result ≡ start_marks geometry.now }
     {

@@ -56,7 +56,7 @@ pub enum Kind {
     Withdrawn,
 }
 
-/// One sample that was laid into a ring or withdrawn from it: by which member, at which frame (by its absolute number) and
+/// One sample that was placed in a ring or withdrawn from it: by which member, at which frame (by its absolute number) and
 /// channel.
 #[derive(Clone, Copy, Debug, PartialEq, Eq)]
 pub struct Entry {
@@ -131,7 +131,7 @@ pub trait MixPort {
 
     /// Adds a sample at a frame (its absolute number) and channel, and moves the cursor to the next channel.
     ///
-    /// A caller shows four things: the port can add at all; the channel is one of the ring's; the frame and channel aren't
+    /// A caller shows four things, which `can_place` tests: the port can add at all; the channel is one of the ring's; the frame and channel aren't
     /// before the port's cursor, so that no member has two adds in one word; and the frame is less than the ring's length
     /// past the position that the port has seen, so that its slot isn't still in use by an earlier frame.
     ///

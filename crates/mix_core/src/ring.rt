@@ -14,10 +14,10 @@ use std::marker::Model;
 
 /// A mix ring with one owner: the words of its slots and channels, a cursor for each member, and the player's place.
 /// The clients' samples are summed as ALSA's dmix plugin sums them (alsa-lib, `snd_pcm_dmix`), in one word for each slot
-/// and channel, and cut to 16 bits once, when the player takes the word.
+/// and channel, and saturated to 16 bits once, when the player takes the word.
 ///
-/// A core keeps no history of what happened to it; that it stands for one is a relation. A new core stands for the empty
-/// history. For each history that a core stood for before a call, it stands afterwards for that history with this at its
+/// A core keeps no history of what happened to it; that it represents one is a relation. A new core represents the empty
+/// history. For each history that a core represented before a call, it represents afterwards that history with this at its
 /// end:
 ///
 /// - after `take` a take with the frame, channel and value that were taken, or one that was refused with `LapEnd`;
@@ -28,7 +28,7 @@ use std::marker::Model;
 /// - after `unplug` and every other call nothing. So it is after a placement that ends with `LapEnd`, since it could only
 ///   be an add with the reply `Outside`, and those are left out, and after one that ends with `Stopped`, since it is none.
 ///
-/// An add or withdrawal that was late changes nothing, so the core stands for the history without it too.
+/// An add or withdrawal that was late changes nothing, so the core represents the history without it too.
 #[derive(Drop)]
 pub struct Core {
     geometry: Geometry,
@@ -79,7 +79,7 @@ impl Core {
     }
 
     /// Takes the next word, in the order of frames and channels, and leaves the empty word of the next lap in its place.
-    /// The value is the sum of the samples that were added there, cut once to the nearest sample of 16 bits. `LapEnd`
+    /// The value is the sum of the samples that were added there, saturated once to 16 bits. `LapEnd`
     /// comes exactly where the next frame's lap is 4294967295; nothing changes then.
     pub fn take(&mut self) -> Result<Taken, PcmError>
         ensures ok { IfOk result (λ taken. IsTaken self.old self.new taken) }
@@ -182,7 +182,7 @@ impl Core {
     }
 
     /// Adds the entry's sample to the word of its frame and channel, which are not taken yet, and moves its member's
-    /// cursor behind them.
+    /// cursor right after them.
     pub(crate) fn add(&mut self, entry: Entry)
         requires kind { entry.kind ≡ Added }
         requires member { entry.member < length self.old.marks }

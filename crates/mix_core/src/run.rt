@@ -15,8 +15,8 @@ use std::alloc::Global;
 impl Core {
     /// Lets these events happen one after the other, and answers one reply for each.
     ///
-    /// The replies are those that a legal history gives after each history that the core stood for, where the standing adds are
-    /// those of this call's events alone: a withdrawal takes back what this call added. Afterwards the core stands for that
+    /// The replies are those that a legal history gives after each history that the core represented, where the standing adds are
+    /// those of this call's events alone: a withdrawal takes back what this call added. Afterwards the core represents that
     /// history with these events and replies at its end, except the ones that were `Outside`: they change nothing, and are
     /// left out. `unplug` is no event, and the card is gone afterwards where it was before.
     ///

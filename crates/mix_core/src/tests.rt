@@ -1,3 +1,4 @@
+//! Placements, takes and events at a core.
 ghost use Rattle.std.specs.Prelude.{◌≡◌, ◌<◌, ◌≤◌, ◌+◌, true, length};
 ghost use Rattle.snd_base.specs.Places.{IsFrom, first_free, lap};
 ghost use Rattle.mix_core.specs.Laid.{an_add};
@@ -62,14 +63,10 @@ fn try_lay(
     ensures members { length core.new.marks ≡ length core.old.marks }
 {
     let geometry = core.geometry();
-    if member >= core.members() || channel >= geometry.channels {
+    if member >= core.members() || geometry.lap(frame) >= 4294967295 {
         return Err("out of range".into());
     }
-    let ahead = core.position().frame + geometry.frames as u64;
-    if frame < core.cursor(member).first_free(channel)
-        || frame >= ahead
-        || geometry.lap(frame) >= 4294967295
-    {
+    if !can_place(&core.turn(member), frame, channel) {
         return Err("outside".into());
     }
     Ok(lay(core, member, frame, channel, sample)?)
@@ -89,7 +86,7 @@ fn new_core(rt: &HostRuntime, channels: u8, members: u32) -> Result<Core, Fail>
     Ok(Core::new(rt.alloc(), geometry, members)?)
 }
 
-// The sum of 30000, 10000 and -20000 is 20000; that of the first two is 40000, which is cut to 32767.
+// The sum of 30000, 10000 and -20000 is 20000; that of the first two is 40000, which is saturated to 32767.
 #[test]
 fn three_samples_are_summed_before_the_cut(rt: HostRuntime) -> Result<(), Fail> {
     let mut core = new_core(&rt, 1, 3)?;
@@ -201,7 +198,7 @@ fn an_add_is_late_then_in_time_then_outside(rt: HostRuntime) -> Result<(), Fail>
     Ok(())
 }
 
-// The frames of lap 4294967294 begin at 1099511627264. A take behind its last word is refused, as often as it is tried.
+// The frames of lap 4294967294 begin at 1099511627264. A take after its last word is refused, as often as it is tried.
 #[test]
 fn the_last_lap_ends(rt: HostRuntime) -> Result<(), Fail> {
     let mut core = stereo_core(&rt, 4294967294)?;

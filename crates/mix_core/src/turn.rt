@@ -8,8 +8,8 @@ use snd_base::{Cursor, Geometry, PcmError};
 
 /// The port of one member over a core, which it borrows as long as it lasts.
 ///
-/// For every history that the core stood for before a placement or withdrawal, it stands afterwards for that history with
-/// this member's add or withdrawal at its end: with the reply `In` where it was laid (the relation `laid`, which joins those
+/// For every history that the core represented before a placement or withdrawal, it represents afterwards that history with
+/// this member's add or withdrawal at its end: with the reply `In` where it was placed (the relation `laid`, which joins those
 /// of several calls), and with the reply `Late` where it came too late (in `finds`); a withdrawal legally continues only a
 /// history in which the member's last standing add is its sample. One that ends with `LapEnd` or `Stopped` appends nothing,
 /// nor does a load of the position. The positions that it loads are the core's. Over a turn a placement or withdrawal is late

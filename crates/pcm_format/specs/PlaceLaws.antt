@@ -1,11 +1,11 @@
--- Laws of places: samples stand apart, and a whole buffer holds every range of its frames.
+-- Laws of places: samples are apart, and a whole buffer holds every range of its frames.
 use Rattle.std.specs.Prelude.{◌≡◌, ℕ, ◌+◌, ◌*◌, ◌/◌, ◌<◌, ◌≤◌, true, false}
 use Rattle.std.proofs.Common.{cond, arith, ap, sym, ◌∙◌}
 use Rattle.std.proofs.lemmas.Nat.{div-mul-add, mul-add-lt}
 use Rattle.pcm_format.specs.declared.areas.Areas.{Areas}
 use Rattle.pcm_format.specs.Places.{place_of, HoldsRange}
 
--- two numbers in rows of one width that are one number stand in one row
+-- two numbers in rows of one width that are one number are in one row
 same_row : (a b w c d : ℕ) → c < w → d < w → a * w + c ≡ b * w + d → a ≡ b
 same_row a b w c d low high same = sym (div-mul-add a w c low) ∙ ap (λ (n : ℕ). n / w) same ∙ div-mul-add b w d high
 
@@ -13,7 +13,7 @@ same_row a b w c d low high same = sym (div-mul-add a w c low) ∙ ap (λ (n : �
 same_column : (a b w c d : ℕ) → c < w → d < w → a * w + c ≡ b * w + d → c ≡ d
 same_column a b w c d low high same = omega (arith, same, ap (λ (n : ℕ). n * w) (same_row a b w c d low high same))
 
--- of two frames no sample stands at one place
+-- two frames have no place in common
 pub place_of-frame : (areas : Areas) (f g c d : ℕ) → f < areas.frames → g < areas.frames → c < areas.channels → d < areas.channels
     → place_of areas f c ≡ place_of areas g d → f ≡ g
 place_of-frame areas f g c d f_in g_in c_in d_in same =
@@ -22,7 +22,7 @@ place_of-frame areas f g c d f_in g_in c_in d_in same =
       | false ↦ λ e. same_column c d areas.frames f g f_in g_in e
     ] same
 
--- of two channels no sample stands at one place
+-- two channels have no place in common
 pub place_of-channel : (areas : Areas) (f g c d : ℕ) → f < areas.frames → g < areas.frames → c < areas.channels → d < areas.channels
     → place_of areas f c ≡ place_of areas g d → c ≡ d
 place_of-channel areas f g c d f_in g_in c_in d_in same =
@@ -31,7 +31,7 @@ place_of-channel areas f g c d f_in g_in c_in d_in same =
       | false ↦ λ e. same_row c d areas.frames f g f_in g_in e
     ] same
 
--- each sample stands within as many places as there are samples
+-- each place is below the number of samples
 pub place_of-lt : (areas : Areas) (f c : ℕ) → f < areas.frames → c < areas.channels → place_of areas f c < areas.channels * areas.frames
 place_of-lt areas f c f_in c_in =
     elim areas.interleaved as (λ b. cond b (f * areas.channels + c) (c * areas.frames + f) < areas.channels * areas.frames) [

@@ -1,4 +1,4 @@
--- Where the samples of frames stand in a buffer, and what a change of some frames leaves.
+-- Where the samples of frames are in a buffer, and what a change of some frames leaves as it was.
 use Rattle.std.specs.Prelude.{◌≡◌, ◌≢◌, ℕ, ◌+◌, ◌*◌, ◌<◌, ◌≤◌, if◌then◌else◌, List, Some, ℤ, pos, slice_get}
 use Rattle.pcm_format.specs.declared.areas.Areas.{Areas}
 

@@ -29,7 +29,7 @@ silence_of U8 = 128
 silence_of S16Le = 0
 silence_of S16Be = 0
 
--- the sample of 16 bits that bytes stand for
+-- the sample of 16 bits that bytes represent
 abbrev pub sample_of : Format → List ℕ → ℤ
 sample_of S8 bytes = cast_signed w8 (slice_index bytes 0) *ℤ pos 256
 sample_of U8 bytes = (pos (slice_index bytes 0) -ℤ pos 128) *ℤ pos 256

@@ -28,8 +28,8 @@ fn copy_frame(
 
 /// Copies `count` frames from one buffer, from frame `first` on, into another, from frame `at` on.
 ///
-/// The buffers may be laid out differently. The caller has buffers that hold these frames, with the
-/// same number of channels. All else in `to` stays as it was. This is ALSA's `snd_pcm_areas_copy`
+/// The buffers may have different layouts. The caller has buffers that hold these frames
+/// (`Areas::holds`), with the same number of channels. All else in `to` stays as it was. This is ALSA's `snd_pcm_areas_copy`
 /// for samples of 16 bits (alsa/pcm.h).
 pub fn copy_frames(
     from: &[i16],

@@ -21,7 +21,7 @@ pub fn high_part_is_rounded_down()
     ensures near { (z : ℤ) → z <ℤ ((high_part z *ℤ pos 256) +ℤ pos 256) }
 {}
 
-/// No two samples of a buffer stand at one place.
+/// No two samples of a buffer are at one place.
 pub fn places_are_apart()
     ensures frames { (areas : Areas) → (f g c d : ℕ)
         → f < areas.frames → g < areas.frames → c < areas.channels → d < areas.channels

@@ -4,7 +4,7 @@ ghost use Rattle.pcm_format.specs.Samples.{bytes_of, sample_of, printed};
 
 use crate::format::Format;
 
-/// The sample of 16 bits that `bytes` stand for in a format.
+/// The sample of 16 bits that `bytes` represent in a format.
 ///
 /// The caller has as many bytes as the format: 1 for `S8` and `U8`, 2 for `S16Le` and `S16Be`. An
 /// 8-bit sample is put into the high byte: the signed byte times 256, for `U8` the byte less 128

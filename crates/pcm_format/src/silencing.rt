@@ -18,7 +18,7 @@ fn silence_frame(to: &mut [i16], areas: &Areas, at: u32)
 
 /// Writes zeros into `count` frames of a buffer, from frame `at` on.
 ///
-/// The caller has a buffer that holds these frames. All else in `to` stays as it was. This is ALSA's
+/// The caller has a buffer that holds these frames (`Areas::holds`). All else in `to` stays as it was. This is ALSA's
 /// `snd_pcm_areas_silence` for samples of 16 bits (alsa/pcm.h).
 pub fn silence_frames(to: &mut [i16], areas: &Areas, at: u32, count: u32)
     requires { HoldsRange areas.now (length to.old) at count }

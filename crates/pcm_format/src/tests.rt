@@ -1,3 +1,4 @@
+//! Formats, places, and frames that are copied and silenced.
 ghost use Rattle.std.specs.Prelude.{◌≡◌};
 
 use super::*;
@@ -90,4 +91,24 @@ fn only_the_range_is_changed(rt: HostRuntime) {
 fn a_place_is_by_frame_or_by_channel(rt: HostRuntime) {
     assert_eq!(rt; two_by_two(true).place(0, 1), 1);
     assert_eq!(rt; two_by_two(false).place(0, 1), 2);
+}
+
+#[test]
+fn a_buffer_holds_the_frames_whose_places_it_has(rt: HostRuntime) {
+    for (interleaved, samples, first, count, holds) in [
+        (true, 4, 0, 2, true),
+        (true, 3, 0, 2, false),
+        (true, 2, 0, 1, true),
+        (false, 3, 0, 1, true),
+        (false, 2, 0, 1, false),
+        (true, 4, 1, 2, false),
+        (true, 4, 3, 0, false),
+        (false, 0, 2, 0, true),
+    ] {
+        assert_eq!(rt;
+            two_by_two(interleaved).holds(samples, first, count),
+            holds,
+            "at {samples}"
+        );
+    }
 }

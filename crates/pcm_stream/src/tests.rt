@@ -1,3 +1,5 @@
+//! Calls that a stream admits, and setups that can run.
+
 use super::*;
 use bindings::Bindings;
 use hw_space::Config;

@@ -1,5 +1,5 @@
 //! Where the words of a ring are.
-ghost use Rattle.std.specs.Prelude.{◌≡◌, ◌<◌, ◌≤◌, ◌↔◌, true};
+ghost use Rattle.std.specs.Prelude.{◌≡◌, ◌<◌, ◌≤◌, ◌↔◌, IsTrue, true};
 ghost use Rattle.snd_base.specs.Places.{lap};
 ghost use Rattle.ring_rule.specs.Spots.{IsLapStart, IsSpot};
 
@@ -29,6 +29,13 @@ impl LapStart {
             lap: geometry.first_lap as u64,
             frame: geometry.first_frame(),
         }
+    }
+
+    /// Whether this is a lap that the words of such a ring can have, with its first frame, as the calls below ask.
+    pub fn is_of(&self, geometry: &Geometry) -> bool
+        ensures { IsTrue result ↔ IsLapStart geometry.now self.now }
+    {
+        self.lap < 4294967295 && self.frame == self.lap * geometry.frames as u64
     }
 
     /// Where the word of a frame and channel is, in this lap or another one.

@@ -3,7 +3,7 @@ use Rattle.std.specs.Prelude.{◌≡◌, ℕ, ◌+◌, ◌<◌, ◌≤◌, List,
 use Rattle.std.specs.Option.{option_to_list}
 use Rattle.snd_base.specs.declared.errors.PcmError.{PcmError}
 use Rattle.snd_base.specs.declared.geometry.Geometry.{Geometry}
-use Rattle.snd_base.specs.Places.{IsWithin, lap}
+use Rattle.snd_base.specs.Places.{IsWithin, first_frame, lap}
 use Rattle.mix_core.specs.declared.gate.Pass.{Pass}
 use Rattle.mix_core.specs.declared.gate.Pass.TheVariants.{Go, Stop}
 use Rattle.mix_core.specs.declared.gate.StepKind.{StepKind}
@@ -23,6 +23,13 @@ pub record SnoopView : Type 0 where
   pub geometry : Geometry
   -- the greatest position that was seen, or the first frame
   pub seen : ℕ
+
+-- a frame may be loaded into room for so many samples: it was captured, as far as the port has seen, and there is one sample for
+-- each channel
+pub record CanLoad (v : SnoopView) (frame room : ℕ) : Type 0 where
+  pub least : first_frame v.geometry ≤ frame
+  pub stored : frame < v.seen
+  pub room_is : room ≡ v.geometry.channels
 
 -- what came of the load of a frame, by its result: every error is a stop
 abbrev pub got_of : Result Loaded PcmError → Got

@@ -1,4 +1,4 @@
--- What contracts see of the words of a ring with one owner, and which samples they stand for.
+-- What contracts see of the words of a ring with one owner, and which samples they represent.
 use Rattle.std.specs.Prelude.{◌≡◌, ℕ, ◌+◌, ◌*◌, ◌<◌, List, [], ◌∷◌, ◌++◌, length, slice_index, ℤ, nat_lt, if◌then◌else◌}
 use Rattle.snd_base.specs.declared.geometry.Geometry.{Geometry}
 use Rattle.snd_base.specs.declared.places.Cursor.{Cursor}

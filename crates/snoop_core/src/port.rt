@@ -92,9 +92,9 @@ pub trait SnoopPort {
     /// Loads the captured frame of an absolute number into `out`, one sample for each channel of the card, in order.
     ///
     /// A caller shows that the frame is one that was captured, as far as the port has seen, and that `out` has room for its
-    /// samples: as many as the ring has channels.
+    /// samples: as many as the ring has channels (`can_load`).
     ///
-    /// `Got` says that `out` is this frame. `Overtaken` comes only where a word of a later lap stands at one of the frame's
+    /// `Got` says that `out` is this frame. `Overtaken` comes only where a word of a later lap is at one of the frame's
     /// channels, which the port then shows, and `Stopped` exactly where the gate stopped; `out` holds nothing of use then.
     ///
     /// The gate is asked once before each channel is loaded, each time for a `Look`. A frame that is more than the ring's

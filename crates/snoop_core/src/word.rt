@@ -2,7 +2,7 @@
 ghost use Rattle.std.specs.Prelude.{◌≡◌};
 ghost use Rattle.snoop_core.specs.Word.{HoldsSample, laps_of, sample_of};
 
-/// What one lap is worth in a word: 2 to the power 32.
+/// What a word grows by with one lap: 2 to the power 32.
 const LAP_UNIT: u64 = 4294967296;
 
 /// The number of samples of 16 bits: 2 to the power 16.

@@ -28,7 +28,7 @@ pub struct SnoopRing {
 }
 
 impl SnoopRing {
-    ghost use Rattle.std.specs.Prelude.{IfOk, IfErr};
+    ghost use Rattle.std.specs.Prelude.{◌↔◌, IsTrue, IfOk, IfErr};
     ghost use Rattle.snoop_table.specs.Rings.{GaveNone, HasSeats, IsNewRing, geometry_of_ring};
 
     /// A ring of this geometry in which nothing is stored: each word has the sample 0 and the number of the first lap. It
@@ -49,7 +49,15 @@ impl SnoopRing {
         })
     }
 
-    /// The writer's seat and a reader's. A ring gives them once: the caller shows that this ring has given none before.
+    /// Whether the ring has given no seats yet, as `seats` asks.
+    pub fn gave_none(&self) -> bool
+        ensures { IsTrue result ↔ GaveNone self.now }
+    {
+        self.first.is_some()
+    }
+
+    /// The writer's seat and a reader's. A ring gives them once: the caller shows that this ring has given none before
+    /// (`gave_none`).
     pub fn seats(&mut self) -> (WriterSeat<'_>, ReaderSeat<'_>)
         requires { GaveNone self.old }
         ensures { HasSeats (geometry_of_ring self.old) result.0 result.1 }

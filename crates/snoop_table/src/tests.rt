@@ -1,3 +1,4 @@
+//! Seats of a ring in one thread.
 ghost use Rattle.std.specs.Prelude.{◌≤◌, IfOk};
 ghost use Rattle.snoop_table.specs.Readers.{SameReader};
 ghost use Rattle.snoop_table.specs.Rings.{GaveNone};

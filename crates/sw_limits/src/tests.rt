@@ -1,3 +1,5 @@
+//! Thresholds and their defects.
+
 use super::*;
 use hw_space::Config;
 use snd_base::Why;

@@ -1,3 +1,5 @@
+//! Clients that come and go in threads of their own.
+
 use super::*;
 use std::thread::{Threads, join_mut};
 

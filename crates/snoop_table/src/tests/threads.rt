@@ -1,3 +1,5 @@
+//! Seats in threads of their own.
+
 use super::*;
 use std::thread::{Threads, join_mut, yield_now};
 
