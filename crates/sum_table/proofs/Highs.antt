@@ -1,5 +1,5 @@
 -- The greatest frame that a seat laid in is the last one before its high.
-use Rattle.std.proofs.Common.{◌≡◌, ℕ, zero, suc, ◌+◌, ◌<◌, ◌≤◌, Bool, true, false, Option, None, Some, List, [], ◌∷◌, max, if◌then◌else◌, arith, subst, sym, refl, ap, ◌∙◌}
+use Rattle.std.proofs.Common.{◌≡◌, ℕ, zero, suc, ◌+◌, ◌<◌, ◌≤◌, Bool, true, false, Option, None, Some, is_some, List, [], ◌∷◌, max, if◌then◌else◌, arith, subst, sym, refl, ap, ◌∙◌}
 use mathlib.Core.Option.{some, some-injective, some-ne-none}
 use lib.ListN.{get_elem?}
 use Rattle.std.proofs.lemmas.Bool.{false≢true}
@@ -91,6 +91,15 @@ last_frame-has (x ∷ xs) (suc i) e there = past (last_frame xs) (last_frame-has
     past : (o : Option ℕ) → greater o (Some e.frame) ≡ o → greater (greater (Some x.frame) o) (Some e.frame) ≡ greater (Some x.frame) o
     past None is = absurd (none-some e.frame (sym is))
     past (Some n) is = grind (arith, is)
+
+-- where some entries have no greatest frame there is no entry
+pub last_frame-nil : (es : List Entry) → is_some (last_frame es) ≡ false → es ≡ []
+last_frame-nil [] none = refl
+last_frame-nil (e ∷ es) none = absurd (false≢true (sym none ∙ ever (last_frame es)))
+  where
+    ever : (o : Option ℕ) → is_some (greater (Some e.frame) o) ≡ true
+    ever None = refl
+    ever (Some n) = refl
 
 -- ---- what is free after it
 

@@ -1,4 +1,4 @@
--- What holds between any two steps: the words stand for the sums of exactly what was laid, and there is one legal history
+-- What holds between any two steps: the words represent the sums of exactly what was placed, and there is one legal history
 -- of all adds, takes and publications.
 use Rattle.std.specs.Prelude.{◌≡◌, ℕ, ◌+◌, ◌*◌, ◌<◌, ◌≤◌, ◌⊎◌, Bool, true, false, Option, None, Some, List, [], ◌∷◌, ◌++◌, map, length, fold, slice_index, nat_lt, pos, ◌+ℤ◌, ◌≤ℤ◌, ⊤, replicate}
 use Rattle.std.specs.List.{slice_index_or}
@@ -41,9 +41,9 @@ IsPublished g t p = IsPosition g t.published p
 abbrev pub BeginsWith : List Row → List Row → Type 0
 BeginsWith h early = (later : List Row) × (h ≡ early ++ later)
 
--- the words stand for what was laid and for what the player did: word 0 for the position and the gone bit, and the word of
--- each slot and channel for its first frame that is not taken, with the number of samples laid there and their sum;
--- everything taken was taken in the order of frames and channels, each value is the sum of all samples laid there, cut
+-- the words represent what was placed and what the player did: word 0 the position and the gone bit, and the word of
+-- each slot and channel its first frame that is not taken, with the number of samples placed there and their sum;
+-- everything taken was taken in the order of frames and channels, each value is the sum of all samples placed there, saturated
 -- once, and published positions never fall and are not ahead of the next word
 pub record IsRing (g : Geometry) (words : List ℕ) (es : List Entry) (t : Track) : Type 0 where
   pub room : length words ≡ words_of g
@@ -101,7 +101,7 @@ pub record IsKept (g : Geometry) (places : ℕ) (es mine free : List Entry) (mar
 
 -- what a seat knows is so: its entries are in the ring, before its cursor, and at each frame and channel at most as many as
 -- it has places; it saw positions that were published, and the card gone only where it is; each word that it noted is not
--- past the word that stands there now; and the ring's history begins with what it has seen of it, and with what a seat that
+-- past the word that is there now; and the ring's history begins with what it has seen of it, and with what a seat that
 -- was joined into it had seen
 pub record IsView (k : Key) (words : List ℕ) (t : Track) (h : List Row) (v : View) : Type 0 where
   pub kept : IsKept k.geometry v.places v.laid v.mine v.free v.marks v.seen v.ended

@@ -23,7 +23,7 @@ use Rattle.sum_table.specs.Seats.{key_of, ring_of, view_of}
 use Rattle.sum_table.specs.Steps.{Makes, with_history}
 use Rattle.ring_rule.specs.Words.{index_of}
 
--- two seats are of one ring. That one ring has one key is not told by its identity, so both are asked
+-- two seats are of one ring. That one ring has one key isn't said by its identity, so both are asked
 abbrev pub OneRing : TableId → Key → TableId → Key → Type 0
 OneRing a k b l = (a ≡ b) × (k ≡ l)
 
@@ -140,8 +140,8 @@ pub record HasHeard (p q : PlayerSeat) (n : SeatNote) : Type 0 where
   pub note_history : BeginsWith (player_view q).history (note_view n).history
   pub event : Makes (both_of (player_view p) (note_view n)) (player_view q) (λ _. [])
 
--- the ring was closed: everything that the player took stands in order, and each value is the sum of exactly the samples
--- that the mix seat laid there, cut once. The ring's whole history is legal, took what the player took, and laid as many
+-- the ring was closed: everything that the player took is in order, and each value is the sum of exactly the samples
+-- that the mix seat placed there, saturated once. The ring's whole history is legal, took what the player took, and placed as many
 -- samples, of the same sum, as the seat's laid list
 pub record HasClosed (s : MixSeat) (p : PlayerSeat) (c : Closed) : Type 0 where
   pub position : c.position ≡ position_at (key_of s).geometry (track_of p)

@@ -32,7 +32,7 @@ last_frame (e ∷ es) = greater (Some e.frame) (last_frame es)
 abbrev pub SitsAt : TableId → TableId → Key → Key → List (ℕ × Entry) → Type 0
 SitsAt own ring key ring_key held = (own ≡ ring) × (key ≡ ring_key) × (held ≡ []) × (ring.words ≡ words_of key.geometry)
 
--- each word that a view noted is one that can stand there, and there is room for a note of each word
+-- each word that a view noted is one that can be there, and there is room for a note of each word
 pub record IsNoted (v : View) (k : Key) : Type 0 where
   pub room : length v.noted ≡ words_of k.geometry
   pub words : (i n : ℕ) → slice_index_or v.noted i None ≡ Some n → IsWord n k.places

@@ -51,8 +51,8 @@ pub record PlayerGoes (p q : PlayerSeat) : Type 0 where
   pub key : q.key ≡ p.key
   pub history : BeginsWith (player_view q).history (player_view p).history
 
--- the next word was taken: what was taken stands at the end of the taken list, and its value is the sum of everything that
--- the history laid there, cut once
+-- the next word was taken: what was taken is at the end of the taken list, and its value is the sum of everything that
+-- the history placed there, saturated once
 pub record HasTaken (p q : PlayerSeat) (x : Taken) : Type 0 where
   pub goes : PlayerGoes p q
   pub view : player_view q ≡ with_taken (player_view p) (player_view q).history (track_of p) x

@@ -148,8 +148,8 @@ pub record SeatLoaded (s t : MixSeat) (ps : List Position) : Type 0 where
   pub gone : (view_of t).seen_gone ≡ ((view_of s).seen_gone || list_any (λ (p : Position). p.gone) ps)
   pub after_gone : (view_of s).seen_gone ≡ true → All (λ (p : Position). p.gone ≡ true) ps
 
--- a word was found at a frame and channel, and noted; nothing else changed. Where it has the frame's lap, it stands for what
--- the history laid there; where its lap is past the frame's, this was an add with the reply `Late`
+-- a word was found at a frame and channel, and noted; nothing else changed. Where it has the frame's lap, it represents what
+-- the history placed there; where its lap is past the frame's, this was an add with the reply `Late`
 pub record HasNoted (s t : MixSeat) (f c n : ℕ) : Type 0 where
   pub goes : Goes s t
   pub view : view_of t ≡ with_note (view_of s) (view_of t).history (index_of s.key.geometry f c) n
@@ -161,7 +161,7 @@ pub record HasNoted (s t : MixSeat) (f c n : ℕ) : Type 0 where
   pub sum : IsSumOf s.key.geometry (view_of t).history f c n
   pub event : MakesLook (view_of s) (view_of t) (index_of s.key.geometry f c) n
 
--- an entry was laid, and the cursor stands right behind it. This was an add with the reply `In`
+-- an entry was placed, and the cursor is right after it. This was an add with the reply `In`
 pub record HasLaid (s t : MixSeat) (e : Entry) : Type 0 where
   pub goes : Goes s t
   pub view : view_of t ≡ with_entry (view_of s) (view_of t).history e

@@ -114,7 +114,7 @@ pub record HoldsLast (v : View) (f c : ℕ) (s : ℤ) : Type 0 where
 abbrev pub MayStand : View → ℕ → ℕ → Type 0
 MayStand v f c = ((0 < v.places) × IsFrom v.marks.cursor f c) ⊎ ((s : ℤ) × HoldsLast v f c s)
 
--- a word of a later lap stands where a seat could still have added, as far as it knows
+-- a word of a later lap is where a seat could still have added, as far as it knows
 pub record IsLateAt (v : View) (i n f c : ℕ) : Type 0 where
   pub index : index_of v.key.geometry f c ≡ i
   pub channel : c < v.key.geometry.channels
@@ -169,7 +169,7 @@ located s m n r =
     × (m.0.seen_gone ≡ true → gone ≡ true)
     × Makes m.0 (with_position m.0 h p gone) (λ _. [])
 
--- a word stands for what a history laid at a frame and channel, where it has the frame's lap: the number of the samples there
+-- a word represents what a history placed at a frame and channel, where it has the frame's lap: the number of the samples there
 -- and their sum
 abbrev pub IsSumOf : Geometry → List Row → ℕ → ℕ → ℕ → Type 0
 IsSumOf g h f c n = lap_of n ≡ lap g f → StandsFor n (lap g f) (count (laid_of h) f c) (total (laid_of h) f c)

@@ -8,6 +8,7 @@ mod port;
 mod ring;
 mod rule;
 mod seats;
+mod usable;
 mod view;
 mod withdraw;
 

@@ -28,7 +28,7 @@ pub struct SumRing {
 }
 
 impl SumRing {
-    ghost use Rattle.std.specs.Prelude.{◌≤◌, IfOk, IfErr};
+    ghost use Rattle.std.specs.Prelude.{◌≤◌, ◌↔◌, IsTrue, IfOk, IfErr};
     ghost use Rattle.sum_table.specs.Rings.{GaveNone, HasSeats, IsNewRing, key_of_ring};
 
     /// A ring of this geometry with 1 to 64 places, with nothing laid. It refuses, with `Memory`, only where no memory is
@@ -52,8 +52,15 @@ impl SumRing {
         })
     }
 
+    /// Whether the ring has given no seats yet, as `seats` asks.
+    pub fn gave_none(&self) -> bool
+        ensures { IsTrue result ↔ GaveNone self.now }
+    {
+        self.first.is_some()
+    }
+
     /// The player's seat and one mix seat with all places, whose member is 0. A ring gives them once: the caller shows
-    /// that this ring has given none before.
+    /// that this ring has given none before (`gave_none`).
     pub fn seats(&mut self) -> (PlayerSeat<'_>, MixSeat<'_>)
         requires { GaveNone self.old }
         ensures { HasSeats (key_of_ring self.old) result.0 result.1 }

@@ -36,6 +36,7 @@ pub(crate) fn deal<'a>(ring: &'a Shared, first: Seat, key: Key) -> (PlayerSeat<'
         frame: key.geometry.first_frame(),
         channel: 0,
     };
+    let lap_start = LapStart::first(&key.geometry);
     let mix = ring.split_seat::<Deal>(&mut seat);
     let player = PlayerSeat {
         ring,
@@ -44,6 +45,7 @@ pub(crate) fn deal<'a>(ring: &'a Shared, first: Seat, key: Key) -> (PlayerSeat<'
         next: start,
         position: start.frame,
         gone: false,
+        start: lap_start,
     };
     let mix = MixSeat {
         ring,
@@ -53,7 +55,7 @@ pub(crate) fn deal<'a>(ring: &'a Shared, first: Seat, key: Key) -> (PlayerSeat<'
         places: key.places,
         reach: Reach::start(key.geometry),
         seen: start.frame,
-        start: LapStart::first(&key.geometry),
+        start: lap_start,
     };
     (player, mix)
 }

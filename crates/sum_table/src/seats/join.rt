@@ -26,7 +26,7 @@ impl<'a> MixSeat<'a> {
     ghost use Rattle.sum_table.specs.Seats.{key_of, places_of_seat, ring_of, view_of};
 
     /// Moves some of this seat's places to a new seat of this member. The new seat has seen as much as this one, and has
-    /// laid nothing. The caller shows that this seat has so many places, and that nothing was laid by it.
+    /// laid nothing. The caller shows that this seat has so many places, and that nothing was laid by it (`is_fresh`).
     pub fn split(&mut self, places: u32, member: u32) -> MixSeat<'a>
         requires places { places ≤ places_of_seat self.old }
         requires laid_nothing { (view_of self.old).laid ≡ [] }
@@ -113,7 +113,7 @@ impl<'a> MixSeat<'a> {
     }
 
     /// Ends this seat and the player's, and with them the ring's work: then the ring can be dropped. The caller shows that
-    /// this seat has all places and that both seats are of one ring.
+    /// this seat has all places (`has_all_places`) and that both seats are of one ring.
     pub fn close(self, player: PlayerSeat<'_>) -> Closed
         requires all_places { places_of_seat self ≡ (key_of self).places }
         requires one_ring { OneRing (player_ring player) (player_key player) (ring_of self) (key_of self) }
@@ -136,6 +136,7 @@ impl<'a> MixSeat<'a> {
             next,
             position,
             gone: _,
+            start: _,
         } = player;
         ring.join_seat::<Both>(&mut seat, other);
         ring.load::<Learn>(&mut seat, 0);

@@ -89,7 +89,7 @@ impl MixSeat<'_> {
     }
 
     /// Loads the word of the frame's slot and a channel, in one step, which `steps` counts, and notes it. Where it has the
-    /// frame's lap, it stands for what was laid there so far.
+    /// frame's lap, it represents what was placed there so far.
     pub fn load_word<L: Ledger>(&mut self, frame: u64, channel: u8, steps: &mut Steps<L>) -> u64
         requires channel { channel < (geometry_of self.old).channels }
         ensures noted { HasNoted self.old self.new frame channel result }
@@ -124,7 +124,7 @@ impl MixSeat<'_> {
 
     /// Adds a sample to the word `old`, which the seat noted at this frame and channel and which has the frame's lap, by
     /// one compare-exchange, which `steps` counts. `Ok` says that the word was still `old`: the sample is laid, and the
-    /// cursor stands right behind it. `Err` comes exactly where another word was found, which the seat notes: it is past
+    /// cursor is right after it. `Err` comes exactly where another word was found, which the seat notes: it is past
     /// `old` by lap and then by count.
     pub fn exchange_word<L: Ledger>(
         &mut self,

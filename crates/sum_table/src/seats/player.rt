@@ -1,10 +1,12 @@
 //! The player's seat at the sum ring: it takes the words in order and publishes the card's position.
+ghost use Rattle.ring_rule.specs.Spots.{IsLapStart};
 ghost use Rattle.sum_table.specs.Known.{IsPlayer, SitsAt};
 
 use super::plays::{Publish, Take, Unplug};
 use crate::rule::{Seat, Shared};
 use crate::view::Key;
 use mix_core::Taken;
+use ring_rule::LapStart;
 use snd_base::{Cursor, Geometry, PcmError};
 
 /// The player's seat at a sum ring, which it borrows. There is one for each ring.
@@ -19,8 +21,10 @@ pub struct PlayerSeat<'a> {
     pub(super) next: Cursor,
     pub(super) position: u64,
     pub(super) gone: bool,
+    pub(super) start: LapStart,
     ghost same_ring: { SitsAt seat.table_id ring.now.table_id key ring.now.key seat.me.1 },
     ghost known: { IsPlayer seat.me.0 key next position gone },
+    ghost lap_start: { IsLapStart key.geometry start },
 }
 
 impl PlayerSeat<'_> {
@@ -56,8 +60,9 @@ impl PlayerSeat<'_> {
     }
 
     /// Takes the next word, by one swap, and leaves the empty word of the next lap in its place. The value is the sum of
-    /// all samples that were laid there, cut once to the nearest sample of 16 bits. `LapEnd` comes exactly where the lap of
+    /// all samples that were placed there, saturated once to 16 bits. `LapEnd` comes exactly where the lap of
     /// the next word's frame is 4294967295; nothing changes then.
+    #[inline(always)]
     pub fn take_word(&mut self) -> Result<Taken, PcmError>
         ensures ok { IfOk result (λ taken. HasTaken self.old self.new taken) }
         ensures err { OnErr result (self.new ≡ self.old) }
@@ -66,13 +71,13 @@ impl PlayerSeat<'_> {
     {
         let geometry = self.key.geometry;
         let Cursor { frame, channel } = self.next;
-        let lap = geometry.lap(frame);
-        if lap == 4294967295 {
+        let spot = self.start.spot(&geometry, frame, channel);
+        if spot.lap == 4294967295 {
             return Err(PcmError::LapEnd);
         }
-        let at = geometry.word_index(frame, channel) + 1;
-        let empty = lap_word::pack(lap as u32 + 1, 0, 0);
-        let found = self.ring.swap::<Take>(&mut self.seat, at, empty);
+        let empty = lap_word::pack(spot.lap as u32 + 1, 0, 0);
+        let found = self.ring.swap::<Take>(&mut self.seat, spot.index, empty);
+        self.start.turn_to(&geometry, spot.lap);
         let next = Cursor::behind(&geometry, frame, channel);
         self.next.frame = next.frame;
         self.next.channel = next.channel;

@@ -19,7 +19,7 @@ impl Play<Entry, View> for Look {
     ghost then = { looked };
 }
 
-/// A compare-exchange on the word of a slot and channel, which is told the entry that it lays.
+/// A compare-exchange on the word of a slot and channel, with the entry that it lays.
 pub(super) struct Exchange;
 
 impl Play<Entry, View> for Exchange {

@@ -1,3 +1,4 @@
+//! Seats in threads of their own.
 ghost use Rattle.std.specs.Prelude.{◌<◌};
 ghost use Rattle.sum_table.specs.Seats.{CanAdd};
 
@@ -113,7 +114,7 @@ fn lay_both<R: Threads + Sync>(rt: &R, a: &mut Client<'_>, b: &mut Client<'_>, e
     join_mut(rt, &mut || a.lay_all(end), &mut || b.lay_all(end));
 }
 
-// What is played is what was laid in time, cut once.
+// What is played is what was placed in time, saturated once.
 fn compare(totals: &[i32], played: &[i16]) -> Result<(), Fail> {
     for (total, value) in totals.iter().zip(played.iter()) {
         if lap_word::clamp(*total) != *value {

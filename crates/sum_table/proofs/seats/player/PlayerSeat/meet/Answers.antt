@@ -42,6 +42,7 @@ invariant_of-self c =
         p.same_ring.3,
       );
       known = known_heard p.key p.next p.position p.gone o.places o.reach.marks o.seen o.reach.last p.seat.me.0 o.seat.me.0 p.ring.now.table_id.slots c.load.result c.join_seat.new.seat.me c.load.new.seat.me p.known met n.no_places n.laid_nothing both c.load.ensures.2;
+      lap_start = p.lap_start;
     }
 
 pub returns : goal.returns

@@ -17,4 +17,5 @@ invariant_of-self c =
     record {
       same_ring = (c.store.ensures.0 ∙ p.same_ring.0, p.same_ring.1, ap (λ (x : Me Entry View). x.1) c.store.ensures.2.3 ∙ p.same_ring.2, p.same_ring.3);
       known = known_published p.key p.next p.position p.gone p.ring.now.table_id.slots c.position_word-word.result c.position_word-word.result p.seat.me c.store.new.seat.me p.known c.store.ensures.2;
+      lap_start = p.lap_start;
     }
