@@ -1,6 +1,7 @@
 -- How a frame is placed, channel by channel.
-use Rattle.std.proofs.Common.{◌≡◌, ◌∙◌, ℕ, ◌+◌, ◌*◌, ◌/◌, ◌%◌, ◌<◌, ◌≤◌, suc, zero, List, ap, arith, length, refl, sym}
-use Rattle.std.proofs.Math.Nat.{div-lt_iff_lt-mul}
+use Rattle.std.proofs.Common.{◌≡◌, ◌∙◌, ℕ, ◌+◌, ◌*◌, ◌/◌, ◌%◌, ◌<◌, ◌≤◌, suc, zero, List, ap, arith, inl, inr, length, refl, sym}
+use Rattle.std.proofs.Math.Nat.{div-lt_iff_lt-mul, mod-add-mod, mod_self, mul-le-mul_right}
+use Rattle.std.proofs.lemmas.Bool.{cases_lt}
 use Rattle.std.proofs.lemmas.Bool.Decides.{nat_tests}
 use Rattle.std.specs.Prelude.{ℤ, pos, slice_index, slice_index_or}
 use Rattle.snd_base.specs.declared.geometry.Geometry.{Geometry}
@@ -14,7 +15,8 @@ use Rattle.mix_core.specs.Port.{PortView}
 use Rattle.bindings.specs.Bound.{AreBindings, rising}
 use Rattle.bindings.specs.RisingLaws.{rising-rises}
 use Rattle.dmix_client.specs.declared.plain.Plain.{Plain}
-use Rattle.dmix_client.specs.View.{held}
+use Rattle.dmix_client.specs.RingLaws.{slot-behind}
+use Rattle.dmix_client.specs.View.{held, held_at}
 
 -- what holds of a late end and of a stop holds of each that isn't whole
 pub not-whole : (X : Ended → Type 0) (e : Ended) → (e ≡ Whole → ⊥) → ((word : ℕ) → X (Late word)) → X Stopped → X e
@@ -57,3 +59,36 @@ pub entry-held : (E : ℕ → ℕ → ℤ → Entry) (plain : Plain) (ring : Lis
 entry-held E plain ring number slot q member channel x is_member is_channel is_slot is =
     ap (λ (m : ℕ). E m channel x) is_member ∙ ap (λ (k : ℕ). E plain.identity.member k x) is_channel
     ∙ ap (E plain.identity.member (slice_index plain.setup.bindings q)) (is ∙ ap (λ (i : ℕ). slice_index_or ring (i + q) (pos 0)) is_slot)
+
+-- the entry of a sample in a frame of the local ring, by the slot where the frame begins
+pub entry-bound : (E : ℕ → ℕ → ℤ → Entry) (bindings : List ℕ) (ring : List ℤ) (slot q m member channel : ℕ) (x : ℤ) → m ≡ member → channel ≡ slice_index bindings q
+    → x ≡ slice_index_or ring (slot + q) (pos 0) → E m channel x ≡ E member (slice_index bindings q) (held_at ring slot q)
+entry-bound E bindings ring slot q m member channel x is_member is_channel is =
+    ap (λ (n : ℕ). E n channel x) is_member ∙ ap (λ (k : ℕ). E member k x) is_channel ∙ ap (E member (slice_index bindings q)) is
+
+-- the slot behind one that isn't the local ring's last
+pub slot-inside : (buffer channels number : ℕ) → number % buffer * channels + channels < buffer * channels
+    → (number + 1) % buffer * channels ≡ number % buffer * channels + channels
+slot-inside buffer channels number within = elim (cases_lt (number % buffer + 1) buffer) [
+  | inl below ↦ ap (λ (n : ℕ). n * channels) (slot-behind buffer number 1 below) ∙ omega arith
+  | inr not_below ↦
+      let scaled : buffer * channels ≤ (number % buffer + 1) * channels = mul-le-mul_right channels (let h : buffer ≤ number % buffer + 1 = omega (arith, not_below) in h) in
+      absurd (omega (arith, scaled))
+]
+
+-- the slot behind the local ring's last one is its first
+pub slot-first : (buffer channels number : ℕ) → 1 ≤ channels → number % buffer * channels + channels ≤ buffer * channels
+    → (number % buffer * channels + channels < buffer * channels → ⊥) → (number + 1) % buffer * channels ≡ 0
+slot-first buffer channels number some within last = elim (cases_lt (number % buffer + 1) buffer) [
+  | inl below ↦
+      let scaled : (number % buffer + 1 + 1) * channels ≤ buffer * channels = mul-le-mul_right channels (let h : number % buffer + 1 + 1 ≤ buffer = omega arith in h) in
+      absurd (last (omega (arith, scaled)))
+  | inr not_below ↦ elim (cases_lt buffer (number % buffer + 1)) [
+    | inl above ↦
+        let scaled : (buffer + 1) * channels ≤ (number % buffer + 1) * channels = mul-le-mul_right channels (let h : buffer + 1 ≤ number % buffer + 1 = omega arith in h) in
+        absurd (omega (arith, scaled))
+    | inr not_above ↦
+        let end : number % buffer + 1 ≡ buffer = omega (arith, not_below, not_above) in
+        ap (λ (n : ℕ). n * channels) (sym (mod-add-mod number buffer 1) ∙ ap (λ (n : ℕ). n % buffer) end ∙ mod_self buffer) ∙ omega arith
+  ]
+]

@@ -43,7 +43,7 @@ in_state c state = record c { status = status.in_state c.status state }
 abbrev pub stopped_in : {T : Type 0} → Plain → Answered T
 stopped_in c = (record c { status = status.stopped_in c.status }, Err Stopped)
 
--- the call comes to an outcome of the state table
+-- the call ends with an outcome of the state table
 abbrev pub settled : Plain → Outcome → Answered (Unit {0})
 settled c outcome = (in_state c outcome.state, outcome.answer)
 

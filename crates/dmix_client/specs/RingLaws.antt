@@ -1,8 +1,9 @@
 -- What stands in a local ring after frames were stored in it.
-use Rattle.std.proofs.Common.{◌≡◌, ℕ, zero, suc, ◌<◌, ◌≤◌, ◌+◌, ◌*◌, ◌%◌, List, ◌++◌, refl, sym, ◌∙◌, ap, arith, inl, inr, length, take, drop, get_or, append_assoc}
-use Rattle.std.proofs.Math.Nat.{mod-lt, mul-le-mul_right}
+use Rattle.std.proofs.Common.{◌≡◌, ℕ, zero, suc, ◌<◌, ◌≤◌, ◌+◌, ◌*◌, ◌%◌, List, [], ◌++◌, refl, sym, ◌∙◌, ap, arith, inl, inr, length, take, drop, get_or, append_assoc}
+use Rattle.std.proofs.Math.Nat.{mod-add-mod, mod-lt, mod-eq_of_lt, mul-le-mul_right}
+use Rattle.std.proofs.Math.Seq.{drop-append-add, take-add, take-append_seam}
 use Rattle.std.proofs.lemmas.Bool.{cases_eq, cases_lt}
-use Rattle.std.proofs.lemmas.List.{get_or-append-add, get_or-append_right, get_or-drop, get_or-take, get_or_append_left, length-append, length-drop, length-take}
+use Rattle.std.proofs.lemmas.List.{append-nil, drop-drop, get_or-append-add, get_or-append_right, get_or-drop, get_or-take, get_or_append_left, length-append, length-drop, length-take, take-append-drop}
 use Rattle.std.specs.Prelude.{ℤ, pos, ◌-◌}
 use Rattle.snd_base.specs.PlaceLaws.{mod-same}
 use Rattle.dmix_client.specs.Ring.{stored, written_over}
@@ -63,7 +64,7 @@ pub record HasRoom (buffer channels : ℕ) (ring : List ℤ) : Type 0 where
   pub some : 1 ≤ buffer
   pub room : length ring ≡ buffer * channels
 
-slot-within : (buffer channels n : ℕ) → 1 ≤ buffer
+pub slot-within : (buffer channels n : ℕ) → 1 ≤ buffer
     → n % buffer * channels + channels ≤ buffer * channels
 slot-within buffer channels n some =
     let low : n % buffer + 1 ≤ buffer = omega (arith, mod-lt n some) in
@@ -151,3 +152,70 @@ stored-old buffer channels ring from samples (suc n) j q has room before near in
     λ same. absurd (omega (arith, mod-same buffer j j (from + n) (omega arith) (omega arith) (omega arith) (omega arith) same)) in
     elsewhere (stored buffer channels ring from samples n) part channels (j % buffer) ((from + n) % buffer) q (omega (arith, one, fits, earlier.room)) one in_range apart
     ∙ stored-old buffer channels ring from samples n j q has (omega arith) before (omega arith) in_range
+
+-- a list with nothing written over is as it was
+written_over-none : (ring : List ℤ) (place : ℕ) → written_over ring place [] ≡ ring
+written_over-none ring place =
+    ap (λ (xs : List ℤ). xs ++ drop (place + 0) ring) (append-nil (take place ring))
+    ∙ ap (λ (n : ℕ). take place ring ++ drop n ring) (let same : place + 0 ≡ place = omega arith in same)
+    ∙ take-append-drop place ring
+
+-- a part written over right behind another is one part written over
+written_over-twice : (ring a b : List ℤ) (place : ℕ)
+    → place + (length a + length b) ≤ length ring
+    → written_over (written_over ring place a) (place + length a) b
+    ≡ written_over ring place (a ++ b)
+written_over-twice ring a b place room =
+    let front : List ℤ = take place ring ++ a in
+    let rest : List ℤ = drop (place + length a) ring in
+    let at : place + length a ≡ length front = omega (arith, length-append (take place ring) a, length-take place ring) in
+    let all : place + length a + length b ≡ place + length (a ++ b) = omega (arith, length-append a b) in
+    ap (λ (n : ℕ). take n (front ++ rest) ++ b ++ drop (n + length b) (front ++ rest)) at
+    ∙ ap (λ (xs : List ℤ). xs ++ b ++ drop (length front + length b) (front ++ rest)) (take-append_seam front rest)
+    ∙ ap (λ (xs : List ℤ). front ++ b ++ xs) (drop-append-add front rest (length b) ∙ drop-drop (length b) (place + length a) ring)
+    ∙ ap (λ (xs : List ℤ). xs ++ drop (place + length a + length b) ring) (append_assoc (take place ring) a b)
+    ∙ ap (λ (n : ℕ). take place ring ++ (a ++ b) ++ drop n ring) all
+
+-- a slot that is before the ring's end by so many frames
+pub slot-behind : (buffer n k : ℕ) → n % buffer + k < buffer → (n + k) % buffer ≡ n % buffer + k
+slot-behind buffer n k before = sym (mod-add-mod n buffer k) ∙ mod-eq_of_lt before
+
+-- a run of frames up to the ring's end is stored in one part
+pub stored-run : (buffer channels : ℕ) (ring : List ℤ) (from : ℕ) (samples : List ℤ) (n k : ℕ)
+    → HasRoom buffer channels ring → (n + k) * channels ≤ length samples
+    → (from + n) % buffer + k ≤ buffer
+    → stored buffer channels ring from samples (n + k)
+    ≡ written_over (stored buffer channels ring from samples n) ((from + n) % buffer * channels)
+    (take (k * channels) (drop (n * channels) samples))
+stored-run buffer channels ring from samples n zero has held fits =
+    let so_far : List ℤ = stored buffer channels ring from samples n in
+    let place : ℕ = (from + n) % buffer * channels in
+    ap (stored buffer channels ring from samples) (let same : n + 0 ≡ n = omega arith in same)
+    ∙ sym (written_over-none so_far place)
+    ∙ ap (λ (m : ℕ). written_over so_far place (take m (drop (n * channels) samples))) (let none : 0 ≡ 0 * channels = omega arith in none)
+stored-run buffer channels ring from samples n (suc k) has held fits =
+    let so_far : List ℤ = stored buffer channels ring from samples n in
+    let place : ℕ = (from + n) % buffer * channels in
+    let behind : List ℤ = drop (n * channels) samples in
+    let run : List ℤ = take (k * channels) behind in
+    let last : List ℤ = take channels (drop ((n + k) * channels) samples) in
+    let shorter : (n + k) * channels ≤ length samples = omega (arith, held) in
+    let long : length run ≡ k * channels = omega (arith, length-take (k * channels) behind, length-drop (n * channels) samples, shorter) in
+    let one : length last ≡ channels = frame-length samples channels (n + k) (omega (arith, held)) in
+    let slot : (from + (n + k)) % buffer ≡ (from + n) % buffer + k =
+    ap (λ (m : ℕ). m % buffer) (let same : from + (n + k) ≡ from + n + k = omega arith in same) ∙ slot-behind buffer (from + n) k (omega (arith, fits)) in
+    let at : (from + (n + k)) % buffer * channels ≡ place + length run = ap (λ (m : ℕ). m * channels) slot ∙ omega (arith, long) in
+    let whole : run ++ last ≡ take (suc k * channels) behind =
+    ap (λ (xs : List ℤ). run ++ take channels xs)
+    (ap (λ (m : ℕ). drop m samples) (let sum : (n + k) * channels ≡ n * channels + k * channels = omega arith in sum) ∙ sym (drop-drop (k * channels) (n * channels) samples))
+    ∙ sym (take-add (k * channels) channels behind)
+    ∙ ap (λ (m : ℕ). take m behind) (let more : k * channels + channels ≡ suc k * channels = omega arith in more) in
+    let before = stored-HasRoom buffer channels ring from samples n has (omega (arith, shorter)) in
+    let scaled : ((from + n) % buffer + suc k) * channels ≤ buffer * channels = mul-le-mul_right channels fits in
+    let room : place + (length run + length last) ≤ length so_far = omega (arith, scaled, long, one, before.room) in
+    ap (stored buffer channels ring from samples) (let same : n + suc k ≡ suc (n + k) = omega arith in same)
+    ∙ ap (λ (xs : List ℤ). written_over xs ((from + (n + k)) % buffer * channels) last)
+    (stored-run buffer channels ring from samples n k has shorter (omega (arith, fits)))
+    ∙ ap (λ (m : ℕ). written_over (written_over so_far place run) m last) at
+    ∙ written_over-twice so_far run last place room
+    ∙ ap (written_over so_far place) whole

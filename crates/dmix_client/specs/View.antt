@@ -107,6 +107,10 @@ pub record IsSound (c : Plain) (ring : List ℤ) : Type 0 where
   pub moving : is_moving c.status.state ≡ true → c.status.stopped ≡ false → IsMoving c
   pub paused : c.status.state ≡ state.Paused → IsMoving c
 
+-- the sample of a client channel in the frame that begins at a slot of the local ring
+abbrev pub held_at : List ℤ → ℕ → ℕ → ℤ
+held_at ring slot channel = slice_index_or ring (slot + channel) (pos 0)
+
 -- the sample of a frame and client channel in the local ring
 abbrev pub held : Plain → List ℤ → ℕ → ℕ → ℤ
 held c ring frame channel =

@@ -24,10 +24,10 @@ use sw_limits::SwParams;
 /// Contracts see its counts and settings, and its local ring. Frames of the card are absolute numbers, samples are
 /// interleaved.
 ///
-/// It keeps no list of the frames that it accepted. It stands for each list of samples of which the frames that it still
-/// needs are in its local ring. For each such list, what a call lays is that by which the entries of `segment` grow
-/// (`grows`), and the client stands for the list after the call too (`stands`). The frames that `writei` is offered are in
-/// the list behind those that were accepted, whatever it answers.
+/// It keeps no list of the frames that it accepted, only those that it still needs. So contracts hold for every list of
+/// samples that agrees with its local ring on these, which the client then represents (`StandsFor`): a call places exactly
+/// the frames by which the entries of `segment` grow (`grows`), and the client represents the list after the call too
+/// (`stands`). The frames that `writei` is offered are in the list right after those that were accepted, whatever it answers.
 #[derive(Drop)]
 pub struct Client {
     pub(crate) plain: Plain,

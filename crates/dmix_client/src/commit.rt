@@ -8,7 +8,7 @@ ghost use Rattle.dmix_client.specs.Calls.{start_count, started_in, sync_count, w
 ghost use Rattle.dmix_client.specs.Course.{commits, lay_frame, looks};
 ghost use Rattle.dmix_client.specs.Port.{CanUse, IsFound, IsOnCard, least_channel};
 ghost use Rattle.pcm_stream.specs.Status.{is_moving};
-ghost use Rattle.dmix_client.specs.View.{IsSound, held};
+ghost use Rattle.dmix_client.specs.View.{IsSound, held_at};
 
 use crate::plain::Plain;
 use bindings::Bindings;
@@ -63,15 +63,14 @@ pub(crate) struct BoundSample {
     pub sample: i16,
 }
 
-/// Where the samples of frame number `from + frame` begin in a local ring of `buffer_size` frames.
-pub(crate) fn slot_of(from: u64, frame: u64, buffer_size: u32, channels: u8) -> usize
+/// The slot of frame number `from + frame` in a local ring of `buffer_size` frames.
+pub(crate) fn slot_of(from: u64, frame: u64, buffer_size: u32) -> u64
     requires some { 1 ≤ buffer_size }
-    ensures value { result ≡ (from + frame) % buffer_size * channels }
-    ensures within { result + channels ≤ buffer_size * channels }
+    ensures value { result ≡ (from + frame) % buffer_size }
+    ensures within { result < buffer_size }
 {
     let size = buffer_size as u64;
-    let slot = (from % size + frame % size) % size;
-    slot as usize * channels as usize
+    (from % size + frame % size) % size
 }
 
 /// Where the samples of a client's frame begin in its local ring.
@@ -82,12 +81,8 @@ pub(crate) fn held_from(plain: &Plain, number: u64) -> usize
     ensures within { result + length plain.now.setup.bindings
         ≤ plain.now.setup.config.buffer_size * length plain.now.setup.bindings }
 {
-    slot_of(
-        plain.stretch.source,
-        number,
-        plain.setup.config.buffer_size,
-        plain.setup.bindings.len(),
-    )
+    let slot = slot_of(plain.stretch.source, number, plain.setup.config.buffer_size);
+    slot as usize * plain.setup.bindings.len() as usize
 }
 
 /// The sample at a place of the frame that begins at `slot` of a local ring, counted by rising card channel.
@@ -125,34 +120,29 @@ fn place_sample<P: MixPort, G: Gate>(
     Ended::of(port.place(gate, frame, bound.channel, bound.sample))
 }
 
-/// Places the samples of the client's frame `number`, by rising card channel.
+/// Places the samples of the frame that begins at `slot` of a local ring at a frame of the card, by rising card channel.
 fn place_frame<P: MixPort, G: Gate>(
     port: &mut P,
     gate: &mut G,
-    plain: &Plain,
+    bindings: &Bindings,
     ring: &[i16],
-    number: u64,
+    slot: usize,
+    frame: u64,
 ) -> Channels
     requires can_add { (P.view port.old).can_add ≡ true }
-    requires member { (P.view port.old).member ≡ plain.now.identity.member }
-    requires bound { IsOnCard plain.now.setup.bindings (P.view port.old).geometry }
-    requires buffer { 1 ≤ plain.now.setup.config.buffer_size }
-    requires room { length ring.now ≡ plain.now.setup.config.buffer_size * length
-        plain.now.setup.bindings }
-    requires from_cursor { IsFrom (P.view port.old).marks.cursor (plain.now.stretch.card + number)
-        (least_channel plain.now.setup.bindings) }
-    requires ahead { plain.now.stretch.card + number
-        < (P.view port.old).seen + (P.view port.old).geometry.frames }
-    requires fits { plain.now.stretch.card + number < end_frame (P.view port.old).geometry }
+    requires bound { IsOnCard bindings.now (P.view port.old).geometry }
+    requires slot { slot + length bindings.now ≤ length ring.now }
+    requires from_cursor { IsFrom (P.view port.old).marks.cursor frame
+        (least_channel bindings.now) }
+    requires ahead { frame < (P.view port.old).seen + (P.view port.old).geometry.frames }
+    requires fits { frame < end_frame (P.view port.old).geometry }
     ensures { TakesAt P.MixPort G.Gate (port.old, gate.old)
-        (lay_frame plain.now.identity.member (plain.now.stretch.card + number)
-        plain.now.setup.bindings (held plain.now ring.now number)) (port.new, gate.new)
-        (result.placed, result.ended) }
+        (lay_frame (P.view port.old).member frame bindings.now (held_at ring.now slot))
+        (port.new, gate.new) (result.placed, result.ended) }
 {
-    let slot = held_from(plain, number);
-    for place in 0..plain.setup.bindings.len() {
-        let bound = bound_sample(&plain.setup.bindings, ring, slot, place);
-        match place_sample(port, gate, plain.stretch.card + number, bound) {
+    for place in 0..bindings.len() {
+        let bound = bound_sample(bindings, ring, slot, place);
+        match place_sample(port, gate, frame, bound) {
             Ended::Whole => {}
             ended => return Channels {
                 placed: place,
@@ -161,9 +151,20 @@ fn place_frame<P: MixPort, G: Gate>(
         }
     }
     Channels {
-        placed: plain.setup.bindings.len(),
+        placed: bindings.len(),
         ended: Ended::Whole,
     }
+}
+
+/// Where the frame behind the one that begins at `slot` begins in a local ring of so many samples.
+fn slot_behind(slot: usize, channels: u8, samples: usize) -> usize
+    requires { slot + channels ≤ samples }
+    ensures { (number buffer_size : ℕ) → samples ≡ buffer_size * channels →
+        slot ≡ number % buffer_size * channels → 1 ≤ channels →
+        result ≡ (number + 1) % buffer_size * channels }
+{
+    let next = slot + channels as usize;
+    if next < samples { next } else { 0 }
 }
 
 /// Lays `count` frames of the local ring, from the first that is not committed on, up to one that is late or stopped.
@@ -188,8 +189,12 @@ pub(crate) fn lay_frames<P: MixPort, G: Gate>(
     ensures { TakesAt P.MixPort G.Gate (port.old, gate.old) (commits plain.now ring.now count)
         (port.new, gate.new) result }
 {
+    let bindings = plain.setup.bindings;
+    let card = plain.stretch.card;
+    let first = plain.stretch.committed;
+    let mut slot = held_from(plain, first);
     for frame in 0..count {
-        let placed = place_frame(port, gate, plain, ring, plain.stretch.committed + frame);
+        let placed = place_frame(port, gate, &bindings, ring, slot, card + (first + frame));
         match placed.ended {
             Ended::Whole => {}
             ended => {
@@ -200,6 +205,7 @@ pub(crate) fn lay_frames<P: MixPort, G: Gate>(
                 };
             }
         }
+        slot = slot_behind(slot, bindings.len(), ring.len());
     }
     Commit {
         frames: count,

@@ -1,5 +1,5 @@
 //! The local ring: the frame with a number is in the slot of that number mod the buffer size.
-ghost use Rattle.std.specs.Prelude.{◌≡◌, ℕ, ◌+◌, ◌*◌, ◌%◌, ◌^◌, ◌<◌, ◌≤◌, length};
+ghost use Rattle.std.specs.Prelude.{◌≡◌, ℕ, ◌+◌, ◌*◌, ◌%◌, ◌^◌, ◌<◌, ◌≤◌, drop, length, take};
 ghost use Rattle.dmix_client.specs.Ring.{stored, written_over};
 
 use crate::commit::slot_of;
@@ -12,7 +12,21 @@ fn write_over(ring: &mut [i16], place: usize, samples: &[i16])
     ring[place..place + samples.len()].copy_from_slice(samples);
 }
 
-/// Stores the first `frames` of some interleaved frames in the ring, as the frames from number `from` on.
+/// Writes `count` of some interleaved frames, from the one at `first` on, over those of a ring from a slot on.
+fn write_frames(ring: &mut [i16], slot: u64, channels: u8, samples: &[i16], first: u64, count: u64)
+    requires room { (slot + count) * channels ≤ length ring.old }
+    requires held { (first + count) * channels ≤ length samples.now }
+    ensures { ring.new ≡ written_over ring.old (slot * channels)
+        (take (count * channels) (drop (first * channels) samples.now)) }
+{
+    let place = slot as usize * channels as usize;
+    let from = first as usize * channels as usize;
+    let length = count as usize * channels as usize;
+    write_over(ring, place, &samples[from..from + length]);
+}
+
+/// Stores the first `frames` of some interleaved frames in the ring, as the frames from number `from` on. They are copied
+/// in runs, each up to the ring's end at most.
 pub(crate) fn store(
     ring: &mut [i16],
     buffer_size: u32,
@@ -26,9 +40,11 @@ pub(crate) fn store(
     requires held { frames * channels ≤ length samples.now }
     ensures stored { ring.new ≡ stored buffer_size channels ring.old from samples.now frames }
 {
-    for frame in 0..frames {
-        let slot = slot_of(from, frame, buffer_size, channels);
-        let first = frame as usize * channels as usize;
-        write_over(ring, slot, &samples[first..first + channels as usize]);
+    let mut done = 0;
+    while done < frames {
+        let slot = slot_of(from, done, buffer_size);
+        let run = (frames - done).min(buffer_size as u64 - slot);
+        write_frames(ring, slot, channels, samples, done, run);
+        done += run;
     }
 }

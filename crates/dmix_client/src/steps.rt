@@ -211,7 +211,7 @@ pub(crate) fn stopped_in<T>(plain: Plain) -> Answered<T>
     (stopped, Err(PcmError::Stopped))
 }
 
-/// The call comes to an outcome of the state table.
+/// The call ends with an outcome of the state table.
 pub(crate) fn settled(plain: Plain, outcome: Outcome) -> Answered<()>
     ensures { result ≡ settled plain outcome }
 {

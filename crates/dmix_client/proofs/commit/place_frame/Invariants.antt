@@ -1,15 +1,15 @@
-use Rattle.std.proofs.Common.{◌≡◌, ℕ, ◌+◌, ◌<◌, ◌≤◌, length}
+use Rattle.std.proofs.Common.{◌≡◌, ℕ, ◌<◌, ◌≤◌, length}
 use Rattle.std.specs.Prelude.{slice_index}
 use Rattle.snd_base.specs.Places.{IsFrom}
 use Rattle.bindings.specs.Bound.{AreBindings, rising}
-use Rattle.dmix_client.specs.View.{held}
+use Rattle.dmix_client.specs.View.{held_at}
 use Rattle.dmix_client.proofs.Laying.{Rest}
 use Rattle.dmix_client.proofs.commit.place_frame.Given as goal
 
 abbrev pub invariant-loop-place : goal.invariant-loop-place
-invariant-loop-place g l = let port = g.P.MixPort in let list = l.plain.setup.bindings in let frame = l.plain.stretch.card + l.number in record {
+invariant-loop-place g l = let port = g.P.MixPort in let list = l.bindings in record {
   view_is : port.view l.port ≡ record (port.view l.fn.port) { marks = (port.view l.port).marks };
-  ahead : (j : ℕ) → l.place ≤ j → j < length list → IsFrom (port.view l.port).marks.cursor frame (slice_index list (slice_index (rising list) j));
+  ahead : (j : ℕ) → l.place ≤ j → j < length list → IsFrom (port.view l.port).marks.cursor l.frame (slice_index list (slice_index (rising list) j));
   bound : AreBindings list;
-  takes : Rest port g.G.Gate l.plain.identity.member frame list (held l.plain l.ring l.number) (rising list) (l.fn.port, l.fn.gate) (l.port, l.gate) l.place;
+  takes : Rest port g.G.Gate (port.view l.fn.port).member l.frame list (held_at l.ring l.slot) (rising list) (l.fn.port, l.fn.gate) (l.port, l.gate) l.place;
 }

@@ -1,7 +1,6 @@
-use Rattle.std.proofs.Common.{◌*◌, ◌%◌, ◌∙◌, ℕ, ap}
+use Rattle.std.proofs.Common.{◌%◌, ◌∙◌}
 use Rattle.std.proofs.Math.Nat.{add-mod-mod, mod-add-mod}
 use Rattle.dmix_client.proofs.commit.slot_of.Goals as goal
 
 pub returns-clause-value : goal.returns-clause-value
-returns-clause-value c =
-    ap (λ (n : ℕ). n * c.args.channels) (add-mod-mod (c.args.from % c.args.buffer_size) c.args.frame c.args.buffer_size ∙ mod-add-mod c.args.from c.args.buffer_size c.args.frame)
+returns-clause-value c = add-mod-mod (c.args.from % c.args.buffer_size) c.args.frame c.args.buffer_size ∙ mod-add-mod c.args.from c.args.buffer_size c.args.frame

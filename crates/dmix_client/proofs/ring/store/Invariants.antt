@@ -1,6 +1,12 @@
-use Rattle.std.proofs.Common.{◌≡◌}
+use Rattle.std.proofs.Common.{◌≡◌, ◌-◌, ◌≤◌}
 use Rattle.dmix_client.specs.Ring.{stored}
 use Rattle.dmix_client.proofs.ring.store.Given as goal
 
-abbrev pub invariant-loop-frame : goal.invariant-loop-frame
-invariant-loop-frame l = l.ring ≡ stored l.buffer_size l.channels l.initial.ring l.from l.samples l.frame
+abbrev pub invariant-loop-done : goal.invariant-loop-done
+invariant-loop-done l = record {
+  within : l.done ≤ l.frames;
+  so_far : l.ring ≡ stored l.buffer_size l.channels l.initial.ring l.from l.samples l.done;
+}
+
+abbrev pub decreases-loop-done : goal.decreases-loop-done
+decreases-loop-done l = l.frames - l.done
