@@ -1,4 +1,4 @@
--- Pairs of two lists that are split in halves: what holds of both halves holds of the whole.
+-- Pairs of two lists that are split in two: what holds of both parts holds of the whole.
 use Rattle.std.specs.Prelude.{◌≡◌, ℕ, ◌+◌, ◌-◌, ◌<◌, ◌≤◌, List, ◌++◌, length, slice_index_or, slice_set}
 use Rattle.std.specs.Borrow.{MutBor}
 use denote.Param.Members.{Shared}
@@ -24,7 +24,7 @@ AreChanged-one R xs gs y h one some is = record {
 get_or-behind : {X : Type 0} (us vs : List X) (n i : ℕ) (d : X) → length us ≡ n → n ≤ i → slice_index_or (us ++ vs) i d ≡ slice_index_or vs (i - n) d
 get_or-behind us vs n i d is from = ap (λ k. slice_index_or (us ++ vs) k d) (omega (arith, is, from)) ∙ get_or-append-add us vs (i - n) d
 
--- the pairs of two halves
+-- the pairs of two parts
 pub AreChanged-append : {S G : Type 0} (R : ℕ → S → G → S → G → Type 0) (xs xs' ys ys' : List S) (gs gs' hs hs' : List G) → length gs ≡ length xs
     → AreChanged R xs ys gs hs → AreChanged (λ i. R (length xs + i)) xs' ys' gs' hs' → AreChanged R (xs ++ xs') (ys ++ ys') (gs ++ gs') (hs ++ hs')
 AreChanged-append {S = S} {G = G} R xs xs' ys ys' gs gs' hs hs' even low high =
@@ -65,7 +65,7 @@ AreChanged-map R T xs ys gs hs then are = record {
 }
 
 module _ {F S G : Type 0} (fn : Shared F (ℕ × (MutBor S × (MutBor G × Unit {0}))) ((Unit {0}) × (MutBor S × (MutBor G × Unit {0})))) (f : F) where
-  -- both halves are ready
+  -- both parts are ready
   pub IsReadyFrom-append : (base : ℕ) (xs xs' : List S) (gs gs' : List G) → 0 < length xs → 0 < length xs' → length gs ≡ length xs
       → IsReadyFrom fn f base (xs ++ xs') (gs ++ gs') → IsReadyFrom fn f base xs gs × IsReadyFrom fn f (base + length xs) xs' gs'
   IsReadyFrom-append base xs xs' gs gs' some some' even ready =
@@ -101,7 +101,7 @@ module _ {F S G : Type 0} (fn : Shared F (ℕ × (MutBor S × (MutBor G × Unit 
       (subst (λ x. ChangesPair fn f base x (slice_index_or gs 0 e') y h) (get_or_default xs 0 d d' (omega (arith, one)))
       (subst (λ g. ChangesPair fn f base (slice_index_or xs 0 d) g y h) (get_or_default gs 0 e e' some) is)))
 
-  -- both halves became what calls left of them
+  -- both parts became what calls left of them
   pub ChangesFrom-append : (base : ℕ) (xs xs' ys ys' : List S) (gs gs' hs hs' : List G) → length gs ≡ length xs
       → ChangesFrom fn f base xs ys gs hs → ChangesFrom fn f (base + length xs) xs' ys' gs' hs' → ChangesFrom fn f base (xs ++ xs') (ys ++ ys') (gs ++ gs') (hs ++ hs')
   ChangesFrom-append base xs xs' ys ys' gs gs' hs hs' even low high =

@@ -29,9 +29,9 @@ pub fn for_each_pair<R: Threads + Sync, S: Send, G: Send, F: Fn(usize, &mut S, &
     }
 }
 
-// The pairs are halved at each step and one half goes to a new thread, so the stack grows as the logarithm of their number. The first
-// pair has the number `base`.
-#[cycle(halves)]
+// The first pair goes to a new thread, and this one starts the next: threads that start threads in turn cost half as much again. So the
+// stack grows with the number of pairs, by a small frame for each. The first pair has the number `base`.
+#[cycle(parts)]
 fn pairs_from<R: Threads + Sync, S: Send, G: Send, F: Fn(usize, &mut S, &mut G) + Sync>(
     rt: &R,
     f: &F,
@@ -46,15 +46,14 @@ fn pairs_from<R: Threads + Sync, S: Send, G: Send, F: Fn(usize, &mut S, &mut G) 
         at_one(f, base, &mut items[0], &mut gates[0]);
         return;
     }
-    let middle = items.len() / 2;
-    let (low, high) = items.split_at_mut(middle);
-    let (near, far) = gates.split_at_mut(middle);
-    both_halves(rt, f, base, low, near, base + middle, high, far);
+    let (low, high) = items.split_at_mut(1);
+    let (near, far) = gates.split_at_mut(1);
+    both_parts(rt, f, base, low, near, base + 1, high, far);
 }
 
 // A function of its own, so that what the closures require is what this function is given.
-#[cycle(halves)]
-fn both_halves<R: Threads + Sync, S: Send, G: Send, F: Fn(usize, &mut S, &mut G) + Sync>(
+#[cycle(parts)]
+fn both_parts<R: Threads + Sync, S: Send, G: Send, F: Fn(usize, &mut S, &mut G) + Sync>(
     rt: &R,
     f: &F,
     base: usize,

@@ -1,3 +1,4 @@
+//! Calls on each item of a list, in threads.
 ghost use Rattle.std.specs.Prelude.{◌≡◌, ◌<◌, ◌≤◌, ℕ, length, slice_index};
 
 use super::*;

@@ -2,3 +2,4 @@ pub mod OwnLines
 pub mod Meeting
 pub mod Rooms
 pub mod Running
+mod Silence

@@ -1,9 +1,20 @@
 //! The samples that a card captures.
-ghost use Rattle.std.specs.Prelude.{◌≡◌, ◌+◌, ◌*◌, ◌^◌, ◌<◌, ◌≤◌, ◌++◌, vec_capacity, vec_len};
+ghost use Rattle.std.specs.Prelude.{◌≡◌, ◌+◌, ◌*◌, ◌^◌, ◌<◌, ◌≤◌, ◌++◌, Some, pos, replicate, vec_capacity, vec_len};
 ghost use Rattle.std.specs.Option.{option_copied};
-ghost use Rattle.lab_card.specs.Captures.{captured_at, captured_frame, captured_frames, sample_in};
+ghost use Rattle.lab_card.specs.Captures.{captured_frame, captured_frames, sample_in};
 
 use wav_io::Wav;
+
+/// Appends so many samples of silence, for which there is room.
+pub(crate) fn push_silence(samples: &mut Vec<i16>, count: usize)
+    requires { vec_len samples.old + count ≤ vec_capacity samples.old }
+    ensures items { samples.new.items ≡ samples.old.items ++ replicate count (pos 0) }
+    ensures len { vec_len samples.new ≡ vec_len samples.old + count }
+    ensures room { vec_capacity samples.old ≤ vec_capacity samples.new }
+{
+    let count = samples.len() + count;
+    samples.resize(count, 0).unwrap();
+}
 
 /// The sample of a file at a frame, counted from the file's first, and a channel: 0 where the file has none.
 fn sample_in(wav: &Wav, frame: u64, channel: u8) -> i16
@@ -17,29 +28,45 @@ fn sample_in(wav: &Wav, frame: u64, channel: u8) -> i16
     samples[frame as usize * channels + channel as usize]
 }
 
-/// The captured sample of a frame, counted from the card's first, and a channel of the card.
-fn captured_at(capture: Option<&Wav>, frame: u64, channel: u8) -> i16
-    ensures { result ≡ captured_at (option_copied capture.entry) frame channel }
-{
-    match capture {
-        Some(wav) => sample_in(wav, frame, channel),
-        None => 0,
-    }
-}
-
-/// Appends the captured samples of a frame, one for each channel of the card, for which there is room.
-fn push_frame(captured: &mut Vec<i16>, capture: Option<&Wav>, frame: u64, channels: u8)
+/// Appends the samples of a file's frame, one for each channel of the card, for which there is room.
+fn push_frame(captured: &mut Vec<i16>, wav: &Wav, frame: u64, channels: u8)
     requires { vec_len captured.old + channels ≤ vec_capacity captured.old }
-    ensures items { captured.new.items ≡ captured.old.items ++ captured_frame (option_copied capture.entry) channels frame }
+    ensures items { captured.new.items ≡ captured.old.items ++ captured_frame (Some wav.now) channels frame }
     ensures len { vec_len captured.new ≡ vec_len captured.old + channels }
     ensures room { vec_capacity captured.old ≤ vec_capacity captured.new }
 {
     for channel in 0..channels {
-        captured.push(captured_at(capture, frame, channel)).unwrap();
+        captured.push(sample_in(wav, frame, channel)).unwrap();
     }
 }
 
-/// Makes a list of the captured samples of so many frames from one on, interleaved, for which it has room.
+/// Makes a list of the samples of so many frames of a file from one on, interleaved, for which it has room.
+fn capture_file(captured: &mut Vec<i16>, wav: &Wav, from: u64, frames: usize, channels: u8)
+    requires room { frames * channels ≤ vec_capacity captured.old }
+    requires fits { from + frames < 2 ^ 64 }
+    ensures items { captured.new.items ≡ captured_frames (Some wav.now) channels from frames }
+    ensures len { vec_len captured.new ≡ frames * channels }
+    ensures room { vec_capacity captured.old ≤ vec_capacity captured.new }
+{
+    captured.clear();
+    for index in 0..frames {
+        push_frame(captured, wav, from + index as u64, channels);
+    }
+}
+
+/// Makes a list of so many samples of silence, for which it has room.
+fn capture_silence(captured: &mut Vec<i16>, count: usize)
+    requires { count ≤ vec_capacity captured.old }
+    ensures items { captured.new.items ≡ replicate count (pos 0) }
+    ensures len { vec_len captured.new ≡ count }
+    ensures room { vec_capacity captured.old ≤ vec_capacity captured.new }
+{
+    captured.clear();
+    push_silence(captured, count);
+}
+
+/// Makes a list of the captured samples of so many frames from one on, interleaved, for which it has room. Silence is written at
+/// once, and a file's samples one by one.
 pub(crate) fn capture_frames(
     captured: &mut Vec<i16>,
     capture: Option<&Wav>,
@@ -53,8 +80,8 @@ pub(crate) fn capture_frames(
     ensures len { vec_len captured.new ≡ frames * channels }
     ensures room { vec_capacity captured.old ≤ vec_capacity captured.new }
 {
-    captured.clear();
-    for index in 0..frames {
-        push_frame(captured, capture, from + index as u64, channels);
+    match capture {
+        Some(wav) => capture_file(captured, wav, from, frames, channels),
+        None => capture_silence(captured, frames * channels as usize),
     }
 }

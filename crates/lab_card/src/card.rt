@@ -1,5 +1,5 @@
 //! The card of a script, and what its lines do in a phase.
-ghost use Rattle.std.specs.Prelude.{◌≡◌, ◌+◌, ◌-◌, ◌*◌, ◌%◌, ◌/◌, ◌^◌, ◌<◌, ◌≤◌, ◌++◌, ◌∷◌, [], length, replicate, min, pos, true, false, ◌↔◌, IsTrue, IfErr, OnOk, vec_capacity, vec_len};
+ghost use Rattle.std.specs.Prelude.{◌≡◌, ◌+◌, ◌-◌, ◌*◌, ◌%◌, ◌/◌, ◌^◌, ◌<◌, ◌≤◌, ◌++◌, ◌∷◌, [], length, min, true, false, ◌↔◌, IsTrue, IfErr, OnOk, vec_capacity, vec_len};
 ghost use Rattle.std.specs.Option.{option_copied};
 ghost use Rattle.snd_base.specs.Places.{end_frame};
 ghost use Rattle.lab_script.specs.Ops.{played_by};
@@ -12,7 +12,7 @@ ghost use Rattle.lab_card.specs.CardLines.{CardDid, CardPart, frames_by, positio
 ghost use Rattle.lab_card.specs.Moves.{frame_of_card, geometry_of_card};
 ghost use Rattle.lab_card.specs.Room.{FitsRing, HasRoom, KeepsRoom};
 
-use crate::capture::capture_frames;
+use crate::capture::{capture_frames, push_silence};
 use crate::lines::{frame_count, is_of_card, line_count, plays_at_most, row_of};
 use card_sim::Card;
 use lab_report::Row;
@@ -29,17 +29,6 @@ pub struct CardActor<'a> {
     pub played: Vec<i16>,
     pub rows: Vec<Row>,
     pub captured: Vec<i16>,
-}
-
-/// Appends so many samples of silence, for which there is room.
-fn push_silence(samples: &mut Vec<i16>, count: usize)
-    requires { vec_len samples.old + count ≤ vec_capacity samples.old }
-    ensures items { samples.new.items ≡ samples.old.items ++ replicate count (pos 0) }
-    ensures len { vec_len samples.new ≡ vec_len samples.old + count }
-    ensures room { vec_capacity samples.old ≤ vec_capacity samples.new }
-{
-    let count = samples.len() + count;
-    samples.resize(count, 0).unwrap();
 }
 
 /// Appends a row, for which there is room.

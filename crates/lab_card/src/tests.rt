@@ -1,3 +1,4 @@
+//! Lines of a card.
 ghost use Rattle.std.specs.Prelude.{IfOk};
 ghost use Rattle.sum_table.specs.Rings.{GaveNone};
 ghost use Rattle.snoop_table.specs.Rings.{GaveNone as SnoopGaveNone};

@@ -1,25 +1,11 @@
-use Rattle.std.proofs.Common.{◌≡◌, ℕ, ℤ, ◌+◌, ◌*◌, ◌++◌, List, ap, arith, sym, ◌∙◌}
+use Rattle.std.proofs.Common.{ap, sym, ◌∙◌}
 use Rattle.std.specs.Option.{option_copied}
-use Rattle.std.proofs.lemmas.List.{append-nil}
-use Rattle.std.specs.Prelude.{Option}
-use Rattle.wav_io.specs.Sound.{Sound}
-use Rattle.lab_card.specs.Captures.{captured_frame, captured_frames}
-use Rattle.lab_card.specs.MovesLaws.{captured_frames-append}
+use Rattle.lab_card.specs.Captures.{captured_frames}
+use Rattle.lab_card.proofs.Silence.{captured_frames-none}
 use Rattle.lab_card.proofs.capture.capture_frames.Goals as goal
 
-pub loop-index-preserved : goal.loop-index-preserved
-loop-index-preserved c =
-    let capture : Option Sound = option_copied c.args.capture in
-    let channels : ℕ = c.args.channels in
-    let from : ℕ = c.args.from in
-    let index : ℕ = c.loop-index.index in
-    let was = c.loop-index.invariant in
-    let size : (index + 1) * channels ≡ index * channels + channels = omega arith in
-    record {
-      items = c.push_frame.ensures.items
-          ∙ (ap (λ (xs : List ℤ). xs ++ captured_frame capture channels (from + index)) was.items
-          ∙ (ap (λ (xs : List ℤ). captured_frames capture channels from index ++ xs) (sym (append-nil (captured_frame capture channels (from + index))))
-          ∙ sym (captured_frames-append capture channels from index 1)));
-      len = omega (arith, size, was.len, c.push_frame.ensures.len);
-      room = omega (arith, was.room, c.push_frame.ensures.room);
-    }
+pub returns-in-None-clause-items : goal.returns-in-None-clause-items
+returns-in-None-clause-items c =
+    c.capture_silence.ensures.items
+    ∙ (sym (captured_frames-none c.args.channels c.args.from c.args.frames)
+    ∙ ap (λ file. captured_frames (option_copied file) c.args.channels c.args.from c.args.frames) (sym c.in-None.is))

@@ -1,6 +1,5 @@
-use Rattle.std.proofs.Common.{◌≡◌, ℕ, ℤ, ◌++◌, ◌∷◌, [], List, map, ap, arith, sym, ◌∙◌, append_assoc}
+use Rattle.std.proofs.Common.{◌≡◌, ℕ, ℤ, ◌++◌, ◌∷◌, [], Some, List, map, ap, arith, sym, ◌∙◌, append_assoc}
 use Rattle.std.specs.List.{range_with_len}
-use Rattle.std.specs.Option.{option_copied}
 use Rattle.std.proofs.lemmas.Grind.{common_steps}
 use Rattle.std.proofs.lemmas.List.FromFn.{map-range_with_len_more}
 use Rattle.lab_card.specs.Captures.{captured_at}
@@ -8,15 +7,15 @@ use Rattle.lab_card.proofs.capture.push_frame.Goals as goal
 
 pub loop-channel-preserved : goal.loop-channel-preserved
 loop-channel-preserved c =
-    let f : ℕ → ℤ = captured_at (option_copied c.args.capture) c.args.frame in
+    let f : ℕ → ℤ = captured_at (Some c.args.wav.now) c.args.frame in
     let was = c.loop-channel.invariant in
     let old : List ℤ = c.args.captured.now.items in
     let front : List ℤ = map f (range_with_len 0 c.loop-channel.channel) in
-    let pushed : c.push.new.self.items ≡ c.loop-channel.captured.items ++ c.captured_at.result ∷ [] = grind (arith, common_steps) in
+    let pushed : c.push.new.self.items ≡ c.loop-channel.captured.items ++ c.sample_in.result ∷ [] = grind (arith, common_steps) in
     let size = c.push.ensures in
     record {
       items = pushed
-          ∙ (ap (λ (x : ℤ). c.loop-channel.captured.items ++ x ∷ []) c.captured_at.ensures
+          ∙ (ap (λ (x : ℤ). c.loop-channel.captured.items ++ x ∷ []) c.sample_in.ensures
           ∙ (ap (λ (xs : List ℤ). xs ++ f c.loop-channel.channel ∷ []) was.items
           ∙ (append_assoc old front (f c.loop-channel.channel ∷ [])
           ∙ ap (λ (xs : List ℤ). old ++ xs) (sym (map-range_with_len_more f 0 c.loop-channel.channel c.loop-channel.channel (omega arith))))));
