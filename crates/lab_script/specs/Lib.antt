@@ -5,6 +5,5 @@ pub mod Keys
 pub mod Ops
 pub mod Script
 pub mod Limits
-pub mod Runs
 pub mod Draft
 pub mod Reading

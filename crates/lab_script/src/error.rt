@@ -1,3 +1,4 @@
+//! Why a script is refused.
 use std::alloc::{AllocError, AllocFailed};
 use thiserror::Error;
 
@@ -73,10 +74,6 @@ pub enum ScriptWhy {
     /// The text is longer than a script may be.
     #[error("TooLong")]
     TooLong,
-    /// The line is right, and the lab can't run it yet. [`crate::not_yet`] tells which line that is; the
-    /// reader never refuses for it.
-    #[error("NotYet")]
-    NotYet,
     /// Memory ran out.
     #[error("Memory")]
     Memory,

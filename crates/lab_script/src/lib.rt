@@ -14,7 +14,6 @@ mod name;
 mod named;
 mod ops;
 mod reader;
-mod runs;
 mod script;
 mod steps;
 mod values;
@@ -26,7 +25,6 @@ pub use line::{Actor, Item, Line, Op, Phase};
 pub use name::{FileName, Name};
 pub use ops::{print_op, push_op};
 pub use reader::read_script;
-pub use runs::not_yet;
 pub use script::{Body, CardLine, ClientLine, Clients, ReaderLine, Readers, Script, Share, Stop};
 pub use word::read_number;
 

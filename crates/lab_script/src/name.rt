@@ -1,3 +1,4 @@
+//! The name of a client or reader.
 ghost use Rattle.std.specs.Prelude.{◌≡◌, string_bytes};
 
 use std::marker::Model;

@@ -309,33 +309,3 @@ fn reads_each_line_of_a_body(rt: HostRuntime) -> Result<(), Fail> {
     }
     Ok(())
 }
-
-#[test]
-fn tells_the_first_line_that_cannot_be_run(rt: HostRuntime) -> Result<(), Fail> {
-    for (text, line) in [
-        ("\ncard capture in.wav", Some(2)),
-        ("card share dshare", Some(1)),
-        ("card lap 1", Some(1)),
-        ("card places 63", Some(1)),
-        ("card\nreader r\nclient a f plug linear", Some(2)),
-        ("card\nclient a f stop never\nreader r", Some(2)),
-        ("card\nclient a f buffer 64", Some(2)),
-        ("card\nclient a f lead 1024\nopen a\nclose a", Some(4)),
-        ("card\nphase\nend\nphase\ncard unplug\nend", Some(5)),
-        ("card\nclient a f\nphase\na sync\na rewind 1\nend", Some(5)),
-        (
-            "card\nclient a f\nphase\na write 1\ncard play 1\nend",
-            Some(5),
-        ),
-        (
-            "card\nclient a f start 1\nopen a\nphase\na drain\na write 1\nend",
-            None,
-        ),
-    ] {
-        let script = read_script(rt.alloc(), text.as_bytes())
-            .ok()
-            .ok_or("the text is a script")?;
-        assert_eq!(rt; not_yet(&script), line, "at {text}");
-    }
-    Ok(())
-}
