@@ -1,6 +1,7 @@
 pub mod Bytes
 pub mod Cuts
 pub mod Courses
+pub mod Lengths
 pub mod Lines
 pub mod Places
 pub mod Ranges

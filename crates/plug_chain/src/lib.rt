@@ -14,7 +14,7 @@ mod rates;
 mod table;
 mod wide;
 
-pub use laws::output_frames_lie_before_the_end;
+pub use laws::{conversions_have_whole_frames, output_frames_lie_before_the_end};
 pub use plug::Plug;
 pub use table::Table;
 pub use wide::Wide;

@@ -1,6 +1,6 @@
 //! A plug: bytes in any pieces in, samples out.
-ghost use Rattle.std.specs.Prelude.{◌≡◌, ◌↔◌, IfErr, IsTrue, OnErr, OnOk};
-ghost use Rattle.plug_chain.specs.Plugs.{Completes, Continues, IsBeginning};
+ghost use Rattle.std.specs.Prelude.{◌≡◌, ◌↔◌, ℕ, IfErr, IsTrue, List, OnErr, OnOk, length};
+ghost use Rattle.plug_chain.specs.Plugs.{Completes, Continues, IsBeginning, IsStage, plug_of};
 ghost use Rattle.plug_chain.specs.Rates.{AreRates};
 
 use crate::converter::{Converter, Progress};
@@ -60,6 +60,17 @@ impl Plug {
             converter,
             progress,
         }
+    }
+
+    /// How many samples the whole conversion of so many bytes has, whatever they are and whatever the plug has taken so far.
+    /// So a caller can refuse bytes of which there would be too many samples before they are converted.
+    pub fn converted_len(&self, bytes: u32) -> u64
+        ensures value { (fed : List ℕ) → length fed ≡ bytes
+            → length (plug_of self.now.conversion fed) ≡ result }
+        ensures bound { IsStage self.now }
+    {
+        let frames = bytes / self.converter.frame_bytes() as u32;
+        self.converter.rates.output_count(frames) * u64::from(self.converter.table.outputs())
     }
 
     /// Takes the next bytes, and appends the interleaved samples of each output frame that is known now: that lies at the

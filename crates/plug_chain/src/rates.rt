@@ -1,6 +1,6 @@
 //! Two rates.
-ghost use Rattle.std.specs.Prelude.{◌≡◌};
-ghost use Rattle.plug_chain.specs.Rates.{AreRates};
+ghost use Rattle.std.specs.Prelude.{◌≡◌, ◌*◌, ◌+◌, ◌<◌, ◌≤◌, ◌^◌};
+ghost use Rattle.plug_chain.specs.Rates.{AreRates, output_count};
 
 use std::marker::Model;
 
@@ -45,5 +45,14 @@ impl Rates {
         ensures bound { AreRates self }
     {
         self.output
+    }
+
+    /// How many output frames so many frames are made into.
+    pub(crate) fn output_count(self, frames: u32) -> u64
+        ensures value { result ≡ output_count self frames }
+        ensures few { result < 2 ^ 51 }
+    {
+        (u64::from(frames) * u64::from(self.output) + (u64::from(self.input) - 1))
+            / u64::from(self.input)
     }
 }

@@ -21,6 +21,7 @@ fn converted(alloc: Global, mut plug: Plug, first: &[u8], second: &[u8]) -> Resu
 fn twice_the_rate_puts_frames_between(rt: HostRuntime) -> Result<(), Fail> {
     let table = Table::usual(rt.alloc(), 1, 1)?;
     let plug = Plug::new(Wide::U8, table, 24000, 48000);
+    assert_eq!(rt; (plug.converted_len(0), plug.converted_len(3)), (0, 6));
     let out = converted(rt.alloc(), plug, &[128, 192], &[64])?;
     assert_eq!(rt;
         out.as_slice(),

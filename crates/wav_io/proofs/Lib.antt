@@ -9,3 +9,4 @@ pub mod Rooms
 pub mod Readers
 pub mod Files
 pub mod Refusals
+pub mod Sizes

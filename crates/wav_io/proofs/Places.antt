@@ -36,7 +36,7 @@ pub leads_data : (depths : Depths) (f : Format) (size : ℕ) (find : List ℕ �
 unfolding found_from
 leads_data depths f size find same in_order = record { same = same; place = in_order; opened = λ kept n. tt }
 
--- what a format chunk comes to, of which the head is known
+-- the result of scanning a format chunk of which the head is known
 abbrev format_found : Depths → ℕ → List ℕ → Finding
 format_found depths size more =
     cond (ltb (length more) size) format_cut (followed (settled (format_of depths (take 40 (take size more)))) (λ f. finding depths f (chunks (drop (size + size % 2) more))))
@@ -110,7 +110,7 @@ judged-other depths format chunk isnt not = cond-false _ _ _ isnt ∙ cond-false
 pub leads_as : (depths : Depths) (place : Place) (find other : List ℕ → Finding) → LeadsTo depths place find → ((more : List ℕ) → find more ≡ other more) → LeadsTo depths place other
 leads_as depths place find other leads is = record { same = λ more. leads.same more ∙ is more; place = leads.place; opened = leads.opened }
 
--- what the chunks come to after a head
+-- the result of scanning the chunks after a head
 abbrev after : Depths → Option Format → List ℕ → List ℕ → Finding
 after depths format head more = finding depths format (chunks (head ++ more))
 

@@ -1,10 +1,13 @@
 -- Readers of the bytes of a file's samples.
-use Rattle.std.proofs.Common.{◌≡◌, ℕ, ◌*◌, ◌/◌, ◌%◌, ◌<◌, ◌≤◌, true, false, List, [], ◌++◌, length, Result, Ok, Err, refl, sym, ap, subst, ◌∙◌, arith, append-nil, append_assoc}
+use Rattle.std.proofs.Common.{◌≡◌, ℕ, ◌*◌, ◌/◌, ◌+◌, ◌%◌, ◌<◌, ◌≤◌, true, false, List, [], ◌++◌, length, Some, None, Result, Ok, Err, inl, inr, refl, sym, ap, subst, ◌∙◌, arith, append-nil, append_assoc}
+use Rattle.std.proofs.lemmas.Bool.{cases_lt, cases_Bool, cond-true}
 use Rattle.std.proofs.lemmas.Bool.Decides.{nat_tests}
 use Rattle.std.proofs.Math.Nat.{mul-le-mul_left, mul-mod_left}
 use Rattle.std.proofs.lemmas.List.{length-take-le}
 use Rattle.std.proofs.Math.Nat.{div-mul-le_self}
+use Rattle.std.specs.Prelude.{IsOk}
 use Rattle.wav_io.specs.declared.error.WavError.{WavError}
+use Rattle.wav_io.specs.declared.error.WavError.TheVariants.{Memory}
 use Rattle.wav_io.specs.declared.format.Depths.TheVariants.{UpTo32}
 use Rattle.wav_io.specs.declared.format.Format.{Format}
 use Rattle.wav_io.specs.declared.place.Place.{Place}
@@ -12,10 +15,12 @@ use Rattle.wav_io.specs.declared.place.Place.TheVariants.{DataBody}
 use Rattle.wav_io.specs.Fields.{whole}
 use Rattle.wav_io.specs.Formats.{IsFormat, is_accepted}
 use Rattle.wav_io.specs.Frames.{IsCut}
-use Rattle.wav_io.specs.Pieces.{with_front}
-use Rattle.wav_io.specs.Reading.{Contents}
-use Rattle.wav_io.specs.Readers.{Reader, IsPart, Raw, rest_of, raw_to_come, raw_frame, raws, with_bytes}
-use Rattle.wav_io.specs.Scans.{to_come}
+use Rattle.wav_io.specs.Pieces.{found_from, with_front}
+use Rattle.wav_io.specs.Reading.{Contents, limited, most_bytes}
+use Rattle.wav_io.specs.Readers.{Reader, IsOfHead, IsPart, Raw, error_of, rest_of, raw_to_come, raw_frame, raws, with_bytes}
+use Rattle.wav_io.specs.Scans.{IsScan, refusal_of, to_come}
+use Rattle.wav_io.proofs.Limits.{limited-short, limited-long}
+use Rattle.wav_io.proofs.Scans.{ends_at, ends_data}
 use Rattle.wav_io.proofs.Readers.{fed_comes, cut-whole, whole-less, format_comes}
 
 -- the bits of a sample
@@ -68,3 +73,35 @@ ends_raw r f n fed is part come =
     let less : length (r.part ++ []) < raw_frame f = omega (arith, subst (λ (q : Place). IsPart raw_frame q r.part) is part, ap length (append-nil r.part)) in
     ap raws (fed_comes UpTo32 r [] fed ∙ ap (with_front r.part) come)
     ∙ ap (λ (b : List ℕ). Ok (record { channels = f.channels; rate = f.rate; bits = f.bits; body = b })) (whole-less (raw_frame f) (r.part ++ []) less)
+
+-- behind a format, an answer has that format, or the file is too long
+of_data : (r : Reader) (f : Format) (n : ℕ) → r.scan.place ≡ DataBody f n → r.starved ≡ false → (more : List ℕ) → IsOfHead f.channels f.rate f.bits (raw_to_come r more)
+unfolding found_from
+of_data r f n is fed more =
+    let come : to_come UpTo32 r.scan more ≡ limited r.scan.seen (found_from UpTo32 (DataBody f n) r.scan.kept) more =
+    ap (λ (q : Place). limited r.scan.seen (found_from UpTo32 q r.scan.kept) more) is in
+    elim (cases_lt most_bytes (r.scan.seen + length more)) [
+      | inl long ↦
+          subst (λ (a : Result Contents WavError). IsOfHead f.channels f.rate f.bits (raws a))
+          (sym (fed_comes UpTo32 r more fed ∙ ap (with_front r.part) (come ∙ limited-long r.scan.seen (found_from UpTo32 (DataBody f n) r.scan.kept) more long))) refl
+      | inr short ↦
+          subst (λ (a : Result Contents WavError). IsOfHead f.channels f.rate f.bits (raws a))
+          (sym (fed_comes UpTo32 r more fed ∙ ap (with_front r.part) (come ∙ limited-short r.scan.seen (found_from UpTo32 (DataBody f n) r.scan.kept) more short))) (refl, refl, refl)
+    ]
+
+pub raw_to_come-head : (r : Reader) (f : Format) (n : ℕ) → r.scan.place ≡ DataBody f n → error_of r ≡ None → (more : List ℕ) → IsOfHead f.channels f.rate f.bits (raw_to_come r more)
+raw_to_come-head r f n is none =
+    elim (cases_Bool r.starved) [
+      | inl hungry ↦ absurd (let e : Some Memory ≡ None = sym (cond-true r.starved (Some Memory) (refusal_of r.scan.place) hungry) ∙ none in cc)
+      | inr fed ↦ of_data r f n is fed
+    ]
+
+-- where the file ends behind its format, it is read
+pub raw_to_come-ends : (r : Reader) (f : Format) (n : ℕ) → IsScan r.scan → r.scan.place ≡ DataBody f n → error_of r ≡ None → IsOk (raw_to_come r [])
+raw_to_come-ends r f n scan is none =
+    elim (cases_Bool r.starved) [
+      | inl hungry ↦ absurd (let e : Some Memory ≡ None = sym (cond-true r.starved (Some Memory) (refusal_of r.scan.place) hungry) ∙ none in cc)
+      | inr fed ↦
+          subst (λ (a : Result Contents WavError). IsOk (raws a))
+          (sym (fed_comes UpTo32 r [] fed ∙ ap (with_front r.part) (ends_at UpTo32 r.scan (DataBody f n) _ scan is (ends_data UpTo32 f n r.scan.kept)))) refl
+    ]

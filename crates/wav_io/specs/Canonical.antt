@@ -1,5 +1,5 @@
 -- The canonical file of a sound.
-use Rattle.std.specs.Prelude.{ℕ, ◌+◌, ◌*◌, ◌/◌, ◌^◌, ◌<◌, List, ◌++◌, length, All, FitsSigned, codes, ℤ}
+use Rattle.std.specs.Prelude.{ℕ, ◌+◌, ◌*◌, ◌/◌, ◌^◌, ◌<◌, ◌≤◌, List, ◌++◌, length, All, FitsSigned, codes, ℤ}
 use Rattle.std.specs.List.{flat_map}
 use Rattle.std.specs.Int.{w16, w32, to_le_bytes, cast_unsigned}
 use Rattle.wav_io.specs.Sound.{Sound, IsSound}
@@ -26,6 +26,14 @@ head channels rate frames = head_before channels rate (frames * channels * 2)
 -- the two bytes of a sample, the low one first
 abbrev pub sample_bytes : ℤ → List ℕ
 sample_bytes z = to_le_bytes w16 (cast_unsigned w16 z)
+
+-- what a head's fields hold: 1 to 8 channels, a rate that isn't 0, and so few frames that the size after `RIFF` is a number of 32 bits
+pub record HasHeader (channels rate frames : ℕ) : Type 0 where
+  pub some_channel : 1 ≤ channels
+  pub few_channels : channels ≤ 8
+  pub some_rate : 1 ≤ rate
+  pub low_rate : rate < 2 ^ 28
+  pub size : frames * channels * 2 + 36 < 2 ^ 32
 
 -- the head, and the samples
 abbrev pub canonical : Sound → List ℕ

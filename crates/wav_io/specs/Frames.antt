@@ -1,4 +1,4 @@
--- Frames that are cut between two parts of the data.
+-- Frames that are divided between two parts of the data.
 use Rattle.std.specs.Prelude.{◌≡◌, ℕ, ◌*◌, ◌<◌, List, ◌++◌, length}
 
 -- a part of a frame and a body are whole frames of this size, and less than a frame

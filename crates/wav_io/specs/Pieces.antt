@@ -9,7 +9,7 @@ use Rattle.wav_io.specs.Chunks.{Chunk, chunks}
 use Rattle.wav_io.specs.Formats.{IsFormat, format_of}
 use Rattle.wav_io.specs.Reading.{Finding, refused, body_found, format_cut, settled, followed, finding, found_in, Contents}
 
--- what a file comes to at a place, after the kept bytes and with the bytes that follow
+-- the result of scanning a file from a place on, with the kept bytes and the bytes that follow
 unfoldable pub found_from : Depths → Place → List ℕ → List ℕ → Finding
 found_from depths Opening kept bytes = found_in depths (kept ++ bytes)
 found_from depths (Head format skip) kept bytes = finding depths format (chunks (kept ++ drop skip bytes))
@@ -42,7 +42,7 @@ HasSeen (FormatBody missing pad) kept seen = Unit {0}
 HasSeen (DataBody format missing) kept seen = Unit {0}
 HasSeen (Refused e) kept seen = Unit {0}
 
--- a new place where the next bytes are at hand, with no byte kept: the file comes to what they are found to be
+-- a new place where the next bytes are at hand, with no byte kept: the result of scanning the file is what they are found to be
 pub record LeadsTo (depths : Depths) (new : Place) (find : List ℕ → Finding) : Type 0 where
   pub same : (more : List ℕ) → found_from depths new [] more ≡ find more
   pub place : IsPlace new []

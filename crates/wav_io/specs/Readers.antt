@@ -1,7 +1,7 @@
 -- The readers of a file in pieces.
-use Rattle.std.specs.Prelude.{◌≡◌, ℕ, ◌*◌, ◌/◌, ◌<◌, Bool, if◌then◌else◌, List, [], ◌++◌, length, ℤ, Option, Some, Result, Ok, Err}
+use Rattle.std.specs.Prelude.{◌≡◌, ℕ, ◌*◌, ◌/◌, ◌<◌, Bool, true, false, if◌then◌else◌, List, [], ◌++◌, length, ℤ, Option, Some, Result, Ok, Err}
 use Rattle.wav_io.specs.declared.error.WavError.{WavError}
-use Rattle.wav_io.specs.declared.error.WavError.TheVariants.{Memory}
+use Rattle.wav_io.specs.declared.error.WavError.TheVariants.{TooLong, Memory}
 use Rattle.wav_io.specs.declared.format.Depths.{Depths}
 use Rattle.wav_io.specs.declared.format.Depths.TheVariants.{Sixteen, UpTo32}
 use Rattle.wav_io.specs.declared.format.Format.{Format}
@@ -43,6 +43,18 @@ pub record IsReader (size : Format → ℕ) (r : Reader) : Type 0 where
 abbrev pub error_of : Reader → Option WavError
 error_of r = if r.starved then Some Memory else refusal_of r.scan.place
 
+-- a place in the first data chunk's body, or behind it
+abbrev pub is_in_data : Place → Bool
+is_in_data Opening = false
+is_in_data (Head format skip) = false
+is_in_data (FormatBody missing pad) = false
+is_in_data (DataBody format missing) = true
+is_in_data (Refused e) = false
+
+-- the format is read, and the data began
+abbrev pub has_begun : Reader → Bool
+has_begun r = is_in_data r.scan.place
+
 -- the format and the data of a file with the bytes that follow, but for the frames that were given
 unfoldable pub rest_of : Depths → Reader → List ℕ → Result Contents WavError
 rest_of depths r more = if r.starved then Err Memory else with_front r.part (to_come depths r.scan more)
@@ -75,6 +87,11 @@ raw_file bytes = raws (contents UpTo32 bytes)
 -- the same with the bytes that follow, but for the frames that were given
 abbrev pub raw_to_come : Reader → List ℕ → Result Raw WavError
 raw_to_come r more = raws (rest_of UpTo32 r more)
+
+-- an answer has these channels, this rate and these bits, or is that the file is too long
+abbrev pub IsOfHead : (channels rate bits : ℕ) → Result Raw WavError → Type 0
+IsOfHead channels rate bits (Ok s) = (s.channels ≡ channels) × (s.rate ≡ rate) × (s.bits ≡ bits)
+IsOfHead channels rate bits (Err e) = e ≡ TooLong
 
 -- more bytes of whole frames in front
 abbrev pub with_bytes : List ℕ → Result Raw WavError → Result Raw WavError

@@ -25,8 +25,8 @@ Reads (Err e) given = IsRefusal e given
 abbrev pub most_bytes : ℕ
 most_bytes = 67_108_864
 
--- what the chunks of a file come to: a refusal, the first data chunk's body, a format chunk that the
--- end cuts, or the end, behind a format or not
+-- the result of scanning a file's chunks: a refusal, the first data chunk's body, a format chunk within which the
+-- file ends, or the end, after a format or without one
 pub data Finding : Type 0 where
   refused : WavError → Finding
   body_found : Format → List ℕ → Finding
@@ -69,7 +69,7 @@ abbrev pub followed : Verdict → (Option Format → Finding) → Finding
 followed (decides f) next = f
 followed (goes_on format) next = next format
 
--- what the chunks come to, after the format that stood before them
+-- the result of scanning the chunks, after the format that was before them
 abbrev pub finding : Depths → Option Format → List Chunk → Finding
 finding depths format [] = ended format
 finding depths format (chunk ∷ behind) = followed (judged depths format chunk) (λ kept. finding depths kept behind)

@@ -15,7 +15,7 @@ pub record IsScan (s : Scan) : Type 0 where
   pub seen : HasSeen s.place s.kept s.seen
   pub limit : s.seen ≤ most_bytes
 
--- what a file comes to with the bytes that follow: its format, and what is to come of its data
+-- the result of scanning a file with the bytes that follow: its format, and the data that is still to be given
 abbrev pub to_come : Depths → Scan → List ℕ → Result Contents WavError
 to_come depths s more = limited s.seen (found_from depths s.place s.kept) more
 

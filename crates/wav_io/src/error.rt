@@ -18,11 +18,11 @@ pub enum WavError {
     /// There is no format chunk (`fmt `) before the first data chunk (`data`), or before the file's end.
     #[error("NoFormat")]
     NoFormat,
-    /// A second format chunk stands before the first data chunk, whatever its size or body.
+    /// A second format chunk is before the first data chunk, whatever its size or body.
     #[error("FormatTwice")]
     FormatTwice,
-    /// The format chunk has fewer than 16 bytes, or as an extensible one (tag 65534) fewer than 40, or the file's end
-    /// cuts it.
+    /// The format chunk has fewer than 16 bytes, or as an extensible one (tag 65534) fewer than 40, or the file ends
+    /// within it.
     #[error("ShortFormat")]
     ShortFormat,
     /// The samples are of this format and not PCM (tag 1). Of an extensible format the tag is its sub-format's first

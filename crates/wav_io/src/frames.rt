@@ -6,7 +6,7 @@ ghost use Rattle.wav_io.specs.Frames.{IsCut};
 use crate::kept::Kept;
 use std::mem;
 
-/// Whole frames: one that was cut or none, and then those that lie in one piece.
+/// Whole frames: one that was divided between two pieces or none, and then those that are in one piece.
 #[derive(Drop)]
 pub struct Whole<'a> {
     pub first: Kept,

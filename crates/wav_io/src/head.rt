@@ -31,7 +31,7 @@ fn head_bytes(riff: u32, channels: u16, rate: u32, size: u32) -> [u8; 44]
 /// These are `RIFF`, the size of what follows it, `WAVE`, a format chunk of 16 bytes for 16-bit PCM, and the head of a
 /// data chunk of `frames` frames, that is of `frames * channels * 2` bytes. All numbers are little-endian.
 /// There are 1 to 8 `channels`. `rate` is in frames per second (Hz), from 1 to `2^28 - 1`. The size after `RIFF`,
-/// `frames * channels * 2 + 36` bytes, is below `2^32`. Takes no memory.
+/// `frames * channels * 2 + 36` bytes, is below `2^32`. `can_have_header` tests this. Takes no memory.
 pub fn header(channels: u16, rate: u32, frames: u32) -> [u8; 44]
     requires some_channel { 1 ≤ channels }
     requires few_channels { channels ≤ 8 }

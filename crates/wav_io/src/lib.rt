@@ -3,6 +3,7 @@
 //! The format is RIFF WAVE (Multimedia Programming Interface and Data Specifications 1.0).
 #![tactic(auto)]
 
+mod bounds;
 mod error;
 mod fields;
 mod format;
@@ -20,6 +21,7 @@ mod steps;
 mod wav;
 mod writing;
 
+pub use bounds::can_have_header;
 pub use error::WavError;
 pub use head::{header, open_header};
 pub use raw::{RawHead, RawReader};

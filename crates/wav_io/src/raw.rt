@@ -1,16 +1,18 @@
 //! The bytes of a WAV's samples from a file that comes in pieces.
 
-ghost use Rattle.std.specs.Prelude.{◌≡◌, ◌≢◌, ◌*◌, ◌/◌, ◌<◌, ◌≤◌, ◌%◌, ◌++◌, ℕ, List, [], length, true, None, Some, Ok, Err, IsOk, IfOk, IfErr, IfSome, OnOk, OnErr};
+ghost use Rattle.std.specs.Prelude.{◌≡◌, ◌≢◌, ◌*◌, ◌/◌, ◌<◌, ◌≤◌, ◌%◌, ◌++◌, ◌↔◌, ℕ, List, [], length, true, false, None, Some, Ok, Err, IsOk, IsSome, IsTrue, IfOk, IfErr, IfSome, OnOk, OnErr};
 ghost use Rattle.wav_io.specs.declared.error.WavError.TheVariants.{Memory};
 ghost use Rattle.wav_io.specs.declared.format.Depths.TheVariants.{UpTo32};
 ghost use Rattle.wav_io.specs.Formats.{IsFormat, is_accepted};
 ghost use Rattle.wav_io.specs.Frames.{IsCut};
-ghost use Rattle.wav_io.specs.Readers.{Raw, error_of, raw_file, raw_to_come, with_bytes, raw_frame};
+ghost use Rattle.wav_io.specs.Reading.{most_bytes};
+ghost use Rattle.wav_io.specs.Readers.{IsOfHead, Raw, error_of, has_begun, raw_file, raw_to_come, with_bytes, raw_frame};
 
 use crate::error::WavError;
 use crate::format::{Depths, Format};
 use crate::frames::{Whole, cut};
 use crate::kept::Kept;
+use crate::place::Place;
 use crate::scan::Scan;
 use std::alloc::AllocError;
 use std::marker::Model;
@@ -119,6 +121,7 @@ impl RawReader {
             ≡ with_bytes body.new.items (raw_to_come self.new more) }
         ensures ok { OnOk result ((front : List ℕ) × (body.new.items ≡ body.old.items ++ front)) }
         ensures err { OnErr result (body.new.items ≡ body.old.items) }
+        ensures begins { OnOk result (has_begun self.new ≡ false → body.new.items ≡ body.old.items) }
 
         // Memory is wanted for the bytes alone, and an error comes again.
         ensures memory { result ≡ Err Memory → error_of self.old ≡ None → IsOk (raw_to_come self.old piece.now) }
@@ -147,6 +150,25 @@ impl RawReader {
         }
     }
 
+    /// The channels, the rate and the bits of the file, once its data began: `Some` from the first `feed` on that appends
+    /// something, or earlier. Each answer to come has them, unless the file is too long; if the file ends here, it is read.
+    /// `None` comes before, and after an error that a file gives. Takes no memory.
+    pub fn head(&self) -> Option<RawHead>
+        ensures begun { IsSome result ↔ IsTrue (has_begun self.now) }
+        ensures to_come { IfSome result (λ head. error_of self.now ≡ None →
+            (more : List ℕ) → IsOfHead head.channels head.rate head.bits (raw_to_come self.now more)) }
+        ensures ends { IfSome result (λ _. error_of self.now ≡ None → IsOk (raw_to_come self.now [])) }
+    {
+        match self.scan.place {
+            Place::DataBody { format, .. } => Some(RawHead {
+                channels: format.channels,
+                rate: format.rate,
+                bits: format.bits,
+            }),
+            _ => None,
+        }
+    }
+
     /// The channels, the rate and the bits of the file that ends here, or why it is refused: the error that was answered,
     /// or what a file that is cut short gives. Takes no memory.
     pub fn finish(self) -> Result<RawHead, WavError>
@@ -155,8 +177,9 @@ impl RawReader {
         ensures again { IfSome (error_of self) (λ e. result ≡ Err e) }
         ensures memory { result ≡ Err Memory → error_of self ≡ Some Memory }
 
-        // The bytes of a file are whole frames.
+        // The bytes of a file are whole frames, and no more than a file may have.
         ensures frames { (bytes : List ℕ) (s : Raw) → raw_file bytes ≡ Ok s → length s.body % (s.channels * (s.bits / 8)) ≡ 0 }
+        ensures few { (bytes : List ℕ) (s : Raw) → raw_file bytes ≡ Ok s → length s.body ≤ most_bytes }
     {
         if self.is_starved {
             return Err(WavError::Memory);

@@ -31,7 +31,7 @@ pub struct WavHead {
 }
 
 /// Reads a WAV file (RIFF WAVE, signed 16-bit little-endian PCM of 1 to 8 channels) in pieces, as `read_wav` reads it
-/// whole: however its bytes are cut, the answer is that of `read_wav`, and so are the samples.
+/// whole: however its bytes are divided, the answer is that of `read_wav`, and so are the samples.
 ///
 /// The pieces are given to `feed` in their order, and then `finish` is called. After an error every later call answers the
 /// same error. Beside the samples, a reader takes no memory.

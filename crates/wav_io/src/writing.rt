@@ -57,9 +57,9 @@ fn write_file(alloc: Global, wav: &Wav) -> Result<Vec<u8>, WavError>
 
 /// The canonical file of a WAV's content (RIFF WAVE, 16-bit PCM).
 ///
-/// It is the head of 44 bytes that `header` gives, and then the samples as they stand, interleaved, two bytes each and
+/// It is the head of 44 bytes that `header` gives, and then the samples as they are, interleaved, two bytes each and
 /// little-endian. As for `header`, the rate is below `2^28` Hz, and the size after `RIFF`, two bytes for each sample
-/// and 36, is below `2^32`; a `Wav` has 1 to 8 channels and a rate anyway. The only error is `WavError::Memory`.
+/// and 36, is below `2^32` (`Wav::can_write`); a `Wav` has 1 to 8 channels and a rate anyway. The only error is `WavError::Memory`.
 /// A file of more than 67,108,864 bytes is written too, but `read_wav` refuses it.
 pub fn write_wav(alloc: Global, wav: &Wav) -> Result<Vec<u8>, WavError>
     requires rate { wav.now.rate < 2 ^ 28 }

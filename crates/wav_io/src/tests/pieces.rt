@@ -97,9 +97,15 @@ fn bytes_of_other_depths_are_read(rt: HostRuntime) -> Result<(), Fail> {
         }
         let mut reader = RawReader::new();
         let mut body = Vec::new(alloc);
+        assert!(rt; reader.head().is_none(), "no bytes came");
         for piece in file.chunks(3) {
             assert_eq!(rt; reader.feed(piece, &mut body), Ok(()), "{bits} bits");
         }
+        let head = reader.head().ok_or("the data began")?;
+        assert_eq!(rt;
+            (head.channels, head.rate, head.bits),
+            (1, 48_000, u16::from(bits))
+        );
         assert_eq!(rt; body.as_slice(), &[1u8, 2, 3, 4, 5][..count], "{bits} bits");
         let head = reader.finish().ok().ok_or("the file is read")?;
         assert_eq!(rt; head.bits, u16::from(bits));

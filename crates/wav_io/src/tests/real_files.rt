@@ -1,4 +1,4 @@
-//! WAV files as sox 14.4.2 and ffmpeg 5.1 write them. Above each stands the command that wrote it. The samples of
+//! WAV files as sox 14.4.2 and ffmpeg 5.1 write them. Above each is the command that wrote it. The samples of
 //! FILE are those of `sox FILE -t raw -e signed -b 16 - | od -A n -v -t d2`.
 
 use super::pieces::is_alike_in_pieces;

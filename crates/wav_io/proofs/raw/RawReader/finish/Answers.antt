@@ -6,6 +6,7 @@ use Rattle.wav_io.specs.Reading.{contents}
 use Rattle.wav_io.specs.Readers.{Reader, raws, error_of, raw_to_come}
 use Rattle.wav_io.proofs.Raws.{ends_raw, raws-frames}
 use Rattle.wav_io.proofs.Readers.{starved_comes, refused_rest, again_from, IfSome-weaker}
+use Rattle.wav_io.proofs.Sizes.{length-raw_file}
 use Rattle.wav_io.proofs.raw.RawReader.finish.Goals as goal
 
 pub returns-then-self-clause-err : goal.returns-then-self-clause-err
@@ -35,3 +36,12 @@ returns-in-Err-clause-again c =
 
 pub returns-in-Err-clause-frames : goal.returns-in-Err-clause-frames
 returns-in-Err-clause-frames c bytes s is = raws-frames (contents UpTo32 bytes) s is
+
+pub returns-then-self-clause-few : goal.returns-then-self-clause-few
+returns-then-self-clause-few c = length-raw_file
+
+pub returns-in-Ok-clause-few : goal.returns-in-Ok-clause-few
+returns-in-Ok-clause-few c = length-raw_file
+
+pub returns-in-Err-clause-few : goal.returns-in-Err-clause-few
+returns-in-Err-clause-few c = length-raw_file
