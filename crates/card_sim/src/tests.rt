@@ -1,6 +1,11 @@
-ghost use Rattle.std.specs.Prelude.{◌≤◌, IfOk};
-ghost use Rattle.sum_table.specs.Rings.{GaveNone};
+//! A card at both rings.
+ghost use Rattle.std.specs.Prelude.{◌≡◌, ◌≤◌, IfOk};
+ghost use Rattle.sum_table.specs.Rings.{GaveNone, key_of_ring};
 ghost use Rattle.snoop_table.specs.Rings.{GaveNone as SnoopGaveNone};
+
+mod capturing;
+mod dice;
+mod mixing;
 
 use super::*;
 use card_player::CardPlayer;
@@ -23,10 +28,30 @@ fn mono(first_lap: u32) -> Geometry
     }
 }
 
+// A geometry of these parts, as seen at run time.
+fn new_geometry(frames: u32, channels: u8, first_lap: u32) -> Result<Geometry, Fail> {
+    if frames < 64 || frames > 16384 || channels < 1 || channels > 8 || first_lap > 4294967294 {
+        return Err("no geometry".into());
+    }
+    Ok(Geometry {
+        frames,
+        channels,
+        first_lap,
+    })
+}
+
 fn new_ring(alloc: Global, geometry: Geometry) -> Result<SumRing, Fail>
     ensures { IfOk result (λ ring. GaveNone ring) }
 {
     Ok(SumRing::new(alloc, geometry, 1)?)
+}
+
+// A ring with two places.
+fn two_places(alloc: Global, geometry: Geometry) -> Result<SumRing, Fail>
+    ensures gave_none { IfOk result (λ ring. GaveNone ring) }
+    ensures places { IfOk result (λ ring. (key_of_ring ring).places ≡ 2) }
+{
+    Ok(SumRing::new(alloc, geometry, 2)?)
 }
 
 fn new_snoop_ring(alloc: Global, geometry: Geometry) -> Result<SnoopRing, Fail>
