@@ -32,7 +32,7 @@ use Rattle.lab_headline.proofs.Missed.{still-closed}
 
 -- ---- channels
 
-abbrev Has : List ℕ → ℕ → Type 0
+abbrev pub Has : List ℕ → ℕ → Type 0
 Has channels k = has_channel channels k ≡ true
 
 -- each channel of a list is one of another
@@ -53,7 +53,7 @@ apart-part : (a b c d : List ℕ) → AreApart a b → IsPart c a → IsPart d b
 apart-part a b c d apart first second k has = not-has d k (λ other. false≢true (sym (apart k (first k has)) ∙ second k other))
 
 -- free channels have no owner
-free-unowned : (claims : List Claim) (position : ℕ) (channels : List ℕ) (k : ℕ) → AreFree claims position channels → Has channels k → owner_of claims k ≡ None
+pub free-unowned : (claims : List Claim) (position : ℕ) (channels : List ℕ) (k : ℕ) → AreFree claims position channels → Has channels k → owner_of claims k ≡ None
 free-unowned claims position [] k free has = absurd (none-has k has)
 free-unowned claims position (c ∷ channels) k free has = by_test (free-unowned claims position channels k free.1) (c == k) refl
   where
@@ -63,12 +63,12 @@ free-unowned claims position (c ∷ channels) k free has = by_test (free-unowned
 
 -- ---- a stage
 
-abbrev Channels : Session → Stage → ℕ → List ℕ
+abbrev pub Channels : Session → Stage → ℕ → List ℕ
 Channels session stage n = channels_of (client_at session stage n).1.own
 
-record Shares (session : Session) (stage : Stage) : Type 0 where
-  owned : (n k : ℕ) → Has (Channels session stage n) k → is_some (owner_of stage.claims k) ≡ true
-  apart : (n m : ℕ) → (n ≡ m → ⊥) → AreApart (Channels session stage n) (Channels session stage m)
+pub record Shares (session : Session) (stage : Stage) : Type 0 where
+  pub owned : (n k : ℕ) → Has (Channels session stage n) k → is_some (owner_of stage.claims k) ≡ true
+  pub apart : (n m : ℕ) → (n ≡ m → ⊥) → AreApart (Channels session stage n) (Channels session stage m)
 
 -- with the same clients and claims
 same-shares : (session : Session) (stage after : Stage) → after.clients ≡ stage.clients → after.claims ≡ stage.claims → Shares session stage → Shares session after
@@ -78,7 +78,7 @@ same-shares session stage after clients claims shares = record {
 }
 
 -- the client of a number in a list where one is set
-set-client : (session : Session) (clients : List (AtPort × Client)) (n m : ℕ) (x : AtPort × Client) → (n ≡ m → ⊥)
+pub set-client : (session : Session) (clients : List (AtPort × Client)) (n m : ℕ) (x : AtPort × Client) → (n ≡ m → ⊥)
     → slice_index_or (slice_set clients n x) m (no_client session.ring) ≡ slice_index_or clients m (no_client session.ring)
 set-client session clients n m x other = get_or-set_other clients n m _ _ (λ same. other (sym same))
 
@@ -199,7 +199,7 @@ from-index P [] d each = tt
 from-index P (x ∷ xs) d each = (each 0, from-index P xs d (λ i. each (suc i)))
 
 -- the channels of a client that is reaped, if it was stopped
-reaped-at : (session : Session) (clients : List (AtPort × Client)) (n : ℕ)
+pub reaped-at : (session : Session) (clients : List (AtPort × Client)) (n : ℕ)
     → slice_index_or (map (reaped_client session.ring) clients) n (no_client session.ring) ≡ reaped_client session.ring (slice_index_or clients n (no_client session.ring))
 reaped-at session [] n = refl
 reaped-at session (x ∷ clients) zero = refl
@@ -311,7 +311,7 @@ phase-shares session stage after ends rules ops rows may clients claims share sh
     owners n k has = rw claims (held-owner session 0 ends (held_of stage) k share
         (from-index (λ (x : AtPort × Client). is_stopped x.1.own ≡ true → has_channel (channels_of x.1.own) k ≡ false) ends (no_client session.ring) (none-stopped n k has)))
 
-item-shares : (session : Session) (stage after : Stage) (one : Item) → ((claims : List Claim) (channels : List ℕ) (position : ℕ) → ClaimIsOwners claims channels position)
+pub item-shares : (session : Session) (stage after : Stage) (one : Item) → ((claims : List Claim) (channels : List ℕ) (position : ℕ) → ClaimIsOwners claims channels position)
     → session.card.share ≡ Dshare → Shares session stage → ItemMay session stage one after → Shares session after
 item-shares session stage after (item.Opens number actor.Card) owners share shares is = rw is shares
 item-shares session stage after (item.Opens number (actor.Client n)) owners share shares is = rw is (open-shares session stage n (client_at session stage n).1.own owners share shares)
@@ -335,10 +335,13 @@ none-open session [] n k has = none-has k has
 none-open session (setup ∷ setups) zero k has = none-has k has
 none-open session (setup ∷ setups) (suc n) k has = none-open session setups n k has
 
+pub first-shares : (session : Session) → Shares session (first_stage session)
+first-shares session = record {
+  owned = λ n k has. absurd (none-open session session.clients n k has);
+  apart = λ n m other k has. absurd (none-open session session.clients n k has);
+}
+
 pub own-channels : (session : Session) (done : List Item) (stage : Stage) → ((claims : List Claim) (channels : List ℕ) (position : ℕ) → ClaimIsOwners claims channels position)
     → HaveOwnChannels session done stage
 own-channels session done stage owners share may =
-    (items-shares session (first_stage session) stage done owners share (record {
-      owned = λ n k has. absurd (none-open session session.clients n k has);
-      apart = λ n m other k has. absurd (none-open session session.clients n k has);
-    }) may).apart
+    (items-shares session (first_stage session) stage done owners share (first-shares session) may).apart

@@ -61,7 +61,7 @@ rising-once member bindings sample_of n card frame channel =
     frame-once member bindings sample_of card frame channel (rising bindings) n (rising_from-rises bindings 0 256)
 
 -- frames past one
-frames-past : (member : ℕ) (bindings : List ℕ) (sample_of : ℕ → ℕ → ℤ) (card first whole frame channel : ℕ) (others : List Entry) → frame < card + first
+pub frames-past : (member : ℕ) (bindings : List ℕ) (sample_of : ℕ → ℕ → ℤ) (card first whole frame channel : ℕ) (others : List Entry) → frame < card + first
     → at others frame channel ≡ []
     → at (flat_map (λ j. frame_entries member bindings (sample_of j) (length bindings) (card + j)) (range_with_len first whole) ++ others) frame channel ≡ []
 frames-past member bindings sample_of card first zero frame channel others past none = none

@@ -17,7 +17,7 @@ use Rattle.lab_run.specs.Rules.{AtPort, MayGet, MayLay, MayLoad, Rules}
 use Rattle.lab_run.specs.Stage.{Setup}
 use Rattle.lab_headline.proofs.LateParts.{Bound, Named, call-named, rewind-named}
 use Rattle.lab_headline.proofs.Stages.{IsKept}
-use Rattle.lab_headline.proofs.Results.{All, All-then, Takes-all}
+use Rattle.lab_run.proofs.Results.{All, All-then, Takes-all}
 
 -- ---- a line
 

@@ -50,7 +50,7 @@ unfolding rising
 rising-before bindings part low = before-next bindings (rising bindings) part low (rising_from-rises bindings 0 256)
 
 -- whole frames before a frame
-whole-before : (member : ℕ) (bindings : List ℕ) (sample_of : ℕ → ℕ → ℤ) (card first whole frame channel : ℕ) → card + (first + whole) ≤ frame
+pub whole-before : (member : ℕ) (bindings : List ℕ) (sample_of : ℕ → ℕ → ℤ) (card first whole frame channel : ℕ) → card + (first + whole) ≤ frame
     → at (flat_map (λ j. frame_entries member bindings (sample_of j) (length bindings) (card + j)) (range_with_len first whole)) frame channel ≡ []
 whole-before member bindings sample_of card first zero frame channel low = refl
 whole-before member bindings sample_of card first (suc whole) frame channel low =

@@ -24,7 +24,7 @@ use Rattle.lab_run.specs.Rules.{AtPort, MayGet, MayLay, MayLoad, Rules}
 use Rattle.lab_run.specs.Stage.{Session, Setup}
 use Rattle.lab_headline.specs.Files.{IsMixOfFiles, IsPlacedFrom, file_samples}
 use Rattle.lab_headline.specs.Mix.{IsMixOf}
-use Rattle.lab_headline.proofs.Results.{All, Takes-all}
+use Rattle.lab_run.proofs.Results.{All, Takes-all}
 use Rattle.lab_headline.proofs.Stages.{AreSo, IsKept, reached-so}
 
 -- ---- a client without a setup has no segments

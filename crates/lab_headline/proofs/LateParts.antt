@@ -32,8 +32,8 @@ use Rattle.lab_script.specs.declared.line.Op.TheVariants as op
 use Rattle.lab_report.specs.declared.row.Answer.{Answer}
 use Rattle.lab_run.specs.Client.{answered, call_of, count_answer, done_answer, write_course}
 use Rattle.lab_run.specs.LateRows.{is_rewind}
-use Rattle.lab_headline.proofs.LateAnswers.{LateAnswer, LateErr, LateIn, LateWhy, next-late, reported-late}
-use Rattle.lab_headline.proofs.Results.{All, All-any, All-then}
+use Rattle.lab_run.proofs.LateLaws.{LateAnswer, LateErr, LateIn, LateWhy, next-late, reported-late}
+use Rattle.lab_run.proofs.Results.{All, All-any, All-then}
 
 -- ---- what a commit placed of a frame
 

@@ -22,9 +22,9 @@ use Rattle.lab_run.specs.Stage.{Session, Setup, client_at}
 use Rattle.lab_headline.specs.Late.{IsLate, LateLinesMiss, placed_now}
 use Rattle.lab_headline.proofs.Bound.{IsBound, IsClientBound, clients-bound, line-named}
 use Rattle.lab_headline.proofs.Expanded.{next-free}
-use Rattle.lab_headline.proofs.LateAnswers.{LateAnswer}
+use Rattle.lab_run.proofs.LateLaws.{LateAnswer}
 use Rattle.lab_headline.proofs.LateParts.{Named}
-use Rattle.lab_headline.proofs.Results.{All, Takes-all}
+use Rattle.lab_run.proofs.Results.{All, Takes-all}
 use Rattle.lab_headline.proofs.Stages.{lines-kept, reached-client}
 
 -- the samples of a stretch

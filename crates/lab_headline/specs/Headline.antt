@@ -7,11 +7,12 @@ use Rattle.lab_run.specs.Stage.{Session}
 use Rattle.lab_headline.specs.Clients.{IsSumOfClients}
 use Rattle.lab_headline.specs.Files.{IsMixOfFiles, IsPlacedFrom}
 use Rattle.lab_headline.specs.Late.{LateRowsMiss}
+use Rattle.lab_headline.specs.OneSample.{AreBound, HasOneSample}
 use Rattle.lab_headline.specs.Recordings.{AreRecordingsOf, ReadersAreBound}
 
 -- The played samples are the saturated sums of exactly the samples that the report's segments placed, which are those of the script and the files; each
 -- client's are there beside those of the others; a late row names a place without a sample of its stretch; and each reader recorded the captured frames
--- of its runs, one slice in a stretch.
+-- of its runs, one slice in a stretch; and where clients share the card by channels, at most one sample is placed at each frame and channel.
 pub record Headline (script : Script) (wavs : List Sound) (session : Session) (capture : Option Sound) (outcome : Outcome) : Type 0 where
   pub mix : IsMixOfFiles script wavs outcome.report outcome.played
   pub placed : IsPlacedFrom script wavs session outcome.report
@@ -19,3 +20,5 @@ pub record Headline (script : Script) (wavs : List Sound) (session : Session) (c
   pub late : LateRowsMiss session script.body outcome.report
   pub recordings : AreRecordingsOf session capture outcome.report outcome.recorded
   pub readers : ReadersAreBound script session
+  -- where clients share the card by channels
+  pub one : AreBound session → HasOneSample session outcome.report

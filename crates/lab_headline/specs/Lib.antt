@@ -5,6 +5,7 @@ pub mod Headline
 pub mod Late
 pub mod Mix
 pub mod Once
+pub mod OneSample
 pub mod OneSession
 pub mod Recordings
 pub mod Shares

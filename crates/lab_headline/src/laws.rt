@@ -18,6 +18,7 @@ ghost use Rattle.lab_headline.specs.Late.{LateLinesMiss, LateRowsMiss};
 ghost use Rattle.lab_headline.specs.Mix.{IsMixOf};
 ghost use Rattle.lab_headline.specs.Headline.{Headline};
 ghost use Rattle.lab_headline.specs.Once.{PlacesOnce};
+ghost use Rattle.lab_headline.specs.OneSample.{AreBound, HasOneSample};
 ghost use Rattle.lab_headline.specs.OneSession.{HaveOneSession};
 ghost use Rattle.lab_headline.specs.Recordings.{AreRecordingsOf, frames_of_runs};
 ghost use Rattle.lab_headline.specs.Shares.{HaveOwnChannels};
@@ -159,6 +160,28 @@ pub fn clients_have_own_channels()
     claims_are_of_owners();
 }
 
+/// Each client of a script is bound to 1 to 8 channels of the card, each to another one.
+///
+/// It does nothing.
+pub fn scripts_bind_channels()
+    ensures { (script : Script) (wavs : List Sound) (session : Session) → IsScript script →
+        IsSessionOf script wavs session → AreBound session }
+{}
+
+/// So at most one sample is placed at each frame and channel, and what is played there is that sample
+/// or silence: of those who had a channel one after the other, each ends before the next one begins.
+///
+/// It does nothing.
+pub fn channels_have_one_sample()
+    ensures { (script : Script) (wavs : List Sound) (session : Session) (capture : Option Sound)
+        (client_stops reader_stops : ℕ → ℕ) (outcome : Outcome) →
+        IsSessionOf script wavs session → AreBound session →
+        LabRun session capture script.body client_stops reader_stops outcome →
+        HasOneSample session outcome.report }
+{
+    claims_are_of_owners();
+}
+
 /// Worked rows. A segment with one whole frame at 64 and a part of one channel, of a file whose two
 /// channels go to the card's channels crosswise, places the file's samples 10 and 20 at frame 64,
 /// and of 30 and 40 the one for the card's channel 0. The runs of 2 frames from 5 and of 1 frame
@@ -174,8 +197,8 @@ pub fn worked_rows()
     ensures joined { runs_of (5 ∷ 6 ∷ 9 ∷ []) ≡ two_runs }
 {}
 
-/// What a run of a script says, all in all: the mix, each client's samples in it, the late rows and
-/// the recordings.
+/// What a run of a script says, all in all: the mix, each client's samples in it, the late rows, the
+/// recordings, and that clients which share the card by channels place one sample at a place.
 ///
 /// It does nothing.
 pub fn runs_keep_headline()
@@ -189,4 +212,5 @@ pub fn runs_keep_headline()
     mixes_are_of_clients();
     late_rows_miss();
     runs_record_captures();
+    channels_have_one_sample();
 }

@@ -9,4 +9,5 @@ returns c script wavs session capture client_stops reader_stops outcome is run =
   late = c.late_rows_miss.ensures.rows session capture script.body client_stops reader_stops outcome run;
   recordings = c.runs_record_captures.ensures session capture script.body client_stops reader_stops outcome run;
   readers = session-bound script wavs session is;
+  one = λ bound. c.channels_have_one_sample.ensures script wavs session capture client_stops reader_stops outcome is bound run;
 }

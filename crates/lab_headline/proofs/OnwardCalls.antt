@@ -1,0 +1,350 @@
+-- Each call of a client goes on behind what was placed before.
+use Rattle.std.proofs.Common.{◌≡◌, ℕ, ◌+◌, ◌-◌, ◌≤◌, inl, inr, refl, sym, ◌∙◌, ap, subst, arith, Option, Some, None}
+use Rattle.std.proofs.lemmas.Bool.{false≢true}
+use Rattle.std.specs.Prelude.{Bool, true, false, not, ◌&&◌, nat_eq, nat_lt, if◌then◌else◌, [], Result, Ok, Err, min, max, is_some}
+use Rattle.snd_base.specs.declared.errors.PcmError.{PcmError}
+use Rattle.snd_base.specs.declared.errors.PcmError.TheVariants as error
+use Rattle.snd_base.specs.declared.geometry.Geometry.{Geometry}
+use Rattle.snd_base.specs.declared.places.Cursor.{Cursor}
+use Rattle.mix_core.specs.declared.marks.Marks.{Marks}
+use Rattle.pcm_states.specs.declared.calls.Call.{Call}
+use Rattle.pcm_states.specs.declared.calls.Call.TheVariants as call
+use Rattle.pcm_states.specs.declared.calls.Facts.{Facts}
+use Rattle.pcm_states.specs.declared.states.State.{State}
+use Rattle.pcm_states.specs.declared.states.State.TheVariants.{Draining, Paused, Prepared, Running, Setup}
+use Rattle.pcm_states.specs.Table.{next_of}
+use Rattle.pcm_stream.specs.declared.direction.Direction.TheVariants.{Playback}
+use Rattle.pcm_stream.specs.declared.status.Status.{Status}
+use Rattle.pcm_stream.specs.Status.{is_moving, nothing_found, refusal_of}
+use Rattle.course.specs.Course.{Course, ends}
+use Rattle.dmix_client.specs.declared.commit.Commit.{Commit}
+use Rattle.dmix_client.specs.declared.plain.Plain.{Plain}
+use Rattle.dmix_client.specs.Calls.{Answered, committed_by, found_at, is_prepared, is_stop, late_of, settled, start_count, started, started_in, stopped_in, accepted_if, avail_answer, delay_answer, draining, dropped, has_frames, in_state, is_running, late_at, pending_of, prepared, rebased, resumed, taken_of, with_number, written_after}
+use Rattle.dmix_client.specs.Course.{commits, looks, nothing, starts, syncs, admitted, admitted_by, drain_course, drain_on, drains, fills, number_course, numbered, pause_course, resumes, start_course, starts_taking, sync_course, takes_more, write_on, writes_on}
+use Rattle.dmix_client.specs.Port.{IsStep}
+use Rattle.dmix_client.specs.Rewind.{back_of, checks, last_channel, last_laid, rewind_course, rewind_on, rewindable_course, rewindable_of, rewinds, rewound, take_frames, taken_back, takes_back, without}
+use Rattle.dmix_client.specs.View.{avail_of, held}
+use Rattle.dmix_client.specs.Writes.{count_with, ring_with, starts_with}
+use Rattle.lab_script.specs.declared.line.Op.{Op}
+use Rattle.lab_script.specs.declared.line.Op.TheVariants as op
+use Rattle.lab_report.specs.declared.row.Answer.{Answer}
+use Rattle.wav_io.specs.Sound.{Sound}
+use Rattle.lab_run.specs.Client.{answered, call_of, count_answer, done_answer, write_course}
+use Rattle.lab_headline.proofs.Onward.{Begun, Channels, Goes, Leads, Leads-if, Leads-map, Leads-then, Lies, Onward, Started, Waits, begun, commits-lead, earlier-lies, end_of, ended-lies, free_frame, high_end, looks-lead, moving-begun, moving-unprepared, start-commits, starts-go, synced-goes, syncs-go}
+use Rattle.lab_headline.proofs.Withdrawn.{below-sum, frames-back}
+
+-- ---- the calls
+
+pub moving-syncs : (s : State) → is_moving s ≡ true → IsStep s call.Sync
+moving-syncs Running moves = tt
+moving-syncs Draining moves = tt
+moving-syncs other moves = absurd (false≢true moves)
+
+pub running-transfers : (s : State) → is_running s ≡ true → IsStep s call.Transfer
+running-transfers Running runs = tt
+running-transfers other runs = absurd (false≢true runs)
+
+pub running-moves : (s : State) → is_running s ≡ true → is_moving s ≡ true
+running-moves Running runs = refl
+running-moves other runs = absurd (false≢true runs)
+
+pub some-none : {X : Type 0} {v : X} → Some v ≡ None → ⊥
+some-none is = false≢true (sym (ap is_some is))
+
+-- a start, and a write of a stream that doesn't run, are admitted where it is prepared
+pub starts-prepared : (status : Status) → refusal_of Playback status call.Start ≡ None → is_prepared status.state ≡ true
+starts-prepared status = by_stop status.stopped status.state
+  where
+    by_stop : (stopped : Bool) (s : State) → refusal_of Playback (record { state = s; stopped = stopped }) call.Start ≡ None → is_prepared s ≡ true
+    by_stop true s is = absurd (some-none is)
+    by_stop false Prepared is = refl
+    by_stop false other is = absurd (some-none is)
+
+pub transfers-prepared : (status : Status) → refusal_of Playback status call.Transfer ≡ None → is_running status.state ≡ false → is_prepared status.state ≡ true
+transfers-prepared status = by_stop status.stopped status.state
+  where
+    by_stop : (stopped : Bool) (s : State) → refusal_of Playback (record { state = s; stopped = stopped }) call.Transfer ≡ None → is_running s ≡ false → is_prepared s ≡ true
+    by_stop true s is not = absurd (some-none is)
+    by_stop false Prepared is not = refl
+    by_stop false Running is not = absurd (false≢true (sym not))
+    by_stop false other is not = absurd (some-none is)
+
+module _ (p : ℕ) (g : Geometry) (x y : ℕ) where
+  pub prepared-waits : (m : Marks) (c : Plain) → is_prepared c.status.state ≡ true → Onward p x y m c → Waits p x y m c
+  prepared-waits m c prepared (inl is) = absurd (false≢true (sym is.unprepared ∙ prepared))
+  prepared-waits m c prepared (inr is) = is
+
+  -- in another state that is neither prepared nor moving
+  pub in-state : (state : State) (m : Marks) (c : Plain) → is_prepared state ≡ false → is_moving state ≡ false → Onward p x y m c → Onward p x y m (in_state c state)
+  in-state state m c unprepared still (inl is) = inl (record { bound = is.bound; started = is.started; unprepared = unprepared; past = is.past; lies = is.lies })
+  in-state state m c unprepared still (inr is) =
+      inr (record { bound = is.bound; still = still; none = is.none; no_part = is.no_part; low = is.low; top = is.top; high = is.high })
+
+  pub number-goes : (number : Plain → ℕ) (m : Marks) (done : Answered (Unit {0})) → Goes p x y m done → Goes p x y m (with_number number done)
+  number-goes number m (c, Ok done) goes = goes
+  number-goes number m (c, Err e) goes = goes
+
+  pub accepted-goes : (n : ℕ) (m : Marks) (done : Answered (Unit {0})) → Goes p x y m done → Goes p x y m (accepted_if n done)
+  accepted-goes n m (c, Ok done) goes = goes
+  accepted-goes n m (c, Err e) goes = goes
+
+  pub numbered-goes : (number : Plain → ℕ) (m : Marks) (course : Course (Answered (Unit {0}))) → Leads p g (Goes p x y) m course → Leads p g (Goes p x y) m (numbered number course)
+  unfolding numbered
+  numbered-goes number m course leads = Leads-then p g (Goes p x y) (Goes p x y) m course (λ done. ends (with_number number done)) leads (number-goes number)
+
+  pub syncs-goes : (c : Plain) (asked : Call) (m : Marks) → IsStep c.status.state asked → Begun p x y m c → Leads p g (Goes p x y) m (syncs c asked [])
+  syncs-goes c asked m step is = Leads-map p g (λ n done. Begun p x y n done.0) (Goes p x y) m (syncs c asked []) (syncs-go p g x y c asked [] m step is) (λ n done begun. inl begun)
+
+  pub sync-goes : (c : Plain) (m : Marks) → Onward p x y m c → Leads p g (Goes p x y) m (sync_course c [])
+  sync-goes c m is = by_test (is_moving c.status.state) refl
+    where
+      by_test : (moves : Bool) → is_moving c.status.state ≡ moves → Leads p g (Goes p x y) m (if moves then syncs c call.Sync [] else ends (c, Ok tt))
+      by_test true moves = syncs-goes c call.Sync m (moving-syncs c.status.state moves) (moving-begun p x y m c moves is)
+      by_test false moves = is
+
+  pub number_course-goes : (number : Plain → ℕ) (c : Plain) (m : Marks) → Onward p x y m c → Leads p g (Goes p x y) m (number_course number c [])
+  number_course-goes number c m is = by_test (is_moving c.status.state) refl
+    where
+      by_test : (moves : Bool) → is_moving c.status.state ≡ moves
+          → Leads p g (Goes p x y) m (if moves then numbered number (syncs c call.Sync []) else ends (c, Ok (number c)))
+      by_test true moves = numbered-goes number m (syncs c call.Sync []) (syncs-goes c call.Sync m (moving-syncs c.status.state moves) (moving-begun p x y m c moves is))
+      by_test false moves = is
+
+  pub start-goes : (c : Plain) (m : Marks) → is_prepared c.status.state ≡ true → Waits p x y m c → Leads p g (Goes p x y) m (start_course c [] m.cursor)
+  start-goes c m prepared waits = Leads-if p g (Goes p x y) m (nat_eq c.stretch.written 0) _ _ (inr (record {
+    bound = waits.bound;
+    still = empty-still c.status.state prepared;
+    none = waits.none;
+    no_part = waits.no_part;
+    low = waits.low;
+    top = waits.top;
+    high = waits.high;
+  })) (Leads-map p g (Started p g x y Running) (Goes p x y) m (starts c Running m.cursor c.stretch.written []) (starts-go p g x y c Running c.stretch.written [] m refl waits)
+      (λ n done started. started.0))
+    where
+      empty-still : (s : State) → is_prepared s ≡ true → is_moving (next_of s call.Start (record (nothing_found Playback) { queued = 0 })).state ≡ false
+      empty-still Prepared is = refl
+      empty-still other is = absurd (false≢true is)
+
+  -- a write
+  pub written-begun : (c : Plain) (n : ℕ) (commit : Commit) (m : Marks) → Channels c.setup.bindings → c.stretch.started ≡ true → is_prepared c.status.state ≡ false
+      → x ≤ c.stretch.card → Lies p x y c.stretch.card (end_of c) (end_of (committed_by c commit)) m → Goes p x y m (written_after c n commit)
+  written-begun c n commit m bound started unprepared past lies = by_test (nat_lt 0 n && nat_eq (avail_of c) 0) (is_stop commit.ended)
+    where
+      done : Plain
+      done = committed_by c commit
+
+      there : Lies p x y c.stretch.card (end_of done) (end_of done) m
+      there = ended-lies p x y c.stretch.card (end_of c) (end_of done) m lies
+
+      f : Facts
+      f = found_at (record { frame = 0; gone = false }) (late_of c commit)
+
+      by_test : (none stop : Bool) → Goes p x y m (if none then (c, Err error.Again) else (if stop then stopped_in done
+          else accepted_if (taken_of c n) (settled done (next_of Running call.Transfer f))))
+      by_test true stop = inl (record {
+        bound = bound;
+        started = started;
+        unprepared = unprepared;
+        past = past;
+        lies = record { low = lies.low; top = lies.top; high = lies.high; kept = lies.kept; end = lies.kept };
+      })
+      by_test false true = inl (record { bound = bound; started = started; unprepared = unprepared; past = past; lies = there })
+      by_test false false = accepted-goes (taken_of c n) m (settled done (next_of Running call.Transfer f))
+          (inl (record { bound = bound; started = started; unprepared = moving-unprepared f; past = past; lies = there }))
+
+  pub write_on-goes : (n : ℕ) (m : Marks) (done : Answered (Unit {0})) → Begun p x y m done.0 → Leads p g (Goes p x y) m (write_on [] [] n done)
+  unfolding takes_more
+  write_on-goes n m (c, Err e) is = inl is
+  write_on-goes n m (c, Ok done) is =
+      Leads-then p g (λ k commit. Lies p x y c.stretch.card (end_of c) (end_of (committed_by c commit)) k) (Goes p x y) m
+      (commits c (ring_with c [] [] (taken_of c n)) (count_with c (taken_of c n))) (λ last. ends (written_after c n last))
+      (commits-lead p g x y c (ring_with c [] [] (taken_of c n)) (count_with c (taken_of c n)) m is.bound is.past is.lies)
+      (λ k commit lies. written-begun c n commit k is.bound is.started is.unprepared is.past lies)
+
+  pub write-goes : (c : Plain) (n : ℕ) (m : Marks) → refusal_of Playback c.status call.Transfer ≡ None → Onward p x y m c → Leads p g (Goes p x y) m (write_course c m.cursor n)
+  unfolding writes_on starts_taking
+  write-goes c n m admits is = by_test (is_running c.status.state) refl
+    where
+      starts-taken : Waits p x y m c → Leads p g (Goes p x y) m (starts_taking c (ring_with c [] [] (taken_of c n)) m.cursor (taken_of c n))
+      starts-taken waits = Leads-then p g (Started p g x y Running) (Goes p x y) m (starts c Running m.cursor (c.stretch.written + taken_of c n) (ring_with c [] [] (taken_of c n)))
+          (λ done. ends (accepted_if (taken_of c n) done)) (starts-go p g x y c Running (c.stretch.written + taken_of c n) (ring_with c [] [] (taken_of c n)) m refl waits)
+          (λ k done started. accepted-goes (taken_of c n) k done started.0)
+
+      by_test : (runs : Bool) → is_running c.status.state ≡ runs → Leads p g (Goes p x y) m (if runs then writes_on c [] [] n else fills c [] [] m.cursor n)
+      by_test true runs = Leads-then p g (λ k done. Begun p x y k done.0) (Goes p x y) m (syncs c call.Transfer []) (write_on [] [] n)
+          (syncs-go p g x y c call.Transfer [] m (running-transfers c.status.state runs) (moving-begun p x y m c (running-moves c.status.state runs) is)) (write_on-goes n)
+      by_test false runs = Leads-if p g (Goes p x y) m (starts_with c n) _ _
+          (starts-taken (prepared-waits m c (transfers-prepared c.status admits runs) is)) is
+
+  -- a drain
+  pub drain_on-goes : (m : Marks) (done : Answered (Unit {0})) → Started p g x y Draining m done → Leads p g (Goes p x y) m (drain_on [] done)
+  drain_on-goes m (c, Err e) (is, drains) = is
+  drain_on-goes m (c, Ok done) (is, drains) = syncs-goes c call.Drain m (subst (λ s. IsStep s call.Drain) (sym drains) tt)
+      (moving-begun p x y m c (subst (λ s. is_moving s ≡ true) (sym drains) refl) is)
+
+  pub drain-goes : (c : Plain) (m : Marks) → Onward p x y m c → Leads p g (Goes p x y) m (drain_course c [] m.cursor)
+  unfolding drains
+  drain-goes c m is = by_test (is_moving c.status.state) refl
+    where
+      drains-go : Waits p x y m c → Leads p g (Goes p x y) m (drains c [] m.cursor)
+      drains-go waits = Leads-then p g (Started p g x y Draining) (Goes p x y) m (starts c Draining m.cursor c.stretch.written []) (drain_on [])
+          (starts-go p g x y c Draining c.stretch.written [] m refl waits) drain_on-goes
+
+      by_frames : (prepared some : Bool) → is_prepared c.status.state ≡ prepared → Leads p g (Goes p x y) m (if prepared && some then drains c [] m.cursor else ends (dropped c, Ok tt))
+      by_frames true true is_so = drains-go (prepared-waits m c is_so is)
+      by_frames true false is_so = in-state Setup m c refl refl is
+      by_frames false some is_so = in-state Setup m c refl refl is
+
+      draining-begun : Begun p x y m c → Begun p x y m (draining c)
+      draining-begun begun = record { bound = begun.bound; started = begun.started; unprepared = refl; past = begun.past; lies = begun.lies }
+
+      by_test : (moves : Bool) → is_moving c.status.state ≡ moves → Leads p g (Goes p x y) m (if moves then syncs (draining c) call.Drain []
+          else (if has_frames c then drains c [] m.cursor else ends (dropped c, Ok tt)))
+      by_test true moves = syncs-goes (draining c) call.Drain m tt (draining-begun (moving-begun p x y m c moves is))
+      by_test false moves = by_frames (is_prepared c.status.state) (nat_lt 0 c.stretch.written) refl
+
+  -- ---- a resume
+
+  pub based-waits : (m : Marks) (c : Plain) → Channels c.setup.bindings → x ≤ max p (free_frame m) → free_frame m ≤ high_end m → y ≤ high_end m → Waits p x y m (rebased c)
+  based-waits m c bound low top high = record { bound = bound; still = refl; none = refl; no_part = refl; low = low; top = top; high = high }
+
+  pub resumes-go : (Q : Marks → Answered (Unit {0}) → Type 0) (c : Plain) (m : Marks) → Waits p x y m (rebased c) → Q m (stopped_in c)
+      → ((n : Marks) (done : Answered (Unit {0})) → Goes p x y n done → Q n done) → Leads p g Q m (resumes c m.cursor [])
+  unfolding resumes
+  resumes-go Q c m waits stop on = Leads-then p g (λ n found. Q n (resumed c m.cursor found.0 found.1)) Q m
+      (looks (λ position. started_in (rebased c) Running position m.cursor) (λ position. start_count (rebased c) m.cursor position (pending_of c)) [])
+      (λ found. ends (resumed c m.cursor found.0 found.1))
+      (looks-lead p g x y (λ n found. Q n (resumed c m.cursor found.0 found.1)) (λ position. started_in (rebased c) Running position m.cursor)
+      (λ position. start_count (rebased c) m.cursor position (pending_of c)) [] m stop
+      (λ position least. Leads-map p g (λ n commit. Started p g x y Running n (started (rebased c) Running m.cursor (Some position) commit))
+      (λ n commit. Q n (resumed c m.cursor (Some position) commit)) m (commits (started_in (rebased c) Running position m.cursor) [] _)
+      (start-commits p g x y (rebased c) Running (start_count (rebased c) m.cursor position (pending_of c)) [] m refl waits position least)
+      (λ n commit started. on n (resumed c m.cursor (Some position) commit) started.0)))
+      (λ n found is. is)
+
+  pub resume-leads : (Q : Marks → Answered (Unit {0}) → Type 0) (c : Plain) (m : Marks) → Waits p x y m (rebased c) → Q m (stopped_in c)
+      → ((n : Marks) (done : Answered (Unit {0})) → Goes p x y n done → Q n done) → Leads p g Q m (pause_course false c [] m.cursor)
+  resume-leads Q c m waits stop on = Leads-if p g Q m (nat_eq (pending_of c) 0) (ends (rebased c, Ok tt)) (resumes c m.cursor []) (on m (rebased c, Ok tt) (inr waits))
+      (resumes-go Q c m waits stop on)
+
+  pub reached : (m : Marks) (c : Plain) → Onward p x y m c → (x ≤ max p (free_frame m)) × (free_frame m ≤ high_end m) × (y ≤ high_end m) × Channels c.setup.bindings
+  reached m c (inl is) = (is.lies.low, is.lies.top, is.lies.high, is.bound)
+  reached m c (inr is) = (is.low, is.top, is.high, is.bound)
+
+  pub resume-goes : (c : Plain) (m : Marks) → Onward p x y m c → Leads p g (Goes p x y) m (pause_course false c [] m.cursor)
+  resume-goes c m is =
+      let at = reached m c is in resume-leads (Goes p x y) c m (based-waits m c at.3 at.0 at.1 at.2) is (λ n done goes. goes)
+
+  -- ---- a rewind
+
+  pub checks-go : (c : Plain) (m : Marks) → is_running c.status.state ≡ true → Begun p x y m c → Leads p g (λ n done. Begun p x y n done.0) m (checks c)
+  unfolding checks
+  checks-go c m runs is = (
+    is,
+    λ position least. synced-goes p g x y c call.Transfer position nothing m is.bound is.started is.unprepared (running-transfers c.status.state runs) is.past
+        (earlier-lies p x y c.stretch.card (end_of c) (end_of c) (end_of (committed_by c nothing)) m (omega arith) is.lies),
+  )
+
+  pub rewindable-goes : (floor : Cursor) (c : Plain) (m : Marks) → Onward p x y m c → Leads p g (Goes p x y) m (rewindable_course c floor)
+  rewindable-goes floor c m is = by_test (is_running c.status.state) refl
+    where
+      by_test : (runs : Bool) → is_running c.status.state ≡ runs
+          → Leads p g (Goes p x y) m (if runs then numbered (rewindable_of floor) (checks c) else ends (c, Ok c.stretch.written))
+      by_test true runs = numbered-goes (rewindable_of floor) m (checks c) (Leads-map p g (λ n done. Begun p x y n done.0) (Goes p x y) m (checks c)
+          (checks-go c m runs (moving-begun p x y m c (running-moves c.status.state runs) is)) (λ n done begun. inl begun))
+      by_test false runs = is
+
+  pub rewound-goes : (c : Plain) (n : ℕ) (left : Commit) (m : Marks) → Channels c.setup.bindings → c.stretch.started ≡ true → is_prepared c.status.state ≡ false → x ≤ c.stretch.card
+      → Lies p x y c.stretch.card 0 (end_of (taken_back c n left)) m → Goes p x y m (rewound c n left)
+  rewound-goes c n left m bound started unprepared past lies = by_stop (is_stop left.ended)
+    where
+      done : Plain
+      done = taken_back c n left
+
+      f : Facts
+      f = found_at (record { frame = 0; gone = false }) (late_at left.ended (last_laid done) (last_channel done))
+
+      there : Lies p x y c.stretch.card (end_of done) (end_of done) m
+      there = ended-lies p x y c.stretch.card 0 (end_of done) m lies
+
+      by_stop : (stop : Bool) → Goes p x y m (if stop then stopped_in done else with_number (λ (d : Plain). n) (settled done (next_of Running call.Transfer f)))
+      by_stop true = inl (record { bound = bound; started = started; unprepared = unprepared; past = past; lies = there })
+      by_stop false = number-goes (λ (d : Plain). n) m (settled done (next_of Running call.Transfer f))
+          (inl (record { bound = bound; started = started; unprepared = moving-unprepared f; past = past; lies = there }))
+
+  pub takes_back-goes : (c : Plain) (n : ℕ) (m : Marks) → back_of c n ≤ c.stretch.committed → Begun p x y m c → Leads p g (Goes p x y) m (takes_back c [] n)
+  unfolding takes_back
+  takes_back-goes c n m within is =
+      Leads-then p g (λ k left. Lies p x y c.stretch.card 0 (end_of (taken_back c n left)) k) (Goes p x y) m
+      (take_frames c.identity.member c.stretch.card c.setup.bindings (held c []) (c.stretch.committed - back_of c n) (back_of c n)) (λ left. ends (rewound c n left))
+      (frames-back p g x y c.stretch.card is.past c.identity.member c.setup.bindings is.bound.whole is.bound.some (held c []) (c.stretch.committed - back_of c n) (back_of c n) m
+      (record {
+        low = is.lies.low;
+        top = is.lies.top;
+        high = is.lies.high;
+        kept = omega arith;
+        end = least (max (free_frame m) c.stretch.card) is.lies.end;
+      }))
+      (λ k left lies. rewound-goes c n left k is.bound is.started is.unprepared is.past lies)
+    where
+      least : (most : ℕ) → end_of c ≤ most → c.stretch.card + (c.stretch.committed - back_of c n + back_of c n) ≤ most
+      least most end = by_number (begun c.stretch.part) (back_of c n) within end
+        where
+          by_number : (part back : ℕ) → back ≤ c.stretch.committed → c.stretch.card + c.stretch.committed + part ≤ most
+              → c.stretch.card + (c.stretch.committed - back + back) ≤ most
+          by_number part back few is = omega (arith, few, is)
+
+  pub rewind_on-goes : (floor : Cursor) (n : ℕ) (m : Marks) (done : Answered (Unit {0})) → Begun p x y m done.0 → Leads p g (Goes p x y) m (rewind_on floor [] n done)
+  rewind_on-goes floor n m (c, Err e) is = inl is
+  rewind_on-goes floor n m (c, Ok done) is = takes_back-goes c (min n (rewindable_of floor c)) m (below-sum n (pending_of c) c.stretch.committed _) is
+
+  pub rewind-goes : (floor : Cursor) (c : Plain) (n : ℕ) (m : Marks) → Onward p x y m c → Leads p g (Goes p x y) m (rewind_course c [] floor n)
+  unfolding rewinds
+  rewind-goes floor c n m is = by_test (is_running c.status.state) refl
+    where
+      rewinds-go : Begun p x y m c → is_running c.status.state ≡ true → Leads p g (Goes p x y) m (rewinds c [] floor n)
+      rewinds-go begun runs = Leads-then p g (λ k done. Begun p x y k done.0) (Goes p x y) m (checks c) (rewind_on floor [] n) (checks-go c m runs begun) (rewind_on-goes floor n)
+
+      by_test : (runs : Bool) → is_running c.status.state ≡ runs → Leads p g (Goes p x y) m (if runs then rewinds c [] floor n
+          else ends (without c (min n c.stretch.written), Ok (min n c.stretch.written)))
+      by_test true runs = rewinds-go (moving-begun p x y m c (running-moves c.status.state runs) is) runs
+      by_test false runs = is
+
+  -- ---- the lines
+
+  pub answered-goes : {T : Type 0} (answer : Result T PcmError → Answer) (m : Marks) (course : Course (Answered T)) → Leads p g (Goes p x y) m course
+      → Leads p g (Goes p x y) m (answered answer course)
+  answered-goes answer m course leads = Leads-then p g (Goes p x y) (Goes p x y) m course (λ done. ends (done.0, answer done.1)) leads (λ n done goes. goes)
+
+  pub admitted-goes : {T : Type 0} (c : Plain) (asked : Call) (course : Course (Answered T)) (m : Marks) → Onward p x y m c
+      → (refusal_of Playback c.status asked ≡ None → Leads p g (Goes p x y) m course) → Leads p g (Goes p x y) m (admitted c asked course)
+  admitted-goes {T = T} c asked course m is leads = by_refusal (refusal_of Playback c.status asked) refl
+    where
+      by_refusal : (refusal : Option PcmError) → refusal_of Playback c.status asked ≡ refusal → Leads p g (Goes p x y) m (admitted_by refusal c course)
+      by_refusal None admits = leads admits
+      by_refusal (Some e) admits = is
+
+  pub call-goes : (wav : Sound) (c : Plain) (asked : Op) (m : Marks) → Onward p x y m c → Leads p g (Goes p x y) m (call_of wav m c asked)
+  call-goes wav c (op.Write n) m is = answered-goes count_answer m _ (admitted-goes c call.Transfer _ m is (λ admits. write-goes c _ m admits is))
+  call-goes wav c op.Start m is = answered-goes done_answer m _
+      (admitted-goes c call.Start _ m is (λ admits. let prepared = starts-prepared c.status admits in start-goes c m prepared (prepared-waits m c prepared is)))
+  call-goes wav c op.Sync m is = answered-goes done_answer m _ (admitted-goes c call.Sync _ m is (λ admits. sync-goes c m is))
+  call-goes wav c op.Avail m is = answered-goes count_answer m _ (admitted-goes c call.Sync _ m is (λ admits. number_course-goes avail_answer c m is))
+  call-goes wav c op.Delay m is = answered-goes count_answer m _ (admitted-goes c call.Sync _ m is (λ admits. number_course-goes delay_answer c m is))
+  call-goes wav c op.Drain m is = answered-goes done_answer m _ (admitted-goes c call.Drain _ m is (λ admits. drain-goes c m is))
+  call-goes wav c op.Drop m is = answered-goes done_answer m _ (admitted-goes c call.Drop (ends (dropped c, Ok tt)) m is (λ admits. in-state Setup m c refl refl is))
+  call-goes wav c op.Prepare m is = answered-goes done_answer m _ (admitted-goes c call.Prepare (ends (prepared c, Ok tt)) m is (λ admits. let at = reached m c is in inr (record {
+    bound = at.3;
+    still = refl;
+    none = refl;
+    no_part = refl;
+    low = at.0;
+    top = at.1;
+    high = at.2;
+  })))
+  call-goes wav c op.Pause m is = answered-goes done_answer m _ (admitted-goes c call.Pause _ m is (λ admits. in-state Paused m c refl refl is))
+  call-goes wav c op.Resume m is = answered-goes done_answer m _ (admitted-goes c call.Resume _ m is (λ admits. resume-goes c m is))
+  call-goes wav c (op.Rewind n) m is = answered-goes count_answer m _ (admitted-goes c call.Transfer _ m is (λ admits. rewind-goes m.floor c n m is))
+  call-goes wav c op.Rewindable m is = answered-goes count_answer m _ (admitted-goes c call.Transfer _ m is (λ admits. rewindable-goes m.floor c m is))
+  call-goes wav c other m is = is

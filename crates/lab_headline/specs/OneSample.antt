@@ -1,0 +1,23 @@
+-- Where clients share a card by channels (alsa-lib's dshare), no two of their samples meet.
+use Rattle.std.specs.Prelude.{◌≡◌, ℕ, ◌≤◌, ℤ, pos, List, [], ◌∷◌, IfSome, None, slice_index_or}
+use Rattle.bindings.specs.Bound.{AreBindings}
+use Rattle.mix_core.specs.Laid.{at, count, total}
+use Rattle.lab_script.specs.declared.script.Share.TheVariants.{Dshare}
+use Rattle.lab_report.specs.declared.report.Report.{Report}
+use Rattle.lab_run.specs.Stage.{Session, Setup}
+use Rattle.lab_headline.specs.Mix.{placed}
+
+-- each client that can be opened is bound to 1 to 8 channels of the card, each to another one
+abbrev pub AreBound : Session → Type 0
+AreBound session = (number : ℕ) → IfSome (slice_index_or session.clients number None) (λ (setup : Setup). AreBindings setup.bindings)
+
+-- the only one of some samples, or silence where there is none
+abbrev pub only_of : List ℤ → ℤ
+only_of [] = pos 0
+only_of (sample ∷ rest) = sample
+
+-- at each frame and channel at most one sample is placed, which is all that is played there
+abbrev pub HasOneSample : Session → Report → Type 0
+HasOneSample session report = session.card.share ≡ Dshare → (frame channel : ℕ)
+    → (count (placed session report) frame channel ≤ 1)
+    × (total (placed session report) frame channel ≡ only_of (at (placed session report) frame channel))
