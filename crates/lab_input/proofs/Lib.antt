@@ -1,4 +1,5 @@
 mod Feeding
 mod Long
+mod Plugging
 mod Reading
 mod Sounds

@@ -12,18 +12,20 @@ use Rattle.lab_stop.specs.Pieces.{IsFetched, IsBegun, IsFetched-next, IsFetched-
 use Rattle.lab_stop.specs.Stops.{IsCauseOf, IsWavStop, Misses, NamesWav}
 use Rattle.wav_io.specs.declared.error.WavError.{WavError}
 use Rattle.wav_io.specs.declared.error.WavError.TheVariants as wav_whys
-use Rattle.wav_io.specs.Reading.{IsRefusal, wav_file, most_bytes}
+use Rattle.wav_io.specs.Reading.{IsRefusal, most_bytes}
 use Rattle.wav_io.specs.Sound.{Sound}
-use Rattle.lab_input.specs.declared.sound.SoundReader.{SoundReader}
-use Rattle.lab_input.specs.Input.{as_sound, counted, wav_in}
+use Rattle.lab_input.specs.declared.shape.Shape.{Shape}
+use Rattle.lab_input.specs.declared.sound.FileReader.{FileReader}
+use Rattle.lab_input.specs.Input.{as_sound, wav_in, weighed}
+use Rattle.lab_input.specs.Plug.{sound_file, weight}
 use Rattle.lab_input.specs.Sound.{IsAfter}
-use Rattle.lab_input.proofs.Long.{wav_file-long, wav_file-refused}
+use Rattle.lab_input.proofs.Long.{sound_file-long, sound_file-refused}
 
 -- what a loop over the pieces keeps: the bytes that were read, and that they are the first of the file
-pub record Reading (files now : Option Files) (name : List ℕ) (reader : SoundReader) (bytes : ℕ) (last : Bool)
+pub record Reading (files now : Option Files) (name : List ℕ) (shape : Option Shape) (reader : FileReader) (bytes : ℕ) (last : Bool)
     (faults faults_now writes writes_now : ℕ) (before after : Type 0) : Type 0 where
   pub seen : List ℕ
-  pub read : IsAfter reader seen
+  pub read : IsAfter reader shape seen
   pub count : bytes ≡ length seen
   pub few : bytes ≤ 67_174_400
   pub so_far : ForSome files (λ m. IsBegun m name seen last)
@@ -33,32 +35,32 @@ pub record Reading (files now : Option Files) (name : List ℕ) (reader : SoundR
   pub reliable : before → after
 
 -- a file that isn't there has no sound
-missing_sound : (r : Result (List ℕ) Cause) (name : List ℕ) (e : Cause) → r ≡ Err e
-    → (r >>= λ bytes. counted name (length bytes) (wav_file bytes)) ≡ Err e
-missing_sound r name e is = ap (λ (s : Result (List ℕ) Cause). s >>= λ bytes. counted name (length bytes) (wav_file bytes)) is
+missing_sound : (r : Result (List ℕ) Cause) (shape : Option Shape) (name : List ℕ) (e : Cause) → r ≡ Err e
+    → (r >>= λ bytes. weighed name shape (length bytes) (sound_file shape bytes)) ≡ Err e
+missing_sound r shape name e is = ap (λ (s : Result (List ℕ) Cause). s >>= λ bytes. weighed name shape (length bytes) (sound_file shape bytes)) is
 
-pub wav_in-missing : (files : Files) (name : List ℕ) (from : ℕ) (e : Cause)
-    → fetched_from files name from piece_bytes ≡ Err e → wav_in files name ≡ Err e
+pub wav_in-missing : (files : Files) (shape : Option Shape) (name : List ℕ) (from : ℕ) (e : Cause)
+    → fetched_from files name from piece_bytes ≡ Err e → wav_in files shape name ≡ Err e
 unfolding wav_in
-wav_in-missing files name from e is = missing_sound (content_in files name) name e (whole_refused files name from piece_bytes e is)
+wav_in-missing files shape name from e is = missing_sound (content_in files name) shape name e (whole_refused files name from piece_bytes e is)
 
 -- the sound of a file that is there
-pub wav_in-of : (files : Files) (name content : List ℕ) → content_in files name ≡ Ok content
-    → wav_in files name ≡ counted name (length content) (wav_file content)
+pub wav_in-of : (files : Files) (shape : Option Shape) (name content : List ℕ) → content_in files name ≡ Ok content
+    → wav_in files shape name ≡ weighed name shape (length content) (sound_file shape content)
 unfolding wav_in
-wav_in-of files name content is =
-    ap (λ (s : Result (List ℕ) Cause). s >>= λ bytes. counted name (length bytes) (wav_file bytes)) is
+wav_in-of files shape name content is =
+    ap (λ (s : Result (List ℕ) Cause). s >>= λ bytes. weighed name shape (length bytes) (sound_file shape bytes)) is
 
 -- the sound of a file of which all, or more than a WAV file may have, is fetched
-pub wav_in-fetched : (files : Files) (name seen : List ℕ) (last : Bool) → IsFetched files name seen last
-    → (last ≡ true) ⊎ (most_bytes < length seen) → wav_in files name ≡ counted name (length seen) (wav_file seen)
-wav_in-fetched files name seen last so_far (inl all) = wav_in-of files name seen (so_far.whole all)
-wav_in-fetched files name seen last so_far (inr long) =
+pub wav_in-fetched : (files : Files) (shape : Option Shape) (name seen : List ℕ) (last : Bool) → IsFetched files name seen last
+    → (last ≡ true) ⊎ (most_bytes < length seen) → wav_in files shape name ≡ weighed name shape (length seen) (sound_file shape seen)
+wav_in-fetched files shape name seen last so_far (inl all) = wav_in-of files shape name seen (so_far.whole all)
+wav_in-fetched files shape name seen last so_far (inr long) =
     let rest = IsFetched-rest files name seen last so_far in
-    let why = wav_file-refused seen long in
-    wav_in-of files name (seen ++ rest.0) rest.1
-    ∙ ap (counted name (length (seen ++ rest.0))) (wav_file-long seen rest.0 long ∙ why.1)
-    ∙ ap (counted name (length seen)) (sym why.1)
+    let why = sound_file-refused shape seen long in
+    wav_in-of files shape name (seen ++ rest.0) rest.1
+    ∙ ap (weighed name shape (length (seen ++ rest.0))) (sound_file-long shape seen rest.0 long ∙ why.1)
+    ∙ ap (weighed name shape (length seen)) (sym why.1)
 
 -- ---- stops
 
@@ -94,18 +96,18 @@ IsCauseOf-refusal wav_whys.TooLong name stop sound given so refusal is = named_c
 -- ---- the loop
 
 -- a stop at a piece is one at the sound
-pub reading-stop : (files now : Option Files) (name : List ℕ) (from : ℕ) (stop : Stop) → now ≡ files
+pub reading-stop : (files now : Option Files) (shape : Option Shape) (name : List ℕ) (from : ℕ) (stop : Stop) → now ≡ files
     → ForSome now (λ m. IsCauseOf stop (fetched_from m name from piece_bytes))
-    → ForSome files (λ m. IsCauseOf stop (wav_in m name))
-reading-stop files now name from stop same is m told =
-    IsCauseOf-passed stop (fetched_from m name from piece_bytes) (wav_in m name) (wav_in-missing m name from) (is m (same ∙ told))
+    → ForSome files (λ m. IsCauseOf stop (wav_in m shape name))
+reading-stop files now shape name from stop same is m told =
+    IsCauseOf-passed stop (fetched_from m name from piece_bytes) (wav_in m shape name) (wav_in-missing m shape name from) (is m (same ∙ told))
 
 -- over reliable files a file that is missing at a piece is missing
-pub reading-missing : (files now : Option Files) (name : List ℕ) (from : ℕ) (stop : Stop) → now ≡ files
+pub reading-missing : (files now : Option Files) (shape : Option Shape) (name : List ℕ) (from : ℕ) (stop : Stop) → now ≡ files
     → ForSome now (λ m. Misses {X = Unit {0}} (Err stop) (fetched_from m name from piece_bytes))
-    → ForSome files (λ m. Misses {X = Unit {0}} (Err stop) (wav_in m name))
-reading-missing files now name from stop same is m told =
-    Misses-passed stop (fetched_from m name from piece_bytes) (wav_in m name) (wav_in-missing m name from) (is m (same ∙ told))
+    → ForSome files (λ m. Misses {X = Unit {0}} (Err stop) (wav_in m shape name))
+reading-missing files now shape name from stop same is m told =
+    Misses-passed stop (fetched_from m name from piece_bytes) (wav_in m shape name) (wav_in-missing m shape name from) (is m (same ∙ told))
 
 -- one piece more is fetched
 next_fetched : (files : Files) (now : Option Files) (name seen piece fed : List ℕ) (from : ℕ) (last then_last : Bool)
@@ -127,40 +129,40 @@ reading-next files now name seen piece fed from last then_last so_far unchanged 
     inr (next_fetched m now name seen piece fed from last then_last (so_far m told) (unchanged ∙ told) next behind same short)
 
 -- a piece that shows why the file is refused
-pub reading-refused : (files now : Option Files) (name seen piece fed : List ℕ) (from : ℕ) (last : Bool) (why : WavError) (stop : Stop)
+pub reading-refused : (files now : Option Files) (shape : Option Shape) (name seen piece fed : List ℕ) (from : ℕ) (last : Bool) (why : WavError) (stop : Stop)
     → ForSome files (λ m. IsBegun m name seen last) → now ≡ files
     → ForSome now (λ m. fetched_from m name from piece_bytes ≡ Ok piece) → from ≡ length seen → fed ≡ piece
-    → ((rest : List ℕ) → IsRefusal why (wav_file ((seen ++ fed) ++ rest))) → IsWavStop why name stop
-    → ForSome files (λ m. IsCauseOf stop (wav_in m name))
-reading-refused files now name seen piece fed from last why stop so_far unchanged next behind same refusal is m told =
+    → ((rest : List ℕ) → IsRefusal why (sound_file shape ((seen ++ fed) ++ rest))) → IsWavStop why name stop
+    → ForSome files (λ m. IsCauseOf stop (wav_in m shape name))
+reading-refused files now shape name seen piece fed from last why stop so_far unchanged next behind same refusal is m told =
     let fetched_now = next_fetched m now name seen piece fed from last false (so_far m told) (unchanged ∙ told) next behind same (λ no_way. absurd (cc)) in
     let rest = IsFetched-rest m name (seen ++ fed) false fetched_now in
     let content : List ℕ = (seen ++ fed) ++ rest.0 in
-    IsCauseOf-refusal why name stop (wav_file content) (wav_in m name)
-    (λ e err. wav_in-of m name content rest.1 ∙ ap (counted name (length content)) err) (refusal rest.0) is
+    IsCauseOf-refusal why name stop (sound_file shape content) (wav_in m shape name)
+    (λ e err. wav_in-of m shape name content rest.1 ∙ ap (weighed name shape (length content)) err) (refusal rest.0) is
 
 -- ---- behind the loop
 
-ended_at : (files : Files) (name seen : List ℕ) (last : Bool) (bytes : ℕ) → IsBegun files name seen last
-    → (last ≡ true) ⊎ (most_bytes < bytes) → bytes ≡ length seen → wav_in files name ≡ counted name bytes (wav_file seen)
-ended_at files name seen last bytes (inl none) (inl all) count = let no_byte = none.1 in absurd (cc)
-ended_at files name seen last bytes (inl none) (inr long) count = absurd (omega (arith, count, ap length none.0, long))
-ended_at files name seen last bytes (inr fetched_now) (inl all) count =
-    wav_in-fetched files name seen last fetched_now (inl all) ∙ ap (λ (n : ℕ). counted name n (wav_file seen)) (sym count)
-ended_at files name seen last bytes (inr fetched_now) (inr long) count =
-    wav_in-fetched files name seen last fetched_now (inr (omega (arith, count, long))) ∙ ap (λ (n : ℕ). counted name n (wav_file seen)) (sym count)
+ended_at : (files : Files) (shape : Option Shape) (name seen : List ℕ) (last : Bool) (bytes : ℕ) → IsBegun files name seen last
+    → (last ≡ true) ⊎ (most_bytes < bytes) → bytes ≡ length seen → wav_in files shape name ≡ weighed name shape bytes (sound_file shape seen)
+ended_at files shape name seen last bytes (inl none) (inl all) count = let no_byte = none.1 in absurd (cc)
+ended_at files shape name seen last bytes (inl none) (inr long) count = absurd (omega (arith, count, ap length none.0, long))
+ended_at files shape name seen last bytes (inr fetched_now) (inl all) count =
+    wav_in-fetched files shape name seen last fetched_now (inl all) ∙ ap (λ (n : ℕ). weighed name shape n (sound_file shape seen)) (sym count)
+ended_at files shape name seen last bytes (inr fetched_now) (inr long) count =
+    wav_in-fetched files shape name seen last fetched_now (inr (omega (arith, count, long))) ∙ ap (λ (n : ℕ). weighed name shape n (sound_file shape seen)) (sym count)
 
 -- the file ends, and is a sound
-pub reading-ok : (files : Option Files) (name seen : List ℕ) (last : Bool) (bytes : ℕ) (sound : Sound)
+pub reading-ok : (files : Option Files) (shape : Option Shape) (name seen : List ℕ) (last : Bool) (bytes : ℕ) (sound : Sound)
     → ForSome files (λ m. IsBegun m name seen last) → (last ≡ true) ⊎ (most_bytes < bytes) → bytes ≡ length seen
-    → wav_file seen ≡ Ok sound → ForSome files (λ m. wav_in m name ≡ Ok (sound, bytes))
-reading-ok files name seen last bytes sound so_far ended count is m told =
-    ended_at m name seen last bytes (so_far m told) ended count ∙ ap (counted name bytes) is
+    → sound_file shape seen ≡ Ok sound → ForSome files (λ m. wav_in m shape name ≡ Ok (sound, weight shape bytes sound))
+reading-ok files shape name seen last bytes sound so_far ended count is m told =
+    ended_at m shape name seen last bytes (so_far m told) ended count ∙ ap (weighed name shape bytes) is
 
 -- the file ends, and is refused
-pub reading-err : (files : Option Files) (name seen : List ℕ) (last : Bool) (bytes : ℕ) (why : WavError) (stop : Stop)
+pub reading-err : (files : Option Files) (shape : Option Shape) (name seen : List ℕ) (last : Bool) (bytes : ℕ) (why : WavError) (stop : Stop)
     → ForSome files (λ m. IsBegun m name seen last) → (last ≡ true) ⊎ (most_bytes < bytes) → bytes ≡ length seen
-    → IsRefusal why (wav_file seen) → IsWavStop why name stop → ForSome files (λ m. IsCauseOf stop (wav_in m name))
-reading-err files name seen last bytes why stop so_far ended count refusal is m told =
-    IsCauseOf-refusal why name stop (wav_file seen) (wav_in m name)
-    (λ e err. ended_at m name seen last bytes (so_far m told) ended count ∙ ap (counted name bytes) err) refusal is
+    → IsRefusal why (sound_file shape seen) → IsWavStop why name stop → ForSome files (λ m. IsCauseOf stop (wav_in m shape name))
+reading-err files shape name seen last bytes why stop so_far ended count refusal is m told =
+    IsCauseOf-refusal why name stop (sound_file shape seen) (wav_in m shape name)
+    (λ e err. ended_at m shape name seen last bytes (so_far m told) ended count ∙ ap (weighed name shape bytes) err) refusal is

@@ -64,7 +64,7 @@ pub fn read_input<S: Shelf>(shelf: &mut S, alloc: Global, name: &[u8]) -> Result
 {
     let script = load_script(shelf, alloc, name)?;
     let (capture, total) = read_capture(shelf, alloc, &script.card)?;
-    let wavs = read_wavs(shelf, alloc, total, script.clients.as_slice())?;
+    let wavs = read_wavs(shelf, alloc, total, &script.card, script.clients.as_slice())?;
     Ok(Input {
         script,
         capture,

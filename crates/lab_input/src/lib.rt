@@ -3,6 +3,8 @@
 #![tactic(auto)]
 
 mod input;
+mod plug;
+mod shape;
 mod sound;
 #[cfg(test)]
 mod tests;

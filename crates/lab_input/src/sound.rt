@@ -1,11 +1,15 @@
 //! A WAV file of the shelf, read piece by piece.
-ghost use Rattle.std.specs.Prelude.{◌≡◌, ◌≤◌, ◌++◌, ℕ, List, [], IfErr, IfOk, OnOk};
+ghost use Rattle.std.specs.Prelude.{◌≡◌, ◌*◌, ◌≤◌, ◌++◌, ℕ, List, [], Option, IfErr, IfOk, OnOk, length};
 ghost use Rattle.std.specs.Option.{ForSome};
 ghost use Rattle.lab_stop.specs.Stops.{FetchFaults, Follows, Misses};
 ghost use Rattle.wav_io.specs.Reading.{IsRefusal, Reads, wav_file};
+ghost use Rattle.lab_input.specs.declared.shape.Shape.{Shape};
 ghost use Rattle.lab_input.specs.Input.{wav_in};
-ghost use Rattle.lab_input.specs.Sound.{IsAfter, IsOfFile};
+ghost use Rattle.lab_input.specs.Plug.{IsShape, sound_file, weight};
+ghost use Rattle.lab_input.specs.Sound.{IsAfter, IsOfFile, IsPlainAfter, IsPlainOfFile};
 
+use crate::plug::PlugReader;
+use crate::shape::Shape;
 use lab_shelf::Shelf;
 use lab_stop::{PIECE_BYTES, Stop, fetch_piece, wav_stop};
 use std::alloc::Global;
@@ -24,7 +28,7 @@ struct SoundReader {
 impl SoundReader {
     /// A reader before the first piece of a file.
     fn new(alloc: Global) -> SoundReader
-        ensures { IsAfter result [] }
+        ensures { IsPlainAfter result [] }
     {
         SoundReader {
             reader: WavReader::new(),
@@ -35,9 +39,9 @@ impl SoundReader {
     /// Takes the next piece of the file. An error is that of the whole file, whatever follows, or
     /// `Memory`.
     fn feed(&mut self, piece: &[u8]) -> Result<(), WavError>
-        ensures more { (seen : List ℕ) → IsAfter self.old seen
-            → OnOk result (IsAfter self.new (seen ++ piece.now)) }
-        ensures refused { (seen rest : List ℕ) → IsAfter self.old seen
+        ensures more { (seen : List ℕ) → IsPlainAfter self.old seen
+            → OnOk result (IsPlainAfter self.new (seen ++ piece.now)) }
+        ensures refused { (seen rest : List ℕ) → IsPlainAfter self.old seen
             → IfErr result (λ e. IsRefusal e (wav_file ((seen ++ piece.now) ++ rest))) }
     {
         self.reader.feed(piece, &mut self.samples)
@@ -45,8 +49,8 @@ impl SoundReader {
 
     /// The sound of the file that ends here, or why it is refused.
     fn finish(self) -> Result<Wav, WavError>
-        requires { IsOfFile self }
-        ensures { (seen : List ℕ) → IsAfter self seen → Reads result (wav_file seen) }
+        requires { IsPlainOfFile self }
+        ensures { (seen : List ℕ) → IsPlainAfter self seen → Reads result (wav_file seen) }
     {
         let head = self.reader.finish()?;
         Ok(Wav {
@@ -57,39 +61,105 @@ impl SoundReader {
     }
 }
 
-/// The sound in a WAV file, and how many bytes the file has. It is fetched piece by piece, at most one
-/// piece behind the last byte that a WAV file may have, and only its samples are kept.
+/// A WAV file that comes in pieces, as it is or converted.
+#[derive(Drop)]
+enum FileReader {
+    Plain(SoundReader),
+    Plugged(PlugReader),
+}
+
+impl FileReader {
+    /// A reader before the first piece of a file, which is converted where there is a shape for it.
+    fn new(alloc: Global, shape: Option<Shape>) -> FileReader
+        requires { ForSome shape IsShape }
+        ensures { IsAfter result shape [] }
+    {
+        match shape {
+            Some(shape) => FileReader::Plugged(PlugReader::new(alloc, shape)),
+            None => FileReader::Plain(SoundReader::new(alloc)),
+        }
+    }
+
+    /// Takes the next piece of the file. An error is that of the whole file, whatever follows, or
+    /// `Memory`.
+    fn feed(&mut self, alloc: Global, piece: &[u8]) -> Result<(), WavError>
+        requires { IsOfFile self.old }
+        ensures more { (shape : Option Shape) (seen : List ℕ) → IsAfter self.old shape seen
+            → OnOk result (IsAfter self.new shape (seen ++ piece.now)) }
+        ensures refused { (shape : Option Shape) (seen rest : List ℕ) → IsAfter self.old shape seen
+            → IfErr result (λ e. IsRefusal e (sound_file shape ((seen ++ piece.now) ++ rest))) }
+    {
+        match self {
+            FileReader::Plain(reader) => reader.feed(piece),
+            FileReader::Plugged(reader) => reader.feed(alloc, piece),
+        }
+    }
+
+    /// The sound of the file that ends here, or why it is refused.
+    fn finish(self) -> Result<Wav, WavError>
+        requires { IsOfFile self }
+        ensures { (shape : Option Shape) (seen : List ℕ) → IsAfter self shape seen
+            → Reads result (sound_file shape seen) }
+    {
+        match self {
+            FileReader::Plain(reader) => reader.finish(),
+            FileReader::Plugged(reader) => reader.finish(),
+        }
+    }
+}
+
+/// How many bytes of a run's limit a sound takes whose file has so many: those, or the bytes of its samples where it was
+/// converted and they are more.
+fn weight(shape: Option<Shape>, bytes: u64, wav: &Wav) -> u64
+    requires bytes { bytes ≤ 67_174_400 }
+    requires short { ForSome shape (λ _. 2 * length wav.now.samples ≤ 67_108_864) }
+    ensures value { result ≡ weight shape bytes wav.now }
+    ensures few { result ≤ 67_174_400 }
+{
+    match shape {
+        Some(_) => bytes.max(2 * wav.samples.len() as u64),
+        None => bytes,
+    }
+}
+
+/// The sound in a WAV file, converted where there is a shape, and how many bytes of a run's limit it takes. The file is
+/// fetched piece by piece, at most one piece behind the last byte that a WAV file may have, and only its samples are kept.
 ///
 /// It stops with `Wav`, the file's name and why it is refused, and with `Read` and its name where the
 /// shelf fails, which counts that; with `Memory` where no memory is left.
 pub(crate) fn read_sound<S: Shelf>(
     shelf: &mut S,
     alloc: Global,
+    shape: Option<Shape>,
     name: &[u8],
 ) -> Result<(Wav, u64), Stop>
+    requires { ForSome shape IsShape }
     ensures sound { ForSome (S.files shelf.old)
-        (λ files. Follows (λ r. r) result (wav_in files name.now)) }
+        (λ files. Follows (λ r. r) result (wav_in files shape name.now)) }
     ensures few { IfOk result (λ r. r.1 ≤ 67_174_400) }
     ensures files { S.files shelf.new ≡ S.files shelf.old }
     ensures faults { FetchFaults result (S.fetch_faults shelf.old) (S.fetch_faults shelf.new) }
     ensures write_faults { S.write_faults shelf.new ≡ S.write_faults shelf.old }
     ensures reliable { S.is_reliable shelf.old → S.is_reliable shelf.new }
     ensures missing { S.is_reliable shelf.old → ForSome (S.files shelf.old)
-        (λ files. Misses result (wav_in files name.now)) }
+        (λ files. Misses result (wav_in files shape name.now)) }
 {
-    let mut sound = SoundReader::new(alloc);
+    let mut sound = FileReader::new(alloc, shape);
     let mut length = 0;
     let mut is_last = false;
     while !is_last && length <= WAV_MOST {
         let piece = fetch_piece(shelf, alloc, name, length)?;
-        if let Err(why) = sound.feed(&piece) {
+        if let Err(why) = sound.feed(alloc, &piece) {
             return Err(wav_stop(alloc, name, why));
         }
         length += piece.len() as u64;
         is_last = piece.len() < PIECE_BYTES;
     }
     match sound.finish() {
-        Ok(wav) => Ok((wav, length)),
+        Ok(wav) => {
+            let bytes = weight(shape, length, &wav);
+            Ok((wav, bytes))
+        }
         Err(why) => Err(wav_stop(alloc, name, why)),
     }
 }

@@ -1,13 +1,15 @@
 //! What a run reads over files in memory: which fetches there are, and which cause comes first.
 mod large;
 
+ghost use Rattle.std.specs.Prelude.{◌<◌, ◌≤◌};
+
 use crate::{Input, read_input};
 use lab_shelf::{MemoryShelf, MemorySink, Shelf};
 use lab_stop::tell;
 use large::LargeShelf;
 use std::alloc::Global;
 use std::test::*;
-use wav_io::{Samples, Wav, write_wav};
+use wav_io::{Samples, Wav, header, write_wav};
 
 /// A card of one channel, and nothing else.
 const CARD: &[u8] = b"card channels 1 rate 48000 period 64 ring 256\n";
@@ -137,6 +139,61 @@ fn first_len(input: &Input) -> usize {
         Some(wav) => wav.samples.len(),
         None => 0,
     }
+}
+
+/// A script of one client with `plug`, on a mono card at 48000 Hz.
+const PLUGGED: &[u8] =
+    b"card channels 1 rate 48000 period 64 ring 256\nclient a a.wav plug linear\n";
+
+/// The bytes of a mono WAV file at this rate, whose samples have so many bits.
+fn raw(alloc: Global, rate: u32, bits: u8, body: &[u8]) -> Result<Vec<u8>, Fail>
+    requires some { 1 ≤ rate }
+    requires most { rate < 268_435_456 }
+{
+    let mut file = Vec::from_slice(alloc, &header(1, rate, 0))?;
+    for (place, byte) in [(34, bits), (40, body.len().min(255) as u8)] {
+        if let Some(old) = file.get_mut(place) {
+            *old = byte;
+        }
+    }
+    file.extend_from_slice(body)?;
+    Ok(file)
+}
+
+#[test]
+fn the_file_of_a_client_with_plug_is_converted(rt: HostRuntime) -> Result<(), Fail> {
+    let alloc = rt.alloc();
+    // A file between whose frames others are put, and one of 24 bits, which are rounded down.
+    let table: [(u32, u8, &[u8], &[i16]); 2] = [
+        (
+            24_000,
+            8,
+            &[128, 192, 64],
+            &[0, 8192, 16384, 0, -16384, -16384],
+        ),
+        (48_000, 24, &[255, 255, 255, 0, 0, 128], &[-1, -32768]),
+    ];
+    for (rate, bits, body, samples) in table {
+        if rate == 0 || rate >= 268_435_456 {
+            return Err("a rate that no head has".into());
+        }
+        let file = raw(alloc, rate, bits, body)?;
+        let read = input(alloc, &[(b"s", PLUGGED), (b"a.wav", &file)])?;
+        let wav = read.wavs.first().ok_or("there is a client")?;
+        assert_eq!(rt; (wav.channels, wav.rate), (1, 48_000));
+        assert_eq!(rt; wav.samples.as_slice(), samples, "{bits} bits");
+    }
+    // What is long on a mono card is too long on a faster one of eight channels; and no file has 12 bits.
+    let long = raw(alloc, 1, 8, &[0; 250])?;
+    let read = input(alloc, &[(b"s", PLUGGED), (b"a.wav", &long)])?;
+    assert_eq!(rt; first_len(&read), 12_000_000);
+    let script = b"card channels 8 rate 192000 period 64 ring 256\nclient a a.wav plug linear\n";
+    let files: [(&[u8], &[u8]); 2] = [(b"s", script), (b"a.wav", &long)];
+    assert!(rt; ends_with(alloc, &files, b"dmixlab: wav a.wav: TooLong\n")?);
+    let odd = raw(alloc, 8000, 12, &[0; 3])?;
+    let files: [(&[u8], &[u8]); 2] = [(b"s", PLUGGED), (b"a.wav", &odd)];
+    assert!(rt; ends_with(alloc, &files, b"dmixlab: wav a.wav: Bits 12\n")?);
+    Ok(())
 }
 
 #[test]

@@ -2,8 +2,11 @@
 ghost use Rattle.std.specs.Prelude.{◌≡◌, ◌≤◌, IfOk, length};
 ghost use Rattle.std.specs.Option.{ForSome};
 ghost use Rattle.lab_stop.specs.Stops.{FetchFaults, Follows, Misses};
+ghost use Rattle.lab_script.specs.Limits.{IsCardLine};
 ghost use Rattle.lab_input.specs.Input.{capture_in, most_of_run, sound_in, sounds_in};
+ghost use Rattle.lab_input.specs.Plug.{IsShape};
 
+use crate::shape::{Shape, shape_for};
 use crate::sound::read_sound;
 use lab_script::{CardLine, ClientLine};
 use lab_shelf::Shelf;
@@ -14,27 +17,29 @@ use wav_io::{Wav, WavError};
 /// The most bytes that the WAV files of a run have together.
 const RUN_MOST: u64 = 268_435_456;
 
-/// The sound in a WAV file of a run, and how many bytes the run's WAV files have so far; those before
+/// The sound in a WAV file of a run, converted where there is a shape, and how many bytes the run's WAV files have so far; those before
 /// it have `before`. It stops with `Wav` and `TooLong` also where they have too many.
 #[tactic(auto, unfolding(crate::specs::Input::sound_in))]
 fn read_within<S: Shelf>(
     shelf: &mut S,
     alloc: Global,
     before: u64,
+    shape: Option<Shape>,
     name: &[u8],
 ) -> Result<(Wav, u64), Stop>
     requires few { before ≤ most_of_run }
+    requires shape { ForSome shape IsShape }
     ensures sound { ForSome (S.files shelf.old)
-        (λ files. Follows (λ r. r) result (sound_in files before name.now)) }
+        (λ files. Follows (λ r. r) result (sound_in files before shape name.now)) }
     ensures few { IfOk result (λ r. r.1 ≤ most_of_run) }
     ensures files { S.files shelf.new ≡ S.files shelf.old }
     ensures faults { FetchFaults result (S.fetch_faults shelf.old) (S.fetch_faults shelf.new) }
     ensures write_faults { S.write_faults shelf.new ≡ S.write_faults shelf.old }
     ensures reliable { S.is_reliable shelf.old → S.is_reliable shelf.new }
     ensures missing { S.is_reliable shelf.old → ForSome (S.files shelf.old)
-        (λ files. Misses result (sound_in files before name.now)) }
+        (λ files. Misses result (sound_in files before shape name.now)) }
 {
-    let (wav, bytes) = read_sound(shelf, alloc, name)?;
+    let (wav, bytes) = read_sound(shelf, alloc, shape, name)?;
     let total = before + bytes;
     if total <= RUN_MOST {
         Ok((wav, total))
@@ -62,37 +67,40 @@ pub(crate) fn read_capture<S: Shelf>(
 {
     match &card.capture {
         Some(file) => {
-            let (wav, total) = read_within(shelf, alloc, 0, file.as_str().as_bytes())?;
+            let (wav, total) = read_within(shelf, alloc, 0, None, file.as_str().as_bytes())?;
             Ok((Some(wav), total))
         }
         None => Ok((None, 0)),
     }
 }
 
-/// The sounds in the clients' files, in the order of the clients. The WAV files before them have
-/// `before` bytes.
+/// The sounds in the files of a card's clients, in the order of the clients; those of clients with
+/// `plug` are converted. The WAV files before them have `before` bytes.
 pub(crate) fn read_wavs<S: Shelf>(
     shelf: &mut S,
     alloc: Global,
     before: u64,
+    card: &CardLine,
     clients: &[ClientLine],
 ) -> Result<Vec<Wav>, Stop>
     requires few { before ≤ most_of_run }
+    requires card { IsCardLine card.now }
     ensures sounds { ForSome (S.files shelf.old)
-        (λ files. Follows (λ v. v.items) result (sounds_in files before clients.now)) }
+        (λ files. Follows (λ v. v.items) result (sounds_in files before card.now clients.now)) }
     ensures number { IfOk result (λ wavs. length wavs.items ≡ length clients.now) }
     ensures files { S.files shelf.new ≡ S.files shelf.old }
     ensures faults { FetchFaults result (S.fetch_faults shelf.old) (S.fetch_faults shelf.new) }
     ensures write_faults { S.write_faults shelf.new ≡ S.write_faults shelf.old }
     ensures reliable { S.is_reliable shelf.old → S.is_reliable shelf.new }
     ensures missing { S.is_reliable shelf.old → ForSome (S.files shelf.old)
-        (λ files. Misses result (sounds_in files before clients.now)) }
+        (λ files. Misses result (sounds_in files before card.now clients.now)) }
 {
     let mut wavs = Vec::new(alloc);
     let mut total = before;
     for client in clients {
+        let shape = shape_for(card, client);
         let name = client.file.as_str().as_bytes();
-        let (wav, bytes) = read_within(shelf, alloc, total, name)?;
+        let (wav, bytes) = read_within(shelf, alloc, total, shape, name)?;
         wavs.push(wav)?;
         total = bytes;
     }

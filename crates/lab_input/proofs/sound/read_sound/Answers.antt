@@ -1,7 +1,8 @@
-use Rattle.std.proofs.Common.{◌≡◌, ◌<◌, ◌⊎◌, ◌++◌, true, length, ap, inl, inr, ◌∙◌, arith}
+use Rattle.std.proofs.Common.{◌≡◌, ℕ, ◌<◌, ◌⊎◌, ◌++◌, true, length, Ok, ap, sym, inl, inr, ◌∙◌, arith}
 use Rattle.std.proofs.lemmas.Bool.Decides.{nat_tests}
 use Rattle.std.proofs.lemmas.List.{length-append}
 use Rattle.std.proofs.lemmas.Result.{err_from_is_err_and}
+use Rattle.lab_input.proofs.Plugging.{sound_file-short}
 use Rattle.lab_input.proofs.Reading.{reading-stop, reading-missing, reading-next, reading-refused, reading-ok, reading-err}
 use Rattle.lab_input.proofs.sound.read_sound.Goals as goal
 use Rattle.lab_input.proofs.sound.read_sound.Goals.{then-loop-is_last-test+else-length-le-WAV_MOST, else-loop-is_last-test}
@@ -9,24 +10,24 @@ use Rattle.lab_input.proofs.sound.read_sound.Goals.{then-loop-is_last-test+else-
 pub returns-in_err-piece-clause-sound : goal.returns-in_err-piece-clause-sound
 returns-in_err-piece-clause-sound g c =
     let p = err_from_is_err_and c.from_residual.result c.from_residual.ensures.1 in
-    rw (p.1, p.2) (reading-stop _ _ _ _ _ c.loop-is_last.invariant.same_files c.in_err-piece.ensures.bytes)
+    rw (p.1, p.2) (reading-stop _ _ _ _ _ _ c.loop-is_last.invariant.same_files c.in_err-piece.ensures.bytes)
 
 pub returns-in_err-piece-clause-missing : goal.returns-in_err-piece-clause-missing
 returns-in_err-piece-clause-missing g c =
     let p = err_from_is_err_and c.from_residual.result c.from_residual.ensures.1 in
     rw (p.1, p.2)
-    (λ is. reading-missing _ _ _ _ _ c.loop-is_last.invariant.same_files (c.in_err-piece.ensures.missing (c.loop-is_last.invariant.reliable is)))
+    (λ is. reading-missing _ _ _ _ _ _ c.loop-is_last.invariant.same_files (c.in_err-piece.ensures.missing (c.loop-is_last.invariant.reliable is)))
 
 pub returns-in-Err-clause-sound : goal.returns-in-Err-clause-sound
 returns-in-Err-clause-sound g c =
-    reading-refused _ _ _ c.loop-is_last.invariant.seen _ _ _ _ _ _ c.loop-is_last.invariant.so_far c.loop-is_last.invariant.same_files
+    reading-refused _ _ _ _ c.loop-is_last.invariant.seen _ _ _ _ _ _ c.loop-is_last.invariant.so_far c.loop-is_last.invariant.same_files
     c.in_ok-piece.ensures.bytes c.loop-is_last.invariant.count c.deref.ensures.value
-    (λ rest. c.in-Err.ensures.refused c.loop-is_last.invariant.seen rest c.loop-is_last.invariant.read) c.wav_stop.ensures
+    (λ rest. c.in-Err.ensures.refused _ c.loop-is_last.invariant.seen rest c.loop-is_last.invariant.read) c.wav_stop.ensures
 
 pub loop-is_last-preserved : goal.loop-is_last-preserved
 loop-is_last-preserved g c = record {
   seen = c.loop-is_last.invariant.seen ++ c.deref.result.now;
-  read = c.in_default.ensures.more c.loop-is_last.invariant.seen c.loop-is_last.invariant.read;
+  read = c.in_default.ensures.more _ c.loop-is_last.invariant.seen c.loop-is_last.invariant.read;
   count = omega (arith, length-append c.loop-is_last.invariant.seen c.deref.result.now, c.loop-is_last.invariant.count, ap length c.deref.ensures.value, c.len.ensures);
   few = omega (arith, c.loop-is_last.invariant.few, c.if-length-le-WAV_MOST.true, c.len.ensures, c.in_ok-piece.ensures.most);
   so_far = reading-next _ _ _ c.loop-is_last.invariant.seen _ _ _ _ _ c.loop-is_last.invariant.so_far c.loop-is_last.invariant.same_files
@@ -45,8 +46,10 @@ returns-in-Ok-clause-sound g c =
       | then-loop-is_last-test+else-length-le-WAV_MOST w ↦ inr (omega (arith, w.if-length-le-WAV_MOST.false))
       | else-loop-is_last-test w ↦ inl w.loop-is_last-test.false
     ] in
-    reading-ok _ _ c.loop-is_last.invariant.seen _ _ _ c.loop-is_last.invariant.so_far ended c.loop-is_last.invariant.count
-    (c.in-Ok.ensures c.loop-is_last.invariant.seen c.loop-is_last.invariant.read)
+    λ m told.
+    reading-ok _ _ _ c.loop-is_last.invariant.seen _ _ _ c.loop-is_last.invariant.so_far ended c.loop-is_last.invariant.count
+    (c.in-Ok.ensures _ c.loop-is_last.invariant.seen c.loop-is_last.invariant.read) m told
+    ∙ ap (λ (n : ℕ). Ok (c.in-Ok.wav, n)) (sym c.weight-bytes.ensures.value)
 
 pub returns-in-Err-finish-clause-sound : goal.returns-in-Err-finish-clause-sound
 returns-in-Err-finish-clause-sound g c =
@@ -55,5 +58,9 @@ returns-in-Err-finish-clause-sound g c =
       | then-loop-is_last-test+else-length-le-WAV_MOST w ↦ inr (omega (arith, w.if-length-le-WAV_MOST.false))
       | else-loop-is_last-test w ↦ inl w.loop-is_last-test.false
     ] in
-    reading-err _ _ c.loop-is_last.invariant.seen _ _ _ _ c.loop-is_last.invariant.so_far ended c.loop-is_last.invariant.count
-    (c.in-Err-finish.ensures c.loop-is_last.invariant.seen c.loop-is_last.invariant.read) c.wav_stop-in-Err-finish.ensures
+    reading-err _ _ _ c.loop-is_last.invariant.seen _ _ _ _ c.loop-is_last.invariant.so_far ended c.loop-is_last.invariant.count
+    (c.in-Err-finish.ensures _ c.loop-is_last.invariant.seen c.loop-is_last.invariant.read) c.wav_stop-in-Err-finish.ensures
+
+pub weight-bytes-requires-clause-short : goal.weight-bytes-requires-clause-short
+weight-bytes-requires-clause-short g c =
+    sound_file-short _ c.loop-is_last.invariant.seen _ (c.in-Ok.ensures _ c.loop-is_last.invariant.seen c.loop-is_last.invariant.read)
