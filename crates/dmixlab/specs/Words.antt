@@ -77,21 +77,92 @@ lines_of (line ∷ lines) = line ++ 10 ∷ lines_of lines
 abbrev pub version_text : List ℕ
 version_text = lines_of (codes "dmixlab 0.1.0" ∷ [])
 
--- what `--help` puts
-abbrev pub help_text : List ℕ
+-- what `--help` puts; a long text, into which no proof but that of `help` looks
+unfoldable pub help_text : List ℕ
 help_text = lines_of (codes "usage: dmixlab run SCRIPT OUT"
     ∷ codes "       dmixlab refine TEXT"
     ∷ codes "       dmixlab conf FILE NAME"
     ∷ codes "       dmixlab --help"
     ∷ codes "       dmixlab --version"
     ∷ []
-    ∷ codes "run reads SCRIPT and the WAV file of each of its clients, mixes what they write"
-    ∷ codes "as ALSA's dmix does, stores what the card plays as OUT.wav and what each reader"
-    ∷ codes "records as OUT.READER.wav, and prints a report."
+    ∷ codes "run plays the WAV files of a script's clients into one simulated card, which"
+    ∷ codes "mixes them as ALSA's dmix does. It reads SCRIPT, the file that the card captures"
+    ∷ codes "and the file of each client, stores what the card plays as OUT.wav and what each"
+    ∷ codes "reader records as OUT.READER.wav, and prints a report. OUT is without an ending;"
+    ∷ codes "files of these names are overwritten. WAV files are of 16-bit PCM; the file of a"
+    ∷ codes "client with plug linear may have 8, 24 or 32 bits too, and any rate and channels."
     ∷ []
-    ∷ codes "refine narrows the hardware parameters that a card leaves to its clients line by"
-    ∷ codes "line, as TEXT says, and prints what is left of them."
+    ∷ codes "refine narrows the hardware parameters that a card leaves to a client, as the"
+    ∷ codes "lines of TEXT ask, and prints what is left of them."
     ∷ []
     ∷ codes "conf reads FILE, which is written as asound.conf is, and prints the type of its"
     ∷ codes "device pcm.NAME, the device's card as a script's card line, and its bindings."
+    ∷ []
+    ∷ codes "Files are named from the folder in which the program runs. Pipes can't be read."
+    ∷ []
+    ∷ codes "A script, in which # begins a comment and keys may be left out:"
+    ∷ []
+    ∷ codes "  card KEYS               first: channels N rate N period N ring N places N"
+    ∷ codes "                          lap N capture FILE share dmix|dshare"
+    ∷ codes "  client NAME FILE KEYS   a file to play: bindings N,N.. buffer N period N"
+    ∷ codes "                          start N stop N|never lead N plug linear"
+    ∷ codes "  reader NAME KEYS        a recording: a client's keys but for lead and plug"
+    ∷ codes "  open NAME               opens a client or a reader; close NAME closes it"
+    ∷ codes "  phase                   begins a phase, whose actors run at the same time:"
+    ∷ codes "  card play N             plays N frames; card unplug unplugs the card"
+    ∷ codes "  NAME write N            a client writes N frames of its file"
+    ∷ codes "  NAME read N             a reader reads N captured frames"
+    ∷ codes "  NAME CALL               start sync avail drop prepare pause die N; of a client"
+    ∷ codes "                          also delay drain resume rewindable rewind N"
+    ∷ codes "  end                     ends the phase"
+    ∷ []
+    ∷ codes "A text of refine, in which PARAM is access, format, sample_bits, frame_bits,"
+    ∷ codes "channels, rate, period_time, period_size, period_bytes, periods, buffer_time,"
+    ∷ codes "buffer_size or buffer_bytes:"
+    ∷ []
+    ∷ codes "  slave channels N rate N period N ring N      first: the card"
+    ∷ codes "  set PARAM N             PARAM is N; also min, max and near PARAM N"
+    ∷ codes "  integer PARAM           PARAM is a whole number"
+    ∷ codes "  show PARAM              prints PARAM"
+    ∷ codes "  choose                  prints what snd_pcm_hw_params would choose"
+    ∷ []
+    ∷ codes "Example: the script my.script, with a mono file a.wav of 48000 Hz, and what"
+    ∷ codes "dmixlab run my.script my prints."
+    ∷ []
+    ∷ codes "  card channels 1 rate 48000 period 64 ring 256"
+    ∷ codes "  client a a.wav"
+    ∷ codes "  open a"
+    ∷ codes "  phase"
+    ∷ codes "  a write 64"
+    ∷ codes "  end"
+    ∷ codes "  phase"
+    ∷ codes "  card play 256"
+    ∷ codes "  end"
+    ∷ []
+    ∷ codes "  dmixlab 1"
+    ∷ codes "  0 a open = ok PREPARED -"
+    ∷ codes "  1 a write 64 = 64 RUNNING 0"
+    ∷ codes "  2 card play 256 = 256 RUNNING 256"
+    ∷ codes "  segment a 0 64 64 0"
+    ∷ codes "  played 0 256"
+    ∷ codes "  end"
+    ∷ []
+    ∷ codes "A row is the phase, the line, its answer, the state after it, and the card's"
+    ∷ codes "position that was seen. The segment says that from frame 0 of a.wav on 64 frames"
+    ∷ codes "were mixed from the card's frame 64 on, and 0 channels of one frame more."
+    ∷ []
+    ∷ codes "Where the exit status isn't 0, a line on standard error says why:"
+    ∷ []
+    ∷ codes "  0                       all was done; only the report says which calls were"
+    ∷ codes "                          refused, as the opening of a file of another rate"
+    ∷ codes "  1  words                these words are no command"
+    ∷ codes "  2  script line L: WHY   SCRIPT or TEXT is refused"
+    ∷ codes "     conf line L: WHY     FILE or its device is refused"
+    ∷ codes "  3  wav FILE: WHY        a WAV file is refused"
+    ∷ codes "  4  read FILE            a file can't be read"
+    ∷ codes "  5  write                a file or standard output can't be written"
+    ∷ codes "  6  memory               memory ran out"
+    ∷ []
+    ∷ codes "The manual is docs/SCRIPTS.md: every key, call, answer and WHY, with what to do."
+    ∷ codes "In short it is docs/dmixlab.1, which man -l docs/dmixlab.1 shows."
     ∷ [])

@@ -4,6 +4,7 @@ ghost use Rattle.std.specs.Prelude.{◌≤◌, length};
 
 mod at_once;
 mod calls;
+mod changed;
 mod checker;
 mod dying;
 mod mixed;
@@ -11,6 +12,7 @@ mod readers;
 mod refusals;
 mod runs;
 mod sessions;
+mod stretches;
 
 use crate::top::dmixlab;
 use lab_shelf::{MemoryShelf, MemorySink};
@@ -380,12 +382,18 @@ fn runs_leave_their_report_and_files(rt: HostRuntime) -> Result<(), Fail> {
 #[test]
 fn help_and_version_are_put(rt: HostRuntime) -> Result<(), Fail> {
     let alloc = rt.alloc();
-    let help =
-        "usage: dmixlab run SCRIPT OUT\n       dmixlab refine TEXT\n       dmixlab conf FILE NAME\n       dmixlab --help\n       dmixlab --version\n\nrun reads SCRIPT and the WAV file of each of its clients, mixes what they write\nas ALSA's dmix does, stores what the card plays as OUT.wav and what each reader\nrecords as OUT.READER.wav, and prints a report.\n\nrefine narrows the hardware parameters that a card leaves to its clients line by\nline, as TEXT says, and prints what is left of them.\n\nconf reads FILE, which is written as asound.conf is, and prints the type of its\ndevice pcm.NAME, the device's card as a script's card line, and its bindings.\n";
-    for (word, text) in [("--help", help), ("--version", "dmixlab 0.1.0\n")] {
+    for (word, first, last) in [
+        (
+            "--help",
+            "usage: dmixlab run SCRIPT OUT\n",
+            "which man -l docs/dmixlab.1 shows.\n",
+        ),
+        ("--version", "dmixlab 0.1.0\n", "dmixlab 0.1.0\n"),
+    ] {
         let left = call(&rt, alloc, &[word], Vec::new(alloc), (&[], &[]))?;
         assert_eq!(rt; left.status, 0);
-        assert_eq!(rt; left.out.bytes(), text.as_bytes());
+        assert!(rt; left.out.bytes().starts_with(first.as_bytes()));
+        assert!(rt; left.out.bytes().ends_with(last.as_bytes()));
     }
     Ok(())
 }

@@ -125,26 +125,100 @@ fn is_visible(word: &[u8]) -> bool
     word.iter().all(|byte| 33 <= *byte && *byte <= 126)
 }
 
-/// What `--help` puts.
-pub(crate) fn help() -> &'static [u8]
-    ensures { result.now ≡ help_text }
-{
-    b"usage: dmixlab run SCRIPT OUT
+/// The text of `--help`.
+const HELP: &[u8] = b"usage: dmixlab run SCRIPT OUT
        dmixlab refine TEXT
        dmixlab conf FILE NAME
        dmixlab --help
        dmixlab --version
 
-run reads SCRIPT and the WAV file of each of its clients, mixes what they write
-as ALSA's dmix does, stores what the card plays as OUT.wav and what each reader
-records as OUT.READER.wav, and prints a report.
+run plays the WAV files of a script's clients into one simulated card, which
+mixes them as ALSA's dmix does. It reads SCRIPT, the file that the card captures
+and the file of each client, stores what the card plays as OUT.wav and what each
+reader records as OUT.READER.wav, and prints a report. OUT is without an ending;
+files of these names are overwritten. WAV files are of 16-bit PCM; the file of a
+client with plug linear may have 8, 24 or 32 bits too, and any rate and channels.
 
-refine narrows the hardware parameters that a card leaves to its clients line by
-line, as TEXT says, and prints what is left of them.
+refine narrows the hardware parameters that a card leaves to a client, as the
+lines of TEXT ask, and prints what is left of them.
 
 conf reads FILE, which is written as asound.conf is, and prints the type of its
 device pcm.NAME, the device's card as a script's card line, and its bindings.
-"
+
+Files are named from the folder in which the program runs. Pipes can't be read.
+
+A script, in which # begins a comment and keys may be left out:
+
+  card KEYS               first: channels N rate N period N ring N places N
+                          lap N capture FILE share dmix|dshare
+  client NAME FILE KEYS   a file to play: bindings N,N.. buffer N period N
+                          start N stop N|never lead N plug linear
+  reader NAME KEYS        a recording: a client's keys but for lead and plug
+  open NAME               opens a client or a reader; close NAME closes it
+  phase                   begins a phase, whose actors run at the same time:
+  card play N             plays N frames; card unplug unplugs the card
+  NAME write N            a client writes N frames of its file
+  NAME read N             a reader reads N captured frames
+  NAME CALL               start sync avail drop prepare pause die N; of a client
+                          also delay drain resume rewindable rewind N
+  end                     ends the phase
+
+A text of refine, in which PARAM is access, format, sample_bits, frame_bits,
+channels, rate, period_time, period_size, period_bytes, periods, buffer_time,
+buffer_size or buffer_bytes:
+
+  slave channels N rate N period N ring N      first: the card
+  set PARAM N             PARAM is N; also min, max and near PARAM N
+  integer PARAM           PARAM is a whole number
+  show PARAM              prints PARAM
+  choose                  prints what snd_pcm_hw_params would choose
+
+Example: the script my.script, with a mono file a.wav of 48000 Hz, and what
+dmixlab run my.script my prints.
+
+  card channels 1 rate 48000 period 64 ring 256
+  client a a.wav
+  open a
+  phase
+  a write 64
+  end
+  phase
+  card play 256
+  end
+
+  dmixlab 1
+  0 a open = ok PREPARED -
+  1 a write 64 = 64 RUNNING 0
+  2 card play 256 = 256 RUNNING 256
+  segment a 0 64 64 0
+  played 0 256
+  end
+
+A row is the phase, the line, its answer, the state after it, and the card's
+position that was seen. The segment says that from frame 0 of a.wav on 64 frames
+were mixed from the card's frame 64 on, and 0 channels of one frame more.
+
+Where the exit status isn't 0, a line on standard error says why:
+
+  0                       all was done; only the report says which calls were
+                          refused, as the opening of a file of another rate
+  1  words                these words are no command
+  2  script line L: WHY   SCRIPT or TEXT is refused
+     conf line L: WHY     FILE or its device is refused
+  3  wav FILE: WHY        a WAV file is refused
+  4  read FILE            a file can't be read
+  5  write                a file or standard output can't be written
+  6  memory               memory ran out
+
+The manual is docs/SCRIPTS.md: every key, call, answer and WHY, with what to do.
+In short it is docs/dmixlab.1, which man -l docs/dmixlab.1 shows.
+";
+
+/// What `--help` puts.
+pub(crate) fn help() -> &'static [u8]
+    ensures { result.now ≡ help_text }
+{
+    HELP
 }
 
 /// What `--version` puts.

@@ -1,9 +1,32 @@
 // What must hold of a run whose threads may go in any order: a plan, which is a script and how the rows of its report begin, and a
 // check of the report and the files against it.
+use super::stretches::{Placed, Stretches};
 use super::{Left, text_in, wav_around};
-use std::alloc::{AllocError, Global};
+use lab_shelf::MemoryShelf;
+use std::alloc::{AllocError, AllocFailed, Global};
 use std::str::Lines;
-use std::test::Fail;
+
+// Why a report is refused.
+#[derive(Debug, Drop)]
+pub(super) struct Refusal(&'static str);
+
+impl From<&'static str> for Refusal {
+    fn from(why: &'static str) -> Refusal {
+        Refusal(why)
+    }
+}
+
+impl From<AllocError> for Refusal {
+    fn from(_error: AllocError) -> Refusal {
+        Refusal("no memory is left")
+    }
+}
+
+impl<T: Drop> From<AllocFailed<T>> for Refusal {
+    fn from(_failed: AllocFailed<T>) -> Refusal {
+        Refusal("no memory is left")
+    }
+}
 
 // A row that is planned: how it begins, whose it is (a row of the card is planned whole), and between which positions what was seen is.
 #[derive(Drop)]
@@ -101,15 +124,6 @@ impl Plan {
     }
 }
 
-// A segment of the report: the client, the card's first frame, the whole frames, and the channels of one more.
-#[derive(Drop)]
-struct Placed {
-    client: usize,
-    card: usize,
-    whole: usize,
-    part: usize,
-}
-
 // A frame and channel that a client's row names as late.
 #[derive(Drop)]
 struct Late {
@@ -119,7 +133,7 @@ struct Late {
 }
 
 // What was found in a report so far: the position that each actor saw last, the frames that each actor read, the sums of what was
-// placed, and the recorded frames of each reader.
+// placed, the recorded frames of each reader, and what the clients' rows say of their segments.
 #[derive(Drop)]
 struct Found {
     seen: Vec<u64>,
@@ -128,6 +142,7 @@ struct Found {
     recorded: Vec<Vec<i16>>,
     placed: Vec<Placed>,
     late: Vec<Late>,
+    stretches: Stretches,
 }
 
 // What a run is checked with: the card's channels and its head in a WAV file, the samples of each client's file, and those of the
@@ -151,20 +166,26 @@ fn words_of(alloc: Global, line: &str) -> Result<Vec<&str>, AllocError> {
 }
 
 // The number that a word of a line is.
-fn number_at(words: &[&str], place: usize) -> Result<usize, Fail> {
+pub(super) fn number_at(words: &[&str], place: usize) -> Result<usize, Refusal> {
     let word = words.get(place).ok_or("a word is missing")?;
     Ok(word.parse::<usize>().ok().ok_or("a word isn't a number")?)
 }
 
 // The number of the actor that a word of a line names: a letter and the number.
-fn actor_at(words: &[&str], letter: &str) -> Result<usize, Fail> {
+fn actor_at(words: &[&str], letter: &str) -> Result<usize, Refusal> {
     let name = words.get(1).ok_or("a name is missing")?;
     let digits = name.strip_prefix(letter).ok_or("a name is another one")?;
     Ok(digits.parse::<usize>().ok().ok_or("a name has no number")?)
 }
 
-// Checks what an actor saw: a position of its phase that the card published, and none below the last one.
-fn check_seen(planned: &Planned, word: &str, seen: &mut u64) -> Result<(), Fail> {
+// Checks what an actor saw: a position of its phase that the card published, and none below the last one. A row that loaded no
+// position has the last one.
+fn check_seen(
+    planned: &Planned,
+    word: &str,
+    has_loaded: bool,
+    seen: &mut u64,
+) -> Result<(), Refusal> {
     if word == "-" {
         return Ok(());
     }
@@ -172,13 +193,25 @@ fn check_seen(planned: &Planned, word: &str, seen: &mut u64) -> Result<(), Fail>
         .parse::<u64>()
         .ok()
         .ok_or("what was seen isn't a number")?;
-    let is_published = position % 64 == 0;
-    let is_in_phase = position <= planned.most && (position >= planned.least || position == *seen);
+    let is_published = position % 64 == 0 || position == planned.most || position == *seen;
+    let is_of_before = position == *seen && !has_loaded;
+    let is_in_phase = position <= planned.most && (position >= planned.least || is_of_before);
     if !is_published || !is_in_phase || position < *seen {
         return Err("a position that can't have been seen".into());
     }
     *seen = position;
     Ok(())
+}
+
+// Whether a call loads a position, by its answer: where the actor runs and wasn't stopped, each but one that begins or ends something,
+// and each that finds an xrun.
+fn loads(call: &str, answer: &[&str]) -> bool {
+    let first = *answer.first().unwrap_or(&"");
+    if first == "EPIPE" {
+        return matches!(answer.get(1), Some(&"late" | &"avail" | &"overtaken"));
+    }
+    let is_running = answer.get(answer.len().wrapping_sub(2)) == Some(&"RUNNING");
+    is_running && first != "stopped" && !matches!(call, "open" | "prepare" | "start" | "die")
 }
 
 impl Found {
@@ -191,6 +224,7 @@ impl Found {
             recorded: Vec::new(alloc),
             placed: Vec::new(alloc),
             late: Vec::new(alloc),
+            stretches: Stretches::new(alloc),
         };
         for _ in 0..actors {
             found.seen.push(0)?;
@@ -204,7 +238,7 @@ impl Found {
     }
 
     // Checks a row.
-    fn row(&mut self, alloc: Global, planned: &Planned, line: &str) -> Result<(), Fail> {
+    fn row(&mut self, alloc: Global, planned: &Planned, line: &str) -> Result<(), Refusal> {
         let Some(actor) = planned.actor else {
             return if line == planned.begins.as_str() {
                 Ok(())
@@ -216,32 +250,36 @@ impl Found {
             .strip_prefix(planned.begins.as_str())
             .ok_or("a row begins otherwise")?;
         let words = words_of(alloc, rest)?;
+        let asked = words_of(alloc, planned.begins.as_str())?;
+        let call = *asked.get(2).ok_or("a line has no call")?;
         let answer = words.first().ok_or("a row has no answer")?;
         let last = words.last().ok_or("a row has no position")?;
         let seen = self.seen.get_mut(actor).ok_or("an actor has no number")?;
-        check_seen(planned, last, seen)?;
-        if planned.begins.as_str().contains(" read ") {
+        check_seen(planned, last, loads(call, &words), seen)?;
+        if call == "read" {
             self.count_read(actor, answer)?;
         }
-        if rest.starts_with("EPIPE late") && !planned.begins.as_str().contains(" rewind ") {
+        if *answer == "EPIPE" && words.get(1) == Some(&"late") && call != "rewind" {
             self.late.push(Late {
                 client: actor,
                 frame: number_at(&words, 2)?,
                 channel: number_at(&words, 3)?,
             })?;
         }
-        Ok(())
+        let offered = asked.get(3).and_then(|word| word.parse::<usize>().ok());
+        self.stretches
+            .row(actor, call, offered.unwrap_or(0), &words)
     }
 
     // Counts the frames that a reader read, where the answer is a number.
-    fn count_read(&mut self, actor: usize, answer: &str) -> Result<(), Fail> {
+    fn count_read(&mut self, actor: usize, answer: &str) -> Result<(), Refusal> {
         let read = self.read.get_mut(actor).ok_or("a reader has no number")?;
         *read = read.wrapping_add(answer.parse::<usize>().unwrap_or(0));
         Ok(())
     }
 
     // Adds what a segment placed to the sums. A client places nothing twice at one frame and channel.
-    fn segment(&mut self, sounds: &Sounds<'_>, words: &[&str]) -> Result<(), Fail> {
+    fn segment(&mut self, sounds: &Sounds<'_>, words: &[&str]) -> Result<(), Refusal> {
         let client = actor_at(words, "c")?;
         let (source, card) = (number_at(words, 2)?, number_at(words, 3)?);
         let (whole, part) = (number_at(words, 4)?, number_at(words, 5)?);
@@ -250,7 +288,7 @@ impl Found {
         let first = source.wrapping_mul(sounds.channels);
         let at = card.wrapping_mul(sounds.channels);
         for placed in self.placed.iter() {
-            if placed.client == client && placed.card.wrapping_add(placed.whole) > card {
+            if placed.client == client && placed.end() > card {
                 return Err("a client placed twice at one frame".into());
             }
         }
@@ -264,6 +302,7 @@ impl Found {
         }
         self.placed.push(Placed {
             client,
+            source,
             card,
             whole,
             part,
@@ -273,7 +312,7 @@ impl Found {
 
     // Appends the captured frames of a run. A frame that the captured file doesn't have is silent, and so is each channel but the
     // first.
-    fn run(&mut self, sounds: &Sounds<'_>, words: &[&str]) -> Result<(), Fail> {
+    fn run(&mut self, sounds: &Sounds<'_>, words: &[&str]) -> Result<(), Refusal> {
         let reader = actor_at(words, "r")?;
         let (first, count) = (number_at(words, 2)?, number_at(words, 3)?);
         let recorded = self.recorded.get_mut(reader).ok_or("no such reader")?;
@@ -288,12 +327,11 @@ impl Found {
     }
 
     // Checks that what a row names as late is in no segment of its client.
-    fn check_late(&self) -> Result<(), Fail> {
+    fn check_late(&self) -> Result<(), Refusal> {
         for late in self.late.iter() {
             for placed in self.placed.iter() {
-                let end = placed.card.wrapping_add(placed.whole);
-                let is_whole = placed.card <= late.frame && late.frame < end;
-                let is_part = late.frame == end && late.channel < placed.part;
+                let is_whole = placed.card <= late.frame && late.frame < placed.end();
+                let is_part = late.frame == placed.end() && late.channel < placed.part;
                 if placed.client == late.client && (is_whole || is_part) {
                     return Err("what was late was placed".into());
                 }
@@ -320,8 +358,9 @@ fn check_tail(
     found: &mut Found,
     sounds: &Sounds<'_>,
     frames: u64,
-) -> Result<(), Fail> {
+) -> Result<(), Refusal> {
     let mut is_ended = false;
+    let mut has_played = false;
     let played = format!(in alloc; "played 0 {frames}")?;
     for line in lines {
         if is_ended {
@@ -331,8 +370,8 @@ fn check_tail(
         match *words.first().ok_or("an empty line")? {
             "segment" => found.segment(sounds, &words)?,
             "run" => found.run(sounds, &words)?,
-            "end" => is_ended = true,
-            _ if line == played.as_str() => {}
+            "end" if has_played => is_ended = true,
+            "played" if line == played.as_str() && !has_played => has_played = true,
             _ => return Err("a line that can't be here".into()),
         }
     }
@@ -343,22 +382,33 @@ fn check_tail(
     }
 }
 
-// Checks what a run left of a plan: the rows are those of the script's lines, in order; no position seen falls; the played samples are
-// the saturated sums of the segments; what was late is in no segment; and each reader's file is the captured frames of its runs, as many
-// as it was answered.
+// Checks what a run left of a plan.
 pub(super) fn check(
     alloc: Global,
     plan: &Plan,
     sounds: &Sounds<'_>,
     left: &Left,
-) -> Result<(), Fail> {
+) -> Result<(), Refusal> {
     if left.status != 0 || !left.errors.bytes().is_empty() {
         return Err("the run wasn't done".into());
     }
+    check_report(alloc, plan, sounds, text_in(left.out.bytes()), &left.shelf)
+}
+
+// Checks a report of a plan and the files beside it: the rows are those of the script's lines, in order; no position seen falls; each
+// client's segments are what its rows say; the played samples are the saturated sums of the segments; what was late is in no segment;
+// and each reader's file is the captured frames of its runs, as many as it was answered.
+pub(super) fn check_report(
+    alloc: Global,
+    plan: &Plan,
+    sounds: &Sounds<'_>,
+    report: &str,
+    files: &MemoryShelf,
+) -> Result<(), Refusal> {
     let clients = sounds.clients.len();
     let samples = (plan.position as usize).wrapping_mul(sounds.channels);
     let mut found = Found::new(alloc, clients.wrapping_add(sounds.readers), samples)?;
-    let mut lines = text_in(left.out.bytes()).lines();
+    let mut lines = report.lines();
     if lines.next() != Some("dmixlab 1") {
         return Err("the report begins otherwise".into());
     }
@@ -368,11 +418,12 @@ pub(super) fn check(
     }
     check_tail(alloc, lines, &mut found, sounds, plan.position)?;
     found.check_late()?;
+    found.stretches.check(alloc, &found.placed, clients)?;
     let file = wav_around(alloc, sounds.head, &found.played(alloc)?)?;
-    if left.shelf.file(b"o.wav") != Some(file.as_slice()) {
+    if files.file(b"o.wav") != Some(file.as_slice()) {
         return Err("the played samples are no sums of the segments".into());
     }
-    check_readers(alloc, &found, sounds, left)
+    check_readers(alloc, &found, sounds, files)
 }
 
 // Checks the readers' files.
@@ -380,13 +431,13 @@ fn check_readers(
     alloc: Global,
     found: &Found,
     sounds: &Sounds<'_>,
-    left: &Left,
-) -> Result<(), Fail> {
+    files: &MemoryShelf,
+) -> Result<(), Refusal> {
     for number in 0..sounds.readers {
         let recorded = found.recorded.get(number).ok_or("no such reader")?;
         let file = wav_around(alloc, sounds.head, recorded)?;
         let name = format!(in alloc; "o.r{number}.wav")?;
-        if left.shelf.file(name.as_bytes()) != Some(file.as_slice()) {
+        if files.file(name.as_bytes()) != Some(file.as_slice()) {
             return Err("a recorded file isn't its runs".into());
         }
         let actor = sounds.clients.len().wrapping_add(number);

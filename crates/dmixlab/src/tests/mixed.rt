@@ -22,7 +22,7 @@ fn sound_of(alloc: Global, client: u32) -> Result<Vec<i16>, AllocError> {
 }
 
 // The samples of so many clients.
-fn sounds_of(alloc: Global, clients: u32) -> Result<Vec<Vec<i16>>, AllocError> {
+pub(super) fn sounds_of(alloc: Global, clients: u32) -> Result<Vec<Vec<i16>>, AllocError> {
     let mut sounds = Vec::new(alloc);
     for client in 0..clients {
         sounds.push(sound_of(alloc, client)?)?;
@@ -31,7 +31,7 @@ fn sounds_of(alloc: Global, clients: u32) -> Result<Vec<Vec<i16>>, AllocError> {
 }
 
 // What is captured: 1,024 frames, 1, 2 and so on.
-fn captured(alloc: Global) -> Result<Vec<i16>, AllocError> {
+pub(super) fn captured(alloc: Global) -> Result<Vec<i16>, AllocError> {
     let mut samples = Vec::new(alloc);
     for number in 1..1025i16 {
         samples.push(number)?;
@@ -40,7 +40,7 @@ fn captured(alloc: Global) -> Result<Vec<i16>, AllocError> {
 }
 
 // The lines of the card, of so many clients and of so many readers, and their openings.
-fn opened(alloc: Global, clients: u32, readers: u32) -> Result<Plan, AllocError> {
+pub(super) fn opened(alloc: Global, clients: u32, readers: u32) -> Result<Plan, AllocError> {
     let mut declared = String::new(alloc);
     declared.push_str("card channels 2 rate 48000 period 64 ring 256 capture captured\n")?;
     for client in 0..clients {
@@ -62,7 +62,7 @@ fn opened(alloc: Global, clients: u32, readers: u32) -> Result<Plan, AllocError>
 }
 
 // A phase: what the card plays, and the lines of each client and of each reader.
-fn push_phase(
+pub(super) fn push_phase(
     alloc: Global,
     plan: &mut Plan,
     actors: (u32, u32),
@@ -124,7 +124,7 @@ fn plan_of(alloc: Global, actors: (u32, u32)) -> Result<Plan, AllocError> {
 }
 
 // What a run of a plan leaves, whose clients and whose capture have these samples.
-fn left_of<R: Threads + Sync>(
+pub(super) fn left_of<R: Threads + Sync>(
     rt: &R,
     alloc: Global,
     plan: &Plan,
