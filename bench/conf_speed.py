@@ -86,7 +86,10 @@ def texts():
     yield "a list of groups and values in turn", listed(lambda i: "{}1 ")
     yield "a list of empty groups, 15 lists deep", within("a " + "[" * 14, lambda i: "{}", "]" * 14 + "\n")
     yield "a list of groups with a text each", listed(lambda i: "{a 1}")
+    yield "a list of groups with an empty group each", listed(lambda i: "{a{}}")
+    yield "a list of groups with a key of four parts each", listed(lambda i: "{a.b.c.d 1}")
     yield "a list of lists of one value", listed(lambda i: "[1]")
+    yield "a list of lists, 13 deep in one another", listed(lambda i: "[" * 13 + "]" * 13)
 
 
 def milliseconds(path):

@@ -18,7 +18,7 @@ from pathlib import Path
 TOP = Path(__file__).resolve().parent.parent
 CRATE = TOP / "crates/plug_bench"
 PROGRAM = CRATE / "out/plug_bench"
-RATES = (8000, 11025, 16000, 22050, 32000, 44100, 48000, 96000)
+RATES = (8000, 11025, 12000, 16000, 22050, 24000, 32000, 44100, 48000, 64000, 88200, 96000)
 WIDTHS = {"s8": 1, "u8": 1, "s16le": 2, "s16be": 2, "s24": 3, "s32": 4}
 # A round is short, so that some of many aren't interrupted by what else runs on the machine; sox gets more samples.
 SAMPLES, ROUNDS, TIMES = 200_000, 2000, 20
