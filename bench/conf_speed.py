@@ -78,6 +78,9 @@ def texts():
     yield "names in one group", filled(lambda i: f"k{i} {i % 10}\n")
     yield "short names in one group, with empty texts", filled(lambda i: f'{short_name(i)}""')
     yield "one name, 15 groups deep", within("".join(f"{name}{{" for name in "abcdefghijklmno"), lambda i: 'k""', "}" * 15)
+    yield "one name, removed and added again and again", filled(lambda i: "!a 1\n")
+    yield "1,000 names, each removed and added again and again", filled(lambda i: f"!k{i % 1000} 1\n")
+    yield "a list of values, each put again by its number", "a [\n" + "1\n" * 80000 + "]\n" + "".join(f"a.{i} 2\n" for i in range(80000))
     yield "a list of 20,000 values", "a [\n" + "".join(f"{i % 10}\n" for i in range(20000)) + "]\n"
     yield "a list of values", listed(lambda i: f"{i % 10}\n")
     yield "a list of values, with commas", listed(lambda i: f"{i % 10},")
@@ -89,6 +92,7 @@ def texts():
     yield "a list of groups with an empty group each", listed(lambda i: "{a{}}")
     yield "a list of groups with a key of four parts each", listed(lambda i: "{a.b.c.d 1}")
     yield "a list of lists of one value", listed(lambda i: "[1]")
+    yield "a list of values and lists of one value in turn", listed(lambda i: "1[1]")
     yield "a list of lists, 13 deep in one another", listed(lambda i: "[" * 13 + "]" * 13)
 
 

@@ -9,15 +9,8 @@ use Rattle.std.proofs.lemmas.List.{take_all, take-append-le, length-take-le}
 use Rattle.std.proofs.lemmas.List as lists
 use Rattle.bindings.specs.Answers.{answer_of}
 use Rattle.snd_base.specs.declared.errors.Why.TheVariants.{BindingsTooMany}
-use Rattle.asound_conf.specs.declared.conf.Node.{Node}
-use Rattle.asound_conf.specs.Device.{bindings_in, bound, count_of, number_in, one_more, values_of}
+use Rattle.asound_conf.specs.Device.{bindings_in, bound, number_in, one_more, values_of}
 use Rattle.asound_conf.specs.Tree.{Entries, get}
-use Rattle.asound_conf.specs.View.{entries_of}
-
--- a group has as many names as it has items
-pub count_of-entries_of : (items : List (List ℕ × Node)) → count_of (entries_of items) ≡ length items
-count_of-entries_of [] = refl
-count_of-entries_of (x ∷ items) = omega (arith, count_of-entries_of items)
 
 -- the first values, of which at most nine are kept
 pub record AreFirst (g : Entries) (n : ℕ) (kept : List ℕ) : Type 0 where

@@ -8,7 +8,7 @@ use Rattle.std.proofs.lemmas.Bool.{false≢true, cases_eq}
 use Rattle.std.proofs.lemmas.Bool.Decides.{nat_tests, same_from_decides}
 use Rattle.std.proofs.lemmas.Slice.Eq.{bytes_eq-Decides}
 use Rattle.std.proofs.lemmas.Fmt.{decimal_nonempty, length-decimal-le, digits_decimal, decimal_digit, first_decimal, decimal-digits_value, digits_value-decimal}
-use Rattle.asound_conf.specs.Index.{number_named}
+use Rattle.asound_conf.specs.Number.{number_named}
 use Rattle.asound_conf.specs.Number.{is_canonical}
 use Rattle.std.specs.Str.{all_ascii_digits}
 use Rattle.std.specs.Char.{is_ascii_digit}

@@ -1,45 +1,13 @@
--- Items at the place of the last of a name, and what a group is with and without them.
-use Rattle.std.proofs.Common.{◌≡◌, ℕ, zero, suc, ◌<◌, Bool, true, false, cond, ◌||◌, List, [], ◌∷◌, ◌++◌, length, get_or, set, drop, take, Some, None, refl, ap, arith}
+-- What a group is with a name and without it.
+use Rattle.std.proofs.Common.{◌≡◌, ℕ, Bool, true, false, cond, ◌||◌, List, Some, None, refl, ap}
 use Rattle.std.specs.Str.{bytes_eq}
 use Rattle.std.proofs.lemmas.Slice.Eq.{bytes_eq-Decides}
-use Rattle.asound_conf.specs.declared.conf.Node.{Node}
 use Rattle.asound_conf.specs.Tree.{Tree, group, text, Entries, empty, entry, has, get, without}
 use Rattle.asound_conf.specs.Tree as tree
-use Rattle.asound_conf.specs.View.{entries_of, tree_of, IsLast}
 
 -- the place where a name is found from the end
-pub IsLast-found : (name : List ℕ) (items : List (List ℕ × Node)) (at : ℕ) (item : List ℕ × Node) → at < length items → bytes_eq (get_or items at item).0 name ≡ true → has name (entries_of (drop (suc at) items)) ≡ false → IsLast name items at
-IsLast-found name [] at item within named last = absurd (omega arith)
-IsLast-found name (x ∷ items) zero item within named last = (named, last)
-IsLast-found name (x ∷ items) (suc at) item within named last = IsLast-found name items at item (omega arith) named last
-
-pub IsLast-within : (name : List ℕ) (items : List (List ℕ × Node)) (at : ℕ) → IsLast name items at → at < length items
-IsLast-within name [] at is = elim is [ ]
-IsLast-within name (x ∷ items) zero is = omega arith
-IsLast-within name (x ∷ items) (suc at) is = let rest = IsLast-within name items at is in omega arith
-
 -- a name that is somewhere behind an item
-pub has-IsLast : (name : List ℕ) (items : List (List ℕ × Node)) (at : ℕ) → IsLast name items at → has name (entries_of items) ≡ true
-has-IsLast name [] at is = elim is [ ]
-has-IsLast name (x ∷ items) zero is = rw is.0 refl
-has-IsLast name (x ∷ items) (suc at) is = let rest = has-IsLast name items at is in elim (bytes_eq x.0 name) as (λ b. (b || has name (entries_of items)) ≡ true) [ true ↦ refl | false ↦ rest ]
-
-pub get-IsLast : (name : List ℕ) (items : List (List ℕ × Node)) (at : ℕ) (item : List ℕ × Node) → IsLast name items at → get name (entries_of items) ≡ Some (tree_of (get_or items at item).1)
-get-IsLast name [] at item is = elim is [ ]
-get-IsLast name (x ∷ items) zero item is = rw (is.1, is.0) refl
-get-IsLast name (x ∷ items) (suc at) item is = let rest = has-IsLast name items at is in rw rest (get-IsLast name items at item is)
-
-pub set-IsLast : (name : List ℕ) (items : List (List ℕ × Node)) (at : ℕ) (item new : List ℕ × Node) → IsLast name items at → new.0 ≡ (get_or items at item).0 → entries_of (set items at new) ≡ tree.set name (tree_of new.1) (entries_of items)
-set-IsLast name [] at item new is same = elim is [ ]
-set-IsLast name (x ∷ items) zero item new is same = rw (is.1, is.0) (ap (λ n. entry n (tree_of new.1) (entries_of items)) same)
-set-IsLast name (x ∷ items) (suc at) item new is same = let rest = has-IsLast name items at is in rw rest (ap (entry x.0 (tree_of x.1)) (set-IsLast name items at item new is same))
-
 -- what is left of a group without the last of a name
-pub without-IsLast : (name : List ℕ) (items : List (List ℕ × Node)) (at : ℕ) → IsLast name items at → without name (entries_of (take at items ++ drop (suc at) items)) ≡ without name (entries_of items)
-without-IsLast name [] at is = elim is [ ]
-without-IsLast name (x ∷ items) zero is = rw is.0 refl
-without-IsLast name (x ∷ items) (suc at) is = ap (λ g. cond (bytes_eq x.0 name) g (entry x.0 (tree_of x.1) g)) (without-IsLast name items at is)
-
 -- a group without a name that it hasn't
 pub without-none : (name : List ℕ) (g : Entries) → has name g ≡ false → without name g ≡ g
 without-none name empty none = refl
@@ -60,25 +28,12 @@ get-none name (entry other tree rest) none = get-entry name other tree rest (byt
     get-entry name other tree rest false false is same none later = refl
 
 -- a new name goes to the end
-pub set-new : (name : List ℕ) (items : List (List ℕ × Node)) (new : List ℕ × Node) → has name (entries_of items) ≡ false → new.0 ≡ name → entries_of (items ++ new ∷ []) ≡ tree.set name (tree_of new.1) (entries_of items)
-set-new name [] new none same = ap (λ n. entry n (tree_of new.1) empty) same
-set-new name (x ∷ items) new none same = set-entry name x items new (bytes_eq x.0 name) (has name (entries_of items)) refl refl none (λ h. set-new name items new h same)
-  where
-    set-entry : (name : List ℕ) (x : List ℕ × Node) (items : List (List ℕ × Node)) (new : List ℕ × Node) (b h : Bool) → bytes_eq x.0 name ≡ b → has name (entries_of items) ≡ h → (b || h) ≡ false → (has name (entries_of items) ≡ false → entries_of (items ++ new ∷ []) ≡ tree.set name (tree_of new.1) (entries_of items)) → entry x.0 (tree_of x.1) (entries_of (items ++ new ∷ [])) ≡ cond h (entry x.0 (tree_of x.1) (tree.set name (tree_of new.1) (entries_of items))) (cond b (entry x.0 (tree_of new.1) (entries_of items)) (entry x.0 (tree_of x.1) (tree.set name (tree_of new.1) (entries_of items))))
-    set-entry name x items new true h is same none later = cc
-    set-entry name x items new false true is same none later = cc
-    set-entry name x items new false false is same none later = ap (entry x.0 (tree_of x.1)) (later same)
-
 -- a new name is the last item
-pub IsLast-new : (name : List ℕ) (items : List (List ℕ × Node)) (new : List ℕ × Node) → bytes_eq new.0 name ≡ true → IsLast name (items ++ new ∷ []) (length items)
-IsLast-new name [] new named = (named, refl)
-IsLast-new name (x ∷ items) new named = IsLast-new name items new named
-
 -- bytes equal themselves
 pub bytes_eq-self : (name : List ℕ) → bytes_eq name name ≡ true
 bytes_eq-self name = (bytes_eq-Decides name name).1 refl
 
-or-true : (b : Bool) → (b || true) ≡ true
+pub or-true : (b : Bool) → (b || true) ≡ true
 or-true true = refl
 or-true false = refl
 

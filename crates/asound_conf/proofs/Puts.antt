@@ -1,35 +1,22 @@
--- What an item puts down the parts of its key.
-use Rattle.std.proofs.Common.{◌≡◌, ℕ, ◌<◌, ◌≤◌, ◌-◌, Bool, true, false, cond, List, [], ◌∷◌, length, get_or, take, drop, Option, Some, None, Result, Ok, Err, refl, sym, ◌∙◌, ap, subst, arith}
-use Rattle.std.proofs.lemmas.List.{take_all}
-use Rattle.asound_conf.specs.declared.conf.Node.{Node}
-use Rattle.asound_conf.specs.declared.part.Part.{Part}
-use Rattle.asound_conf.specs.Tree.{Tree, text, group, Entries, empty, has, get, without, group_in}
-use Rattle.asound_conf.specs.Tree as tree
+-- What an item puts into the group of a row.
+use Rattle.std.proofs.Common.{◌≡◌, ℕ, ◌<◌, Bool, true, false, cond, ◌||◌, List, [], ◌∷◌, ◌++◌, length, length-append, is_none, set, Option, Some, None, Result, Ok, Err, IfOk, IfErr, OnErr, OnOk, refl, sym, ap, ◌∙◌, subst, arith}
+use Rattle.std.proofs.lemmas.List.{get_or_past}
 use Rattle.asound_conf.specs.declared.error.ConfWhy.{ConfWhy}
 use Rattle.asound_conf.specs.declared.error.ConfWhy.TheVariants as why
 use Rattle.asound_conf.specs.Answer.{Leads, Refuses, seen}
-use Rattle.asound_conf.specs.Place.{base, clashes, met, placed, put, put_there, meets_text, node_at}
-use Rattle.asound_conf.specs.View.{added, blank, entries_of, is_leaf, placed_node, tree_of, IsLast}
-use Rattle.asound_conf.proofs.Places.{get-IsLast, get-none, has-without, get-set, set-set}
+use Rattle.asound_conf.specs.Key.{Part, named, settled}
+use Rattle.asound_conf.specs.Place.{base, clashes, is_last, meets_text, met, placed, put, put_there, node_at}
+use Rattle.asound_conf.specs.Rows.{Contents, Row, Alters, IsAbsent, IsNode, group_of, no_row, node, row_at, with_row}
+use Rattle.asound_conf.specs.Tree.{Tree, text, group, Entries, empty, get, group_in, is_text, without}
+use Rattle.asound_conf.specs.Tree as tree
+use Rattle.asound_conf.specs.Way.{IsStep, IsWay}
+use Rattle.asound_conf.proofs.Below.{placed-below, placed-down, with_group}
+use Rattle.asound_conf.proofs.Groups.{Alters-both, Alters-same, get-IsAbsent, get-IsNode, group-push, group-set, has-IsAbsent}
+use Rattle.asound_conf.proofs.Places.{get-none, get-set, has-without, set-get, set-set}
+use Rattle.asound_conf.proofs.Rows.{Alters-push}
+use Rattle.asound_conf.proofs.Ways.{IsWay-kept, IsWay-more, group_at-IsWay, met-IsStep, with_group-IsWay}
 
--- a part of a key meets nothing in an empty group
-pub met-empty : (part : Part) → met part empty ≡ None
-met-empty part = elim part.removes as (λ b. cond b None (get part.name empty) ≡ None) [ true ↦ refl | false ↦ refl ]
-
--- and no text is on its way there
-pub meets_text-empty : (parts : List Part) → meets_text parts empty ≡ false
-unfolding meets_text
-meets_text-empty [] = refl
-meets_text-empty (part ∷ []) = refl
-meets_text-empty (part ∷ next ∷ parts) = rw (met-empty part) (meets_text-empty (next ∷ parts))
-
-pub node_at-empty : (parts : List Part) → node_at parts empty ≡ None
-unfolding node_at
-node_at-empty [] = refl
-node_at-empty (part ∷ []) = met-empty part
-node_at-empty (part ∷ next ∷ parts) = rw (met-empty part) (node_at-empty (next ∷ parts))
-
--- a part meets what its group has once the part has cleared it
+-- a part of a key meets what its group has once the part has cleared it
 pub get-base : (part : Part) (g : Entries) → get part.name (base part g) ≡ met part g
 get-base part g = base-get part.name g part.removes
   where
@@ -37,62 +24,118 @@ get-base part g = base-get part.name g part.removes
     base-get name g true = get-none name (without name g) (has-without name g)
     base-get name g false = refl
 
--- nothing clashes with what isn't there
-pub clashes-None : (value : Option (List ℕ)) → clashes value None ≡ false
-clashes-None (Some t) = refl
-clashes-None None = refl
-
--- what is made of an answer is set in a group
-pub seen-cond : {X Y : Type 0} (f : X → Y) (b : Bool) (cause : ConfWhy) (x : X) → seen f (cond b (Err cause) (Ok x)) ≡ cond b (Err cause) (Ok (f x))
-seen-cond f true cause x = refl
-seen-cond f false cause x = refl
-
--- what is put where nothing was
-placed-blank : (value : Option (List ℕ)) (part : Part) (rest : List Part) (g : Entries) → met part g ≡ None → has part.name (base part g) ≡ false
-    → placed value (part ∷ rest) g ≡ seen (λ t. tree.set part.name t (tree.set part.name (blank (is_leaf value rest)) (base part g))) (placed_node value rest (blank (is_leaf value rest)))
+-- what is put under a name
+placed-one : (value : Option (List ℕ)) (name : List ℕ) (g : Entries) → placed value (named name ∷ []) g ≡ cond (clashes value (get name g)) (Err why.Kind) (Ok (tree.set name (put_there value (get name g)) g))
 unfolding node_at put
-placed-blank (Some t) part [] g meets none = rw meets (ap Ok (sym (set-set part.name (text t) (text []) (base part g))))
-placed-blank None part [] g meets none = rw meets (ap Ok (sym (set-set part.name (group empty) (group empty) (base part g))))
-placed-blank (Some t) part (next ∷ rest) g meets none =
-    rw (meets, node_at-empty (next ∷ rest)) (ap Ok (sym (set-set part.name (group (put (Some t) (next ∷ rest) empty)) (group empty) (base part g))))
-placed-blank None part (next ∷ rest) g meets none =
-    rw (meets, node_at-empty (next ∷ rest)) (ap Ok (sym (set-set part.name (group (put None (next ∷ rest) empty)) (group empty) (base part g))))
+placed-one value name g = refl
 
--- what is put where a node was
-pub placed-there : (value : Option (List ℕ)) (part : Part) (rest : List Part) (g : Entries) (old : Tree) → met part g ≡ Some old
-    → placed value (part ∷ rest) g ≡ seen (λ t. tree.set part.name t (base part g)) (placed_node value rest old)
+placed-last : (value : Option (List ℕ)) (part : Part) (g : Entries) → placed value (part ∷ []) g ≡ cond (clashes value (met part g)) (Err why.Kind) (Ok (tree.set part.name (put_there value (met part g)) (base part g)))
 unfolding node_at put
-placed-there value part [] g old meets = rw meets (sym (seen-cond (λ t. tree.set part.name t (base part g)) (clashes value (Some old)) why.Kind (put_there value (Some old))))
-placed-there value part (next ∷ rest) g old meets =
-    let inside = group_in (Some old) in
-    rw meets (nested (clashes value (node_at (next ∷ rest) inside)) (put value (next ∷ rest) inside))
-  where
-    nested : (b : Bool) (new : Entries) → cond b (Err why.Kind) (Ok (tree.set part.name (group new) (base part g))) ≡ seen (λ t. tree.set part.name t (base part g)) (seen group (cond b (Err why.Kind) (Ok new)))
-    nested true new = refl
-    nested false new = refl
+placed-last value part g = refl
 
--- what is put at a part is what is put at its node
-pub placed-at : (value : Option (List ℕ)) (part : Part) (rest : List Part) (g : Entries) (items : List (List ℕ × Node)) (at : ℕ) (item : List ℕ × Node)
-    → entries_of items ≡ added part.name (is_leaf value rest) (base part g) → IsLast part.name items at
-    → placed value (part ∷ rest) g ≡ seen (λ t. tree.set part.name t (entries_of items)) (placed_node value rest (tree_of (get_or items at item).1))
-placed-at value part rest g items at item are place =
-    let old = tree_of (get_or items at item).1 in
-    let there : get part.name (added part.name (is_leaf value rest) (base part g)) ≡ Some old = ap (get part.name) (sym are) ∙ get-IsLast part.name items at item place in
-    by_name (has part.name (base part g)) refl old there ∙ ap (λ h. seen (λ t. tree.set part.name t h) (placed_node value rest old)) (sym are)
-  where
-    by_name : (h : Bool) → has part.name (base part g) ≡ h → (old : Tree) → get part.name (cond h (base part g) (tree.set part.name (blank (is_leaf value rest)) (base part g))) ≡ Some old
-        → placed value (part ∷ rest) g ≡ seen (λ t. tree.set part.name t (cond h (base part g) (tree.set part.name (blank (is_leaf value rest)) (base part g)))) (placed_node value rest old)
-    by_name true is old there = placed-there value part rest g old (sym (get-base part g) ∙ there)
-    by_name false is old there =
-        let meets : met part g ≡ None = sym (get-base part g) ∙ get-none part.name (base part g) is in
-        let was : Some old ≡ Some (blank (is_leaf value rest)) = sym there ∙ get-set part.name (blank (is_leaf value rest)) (base part g) in
-        let fresh : old ≡ blank (is_leaf value rest) = cc in
-        rw fresh (placed-blank value part rest g meets is)
+-- what the last part of a key puts once it has cleared its group
+placed-base : (value : Option (List ℕ)) (part : Part) (g : Entries) → placed value (part ∷ []) g ≡ placed value (named part.name ∷ []) (base part g)
+placed-base value part g =
+    placed-last value part g
+    ∙ ap (λ m. cond (clashes value m) (Err why.Kind) (Ok (tree.set part.name (put_there value m) (base part g)))) (sym (get-base part g))
+    ∙ sym (placed-one value part.name (base part g))
 
--- a cause of one answer is that of another that was made of it
-pub Refuses-seen : {X Y : Type 0} (cause : ConfWhy) (f : X → Y) (given : Result X ConfWhy) (wanted : Result Y ConfWhy) → wanted ≡ seen f given → Refuses cause given → Refuses cause wanted
-Refuses-seen why.Memory f given wanted is refuses = tt
-Refuses-seen cause f given wanted is refuses = is ∙ ap (seen f) refuses
+-- what is put under a name that a group hasn't, or has
+placed-new : (value : Option (List ℕ)) (name : List ℕ) (g : Entries) → get name g ≡ None → placed value (named name ∷ []) g ≡ Ok (tree.set name (node value empty) g)
+placed-new (Some t) name g none = placed-one (Some t) name g ∙ ap (λ m. cond (clashes (Some t) m) (Err why.Kind) (Ok (tree.set name (put_there (Some t) m) g))) none
+placed-new None name g none = placed-one None name g ∙ ap (λ m. cond (clashes None m) (Err why.Kind) (Ok (tree.set name (put_there None m) g))) none
+
+placed-old : (value : Option (List ℕ)) (name : List ℕ) (g : Entries) (old : Tree) → get name g ≡ Some old → placed value (named name ∷ []) g ≡ cond (clashes value (Some old)) (Err why.Kind) (Ok (tree.set name (put_there value (Some old)) g))
+placed-old value name g old is = placed-one value name g ∙ ap (λ m. cond (clashes value m) (Err why.Kind) (Ok (tree.set name (put_there value m) g))) is
+
+-- the value of a row that is a group, or a text
+is_none-true : {X : Type 0} (value : Option X) → is_none value ≡ true → value ≡ None
+is_none-true None is = refl
+is_none-true (Some x) is = cc
+
+-- a text where a group is
+pub text-Kind : (rows : List Row) (q : ℕ) (name : List ℕ) (n : ℕ) (t : List ℕ) → IsNode rows q name n → is_none (row_at rows n).value ≡ true → placed (Some t) (named name ∷ []) (group_of q rows) ≡ Err why.Kind
+text-Kind rows q name n t is is_group =
+    let there : get name (group_of q rows) ≡ Some (group (group_of n rows)) = get-IsNode rows q name n is ∙ ap (λ v. Some (node v (group_of n rows))) (is_none-true (row_at rows n).value is_group) in
+    placed-old (Some t) name (group_of q rows) (group (group_of n rows)) there
+
+-- a text where a text is
+pub text-set : (rows new : List Row) (q : ℕ) (name : List ℕ) (n : ℕ) (t : List ℕ) → IsNode rows q name n → is_none (row_at rows n).value ≡ false → new ≡ set rows n (record { parent = (row_at rows n).parent; name = (row_at rows n).name; value = Some t })
+    → placed (Some t) (named name ∷ []) (group_of q rows) ≡ Ok (group_of q new)
+text-set rows new q name n t is is_text new_is = by_value (row_at rows n).value is_text (get-IsNode rows q name n is)
+  where
+    by_value : (v : Option (List ℕ)) → is_none v ≡ false → get name (group_of q rows) ≡ Some (node v (group_of n rows)) → placed (Some t) (named name ∷ []) (group_of q rows) ≡ Ok (group_of q new)
+    by_value None is_text there = cc
+    by_value (Some old) is_text there =
+        placed-old (Some t) name (group_of q rows) (text old) there
+        ∙ sym (ap (λ rs. Ok (group_of q rs)) new_is ∙ ap Ok (group-set rows q name n (record { parent = (row_at rows n).parent; name = (row_at rows n).name; value = Some t }) t is is.parent refl refl))
+
+-- a group where a group is
+pub group-same : (rows : List Row) (q : ℕ) (name : List ℕ) (n : ℕ) → IsNode rows q name n → is_none (row_at rows n).value ≡ true → placed None (named name ∷ []) (group_of q rows) ≡ Ok (group_of q rows)
+group-same rows q name n is is_group =
+    let there : get name (group_of q rows) ≡ Some (group (group_of n rows)) = get-IsNode rows q name n is ∙ ap (λ v. Some (node v (group_of n rows))) (is_none-true (row_at rows n).value is_group) in
+    placed-old None name (group_of q rows) (group (group_of n rows)) there ∙ ap Ok (set-get name (group (group_of n rows)) (group_of q rows) there)
+
+-- a group where a text is
+pub group-Kind : (rows : List Row) (q : ℕ) (name : List ℕ) (n : ℕ) → IsNode rows q name n → is_none (row_at rows n).value ≡ false → placed None (named name ∷ []) (group_of q rows) ≡ Err why.Kind
+group-Kind rows q name n is is_text = by_value (row_at rows n).value is_text (get-IsNode rows q name n is)
+  where
+    by_value : (v : Option (List ℕ)) → is_none v ≡ false → get name (group_of q rows) ≡ Some (node v (group_of n rows)) → placed None (named name ∷ []) (group_of q rows) ≡ Err why.Kind
+    by_value None is_text there = cc
+    by_value (Some old) is_text there = placed-old None name (group_of q rows) (text old) there
+
+-- the row that is added for a name
+abbrev pub new_row : ℕ → List ℕ → Option (List ℕ) → Row
+new_row q name value = record { parent = Some q; name = name; value = value }
+
+-- what adds a row for a name that isn't there, unless memory runs out
+pub push-Leads : (r : Result ℕ ConfWhy) (q : ℕ) (name : List ℕ) (value : Option (List ℕ)) (old new : Contents) → IsAbsent old.rows q name → q < length old.rows → OnOk r (new ≡ with_row (new_row q name value) old) → IfErr r (λ w. w ≡ why.Memory)
+    → Leads r (group_of q new.rows) (placed value (named name ∷ []) (group_of q old.rows))
+push-Leads (Ok n) q name value old new none inside pushed memory =
+    placed-new value name (group_of q old.rows) (get-IsAbsent old.rows q name none)
+    ∙ ap Ok (sym (group-push old.rows q (new_row q name value) inside refl (has-IsAbsent old.rows q name none)))
+    ∙ ap (λ (c : Contents). Ok (group_of q c.rows)) (sym pushed)
+push-Leads (Err cause) q name value old new none inside pushed memory = subst (λ w. Refuses w (placed value (named name ∷ []) (group_of q old.rows))) (sym memory) tt
+
+pub push-text : (r : Result ℕ ConfWhy) (q : ℕ) (name : List ℕ) (value : Option (List ℕ)) (old new : Contents) → OnOk r (new ≡ with_row (new_row q name value) old) → OnErr r (new ≡ old) → new.text ≡ old.text
+push-text (Ok n) q name value old new pushed kept = ap (λ (c : Contents). c.text) pushed
+push-text (Err cause) q name value old new pushed kept = ap (λ (c : Contents). c.text) kept
+
+pub push-Alters : (r : Result ℕ ConfWhy) (q : ℕ) (name : List ℕ) (value : Option (List ℕ)) (old new : Contents) → OnOk r (new ≡ with_row (new_row q name value) old) → OnErr r (new ≡ old) → Alters q old.rows new.rows
+push-Alters (Ok n) q name value old new pushed kept = subst (λ (c : Contents). Alters q old.rows c.rows) (sym pushed) (Alters-push q (new_row q name value) old.rows refl)
+push-Alters (Err cause) q name value old new pushed kept = subst (λ (c : Contents). Alters q old.rows c.rows) (sym kept) (Alters-same q old.rows)
+
+-- the row that was added is where its name leads
+IsNode-push : (q : ℕ) (name : List ℕ) (value : Option (List ℕ)) (rows : List Row) → q < length rows → IsNode (rows ++ new_row q name value ∷ []) q name (length rows)
+IsNode-push q name value rows inside =
+    let row : row_at (rows ++ new_row q name value ∷ []) (length rows) ≡ new_row q name value = at-length rows in
+    record {
+      inside = omega (arith, length-append rows (new_row q name value ∷ []));
+      parent = ap (λ (r : Row). r.parent) row;
+      named = ap (λ (r : Row). r.name) row;
+      falls = inside;
+      last = λ j later there. let none : None ≡ Some q = sym (ap (λ (r : Row). r.parent) (past rows j later)) ∙ there in cc;
+    }
+  where
+    at-length : (rows : List Row) → row_at (rows ++ new_row q name value ∷ []) (length rows) ≡ new_row q name value
+    at-length [] = refl
+    at-length (r ∷ rows) = at-length rows
+
+    past : (rows : List Row) (j : ℕ) → length rows < j → row_at (rows ++ new_row q name value ∷ []) j ≡ no_row
+    past rows j later = get_or_past (rows ++ new_row q name value ∷ []) j no_row (omega (arith, length-append rows (new_row q name value ∷ [])))
+
+pub IsStep-push : (r : Result ℕ ConfWhy) (q : ℕ) (name : List ℕ) (old new : Contents) → q < length old.rows → OnOk r (new ≡ with_row (new_row q name None) old) → IfOk r (λ n. n ≡ length old.rows) → IfOk r (λ n. IsStep new.rows q (named name) n)
+IsStep-push (Ok n) q name old new inside pushed number =
+    subst (λ (c : Contents). IsStep c.rows q (named name) n) (sym pushed) (subst (λ m. IsStep (old.rows ++ new_row q name None ∷ []) q (named name) m) (sym number)
+    (record { stays = refl; is_node = IsNode-push q name None old.rows inside; is_group = ap (λ (r : Row). r.value) (at-length old.rows) }))
+  where
+    at-length : (rows : List Row) → row_at (rows ++ new_row q name None ∷ []) (length rows) ≡ new_row q name None
+    at-length [] = refl
+    at-length (r ∷ rows) = at-length rows
+IsStep-push (Err cause) q name old new inside pushed number = tt
+
+pub IsStep-IsNode : (rows : List Row) (q : ℕ) (name : List ℕ) (n : ℕ) → IsNode rows q name n → is_none (row_at rows n).value ≡ true → IsStep rows q (named name) n
+IsStep-IsNode rows q name n is is_group = record { stays = refl; is_node = is; is_group = is_none-true (row_at rows n).value is_group }
 
 -- an answer that was made of another one
 pub Leads-seen : {X S T : Type 0} (r : Result X ConfWhy) (new : S) (f : S → T) (given : Result S ConfWhy) → Leads r new given → Leads r (f new) (seen f given)
@@ -106,18 +149,101 @@ Leads-seen (Err cause) new f given leads = refused cause f given leads
 pub Leads-along : {X S : Type 0} (r : Result X ConfWhy) (new other : S) (given wanted : Result S ConfWhy) → new ≡ other → given ≡ wanted → Leads r new given → Leads r other wanted
 Leads-along r new other given wanted same is leads = subst (λ n. Leads r n wanted) same (subst (λ w. Leads r new w) is leads)
 
--- what a key's parts find in an empty group
-pub ruleset from_nothing = (meets_text-empty, node_at-empty)
+-- what the last part of a key puts into the group at the end of a way
+pub put-last : (r : Result ℕ ConfWhy) (first mid new : List Row) (q : ℕ) (part : Part) (value : Option (List ℕ)) (path : List Part) → IsWay first 0 path q → Alters q first mid → Alters q mid new → group_of q mid ≡ base part (group_of q first)
+    → Leads r (group_of q new) (placed value (named part.name ∷ []) (group_of q mid)) → Leads r (group_of 0 new) (placed value (path ++ part ∷ []) (group_of 0 first))
+put-last r first mid new q part value path way clears puts cleared leads =
+    let root = group_of 0 first in
+    let f = λ (h : Entries). with_group path h root in
+    Leads-along r (f (group_of q new)) (group_of 0 new) (seen f (placed value (named part.name ∷ []) (group_of q mid))) (placed value (path ++ part ∷ []) root)
+    (sym (with_group-IsWay first new 0 path q (Alters-both q first mid new clears puts) way))
+    (ap (λ g. seen f (placed value (named part.name ∷ []) g)) cleared ∙ ap (seen f) (sym (placed-base value part (group_of q first))) ∙ sym (placed-below value path (part ∷ []) root (group_of q first) (group_at-IsWay first 0 path q way) refl))
+    (Leads-seen r (group_of q new) f (placed value (named part.name ∷ []) (group_of q mid)) leads)
 
--- nothing is put down no parts
-pub placed-nil : (value : Option (List ℕ)) (parts : List Part) (g : Entries) → length parts < 1 → placed value parts g ≡ Ok g
-unfolding put node_at
-placed-nil value [] g none = rw (clashes-None value) refl
-placed-nil value (part ∷ parts) g none = absurd (omega arith)
+pub put-last-way : (r : Result ℕ ConfWhy) (first new : List Row) (q : ℕ) (part : Part) (W : Type 0) (path : List Part) → IsWay first 0 path q → Alters q first new
+    → IfOk r (λ n. W → IsStep new q (named part.name) n) → IfOk r (λ n. W → IsWay new 0 (path ++ settled (part ∷ [])) n)
+put-last-way (Ok n) first new q part W path way alters step = λ w. IsWay-more new 0 path q (named part.name) n (IsWay-kept q first new 0 path q alters (omega arith) way) (step w)
+put-last-way (Err cause) first new q part W path way alters step = tt
 
--- a list is its first and the rest
-pub first_and_rest : {X : Type 0} (xs : List X) (x : X) → 1 ≤ length xs → x ≡ get_or xs 0 x → xs ≡ x ∷ take (length xs - 1) (drop 1 xs)
-first_and_rest [] x some first = absurd (omega arith)
-first_and_rest (y ∷ ys) x some first =
-    let count : length (y ∷ ys) - 1 ≡ length ys = omega arith in
-    ap (λ z. z ∷ ys) (sym first) ∙ ap (λ zs. x ∷ zs) (sym (take_all (length ys) ys (omega arith))) ∙ ap (λ k. x ∷ take k ys) (sym count)
+-- what is known once a part of a key, which isn't the last, has led to a group
+pub record IsLed (first mid : List Row) (q : ℕ) (part : Part) (n : ℕ) : Type 0 where
+  pub meets_it : group_in (met part (group_of q first)) ≡ group_of n mid
+  pub sets : (h : Entries) → tree.set part.name (group h) (group_of q mid) ≡ tree.set part.name (group h) (base part (group_of q first))
+  pub there : get part.name (group_of q mid) ≡ Some (group (group_of n mid))
+
+pub led : (first cleared mid : List Row) (q : ℕ) (part : Part) (n : ℕ) → group_of q cleared ≡ base part (group_of q first) → placed None (named part.name ∷ []) (group_of q cleared) ≡ Ok (group_of q mid) → IsStep mid q (named part.name) n → IsLed first mid q part n
+led first cleared mid q part n is puts step = by_test (clashes None (get part.name (group_of q cleared))) (sym (placed-one None part.name (group_of q cleared)) ∙ puts)
+  where
+    by_test : (b : Bool) → cond b (Err why.Kind) (Ok (tree.set part.name (put_there None (get part.name (group_of q cleared))) (group_of q cleared))) ≡ Ok (group_of q mid) → IsLed first mid q part n
+    by_test true puts = cc
+    by_test false puts =
+        let name = part.name in
+        let g = group_of q cleared in
+        let inner = group_in (get name g) in
+        let now : group_of q mid ≡ tree.set name (group inner) g = cc in
+        let there : get name (group_of q mid) ≡ Some (group (group_of n mid)) = met-IsStep mid q (named name) n step in
+        let has_it : Some (group inner) ≡ Some (group (group_of n mid)) = sym (get-set name (group inner) g) ∙ ap (get name) (sym now) ∙ there in
+        let same : inner ≡ group_of n mid = cc in
+        record {
+          meets_it = ap group_in (sym (get-base part (group_of q first)) ∙ ap (get name) (sym is)) ∙ same;
+          sets = λ h. ap (tree.set name (group h)) now ∙ set-set name (group h) (group inner) g ∙ ap (tree.set name (group h)) is;
+          there = there;
+        }
+
+-- what the parts of a key behind the first put into the group at the end of a way
+pub put-down : (r : Result ℕ ConfWhy) (first mid new : List Row) (q n : ℕ) (part : Part) (parts : List Part) (value : Option (List ℕ)) (path : List Part) → IsWay first 0 path q → Alters q first mid → is_last parts ≡ false → IsLed first mid q part n
+    → Leads r (group_of 0 new) (placed value ((path ++ named part.name ∷ []) ++ parts) (group_of 0 mid)) → Leads r (group_of 0 new) (placed value (path ++ part ∷ parts) (group_of 0 first))
+put-down r first mid new q n part parts value path way alters some l leads =
+    let root = group_of 0 first in
+    Leads-along r (group_of 0 new) (group_of 0 new) (placed value ((path ++ named part.name ∷ []) ++ parts) (group_of 0 mid)) (placed value (path ++ part ∷ parts) root) refl
+    (ap (placed value ((path ++ named part.name ∷ []) ++ parts)) (with_group-IsWay first mid 0 path q alters way)
+    ∙ sym (placed-down value path part parts root (group_of q first) (group_of q mid) (group_of n mid) (group_at-IsWay first 0 path q way) some l.meets_it l.sets l.there))
+    leads
+
+-- a part of a key, which isn't the last, isn't refused where it meets no text
+pub put-refused : {X : Type 0} (cause : ConfWhy) (part : Part) (parts : List Part) (g cleared : Entries) (given : Result X ConfWhy) → is_last parts ≡ false → meets_text (part ∷ parts) g ≡ false → cleared ≡ base part g
+    → Refuses cause (placed None (named part.name ∷ []) cleared) → Refuses cause given
+unfolding meets_text
+put-refused why.Memory part parts g cleared given some clear is refuses = tt
+put-refused cause part [] g cleared given some clear is refuses = cc
+put-refused cause part (next ∷ parts) g cleared given some clear is refuses =
+    let m = met part g in
+    let same : get part.name cleared ≡ m = ap (get part.name) is ∙ get-base part g in
+    let no_text : is_text m ≡ false = first_of_neither (is_text m) (meets_text (next ∷ parts) (group_in m)) clear in
+    let puts : placed None (named part.name ∷ []) cleared ≡ Ok (tree.set part.name (put_there None (get part.name cleared)) cleared) =
+    placed-one None part.name cleared ∙ ap (λ b. cond b (Err why.Kind) (Ok (tree.set part.name (put_there None (get part.name cleared)) cleared))) (ap is_text same ∙ no_text) in
+    cc
+  where
+    first_of_neither : (b c : Bool) → (b || c) ≡ false → b ≡ false
+    first_of_neither true c is = cc
+    first_of_neither false c is = refl
+
+-- the texts on the way of the other parts
+pub meets_text-rest : (part : Part) (parts : List Part) (g inner : Entries) → is_last parts ≡ false → meets_text (part ∷ parts) g ≡ false → group_in (met part g) ≡ inner → meets_text parts inner ≡ false
+unfolding meets_text
+meets_text-rest part [] g inner some clear meets_it = cc
+meets_text-rest part (next ∷ parts) g inner some clear meets_it = ap (meets_text (next ∷ parts)) (sym meets_it) ∙ second_of_neither (is_text (met part g)) (meets_text (next ∷ parts) (group_in (met part g))) clear
+  where
+    second_of_neither : (b c : Bool) → (b || c) ≡ false → c ≡ false
+    second_of_neither true c is = cc
+    second_of_neither false c is = is
+
+met-empty : (part : Part) → met part empty ≡ None
+met-empty part = elim part.removes as (λ b. cond b None (get part.name empty) ≡ None) [ true ↦ refl | false ↦ refl ]
+
+-- nothing is met in an empty group
+pub meets_text-empty : (parts : List Part) → meets_text parts empty ≡ false
+unfolding meets_text
+meets_text-empty [] = refl
+meets_text-empty (part ∷ []) = refl
+meets_text-empty (part ∷ next ∷ parts) = rw (met-empty part) (meets_text-empty (next ∷ parts))
+
+-- what a part that isn't the last meets
+pub meets_text-further : (part : Part) (parts : List Part) (g : Entries) (m : Option Tree) → is_last parts ≡ false → met part g ≡ m → meets_text (part ∷ parts) g ≡ (is_text m || meets_text parts (group_in m))
+unfolding meets_text
+meets_text-further part [] g m some is = cc
+meets_text-further part (next ∷ parts) g m some is = ap (λ n. is_text n || meets_text (next ∷ parts) (group_in n)) is
+
+pub meets_text-one : (part : Part) (g : Entries) → meets_text (part ∷ []) g ≡ false
+unfolding meets_text
+meets_text-one part g = refl

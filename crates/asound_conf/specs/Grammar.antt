@@ -1,16 +1,15 @@
 -- The grammar of a configuration text: what each token does at its place, and what the tokens of a text mean.
-use Rattle.std.specs.Prelude.{ℕ, ◌+◌, ◌-◌, ◌==◌, not, nat_lt, nat_le, Bool, true, false, if◌then◌else◌, List, [], ◌∷◌, ◌++◌, length, map, take, count_by, Option, Some, None, Result, Ok, Err}
+use Rattle.std.specs.Prelude.{ℕ, ◌+◌, ◌-◌, ◌==◌, not, nat_lt, nat_le, Bool, true, false, if◌then◌else◌, List, [], ◌∷◌, ◌++◌, length, take, count_by, Option, Some, None, Result, Ok, Err}
 use Rattle.std.specs.Fmt.{decimal}
 use Rattle.asound_conf.specs.declared.error.ConfError.{ConfError}
 use Rattle.asound_conf.specs.declared.error.ConfWhy.{ConfWhy}
 use Rattle.asound_conf.specs.declared.error.ConfWhy.TheVariants as why
-use Rattle.asound_conf.specs.declared.part.Part.{Part}
 use Rattle.asound_conf.specs.declared.bracket.Awaits.{Awaits}
 use Rattle.asound_conf.specs.declared.bracket.Awaits.TheVariants.{Item, Value}
 use Rattle.asound_conf.specs.declared.token.Mark.{Mark}
 use Rattle.asound_conf.specs.declared.token.Mark.TheVariants as marks
 use Rattle.asound_conf.specs.Token.{LineToken, Token, word, quoted, mark, bad, tokens}
-use Rattle.asound_conf.specs.Key.{begins, key_defect, named, word_parts}
+use Rattle.asound_conf.specs.Key.{Part, begins, key_defect, named, settled, word_parts}
 use Rattle.asound_conf.specs.Answer.{seen}
 use Rattle.asound_conf.specs.Place.{meets_text, placed}
 use Rattle.asound_conf.specs.Tree.{Entries, empty}
@@ -77,10 +76,6 @@ text_at s None parts t = put_key s (key_defect parts) parts
 -- a word or a quoted text, which is a key of these parts where it is one
 abbrev pub take_text : State → List Part → List ℕ → Result State ConfWhy
 take_text s parts t = text_at s (value_place s s.awaits s.here.array) parts t
-
--- the parts of a path without their `!`, which has done its work
-abbrev pub settled : List Part → List Part
-settled path = map (λ (part : Part). named part.name) path
 
 -- within the group at the place of a value
 abbrev pub within : State → ℕ → Bool → Entries → State

@@ -3,7 +3,11 @@ use Rattle.std.specs.Prelude.{ℕ, ◌==◌, ◌||◌, Bool, true, false, if◌t
 use Rattle.std.specs.List.{list_any, slice_split}
 use Rattle.asound_conf.specs.declared.error.ConfWhy.{ConfWhy}
 use Rattle.asound_conf.specs.declared.error.ConfWhy.TheVariants as why
-use Rattle.asound_conf.specs.declared.part.Part.{Part}
+
+-- A part of a key: the name of a node in its group. Where `!` is before the part, the node of this name is removed first.
+pub record Part : Type 0 where
+  pub removes : Bool
+  pub name : List ℕ
 
 -- some bytes begin with this one
 abbrev pub begins : ℕ → List ℕ → Bool
@@ -47,3 +51,7 @@ key_defect parts =
     if list_any is_function parts then Some why.Function else
     if list_any has_prefix parts then Some why.Prefix else
     if list_any is_nameless parts then Some why.Key else None
+
+-- the parts of a path without their `!`, which has done its work
+abbrev pub settled : List Part → List Part
+settled path = map (λ (part : Part). named part.name) path

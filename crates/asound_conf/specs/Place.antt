@@ -2,7 +2,7 @@
 use Rattle.std.specs.Prelude.{ℕ, ◌||◌, ◌&&◌, not, Bool, true, false, List, [], ◌∷◌, Option, Some, None, Result, Ok, Err, if◌then◌else◌}
 use Rattle.asound_conf.specs.declared.error.ConfWhy.{ConfWhy}
 use Rattle.asound_conf.specs.declared.error.ConfWhy.TheVariants as why
-use Rattle.asound_conf.specs.declared.part.Part.{Part}
+use Rattle.asound_conf.specs.Key.{Part}
 use Rattle.asound_conf.specs.Tree.{Tree, text, group, Entries, get, set, without, group_in, is_group, is_text}
 
 -- a group as a part of a key leaves it: a part with `!` removes the node of its name first

@@ -1,8 +1,5 @@
 //! Where a reader of a configuration text is among its brackets.
 
-use crate::conf::Conf;
-use crate::part::Part;
-
 /// A `{` or `[` that is open, or the text itself.
 #[derive(Clone, Copy, Debug)]
 pub struct Bracket {
@@ -12,17 +9,10 @@ pub struct Bracket {
     pub array: bool,
     /// How many values it has so far, where it is a `[`.
     pub values: u32,
-}
-
-/// A bracket around another one, whose group was taken out of its own.
-#[derive(Debug, Drop)]
-pub struct Around {
-    /// The bracket.
-    pub bracket: Bracket,
-    /// Its group, without the items of the inner one.
-    pub group: Conf,
-    /// The parts of the key that leads to the inner group.
-    pub parts: Vec<Part>,
+    /// How many parts of keys lead to its group.
+    pub names: usize,
+    /// The number of its group.
+    pub group: u32,
 }
 
 /// What may come next.

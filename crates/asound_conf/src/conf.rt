@@ -1,65 +1,49 @@
-//! Groups of named texts and groups.
+//! A configuration that was read.
 
-use crate::index::Index;
-use crate::text::ConfText;
-use std::alloc::Global;
+use crate::node::Group;
+use crate::table::Table;
 use std::marker::Model;
 
-/// A group: named nodes in the order in which they were added. In one that was read no two names are the same; where two
-/// are, the later node counts. Contracts see the group without where it lies in memory, and without its index.
-#[cycle(tree)]
-#[derive(Debug, Drop)]
+/// A configuration: a group of named texts and groups, in the order in which they were added. No two names in a group are
+/// the same. Contracts see the group.
+#[derive(Drop)]
 pub struct Conf {
-    /// Each name and its node.
-    pub items: Vec<(ConfText, Node)>,
-    /// Where names are among the items, once there are many.
-    pub(crate) index: Index,
-}
-
-/// What has a name in a group.
-#[cycle(tree)]
-#[derive(Debug, Drop)]
-pub enum Node {
-    /// A text.
-    Text(ConfText),
-    /// A group of its own, in a box, so that a node takes little memory: most nodes are texts.
-    Group(Box<Conf>),
+    /// The text and the nodes in it.
+    table: Table,
 }
 
 impl Model for Conf {
-    ghost use Rattle.asound_conf.specs.Tree.{Entries, entries_size};
+    ghost use Rattle.asound_conf.specs.Tree.{Entries};
     ghost use Rattle.asound_conf.specs.TreeCode.{entries_code};
 
     ghost Value = { Entries };
 
     ghost coded = { entries_code };
 
-    ghost use Rattle.asound_conf.specs.View.{entries_of, most_le-entries_size};
+    ghost use Rattle.asound_conf.specs.Rows.{group_of};
 
-    ghost view = { λ conf. entries_of conf.items.items };
-
-    ghost use Rattle.asound_conf.specs.Index.{IsIndex};
-
-    ghost invariant = { λ conf. IsIndex conf.index conf.items.items };
-
-    ghost size = { entries_size };
-
-    ghost use Rattle.asound_conf.specs.NodeFalls.{deep-Node-le};
-
-    ghost size_decreases = { λ conf h. most_le-entries_size _ (λ item. deep-Node-le item.1) conf.items.items };
+    ghost view = { λ conf. group_of 0 conf.table.rows };
 }
 
 impl Conf {
     ghost use Rattle.std.specs.Prelude.{◌≡◌};
-    ghost use Rattle.asound_conf.specs.Tree.{empty};
+    ghost use Rattle.asound_conf.specs.Node.{entries_in};
+    ghost use Rattle.asound_conf.specs.Rows.{group_of};
 
-    /// An empty group.
-    pub fn new(alloc: Global) -> Conf
-        ensures { result ≡ empty }
+    /// The configuration that a table is.
+    pub(crate) fn of(table: Table) -> Conf
+        ensures { result ≡ group_of 0 table.rows }
     {
-        Conf {
-            items: Vec::new(alloc),
-            index: Index::empty(),
+        Conf { table }
+    }
+
+    /// The text's own group.
+    pub(crate) fn root(&self) -> Group<'_>
+        ensures { entries_in result ≡ self.now }
+    {
+        Group {
+            table: &self.table,
+            number: 0,
         }
     }
 }

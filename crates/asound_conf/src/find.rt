@@ -33,7 +33,7 @@ pub fn device(conf: &Conf, name: &[u8]) -> Result<Device, ConfError>
     // The device's card is in its ranges.
     ensures card { IfOk result (λ d. IsCard d.channels d.rate d.period d.ring) }
 {
-    match device_by(conf, name) {
+    match device_by(conf.root(), name) {
         Ok(device) => Ok(device),
         Err(why) => Err(ConfError { line: 0, why }),
     }

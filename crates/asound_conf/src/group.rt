@@ -1,199 +1,187 @@
-//! Nodes in a group: by their names, and down the parts of a key.
-ghost use Rattle.std.specs.Prelude.{◌≡◌, ℕ, ◌<◌, length, option_map, IfOk, OnOk, IfSome, IfNone, Some, None, false, vec_len};
-ghost use Rattle.asound_conf.specs.Index.{IsIndex};
-ghost use Rattle.asound_conf.specs.Tree.{get, group, group_in, has, set, without};
+//! What is put into the groups of a table, down the parts of a key.
+ghost use Rattle.std.specs.Prelude.{◌≡◌, ℕ, ◌<◌, ◌≤◌, ◌++◌, ◌∷◌, [], List, length, IfOk, IsTrue, Option, Some, None, false};
 ghost use Rattle.asound_conf.specs.Answer.{Leads};
-ghost use Rattle.asound_conf.specs.Place.{base, clashes, met, meets_text, placed};
-ghost use Rattle.asound_conf.specs.View.{added, blank, entries_of, is_leaf, placed_node, placed_there, tree_of, IsLast};
+ghost use Rattle.asound_conf.specs.Key.{named, settled};
+ghost use Rattle.asound_conf.specs.Key as key;
+ghost use Rattle.asound_conf.specs.Parts.{part_in, parts_in, text_in};
+ghost use Rattle.asound_conf.specs.Place.{base, meets_text, placed};
+ghost use Rattle.asound_conf.specs.Rows.{Alters, group_of};
+ghost use Rattle.asound_conf.specs.Table.{name_in, span_in};
+ghost use Rattle.asound_conf.specs.Tree.{without};
+ghost use Rattle.asound_conf.specs.Way.{IsStep, IsWay};
 
-use crate::conf::{Conf, Node};
+use crate::cell::{Name, Span};
 use crate::error::ConfWhy;
-use crate::index::Index;
 use crate::part::Part;
-use crate::text::ConfText;
-use std::alloc::{AllocError, Global};
+use crate::table::Table;
 
-/// The place of the node of this name. It is sought from the last place on that the index tells.
-pub fn place_of(items: &[(ConfText, Node)], index: &Index, name: &[u8]) -> Option<usize>
-    requires { IsIndex index.now items.now }
-    ensures some { IfSome result (λ at. IsLast name.now items.now at) }
-    ensures within { IfSome result (λ at. at < length items.now) }
-    ensures none { IfNone result (has name.now (entries_of items.now) ≡ false) }
+/// Removes the nodes of this name from a group.
+#[cold]
+#[inline(never)]
+fn remove_all(table: &mut Table, group: u32, name: Name)
+    ensures value { group_of group table.new.rows
+        ≡ without (name_in table.old.text name) (group_of group table.old.rows) }
+    ensures text { table.new.text ≡ table.old.text }
+    ensures alters { Alters group table.old.rows table.new.rows }
 {
-    let mut left = index.bound(items, name);
-    while left > 0 {
-        left -= 1;
-        if items[left].0.as_bytes() == name {
-            return Some(left);
-        }
-    }
-    None
-}
-
-/// Removes the nodes of this name.
-fn remove_all(items: &mut Vec<(ConfText, Node)>, index: &Index, name: &[u8])
-    requires { IsIndex index.now items.old.items }
-    ensures items { entries_of items.new.items ≡ without name.now (entries_of items.old.items) }
-    ensures index { IsIndex index.now items.new.items }
-{
-    while let Some(at) = place_of(items.as_slice(), index, name) {
-        drop(items.remove(at));
+    while let Some(number) = table.find(group, table.key(name)) {
+        table.remove(number);
     }
 }
 
 /// Leaves a group as a part of a key does before it goes on: without the part's node, where `!` stands before the part.
-pub fn clear(group: &mut Conf, part: &Part)
-    ensures { group.new ≡ base part.now group.old }
+#[inline(always)]
+fn clear(table: &mut Table, group: u32, part: Part)
+    ensures value { group_of group table.new.rows
+        ≡ base (part_in table.old.text part) (group_of group table.old.rows) }
+    ensures text { table.new.text ≡ table.old.text }
+    ensures alters { Alters group table.old.rows table.new.rows }
 {
     if part.removes {
-        remove_all(&mut group.items, &group.index, part.name.as_bytes());
+        remove_all(table, group, part.name);
     }
 }
 
-/// A node for a name that isn't there yet: an empty text, or an empty group.
-fn blank(alloc: Global, is_text: bool) -> Result<Node, AllocError>
-    ensures { IfOk result (λ node. tree_of node ≡ blank is_text) }
+/// Puts a text under a name: where a text is, or at the end of the group. It refuses with `Kind` where a group is.
+#[inline(always)]
+fn put_text(table: &mut Table, group: u32, name: Name, text: Span) -> Result<u32, ConfWhy>
+    requires { group < length table.old.rows }
+    ensures value { Leads result (group_of group table.new.rows)
+        (placed (Some (span_in table.old.text text)) (named (name_in table.old.text name) ∷ [])
+        (group_of group table.old.rows)) }
+    ensures text { table.new.text ≡ table.old.text }
+    ensures alters { Alters group table.old.rows table.new.rows }
 {
-    if is_text {
-        return Ok(Node::Text(ConfText::empty()));
-    }
-    Ok(Node::Group(Box::new(alloc, Conf::new(alloc))?))
-}
-
-/// The place of the node of this name. An empty text or an empty group is added at the end where there is none.
-pub fn place_or_add(
-    alloc: Global,
-    items: &mut Vec<(ConfText, Node)>,
-    index: &mut Index,
-    name: &[u8],
-    is_text: bool,
-) -> Result<usize, AllocError>
-    requires { IsIndex index.old items.old.items }
-    ensures place { IfOk result (λ at. IsLast name.now items.new.items at) }
-    ensures within { IfOk result (λ at. at < vec_len items.new) }
-    ensures items { OnOk result (entries_of items.new.items
-        ≡ added name.now is_text (entries_of items.old.items)) }
-    ensures index { IsIndex index.new items.new.items }
-{
-    if let Some(at) = place_of(items.as_slice(), index, name) {
-        return Ok(at);
-    }
-    let at = items.len();
-    let name = ConfText::copied(alloc, name)?;
-    let node = blank(alloc, is_text)?;
-    index.add(alloc, items.as_slice(), name.as_bytes())?;
-    items.push((name, node))?;
-    Ok(at)
-}
-
-/// Whether an item has a text, and its key no more parts.
-fn is_leaf(text: &Option<ConfText>, parts: &[Part]) -> bool
-    ensures { result ≡ is_leaf text.now parts.now }
-{
-    text.is_some() && parts.is_empty()
-}
-
-/// Whether an item's text would be put where a group is, or its group where a text is.
-fn clashes(text: &Option<ConfText>, node: &Node) -> bool
-    ensures { result ≡ clashes text.now (Some (tree_of node.now)) }
-{
-    match node {
-        Node::Text(_) => text.is_none(),
-        Node::Group(_) => text.is_some(),
-    }
-}
-
-/// Makes a text an empty group, and leaves a group as it is.
-pub fn make_group(alloc: Global, node: &mut Node) -> Result<(), AllocError>
-    ensures { OnOk result (tree_of node.new ≡ group (group_in (Some (tree_of node.old)))) }
-{
-    if let Node::Text(_) = node {
-        *node = Node::Group(Box::new(alloc, Conf::new(alloc))?);
-    }
-    Ok(())
-}
-
-/// Puts an item's text where a text is. A group where a group is stays.
-fn put_there(node: &mut Node, text: Option<ConfText>) -> Result<(), ConfWhy>
-    ensures { Leads result (tree_of node.new) (placed_there text (tree_of node.old)) }
-{
-    if clashes(&text, node) {
+    let Some(number) = table.find(group, table.key(name)) else {
+        return table.push(group, name, Some(text));
+    };
+    if table.is_group(number) {
         return Err(ConfWhy::Kind);
     }
-    if let Some(text) = text {
-        *node = Node::Text(text);
-    }
-    Ok(())
+    table.set_text(number, text);
+    Ok(number)
 }
 
-/// Puts an item's text, or a group where it has none, down what is left of its key's parts at a node.
-#[cycle(put)]
-fn put_node(
-    alloc: Global,
-    node: &mut Node,
-    parts: &[Part],
-    text: Option<ConfText>,
-) -> Result<(), ConfWhy>
-    ensures { Leads result (tree_of node.new) (placed_node text parts.now (tree_of node.old)) }
+/// The number of the group of this name in another one. It is added at the end where there is none. It refuses with `Kind`
+/// where a text is.
+#[inline(always)]
+fn put_group(table: &mut Table, group: u32, name: Name) -> Result<u32, ConfWhy>
+    requires { group < length table.old.rows }
+    ensures value { Leads result (group_of group table.new.rows)
+        (placed None (named (name_in table.old.text name) ∷ []) (group_of group table.old.rows)) }
+    ensures step { IfOk result (λ n. IsStep table.new.rows group
+        (named (name_in table.old.text name)) n) }
+    ensures text { table.new.text ≡ table.old.text }
+    ensures alters { Alters group table.old.rows table.new.rows }
 {
-    if parts.is_empty() {
-        return put_there(node, text);
-    }
-    make_group(alloc, node)?;
-    match node {
-        Node::Group(group) => put(alloc, group, parts, text),
-        Node::Text(_) => Ok(()),
+    let Some(number) = table.find(group, table.key(name)) else {
+        return table.push(group, name, None);
+    };
+    if table.is_group(number) {
+        Ok(number)
+    } else {
+        Err(ConfWhy::Kind)
     }
 }
 
-/// Puts an item's text, or a group where it has none, down the parts of its key. Where a node of the other kind is at
-/// their end, it refuses with `Kind`.
-#[cycle(put)]
-pub fn put(
-    alloc: Global,
-    group: &mut Conf,
+/// Puts an item's text, or a group where it has none, under a name.
+#[inline(always)]
+fn put_here(table: &mut Table, group: u32, name: Name, text: Option<Span>) -> Result<u32, ConfWhy>
+    requires { group < length table.old.rows }
+    ensures value { Leads result (group_of group table.new.rows)
+        (placed (text_in table.old.text text) (named (name_in table.old.text name) ∷ [])
+        (group_of group table.old.rows)) }
+    ensures step { IfOk result (λ n. text ≡ None → IsStep table.new.rows group
+        (named (name_in table.old.text name)) n) }
+    ensures text { table.new.text ≡ table.old.text }
+    ensures alters { Alters group table.old.rows table.new.rows }
+{
+    match text {
+        Some(text) => put_text(table, group, name, text),
+        None => put_group(table, group, name),
+    }
+}
+
+/// Puts an item's text, or a group where it has none, down the parts of its key, none of which but the last meets a text. It
+/// gives the number of its row. Where a node of the other kind is at the end of the parts, it refuses with `Kind`.
+#[inline(never)]
+fn put_path(
+    table: &mut Table,
+    group: u32,
     parts: &[Part],
-    text: Option<ConfText>,
-) -> Result<(), ConfWhy>
-    ensures { Leads result group.new (placed text parts.now group.old) }
+    text: Option<Span>,
+) -> Result<u32, ConfWhy>
+    requires some { 1 ≤ length parts.now }
+    requires inside { group < length table.old.rows }
+    requires open { meets_text (parts_in table.old.text parts.now)
+        (group_of group table.old.rows) ≡ false }
+    ensures placed { (path : List key.Part) → IsWay table.old.rows 0 path group
+        → Leads result (group_of 0 table.new.rows) (placed (text_in table.old.text text)
+        (path ++ parts_in table.old.text parts.now) (group_of 0 table.old.rows)) }
+    ensures way { (path : List key.Part) → IsWay table.old.rows 0 path group
+        → IfOk result (λ n. text ≡ None
+        → IsWay table.new.rows 0 (path ++ settled (parts_in table.old.text parts.now)) n) }
+    ensures row { IfOk result (λ n. text ≡ None → (group < n) × (n < length table.new.rows)) }
+    ensures kept { (path : List key.Part) (last : ℕ) → last ≤ group
+        → IsWay table.old.rows 0 path last → IsWay table.new.rows 0 path last }
+    ensures text { table.new.text ≡ table.old.text }
+    ensures longer { length table.old.rows ≤ length table.new.rows }
 {
     let [part, rest @ ..] = parts else {
-        return Ok(());
+        return Ok(group);
     };
-    clear(group, part);
-    let at = place_or_add(
-        alloc,
-        &mut group.items,
-        &mut group.index,
-        part.name.as_bytes(),
-        is_leaf(&text, rest),
-    )?;
-    put_node(alloc, &mut group.items[at].1, rest, text)
-}
-
-/// The node of this name.
-pub fn get<'a>(group: &'a Conf, name: &[u8]) -> Option<&'a Node>
-    ensures { option_map (λ n. tree_of n.now) result ≡ get name.now group.now }
-{
-    let at = place_of(group.items.as_slice(), &group.index, name)?;
-    Some(&group.items[at].1)
-}
-
-/// The node that a part of a key meets.
-fn met<'a>(group: &'a Conf, part: &Part) -> Option<&'a Node>
-    ensures { option_map (λ n. tree_of n.now) result ≡ met part.now group.now }
-{
-    if part.removes {
-        None
-    } else {
-        get(group, part.name.as_bytes())
+    clear(table, group, *part);
+    if rest.is_empty() {
+        return put_here(table, group, part.name, text);
     }
+    let inner = match put_group(table, group, part.name) {
+        Ok(inner) => inner,
+        Err(why) => return Err(why),
+    };
+    put_path(table, inner, rest, text)
+}
+
+/// Puts an item's text, or a group where it has none, down the parts of its key, none of which but the last meets a text. It
+/// gives the number of its row. Where a node of the other kind is at the end of the parts, it refuses with `Kind`.
+/// Most keys have one part, as the values of lists: their nodes are put without a call that goes down.
+#[inline(always)]
+pub fn put(
+    table: &mut Table,
+    group: u32,
+    parts: &[Part],
+    text: Option<Span>,
+) -> Result<u32, ConfWhy>
+    requires some { 1 ≤ length parts.now }
+    requires inside { group < length table.old.rows }
+    requires open { meets_text (parts_in table.old.text parts.now)
+        (group_of group table.old.rows) ≡ false }
+    ensures placed { (path : List key.Part) → IsWay table.old.rows 0 path group
+        → Leads result (group_of 0 table.new.rows) (placed (text_in table.old.text text)
+        (path ++ parts_in table.old.text parts.now) (group_of 0 table.old.rows)) }
+    ensures way { (path : List key.Part) → IsWay table.old.rows 0 path group
+        → IfOk result (λ n. text ≡ None
+        → IsWay table.new.rows 0 (path ++ settled (parts_in table.old.text parts.now)) n) }
+    ensures row { IfOk result (λ n. text ≡ None → (group < n) × (n < length table.new.rows)) }
+    ensures kept { (path : List key.Part) (last : ℕ) → last ≤ group
+        → IsWay table.old.rows 0 path last → IsWay table.new.rows 0 path last }
+    ensures text { table.new.text ≡ table.old.text }
+    ensures longer { length table.old.rows ≤ length table.new.rows }
+{
+    let [part, rest @ ..] = parts else {
+        return Ok(group);
+    };
+    if rest.is_empty() {
+        clear(table, group, *part);
+        return put_here(table, group, part.name, text);
+    }
+    put_path(table, group, parts, text)
 }
 
 /// Whether a part of a key before the last meets a text.
-#[tactic(auto, using(crate::proofs::Puts::from_nothing), unfolding(crate::specs::Place::meets_text))]
-pub fn meets_text(group: &Conf, parts: &[Part]) -> bool
-    ensures { result ≡ meets_text parts.now group.now }
+#[tactic(auto, unfolding(crate::specs::Place::meets_text))]
+pub fn meets_text(table: &Table, group: u32, parts: &[Part]) -> bool
+    ensures { result
+        ≡ meets_text (parts_in table.now.text parts.now) (group_of group table.now.rows) }
 {
     let [part, rest @ ..] = parts else {
         return false;
@@ -201,9 +189,11 @@ pub fn meets_text(group: &Conf, parts: &[Part]) -> bool
     if rest.is_empty() {
         return false;
     }
-    match met(group, part) {
-        Some(Node::Text(_)) => true,
-        Some(Node::Group(inner)) => meets_text(inner, rest),
+    if part.removes {
+        return false;
+    }
+    match table.find(group, table.key(part.name)) {
+        Some(number) => !table.is_group(number) || meets_text(table, number, rest),
         None => false,
     }
 }

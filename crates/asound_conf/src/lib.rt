@@ -3,30 +3,29 @@
 #![tactic(auto)]
 
 mod bracket;
+mod cell;
 mod channels;
 mod conf;
 mod error;
 mod find;
 mod group;
-mod index;
-mod list;
-mod nested;
+mod line;
+mod node;
 mod number;
 mod part;
 mod plugin;
 mod print;
 mod reader;
 mod reading;
-mod text;
+mod table;
 mod token;
 
-pub use conf::{Conf, Node};
+pub use conf::Conf;
 pub use error::{ConfError, ConfWhy};
 pub use find::device;
 pub use plugin::{Device, DeviceKind};
 pub use print::print_device;
 pub use reader::read_conf;
-pub use text::ConfText;
 
 #[cfg(test)]
 mod tests;

@@ -4,11 +4,10 @@ ghost use Rattle.std.specs.Str.{all_ascii_digits};
 ghost use Rattle.std.specs.Str.Parse.{digits_value};
 ghost use Rattle.std.specs.Fmt.{decimal};
 ghost use Rattle.asound_conf.specs.Device.{number_in, number_of};
-ghost use Rattle.asound_conf.specs.Index.{number_named};
-ghost use Rattle.asound_conf.specs.Number.{is_canonical};
-ghost use Rattle.asound_conf.specs.View.{tree_of};
+ghost use Rattle.asound_conf.specs.Number.{is_canonical, number_named};
+ghost use Rattle.asound_conf.specs.Node.{tree_of};
 
-use crate::conf::Node;
+use crate::node::Node;
 
 /// Whether each byte of a text is a decimal digit.
 fn are_digits(text: &[u8]) -> bool
@@ -45,11 +44,11 @@ pub fn number_of(text: &[u8]) -> Option<u32>
 }
 
 /// The number that a node is.
-pub fn number_in(node: Option<&Node>) -> Option<u32>
-    ensures { result ≡ number_in (option_map (λ n. tree_of n.now) node.entry) }
+pub fn number_in(node: Option<Node<'_>>) -> Option<u32>
+    ensures { result ≡ number_in (option_map tree_of node.entry) }
 {
     match node {
-        Some(Node::Text(text)) => number_of(text.as_bytes()),
+        Some(Node::Text(text)) => number_of(text),
         Some(Node::Group(_)) => None,
         None => None,
     }

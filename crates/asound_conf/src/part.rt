@@ -1,19 +1,24 @@
 //! The parts of a key.
-ghost use Rattle.std.specs.Prelude.{◌≡◌, ◌++◌, ◌≤◌, [], ◌∷◌, IfOk, OnOk, IfNone, IfSome, option_map, map, position, drop, false, length, ◌<◌};
-ghost use Rattle.std.specs.List.{list_all, list_any, slice_split};
-ghost use Rattle.asound_conf.specs.Key.{begins, has_prefix, is_dot, is_function, is_nameless, is_plain, key_defect, named, part_of, word_parts};
+ghost use Rattle.std.specs.Prelude.{◌≡◌, ◌++◌, ◌≤◌, ◌<◌, ◌+◌, ◌^◌, ◌∷◌, [], List, ℕ, OnOk, IfNone, IfSome, position, take, drop, length};
+ghost use Rattle.std.specs.Fmt.{decimal};
+ghost use Rattle.std.specs.List.{list_any, slice_split};
+ghost use Rattle.asound_conf.specs.Key.{begins, has_prefix, is_dot, is_function, is_nameless, key_defect, named, part_of, word_parts};
+ghost use Rattle.asound_conf.specs.Parts.{part_in, parts_in};
+ghost use Rattle.asound_conf.specs.Table.{name_in, span_in};
 
+use crate::cell::{Name, Span};
 use crate::error::ConfWhy;
-use crate::text::ConfText;
-use std::alloc::{AllocError, Global};
+use crate::table::span_in;
+use itoa::Buffer;
+use std::alloc::AllocError;
 
 /// A part of a key: the name of a node in its group.
-#[derive(Debug, Drop)]
+#[derive(Clone, Copy)]
 pub struct Part {
     /// Whether `!` stands before the part: the node of this name is removed first.
     pub removes: bool,
     /// The node's name.
-    pub name: ConfText,
+    pub name: Name,
 }
 
 /// Whether some bytes begin with this one.
@@ -23,27 +28,29 @@ pub fn begins(bytes: &[u8], b: u8) -> bool
     !bytes.is_empty() && bytes[0] == b
 }
 
-/// The part whose name is these bytes, as they are.
-pub fn named(alloc: Global, name: &[u8]) -> Result<Part, AllocError>
-    ensures { IfOk result (λ part. part ≡ named name.now) }
-{
-    Ok(Part {
-        removes: false,
-        name: ConfText::copied(alloc, name)?,
-    })
-}
-
-/// The part of a word's piece between dots. A `!` before the name is a mark.
-fn part_of(alloc: Global, piece: &[u8]) -> Result<Part, AllocError>
-    ensures { IfOk result (λ part. part ≡ part_of piece.now) }
+/// The part of a word's piece between dots, which begins at this place of the text. A `!` before the name is a mark.
+fn part_of(piece: &[u8], start: u32) -> Part
+    requires { start + length piece.now < 2 ^ 32 }
+    ensures { (text : List ℕ)
+        → span_in text (record { start = start; count = length piece.now }) ≡ piece.now
+        → part_in text result ≡ part_of piece.now }
 {
     if begins(piece, b'!') {
-        return Ok(Part {
+        return Part {
             removes: true,
-            name: ConfText::copied(alloc, &piece[1..])?,
-        });
+            name: Name::Bytes(Span {
+                start: start + 1,
+                count: (piece.len() - 1) as u32,
+            }),
+        };
     }
-    named(alloc, piece)
+    Part {
+        removes: false,
+        name: Name::Bytes(Span {
+            start,
+            count: piece.len() as u32,
+        }),
+    }
 }
 
 /// The place of the first dot.
@@ -58,96 +65,142 @@ fn split_piece(word: &[u8]) -> Option<(&[u8], &[u8])>
     ensures some { IfSome result (λ c. slice_split is_dot word.now
         ≡ c.0.now ∷ slice_split is_dot c.1.now) }
     ensures none { IfNone result (slice_split is_dot word.now ≡ word.now ∷ []) }
-    ensures shorter { IfSome result (λ c. length c.1.now < length word.now) }
+    ensures piece { IfSome result (λ c. c.0.now ≡ take (length c.0.now) word.now) }
+    ensures behind { IfSome result (λ c. c.1.now ≡ drop (length c.0.now + 1) word.now) }
+    ensures sizes { IfSome result (λ c. length c.0.now + 1 + length c.1.now ≡ length word.now) }
 {
     let end = first_dot(word)?;
     Some((&word[..end], &word[end + 1..]))
 }
 
-/// Adds the parts of a word to some parts.
-pub fn push_parts(alloc: Global, parts: &mut Vec<Part>, word: &[u8]) -> Result<(), AllocError>
-    ensures parts { OnOk result (parts.new.items ≡ parts.old.items ++ word_parts word.now) }
-    ensures some { OnOk result (1 ≤ length parts.new.items) }
-    ensures longer { length parts.old.items ≤ length parts.new.items }
+/// Adds the parts of a word that begins at this place of the text.
+pub fn push_parts(parts: &mut Vec<Part>, word: &[u8], start: u32) -> Result<(), AllocError>
+    requires { start + length word.now < 2 ^ 32 }
+    ensures parts { OnOk result ((text : List ℕ)
+        → span_in text (record { start = start; count = length word.now }) ≡ word.now
+        → parts_in text parts.new.items ≡ parts_in text parts.old.items ++ word_parts word.now) }
+    ensures kept { OnOk result (take (length parts.old.items) parts.new.items ≡ parts.old.items) }
+    ensures more { OnOk result (length parts.old.items < length parts.new.items) }
 {
     let mut rest = word;
+    let mut at = start;
     while let Some((piece, behind)) = split_piece(rest) {
-        parts.push(part_of(alloc, piece)?)?;
+        parts.push(part_of(piece, at))?;
+        at += piece.len() as u32 + 1;
         rest = behind;
     }
-    parts.push(part_of(alloc, rest)?)?;
+    parts.push(part_of(rest, at))?;
     Ok(())
 }
 
-/// Whether a part is the name of a function.
-fn is_function(part: &Part) -> bool
-    ensures { result ≡ is_function part.now }
+/// Adds the one part of a quoted text that begins at this place of the text.
+pub fn push_name(parts: &mut Vec<Part>, name: &[u8], start: u32) -> Result<(), AllocError>
+    requires { start + length name.now < 2 ^ 32 }
+    ensures parts { OnOk result ((text : List ℕ)
+        → span_in text (record { start = start; count = length name.now }) ≡ name.now
+        → parts_in text parts.new.items ≡ parts_in text parts.old.items ++ named name.now ∷ []) }
+    ensures kept { OnOk result (take (length parts.old.items) parts.new.items ≡ parts.old.items) }
+    ensures more { OnOk result (length parts.old.items < length parts.new.items) }
 {
-    begins(part.name.as_bytes(), b'@')
+    parts.push(Part {
+        removes: false,
+        name: Name::Bytes(Span {
+            start,
+            count: name.len() as u32,
+        }),
+    })?;
+    Ok(())
+}
+
+/// Whether a part's name begins with this byte.
+fn name_begins(text: &[u8], name: Name, b: u8) -> bool
+    ensures { result ≡ begins b (name_in text.now name) }
+{
+    match name {
+        Name::Bytes(span) => begins(span_in(text, span), b),
+        Name::Number(number) => {
+            let mut buffer = Buffer::new();
+            begins(buffer.format(number).as_bytes(), b)
+        }
+    }
+}
+
+/// Whether a part is the name of a function.
+fn is_function(text: &[u8], part: Part) -> bool
+    ensures { result ≡ is_function (part_in text.now part) }
+{
+    name_begins(text, part.name, b'@')
 }
 
 /// Whether a part's name has a prefix.
-fn has_prefix(part: &Part) -> bool
-    ensures { result ≡ has_prefix part.now }
+fn has_prefix(text: &[u8], part: Part) -> bool
+    ensures { result ≡ has_prefix (part_in text.now part) }
 {
-    let name = part.name.as_bytes();
-    begins(name, b'+') || begins(name, b'-') || begins(name, b'?')
+    name_begins(text, part.name, b'+')
+        || name_begins(text, part.name, b'-')
+        || name_begins(text, part.name, b'?')
 }
 
 /// Whether a part has no name.
-fn is_nameless(part: &Part) -> bool
-    ensures { result ≡ is_nameless part.now }
+fn is_nameless(text: &[u8], part: Part) -> bool
+    ensures { result ≡ is_nameless (part_in text.now part) }
 {
-    part.name.as_bytes().is_empty()
-}
-
-/// Whether a part is a function, has a prefix, or has no name.
-fn any_function(parts: &[Part]) -> bool
-    ensures { result ≡ list_any is_function parts.now }
-{
-    parts.iter().any(|part| is_function(part))
-}
-
-fn any_prefix(parts: &[Part]) -> bool
-    ensures { result ≡ list_any has_prefix parts.now }
-{
-    parts.iter().any(|part| has_prefix(part))
-}
-
-fn any_nameless(parts: &[Part]) -> bool
-    ensures { result ≡ list_any is_nameless parts.now }
-{
-    parts.iter().any(|part| is_nameless(part))
-}
-
-/// Whether a part is neither a function, nor has a prefix, nor is without a name.
-fn is_plain(part: &Part) -> bool
-    ensures { result ≡ is_plain part.now }
-{
-    let name = part.name.as_bytes();
-    !name.is_empty() && !matches!(name[0], b'@' | b'+' | b'-' | b'?')
-}
-
-fn are_plain(parts: &[Part]) -> bool
-    ensures { result ≡ list_all is_plain parts.now }
-{
-    parts.iter().all(|part| is_plain(part))
-}
-
-/// What is wrong with the parts of a key. Mostly nothing is, which one look at each part shows.
-pub fn key_defect(parts: &[Part]) -> Option<ConfWhy>
-    ensures { result ≡ key_defect parts.now }
-{
-    if are_plain(parts) {
-        return None;
+    match part.name {
+        Name::Bytes(span) => span_in(text, span).is_empty(),
+        Name::Number(number) => {
+            let mut buffer = Buffer::new();
+            buffer.format(number).as_bytes().is_empty()
+        }
     }
-    if any_function(parts) {
+}
+
+/// Whether a part is the name of a function.
+fn any_function(text: &[u8], parts: &[Part]) -> bool
+    ensures { result ≡ list_any is_function (parts_in text.now parts.now) }
+{
+    for part in parts {
+        if is_function(text, *part) {
+            return true;
+        }
+    }
+    false
+}
+
+/// Whether a part's name has a prefix.
+fn any_prefix(text: &[u8], parts: &[Part]) -> bool
+    ensures { result ≡ list_any has_prefix (parts_in text.now parts.now) }
+{
+    for part in parts {
+        if has_prefix(text, *part) {
+            return true;
+        }
+    }
+    false
+}
+
+/// Whether a part has no name.
+fn any_nameless(text: &[u8], parts: &[Part]) -> bool
+    ensures { result ≡ list_any is_nameless (parts_in text.now parts.now) }
+{
+    for part in parts {
+        if is_nameless(text, *part) {
+            return true;
+        }
+    }
+    false
+}
+
+/// What is wrong with the parts of a key.
+pub fn key_defect(text: &[u8], parts: &[Part]) -> Option<ConfWhy>
+    ensures { result ≡ key_defect (parts_in text.now parts.now) }
+{
+    if any_function(text, parts) {
         return Some(ConfWhy::Function);
     }
-    if any_prefix(parts) {
+    if any_prefix(text, parts) {
         return Some(ConfWhy::Prefix);
     }
-    if any_nameless(parts) {
+    if any_nameless(text, parts) {
         return Some(ConfWhy::Key);
     }
     None

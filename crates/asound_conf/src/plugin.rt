@@ -3,12 +3,11 @@ ghost use Rattle.std.specs.Prelude.{◌≡◌, ◌<◌, ◌≤◌, ◌+◌, ◌^
 ghost use Rattle.asound_conf.specs.Device.{IsCard, as_group, card_of, defined, device_by, field, field_in, format_of, frames_in, is_fit, is_period, is_ring, is_stream, kind_named, kind_of, number_in, numbers_of, or_default, period_of, ring_of, slave_of, bindings_of};
 ghost use Rattle.asound_conf.specs.Answer.{seen};
 ghost use Rattle.asound_conf.specs.Tree.{get};
-ghost use Rattle.asound_conf.specs.View.{tree_of};
+ghost use Rattle.asound_conf.specs.Node.{entries_in, tree_of};
 
 use crate::channels::read_bindings;
-use crate::conf::{Conf, Node};
 use crate::error::ConfWhy;
-use crate::group::get;
+use crate::node::{Group, Node, get};
 use crate::number::number_in;
 use bindings::Bindings;
 
@@ -65,12 +64,12 @@ pub struct Card {
 }
 
 /// The group that a node is.
-fn as_group(node: Option<&Node>) -> Result<&Conf, ConfWhy>
-    ensures { seen (λ g. g.now) result
-        ≡ as_group (option_map (λ n. tree_of n.now) node.entry) }
+fn as_group(node: Option<Node<'_>>) -> Result<Group<'_>, ConfWhy>
+    ensures { seen entries_in result
+        ≡ as_group (option_map tree_of node.entry) }
 {
     match node {
-        Some(Node::Group(group)) => Ok(&**group),
+        Some(Node::Group(group)) => Ok(group),
         Some(Node::Text(_)) => Err(ConfWhy::Missing),
         None => Err(ConfWhy::Missing),
     }
@@ -78,21 +77,21 @@ fn as_group(node: Option<&Node>) -> Result<&Conf, ConfWhy>
 
 /// The group `kind.name`.
 #[tactic(auto, unfolding(crate::specs::Device::defined))]
-fn defined<'a>(kind: &[u8], name: &[u8], root: &'a Conf) -> Result<&'a Conf, ConfWhy>
-    ensures { seen (λ g. g.now) result ≡ defined kind.now name.now root.now }
+fn defined<'a>(kind: &[u8], name: &[u8], root: Group<'a>) -> Result<Group<'a>, ConfWhy>
+    ensures { seen entries_in result ≡ defined kind.now name.now (entries_in root.entry) }
 {
     let all = as_group(get(root, kind))?;
     as_group(get(all, name))
 }
 
 /// The slave of a device's definition.
-fn slave_of<'a>(root: &'a Conf, node: Option<&'a Node>) -> Result<&'a Conf, ConfWhy>
-    ensures { seen (λ g. g.now) result
-        ≡ slave_of root.now (option_map (λ n. tree_of n.now) node.entry) }
+fn slave_of<'a>(root: Group<'a>, node: Option<Node<'a>>) -> Result<Group<'a>, ConfWhy>
+    ensures { seen entries_in result
+        ≡ slave_of (entries_in root.entry) (option_map tree_of node.entry) }
 {
     match node {
-        Some(Node::Group(group)) => Ok(&**group),
-        Some(Node::Text(name)) => defined(b"pcm_slave", name.as_bytes(), root),
+        Some(Node::Group(group)) => Ok(group),
+        Some(Node::Text(name)) => defined(b"pcm_slave", name, root),
         None => Err(ConfWhy::Missing),
     }
 }
@@ -114,23 +113,22 @@ fn kind_named(name: &[u8]) -> Result<DeviceKind, ConfWhy>
 }
 
 /// The kind of device that a definition's type is.
-fn kind_of(node: Option<&Node>) -> Result<DeviceKind, ConfWhy>
-    ensures { result ≡ kind_of (option_map (λ n. tree_of n.now) node.entry) }
+fn kind_of(node: Option<Node<'_>>) -> Result<DeviceKind, ConfWhy>
+    ensures { result ≡ kind_of (option_map tree_of node.entry) }
 {
     match node {
-        Some(Node::Text(name)) => kind_named(name.as_bytes()),
+        Some(Node::Text(name)) => kind_named(name),
         Some(Node::Group(_)) => Err(ConfWhy::PluginType),
         None => Err(ConfWhy::PluginType),
     }
 }
 
 /// Whether a format is given that isn't 16 bits, little-endian.
-fn check_format(node: Option<&Node>) -> Result<(), ConfWhy>
-    ensures { result ≡ format_of (option_map (λ n. tree_of n.now) node.entry) }
+fn check_format(node: Option<Node<'_>>) -> Result<(), ConfWhy>
+    ensures { result ≡ format_of (option_map tree_of node.entry) }
 {
     match node {
         Some(Node::Text(name)) => {
-            let name = name.as_bytes();
             if name == b"S16_LE".as_slice() || name == b"S16".as_slice() {
                 Ok(())
             } else {
@@ -143,8 +141,8 @@ fn check_format(node: Option<&Node>) -> Result<(), ConfWhy>
 }
 
 /// A number field of a slave, 0 where it isn't given.
-fn field(name: &[u8], slave: &Conf) -> Result<u32, ConfWhy>
-    ensures { result ≡ field name.now slave.now }
+fn field(name: &[u8], slave: Group<'_>) -> Result<u32, ConfWhy>
+    ensures { result ≡ field name.now (entries_in slave.entry) }
 {
     match get(slave, name) {
         Some(node) => number_in(Some(node)).ok_or(ConfWhy::Number),
@@ -154,8 +152,8 @@ fn field(name: &[u8], slave: &Conf) -> Result<u32, ConfWhy>
 
 /// The number fields of a slave.
 #[tactic(auto, unfolding(crate::specs::Device::numbers_of))]
-fn numbers_of(slave: &Conf) -> Result<Numbers, ConfWhy>
-    ensures { result ≡ numbers_of slave.now }
+fn numbers_of(slave: Group<'_>) -> Result<Numbers, ConfWhy>
+    ensures { result ≡ numbers_of (entries_in slave.entry) }
 {
     Ok(Numbers {
         channels: field(b"channels", slave)?,
@@ -274,8 +272,8 @@ fn card_of(numbers: &Numbers) -> Result<Card, ConfWhy>
 
 /// The device of this name, or why there is none.
 #[tactic(auto, unfolding(crate::specs::Device::device_by))]
-pub fn device_by(root: &Conf, name: &[u8]) -> Result<Device, ConfWhy>
-    ensures value { result ≡ device_by root.now name.now }
+pub fn device_by(root: Group<'_>, name: &[u8]) -> Result<Device, ConfWhy>
+    ensures value { result ≡ device_by (entries_in root.entry) name.now }
     ensures card { IfOk result (λ d. IsCard d.channels d.rate d.period d.ring) }
 {
     let definition = defined(b"pcm", name, root)?;

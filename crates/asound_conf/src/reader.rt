@@ -1,32 +1,36 @@
 //! The reader of a configuration text.
-ghost use Rattle.std.specs.Prelude.{◌≡◌, ◌<◌, ◌+◌, ◌^◌, length, count_by, ◌==◌, ◌≤◌};
+ghost use Rattle.std.specs.Prelude.{◌≡◌, ◌<◌, ◌+◌, ◌^◌, length, ◌≤◌};
 ghost use Rattle.asound_conf.specs.Grammar.{conf_of, last_line, meaning, start};
 ghost use Rattle.asound_conf.specs.Reading.{Reads};
+ghost use Rattle.asound_conf.specs.Start.{AreAt, AreBefore, IsAt, IsBefore};
 ghost use Rattle.asound_conf.specs.Token.{tokens};
 
 use crate::conf::Conf;
 use crate::error::{ConfError, ConfWhy};
 use crate::reading::Reading;
-use crate::token::next_token;
+use crate::token::{Lexeme, Token, next_token};
 use std::alloc::Global;
 
-/// How many line feeds a text has.
-fn count_feeds(text: &[u8]) -> usize
-    ensures value { result ≡ count_by (λ b. b == 10) text.now }
-    ensures bound { result ≤ length text.now }
+/// Where some bytes are in a text, which ends with them, some others and this rest.
+fn start_before(text: &[u8], rest: &[u8], after: usize, bytes: &[u8]) -> u32
+    requires small { length text.now < 2 ^ 32 }
+    requires before { AreBefore text.now rest.now after bytes.now }
+    ensures { AreAt text.now result bytes.now }
 {
-    text.iter().filter(|b| **b == b'\n').count()
+    (text.len() - (bytes.len() + after + rest.len())) as u32
 }
 
-/// The number of a text's last line. A line feed at the very end begins no line.
-fn last_line(text: &[u8]) -> u32
-    requires { length text.now < 2 ^ 31 }
-    ensures { result ≡ last_line text.now }
+/// Where the bytes of a token are in a text, which ends with them, the quote behind them, and what follows.
+fn start_of(text: &[u8], lexeme: Lexeme<'_>) -> u32
+    requires small { length text.now < 2 ^ 32 }
+    requires before { IsBefore text.now lexeme.rest.now lexeme.token }
+    ensures { IsAt text.now result lexeme.entry.token }
 {
-    if text.is_empty() {
-        return 1;
+    match lexeme.token {
+        Token::Word(word) => start_before(text, lexeme.rest, 0, word),
+        Token::Quoted(quoted) => start_before(text, lexeme.rest, 1, quoted),
+        Token::Mark(_) | Token::Bad(_) => 0,
     }
-    count_feeds(&text[..text.len() - 1]) as u32 + 1
 }
 
 /// The group of a text that isn't too long.
@@ -34,24 +38,29 @@ fn read_tokens(alloc: Global, text: &[u8]) -> Result<Conf, ConfError>
     requires { length text.now < 2 ^ 31 }
     ensures { Reads result (meaning start (last_line text.now) (tokens 0 1 text.now)) }
 {
-    let mut reading = Reading::new(alloc);
+    let mut reading = match Reading::new(alloc, text) {
+        Ok(reading) => reading,
+        Err(_) => {
+            return Err(ConfError {
+                line: 0,
+                why: ConfWhy::Memory,
+            });
+        }
+    };
     let mut line = 1;
     let mut rest = text;
     while let Some(lexeme) = next_token(line, rest) {
-        if let Err(why) = reading.take(alloc, lexeme.line, lexeme.token) {
+        let start = start_of(text, lexeme);
+        if let Err(why) = reading.take(lexeme.line, lexeme.token, start) {
             return Err(ConfError {
                 line: lexeme.line,
                 why,
             });
         }
-        let behind = match reading.take_values(alloc, lexeme.line, lexeme.rest) {
-            Ok(behind) => behind,
-            Err(error) => return Err(error),
-        };
-        line = behind.0;
-        rest = behind.1;
+        line = lexeme.line;
+        rest = lexeme.rest;
     }
-    reading.finish(last_line(text))
+    reading.finish()
 }
 
 /// Reads a configuration text, as alsa-lib's asound.conf and .asoundrc are (its `conf.c` describes the form).
@@ -82,11 +91,10 @@ fn read_tokens(alloc: Global, text: &[u8]) -> Result<Conf, ConfError>
 /// - `Value`: a mark other than `{` and `[`, or the text's end, is where a value must be.
 /// - `Deep`: a token needs groups within each other more than 16 deep, the text's own counted.
 /// - `Kind`: a text would be put where a group is, or a group where a text is.
-/// - `Memory`: memory ran out at this line.
+/// - `Memory`: memory ran out at this line, or on line 0 before the first.
 ///
-/// A text is read in time that goes with its length: a group of 16 names or more has an index of them, if they aren't
-/// 0, 1 and so on, as those of `[ ]`. Names whose hashes are the same, and many removals by `!` in one large group, take
-/// longer.
+/// A text is read in time that goes with its length: all names are in one table of hashes. Names whose hashes are the same
+/// take longer.
 #[tactic(auto, unfolding(crate::specs::Grammar::conf_of))]
 pub fn read_conf(alloc: Global, text: &[u8]) -> Result<Conf, ConfError>
     // The answer is what the text means, or its first defect, unless memory ran out.

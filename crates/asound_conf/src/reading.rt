@@ -1,100 +1,125 @@
 //! What each token does at its place.
-ghost use Rattle.std.specs.Prelude.{◌≡◌, ◌≤◌, IfOk, length, reverse};
-ghost use Rattle.std.specs.Fmt.{decimal};
-ghost use Rattle.asound_conf.specs.Key.{named};
-ghost use Rattle.asound_conf.specs.Nesting.{parts_owed, path_of};
+ghost use Rattle.std.specs.Prelude.{◌≡◌, ◌≤◌, ◌<◌, ◌+◌, ◌^◌, drop, length};
+ghost use Rattle.asound_conf.specs.Parts.{parts_in};
+ghost use Rattle.asound_conf.specs.Opening.{key_cause};
+ghost use Rattle.asound_conf.specs.Rows.{group_of};
 
-use crate::bracket::{Around, Awaits, Bracket};
+use crate::bracket::{Awaits, Bracket};
+use crate::cell::{Name, Span};
 use crate::conf::Conf;
 use crate::error::{ConfError, ConfWhy};
 use crate::group::{meets_text, put};
-use crate::list::{Listing, take_values};
-use crate::nested::{put_group, take_group};
-use crate::part::{Part, begins, key_defect, named, push_parts};
-use crate::text::ConfText;
+use crate::line::last_line;
+use crate::part::{Part, begins, key_defect, push_name, push_parts};
+use crate::table::Table;
 use crate::token::{Mark, Token};
-use itoa::Buffer;
 use std::alloc::{AllocError, Global};
-use std::mem;
 
 /// Groups may be within each other this deep, the text's own counted.
 const DEEPEST: usize = 16;
 
-/// Where a reader of tokens is. Each group that is open was taken out of the one around it, so that its items are put
-/// with no walk from the text's own group.
+/// Where a reader of tokens is.
 #[derive(Drop)]
 pub struct Reading {
-    /// The innermost group that is open, so far.
-    group: Conf,
-    /// The parts of a key that lead from there to the place of what comes next.
+    /// The nodes so far.
+    table: Table,
+    /// The parts of keys that lead to the innermost group that is open, and behind them those of a key that lead from there
+    /// to the place of what comes next.
     path: Vec<Part>,
     /// The innermost bracket that is open, or the text itself.
     here: Bracket,
-    /// The brackets around it with their groups, the outermost first.
-    outer: Vec<Around>,
+    /// The brackets around it, the outermost first.
+    outer: Vec<Bracket>,
     /// What may come next.
     awaits: Awaits,
-    /// How many parts of keys lead to the innermost group.
-    names: usize,
-    ghost depth: { names ≡ length (path_of (reverse outer.items)) },
-    ghost room: { names ≤ 16 },
-    ghost keyed: { parts_owed awaits ≤ length path.items },
 }
 
-/// The part whose name is a number.
-fn numbered(alloc: Global, number: u32) -> Result<Part, AllocError>
-    ensures { IfOk result (λ part. part ≡ named (decimal number)) }
+/// The parts of a key, which are behind so many others.
+fn key_behind(path: &[Part], names: usize) -> &[Part]
+    requires { names ≤ length path.now }
+    ensures { result.now ≡ drop names path.now }
 {
-    let mut buffer = Buffer::new();
-    named(alloc, buffer.format(number).as_bytes())
+    &path[names..]
+}
+
+/// Why a key of these parts is refused within this bracket.
+fn key_cause(table: &Table, here: Bracket, key: &[Part]) -> Option<ConfWhy>
+    ensures { result ≡ key_cause here.names (parts_in table.now.text key.now)
+        (group_of here.group table.now.rows) }
+{
+    if let Some(why) = key_defect(table.text(), key) {
+        return Some(why);
+    }
+    if key.len() > DEEPEST || here.names > DEEPEST - key.len() {
+        return Some(ConfWhy::Deep);
+    }
+    if meets_text(table, here.group, key) {
+        return Some(ConfWhy::Kind);
+    }
+    None
 }
 
 impl Reading {
-    ghost use Rattle.std.specs.Prelude.{◌+◌, ◌∷◌, [], ◌++◌, drop, IfErr, IfSome, IsTrue, Ok, ℕ, ◌<◌, ◌^◌, not, if◌then◌else◌};
+    ghost use Rattle.std.specs.Prelude.{◌∷◌, [], IfOk, OnOk, IsTrue, IsFalse, Some, None, Ok, ℕ, not, if◌then◌else◌};
     ghost use Rattle.asound_conf.specs.Answer.{Leads};
-    ghost use Rattle.asound_conf.specs.Grammar.{at_number, close_group, close_to, equals_at, finished, meaning, misplaced, open_at, open_group, put_key, put_text, separator_at, start, step, take_mark, take_text, value_place};
-    ghost use Rattle.asound_conf.specs.Key.{key_defect, word_parts};
-    ghost use Rattle.asound_conf.specs.Listing.{IsWithin};
-    ghost use Rattle.asound_conf.specs.Reading.{Places, Reads, key_checked, state_of};
-    ghost use Rattle.asound_conf.specs.Token.{token_of, tokens};
+    ghost use Rattle.asound_conf.specs.Grammar.{at_number, close_group, close_to, equals_at, finished, last_line, misplaced, open_at, open_group, put_key, put_text, separator_at, start, step, take_mark, take_text, value_place};
+    ghost use Rattle.asound_conf.specs.Key.{key_defect, named, word_parts};
+    ghost use Rattle.asound_conf.specs.Reading.{IsBeforeKey, IsReading, Places, Reads, before_key, key_of, state_of};
+    ghost use Rattle.asound_conf.specs.Start.{AreAt, IsAt};
+    ghost use Rattle.asound_conf.specs.Table.{span_in};
+    ghost use Rattle.asound_conf.specs.Token.{token_of};
 
-    /// A reader before the first token.
-    pub fn new(alloc: Global) -> Reading
-        ensures { state_of result ≡ start }
+    /// A reader before the first token of a text.
+    pub fn new(alloc: Global, text: &[u8]) -> Result<Reading, AllocError>
+        ensures start { IfOk result (λ r. state_of r ≡ start) }
+        ensures valid { IfOk result (λ r. IsReading r) }
+        ensures text { IfOk result (λ r. r.table.text ≡ text.now) }
     {
-        Reading {
-            group: Conf::new(alloc),
+        Ok(Reading {
+            table: Table::new(alloc, text)?,
             path: Vec::new(alloc),
             here: Bracket {
                 line: 0,
                 array: false,
                 values: 0,
+                names: 0,
+                group: 0,
             },
             outer: Vec::new(alloc),
             awaits: Awaits::Item { separator: false },
-            names: 0,
-        }
+        })
     }
 
     /// Goes to where the next value of `[ ]` is put. The count of values can't pass its type's end in a text that is
     /// short enough to be read.
-    fn go_to_number(&mut self, alloc: Global) -> Result<(), ConfWhy>
-        ensures { Leads result (state_of self.new) (Ok (at_number (state_of self.old))) }
+    fn go_to_number(&mut self) -> Result<(), ConfWhy>
+        requires valid { IsReading self.old }
+        requires none { length (key_of self.old) ≡ 0 }
+        ensures leads { Leads result (state_of self.new) (Ok (at_number (state_of self.old))) }
+        ensures key { IfOk result (λ _. 1 ≤ length (key_of self.new)) }
+        ensures valid { OnOk result (IsReading self.new) }
+        ensures text { self.new.table.text ≡ self.old.table.text }
     {
         let values = self.here.values;
         let next = values.checked_add(1).ok_or(ConfWhy::Memory)?;
-        let part = numbered(alloc, values)?;
-        self.path.push(part)?;
+        self.path.push(Part {
+            removes: false,
+            name: Name::Number(values),
+        })?;
         self.here.values = next;
         self.awaits = Awaits::Value { equals: false };
         Ok(())
     }
 
     /// Goes to where a value is put, and says whether one can come: behind a key, or within `[ ]`.
-    fn go_to_value(&mut self, alloc: Global) -> Result<bool, ConfWhy>
+    fn go_to_value(&mut self) -> Result<bool, ConfWhy>
+        requires valid { IsReading self.old }
         ensures place { Places result (state_of self.old) (state_of self.new)
             (value_place (state_of self.old) self.old.awaits self.old.here.array) }
-        ensures key { IfOk result (λ can. IsTrue can → 1 ≤ length self.new.path.items) }
+        ensures key { IfOk result (λ can. IsTrue can → 1 ≤ length (key_of self.new)) }
+        ensures none { IfOk result (λ can. IsFalse can → length (key_of self.new) ≡ 0) }
+        ensures valid { OnOk result (IsReading self.new) }
+        ensures text { self.new.table.text ≡ self.old.table.text }
     {
         if let Awaits::Value { .. } = self.awaits {
             return Ok(true);
@@ -102,150 +127,187 @@ impl Reading {
         if !self.here.array {
             return Ok(false);
         }
-        self.go_to_number(alloc)?;
+        self.go_to_number()?;
         Ok(true)
     }
 
     /// Puts a text at its place.
-    fn put_text(&mut self, alloc: Global, text: &[u8]) -> Result<(), ConfWhy>
-        requires { 1 ≤ length self.old.path.items }
-        ensures { Leads result (state_of self.new) (put_text (state_of self.old) text.now) }
+    fn put_text(&mut self, text: Span) -> Result<(), ConfWhy>
+        requires valid { IsReading self.old }
+        requires some { 1 ≤ length (key_of self.old) }
+        ensures leads { Leads result (state_of self.new)
+            (put_text (state_of self.old) (span_in self.old.table.text text)) }
+        ensures valid { OnOk result (IsReading self.new) }
+        ensures text { self.new.table.text ≡ self.old.table.text }
     {
-        let text = ConfText::copied(alloc, text)?;
-        let answer = put(alloc, &mut self.group, self.path.as_slice(), Some(text));
+        let key = key_behind(self.path.as_slice(), self.here.names);
+        let answer = put(&mut self.table, self.here.group, key, Some(text));
         self.awaits = Awaits::Item { separator: true };
-        self.path.clear();
-        answer
+        self.path.truncate(self.here.names);
+        match answer {
+            Ok(_) => Ok(()),
+            Err(why) => Err(why),
+        }
     }
 
-    /// Takes the key whose parts are the last of the path, behind the first `from` of it.
-    fn check_key(&mut self, from: usize) -> Result<(), ConfWhy>
-        requires within { from ≤ length self.old.path.items }
-        requires key { 1 ≤ length self.old.path.items }
-        ensures { Leads result (state_of self.new)
-            (key_checked (state_of self.old) (key_defect (drop from self.old.path.items))) }
+    /// Takes a key, whose parts are behind those of the path.
+    fn take_key(&mut self) -> Result<(), ConfWhy>
+        requires valid { IsBeforeKey self.old }
+        requires some { 1 ≤ length (key_of self.old) }
+        ensures leads { Leads result (state_of self.new) (put_key (before_key self.old)
+            (key_defect (parts_in self.old.table.text (key_of self.old)))
+            (parts_in self.old.table.text (key_of self.old))) }
+        ensures valid { OnOk result (IsReading self.new) }
+        ensures text { self.new.table.text ≡ self.old.table.text }
     {
-        if let Some(why) = key_defect(&self.path.as_slice()[from..]) {
+        let key = key_behind(self.path.as_slice(), self.here.names);
+        if let Some(why) = key_cause(&self.table, self.here, key) {
             return Err(why);
-        }
-        if self.path.len() > DEEPEST - self.names {
-            return Err(ConfWhy::Deep);
-        }
-        if meets_text(&self.group, self.path.as_slice()) {
-            return Err(ConfWhy::Kind);
         }
         self.awaits = Awaits::Value { equals: true };
         Ok(())
     }
 
-    /// Takes a word as a key.
-    fn take_key(&mut self, alloc: Global, word: &[u8]) -> Result<(), ConfWhy>
-        ensures { Leads result (state_of self.new)
+    /// Takes a word at this place of the text as a key.
+    fn take_word_key(&mut self, word: &[u8], start: u32) -> Result<(), ConfWhy>
+        requires valid { IsReading self.old }
+        requires none { length (key_of self.old) ≡ 0 }
+        requires at { AreAt self.old.table.text start word.now }
+        ensures leads { Leads result (state_of self.new)
             (put_key (state_of self.old) (key_defect (word_parts word.now)) (word_parts word.now)) }
+        ensures valid { OnOk result (IsReading self.new) }
+        ensures text { self.new.table.text ≡ self.old.table.text }
     {
-        let from = self.path.len();
-        push_parts(alloc, &mut self.path, word)?;
-        self.check_key(from)
+        push_parts(&mut self.path, word, start)?;
+        self.take_key()
     }
 
-    /// Takes a quoted text as a key of one part.
-    fn take_quoted_key(&mut self, alloc: Global, text: &[u8]) -> Result<(), ConfWhy>
-        ensures { Leads result (state_of self.new) (put_key (state_of self.old)
+    /// Takes a quoted text at this place of the text as a key of one part.
+    fn take_quoted_key(&mut self, text: &[u8], start: u32) -> Result<(), ConfWhy>
+        requires valid { IsReading self.old }
+        requires none { length (key_of self.old) ≡ 0 }
+        requires at { AreAt self.old.table.text start text.now }
+        ensures leads { Leads result (state_of self.new) (put_key (state_of self.old)
             (key_defect (named text.now ∷ [])) (named text.now ∷ [])) }
+        ensures valid { OnOk result (IsReading self.new) }
+        ensures text { self.new.table.text ≡ self.old.table.text }
     {
-        let from = self.path.len();
-        let part = named(alloc, text)?;
-        self.path.push(part)?;
-        self.check_key(from)
+        push_name(&mut self.path, text, start)?;
+        self.take_key()
     }
 
-    /// Takes a word.
-    fn take_word(&mut self, alloc: Global, word: &[u8]) -> Result<(), ConfWhy>
-        ensures { Leads result (state_of self.new)
+    /// Takes a word at this place of the text.
+    fn take_word(&mut self, word: &[u8], start: u32) -> Result<(), ConfWhy>
+        requires valid { IsReading self.old }
+        requires at { AreAt self.old.table.text start word.now }
+        ensures leads { Leads result (state_of self.new)
             (take_text (state_of self.old) (word_parts word.now) word.now) }
+        ensures valid { OnOk result (IsReading self.new) }
+        ensures text { self.new.table.text ≡ self.old.table.text }
     {
-        if self.go_to_value(alloc)? {
-            self.put_text(alloc, word)
+        if self.go_to_value()? {
+            self.put_text(Span {
+                start,
+                count: word.len() as u32,
+            })
         } else {
-            self.take_key(alloc, word)
+            self.take_word_key(word, start)
         }
     }
 
-    /// Takes a quoted text.
-    fn take_quoted(&mut self, alloc: Global, text: &[u8]) -> Result<(), ConfWhy>
-        ensures { Leads result (state_of self.new)
+    /// Takes a quoted text at this place of the text.
+    fn take_quoted(&mut self, text: &[u8], start: u32) -> Result<(), ConfWhy>
+        requires valid { IsReading self.old }
+        requires at { AreAt self.old.table.text start text.now }
+        ensures leads { Leads result (state_of self.new)
             (take_text (state_of self.old) (named text.now ∷ []) text.now) }
+        ensures valid { OnOk result (IsReading self.new) }
+        ensures text { self.new.table.text ≡ self.old.table.text }
     {
-        if self.go_to_value(alloc)? {
-            self.put_text(alloc, text)
+        if self.go_to_value()? {
+            self.put_text(Span {
+                start,
+                count: text.len() as u32,
+            })
         } else {
-            self.take_quoted_key(alloc, text)
+            self.take_quoted_key(text, start)
         }
     }
 
     /// Opens a group or an array at its place.
-    fn open_group(&mut self, alloc: Global, line: u32, array: bool) -> Result<(), ConfWhy>
-        requires { 1 ≤ length self.old.path.items }
-        ensures { Leads result (state_of self.new) (open_group (state_of self.old) line array) }
+    fn open_group(&mut self, line: u32, array: bool) -> Result<(), ConfWhy>
+        requires valid { IsReading self.old }
+        requires some { 1 ≤ length (key_of self.old) }
+        ensures leads { Leads result (state_of self.new)
+            (open_group (state_of self.old) line array) }
+        ensures valid { OnOk result (IsReading self.new) }
+        ensures text { self.new.table.text ≡ self.old.table.text }
     {
-        let count = self.path.len();
-        if count >= DEEPEST - self.names {
+        if self.path.len() >= DEEPEST {
             return Err(ConfWhy::Deep);
         }
-        let inner = match take_group(alloc, &mut self.group, self.path.as_slice()) {
-            Ok(inner) => inner,
-            Err(why) => return Err(why),
-        };
-        self.awaits = Awaits::Item { separator: false };
-        let around = Around {
-            bracket: self.here,
-            group: mem::replace(&mut self.group, inner),
-            parts: mem::replace(&mut self.path, Vec::new(alloc)),
-        };
-        self.outer.push(around)?;
-        self.names += count;
+        let key = key_behind(self.path.as_slice(), self.here.names);
+        let group = put(&mut self.table, self.here.group, key, None)?;
+        self.outer.push(Bracket {
+            line: self.here.line,
+            array: self.here.array,
+            values: self.here.values,
+            names: self.here.names,
+            group: self.here.group,
+        })?;
         self.here = Bracket {
             line,
             array,
             values: 0,
+            names: self.path.len(),
+            group,
         };
+        self.awaits = Awaits::Item { separator: false };
         Ok(())
     }
 
     /// Takes a mark that opens a group or an array.
-    fn open(&mut self, alloc: Global, line: u32, array: bool) -> Result<(), ConfWhy>
-        ensures { Leads result (state_of self.new)
-            (open_at (value_place (state_of self.old) self.old.awaits self.old.here.array) line array) }
+    fn open(&mut self, line: u32, array: bool) -> Result<(), ConfWhy>
+        requires valid { IsReading self.old }
+        ensures leads { Leads result (state_of self.new)
+            (open_at (value_place (state_of self.old) self.old.awaits self.old.here.array)
+            line array) }
+        ensures valid { OnOk result (IsReading self.new) }
+        ensures text { self.new.table.text ≡ self.old.table.text }
     {
-        if self.go_to_value(alloc)? {
-            self.open_group(alloc, line, array)
+        if self.go_to_value()? {
+            self.open_group(line, array)
         } else {
             Err(ConfWhy::Key)
         }
     }
 
-    /// Goes to what is around the innermost group, which is put there again.
-    fn leave(&mut self, alloc: Global) -> Result<(), ConfWhy>
-        ensures { Leads result (state_of self.new)
+    /// Goes to what is around the innermost group.
+    fn leave(&mut self) -> Result<(), ConfWhy>
+        requires valid { IsReading self.old }
+        requires none { length (key_of self.old) ≡ 0 }
+        ensures leads { Leads result (state_of self.new)
             (close_to (state_of self.old) (state_of self.old).outer) }
+        ensures valid { OnOk result (IsReading self.new) }
+        ensures text { self.new.table.text ≡ self.old.table.text }
     {
         let Some(around) = self.outer.pop() else {
             return Err(ConfWhy::Close);
         };
-        self.names -= around.parts.len();
+        self.path.truncate(around.names);
+        self.here = around;
         self.awaits = Awaits::Item { separator: true };
-        let inner = mem::replace(&mut self.group, around.group);
-        put_group(alloc, &mut self.group, around.parts.as_slice(), inner)?;
-        self.here = around.bracket;
-        self.path = around.parts;
-        self.path.clear();
         Ok(())
     }
 
     /// Takes a mark that closes a group, or an array.
-    fn close(&mut self, alloc: Global, array: bool) -> Result<(), ConfWhy>
-        ensures { Leads result (state_of self.new) (close_group (state_of self.old) self.old.awaits
+    fn close(&mut self, array: bool) -> Result<(), ConfWhy>
+        requires valid { IsReading self.old }
+        ensures leads { Leads result (state_of self.new)
+            (close_group (state_of self.old) self.old.awaits
             (if array then self.old.here.array else not self.old.here.array)) }
+        ensures valid { OnOk result (IsReading self.new) }
+        ensures text { self.new.table.text ≡ self.old.table.text }
     {
         if let Awaits::Value { .. } = self.awaits {
             return Err(ConfWhy::Value);
@@ -253,7 +315,7 @@ impl Reading {
         if self.here.array != array {
             return Err(ConfWhy::Close);
         }
-        self.leave(alloc)
+        self.leave()
     }
 
     /// What a mark is that has no place here.
@@ -269,7 +331,11 @@ impl Reading {
 
     /// Takes an `=`.
     fn equals(&mut self) -> Result<(), ConfWhy>
-        ensures { Leads result (state_of self.new) (equals_at (state_of self.old) self.old.awaits) }
+        requires valid { IsReading self.old }
+        ensures leads { Leads result (state_of self.new)
+            (equals_at (state_of self.old) self.old.awaits) }
+        ensures valid { OnOk result (IsReading self.new) }
+        ensures text { self.new.table.text ≡ self.old.table.text }
     {
         match self.awaits {
             Awaits::Value { equals: true } => {
@@ -283,7 +349,11 @@ impl Reading {
 
     /// Takes a `,` or `;`.
     fn separator(&mut self) -> Result<(), ConfWhy>
-        ensures { Leads result (state_of self.new) (separator_at (state_of self.old) self.old.awaits) }
+        requires valid { IsReading self.old }
+        ensures leads { Leads result (state_of self.new)
+            (separator_at (state_of self.old) self.old.awaits) }
+        ensures valid { OnOk result (IsReading self.new) }
+        ensures text { self.new.table.text ≡ self.old.table.text }
     {
         match self.awaits {
             Awaits::Item { separator: true } => {
@@ -296,86 +366,49 @@ impl Reading {
     }
 
     /// Takes a mark.
-    fn take_mark(&mut self, alloc: Global, line: u32, mark: Mark) -> Result<(), ConfWhy>
-        ensures { Leads result (state_of self.new) (take_mark (state_of self.old) line mark) }
+    fn take_mark(&mut self, line: u32, mark: Mark) -> Result<(), ConfWhy>
+        requires valid { IsReading self.old }
+        ensures leads { Leads result (state_of self.new) (take_mark (state_of self.old) line mark) }
+        ensures valid { OnOk result (IsReading self.new) }
+        ensures text { self.new.table.text ≡ self.old.table.text }
     {
         match mark {
-            Mark::OpenBrace => self.open(alloc, line, false),
-            Mark::OpenBracket => self.open(alloc, line, true),
-            Mark::CloseBrace => self.close(alloc, false),
-            Mark::CloseBracket => self.close(alloc, true),
+            Mark::OpenBrace => self.open(line, false),
+            Mark::OpenBracket => self.open(line, true),
+            Mark::CloseBrace => self.close(false),
+            Mark::CloseBracket => self.close(true),
             Mark::Equals => self.equals(),
             Mark::Comma | Mark::Semicolon => self.separator(),
         }
     }
 
-    /// Takes a token of this line. After an `Err` the reader is of no more use.
-    pub fn take(&mut self, alloc: Global, line: u32, token: Token<'_>) -> Result<(), ConfWhy>
-        ensures { Leads result (state_of self.new)
+    /// Takes a token of this line, whose bytes are at this place of the text. After an `Err` the reader is of no more use.
+    pub fn take(&mut self, line: u32, token: Token<'_>, start: u32) -> Result<(), ConfWhy>
+        requires valid { IsReading self.old }
+        requires given { IsAt self.old.table.text start token }
+        ensures leads { Leads result (state_of self.new)
             (step (state_of self.old) line (token_of token.entry)) }
+        ensures valid { OnOk result (IsReading self.new) }
+        ensures text { self.new.table.text ≡ self.old.table.text }
     {
         match token {
             Token::Word(word) => {
                 if begins(word, b'<') {
                     return Err(ConfWhy::Include);
                 }
-                self.take_word(alloc, word)
+                self.take_word(word, start)
             }
-            Token::Quoted(text) => self.take_quoted(alloc, text),
-            Token::Mark(mark) => self.take_mark(alloc, line, mark),
+            Token::Quoted(text) => self.take_quoted(text, start),
+            Token::Mark(mark) => self.take_mark(line, mark),
             Token::Bad(why) => Err(why),
         }
     }
 
-    /// Where the reader is among values, if it is where one can come, or a `,` or `;` behind one.
-    fn listing<'a>(&self, line: u32, text: &'a [u8]) -> Option<Listing<'a>>
-        ensures place { IfSome result (λ at. (at.line ≡ line) × (at.rest.now ≡ text.now)) }
-        ensures within { IfSome result (λ at. IsWithin (state_of self.now) at) }
-    {
-        let Awaits::Item { separator } = self.awaits else {
-            return None;
-        };
-        if !self.here.array || !self.path.is_empty() {
-            return None;
-        }
-        Some(Listing {
-            line,
-            rest: text,
-            values: self.here.values,
-            separator,
-            shallow: self.names + 1 < DEEPEST,
-        })
-    }
-
-    /// Takes the values of `[ ]` at the front of a text, or as many of them as are new, and gives the text that follows, with
-    /// its line. It refuses for memory alone.
-    pub fn take_values<'a>(
-        &mut self,
-        alloc: Global,
-        line: u32,
-        text: &'a [u8],
-    ) -> Result<(u32, &'a [u8]), ConfError>
-        requires { line + length text.now < 2 ^ 32 }
-        ensures same { IfOk result (λ to. (last : ℕ)
-            → meaning (state_of self.old) last (tokens 0 line text.now)
-            ≡ meaning (state_of self.new) last (tokens 0 to.0 to.1.now)) }
-        ensures shorter { IfOk result (λ to. to.0 + length to.1.now ≤ line + length text.now) }
-        ensures memory { IfErr result (λ e. e.why ≡ ConfWhy.Memory) }
-    {
-        let Some(from) = self.listing(line, text) else {
-            return Ok((line, text));
-        };
-        let to = take_values(alloc, &mut self.group, from)?;
-        self.here.values = to.values;
-        self.awaits = Awaits::Item {
-            separator: to.separator,
-        };
-        Ok((to.line, to.rest))
-    }
-
-    /// The group at the text's end, whose last line has this number.
-    pub fn finish(self, last_line: u32) -> Result<Conf, ConfError>
-        ensures { Reads result (finished (state_of self) last_line (state_of self).outer self.awaits) }
+    /// The group at the text's end.
+    pub fn finish(self) -> Result<Conf, ConfError>
+        requires { length self.table.text < 2 ^ 31 }
+        ensures { Reads result (finished (state_of self) (last_line self.table.text)
+            (state_of self).outer self.awaits) }
     {
         if !self.outer.is_empty() {
             return Err(ConfError {
@@ -385,10 +418,10 @@ impl Reading {
         }
         if let Awaits::Value { .. } = self.awaits {
             return Err(ConfError {
-                line: last_line,
+                line: last_line(self.table.text()),
                 why: ConfWhy::Value,
             });
         }
-        Ok(self.group)
+        Ok(Conf::of(self.table))
     }
 }

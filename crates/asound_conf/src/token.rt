@@ -1,6 +1,7 @@
 //! The tokens of a configuration text, lent from it.
 ghost use Rattle.std.specs.Prelude.{◌≡◌, ℕ, ◌+◌, ◌<◌, ◌≤◌, ◌^◌, ◌==◌, ◌∷◌, [], length, option_map, IfNone, IfSome, drop, IsTrue, position, slice_index, true, false, ◌||◌};
 ghost use Rattle.std.specs.List.{list_any};
+ghost use Rattle.asound_conf.specs.Start.{IsBefore, IsSuffix};
 ghost use Rattle.asound_conf.specs.Token.{end_at, ends_word, is_blank, is_control, is_quote, is_skipped, is_word, line_after, mark_of, quoted_end, quoted_size, quoted_token, token_at, token_end, token_of, tokens};
 
 use crate::error::ConfWhy;
@@ -97,11 +98,13 @@ fn first_quote(quote: u8, text: &[u8]) -> Option<usize>
 
 /// Where a word at the front of a text ends.
 fn word_end(text: &[u8]) -> usize
+    requires some { 0 < length text.now }
+    requires word { is_word (slice_index text.now 0) ≡ true }
     ensures value { result ≡ end_at ends_word text.now }
     ensures within { result ≤ length text.now }
 {
-    match first_after_word(text) {
-        Some(end) => end,
+    match first_after_word(&text[1..]) {
+        Some(end) => end + 1,
         None => text.len(),
     }
 }
@@ -224,6 +227,7 @@ fn after_skipped(text: &[u8]) -> &[u8]
     ensures value { result.now ≡ drop (token_end text.now) text.now }
     ensures moves { 0 < token_end text.now }
     ensures shorter { length result.now < length text.now }
+    ensures suffix { IsSuffix text.now result.now }
 {
     &text[skipped_end(text)..]
 }
@@ -238,6 +242,8 @@ fn first_lexeme(line: u32, text: &[u8]) -> Lexeme<'_>
     ensures rest { result.rest.now ≡ drop (token_end text.now) text.now }
     ensures moves { 0 < token_end text.now }
     ensures shorter { length result.rest.now < length text.now }
+    ensures before { IsBefore text.now result.rest.now result.token }
+    ensures suffix { IsSuffix text.now result.rest.now }
 {
     let (token, end) = token_at(text);
     Lexeme {
@@ -270,6 +276,8 @@ pub fn next_token(line: u32, text: &[u8]) -> Option<Lexeme<'_>>
     ensures some { IfSome result (λ l. tokens 0 line text.now
         ≡ record { line = l.line; token = token_of l.token } ∷ tokens 0 l.line l.rest.now) }
     ensures shorter { IfSome result (λ l. l.line + length l.rest.now < line + length text.now) }
+    ensures suffix { IfSome result (λ l. IsSuffix text.now l.rest.now) }
+    ensures before { IfSome result (λ l. IsBefore text.now l.rest.now l.token) }
 {
     let mut line = line;
     let mut rest = text;

@@ -3,25 +3,26 @@ use Rattle.std.proofs.lemmas.List.{length-set}
 use Rattle.std.specs.Fmt.{decimal}
 use Rattle.std.specs.Prelude.{option_map}
 use Rattle.asound_conf.specs.Device.{number_in, count_of}
+use Rattle.asound_conf.specs.Node.{entries_in}
 use Rattle.asound_conf.specs.Tree.{get}
 use Rattle.asound_conf.proofs.NumberedValues.{AreFirst-none, AreFirst-kept, AreFirst-more, values_of-None}
 use Rattle.asound_conf.proofs.channels.values_of.Goals as goal
 use Rattle.asound_conf.proofs.channels.values_of.Goals.{then-place-lt9, else-place-lt9}
 
 pub loop-place-init : goal.loop-place-init
-loop-place-init c = (AreFirst-none c.args.group.now (0 ∷ 0 ∷ 0 ∷ 0 ∷ 0 ∷ 0 ∷ 0 ∷ 0 ∷ 0 ∷ []), refl)
+loop-place-init c = (AreFirst-none (entries_in c.args.group) (0 ∷ 0 ∷ 0 ∷ 0 ∷ 0 ∷ 0 ∷ 0 ∷ 0 ∷ 0 ∷ []), refl)
 
 pub returns-in_err-value-clause-values : goal.returns-in_err-value-clause-values
 returns-in_err-value-clause-values c =
-    let g = c.args.group.now in
+    let g = entries_in c.args.group in
     let none : number_in (get (decimal c.loop-place.place) g) ≡ None = ap number_in (sym c.get_number.ensures) ∙ sym c.in_err-value.ensures in
-    let below : c.loop-place.place < count_of g = omega (arith, c.count_of-count.ensures.value) in
+    let below : c.loop-place.place < count_of g = omega (arith, c.count_of-count.ensures) in
     let nothing = values_of-None g c.loop-place.place (count_of g) none below in
     ap (option_map (λ (v : List ℕ × ℕ). take v.1 v.0)) c.from_residual.ensures ∙ sym (ap (option_map (λ (list : List ℕ). take 9 list)) nothing)
 
 pub loop-place-preserved : goal.loop-place-preserved
 loop-place-preserved c =
-    let g = c.args.group.now in
+    let g = entries_in c.args.group in
     let n = c.loop-place.place in
     let kept = c.loop-place.values in
     let value = c.in_ok-value.value in

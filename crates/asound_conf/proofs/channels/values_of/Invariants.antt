@@ -1,6 +1,7 @@
 use Rattle.std.proofs.Common.{◌≡◌, length}
+use Rattle.asound_conf.specs.Node.{entries_in}
 use Rattle.asound_conf.proofs.NumberedValues.{AreFirst}
 use Rattle.asound_conf.proofs.channels.values_of.Given as goal
 
 abbrev pub invariant-loop-place : goal.invariant-loop-place
-invariant-loop-place l = AreFirst l.group l.place l.values × (length l.values ≡ 9)
+invariant-loop-place l = AreFirst (entries_in l.group) l.place l.values × (length l.values ≡ 9)

@@ -1,23 +1,45 @@
-use Rattle.std.proofs.Common.{◌≡◌, false, arith, sym, ◌∙◌, ap, subst, ◌+◌, suc, take, drop, ◌++◌, add-one}
-use Rattle.asound_conf.specs.Index.{IsIndex}
-use Rattle.asound_conf.specs.Tree.{without, has}
-use Rattle.asound_conf.specs.View.{entries_of}
-use Rattle.asound_conf.proofs.Indexes.{IsIndex-remove}
-use Rattle.asound_conf.proofs.Places.{without-IsLast, without-none}
+use Rattle.std.proofs.Common.{◌≡◌, ◌<◌, ℕ, List, None, refl, sym, ◌∙◌, ap, ap₂, subst, set}
+use Rattle.asound_conf.specs.Rows.{Alters, Contents, IsAbsent, IsNode, Row, group_of, row_at}
+use Rattle.asound_conf.specs.Table.{name_in}
+use Rattle.asound_conf.specs.Tree.{without}
+use Rattle.asound_conf.proofs.Groups.{Alters-both, Alters-same, group-removed, has-IsAbsent, members, members-removed}
+use Rattle.asound_conf.proofs.Places.{without-none}
+use Rattle.asound_conf.proofs.Rows.{Alters-set, is_in-Some, only-None}
 use Rattle.asound_conf.proofs.group.remove_all.Goals as goal
 
-pub loop-at-preserved : goal.loop-at-preserved
-loop-at-preserved c =
-    let items = c.loop-at.items.items in
-    let at = c.in-Some.at in
-    let left : c.remove.new.self.items ≡ take at items ++ drop (at + 1) items = grind arith in
-    let next : c.remove.new.self.items ≡ take at items ++ drop (suc at) items = left ∙ ap (λ k. take at items ++ drop k items) (add-one at) in
+pub loop-number-init : goal.loop-number-init
+loop-number-init c = record { left = refl; text = refl; alters = Alters-same c.args.group c.args.table.now.rows }
+
+pub loop-number-preserved : goal.loop-number-preserved
+loop-number-preserved c =
+    let q = c.args.group in
+    let rows = c.loop-number.table.rows in
+    let n = c.in-Some.number in
+    let name = name_in c.loop-number.table.text c.args.name in
+    let is : IsNode rows q name n = subst (λ (b : List ℕ). IsNode rows q b n) c.key.ensures c.in-Some.ensures.some in
+    let s : Row = record { parent = None; name = (row_at rows n).name; value = None } in
+    let new : c.remove.new.self.rows ≡ set rows n s = ap (λ (x : Contents). x.rows) c.remove.ensures in
+    let same : c.remove.new.self.text ≡ c.loop-number.table.text = ap (λ (x : Contents). x.text) c.remove.ensures in
     record {
-      left = ap (λ l. without c.args.name.now (entries_of l)) next ∙ without-IsLast c.args.name.now items at (rw c.as_slice.ensures.value at c.in-Some.ensures.some) ∙ c.loop-at.invariant.left;
-      index = subst (λ l. IsIndex c.args.index.now l) (sym next) (IsIndex-remove c.args.index.now items at c.loop-at.invariant.index);
+      left = ap₂ (λ (t : List ℕ) (rs : List Row). without (name_in t c.args.name) (group_of q rs)) same new ∙ group-removed rows q name n s is refl ∙ c.loop-number.invariant.left;
+      text = same ∙ c.loop-number.invariant.text;
+      alters = Alters-both q c.args.table.now.rows rows c.remove.new.self.rows c.loop-number.invariant.alters (subst (λ (rs : List Row). Alters q rows rs) (sym new) (Alters-set q n s rows is.parent (only-None q s refl)));
     }
 
-pub returns-clause-items : goal.returns-clause-items
-returns-clause-items c =
-    let none : has c.args.name.now (entries_of c.loop-at.items.items) ≡ false = grind arith in
-    sym (without-none c.args.name.now (entries_of c.loop-at.items.items) none) ∙ c.loop-at.invariant.left
+pub loop-number-smaller : goal.loop-number-smaller
+loop-number-smaller c =
+    let q = c.args.group in
+    let rows = c.loop-number.table.rows in
+    let n = c.in-Some.number in
+    let is = c.in-Some.ensures.some in
+    let s : Row = record { parent = None; name = (row_at rows n).name; value = None } in
+    let new : c.remove.new.self.rows ≡ set rows n s = ap (λ (x : Contents). x.rows) c.remove.ensures in
+    subst (λ (rs : List Row). members q rs < members q rows) (sym new) (members-removed q n s rows is.inside (is_in-Some q (row_at rows n).parent is.parent) refl)
+
+pub returns-clause-value : goal.returns-clause-value
+returns-clause-value c =
+    let q = c.args.group in
+    let rows = c.loop-number.table.rows in
+    let name = name_in c.loop-number.table.text c.args.name in
+    let none : IsAbsent rows q name = subst (λ (b : List ℕ). IsAbsent rows q b) c.key.ensures c.in_default.ensures.none in
+    sym (without-none name (group_of q rows) (has-IsAbsent rows q name none)) ∙ c.loop-number.invariant.left

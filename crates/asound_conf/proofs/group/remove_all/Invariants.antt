@@ -1,14 +1,16 @@
 use Rattle.std.proofs.Common.{◌≡◌}
-use Rattle.asound_conf.specs.Index.{IsIndex}
+use Rattle.asound_conf.specs.Rows.{Alters, group_of}
+use Rattle.asound_conf.specs.Table.{name_in}
 use Rattle.asound_conf.specs.Tree.{without}
-use Rattle.asound_conf.specs.View.{entries_of}
+use Rattle.asound_conf.proofs.Groups.{members}
 use Rattle.asound_conf.proofs.group.remove_all.Given as goal
 
-abbrev pub invariant-loop-at : goal.invariant-loop-at
-invariant-loop-at l = record {
-  left : without l.name (entries_of l.items.items) ≡ without l.name (entries_of l.initial.items.items);
-  index : IsIndex l.index l.items.items;
+abbrev pub invariant-loop-number : goal.invariant-loop-number
+invariant-loop-number l = record {
+  left : without (name_in l.table.text l.name) (group_of l.group l.table.rows) ≡ without (name_in l.initial.table.text l.name) (group_of l.group l.initial.table.rows);
+  text : l.table.text ≡ l.initial.table.text;
+  alters : Alters l.group l.initial.table.rows l.table.rows;
 }
 
-abbrev pub decreases-loop-at : goal.decreases-loop-at
-decreases-loop-at l = goal.left-loop-at l
+abbrev pub decreases-loop-number : goal.decreases-loop-number
+decreases-loop-number l = members l.group l.table.rows

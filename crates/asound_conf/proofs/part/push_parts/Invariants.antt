@@ -1,11 +1,13 @@
-use Rattle.std.proofs.Common.{◌≡◌, ◌≤◌, ◌++◌, length}
-use Rattle.asound_conf.specs.Key.{word_parts}
+use Rattle.std.proofs.Common.{◌≡◌, ◌<◌, ◌+◌, ◌^◌, List, ℕ, length, take}
+use Rattle.asound_conf.specs.Table.{span_in}
+use Rattle.asound_conf.proofs.PartLists.{IsPushed}
 use Rattle.asound_conf.proofs.part.push_parts.Given as goal
 
 abbrev pub invariant-loop-piece : goal.invariant-loop-piece
 invariant-loop-piece l = record {
-  are : l.parts.items ++ word_parts l.rest ≡ l.fn.parts.items ++ word_parts l.fn.word;
-  longer : length l.fn.parts.items ≤ length l.parts.items;
+  small : l.at + length l.rest < 2 ^ 32;
+  are : (text : List ℕ) → span_in text (record { start = l.fn.start; count = length l.fn.word }) ≡ l.fn.word → IsPushed text l.fn.parts.items l.parts.items l.fn.word l.rest l.at;
+  kept : take (length l.fn.parts.items) l.parts.items ≡ l.fn.parts.items;
 }
 
 abbrev pub decreases-loop-piece : goal.decreases-loop-piece

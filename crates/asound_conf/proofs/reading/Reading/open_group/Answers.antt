@@ -1,42 +1,87 @@
-use Rattle.std.proofs.Common.{◌≡◌, ◌<◌, ◌≤◌, ◌+◌, false, ◌∷◌, [], length, None, Ok, refl, sym, ap, subst, ◌∙◌, arith}
+use Rattle.std.proofs.Common.{◌≡◌, ◌≤◌, ◌<◌, ◌+◌, ℕ, List, ◌∷◌, [], ◌++◌, length, length-append, take, drop, None, Ok, refl, sym, ap, ◌∙◌, subst, false, arith}
 use Rattle.std.specs.Prelude.{reverse}
-use Rattle.std.proofs.lemmas.List.{reverse-append}
-use Rattle.asound_conf.specs.declared.bracket.Around.{Around}
+use Rattle.std.proofs.lemmas.List.{reverse-append, take-append-drop}
+use Rattle.std.proofs.Math.Seq.{drop-length, take-length}
 use Rattle.asound_conf.specs.declared.bracket.Awaits.TheVariants.{Item}
-use Rattle.asound_conf.specs.declared.bracket.Bracket as code
-use Rattle.asound_conf.specs.Answer.{Refuses}
-use Rattle.asound_conf.specs.Grammar.{open_group, settled}
-use Rattle.asound_conf.specs.Listing.{with_group}
-use Rattle.asound_conf.specs.Nesting.{path_of, state_in}
-use Rattle.asound_conf.specs.Place.{placed}
-use Rattle.asound_conf.proofs.Nestings.{open_group-nested, open_group-refused}
+use Rattle.asound_conf.specs.declared.part.Part.{Part}
+use Rattle.asound_conf.specs.Key.{settled}
+use Rattle.asound_conf.specs.Opening.{state_in}
+use Rattle.asound_conf.specs.Parts.{parts_in}
+use Rattle.asound_conf.specs.Place.{meets_text, placed}
+use Rattle.asound_conf.specs.Rows.{group_of}
+use Rattle.asound_conf.specs.Way.{IsWay}
+use Rattle.asound_conf.proofs.Readers.{IsOpen-along, group-open, key-clear, names-least, open_group-state}
 use Rattle.asound_conf.proofs.reading.Reading.open_group.Goals as goal
 
-pub returns-in-Err : goal.returns-in-Err
-returns-in-Err c =
+pub key_behind-key-requires : goal.key_behind-key-requires
+key_behind-key-requires c =
     let r = c.args.self.now in
-    let outer = reverse r.outer.items in
-    let short : length (path_of outer) + length r.path.items < 16 = omega (arith, r.depth, r.room) in
-    let refuses : Refuses c.in-Err.why (placed None r.path.items r.group) = subst (λ p. Refuses c.in-Err.why (placed None p r.group)) c.as_slice.ensures.value c.in-Err.ensures in
-    open_group-refused outer r.group r.path.items r.here r.awaits c.args.line c.args.array c.in-Err.why c.requires short refuses
+    let parts = r.path.items in
+    subst (λ (p : List Part). r.here.names ≤ length p) (sym c.as_slice.ensures.value) (names-least r.table parts (drop r.here.names parts) r.here (reverse r.outer.items) r.awaits c.requires.valid)
 
-pub returns : goal.returns
-returns c =
+pub put-requires-clause-some : goal.put-requires-clause-some
+put-requires-clause-some c =
     let r = c.args.self.now in
+    let n = r.here.names in
+    let key = drop n r.path.items in
+    let slice : c.key_behind-key.result.now ≡ key = c.key_behind-key.ensures ∙ ap (drop n) c.as_slice.ensures.value in
+    subst (λ (k : List Part). 1 ≤ length k) (sym slice) c.requires.some
+
+pub put-requires-clause-open : goal.put-requires-clause-open
+put-requires-clause-open c =
+    let r = c.args.self.now in
+    let n = r.here.names in
+    let parts = r.path.items in
     let outer = reverse r.outer.items in
-    let inner = c.in-Ok.inner in
-    let here : code.Bracket = record { line = c.args.line; array = c.args.array; values = 0 } in
-    let around : Around = record { bracket = r.here; group = c.replace.result; parts = c.replace-2.result } in
-    let parts : c.replace-2.result.items ≡ r.path.items = rw c.replace-2.ensures.value refl in
-    let some : 1 ≤ length c.replace-2.result.items = omega (arith, ap length parts, c.requires) in
-    let short : length (path_of outer) + length c.replace-2.result.items < 16 = omega (arith, ap length parts, r.depth, r.room) in
-    let key : c.as_slice.result.now ≡ c.replace-2.result.items = c.as_slice.ensures.value ∙ sym parts in
-    let takes : placed None c.replace-2.result.items r.group ≡ Ok (with_group (settled c.replace-2.result.items) inner c.replace.result) =
-    subst (λ p. placed None p r.group ≡ Ok (with_group (settled p) inner c.replace.result)) key
-    (c.in-Ok.ensures ∙ ap (λ h. Ok (with_group (settled c.as_slice.result.now) inner h)) (sym c.replace.ensures.value)) in
-    let outers : around ∷ outer ≡ reverse c.push.new.self.items = sym (ap reverse c.in_ok-push.ensures.items ∙ reverse-append r.outer.items (around ∷ [])) in
-    let inners : inner ≡ c.replace.new.dest = sym c.replace.ensures.after in
-    let paths : [] ≡ c.replace-2.new.dest.items = sym (let none : c.replace-2.new.dest.items ≡ [] = rw c.replace-2.ensures.after c.new.ensures.items in none) in
-    ap (λ p. open_group (state_in outer r.group p r.here r.awaits) c.args.line c.args.array) (sym parts)
-    ∙ open_group-nested outer around r.group inner r.awaits c.args.line c.args.array some short takes
-    ∙ (λ i. Ok (state_in (outers i) (inners i) (paths i) here (Item false)))
+    let front = take n parts in
+    let key = drop n parts in
+    let slice : c.key_behind-key.result.now ≡ key = c.key_behind-key.ensures ∙ ap (drop n) c.as_slice.ensures.value in
+    subst (λ (k : List Part). meets_text (parts_in r.table.text k) (group_of r.here.group r.table.rows) ≡ false) (sym slice) (key-clear r.table front key r.here outer r.awaits c.requires.valid c.requires.some)
+
+pub returns-clause-leads : goal.returns-clause-leads
+returns-clause-leads c =
+    let r = c.args.self.now in
+    let n = r.here.names in
+    let parts = r.path.items in
+    let outer = reverse r.outer.items in
+    let front = take n parts in
+    let key = drop n parts in
+    let slice : c.key_behind-key.result.now ≡ key = c.key_behind-key.ensures ∙ ap (drop n) c.as_slice.ensures.value in
+    let d = c.put.new.table in
+    let group = c.in_ok-group.group in
+    let way = settled (parts_in r.table.text front) in
+    let whole : c.len-2.result ≡ length parts = omega (arith, r.path.ok, c.len-2.ensures) in
+    let joined : front ++ key ≡ parts = take-append-drop n parts in
+    let paths : front ++ key ≡ take c.len-2.result parts = joined ∙ sym (ap (λ m. take m parts) whole ∙ take-length parts) in
+    let keys : [] ≡ drop c.len-2.result parts = sym (ap (λ m. drop m parts) whole ∙ drop-length parts) in
+    let names_are : length (front ++ key) ≡ c.len-2.result = ap length joined ∙ sym whole in
+    let outers : r.here ∷ outer ≡ reverse c.push.new.self.items = sym (ap reverse c.in_ok-push.ensures.items ∙ reverse-append r.outer.items (r.here ∷ [])) in
+    let sizes : length (front ++ key) ≡ length front + length key = length-append front key in
+    let short : length front + length key < 16 = omega (arith, r.path.ok, sizes, names_are, whole) in
+    let puts = subst (λ (k : List Part). placed None (way ++ parts_in r.table.text k) (group_of 0 r.table.rows) ≡ Ok (group_of 0 d.rows)) slice (c.in_ok-group.ensures.placed way c.requires.valid.innermost.way) in
+    open_group-state {X = ℕ} (Ok group) r.table d front key r.here outer r.awaits c.args.line group c.args.array short c.put.ensures.text puts
+    ∙ (λ i. Ok (state_in d (paths i) (keys i) (record { line = c.args.line; array = c.args.array; values = 0; names = names_are i; group = group }) (outers i) (Item false)))
+
+pub returns-clause-valid : goal.returns-clause-valid
+returns-clause-valid c =
+    let r = c.args.self.now in
+    let n = r.here.names in
+    let parts = r.path.items in
+    let outer = reverse r.outer.items in
+    let front = take n parts in
+    let key = drop n parts in
+    let slice : c.key_behind-key.result.now ≡ key = c.key_behind-key.ensures ∙ ap (drop n) c.as_slice.ensures.value in
+    let d = c.put.new.table in
+    let group = c.in_ok-group.group in
+    let way = settled (parts_in r.table.text front) in
+    let whole : c.len-2.result ≡ length parts = omega (arith, r.path.ok, c.len-2.ensures) in
+    let joined : front ++ key ≡ parts = take-append-drop n parts in
+    let paths : front ++ key ≡ take c.len-2.result parts = joined ∙ sym (ap (λ m. take m parts) whole ∙ take-length parts) in
+    let keys : [] ≡ drop c.len-2.result parts = sym (ap (λ m. drop m parts) whole ∙ drop-length parts) in
+    let names_are : length (front ++ key) ≡ c.len-2.result = ap length joined ∙ sym whole in
+    let outers : r.here ∷ outer ≡ reverse c.push.new.self.items = sym (ap reverse c.in_ok-push.ensures.items ∙ reverse-append r.outer.items (r.here ∷ [])) in
+    let leads = subst (λ (k : List Part). IsWay d.rows 0 (way ++ settled (parts_in r.table.text k)) group) slice (c.in_ok-group.ensures.way way c.requires.valid.innermost.way refl) in
+    let row = c.in_ok-group.ensures.row refl in
+    IsOpen-along d (front ++ key) (take c.len-2.result parts) [] (drop c.len-2.result parts) c.args.line 0 (length (front ++ key)) c.len-2.result group c.args.array (r.here ∷ outer) (reverse c.push.new.self.items) (Item false)
+    paths keys names_are outers
+    (group-open r.table d front key r.here outer r.awaits c.args.line group c.args.array c.requires.valid c.put.ensures.text c.put.ensures.longer c.put.ensures.kept row.0 row.1 leads)

@@ -1,0 +1,178 @@
+-- The steps down the parts of a key as the code takes them: the first part, and the rest of a slice.
+use Rattle.std.proofs.Common.{◌≡◌, ℕ, ◌-◌, ◌<◌, ◌≤◌, true, false, cond, ◌||◌, List, [], ◌∷◌, ◌++◌, length, get_or, take, drop, is_none, Option, Some, None, Result, Ok, Err, IfOk, refl, sym, ap, ap₂, ◌∙◌, subst, arith, append_assoc}
+use Rattle.std.proofs.lemmas.List.{take_all}
+use Rattle.asound_conf.specs.declared.cell.Name.TheVariants as names
+use Rattle.asound_conf.specs.declared.cell.Span.{Span}
+use Rattle.asound_conf.specs.declared.error.ConfWhy.{ConfWhy}
+use Rattle.asound_conf.specs.declared.part.Part as code
+use Rattle.asound_conf.specs.Answer.{Leads, Refuses}
+use Rattle.asound_conf.specs.Key.{Part, named, settled}
+use Rattle.asound_conf.specs.Parts.{part_in, parts_in, text_in}
+use Rattle.asound_conf.specs.Place.{base, is_last, meets_text, met, placed}
+use Rattle.asound_conf.specs.Rows.{Contents, Row, Alters, IsAbsent, IsNode, group_of, node, row_at}
+use Rattle.asound_conf.specs.Table.{name_in}
+use Rattle.asound_conf.specs.Tree.{Tree, group, Entries, get, group_in, is_text}
+use Rattle.asound_conf.specs.Way.{IsStep, IsWay}
+use Rattle.asound_conf.proofs.Groups.{Alters-both, get-IsAbsent, get-IsNode}
+use Rattle.asound_conf.proofs.Puts.{IsLed, led, meets_text-empty, meets_text-further, meets_text-one, meets_text-rest, put-down, put-last, put-last-way, put-refused}
+use Rattle.asound_conf.proofs.Ways.{IsWay-kept, IsWay-more}
+
+-- what is beside the parts of a slice
+abbrev pub no_part : code.Part
+no_part = record { removes = false; name = names.Bytes (record { start = 0; count = 0 }) }
+
+-- the rest of a slice
+rest-cons : (p : code.Part) (parts : List code.Part) → take (length (p ∷ parts) - 1) (drop 1 (p ∷ parts)) ≡ parts
+rest-cons p parts =
+    let count : length (p ∷ parts) - 1 ≡ length parts = omega arith in
+    ap (λ n. take n parts) count ∙ take_all (length parts) parts (omega arith)
+
+is_last-some : (text : List ℕ) (parts : List code.Part) → 1 ≤ length parts → is_last (parts_in text parts) ≡ false
+is_last-some text [] some = absurd (omega arith)
+is_last-some text (p ∷ parts) some = refl
+
+-- the last part
+pub here-placed : (d : code.Part) (r : Result ℕ ConfWhy) (first mid new : Contents) (q : ℕ) (parts : List code.Part) (value : Option Span) (path : List Part) → 1 ≤ length parts → length (take (length parts - 1) (drop 1 parts)) ≡ 0 → IsWay first.rows 0 path q
+    → Alters q first.rows mid.rows → mid.text ≡ first.text → Alters q mid.rows new.rows → group_of q mid.rows ≡ base (part_in first.text (get_or parts 0 d)) (group_of q first.rows)
+    → Leads r (group_of q new.rows) (placed (text_in mid.text value) (named (name_in mid.text (get_or parts 0 d).name) ∷ []) (group_of q mid.rows))
+    → Leads r (group_of 0 new.rows) (placed (text_in first.text value) (path ++ parts_in first.text parts) (group_of 0 first.rows))
+here-placed d r first mid new q [] value path some none way clears same puts cleared leads = absurd (omega arith)
+here-placed d r first mid new q (p ∷ []) value path some none way clears same puts cleared leads =
+    put-last r first.rows mid.rows new.rows q (part_in first.text p) (text_in first.text value) path way clears puts cleared
+    (subst (λ t. Leads r (group_of q new.rows) (placed (text_in t value) (named (name_in t p.name) ∷ []) (group_of q mid.rows))) same leads)
+here-placed d r first mid new q (p ∷ next ∷ parts) value path some none way clears same puts cleared leads =
+    let rest : length (next ∷ parts) ≡ 0 = sym (ap length (rest-cons p (next ∷ parts))) ∙ none in
+    absurd (omega arith)
+
+pub here-way : (d : code.Part) (r : Result ℕ ConfWhy) (first mid new : Contents) (q : ℕ) (parts : List code.Part) (W : Type 0) (path : List Part) → 1 ≤ length parts → length (take (length parts - 1) (drop 1 parts)) ≡ 0 → IsWay first.rows 0 path q
+    → Alters q first.rows new.rows → mid.text ≡ first.text → IfOk r (λ n. W → IsStep new.rows q (named (name_in mid.text (get_or parts 0 d).name)) n) → IfOk r (λ n. W → IsWay new.rows 0 (path ++ settled (parts_in first.text parts)) n)
+here-way d r first mid new q [] W path some none way alters same step = absurd (omega arith)
+here-way d r first mid new q (p ∷ []) W path some none way alters same step =
+    put-last-way r first.rows new.rows q (part_in first.text p) W path way alters (subst (λ t. IfOk r (λ n. W → IsStep new.rows q (named (name_in t p.name)) n)) same step)
+here-way d r first mid new q (p ∷ next ∷ parts) W path some none way alters same step =
+    let rest : length (next ∷ parts) ≡ 0 = sym (ap length (rest-cons p (next ∷ parts))) ∙ none in
+    absurd (omega arith)
+
+pub step-row : (r : Result ℕ ConfWhy) (rows : List Row) (q : ℕ) (part : Part) (W : Type 0) → IfOk r (λ n. W → IsStep rows q part n) → IfOk r (λ n. W → (q < n) × (n < length rows))
+step-row (Ok n) rows q part W step = λ w. ((step w).is_node.falls, (step w).is_node.inside)
+step-row (Err cause) rows q part W step = tt
+
+pub later-row : (r : Result ℕ ConfWhy) (rows : List Row) (q inner : ℕ) (W : Type 0) → q < inner → IfOk r (λ n. W → (inner < n) × (n < length rows)) → IfOk r (λ n. W → (q < n) × (n < length rows))
+later-row (Ok n) rows q inner W low row = λ w. let later : inner < n = (row w).0 in (omega arith, (row w).1)
+later-row (Err cause) rows q inner W low row = tt
+
+-- a part that isn't the last, where its group was found or added
+pub record IsDown (first mid : Contents) (q n : ℕ) (parts : List code.Part) : Type 0 where
+  pub part : code.Part
+  pub rest : List code.Part
+  pub whole : parts ≡ part ∷ rest
+  pub rest_is : take (length parts - 1) (drop 1 parts) ≡ rest
+  pub more : 1 ≤ length rest
+  pub same : mid.text ≡ first.text
+  pub alters : Alters q first.rows mid.rows
+  pub step : IsStep mid.rows q (named (name_in first.text part.name)) n
+  pub leads : IsLed first.rows mid.rows q (part_in first.text part) n
+
+pub is_down : (d : code.Part) (first cleared mid : Contents) (q n : ℕ) (parts : List code.Part) → 1 ≤ length parts → 1 ≤ length (take (length parts - 1) (drop 1 parts)) → Alters q first.rows cleared.rows → cleared.text ≡ first.text → group_of q cleared.rows ≡ base (part_in first.text (get_or parts 0 d)) (group_of q first.rows)
+    → Alters q cleared.rows mid.rows → mid.text ≡ cleared.text → placed None (named (name_in cleared.text (get_or parts 0 d).name) ∷ []) (group_of q cleared.rows) ≡ Ok (group_of q mid.rows)
+    → IsStep mid.rows q (named (name_in cleared.text (get_or parts 0 d).name)) n → IsDown first mid q n parts
+is_down d first cleared mid q n [] some more clears same is puts also put_it step = absurd (omega arith)
+is_down d first cleared mid q n (p ∷ parts) some more clears same is puts also put_it step =
+    let step_there : IsStep mid.rows q (named (name_in first.text p.name)) n = subst (λ t. IsStep mid.rows q (named (name_in t p.name)) n) same step in
+    let put_there : placed None (named (name_in first.text p.name) ∷ []) (group_of q cleared.rows) ≡ Ok (group_of q mid.rows) = subst (λ t. placed None (named (name_in t p.name) ∷ []) (group_of q cleared.rows) ≡ Ok (group_of q mid.rows)) same put_it in
+    record {
+      part = p;
+      rest = parts;
+      whole = refl;
+      rest_is = rest-cons p parts;
+      more = subst (λ (ps : List code.Part). 1 ≤ length ps) (rest-cons p parts) more;
+      same = also ∙ same;
+      alters = Alters-both q first.rows cleared.rows mid.rows clears puts;
+      step = step_there;
+      leads = led first.rows cleared.rows mid.rows q (part_in first.text p) n is put_there step_there;
+    }
+
+pub down-open : (first mid : Contents) (q n : ℕ) (parts : List code.Part) → IsDown first mid q n parts → meets_text (parts_in first.text parts) (group_of q first.rows) ≡ false → meets_text (parts_in mid.text (take (length parts - 1) (drop 1 parts))) (group_of n mid.rows) ≡ false
+down-open first mid q n parts down clear =
+    ap₂ (λ t ps. meets_text (parts_in t ps) (group_of n mid.rows)) down.same down.rest_is
+    ∙ meets_text-rest (part_in first.text down.part) (parts_in first.text down.rest) (group_of q first.rows) (group_of n mid.rows) (is_last-some first.text down.rest down.more)
+    (ap (λ ps. meets_text (parts_in first.text ps) (group_of q first.rows)) (sym down.whole) ∙ clear) down.leads.meets_it
+
+pub down-some : (first mid : Contents) (q n : ℕ) (parts : List code.Part) → IsDown first mid q n parts → 1 ≤ length (take (length parts - 1) (drop 1 parts))
+down-some first mid q n parts down = subst (λ (ps : List code.Part). 1 ≤ length ps) (sym down.rest_is) down.more
+
+pub down-placed : (r : Result ℕ ConfWhy) (first mid new : Contents) (q n : ℕ) (parts : List code.Part) (value : Option Span) (path : List Part) → IsDown first mid q n parts → IsWay first.rows 0 path q
+    → ((way : List Part) → IsWay mid.rows 0 way n → Leads r (group_of 0 new.rows) (placed (text_in mid.text value) (way ++ parts_in mid.text (take (length parts - 1) (drop 1 parts))) (group_of 0 mid.rows)))
+    → Leads r (group_of 0 new.rows) (placed (text_in first.text value) (path ++ parts_in first.text parts) (group_of 0 first.rows))
+down-placed r first mid new q n parts value path down way more =
+    let part = part_in first.text down.part in
+    let next = path ++ named part.name ∷ [] in
+    let way_there : IsWay mid.rows 0 next n = IsWay-more mid.rows 0 path q (named part.name) n (IsWay-kept q first.rows mid.rows 0 path q down.alters (omega arith) way) down.step in
+    let leads = subst (λ (ps : List code.Part). Leads r (group_of 0 new.rows) (placed (text_in first.text value) (next ++ parts_in first.text ps) (group_of 0 mid.rows))) down.rest_is
+    (subst (λ (t : List ℕ). Leads r (group_of 0 new.rows) (placed (text_in t value) (next ++ parts_in t (take (length parts - 1) (drop 1 parts))) (group_of 0 mid.rows))) down.same (more next way_there)) in
+    subst (λ (ps : List code.Part). Leads r (group_of 0 new.rows) (placed (text_in first.text value) (path ++ parts_in first.text ps) (group_of 0 first.rows))) (sym down.whole)
+    (put-down r first.rows mid.rows new.rows q n part (parts_in first.text down.rest) (text_in first.text value) path way down.alters (is_last-some first.text down.rest down.more) down.leads leads)
+
+pub down-way : (r : Result ℕ ConfWhy) (first mid new : Contents) (q n : ℕ) (parts : List code.Part) (W : Type 0) (path : List Part) → IsDown first mid q n parts → IsWay first.rows 0 path q
+    → ((way : List Part) → IsWay mid.rows 0 way n → IfOk r (λ m. W → IsWay new.rows 0 (way ++ settled (parts_in mid.text (take (length parts - 1) (drop 1 parts)))) m))
+    → IfOk r (λ m. W → IsWay new.rows 0 (path ++ settled (parts_in first.text parts)) m)
+down-way r first mid new q n parts W path down way more =
+    let part = part_in first.text down.part in
+    let next = path ++ named part.name ∷ [] in
+    let way_there : IsWay mid.rows 0 next n = IsWay-more mid.rows 0 path q (named part.name) n (IsWay-kept q first.rows mid.rows 0 path q down.alters (omega arith) way) down.step in
+    let ways : next ++ settled (parts_in mid.text (take (length parts - 1) (drop 1 parts))) ≡ path ++ settled (parts_in first.text parts) =
+    ap₂ (λ (t : List ℕ) (ps : List code.Part). next ++ settled (parts_in t ps)) down.same down.rest_is
+    ∙ append_assoc path (named part.name ∷ []) (settled (parts_in first.text down.rest))
+    ∙ ap (λ (ps : List code.Part). path ++ settled (parts_in first.text ps)) (sym down.whole) in
+    subst (λ (w : List Part). IfOk r (λ m. W → IsWay new.rows 0 w m)) ways (more next way_there)
+
+pub down-kept : (first mid new : Contents) (q n : ℕ) (parts : List code.Part) → IsDown first mid q n parts → ((way : List Part) (last : ℕ) → last ≤ n → IsWay mid.rows 0 way last → IsWay new.rows 0 way last)
+    → (path : List Part) (last : ℕ) → last ≤ q → IsWay first.rows 0 path last → IsWay new.rows 0 path last
+down-kept first mid new q n parts down more path last low way =
+    let falls : q < n = down.step.is_node.falls in
+    more path last (omega arith) (IsWay-kept q first.rows mid.rows 0 path last down.alters low way)
+
+-- a part that isn't the last is refused by want of memory alone
+pub down-refused : {X : Type 0} (d : code.Part) (cause : ConfWhy) (first cleared : Contents) (q : ℕ) (parts : List code.Part) (given : Result X ConfWhy) → 1 ≤ length parts → 1 ≤ length (take (length parts - 1) (drop 1 parts)) → cleared.text ≡ first.text → group_of q cleared.rows ≡ base (part_in first.text (get_or parts 0 d)) (group_of q first.rows)
+    → meets_text (parts_in first.text parts) (group_of q first.rows) ≡ false → Refuses cause (placed None (named (name_in cleared.text (get_or parts 0 d).name) ∷ []) (group_of q cleared.rows)) → Refuses cause given
+down-refused d cause first cleared q [] given some more same is clear refuses = absurd (omega arith)
+down-refused d cause first cleared q (p ∷ parts) given some more same is clear refuses =
+    put-refused cause (part_in first.text p) (parts_in first.text parts) (group_of q first.rows) (group_of q cleared.rows) given (is_last-some first.text parts (subst (λ (ps : List code.Part). 1 ≤ length ps) (rest-cons p parts) more)) clear is
+    (subst (λ (t : List ℕ). Refuses cause (placed None (named (name_in t p.name) ∷ []) (group_of q cleared.rows))) same refuses)
+
+-- the texts that parts before the last meet
+pub meets-last : (text : List ℕ) (parts : List code.Part) (g : Entries) → 1 ≤ length parts → length (take (length parts - 1) (drop 1 parts)) ≡ 0 → meets_text (parts_in text parts) g ≡ false
+meets-last text [] g some none = absurd (omega arith)
+meets-last text (p ∷ []) g some none = meets_text-one (part_in text p) g
+meets-last text (p ∷ next ∷ parts) g some none =
+    let rest : length (next ∷ parts) ≡ 0 = sym (ap length (rest-cons p (next ∷ parts))) ∙ none in
+    absurd (omega arith)
+
+pub meets-node : (d : code.Part) (text : List ℕ) (parts : List code.Part) (g : Entries) (m : Option Tree) → 1 ≤ length parts → 1 ≤ length (take (length parts - 1) (drop 1 parts)) → met (part_in text (get_or parts 0 d)) g ≡ m
+    → meets_text (parts_in text parts) g ≡ (is_text m || meets_text (parts_in text (take (length parts - 1) (drop 1 parts))) (group_in m))
+meets-node d text [] g m some more is = absurd (omega arith)
+meets-node d text (p ∷ parts) g m some more is =
+    meets_text-further (part_in text p) (parts_in text parts) g m (is_last-some text parts (subst (λ (ps : List code.Part). 1 ≤ length ps) (rest-cons p parts) more)) is
+    ∙ ap (λ (ps : List code.Part). is_text m || meets_text (parts_in text ps) (group_in m)) (sym (rest-cons p parts))
+
+pub meets-None : (d : code.Part) (text : List ℕ) (parts : List code.Part) (g : Entries) → 1 ≤ length parts → 1 ≤ length (take (length parts - 1) (drop 1 parts)) → met (part_in text (get_or parts 0 d)) g ≡ None → meets_text (parts_in text parts) g ≡ false
+meets-None d text parts g some more is = meets-node d text parts g None some more is ∙ meets_text-empty (parts_in text (take (length parts - 1) (drop 1 parts)))
+
+-- a part that removes what it meets
+pub met-removes : (part : Part) (g : Entries) → part.removes ≡ true → met part g ≡ None
+met-removes part g is = ap (λ b. cond b None (get part.name g)) is
+
+-- what a part meets that doesn't remove it
+pub met-node : (part : Part) (rows : List Row) (q n : ℕ) → part.removes ≡ false → IsNode rows q part.name n → met part (group_of q rows) ≡ Some (node (row_at rows n).value (group_of n rows))
+met-node part rows q n stays is = ap (λ b. cond b None (get part.name (group_of q rows))) stays ∙ get-IsNode rows q part.name n is
+
+pub met-absent : (part : Part) (rows : List Row) (q : ℕ) → part.removes ≡ false → IsAbsent rows q part.name → met part (group_of q rows) ≡ None
+met-absent part rows q stays none = ap (λ b. cond b None (get part.name (group_of q rows))) stays ∙ get-IsAbsent rows q part.name none
+
+pub is_text-group : (value : Option (List ℕ)) (g : Entries) → is_none value ≡ true → Some (node value g) ≡ Some (group g)
+is_text-group None g is = refl
+is_text-group (Some t) g is = cc
+
+pub is_text-text : (value : Option (List ℕ)) (g : Entries) → is_none value ≡ false → is_text (Some (node value g)) ≡ true
+is_text-text None g is = cc
+is_text-text (Some t) g is = refl

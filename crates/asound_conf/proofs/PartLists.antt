@@ -1,0 +1,76 @@
+-- The parts of a key, as they are added and looked at.
+use Rattle.std.proofs.Common.{◌≡◌, ℕ, zero, suc, ◌+◌, ◌-◌, ◌<◌, ◌≤◌, Bool, true, false, ◌||◌, List, [], ◌∷◌, ◌++◌, length, take, drop, get_or, refl, sym, ap, subst, ◌∙◌, arith, append_assoc}
+use Rattle.std.specs.Prelude.{map}
+use Rattle.std.specs.List.{list_any, slice_split}
+use Rattle.std.proofs.lemmas.List.{map-append, map_more}
+use Rattle.asound_conf.specs.declared.cell.Name.TheVariants as names
+use Rattle.asound_conf.specs.declared.part.Part as code
+use Rattle.asound_conf.specs.Key.{Part, is_dot, part_of, word_parts}
+use Rattle.asound_conf.specs.Parts.{part_in, parts_in}
+use Rattle.asound_conf.specs.Table.{span_in}
+use Rattle.asound_conf.proofs.Starts.{span-drop, span-take}
+
+-- the first parts of a word were added, and those of this rest of it are left
+pub record IsPushed (text : List ℕ) (old now : List code.Part) (word rest : List ℕ) (at : ℕ) : Type 0 where
+  pub place : span_in text (record { start = at; count = length rest }) ≡ rest
+  pub parts : parts_in text now ++ word_parts rest ≡ parts_in text old ++ word_parts word
+
+pub parts_in-push : (text : List ℕ) (parts : List code.Part) (part : code.Part) → parts_in text (parts ++ part ∷ []) ≡ parts_in text parts ++ part_in text part ∷ []
+parts_in-push text parts part = map-append (part_in text) parts (part ∷ [])
+
+-- one piece more was added
+pub IsPushed-next : (text : List ℕ) (old now : List code.Part) (word rest piece behind : List ℕ) (at : ℕ) (part : code.Part)
+    → slice_split is_dot rest ≡ piece ∷ slice_split is_dot behind → behind ≡ drop (length piece + 1) rest → length piece + 1 + length behind ≡ length rest
+    → part_in text part ≡ part_of piece → IsPushed text old now word rest at → IsPushed text old (now ++ part ∷ []) word behind (at + (length piece + 1))
+IsPushed-next text old now word rest piece behind at part split follows sizes is pushed =
+    let within : length piece + 1 ≤ length rest = omega (arith, sizes) in
+    let count : length rest - (length piece + 1) ≡ length behind = omega (arith, sizes) in
+    let span = span-drop text rest at (length piece + 1) within pushed.place in
+    let parts : word_parts rest ≡ part_of piece ∷ word_parts behind = ap (map part_of) split in
+    record {
+      place = subst (λ (k : ℕ). span_in text (record { start = at + (length piece + 1); count = k }) ≡ behind) count (span ∙ sym follows);
+      parts =
+          ap (λ (p : List Part). p ++ word_parts behind) (parts_in-push text now part ∙ ap (λ (p : Part). parts_in text now ++ p ∷ []) is)
+          ∙ append_assoc (parts_in text now) (part_of piece ∷ []) (word_parts behind) ∙ ap (λ (p : List Part). parts_in text now ++ p) (sym parts) ∙ pushed.parts;
+    }
+
+-- the last piece was added
+pub parts_in-last : (text : List ℕ) (old now : List code.Part) (word rest : List ℕ) (at : ℕ) (part : code.Part) → slice_split is_dot rest ≡ rest ∷ [] → part_in text part ≡ part_of rest → IsPushed text old now word rest at
+    → parts_in text (now ++ part ∷ []) ≡ parts_in text old ++ word_parts word
+parts_in-last text old now word rest at part split is pushed =
+    parts_in-push text now part ∙ ap (λ (p : Part). parts_in text now ++ p ∷ []) is ∙ ap (λ (p : List Part). parts_in text now ++ p) (sym (ap (map part_of) split)) ∙ pushed.parts
+
+-- the place of the piece
+pub piece-place : (text rest piece : List ℕ) (at : ℕ) → length piece ≤ length rest → piece ≡ take (length piece) rest → span_in text (record { start = at; count = length rest }) ≡ rest
+    → span_in text (record { start = at; count = length piece }) ≡ piece
+piece-place text rest piece at within is place = span-take text rest at (length piece) within place ∙ sym is
+
+-- whether one of some parts passes a test
+list_any-append : (p : Part → Bool) (xs ys : List Part) → list_any p (xs ++ ys) ≡ (list_any p xs || list_any p ys)
+list_any-append p [] ys = refl
+list_any-append p (x ∷ xs) ys = by (p x) (list_any-append p xs ys)
+  where
+    by : (t : Bool) → list_any p (xs ++ ys) ≡ (list_any p xs || list_any p ys) → (t || list_any p (xs ++ ys)) ≡ ((t || list_any p xs) || list_any p ys)
+    by true e = refl
+    by false e = e
+
+-- the first parts don't pass, and neither does the next
+pub none_more : (p : Part → Bool) (text : List ℕ) (parts : List code.Part) (i : ℕ) (d : code.Part) → i < length parts → list_any p (parts_in text (take i parts)) ≡ false → p (part_in text (get_or parts i d)) ≡ false
+    → list_any p (parts_in text (take (i + 1) parts)) ≡ false
+none_more p text parts i d inside none next =
+    ap (list_any p) (map_more (part_in text) parts i d inside) ∙ list_any-append p (parts_in text (take i parts)) (part_in text (get_or parts i d) ∷ [])
+    ∙ ap (λ (t : Bool). t || (p (part_in text (get_or parts i d)) || false)) none ∙ ap (λ (t : Bool). t || false) next
+
+-- a part that passes is one of them
+pub some-at : (p : Part → Bool) (text : List ℕ) (parts : List code.Part) (i : ℕ) (d : code.Part) → i < length parts → p (part_in text (get_or parts i d)) ≡ true → list_any p (parts_in text parts) ≡ true
+some-at p text [] i d inside is = absurd (omega (arith, inside))
+some-at p text (x ∷ xs) zero d inside is = ap (λ (t : Bool). t || list_any p (parts_in text xs)) is
+some-at p text (x ∷ xs) (suc i) d inside is = by (p (part_in text x)) (some-at p text xs i d (omega (arith, inside)) is)
+  where
+    by : (t : Bool) → list_any p (parts_in text xs) ≡ true → (t || list_any p (parts_in text xs)) ≡ true
+    by true e = refl
+    by false e = e
+
+-- the part of zeros, beside some parts
+abbrev pub zero_part : code.Part
+zero_part = record { removes = false; name = names.Bytes (record { start = 0; count = 0 }) }

@@ -1,0 +1,386 @@
+-- Where a reader is among the groups of rows, before and after each step.
+use Rattle.std.proofs.Common.{◌≡◌, ℕ, zero, suc, ◌+◌, ◌<◌, ◌≤◌, Bool, true, false, cond, nat_lt, nat_le, List, [], ◌∷◌, ◌++◌, length, length-append, map, take, drop, Option, Some, None, Result, Ok, Err, refl, sym, ap, ap₂, ◌∙◌, subst, arith}
+use Rattle.std.proofs.lemmas.Bool.Decides.{nat_tests}
+use Rattle.std.proofs.lemmas.List.{append-nil, drop-append-le, drop-map, drop_at, take-append-le}
+use Rattle.std.specs.Fmt.{decimal}
+use Rattle.asound_conf.specs.declared.bracket.Awaits.{Awaits}
+use Rattle.asound_conf.specs.declared.bracket.Awaits.TheVariants.{Item, Value}
+use Rattle.asound_conf.specs.declared.bracket.Bracket as code
+use Rattle.asound_conf.specs.declared.cell.Name.TheVariants as names
+use Rattle.asound_conf.specs.declared.error.ConfWhy.{ConfWhy}
+use Rattle.asound_conf.specs.declared.error.ConfWhy.TheVariants as why
+use Rattle.asound_conf.specs.declared.part.Part as part
+use Rattle.asound_conf.specs.Answer.{Leads, Refuses, seen}
+use Rattle.asound_conf.specs.Grammar.{State, after_item, at_key, at_number, close_to, open_group, put_key, put_text, within}
+use Rattle.asound_conf.specs.Key.{Part, key_defect, named, settled}
+use Rattle.asound_conf.specs.Parts.{part_in, parts_in}
+use Rattle.asound_conf.specs.Place.{meets_text, placed}
+use Rattle.asound_conf.specs.Opening.{AreAround, IsHere, IsOpen, bracket_of, key_cause, or_cause, state_in}
+use Rattle.asound_conf.specs.Rows.{Contents, group_of}
+use Rattle.asound_conf.specs.Tree.{Entries}
+use Rattle.asound_conf.specs.Way.{IsWay}
+use Rattle.asound_conf.proofs.Below.{meets_text-below}
+use Rattle.asound_conf.proofs.Fronts.{drop-front, take-least}
+use Rattle.asound_conf.proofs.Puts.{Leads-along, Leads-seen, meets_text-one}
+use Rattle.asound_conf.proofs.Ways.{group_at-IsWay}
+
+-- a path, whose marks have done their work
+path_in : List ℕ → List part.Part → List Part
+path_in text path = settled (parts_in text path)
+
+length-path_in : (text : List ℕ) (path : List part.Part) → length (path_in text path) ≡ length path
+unfolding path_in
+length-path_in text [] = refl
+length-path_in text (p ∷ path) = ap suc (length-path_in text path)
+
+length-parts_in : (text : List ℕ) (parts : List part.Part) → length (parts_in text parts) ≡ length parts
+length-parts_in text [] = refl
+length-parts_in text (p ∷ parts) = ap suc (length-parts_in text parts)
+
+path_in-append : (text : List ℕ) (path key : List part.Part) → path_in text (path ++ key) ≡ path_in text path ++ path_in text key
+unfolding path_in
+path_in-append text [] key = refl
+path_in-append text (p ∷ path) key = ap (λ more. named (part_in text p).name ∷ more) (path_in-append text path key)
+
+settled-path_in : (text : List ℕ) (path key : List part.Part) → settled (path_in text path ++ parts_in text key) ≡ path_in text path ++ path_in text key
+unfolding path_in
+settled-path_in text [] key = refl
+settled-path_in text (p ∷ path) key = ap (λ more. named (part_in text p).name ∷ more) (settled-path_in text path key)
+
+take-path_in : (n : ℕ) (text : List ℕ) (path : List part.Part) (more : List Part) → n ≤ length path → take n (path_in text path ++ more) ≡ path_in text (take n path)
+unfolding path_in
+take-path_in zero text path more low = refl
+take-path_in (suc n) text [] more low = absurd (omega arith)
+take-path_in (suc n) text (p ∷ path) more low = ap (λ rest. named (part_in text p).name ∷ rest) (take-path_in n text path more (omega arith))
+
+take-whole : {X : Type 0} (xs ys : List X) → take (length xs) (xs ++ ys) ≡ xs
+take-whole [] ys = refl
+take-whole (x ∷ xs) ys = ap (λ more. x ∷ more) (take-whole xs ys)
+
+take-front : {X : Type 0} (n : ℕ) (xs ys : List X) → n ≤ length xs → take n (xs ++ ys) ≡ take n xs
+take-front zero xs ys low = refl
+take-front (suc n) [] ys low = absurd (omega arith)
+take-front (suc n) (x ∷ xs) ys low = ap (λ more. x ∷ more) (take-front n xs ys (omega arith))
+
+take-take : {X : Type 0} (n m : ℕ) (xs : List X) → n ≤ m → take n (take m xs) ≡ take n xs
+take-take zero m xs low = refl
+take-take (suc n) zero xs low = absurd (omega arith)
+take-take (suc n) (suc m) [] low = refl
+take-take (suc n) (suc m) (x ∷ xs) low = ap (λ more. x ∷ more) (take-take n m xs (omega arith))
+
+length-take : {X : Type 0} (n : ℕ) (xs : List X) → n ≤ length xs → length (take n xs) ≡ n
+length-take zero xs low = refl
+length-take (suc n) [] low = absurd (omega arith)
+length-take (suc n) (x ∷ xs) low = ap suc (length-take n xs (omega arith))
+
+-- behind a text that was put
+after_item-state : (c d : Contents) (path key : List part.Part) (here : code.Bracket) (outer : List code.Bracket) (awaits : Awaits) → here.names ≡ length path → d.text ≡ c.text
+    → after_item (state_in c path key here outer awaits) (group_of 0 d.rows) ≡ state_in d path [] here outer (Item true)
+unfolding path_in
+after_item-state c d path key here outer awaits depth same =
+    let ways : take here.names (path_in c.text path ++ parts_in c.text key) ≡ path_in d.text path ++ [] =
+    take-path_in here.names c.text path (parts_in c.text key) (omega arith)
+    ∙ ap (λ n. path_in c.text (take n path)) depth
+    ∙ ap (path_in c.text) (ap (take (length path)) (sym (append-nil path)) ∙ take-whole path [])
+    ∙ ap (λ t. path_in t path) (sym same)
+    ∙ sym (append-nil (path_in d.text path)) in
+    λ i. record { root = group_of 0 d.rows; path = ways i; here = bracket_of here; outer = map bracket_of outer; awaits = Item true }
+
+pub put_text-state : {X : Type 0} (r : Result X ConfWhy) (c d : Contents) (path key : List part.Part) (here : code.Bracket) (outer : List code.Bracket) (awaits : Awaits) (t : List ℕ) → here.names ≡ length path → d.text ≡ c.text
+    → Leads r (group_of 0 d.rows) (placed (Some t) (settled (parts_in c.text path) ++ parts_in c.text key) (group_of 0 c.rows))
+    → Leads r (state_in d path [] here outer (Item true)) (put_text (state_in c path key here outer awaits) t)
+put_text-state r c d path key here outer awaits t depth same leads =
+    let s = state_in c path key here outer awaits in
+    let given = placed (Some t) (settled (parts_in c.text path) ++ parts_in c.text key) (group_of 0 c.rows) in
+    Leads-along r (after_item s (group_of 0 d.rows)) (state_in d path [] here outer (Item true)) (seen (after_item s) given) (put_text s t)
+    (after_item-state c d path key here outer awaits depth same) refl (Leads-seen r (group_of 0 d.rows) (after_item s) given leads)
+
+-- where a key leads
+abbrev pub key_leads : Option ConfWhy → State → Result State ConfWhy
+key_leads (Some cause) s = Err cause
+key_leads None s = Ok s
+
+pub put_key-state : (c : Contents) (path key : List part.Part) (here : code.Bracket) (outer : List code.Bracket) (awaits : Awaits) → here.names ≡ length path → IsWay c.rows 0 (settled (parts_in c.text path)) here.group
+    → put_key (state_in c path [] here outer awaits) (key_defect (parts_in c.text key)) (parts_in c.text key)
+    ≡ key_leads (key_cause here.names (parts_in c.text key) (group_of here.group c.rows)) (state_in c path key here outer (Value true))
+unfolding path_in
+put_key-state c path key here outer awaits depth way =
+    let front = path_in c.text path in
+    let parts = parts_in c.text key in
+    let g = group_of here.group c.rows in
+    let none : (front ++ []) ++ parts ≡ front ++ parts = ap (λ f. f ++ parts) (append-nil front) in
+    let count : length (front ++ parts) ≡ here.names + length parts = length-append front parts ∙ ap (λ n. n + length parts) (length-path_in c.text path ∙ sym depth) in
+    let meets : meets_text (front ++ parts) (group_of 0 c.rows) ≡ meets_text parts g = meets_text-below front parts (group_of 0 c.rows) g (group_at-IsWay c.rows 0 front here.group way) in
+    by_defect (key_defect parts) (ap (at_key (state_in c path [] here outer awaits)) none ∙ ap₂ (λ n b. cond (nat_lt 16 n) (Err why.Deep) (cond b (Err why.Kind) (Ok (state_in c path key here outer (Value true))))) count meets)
+  where
+    by_tests : (a b : Bool) → cond a (Err why.Deep) (cond b (Err why.Kind) (Ok (state_in c path key here outer (Value true)))) ≡ key_leads (cond a (Some why.Deep) (cond b (Some why.Kind) None)) (state_in c path key here outer (Value true))
+    by_tests true b = refl
+    by_tests false true = refl
+    by_tests false false = refl
+
+    by_defect : (defect : Option ConfWhy) → at_key (state_in c path [] here outer awaits) ((state_in c path [] here outer awaits).path ++ parts_in c.text key) ≡ cond (nat_lt 16 (here.names + length (parts_in c.text key))) (Err why.Deep) (cond (meets_text (parts_in c.text key) (group_of here.group c.rows)) (Err why.Kind) (Ok (state_in c path key here outer (Value true))))
+        → put_key (state_in c path [] here outer awaits) defect (parts_in c.text key)
+        ≡ key_leads (or_cause defect (cond (nat_lt 16 (here.names + length (parts_in c.text key))) (Some why.Deep) (cond (meets_text (parts_in c.text key) (group_of here.group c.rows)) (Some why.Kind) None))) (state_in c path key here outer (Value true))
+    by_defect (Some defect) is = refl
+    by_defect None is = is ∙ by_tests (nat_lt 16 (here.names + length (parts_in c.text key))) (meets_text (parts_in c.text key) (group_of here.group c.rows))
+
+-- the place of the next value of a list
+pub at_number-state : (c : Contents) (path : List part.Part) (here : code.Bracket) (outer : List code.Bracket) (awaits : Awaits)
+    → at_number (state_in c path [] here outer awaits)
+    ≡ state_in c path (record { removes = false; name = names.Number here.values } ∷ []) (record { line = here.line; array = here.array; values = here.values + 1; names = here.names; group = here.group }) outer (Value false)
+at_number-state c path here outer awaits =
+    let front = settled (parts_in c.text path) in
+    let ways : (front ++ []) ++ named (decimal here.values) ∷ [] ≡ front ++ named (decimal here.values) ∷ [] = ap (λ f. f ++ named (decimal here.values) ∷ []) (append-nil front) in
+    λ i. record { root = group_of 0 c.rows; path = ways i; here = record { line = here.line; array = here.array; names = here.names; values = here.values + 1 }; outer = map bracket_of outer; awaits = Value false }
+
+-- within a bracket that was opened
+pub open_group-state : {X : Type 0} (r : Result X ConfWhy) (c d : Contents) (path key : List part.Part) (here : code.Bracket) (outer : List code.Bracket) (awaits : Awaits) (line group : ℕ) (array : Bool)
+    → length path + length key < 16 → d.text ≡ c.text → Leads r (group_of 0 d.rows) (placed None (settled (parts_in c.text path) ++ parts_in c.text key) (group_of 0 c.rows))
+    → Leads r (state_in d (path ++ key) [] (record { line = line; array = array; values = 0; names = length (path ++ key); group = group }) (here ∷ outer) (Item false)) (open_group (state_in c path key here outer awaits) line array)
+unfolding path_in
+open_group-state r c d path key here outer awaits line group array short same leads =
+    let s = state_in c path key here outer awaits in
+    let front = path_in c.text path in
+    let parts = parts_in c.text key in
+    let count : length (front ++ parts) ≡ length path + length key = length-append front parts ∙ ap₂ (λ a b. a + b) (length-path_in c.text path) (length-parts_in c.text key) in
+    let names_are : length (front ++ parts) ≡ length (path ++ key) = count ∙ sym (length-append path key) in
+    let ways : settled (front ++ parts) ≡ path_in d.text (path ++ key) ++ [] =
+    settled-path_in c.text path key ∙ sym (path_in-append c.text path key) ∙ ap (λ t. path_in t (path ++ key)) (sym same) ∙ sym (append-nil (path_in d.text (path ++ key))) in
+    let given = placed None (front ++ parts) (group_of 0 c.rows) in
+    let shallow : nat_le 16 (length (front ++ parts)) ≡ false = ap (nat_le 16) count ∙ not-deep (length path + length key) short in
+    let new = state_in d (path ++ key) [] (record { line = line; array = array; values = 0; names = length (path ++ key); group = group }) (here ∷ outer) (Item false) in
+    let at : within s line array (group_of 0 d.rows) ≡ new =
+    λ i. record { root = group_of 0 d.rows; path = ways i; here = record { line = line; array = array; names = names_are i; values = 0 }; outer = bracket_of here ∷ map bracket_of outer; awaits = Item false } in
+    Leads-along r (within s line array (group_of 0 d.rows)) new (seen (within s line array) given) (open_group s line array) at
+    (sym (ap (λ b. cond b (Err why.Deep) (seen (within s line array) given)) shallow))
+    (Leads-seen r (group_of 0 d.rows) (within s line array) given leads)
+  where
+    not-deep : (n : ℕ) → n < 16 → nat_le 16 n ≡ false
+    not-deep n short = grind (arith, nat_tests)
+
+-- a cause of what was put is the cause of the mark that opens a group there
+pub open_group-refused : (cause : ConfWhy) (c : Contents) (path key : List part.Part) (here : code.Bracket) (outer : List code.Bracket) (awaits : Awaits) (line : ℕ) (array : Bool) → length path + length key < 16
+    → Refuses cause (placed None (settled (parts_in c.text path) ++ parts_in c.text key) (group_of 0 c.rows)) → Refuses cause (open_group (state_in c path key here outer awaits) line array)
+open_group-refused cause c path key here outer awaits line array short refuses =
+    open_group-state {X = ℕ} (Err cause) c c path key here outer awaits line 0 array short refl refuses
+
+pub open_group-deep : (c : Contents) (path key : List part.Part) (here : code.Bracket) (outer : List code.Bracket) (awaits : Awaits) (line : ℕ) (array : Bool) → 16 ≤ length path + length key
+    → open_group (state_in c path key here outer awaits) line array ≡ Err why.Deep
+unfolding path_in
+open_group-deep c path key here outer awaits line array deep =
+    let s = state_in c path key here outer awaits in
+    let front = path_in c.text path in
+    let parts = parts_in c.text key in
+    let count : length (front ++ parts) ≡ length path + length key = length-append front parts ∙ ap₂ (λ a b. a + b) (length-path_in c.text path) (length-parts_in c.text key) in
+    let is_deep : nat_le 16 (length (front ++ parts)) ≡ true = ap (nat_le 16) count ∙ too-deep (length path + length key) deep in
+    ap (λ b. cond b (Err why.Deep) (seen (within s line array) (placed None (front ++ parts) (group_of 0 c.rows)))) is_deep
+  where
+    too-deep : (n : ℕ) → 16 ≤ n → nat_le 16 n ≡ true
+    too-deep n deep = grind (arith, nat_tests)
+
+-- behind a bracket that was closed
+pub close_to-state : (c : Contents) (path : List part.Part) (here around : code.Bracket) (outer : List code.Bracket) (awaits : Awaits) → around.names ≤ length path
+    → close_to (state_in c path [] here (around ∷ outer) awaits) (map bracket_of (around ∷ outer)) ≡ Ok (state_in c (take around.names path) [] around outer (Item true))
+unfolding path_in
+close_to-state c path here around outer awaits low =
+    let ways : take around.names (path_in c.text path ++ []) ≡ path_in c.text (take around.names path) ++ [] = take-path_in around.names c.text path [] low ∙ sym (append-nil (path_in c.text (take around.names path))) in
+    λ i. Ok (record { root = group_of 0 c.rows; path = ways i; here = bracket_of around; outer = map bracket_of outer; awaits = Item true })
+
+-- the brackets around the innermost, once rows changed that are after its group, or in it
+pub AreAround-kept : (c d : Contents) (path : List part.Part) (here : code.Bracket) (outer : List code.Bracket) (group : ℕ) → d.text ≡ c.text → here.group ≤ group → ((way : List Part) (last : ℕ) → last ≤ group → IsWay c.rows 0 way last → IsWay d.rows 0 way last)
+    → AreAround c path here outer → AreAround d path here outer
+AreAround-kept c d path here [] group same low kept around = tt
+AreAround-kept c d path here (b ∷ outer) group same low kept around =
+    let lower : b.group ≤ here.group = around.1 in (
+      around.0,
+      around.1,
+      subst (λ t. IsWay d.rows 0 (settled (parts_in t (take b.names path))) b.group) (sym same) (kept (settled (parts_in c.text (take b.names path))) b.group (omega arith) around.2),
+      AreAround-kept c d path b outer group same (omega arith) kept around.3,
+    )
+
+-- a longer path, or a shorter one, that leads as far as all of them
+pub AreAround-longer : (c : Contents) (path more : List part.Part) (here : code.Bracket) (outer : List code.Bracket) → here.names ≤ length path → AreAround c path here outer → AreAround c (path ++ more) here outer
+AreAround-longer c path more here [] low around = tt
+AreAround-longer c path more here (b ∷ outer) low around =
+    let lower : b.names ≤ here.names = around.0 in (
+      around.0,
+      around.1,
+      subst (λ p. IsWay c.rows 0 (settled (parts_in c.text p)) b.group) (sym (take-front b.names path more (omega arith))) around.2,
+      AreAround-longer c path more b outer (omega arith) around.3,
+    )
+
+AreAround-shorter : (c : Contents) (n : ℕ) (path : List part.Part) (here : code.Bracket) (outer : List code.Bracket) → here.names ≤ n → AreAround c path here outer → AreAround c (take n path) here outer
+AreAround-shorter c n path here [] low around = tt
+AreAround-shorter c n path here (b ∷ outer) low around =
+    let lower : b.names ≤ here.names = around.0 in (
+      around.0,
+      around.1,
+      subst (λ p. IsWay c.rows 0 (settled (parts_in c.text p)) b.group) (sym (take-take b.names n path (omega arith))) around.2,
+      AreAround-shorter c n path b outer (omega arith) around.3,
+    )
+
+-- the brackets around one that is opened
+pub AreAround-open : (c : Contents) (path key : List part.Part) (here new : code.Bracket) (outer : List code.Bracket) → IsHere c path here → here.names ≤ new.names → here.group ≤ new.group → AreAround c path here outer → AreAround c (path ++ key) new (here ∷ outer)
+AreAround-open c path key here new outer is longer later around =
+    let depth : here.names ≡ length path = is.depth in
+    let same : take here.names (path ++ key) ≡ path = ap (λ n. take n (path ++ key)) depth ∙ take-whole path key in
+    (longer, later, subst (λ p. IsWay c.rows 0 (settled (parts_in c.text p)) here.group) (sym same) is.way, AreAround-longer c path key here outer (omega arith) around)
+
+-- the bracket around one that is closed is then the innermost
+pub IsHere-around : (c : Contents) (path : List part.Part) (here around : code.Bracket) (outer : List code.Bracket) → IsHere c path here → AreAround c path here (around ∷ outer) → IsHere c (take around.names path) around
+IsHere-around c path here around outer is are =
+    let depth : here.names ≡ length path = is.depth in
+    let inside : here.group < length c.rows = is.inside in
+    let low : around.names ≤ here.names = are.0 in
+    let lower : around.group ≤ here.group = are.1 in
+    record { inside = omega arith; depth = sym (length-take around.names path (omega arith)); way = are.2 }
+
+pub AreAround-close : (c : Contents) (path : List part.Part) (here around : code.Bracket) (outer : List code.Bracket) → AreAround c path here (around ∷ outer) → AreAround c (take around.names path) around outer
+AreAround-close c path here around outer are = AreAround-shorter c around.names path around outer (omega arith) are.3
+
+-- no parts
+pub no-parts : (key : List part.Part) → length key ≡ 0 → key ≡ []
+no-parts [] none = refl
+no-parts (p ∷ key) none = absurd (omega arith)
+
+-- the brackets around one that counts one value more
+AreAround-values : (c : Contents) (path : List part.Part) (here new : code.Bracket) (outer : List code.Bracket) → new.names ≡ here.names → new.group ≡ here.group → AreAround c path here outer → AreAround c path new outer
+AreAround-values c path here new [] names_are group_is around = tt
+AreAround-values c path here new (b ∷ outer) names_are group_is around =
+    (subst (λ n. b.names ≤ n) (sym names_are) around.0, subst (λ n. b.group ≤ n) (sym group_is) around.1, around.2, around.3)
+
+-- a reader that goes to the place of the next value of a list
+pub number-leads : (c : Contents) (path key : List part.Part) (here : code.Bracket) (outer : List code.Bracket) (awaits : Awaits) (next : ℕ) → length key ≡ 0 → next ≡ here.values + 1
+    → at_number (state_in c path key here outer awaits)
+    ≡ state_in c path (key ++ record { removes = false; name = names.Number here.values } ∷ []) (record { line = here.line; array = here.array; values = next; names = here.names; group = here.group }) outer (Value false)
+number-leads c path key here outer awaits next none more =
+    let p : part.Part = record { removes = false; name = names.Number here.values } in
+    let empty_key = no-parts key none in
+    ap (λ k. at_number (state_in c path k here outer awaits)) empty_key
+    ∙ at_number-state c path here outer awaits
+    ∙ ap₂ (λ k n. state_in c path (k ++ p ∷ []) (record { line = here.line; array = here.array; values = n; names = here.names; group = here.group }) outer (Value false)) (sym empty_key) (sym more)
+
+pub number-open : (c : Contents) (path key : List part.Part) (here : code.Bracket) (outer : List code.Bracket) (awaits : Awaits) (next : ℕ) → length key ≡ 0 → IsOpen c path key here outer awaits
+    → IsOpen c path (key ++ record { removes = false; name = names.Number here.values } ∷ []) (record { line = here.line; array = here.array; values = next; names = here.names; group = here.group }) outer (Value false)
+number-open c path key here outer awaits next none is =
+    let p : part.Part = record { removes = false; name = names.Number here.values } in
+    let new : code.Bracket = record { line = here.line; array = here.array; values = next; names = here.names; group = here.group } in
+    subst (λ k. IsOpen c path (k ++ p ∷ []) new outer (Value false)) (sym (no-parts key none))
+    (record {
+      keyed = (omega arith, meets_text-one (part_in c.text p) (group_of here.group c.rows));
+      innermost = record { inside = is.innermost.inside; depth = is.innermost.depth; way = is.innermost.way };
+      around = AreAround-values c path here new outer refl refl is.around;
+    })
+
+-- a reader behind an item that was put
+pub text-open : (c d : Contents) (path key : List part.Part) (here : code.Bracket) (outer : List code.Bracket) (awaits : Awaits) (separator : Bool) → IsOpen c path key here outer awaits → d.text ≡ c.text → length c.rows ≤ length d.rows
+    → ((way : List Part) (last : ℕ) → last ≤ here.group → IsWay c.rows 0 way last → IsWay d.rows 0 way last) → IsOpen d path [] here outer (Item separator)
+text-open c d path key here outer awaits separator is same longer kept =
+    let inside : here.group < length c.rows = is.innermost.inside in
+    record {
+      keyed = refl;
+      innermost = record { inside = omega arith; depth = is.innermost.depth; way = subst (λ t. IsWay d.rows 0 (settled (parts_in t path)) here.group) (sym same) (kept (settled (parts_in c.text path)) here.group (omega arith) is.innermost.way) };
+      around = AreAround-kept c d path here outer here.group same (omega arith) kept is.around;
+    }
+
+-- a key that isn't refused
+cause-none : (names : ℕ) (parts : List Part) (g : Entries) → key_cause names parts g ≡ None → meets_text parts g ≡ false
+cause-none names parts g none = by_tests (key_defect parts) (nat_lt 16 (names + length parts)) (meets_text parts g) none
+  where
+    by_tests : (defect : Option ConfWhy) (a b : Bool) → or_cause defect (cond a (Some why.Deep) (cond b (Some why.Kind) None)) ≡ None → b ≡ false
+    by_tests (Some w) a b none = cc
+    by_tests None true b none = cc
+    by_tests None false true none = cc
+    by_tests None false false none = refl
+
+pub key-open : (c : Contents) (path old key : List part.Part) (here : code.Bracket) (outer : List code.Bracket) (awaits : Awaits) → IsOpen c path old here outer awaits → 1 ≤ length key → key_cause here.names (parts_in c.text key) (group_of here.group c.rows) ≡ None → IsOpen c path key here outer (Value true)
+key-open c path old key here outer awaits is some none = record { keyed = (some, cause-none here.names (parts_in c.text key) (group_of here.group c.rows) none); innermost = is.innermost; around = is.around }
+
+pub key-leads : (c : Contents) (path old key : List part.Part) (here : code.Bracket) (outer : List code.Bracket) (awaits : Awaits) → IsOpen c path old here outer awaits → length old ≡ 0
+    → put_key (state_in c path old here outer awaits) (key_defect (parts_in c.text key)) (parts_in c.text key)
+    ≡ key_leads (key_cause here.names (parts_in c.text key) (group_of here.group c.rows)) (state_in c path key here outer (Value true))
+key-leads c path old key here outer awaits is none =
+    ap (λ k. put_key (state_in c path k here outer awaits) (key_defect (parts_in c.text key)) (parts_in c.text key)) (no-parts old none)
+    ∙ put_key-state c path key here outer awaits is.innermost.depth is.innermost.way
+
+-- a reader within a bracket that was opened
+pub group-open : (c d : Contents) (path key : List part.Part) (here : code.Bracket) (outer : List code.Bracket) (awaits : Awaits) (line group : ℕ) (array : Bool) → IsOpen c path key here outer awaits → d.text ≡ c.text → length c.rows ≤ length d.rows
+    → ((way : List Part) (last : ℕ) → last ≤ here.group → IsWay c.rows 0 way last → IsWay d.rows 0 way last) → here.group < group → group < length d.rows → IsWay d.rows 0 (settled (parts_in c.text path) ++ settled (parts_in c.text key)) group
+    → IsOpen d (path ++ key) [] (record { line = line; array = array; values = 0; names = length (path ++ key); group = group }) (here ∷ outer) (Item false)
+unfolding path_in
+group-open c d path key here outer awaits line group array is same longer kept later inside way =
+    let new : code.Bracket = record { line = line; array = array; values = 0; names = length (path ++ key); group = group } in
+    let before = text-open c d path key here outer awaits true is same longer kept in
+    let depth : here.names ≡ length path = is.innermost.depth in
+    let count : length (path ++ key) ≡ length path + length key = length-append path key in
+    record {
+      keyed = refl;
+      innermost = record { inside = inside; depth = refl; way = subst (λ t. IsWay d.rows 0 (settled (parts_in t (path ++ key))) group) (sym same) (subst (λ w. IsWay d.rows 0 w group) (sym (path_in-append c.text path key)) way) };
+      around = AreAround-open d path key here new outer before.innermost (omega arith) (omega arith) before.around;
+    }
+
+-- a reader behind a bracket that was closed
+pub close-open : (c : Contents) (path key : List part.Part) (here around : code.Bracket) (outer : List code.Bracket) (awaits : Awaits) → IsOpen c path key here (around ∷ outer) awaits → length key ≡ 0 → IsOpen c (take around.names path) key around outer (Item true)
+close-open c path key here around outer awaits is none = record {
+  keyed = none;
+  innermost = IsHere-around c path here around outer is.innermost is.around;
+  around = AreAround-close c path here around outer is.around;
+}
+
+pub close-leads : (c : Contents) (path key : List part.Part) (here around : code.Bracket) (outer : List code.Bracket) (awaits : Awaits) → IsOpen c path key here (around ∷ outer) awaits → length key ≡ 0
+    → close_to (state_in c path key here (around ∷ outer) awaits) (map bracket_of (around ∷ outer)) ≡ Ok (state_in c (take around.names path) key around outer (Item true))
+close-leads c path key here around outer awaits is none =
+    let depth : here.names ≡ length path = is.innermost.depth in
+    let low : around.names ≤ here.names = is.around.0 in
+    ap (λ k. close_to (state_in c path k here (around ∷ outer) awaits) (map bracket_of (around ∷ outer))) (no-parts key none)
+    ∙ close_to-state c path here around outer awaits (omega arith)
+    ∙ ap (λ k. Ok (state_in c (take around.names path) k around outer (Item true))) (sym (no-parts key none))
+
+-- a cause that is given is refused by
+pub Refuses-Err : {S : Type 0} (cause : ConfWhy) (given : Result S ConfWhy) → given ≡ Err cause → Refuses cause given
+Refuses-Err why.Memory given is = tt
+Refuses-Err cause given is = is
+
+-- where a reader is, by other names
+pub IsOpen-along : (c : Contents) (path path' key key' : List part.Part) (line values names names' group : ℕ) (array : Bool) (outer outer' : List code.Bracket) (awaits : Awaits) → path ≡ path' → key ≡ key' → names ≡ names' → outer ≡ outer'
+    → IsOpen c path key (record { line = line; array = array; values = values; names = names; group = group }) outer awaits → IsOpen c path' key' (record { line = line; array = array; values = values; names = names'; group = group }) outer' awaits
+IsOpen-along c path path' key key' line values names names' group array outer outer' awaits paths keys names_are outers is =
+    subst (λ p. IsOpen c p key' (record { line = line; array = array; values = values; names = names'; group = group }) outer' awaits) paths
+    (subst (λ k. IsOpen c path k (record { line = line; array = array; values = values; names = names'; group = group }) outer' awaits) keys
+    (subst (λ n. IsOpen c path key (record { line = line; array = array; values = values; names = n; group = group }) outer' awaits) names_are
+    (subst (λ o. IsOpen c path key (record { line = line; array = array; values = values; names = names; group = group }) o awaits) outers is)))
+
+-- how many parts lead to a bracket
+pub names-least : (c : Contents) (parts key : List part.Part) (here : code.Bracket) (outer : List code.Bracket) (awaits : Awaits) → IsOpen c (take here.names parts) key here outer awaits → here.names ≤ length parts
+names-least c parts key here outer awaits is = take-least here.names parts (sym is.innermost.depth)
+
+-- a key's parts before the last meet no text
+pub key-clear : (c : Contents) (path key : List part.Part) (here : code.Bracket) (outer : List code.Bracket) (awaits : Awaits) → IsOpen c path key here outer awaits → 1 ≤ length key → meets_text (parts_in c.text key) (group_of here.group c.rows) ≡ false
+key-clear c path key here outer (Item separator) is some = let none : length key ≡ 0 = is.keyed in absurd (omega (arith, none, some))
+key-clear c path key here outer (Value equals) is some = is.keyed.1
+
+-- the first parts and those behind them, once one part was added
+pub take-push : (n : ℕ) (parts new : List part.Part) (p : part.Part) → n ≤ length parts → new ≡ parts ++ p ∷ [] → take n parts ≡ take n new
+take-push n parts new p low is = sym (ap (take n) is ∙ take-append-le n parts (p ∷ []) low)
+
+pub drop-push : (n : ℕ) (parts new : List part.Part) (p : part.Part) → n ≤ length parts → new ≡ parts ++ p ∷ [] → drop n parts ++ p ∷ [] ≡ drop n new
+drop-push n parts new p low is = sym (ap (drop n) is ∙ drop-append-le n parts (p ∷ []) low)
+
+-- the first parts and those behind them, where only the first are left
+pub take-truncate : (n m : ℕ) (parts new : List part.Part) → n ≤ m → new ≡ take n parts → take n (take m parts) ≡ take n new
+take-truncate n m parts new low is = take-take n m parts low ∙ sym (ap (take n) is ∙ take-take n n parts (omega arith))
+
+pub take-cleared : (n : ℕ) (parts new : List part.Part) → new ≡ take n parts → take n parts ≡ take n new
+take-cleared n parts new is = sym (ap (take n) is ∙ take-take n n parts (omega arith))
+
+pub drop-truncate : (n : ℕ) (parts new : List part.Part) → new ≡ take n parts → [] ≡ drop n new
+drop-truncate n parts new is = sym (ap (drop n) is ∙ drop-front n parts)
+
+-- the first parts, once others were added behind all
+pub take-kept : (n : ℕ) (parts new : List part.Part) → n ≤ length parts → take (length parts) new ≡ parts → take n new ≡ take n parts
+take-kept n parts new low kept = sym (take-take n (length parts) new low) ∙ ap (take n) kept
+
+-- the parts that were added
+pub parts_in-added : (text : List ℕ) (n : ℕ) (parts new : List part.Part) (added : List Part) → length parts ≡ n → parts_in text new ≡ parts_in text parts ++ added → parts_in text (drop n new) ≡ added
+parts_in-added text n parts new added count is =
+    sym (drop-map (part_in text) n new) ∙ ap (drop n) is ∙ drop_at (parts_in text parts) added n (length-parts_in text parts ∙ count)

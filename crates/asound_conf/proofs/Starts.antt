@@ -1,0 +1,184 @@
+-- Where the tokens of a text are in it.
+use Rattle.std.proofs.Common.{◌≡◌, ℕ, ◌+◌, ◌-◌, ◌<◌, ◌≤◌, ◌^◌, Bool, true, false, List, length, take, drop, Option, Some, None, refl, sym, ap, ◌∙◌, arith}
+use Rattle.std.specs.Prelude.{◌==◌, if◌then◌else◌, slice_index}
+use Rattle.std.specs.List.{list_any}
+use Rattle.std.proofs.lemmas.Bool.{false≢true}
+use Rattle.std.proofs.lemmas.Bool.Decides.{nat_tests}
+use Rattle.std.proofs.lemmas.List.{drop-drop, drop-take, length-drop, length-take, take-take}
+use Rattle.asound_conf.specs.declared.error.ConfWhy.TheVariants as why
+use Rattle.asound_conf.specs.declared.token.Mark.{Mark}
+use Rattle.asound_conf.specs.declared.token.Token as code
+use Rattle.asound_conf.specs.declared.token.Token.TheVariants as lent
+use Rattle.asound_conf.specs.Start.{AreAt, AreBefore, IsBefore, IsSuffix}
+use Rattle.asound_conf.specs.Table.{span_in}
+use Rattle.asound_conf.specs.Token.{word, quoted, bad, end_at, ends_word, is_control, is_quote, is_word, mark_of, mark_or, quoted_end, quoted_size, quoted_token, token_at, token_end, token_of}
+
+-- a text ends with itself
+pub IsSuffix-self : (text : List ℕ) → IsSuffix text text
+IsSuffix-self text = record { short = omega arith; is = let none : length text - length text ≡ 0 = omega arith in ap (λ (k : ℕ). drop k text) none }
+
+-- what follows is a text's end, too
+pub IsSuffix-drop : (text rest : List ℕ) (n : ℕ) → IsSuffix text rest → n ≤ length rest → IsSuffix text (drop n rest)
+IsSuffix-drop text rest n suffix within =
+    let count = length-drop n rest in
+    let place : length text - length (drop n rest) ≡ length text - length rest + n = omega (arith, count, within, suffix.short) in
+    record {
+      short = omega (arith, count, suffix.short);
+      is = ap (λ (k : ℕ). drop k text) place ∙ sym (drop-drop n (length text - length rest) text) ∙ ap (drop n) suffix.is;
+    }
+
+-- the end of a text's end
+pub IsSuffix-both : (text rest last : List ℕ) → IsSuffix text rest → IsSuffix rest last → IsSuffix text last
+IsSuffix-both text rest last first second =
+    let place : length text - length last ≡ (length text - length rest) + (length rest - length last) = omega (arith, first.short, second.short) in
+    record {
+      short = omega (arith, first.short, second.short);
+      is = ap (λ (k : ℕ). drop k text) place ∙ sym (drop-drop (length rest - length last) (length text - length rest) text) ∙ ap (drop (length rest - length last)) first.is ∙ second.is;
+    }
+
+-- bytes in a text's end are in the text
+AreBefore-suffix : (text rest last : List ℕ) (after : ℕ) (bytes : List ℕ) → IsSuffix text rest → AreBefore rest last after bytes → AreBefore text last after bytes
+AreBefore-suffix text rest last after bytes suffix before =
+    let all = length bytes + after + length last in
+    let place : length text - all ≡ (length text - length rest) + (length rest - all) = omega (arith, suffix.short, before.room) in
+    record {
+      room = omega (arith, suffix.short, before.room);
+      are = ap (λ (k : ℕ). take (length bytes) (drop k text)) place
+          ∙ ap (take (length bytes)) (sym (drop-drop (length rest - all) (length text - length rest) text) ∙ ap (drop (length rest - all)) suffix.is) ∙ before.are;
+    }
+
+pub IsBefore-suffix : (text rest last : List ℕ) (token : code.Token) → IsSuffix text rest → IsBefore rest last token → IsBefore text last token
+IsBefore-suffix text rest last (lent.Word w) suffix before = AreBefore-suffix text rest last 0 w.now suffix before
+IsBefore-suffix text rest last (lent.Quoted q) suffix before = AreBefore-suffix text rest last 1 q.now suffix before
+IsBefore-suffix text rest last (lent.Mark m) suffix before = tt
+IsBefore-suffix text rest last (lent.Bad w) suffix before = tt
+
+-- bytes before a text's end are at the place that the lengths say
+pub AreAt-before : (text rest : List ℕ) (after : ℕ) (bytes : List ℕ) (start : ℕ) → length text < 2 ^ 32 → start ≡ length text - (length bytes + after + length rest) → AreBefore text rest after bytes → AreAt text start bytes
+AreAt-before text rest after bytes start small at before = record {
+  are = ap (λ (k : ℕ). take (length bytes) (drop k text)) at ∙ before.are;
+  small = omega (arith, small, at, before.room);
+}
+
+-- what is_word says of a byte
+is_word-35 : (b : ℕ) → is_word b ≡ true → (b == 35) ≡ false
+is_word-35 b is = by (b == 35) refl
+  where
+    by : (t : Bool) → (b == 35) ≡ t → t ≡ false
+    by false e = refl
+    by true e = let at : b ≡ 35 = grind (arith, nat_tests, e) in absurd (false≢true (sym (ap is_word at) ∙ is))
+
+quoted-no_word : (a b c : Bool) (w q : List ℕ) → word w ≡ (if a then bad why.Byte else if b then bad why.Escape else if c then quoted q else bad why.Unclosed) → ⊥
+quoted-no_word true b c w q e = cc
+quoted-no_word false true c w q e = cc
+quoted-no_word false false true w q e = cc
+quoted-no_word false false false w q e = cc
+
+-- a word is the first of a text, and the text goes on behind it
+pub record IsWordFirst (text w : List ℕ) : Type 0 where
+  pub end : token_end text ≡ end_at ends_word text
+  pub is : w ≡ take (end_at ends_word text) text
+
+pub word-first : (text w : List ℕ) → word w ≡ token_at text → IsWordFirst text w
+unfolding token_at token_end
+word-first text w e = marked (mark_of (slice_index text 0)) e
+  where
+    worded : (h : Bool) → is_word (slice_index text 0) ≡ h → is_quote (slice_index text 0) ≡ false → word w ≡ (if h then word (take (end_at ends_word text) text) else bad why.Byte) → IsWordFirst text w
+    worded false is none e = cc
+    worded true is none e = record {
+      end = ap (λ (t : Bool). if t then end_at (λ c. c == 10) text else if is_quote (slice_index text 0) then quoted_size (slice_index text 0) (drop 1 text) else if is_word (slice_index text 0) then end_at ends_word text else 1) (is_word-35 (slice_index text 0) is)
+          ∙ ap (λ (t : Bool). if t then quoted_size (slice_index text 0) (drop 1 text) else if is_word (slice_index text 0) then end_at ends_word text else 1) none
+          ∙ ap (λ (t : Bool). if t then end_at ends_word text else 1) is;
+      is = cc;
+    }
+
+    quote : (q : Bool) → is_quote (slice_index text 0) ≡ q → word w ≡ (if q then quoted_token (slice_index text 0) (drop 1 text) else if is_word (slice_index text 0) then word (take (end_at ends_word text) text) else bad why.Byte) → IsWordFirst text w
+    quote true is e = absurd (quoted-no_word _ _ _ w _ e)
+    quote false is e = worded (is_word (slice_index text 0)) refl is e
+
+    marked : (m : Option Mark) → word w ≡ mark_or m (if is_quote (slice_index text 0) then quoted_token (slice_index text 0) (drop 1 text) else if is_word (slice_index text 0) then word (take (end_at ends_word text) text) else bad why.Byte) → IsWordFirst text w
+    marked (Some m) e = cc
+    marked None e = quote (is_quote (slice_index text 0)) refl e
+
+-- a quoted text is behind the first byte of a text, and the text goes on behind the quote that follows it
+pub record IsQuotedFirst (text q : List ℕ) : Type 0 where
+  pub end : token_end text ≡ quoted_end (slice_index text 0) (drop 1 text) + 2
+  pub is : q ≡ take (quoted_end (slice_index text 0) (drop 1 text)) (drop 1 text)
+
+-- a byte that is no quote, or no mark and a quote, isn't a `#`
+is_quote-35 : (b : ℕ) → is_quote b ≡ true → (b == 35) ≡ false
+is_quote-35 b is = by (b == 35) refl
+  where
+    by : (t : Bool) → (b == 35) ≡ t → t ≡ false
+    by false e = refl
+    by true e = let at : b ≡ 35 = grind (arith, nat_tests, e) in absurd (false≢true (sym (ap is_quote at) ∙ is))
+
+quoted-it : (a b c : Bool) (q x : List ℕ) → quoted q ≡ (if a then bad why.Byte else if b then bad why.Escape else if c then quoted x else bad why.Unclosed) → (c ≡ true) × (q ≡ x)
+quoted-it true b c q x e = cc
+quoted-it false true c q x e = cc
+quoted-it false false true q x e = (refl, cc)
+quoted-it false false false q x e = cc
+
+pub quoted-first : (text q : List ℕ) → quoted q ≡ token_at text → IsQuotedFirst text q
+unfolding token_at token_end
+quoted-first text q e = marked (mark_of (slice_index text 0)) e
+  where
+    quote : (t : Bool) → is_quote (slice_index text 0) ≡ t → quoted q ≡ (if t then quoted_token (slice_index text 0) (drop 1 text) else if is_word (slice_index text 0) then word (take (end_at ends_word text) text) else bad why.Byte) → IsQuotedFirst text q
+    quote true is e =
+        let it = quoted-it
+        (list_any is_control (take (quoted_end (slice_index text 0) (drop 1 text)) (drop 1 text)))
+        (list_any (λ b. b == 92) (take (quoted_end (slice_index text 0) (drop 1 text)) (drop 1 text)))
+        (slice_index (drop 1 text) (quoted_end (slice_index text 0) (drop 1 text)) == slice_index text 0) q
+        (take (quoted_end (slice_index text 0) (drop 1 text)) (drop 1 text)) e in
+        record {
+          end = ap (λ (t : Bool). if t then end_at (λ c. c == 10) text else if is_quote (slice_index text 0) then quoted_size (slice_index text 0) (drop 1 text) else if is_word (slice_index text 0) then end_at ends_word text else 1) (is_quote-35 (slice_index text 0) is)
+              ∙ ap (λ (t : Bool). if t then quoted_size (slice_index text 0) (drop 1 text) else if is_word (slice_index text 0) then end_at ends_word text else 1) is
+              ∙ ap (λ (t : Bool). if t then quoted_end (slice_index text 0) (drop 1 text) + 2 else quoted_end (slice_index text 0) (drop 1 text) + 1) it.0;
+          is = it.1;
+        }
+    quote false is e = worded (is_word (slice_index text 0)) e
+      where
+        worded : (h : Bool) → quoted q ≡ (if h then word (take (end_at ends_word text) text) else bad why.Byte) → IsQuotedFirst text q
+        worded false e = cc
+        worded true e = cc
+
+    marked : (m : Option Mark) → quoted q ≡ mark_or m (if is_quote (slice_index text 0) then quoted_token (slice_index text 0) (drop 1 text) else if is_word (slice_index text 0) then word (take (end_at ends_word text) text) else bad why.Byte) → IsQuotedFirst text q
+    marked (Some m) e = cc
+    marked None e = quote (is_quote (slice_index text 0)) refl e
+
+-- the first token of a text is before what follows
+pub IsBefore-first : (text rest : List ℕ) (token : code.Token) → token_of token ≡ token_at text → rest ≡ drop (token_end text) text → token_end text ≤ length text → IsBefore text rest token
+IsBefore-first text rest (lent.Mark m) is follows within = tt
+IsBefore-first text rest (lent.Bad w) is follows within = tt
+IsBefore-first text rest (lent.Word w) is follows within =
+    let it = word-first text w.now is in
+    let size : length w.now ≡ token_end text = ap length it.is ∙ length-take (end_at ends_word text) text ∙ (let end = it.end in omega (arith, end, within)) in
+    let left : length rest ≡ length text - token_end text = ap length follows ∙ length-drop (token_end text) text in
+    let none : length text - (length w.now + 0 + length rest) ≡ 0 = omega (arith, size, left, within) in
+    record {
+      room = omega (arith, size, left, within);
+      are = ap (λ (k : ℕ). take (length w.now) (drop k text)) none ∙ ap (λ (k : ℕ). take k text) (size ∙ it.end) ∙ sym it.is;
+    }
+IsBefore-first text rest (lent.Quoted q) is follows within =
+    let it = quoted-first text q.now is in
+    let room : length (drop 1 text) ≡ length text - 1 = length-drop 1 text in
+    let size : length q.now ≡ quoted_end (slice_index text 0) (drop 1 text) =
+    ap length it.is ∙ length-take (quoted_end (slice_index text 0) (drop 1 text)) (drop 1 text) ∙ (let end = it.end in omega (arith, end, within, room)) in
+    let left : length rest ≡ length text - token_end text = ap length follows ∙ length-drop (token_end text) text in
+    let end = it.end in
+    let one : length text - (length q.now + 1 + length rest) ≡ 1 = omega (arith, size, left, within, end) in
+    record {
+      room = omega (arith, size, left, within, end);
+      are = ap (λ (k : ℕ). take (length q.now) (drop k text)) one ∙ ap (λ (k : ℕ). take k (drop 1 text)) size ∙ sym it.is;
+    }
+
+-- parts of bytes are where they are in a text
+pub span-take : (text bytes : List ℕ) (start n : ℕ) → n ≤ length bytes → span_in text (record { start = start; count = length bytes }) ≡ bytes → span_in text (record { start = start; count = n }) ≡ take n bytes
+span-take text bytes start n within are = sym (take-take n (length bytes) (drop start text) within) ∙ ap (take n) are
+
+pub span-drop : (text bytes : List ℕ) (start n : ℕ) → n ≤ length bytes → span_in text (record { start = start; count = length bytes }) ≡ bytes → span_in text (record { start = start + n; count = length bytes - n }) ≡ drop n bytes
+span-drop text bytes start n within are =
+    let size : length bytes ≡ n + (length bytes - n) = omega (arith, within) in
+    let moved : drop n (take (length bytes) (drop start text)) ≡ take (length bytes - n) (drop n (drop start text)) =
+    ap (λ (k : ℕ). drop n (take k (drop start text))) size ∙ drop-take n (length bytes - n) (drop start text) in
+    ap (take (length bytes - n)) (sym (drop-drop n start text)) ∙ sym moved ∙ ap (drop n) are

@@ -1,0 +1,46 @@
+use Rattle.std.proofs.Common.{ℕ, List, None, sym, ◌∙◌, subst}
+use Rattle.asound_conf.specs.Rows.{IsAbsent, IsNode}
+use Rattle.asound_conf.specs.Table.{name_in}
+use Rattle.asound_conf.proofs.Puts.{group-Kind, group-same, push-Alters, push-Leads, IsStep-push, IsStep-IsNode}
+use Rattle.asound_conf.proofs.group.put_group.Goals as goal
+
+pub returns-in_default-clause-value : goal.returns-in_default-clause-value
+returns-in_default-clause-value c =
+    let old = c.args.table.now in
+    let name = name_in old.text c.args.name in
+    let none : IsAbsent old.rows c.args.group name = subst (λ (b : List ℕ). IsAbsent old.rows c.args.group b) c.key.ensures c.in_default.ensures.none in
+    push-Leads c.push.result c.args.group name None old c.push.new.self none c.requires c.push.ensures.rows c.push.ensures.memory
+
+pub returns-in_default-clause-step : goal.returns-in_default-clause-step
+returns-in_default-clause-step c =
+    let old = c.args.table.now in
+    IsStep-push c.push.result c.args.group (name_in old.text c.args.name) old c.push.new.self c.requires c.push.ensures.rows c.push.ensures.number
+
+pub returns-in_default-clause-alters : goal.returns-in_default-clause-alters
+returns-in_default-clause-alters c =
+    let old = c.args.table.now in
+    push-Alters c.push.result c.args.group (name_in old.text c.args.name) None old c.push.new.self c.push.ensures.rows c.push.ensures.kept
+
+pub returns-then-is_group-clause-value : goal.returns-then-is_group-clause-value
+returns-then-is_group-clause-value c =
+    let rows = c.args.table.now.rows in
+    let name = name_in c.args.table.now.text c.args.name in
+    let n = c.in-Some.number in
+    let is : IsNode rows c.args.group name n = subst (λ (b : List ℕ). IsNode rows c.args.group b n) c.key.ensures c.in-Some.ensures.some in
+    group-same rows c.args.group name n is (sym c.is_group.ensures ∙ c.if-is_group.true)
+
+pub returns-then-is_group-clause-step : goal.returns-then-is_group-clause-step
+returns-then-is_group-clause-step c =
+    let rows = c.args.table.now.rows in
+    let name = name_in c.args.table.now.text c.args.name in
+    let n = c.in-Some.number in
+    let is : IsNode rows c.args.group name n = subst (λ (b : List ℕ). IsNode rows c.args.group b n) c.key.ensures c.in-Some.ensures.some in
+    IsStep-IsNode rows c.args.group name n is (sym c.is_group.ensures ∙ c.if-is_group.true)
+
+pub returns-else-is_group-clause-value : goal.returns-else-is_group-clause-value
+returns-else-is_group-clause-value c =
+    let rows = c.args.table.now.rows in
+    let name = name_in c.args.table.now.text c.args.name in
+    let n = c.in-Some.number in
+    let is : IsNode rows c.args.group name n = subst (λ (b : List ℕ). IsNode rows c.args.group b n) c.key.ensures c.in-Some.ensures.some in
+    group-Kind rows c.args.group name n is (sym c.is_group.ensures ∙ c.if-is_group.false)

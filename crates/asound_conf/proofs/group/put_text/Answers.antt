@@ -1,0 +1,33 @@
+use Rattle.std.proofs.Common.{ℕ, List, Some, sym, ap, ◌∙◌, subst}
+use Rattle.asound_conf.specs.Rows.{Contents, IsAbsent, IsNode}
+use Rattle.asound_conf.specs.Table.{name_in, span_in}
+use Rattle.asound_conf.proofs.Puts.{push-Alters, push-Leads, text-Kind, text-set}
+use Rattle.asound_conf.proofs.group.put_text.Goals as goal
+
+pub returns-in_default-clause-value : goal.returns-in_default-clause-value
+returns-in_default-clause-value c =
+    let old = c.args.table.now in
+    let name = name_in old.text c.args.name in
+    let none : IsAbsent old.rows c.args.group name = subst (λ (b : List ℕ). IsAbsent old.rows c.args.group b) c.key.ensures c.in_default.ensures.none in
+    push-Leads c.push.result c.args.group name (Some (span_in old.text c.args.text)) old c.push.new.self none c.requires c.push.ensures.rows c.push.ensures.memory
+
+pub returns-in_default-clause-alters : goal.returns-in_default-clause-alters
+returns-in_default-clause-alters c =
+    let old = c.args.table.now in
+    push-Alters c.push.result c.args.group (name_in old.text c.args.name) (Some (span_in old.text c.args.text)) old c.push.new.self c.push.ensures.rows c.push.ensures.kept
+
+pub returns-then-is_group-clause-value : goal.returns-then-is_group-clause-value
+returns-then-is_group-clause-value c =
+    let rows = c.args.table.now.rows in
+    let name = name_in c.args.table.now.text c.args.name in
+    let n = c.in-Some.number in
+    let is : IsNode rows c.args.group name n = subst (λ (b : List ℕ). IsNode rows c.args.group b n) c.key.ensures c.in-Some.ensures.some in
+    text-Kind rows c.args.group name n (span_in c.args.table.now.text c.args.text) is (sym c.is_group.ensures ∙ c.if-is_group.true)
+
+pub returns-clause-value : goal.returns-clause-value
+returns-clause-value c =
+    let rows = c.args.table.now.rows in
+    let name = name_in c.args.table.now.text c.args.name in
+    let n = c.in-Some.number in
+    let is : IsNode rows c.args.group name n = subst (λ (b : List ℕ). IsNode rows c.args.group b n) c.key.ensures c.in-Some.ensures.some in
+    text-set rows c.set_text.new.self.rows c.args.group name n (span_in c.args.table.now.text c.args.text) is (sym c.is_group.ensures ∙ c.if-is_group.false) (ap (λ (x : Contents). x.rows) c.set_text.ensures)

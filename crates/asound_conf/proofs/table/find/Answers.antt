@@ -1,0 +1,15 @@
+use Rattle.std.proofs.Common.{◌≡◌, true, get_or, sym, ap, ◌∙◌}
+use Rattle.asound_conf.specs.declared.cell.Cell.{Cell}
+use Rattle.asound_conf.specs.Table.{cell_at, lacks, no_cell}
+use Rattle.asound_conf.proofs.Changes.{cell-any, zero_cell}
+use Rattle.asound_conf.proofs.Tables.{IsAbsent-lacks}
+use Rattle.asound_conf.proofs.table.find.Goals as goal
+
+pub returns-then-lacks-clause-none : goal.returns-then-lacks-clause-none
+returns-then-lacks-clause-none c =
+    let cells = c.args.cells.now in
+    let group = c.args.group in
+    let key = c.args.key in
+    let same : get_or cells group zero_cell ≡ cell_at cells group = cell-any cells group zero_cell no_cell c.if-group-cells.true in
+    let lacking : lacks (cell_at cells group).content key ≡ true = sym (ap (λ (d : Cell). lacks d.content key) same) ∙ sym c.lacks.ensures ∙ c.if-lacks.true in
+    IsAbsent-lacks c.args.text.now cells c.args.heads.now group key c.requires lacking

@@ -1,0 +1,67 @@
+-- What a table of cells means: each cell is a row, which is in the group of an earlier row, or in none.
+use Rattle.std.specs.Prelude.{◌≡◌, ℕ, suc, ◌<◌, ◌≤◌, ◌==◌, Bool, false, if◌then◌else◌, List, [], ◌∷◌, ◌++◌, length, drop, get_or, bytes_eq, Option, Some, None, ◌⊎◌}
+use Rattle.asound_conf.specs.Tree.{Tree, text, group, Entries, empty, entry}
+
+-- A row: the number of the row whose group it is in, where it is in one, its name, and its text, where it is no group.
+pub record Row : Type 0 where
+  pub parent : Option ℕ
+  pub name : List ℕ
+  pub value : Option (List ℕ)
+
+-- What a table has: the text that was read, and the rows, of which row 0 is the text's own group.
+pub record Contents : Type 0 where
+  pub text : List ℕ
+  pub rows : List Row
+
+-- a row is in the group of this number
+abbrev pub is_in : ℕ → Option ℕ → Bool
+is_in p None = false
+is_in p (Some q) = q == p
+
+-- the node of a row: its text, or else this group
+abbrev pub node : Option (List ℕ) → Entries → Tree
+node (Some t) g = text t
+node None g = group g
+
+-- the group of a number, by rows of which the first has the number `first`
+abbrev pub within : ℕ → ℕ → List Row → Entries
+within p first [] = empty
+within p first (row ∷ rows) =
+    if is_in p row.parent then entry row.name (node row.value (within first (suc first) rows)) (within p (suc first) rows) else within p (suc first) rows
+
+-- the group of the row of this number: those that are in it come after it
+abbrev pub group_of : ℕ → List Row → Entries
+group_of p rows = within p (suc p) (drop (suc p) rows)
+
+-- what is beside the rows: it is in no group
+abbrev pub no_row : Row
+no_row = record { parent = None; name = []; value = None }
+
+-- the row of this number
+abbrev pub row_at : List Row → ℕ → Row
+row_at rows n = get_or rows n no_row
+
+-- no row of a group has this name
+abbrev pub IsAbsent : List Row → ℕ → List ℕ → Type 0
+IsAbsent rows p name = (j : ℕ) → (row_at rows j).parent ≡ Some p → bytes_eq (row_at rows j).name name ≡ false
+
+-- a row is the last one of its group that has this name
+pub record IsNode (rows : List Row) (p : ℕ) (name : List ℕ) (n : ℕ) : Type 0 where
+  pub inside : n < length rows
+  pub parent : (row_at rows n).parent ≡ Some p
+  pub named : (row_at rows n).name ≡ name
+  pub falls : p < n
+  pub last : (j : ℕ) → n < j → (row_at rows j).parent ≡ Some p → bytes_eq (row_at rows j).name name ≡ false
+
+-- a row is in no other group than this one
+abbrev pub IsOnlyIn : ℕ → Row → Type 0
+IsOnlyIn q row = (d : ℕ) → (d ≡ q → ⊥) → is_in d row.parent ≡ false
+
+-- the rows that changed, and those that were added, are and were in the group of q or in none
+pub record Alters (q : ℕ) (old new : List Row) : Type 0 where
+  pub longer : length old ≤ length new
+  pub each : (j : ℕ) → (row_at old j ≡ row_at new j) ⊎ (IsOnlyIn q (row_at old j) × IsOnlyIn q (row_at new j))
+
+-- the contents with one row more
+abbrev pub with_row : Row → Contents → Contents
+with_row row c = record { text = c.text; rows = c.rows ++ row ∷ [] }
