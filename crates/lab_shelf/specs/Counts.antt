@@ -25,7 +25,7 @@ Foreseen (Err Failed) (Some works) = works ≡ false
 Foreseen (Err Memory) (Some works) = ⊤
 
 -- a count of faults after a call: one more where the call failed
-abbrev pub raised : {T : Type 0} → Result T ShelfFault → ℕ → ℕ
-raised (Ok x) count = count
-raised (Err Failed) count = one_more count
-raised (Err Memory) count = count
+abbrev pub count_after : {T : Type 0} → Result T ShelfFault → ℕ → ℕ
+count_after (Ok x) count = count
+count_after (Err Failed) count = one_more count
+count_after (Err Memory) count = count

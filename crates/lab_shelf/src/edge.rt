@@ -1,7 +1,7 @@
 //! The forms over real files and streams. They tell nothing of what these hold.
 ghost use Rattle.std.specs.Prelude.{◌≡◌, ◌≤◌, None, IsUtf8, IfOk, OnOk, MatchResult, vec_len};
 ghost use Rattle.std.specs.Io.KnownBytes.{Appends};
-ghost use Rattle.lab_shelf.specs.Counts.{Counted, raised};
+ghost use Rattle.lab_shelf.specs.Counts.{Counted, count_after};
 
 use crate::fault::ShelfFault;
 use crate::traits::{Shelf, Sink};
@@ -61,7 +61,7 @@ impl<R: Files> Shelf for FileShelf<R> {
         ensures most { IfOk result (λ bytes. vec_len bytes ≤ most) }
         ensures text { OnOk result (IsUtf8 name.now) }
         ensures after { self.new ≡ record self.old
-            { fetch_faults = raised result self.old.fetch_faults } }
+            { fetch_faults = count_after result self.old.fetch_faults } }
         ensures faults { Counted result self.old.fetch_faults self.new.fetch_faults }
         ensures write_faults { self.new.write_faults ≡ self.old.write_faults }
     {
@@ -75,7 +75,7 @@ impl<R: Files> Shelf for FileShelf<R> {
     fn store(&mut self, name: &[u8], bytes: &[u8]) -> Result<(), ShelfFault>
         ensures text { OnOk result (IsUtf8 name.now) }
         ensures after { self.new ≡ record self.old
-            { write_faults = raised result self.old.write_faults } }
+            { write_faults = count_after result self.old.write_faults } }
         ensures faults { Counted result self.old.write_faults self.new.write_faults }
         ensures fetch_faults { self.new.fetch_faults ≡ self.old.fetch_faults }
     {
@@ -89,7 +89,7 @@ impl<R: Files> Shelf for FileShelf<R> {
     fn begin(&mut self, name: &[u8], head: &[u8]) -> Result<(), ShelfFault>
         ensures text { OnOk result (IsUtf8 name.now) }
         ensures after { self.new ≡ record self.old
-            { write_faults = raised result self.old.write_faults } }
+            { write_faults = count_after result self.old.write_faults } }
         ensures faults { Counted result self.old.write_faults self.new.write_faults }
         ensures fetch_faults { self.new.fetch_faults ≡ self.old.fetch_faults }
     {
@@ -99,7 +99,7 @@ impl<R: Files> Shelf for FileShelf<R> {
     fn append(&mut self, name: &[u8], bytes: &[u8]) -> Result<(), ShelfFault>
         ensures text { OnOk result (IsUtf8 name.now) }
         ensures after { self.new ≡ record self.old
-            { write_faults = raised result self.old.write_faults } }
+            { write_faults = count_after result self.old.write_faults } }
         ensures faults { Counted result self.old.write_faults self.new.write_faults }
         ensures fetch_faults { self.new.fetch_faults ≡ self.old.fetch_faults }
     {
@@ -115,7 +115,7 @@ impl<R: Files> Shelf for FileShelf<R> {
     fn finish(&mut self, name: &[u8], head: &[u8]) -> Result<(), ShelfFault>
         ensures text { OnOk result (IsUtf8 name.now) }
         ensures after { self.new ≡ record self.old
-            { write_faults = raised result self.old.write_faults } }
+            { write_faults = count_after result self.old.write_faults } }
         ensures faults { Counted result self.old.write_faults self.new.write_faults }
         ensures fetch_faults { self.new.fetch_faults ≡ self.old.fetch_faults }
     {
@@ -159,7 +159,7 @@ impl<W: Write> Sink for StdSink<W> {
     ghost faults = { λ s. s };
 
     fn put(&mut self, bytes: &[u8]) -> Result<(), ShelfFault>
-        ensures after { self.new ≡ raised result self.old }
+        ensures after { self.new ≡ count_after result self.old }
         ensures faults { Counted result self.old self.new }
     {
         let outcome = write_through(&mut self.writer, bytes);

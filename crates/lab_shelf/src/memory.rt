@@ -1,5 +1,5 @@
 //! The forms in memory, whose calls fail where the caller lists their numbers.
-ghost use Rattle.std.specs.Prelude.{◌≡◌, ◌≢◌, ◌≤◌, ◌++◌, [], None, Some, Err, IsErrOf, IfOk, OnOk, OnErr, vec_len};
+ghost use Rattle.std.specs.Prelude.{◌≡◌, ◌≢◌, ◌≤◌, ◌↔◌, ◌++◌, [], None, Some, Err, IsErrOf, IsTrue, IfOk, OnOk, OnErr, vec_len};
 ghost use Rattle.std.specs.Option.{option_copied};
 ghost use Rattle.lab_shelf.specs.Files.{held, with_file, changed, overwritten, piece, IsPartWritten, IsPartAppended, IsPartFinished, IsHeld, HasRoom, TookPart};
 ghost use Rattle.lab_shelf.specs.Counts.{Counted, Foreseen};
@@ -65,6 +65,16 @@ impl MemoryShelf {
         ensures { option_copied result ≡ held self.now.files name.now }
     {
         content_of(&self.entries, name)
+    }
+
+    /// Whether the file of this name, if there is one, has as many bytes as a head, as `finish` asks.
+    pub fn has_room(&self, name: &[u8], head: &[u8]) -> bool
+        ensures { IsTrue result ↔ HasRoom (Some self.now.files) name.now head.now }
+    {
+        match self.file(name) {
+            Some(content) => head.len() <= content.len(),
+            None => true,
+        }
     }
 }
 

@@ -98,6 +98,9 @@ fn files_in_memory_are_appended_to_and_finished(rt: HostRuntime) -> Result<(), F
     assert_eq!(rt; shelf.file(b"b").unwrap_or(&[]), b"??onetwo".as_slice());
     assert_eq!(rt; shelf.file(b"a").unwrap_or(&[]), b"hello".as_slice());
     assert!(rt; shelf.file(b"c").is_none());
+    assert!(rt; shelf.has_room(b"a", b"jelly"));
+    assert!(rt; !shelf.has_room(b"a", b"jellyfish"));
+    assert!(rt; shelf.has_room(b"c", b"jellyfish"));
     Ok(())
 }
 

@@ -23,7 +23,8 @@ IsBytes bytes = (i : ℕ) → get_or bytes i 0 < 256
 abbrev pair : ℕ → ℕ → ℤ
 pair low high = cast_signed w16 (from_le_bytes w16 (low ∷ high ∷ []))
 
-drop-two : (bytes : List ℕ) (i : ℕ) → 2 * i + 1 < length bytes → drop (2 * i) bytes ≡ get_or bytes (2 * i) 0 ∷ get_or bytes (2 * i + 1) 0 ∷ drop (2 * (i + 1)) bytes
+-- what is left of bytes after whole samples begins with the next one's two
+pub drop-two : (bytes : List ℕ) (i : ℕ) → 2 * i + 1 < length bytes → drop (2 * i) bytes ≡ get_or bytes (2 * i) 0 ∷ get_or bytes (2 * i + 1) 0 ∷ drop (2 * (i + 1)) bytes
 drop-two bytes i inside =
     let here : 2 * i < length bytes = omega arith in
     let after : (2 * i + 1) + 1 ≡ 2 * (i + 1) = omega arith in

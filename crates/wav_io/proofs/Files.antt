@@ -18,9 +18,9 @@ use Rattle.wav_io.specs.Canonical.{sample_bytes, canonical, open_head, HasFile}
 use Rattle.wav_io.specs.Fields.{number_at, samples_of, whole_frames}
 use Rattle.wav_io.specs.Chunks.{Chunk, chunks}
 use Rattle.wav_io.specs.Formats.{terms_of, format_of}
-use Rattle.wav_io.specs.Reading.{most_bytes, body_found, decides, goes_on, settled, judged, finding, sound_of, sounds, at_end, found_in, wav_file}
+use Rattle.wav_io.specs.Reading.{most_bytes, body_found, decides, goes_on, verdict_of_format, verdict_of, scan_of, sound_of, sounds, at_end, found_in, wav_file}
 use Rattle.wav_io.proofs.Bodies.{samples_of-sample_bytes, length-sample_bytes}
-use Rattle.wav_io.proofs.Cutting.{finding-decides, finding-goes_on}
+use Rattle.wav_io.proofs.Cutting.{scan_of-decides, scan_of-goes_on}
 use Rattle.wav_io.proofs.Limits.{limited-short}
 
 abbrev sound : ℕ → ℕ → List ℤ → Sound
@@ -79,18 +79,18 @@ format_of-body channels rate some few rated fits =
 abbrev format_part : ℕ → ℕ → Chunk
 format_part channels rate = record { name = codes "fmt "; size = 16; body = format_body channels rate }
 
-judged-format : (channels rate : ℕ) → 1 ≤ channels → channels ≤ 8 → 1 ≤ rate → rate < 2 ^ 32 → judged Sixteen None (format_part channels rate) ≡ goes_on (Some (format channels rate))
-unfolding judged
-judged-format channels rate some few rated fits = ap settled (format_of-body channels rate some few rated fits)
+verdict_of-format : (channels rate : ℕ) → 1 ≤ channels → channels ≤ 8 → 1 ≤ rate → rate < 2 ^ 32 → verdict_of Sixteen None (format_part channels rate) ≡ goes_on (Some (format channels rate))
+unfolding verdict_of
+verdict_of-format channels rate some few rated fits = ap verdict_of_format (format_of-body channels rate some few rated fits)
 
 -- ---- the data chunk
 
 abbrev data_part : ℕ → List ℕ → Chunk
 data_part size body = record { name = codes "data"; size = size; body = body }
 
-judged-data : (f : Format) (size : ℕ) (body : List ℕ) → judged Sixteen (Some f) (data_part size body) ≡ decides (body_found f body)
-unfolding judged
-judged-data f size body = refl
+verdict_of-data : (f : Format) (size : ℕ) (body : List ℕ) → verdict_of Sixteen (Some f) (data_part size body) ≡ decides (body_found f body)
+unfolding verdict_of
+verdict_of-data f size body = refl
 
 -- ---- the whole file
 
@@ -116,16 +116,16 @@ from_data size body = codes "data" ++ to_le_bytes w32 size ++ body
 abbrev from_format : ℕ → ℕ → ℕ → List ℕ → List ℕ
 from_format channels rate size body = codes "fmt " ++ to_le_bytes w32 16 ++ format_body channels rate ++ from_data size body
 
-finding-data : (f : Format) (size : ℕ) (body : List ℕ) → size < 2 ^ 32 → length body ≤ size → finding Sixteen (Some f) (chunks (from_data size body)) ≡ body_found f body
-finding-data f size body fits len =
+scan_of-data : (f : Format) (size : ℕ) (body : List ℕ) → size < 2 ^ 32 → length body ≤ size → scan_of Sixteen (Some f) (chunks (from_data size body)) ≡ body_found f body
+scan_of-data f size body fits len =
     let all : take (from_le_bytes w32 (to_le_bytes w32 size)) body ≡ body = ap (λ (n : ℕ). take n body) (read_four size fits) ∙ take_all size body len in
-    finding-decides Sixteen (Some f) (from_data size body) (body_found f (take (from_le_bytes w32 (to_le_bytes w32 size)) body)) (omega arith) (judged-data f _ _)
+    scan_of-decides Sixteen (Some f) (from_data size body) (body_found f (take (from_le_bytes w32 (to_le_bytes w32 size)) body)) (omega arith) (verdict_of-data f _ _)
     ∙ ap (body_found f) all
 
-finding-format : (channels rate size : ℕ) (body : List ℕ) → 1 ≤ channels → channels ≤ 8 → 1 ≤ rate → rate < 2 ^ 32 → size < 2 ^ 32 → length body ≤ size → finding Sixteen None (chunks (from_format channels rate size body)) ≡ body_found (format channels rate) body
-finding-format channels rate size body some few rated low fits len =
-    finding-goes_on Sixteen None (Some (format channels rate)) (from_format channels rate size body) (omega arith) (judged-format channels rate some few rated low)
-    ∙ finding-data (format channels rate) size body fits len
+scan_of-format : (channels rate size : ℕ) (body : List ℕ) → 1 ≤ channels → channels ≤ 8 → 1 ≤ rate → rate < 2 ^ 32 → size < 2 ^ 32 → length body ≤ size → scan_of Sixteen None (chunks (from_format channels rate size body)) ≡ body_found (format channels rate) body
+scan_of-format channels rate size body some few rated low fits len =
+    scan_of-goes_on Sixteen None (Some (format channels rate)) (from_format channels rate size body) (omega arith) (verdict_of-format channels rate some few rated low)
+    ∙ scan_of-data (format channels rate) size body fits len
 
 found_in-canonical : (s : Sound) → HasFile s → found_in Sixteen (canonical s) ≡ body_found (format s.channels s.rate) (flat_map sample_bytes s.samples)
 unfolding found_in
@@ -133,12 +133,12 @@ found_in-canonical s file =
     let body = flat_map sample_bytes s.samples in
     let count = length-body s file in
     let fits : (length s.samples / s.channels) * s.channels * 2 < 2 ^ 32 = omega (arith, count, length-sample_bytes s.samples, file.size) in
-    finding-format s.channels s.rate ((length s.samples / s.channels) * s.channels * 2) body file.sound.some_channel file.sound.few_channels file.sound.some_rate (omega (arith, file.low_rate)) fits (omega (arith, count))
+    scan_of-format s.channels s.rate ((length s.samples / s.channels) * s.channels * 2) body file.sound.some_channel file.sound.few_channels file.sound.some_rate (omega (arith, file.low_rate)) fits (omega (arith, count))
 
 found_in-open : (s : Sound) → HasFile s → length (flat_map sample_bytes s.samples) ≤ 4294967295 → found_in Sixteen (open_head s.channels s.rate ++ flat_map sample_bytes s.samples) ≡ body_found (format s.channels s.rate) (flat_map sample_bytes s.samples)
 unfolding found_in
 found_in-open s file fits =
-    finding-format s.channels s.rate 4294967295 (flat_map sample_bytes s.samples) file.sound.some_channel file.sound.few_channels file.sound.some_rate (omega (arith, file.low_rate)) (omega arith) fits
+    scan_of-format s.channels s.rate 4294967295 (flat_map sample_bytes s.samples) file.sound.some_channel file.sound.few_channels file.sound.some_rate (omega (arith, file.low_rate)) (omega arith) fits
 
 sound_of-body : (s : Sound) → HasFile s → sound_of (format s.channels s.rate) (flat_map sample_bytes s.samples) ≡ s
 sound_of-body s file =

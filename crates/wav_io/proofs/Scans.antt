@@ -15,10 +15,10 @@ use Rattle.wav_io.specs.declared.scan.Scan.{Scan}
 use Rattle.wav_io.specs.declared.scan.Part.{Part}
 use Rattle.wav_io.specs.Chunks.{chunks}
 use Rattle.wav_io.specs.Pieces.{found_from, IsPlace, HasSeen, GoesOn, IsWalked, with_front}
-use Rattle.wav_io.specs.Reading.{Finding, refused, body_found, format_cut, ended, finding, found_in, at_end, before_end, limited, most_bytes}
+use Rattle.wav_io.specs.Reading.{Finding, refused, body_found, format_cut, ended, scan_of, found_in, at_end, before_end, limited, most_bytes}
 use Rattle.wav_io.specs.Scans.{IsScan, to_come, part_of, with_body, IsBehind, Continues, GoesThrough, Follows}
 use Rattle.wav_io.proofs.Bodies.{no_room}
-use Rattle.wav_io.proofs.Cutting.{finding-ended}
+use Rattle.wav_io.proofs.Cutting.{scan_of-ended}
 use Rattle.wav_io.proofs.Limits.{limited-short, limited-long, limited-append, before_end-with_body}
 use Rattle.wav_io.proofs.Places.{found_in-riff, found_in-wave}
 
@@ -171,7 +171,7 @@ cut_short : (depths : Depths) (place : Place) (kept : List ℕ) → IsPlace plac
 unfolding found_from
 cut_short depths Opening kept few seen unrefused = absurd (omega (arith, seen, few))
 cut_short depths (Head format skip) kept few seen unrefused =
-    ap before_end (ap (λ (b : List ℕ). finding depths format (chunks (kept ++ b))) (drop_all skip [] (omega arith)) ∙ ap (λ (b : List ℕ). finding depths format (chunks b)) (append-nil kept) ∙ finding-ended depths format kept few.0)
+    ap before_end (ap (λ (b : List ℕ). scan_of depths format (chunks (kept ++ b))) (drop_all skip [] (omega arith)) ∙ ap (λ (b : List ℕ). scan_of depths format (chunks b)) (append-nil kept) ∙ scan_of-ended depths format kept few.0)
 cut_short depths (FormatBody missing pad) kept few seen unrefused = ap before_end (cond-true (ltb 0 missing) format_cut _ (lt-ltb _ _ few.0))
 cut_short depths (DataBody f n) kept few seen unrefused = refl
 cut_short depths (Refused e) kept few seen unrefused = absurd (unrefused e refl)
@@ -223,7 +223,7 @@ ends_not_wave depths kept few is = ap (found_in depths) (append-nil kept) ∙ fo
 pub ends_head : (depths : Depths) (format : Option Format) (skip : ℕ) (kept : List ℕ) → length kept < 8 → found_from depths (Head format skip) kept [] ≡ ended format
 unfolding found_from
 ends_head depths format skip kept few =
-    ap (λ (b : List ℕ). finding depths format (chunks (kept ++ b))) (drop_all skip [] (omega arith)) ∙ ap (λ (b : List ℕ). finding depths format (chunks b)) (append-nil kept) ∙ finding-ended depths format kept few
+    ap (λ (b : List ℕ). scan_of depths format (chunks (kept ++ b))) (drop_all skip [] (omega arith)) ∙ ap (λ (b : List ℕ). scan_of depths format (chunks b)) (append-nil kept) ∙ scan_of-ended depths format kept few
 
 pub ends_cut : (depths : Depths) (missing pad : ℕ) (kept : List ℕ) → 0 < missing → found_from depths (FormatBody missing pad) kept [] ≡ format_cut
 unfolding found_from

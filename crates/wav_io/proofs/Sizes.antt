@@ -12,7 +12,7 @@ use Rattle.wav_io.specs.declared.format.Format.{Format}
 use Rattle.wav_io.specs.Chunks.{Chunk, size_at, first_chunk, after_chunk, chunks_in, chunks}
 use Rattle.wav_io.specs.Fields.{whole}
 use Rattle.wav_io.specs.Formats.{format_of}
-use Rattle.wav_io.specs.Reading.{Contents, Finding, refused, body_found, format_cut, ended, Verdict, decides, goes_on, settled, format_chunk, data_chunk, judged, followed, finding, found_in, at_end, before_end, contents, limited, most_bytes}
+use Rattle.wav_io.specs.Reading.{Contents, Finding, refused, body_found, format_cut, ended, Verdict, decides, goes_on, verdict_of_format, format_chunk, data_chunk, verdict_of, followed, scan_of, found_in, at_end, before_end, contents, limited, most_bytes}
 use Rattle.wav_io.specs.Readers.{Raw, raw_file, raw_frame, raws}
 use Rattle.wav_io.proofs.Limits.{limited-long, limited-short}
 
@@ -31,19 +31,19 @@ HasAtMost-more n m (ended format) low few = tt
 
 -- ---- one chunk
 
-settled-few : (n : ℕ) (r : Result Format WavError) (next : Option Format → Finding) → ((kept : Option Format) → HasAtMost n (next kept)) → HasAtMost n (followed (settled r) next)
-settled-few n (Ok f) next few = few (Some f)
-settled-few n (Err e) next few = tt
+verdict_of_format-few : (n : ℕ) (r : Result Format WavError) (next : Option Format → Finding) → ((kept : Option Format) → HasAtMost n (next kept)) → HasAtMost n (followed (verdict_of_format r) next)
+verdict_of_format-few n (Ok f) next few = few (Some f)
+verdict_of_format-few n (Err e) next few = tt
 
 format_chunk-few : (n : ℕ) (depths : Depths) (format : Option Format) (chunk : Chunk) (next : Option Format → Finding) → ((kept : Option Format) → HasAtMost n (next kept))
     → HasAtMost n (followed (format_chunk depths format chunk) next)
 format_chunk-few n depths (Some f) chunk next few = tt
 format_chunk-few n depths None chunk next few =
-    elim (ltb chunk.size 16) as (λ b. HasAtMost n (followed (cond b (decides (refused ShortFormat)) (cond (ltb (length chunk.body) chunk.size) (decides format_cut) (settled (format_of depths (take 40 chunk.body))))) next)) [
+    elim (ltb chunk.size 16) as (λ b. HasAtMost n (followed (cond b (decides (refused ShortFormat)) (cond (ltb (length chunk.body) chunk.size) (decides format_cut) (verdict_of_format (format_of depths (take 40 chunk.body))))) next)) [
       | true ↦ tt
-      | false ↦ elim (ltb (length chunk.body) chunk.size) as (λ b. HasAtMost n (followed (cond b (decides format_cut) (settled (format_of depths (take 40 chunk.body)))) next)) [
+      | false ↦ elim (ltb (length chunk.body) chunk.size) as (λ b. HasAtMost n (followed (cond b (decides format_cut) (verdict_of_format (format_of depths (take 40 chunk.body)))) next)) [
         | true ↦ tt
-        | false ↦ settled-few n (format_of depths (take 40 chunk.body)) next few
+        | false ↦ verdict_of_format-few n (format_of depths (take 40 chunk.body)) next few
       ]
     ]
 
@@ -51,10 +51,10 @@ data_chunk-few : (n : ℕ) (format : Option Format) (chunk : Chunk) (next : Opti
 data_chunk-few n (Some f) chunk next low = low
 data_chunk-few n None chunk next low = tt
 
-judged-few : (n : ℕ) (depths : Depths) (format : Option Format) (chunk : Chunk) (next : Option Format → Finding) → length chunk.body ≤ n → ((kept : Option Format) → HasAtMost n (next kept))
-    → HasAtMost n (followed (judged depths format chunk) next)
-unfolding judged
-judged-few n depths format chunk next low few =
+verdict_of-few : (n : ℕ) (depths : Depths) (format : Option Format) (chunk : Chunk) (next : Option Format → Finding) → length chunk.body ≤ n → ((kept : Option Format) → HasAtMost n (next kept))
+    → HasAtMost n (followed (verdict_of depths format chunk) next)
+unfolding verdict_of
+verdict_of-few n depths format chunk next low few =
     elim (bytes_eq chunk.name (codes "fmt ")) as (λ b. HasAtMost n (followed (cond b (format_chunk depths format chunk) (cond (bytes_eq chunk.name (codes "data")) (data_chunk format chunk) (goes_on format))) next)) [
       | true ↦ format_chunk-few n depths format chunk next few
       | false ↦ elim (bytes_eq chunk.name (codes "data")) as (λ b. HasAtMost n (followed (cond b (data_chunk format chunk) (goes_on format)) next)) [
@@ -71,23 +71,23 @@ length-first_chunk bytes = omega (arith, length-take (size_at bytes) (drop 8 byt
 length-after_chunk : (bytes : List ℕ) → length (after_chunk bytes) ≤ length bytes
 length-after_chunk bytes = omega (arith, length-drop (size_at bytes + size_at bytes % 2) (drop 8 bytes), length-drop 8 bytes)
 
-chunks_in-few : (n : ℕ) (bytes : List ℕ) (depths : Depths) (format : Option Format) → HasAtMost (length bytes) (finding depths format (chunks_in n bytes))
+chunks_in-few : (n : ℕ) (bytes : List ℕ) (depths : Depths) (format : Option Format) → HasAtMost (length bytes) (scan_of depths format (chunks_in n bytes))
 unfolding chunks_in
 chunks_in-few zero bytes depths format = tt
 chunks_in-few (suc n) bytes depths format =
-    elim (ltb (length bytes) 8) as (λ b. HasAtMost (length bytes) (finding depths format (cond b [] (first_chunk bytes ∷ chunks_in n (after_chunk bytes))))) [
+    elim (ltb (length bytes) 8) as (λ b. HasAtMost (length bytes) (scan_of depths format (cond b [] (first_chunk bytes ∷ chunks_in n (after_chunk bytes))))) [
       | true ↦ tt
       | false ↦
-          judged-few (length bytes) depths format (first_chunk bytes) (λ kept. finding depths kept (chunks_in n (after_chunk bytes))) (length-first_chunk bytes)
-          (λ kept. HasAtMost-more (length (after_chunk bytes)) (length bytes) (finding depths kept (chunks_in n (after_chunk bytes))) (length-after_chunk bytes) (chunks_in-few n (after_chunk bytes) depths kept))
+          verdict_of-few (length bytes) depths format (first_chunk bytes) (λ kept. scan_of depths kept (chunks_in n (after_chunk bytes))) (length-first_chunk bytes)
+          (λ kept. HasAtMost-more (length (after_chunk bytes)) (length bytes) (scan_of depths kept (chunks_in n (after_chunk bytes))) (length-after_chunk bytes) (chunks_in-few n (after_chunk bytes) depths kept))
     ]
 
 found_in-few : (depths : Depths) (bytes : List ℕ) → HasAtMost (length bytes) (found_in depths bytes)
 unfolding found_in chunks
 found_in-few depths bytes =
-    elim (bytes_eq (take 4 bytes) (codes "RIFF")) as (λ b. HasAtMost (length bytes) (cond b (cond (bytes_eq (take 4 (drop 8 bytes)) (codes "WAVE")) (finding depths None (chunks (drop 12 bytes))) (refused NotWave)) (refused NotRiff))) [
-      | true ↦ elim (bytes_eq (take 4 (drop 8 bytes)) (codes "WAVE")) as (λ b. HasAtMost (length bytes) (cond b (finding depths None (chunks (drop 12 bytes))) (refused NotWave))) [
-        | true ↦ HasAtMost-more (length (drop 12 bytes)) (length bytes) (finding depths None (chunks (drop 12 bytes))) (omega (arith, length-drop 12 bytes)) (chunks_in-few (length (drop 12 bytes)) (drop 12 bytes) depths None)
+    elim (bytes_eq (take 4 bytes) (codes "RIFF")) as (λ b. HasAtMost (length bytes) (cond b (cond (bytes_eq (take 4 (drop 8 bytes)) (codes "WAVE")) (scan_of depths None (chunks (drop 12 bytes))) (refused NotWave)) (refused NotRiff))) [
+      | true ↦ elim (bytes_eq (take 4 (drop 8 bytes)) (codes "WAVE")) as (λ b. HasAtMost (length bytes) (cond b (scan_of depths None (chunks (drop 12 bytes))) (refused NotWave))) [
+        | true ↦ HasAtMost-more (length (drop 12 bytes)) (length bytes) (scan_of depths None (chunks (drop 12 bytes))) (omega (arith, length-drop 12 bytes)) (chunks_in-few (length (drop 12 bytes)) (drop 12 bytes) depths None)
         | false ↦ tt
       ]
       | false ↦ tt

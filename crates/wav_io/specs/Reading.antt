@@ -39,9 +39,9 @@ pub data Verdict : Type 0 where
   goes_on : Option Format → Verdict
 
 -- a format that is in order is kept
-abbrev pub settled : Result Format WavError → Verdict
-settled (Ok f) = goes_on (Some f)
-settled (Err e) = decides (refused e)
+abbrev pub verdict_of_format : Result Format WavError → Verdict
+verdict_of_format (Ok f) = goes_on (Some f)
+verdict_of_format (Err e) = decides (refused e)
 
 -- a second format chunk is refused before its size, a size below 16 before its body, of which the
 -- first 40 bytes are looked at
@@ -50,7 +50,7 @@ format_chunk depths (Some f) chunk = decides (refused FormatTwice)
 format_chunk depths None chunk =
     if nat_lt chunk.size 16 then decides (refused ShortFormat)
     else if nat_lt (length chunk.body) chunk.size then decides format_cut
-    else settled (format_of depths (take 40 chunk.body))
+    else verdict_of_format (format_of depths (take 40 chunk.body))
 
 -- the first data chunk has the samples
 abbrev pub data_chunk : Option Format → Chunk → Verdict
@@ -58,8 +58,8 @@ data_chunk (Some f) chunk = decides (body_found f chunk.body)
 data_chunk None chunk = decides (refused NoFormat)
 
 -- every other chunk is skipped
-unfoldable pub judged : Depths → Option Format → Chunk → Verdict
-judged depths format chunk =
+unfoldable pub verdict_of : Depths → Option Format → Chunk → Verdict
+verdict_of depths format chunk =
     if bytes_eq chunk.name (codes "fmt ") then format_chunk depths format chunk
     else if bytes_eq chunk.name (codes "data") then data_chunk format chunk
     else goes_on format
@@ -70,15 +70,15 @@ followed (decides f) next = f
 followed (goes_on format) next = next format
 
 -- the result of scanning the chunks, after the format that was before them
-abbrev pub finding : Depths → Option Format → List Chunk → Finding
-finding depths format [] = ended format
-finding depths format (chunk ∷ behind) = followed (judged depths format chunk) (λ kept. finding depths kept behind)
+abbrev pub scan_of : Depths → Option Format → List Chunk → Finding
+scan_of depths format [] = ended format
+scan_of depths format (chunk ∷ behind) = followed (verdict_of depths format chunk) (λ kept. scan_of depths kept behind)
 
 -- the chunks behind `RIFF`, the RIFF size, which isn't looked at, and `WAVE`
 unfoldable pub found_in : Depths → List ℕ → Finding
 found_in depths bytes =
     if bytes_eq (take 4 bytes) (codes "RIFF") then
-    (if bytes_eq (take 4 (drop 8 bytes)) (codes "WAVE") then finding depths None (chunks (drop 12 bytes)) else refused NotWave)
+    (if bytes_eq (take 4 (drop 8 bytes)) (codes "WAVE") then scan_of depths None (chunks (drop 12 bytes)) else refused NotWave)
     else refused NotRiff
 
 -- the format and the data of a file

@@ -1,7 +1,7 @@
 //! Little-endian numbers and samples in bytes.
 
 ghost use Rattle.std.specs.Prelude.{◌≡◌, ◌+◌, ◌/◌, ◌≤◌, length};
-ghost use Rattle.std.specs.Int.{w16, w32};
+ghost use Rattle.std.specs.Int.{cast_signed, w16, w32};
 ghost use Rattle.wav_io.specs.Fields.{number_at, samples_of};
 
 /// The 16-bit number at a place.
@@ -25,6 +25,16 @@ pub fn u32_at(bytes: &[u8], place: usize) -> u32
     ])
 }
 
+/// The sample in the two bytes from a place on. They are a slice of their own, so that the compiler loads them as one number.
+#[inline(always)]
+fn sample_at(bytes: &[u8], place: usize) -> i16
+    requires { place + 2 ≤ length bytes.now }
+    ensures { result ≡ cast_signed w16 (number_at w16 place bytes.now) }
+{
+    let pair = &bytes[place..place + 2];
+    i16::from_le_bytes([pair[0], pair[1]])
+}
+
 /// Puts the samples of the bytes, two bytes each, into as many places. No bound is tested, so that the compiler can do
 /// several at a time.
 pub fn decode(samples: &mut [i16], bytes: &[u8])
@@ -32,6 +42,6 @@ pub fn decode(samples: &mut [i16], bytes: &[u8])
     ensures { samples.new ≡ samples_of bytes.now }
 {
     for i in 0..samples.len() {
-        samples[i] = i16::from_le_bytes([bytes[2 * i], bytes[2 * i + 1]]);
+        samples[i] = sample_at(bytes, 2 * i);
     }
 }

@@ -1,17 +1,19 @@
-use Rattle.std.proofs.Common.{◌≡◌, ◌*◌, ◌+◌, ◌<◌, [], ◌∷◌, ◌++◌, get_or, length, drop, take, arith, rules, ◌∙◌, ap, sym, to_z, of_z, FitsSigned, length-set}
+use Rattle.std.proofs.Common.{◌≡◌, ℕ, List, ◌*◌, ◌+◌, ◌<◌, [], ◌∷◌, ◌++◌, get_or, length, drop, take, arith, rules, ◌∙◌, ap, sym, to_z, of_z, FitsSigned, length-set}
 use Rattle.std.specs.Int.{w16, cast_signed, from_le_bytes}
 use Rattle.std.proofs.lemmas.Int.{to_z-of_z}
 use Rattle.std.proofs.lemmas.List.{take_more_set, take_all}
 use Rattle.wav_io.specs.Fields.{samples_of}
-use Rattle.wav_io.proofs.Bodies.{goes_on, ends}
+use Rattle.wav_io.proofs.Bodies.{drop-two, goes_on, ends}
 use Rattle.wav_io.proofs.fields.decode.Goals as goal
 
 pub loop-i-preserved : goal.loop-i-preserved
 loop-i-preserved c =
     let i = c.loop-i.i in
     let bytes = c.args.bytes.now in
-    let fits : FitsSigned w16 c.from_le_bytes.result = search rules in
-    let sample : to_z w16 (of_z w16 c.from_le_bytes.result) ≡ cast_signed w16 (from_le_bytes w16 (get_or bytes (2 * i) 0 ∷ get_or bytes (2 * i + 1) 0 ∷ [])) = to_z-of_z w16 _ fits ∙ c.from_le_bytes.ensures in
+    let fits : FitsSigned w16 c.sample_at.result = search rules in
+    let here : drop (2 * i) bytes ≡ get_or bytes (2 * i) 0 ∷ get_or bytes (2 * i + 1) 0 ∷ drop (2 * (i + 1)) bytes = drop-two bytes i (omega arith) in
+    let sample : to_z w16 (of_z w16 c.sample_at.result) ≡ cast_signed w16 (from_le_bytes w16 (get_or bytes (2 * i) 0 ∷ get_or bytes (2 * i + 1) 0 ∷ []))
+    = to_z-of_z w16 _ fits ∙ c.sample_at.ensures ∙ ap (λ (rest : List ℕ). cast_signed w16 (from_le_bytes w16 rest)) here in
     let inside : i < length c.loop-i.samples = omega arith in
     record {
       so_far = ap (λ zs. zs ++ samples_of (drop (2 * (i + 1)) bytes)) (take_more_set c.loop-i.samples i _ inside ∙ ap (λ z. take i c.loop-i.samples ++ z ∷ []) sample) ∙ goes_on (take i c.loop-i.samples) bytes i _ (omega arith) c.loop-i.invariant.so_far;

@@ -6,7 +6,7 @@ use Rattle.wav_io.specs.declared.error.WavError.TheVariants.{NoFormat}
 use Rattle.wav_io.specs.Formats.{IsFormat}
 use Rattle.wav_io.specs.Chunks.{chunks}
 use Rattle.wav_io.specs.Pieces.{LeadsTo}
-use Rattle.wav_io.specs.Reading.{finding}
+use Rattle.wav_io.specs.Reading.{scan_of}
 use Rattle.wav_io.proofs.Places.{leads_by_format, leads_by_data, leads_by_no_format, leads_by_other, leads_at_size}
 use Rattle.wav_io.proofs.judging.after_head.Goals as goal
 
@@ -23,8 +23,8 @@ returns-in-Some c depths =
     let isnt : bytes_eq (take 4 head) (codes "fmt ") ≡ false = sym (c.eq.ensures ∙ ap (bytes_eq (take 4 head)) c.as_slice.ensures) ∙ c.if-eq.false in
     let is : bytes_eq (take 4 head) (codes "data") ≡ true = sym (c.eq-2.ensures ∙ ap (bytes_eq (take 4 head)) c.as_slice-2.ensures) ∙ c.if-eq-2.true in
     let in_order : IsFormat c.in-Some.format = subst (λ f. IfSome f IsFormat) c.in-Some.is c.requires.in_order in
-    subst (λ f. LeadsTo depths (DataBody c.in-Some.format c.u32_at-size.result) (λ more. finding depths f (chunks (head ++ more)))) (sym c.in-Some.is)
-    (subst (λ n. LeadsTo depths (DataBody c.in-Some.format n) (λ more. finding depths (Some c.in-Some.format) (chunks (head ++ more)))) (sym c.u32_at-size.ensures)
+    subst (λ f. LeadsTo depths (DataBody c.in-Some.format c.u32_at-size.result) (λ more. scan_of depths f (chunks (head ++ more)))) (sym c.in-Some.is)
+    (subst (λ n. LeadsTo depths (DataBody c.in-Some.format n) (λ more. scan_of depths (Some c.in-Some.format) (chunks (head ++ more)))) (sym c.u32_at-size.ensures)
     (leads_by_data depths c.in-Some.format head c.requires.eight isnt is in_order))
 
 pub returns-in-None : goal.returns-in-None
@@ -32,7 +32,7 @@ returns-in-None c depths =
     let head = c.args.head.now in
     let isnt : bytes_eq (take 4 head) (codes "fmt ") ≡ false = sym (c.eq.ensures ∙ ap (bytes_eq (take 4 head)) c.as_slice.ensures) ∙ c.if-eq.false in
     let is : bytes_eq (take 4 head) (codes "data") ≡ true = sym (c.eq-2.ensures ∙ ap (bytes_eq (take 4 head)) c.as_slice-2.ensures) ∙ c.if-eq-2.true in
-    subst (λ f. LeadsTo depths (Refused NoFormat) (λ more. finding depths f (chunks (head ++ more)))) (sym c.in-None.is)
+    subst (λ f. LeadsTo depths (Refused NoFormat) (λ more. scan_of depths f (chunks (head ++ more)))) (sym c.in-None.is)
     (leads_by_no_format depths head c.requires.eight isnt is)
 
 pub returns : goal.returns
@@ -40,5 +40,5 @@ returns c depths =
     let head = c.args.head.now in
     let isnt : bytes_eq (take 4 head) (codes "fmt ") ≡ false = sym (c.eq.ensures ∙ ap (bytes_eq (take 4 head)) c.as_slice.ensures) ∙ c.if-eq.false in
     let nor : bytes_eq (take 4 head) (codes "data") ≡ false = sym (c.eq-2.ensures ∙ ap (bytes_eq (take 4 head)) c.as_slice-2.ensures) ∙ c.if-eq-2.false in
-    subst (λ n. LeadsTo depths (Head c.args.format (n + n % 2)) (λ more. finding depths c.args.format (chunks (head ++ more)))) (sym c.u32_at-size.ensures)
+    subst (λ n. LeadsTo depths (Head c.args.format (n + n % 2)) (λ more. scan_of depths c.args.format (chunks (head ++ more)))) (sym c.u32_at-size.ensures)
     (leads_by_other depths c.args.format head c.requires.eight isnt nor c.requires.in_order)

@@ -2,7 +2,7 @@ use Rattle.std.proofs.Common.{◌≡◌, sym, subst, arith, ◌++◌, List, ℕ}
 use Rattle.wav_io.specs.declared.place.Place.TheVariants.{Head}
 use Rattle.wav_io.specs.Chunks.{chunks}
 use Rattle.wav_io.specs.Pieces.{LeadsTo, GoesOn}
-use Rattle.wav_io.specs.Reading.{finding}
+use Rattle.wav_io.specs.Reading.{scan_of}
 use Rattle.wav_io.proofs.Places.{head-stays, head-leads, fewer}
 use Rattle.wav_io.proofs.steps.head.Goals as goal
 
@@ -23,8 +23,8 @@ returns-clause-goes_on c depths =
     let kept = c.fill-behind.new.self in
     let place = c.after_head-place.result in
     let none : c.args.skip ≡ 0 = omega arith in
-    let leads : LeadsTo depths place (λ more. finding depths c.args.format (chunks (kept ++ more))) =
-    subst (λ (b : List ℕ). LeadsTo depths place (λ more. finding depths c.args.format (chunks (b ++ more)))) c.as_slice.ensures (c.after_head-place.ensures depths) in
+    let leads : LeadsTo depths place (λ more. scan_of depths c.args.format (chunks (kept ++ more))) =
+    subst (λ (b : List ℕ). LeadsTo depths place (λ more. scan_of depths c.args.format (chunks (b ++ more)))) c.as_slice.ensures (c.after_head-place.ensures depths) in
     subst (λ (n : ℕ). GoesOn depths (Head c.args.format n) c.args.kept.now c.args.bytes.now place c.clear.new.self c.fill-behind.result.now) (sym none)
     (subst (λ (b : List ℕ). GoesOn depths (Head c.args.format 0) c.args.kept.now c.args.bytes.now place b c.fill-behind.result.now) (sym c.clear.ensures)
     (head-leads depths c.args.format _ _ kept _ place c.fill-behind.ensures.all leads))
