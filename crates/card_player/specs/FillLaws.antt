@@ -1,5 +1,5 @@
 -- The words of one frame, written into a buffer one after the other.
-use Rattle.std.proofs.Common.{◌≡◌, ℕ, suc, ◌+◌, ◌*◌, ◌<◌, ◌≤◌, ℤ, List, [], ◌∷◌, ◌++◌, length, take, drop, true, false, nat_lt, if◌then◌else◌, refl, sym, ap, subst, ◌∙◌, arith, length-take, add-one, append-nil, take-append-drop, take-take, drop-drop, le-ltb}
+use Rattle.std.proofs.Common.{◌≡◌, ℕ, suc, ◌+◌, ◌*◌, ◌<◌, ◌≤◌, ℤ, List, [], ◌∷◌, ◌++◌, length, take, drop, true, false, nat_lt, if◌then◌else◌, sym, ap, subst, ◌∙◌, arith, length-take, append-nil, take-append-drop, take-take, drop-drop, le-ltb}
 use Rattle.std.proofs.lemmas.List.{drop-append-le, drop-set-lt, take-set-le, take_more_set}
 use Rattle.std.proofs.Math.ListN.{set}
 use Rattle.std.proofs.Math.Numerals.{suc-eq-add-one}

@@ -1,3 +1,4 @@
+pub mod DueLaws
 pub mod FillLaws
 pub mod PlayLaws
 pub mod Plays

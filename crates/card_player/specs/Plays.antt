@@ -65,6 +65,12 @@ is_multiple period f = f % period == 0
 abbrev pub period_at : ℕ → ℕ → List ℕ
 period_at period f = if is_multiple period f then f ∷ [] else []
 
+-- the next multiple of the period, from a frame on: it is this frame or one of the next frames, fewer than a period
+pub record IsDue (period frame due : ℕ) : Type 0 where
+  pub least : frame ≤ due
+  pub near : due < frame + period
+  pub multiple : due % period ≡ 0
+
 -- the multiples of the period past a frame, among the next so many frame numbers
 abbrev pub periods_to : ℕ → ℕ → ℕ → List ℕ
 periods_to period first zero = []
@@ -124,16 +130,19 @@ HasFrame p = frame_of p < end_frame (geometry_of p)
 abbrev pub IsAtLapEnd : CardPlayer → Type 0
 IsAtLapEnd p = lap (geometry_of p) (frame_of p) ≡ 4294967295
 
--- so many frames were played, and the positions among them published
+-- so many frames were played, and the positions among them published, by a period or by the player's
+abbrev pub PlaysBy : ℕ → CardPlayer → CardPlayer → ℕ → List ℤ → List ℤ → Type 0
+PlaysBy period p q frames old new = PlaysFrames p q frames old new (positions_of period (frame_of p) frames)
+
 abbrev pub PlaysAndPublishes : CardPlayer → CardPlayer → ℕ → List ℤ → List ℤ → Type 0
-PlaysAndPublishes p q frames old new = PlaysFrames p q frames old new (positions_of (period_of p) (frame_of p) frames)
+PlaysAndPublishes p q frames old new = PlaysBy (period_of p) p q frames old new
 
 -- fewer frames were played than a buffer has room for: the ring's end came first
 abbrev pub EndsEarly : CardPlayer → List ℤ → Type 0
 EndsEarly p out = frames_left p out < frames_in p out
 
--- a position is published where it is a multiple of the period, and nothing else is done
-pub record PublishesPeriod (p q : CardPlayer) : Type 0 where
-  pub played : HasPlayed (seat_of p) (seat_of q) [] (period_at (period_of p) (frame_of p))
+-- a position is published where it is a multiple of so many frames, and nothing else is done
+pub record PublishesPeriod (frames : ℕ) (p q : CardPlayer) : Type 0 where
+  pub played : HasPlayed (seat_of p) (seat_of q) [] (period_at frames (frame_of p))
   pub next : next_of_player (seat_of q) ≡ next_of_player (seat_of p)
   pub period : period_of q ≡ period_of p

@@ -21,7 +21,7 @@ impl<'a> CardPlayer<'a> {
     ghost use Rattle.snd_base.specs.Places.{end_frame};
     ghost use Rattle.sum_table.specs.Joins.{HasHeard, HasPlayerNote, OneRing, note_key, note_ring};
     ghost use Rattle.sum_table.specs.Players.{HasPublished, HasUnplugged, next_of_player, player_key, player_ring, position_of_player};
-    ghost use Rattle.card_player.specs.Plays.{EndsEarly, HasFrame, HasRoom, IsAtFrame, IsAtLapEnd, PlaysAndPublishes, PlaysFrames, PublishesPeriod, TakesFrameAt, frame_of, frames_left, geometry_of, is_multiple, period_of, seat_of};
+    ghost use Rattle.card_player.specs.Plays.{EndsEarly, HasFrame, HasRoom, IsAtFrame, IsAtLapEnd, IsDue, PlaysAndPublishes, PlaysBy, PlaysFrames, PublishesPeriod, TakesFrameAt, frame_of, frames_left, geometry_of, is_multiple, period_of, seat_of};
 
     /// A player over this seat, with a period of so many frames, at least 1.
     pub fn new(seat: PlayerSeat<'a>, period: u32) -> CardPlayer<'a>
@@ -93,6 +93,7 @@ impl<'a> CardPlayer<'a> {
     /// an index on. Nothing is published.
     ///
     /// The caller has room there for one sample of each channel, and a next word of channel 0 (`is_at_frame`).
+    #[inline(always)]
     pub fn take_frame_at(&mut self, out: &mut [i16], at: usize)
         requires room { HasRoom self.old at out.old }
         requires at_frame { IsAtFrame self.old }
@@ -120,15 +121,43 @@ impl<'a> CardPlayer<'a> {
         ensures lap_end { IsErrOf result PcmError.LapEnd ↔ EndsEarly self.old out.old }
         ensures only { IfErr result (λ e. e ≡ PcmError.LapEnd) }
     {
+        self.play_by(self.period, out)
+    }
+
+    /// Plays in the same way, by a period of so many frames, at least 1, in place of the player's own.
+    pub fn play_by(&mut self, period: u32, out: &mut [i16]) -> Result<(), PcmError>
+        requires period { 1 ≤ period }
+        requires at_frame { IsAtFrame self.old }
+        ensures plays { PlaysBy period self.old self.new (frames_left self.old out.old) out.old out.new }
+        ensures lap_end { IsErrOf result PcmError.LapEnd ↔ EndsEarly self.old out.old }
+        ensures only { IfErr result (λ e. e ≡ PcmError.LapEnd) }
+    {
         let geometry = self.seat.geometry();
         let first = self.seat.next().frame;
         let frames = out.len() / geometry.channels as usize;
         let left = (geometry.end_frame() - first).min(frames as u64) as usize;
-        self.play_frames(out, left);
+        self.play_frames(period, out, left);
         if left < frames {
             return Err(PcmError::LapEnd);
         }
         Ok(())
+    }
+
+    /// The next multiple of a period past the next frame. With it a loop over frames needs no division for each of them.
+    pub fn next_period(&self, period: u32) -> u64
+        requires { 1 ≤ period }
+        ensures { IsDue period (frame_of self.now + 1) result }
+    {
+        let frame = self.seat.next().frame;
+        frame + (period as u64 - frame % period as u64)
+    }
+
+    /// Whether the last of so many frames, which were just played, ended a period.
+    pub fn has_ended_period(&self, period: u32, frames: usize) -> bool
+        requires { 1 ≤ period }
+        ensures { result ≡ (nat_lt 0 frames && is_multiple period (frame_of self.now)) }
+    {
+        frames > 0 && self.seat.next().frame % period as u64 == 0
     }
 
     /// Publishes the number of the first frame that isn't wholly taken as the position, by one store.
@@ -173,42 +202,53 @@ impl<'a> CardPlayer<'a> {
     }
 
     // Plays so many frames, which the ring still has and `out` has room for.
-    fn play_frames(&mut self, out: &mut [i16], frames: usize)
+    fn play_frames(&mut self, period: u32, out: &mut [i16], frames: usize)
+        requires period { 1 ≤ period }
         requires room { frames * (geometry_of self.old).channels ≤ length out.old }
         requires at_frame { IsAtFrame self.old }
         requires fits { frame_of self.old + frames ≤ end_frame (geometry_of self.old) }
-        ensures { PlaysAndPublishes self.old self.new frames out.old out.new }
+        ensures { PlaysBy period self.old self.new frames out.old out.new }
+    {
+        // Each call is a loop of its own in the machine code. In the first one the number of channels is a constant.
+        if self.seat.geometry().channels == 1 {
+            self.play_all(period, out, frames);
+        } else {
+            self.play_all(period, out, frames);
+        }
+    }
+
+    // Plays so many frames, in the code of its caller, which may know the number of channels.
+    #[inline(always)]
+    fn play_all(&mut self, period: u32, out: &mut [i16], frames: usize)
+        requires period { 1 ≤ period }
+        requires room { frames * (geometry_of self.old).channels ≤ length out.old }
+        requires at_frame { IsAtFrame self.old }
+        requires fits { frame_of self.old + frames ≤ end_frame (geometry_of self.old) }
+        ensures { PlaysBy period self.old self.new frames out.old out.new }
     {
         let channels = self.seat.geometry().channels as usize;
+        let mut due = self.next_period(period);
         for frame in 0..frames {
             self.take_frame_at(out, frame * channels);
-            self.publish_period();
+            due = self.publish_period(period, due);
         }
-        if !self.has_ended_period(frames) {
+        if !self.has_ended_period(period, frames) {
             self.seat.publish();
         }
     }
 
-    // Publishes the position where it is a multiple of the period.
-    fn publish_period(&mut self)
-        ensures { PublishesPeriod self.old self.new }
+    // Publishes the position where it is a multiple of the period, of which it is given the next one. Answers the next one past it.
+    #[inline(always)]
+    fn publish_period(&mut self, period: u32, due: u64) -> u64
+        requires period { 1 ≤ period }
+        requires due { IsDue period (frame_of self.old) due }
+        ensures publishes { PublishesPeriod period self.old self.new }
+        ensures due { IsDue period (frame_of self.new + 1) result }
     {
-        if self.is_at_period() {
-            self.seat.publish();
+        if self.seat.next().frame != due {
+            return due;
         }
-    }
-
-    // Whether the last of so many frames, which were just played, ended a period.
-    fn has_ended_period(&self, frames: usize) -> bool
-        ensures { result ≡ (nat_lt 0 frames && is_multiple (period_of self.now) (frame_of self.now)) }
-    {
-        frames > 0 && self.is_at_period()
-    }
-
-    // Whether the next frame begins a period.
-    fn is_at_period(&self) -> bool
-        ensures { result ≡ is_multiple (period_of self.now) (frame_of self.now) }
-    {
-        self.seat.next().frame % self.period as u64 == 0
+        self.seat.publish();
+        due + period as u64
     }
 }

@@ -1,17 +1,31 @@
 -- What a card captures, put together.
 use Rattle.std.specs.Prelude.{◌≡◌, ℕ, ◌+◌, ℤ, List, [], ◌∷◌, ◌++◌}
-use Rattle.std.proofs.Common.{◌*◌, true, false, take, drop, refl, sym, ap, subst, ◌∙◌, append_assoc, append-nil, arith}
+use Rattle.std.proofs.Common.{◌*◌, Bool, true, false, take, drop, refl, sym, ap, subst, ◌∙◌, append_assoc, append-nil, arith}
+use Rattle.std.proofs.lemmas.Bool.{false≢true}
 use Rattle.snd_base.specs.declared.places.Cursor.{Cursor}
+use Rattle.sum_table.specs.declared.view.Key.{Key}
 use Rattle.sum_table.specs.Players.{next_of_player}
 use Rattle.card_player.specs.declared.player.CardPlayer.{CardPlayer}
 use Rattle.card_player.specs.FillLaws.{HasFilled, take-split}
 use Rattle.card_player.specs.PlayLaws.{HasPlayed-joined, periods_to-ended, periods_to-more, periods_to-open}
-use Rattle.card_player.specs.Plays.{HasPlayed, ends_period, frame_of, period_at, periods_to, positions_of, samples_of, seat_of}
+use Rattle.card_player.specs.Plays.{HasPlayed, PlaysFrames, at_frame, ends_period, frame_of, geometry_of, period_at, periods_to, positions_of, samples_of, seat_of}
 use Rattle.snoop_table.specs.declared.seats.writer.WriterSeat.{WriterSeat}
 use Rattle.snoop_table.specs.declared.view.Track.{Track}
-use Rattle.snoop_table.specs.Writers.{HasPublished, HasStored, desk_of, next_frame, writer_track}
+use Rattle.snoop_table.specs.Writers.{HasPublished, HasStored, desk_of, next_frame, writer_geometry, writer_track}
 use Rattle.card_sim.specs.Runs.{HasCaptured, RunsFrames}
-use Rattle.card_sim.specs.Steps.{AreInStep}
+use Rattle.card_sim.specs.Steps.{AreInStep, AreSeatsOfCard}
+
+-- seats that are in step are those of a card, whether it records or not
+pub AreSeatsOfCard-in_step : (records : Bool) (p : CardPlayer) (w : WriterSeat) → AreInStep p w → AreSeatsOfCard records p w
+AreSeatsOfCard-in_step records p w step = record {
+  geometry = step.geometry;
+  whole = step.next ∙ ap at_frame (sym (ap (λ (x : Cursor). x.frame) step.next));
+  next = λ is. step.next;
+}
+
+-- those of a card that records are in step
+pub AreInStep-records : (p : CardPlayer) (w : WriterSeat) → AreSeatsOfCard true p w → AreInStep p w
+AreInStep-records p w seats = record { geometry = seats.geometry; next = seats.next refl }
 
 pub HasCaptured-none : (w : WriterSeat) → HasCaptured w w [] []
 HasCaptured-none w = record {
@@ -78,7 +92,7 @@ pub RunsFrames-published : (p q r : CardPlayer) (w v u : WriterSeat) (period n :
     → ends_period period (frame_of p) n ≡ false
     → HasPlayed (seat_of q) (seat_of r) [] (frame_of q ∷ []) → HasCaptured v u [] (frame_of q ∷ [])
     → next_of_player (seat_of r) ≡ next_of_player (seat_of q) → AreInStep r u
-    → RunsFrames p w r u period n captured old new
+    → RunsFrames true p w r u period n captured old new
 RunsFrames-published p q r w v u period n captured old new filled caught not_ended played published stays in_step =
     let end_is : frame_of q ≡ frame_of p + n = ap (λ (x : Cursor). x.frame) filled.next in
     let positions : periods_to period (frame_of p) n ++ frame_of q ∷ [] ≡ positions_of period (frame_of p) n =
@@ -91,7 +105,7 @@ RunsFrames-published p q r w v u period n captured old new filled caught not_end
           (subst (λ (ps : List ℕ). HasCaptured w u (samples_of p n captured ++ []) ps) positions
           (HasCaptured-joined w v u (samples_of p n captured) [] (periods_to period (frame_of p) n) (frame_of q ∷ []) caught published));
       next = stays ∙ filled.next;
-      in_step = in_step;
+      in_step = AreSeatsOfCard-in_step true r u in_step;
       rest = filled.rest;
     }
 
@@ -100,13 +114,29 @@ pub RunsFrames-ended : (p q : CardPlayer) (w v : WriterSeat) (period n : ℕ) (c
     → HasFilled (seat_of p) (seat_of q) period n old new
     → HasCaptured w v (samples_of p n captured) (periods_to period (frame_of p) n)
     → ends_period period (frame_of p) n ≡ true → AreInStep q v
-    → RunsFrames p w q v period n captured old new
+    → RunsFrames true p w q v period n captured old new
 RunsFrames-ended p q w v period n captured old new filled caught ended in_step =
     let positions : periods_to period (frame_of p) n ≡ positions_of period (frame_of p) n = periods_to-ended period (frame_of p) n ended in
     record {
       played = subst (λ (ps : List ℕ). HasPlayed (seat_of p) (seat_of q) (samples_of p n new) ps) positions filled.played;
       stored = subst (λ (ps : List ℕ). HasCaptured w v (samples_of p n captured) ps) positions caught;
       next = filled.next;
-      in_step = in_step;
+      in_step = AreSeatsOfCard-in_step true q v in_step;
       rest = filled.rest;
     }
+
+-- a card that doesn't record plays alone, and its writer stays
+pub RunsFrames-alone : (p q : CardPlayer) (w : WriterSeat) (period n : ℕ) (captured old new : List ℤ)
+    → PlaysFrames p q n old new (positions_of period (frame_of p) n) → geometry_of p ≡ writer_geometry w
+    → RunsFrames false p w q w period n captured old new
+RunsFrames-alone p q w period n captured old new plays rings = record {
+  played = plays.played;
+  stored = HasCaptured-none w;
+  next = plays.next;
+  in_step = record {
+    geometry = ap (λ (k : Key). k.geometry) plays.played.goes.key ∙ rings;
+    whole = plays.next ∙ ap at_frame (sym (ap (λ (x : Cursor). x.frame) plays.next));
+    next = λ is. absurd (false≢true is);
+  };
+  rest = plays.rest;
+}

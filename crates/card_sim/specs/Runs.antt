@@ -1,5 +1,5 @@
 -- What a duplex card captures, plays and publishes.
-use Rattle.std.specs.Prelude.{◌≡◌, ℕ, ◌+◌, ◌++◌, ℤ, List, [], take, drop}
+use Rattle.std.specs.Prelude.{◌≡◌, ℕ, ◌+◌, ◌++◌, ℤ, Bool, if◌then◌else◌, List, [], take, drop}
 use Rattle.sum_table.specs.Players.{next_of_player}
 use Rattle.card_player.specs.declared.player.CardPlayer.{CardPlayer}
 use Rattle.card_player.specs.Plays.{HasPlayed, TakesFrameAt, at_frame, frame_of, frames_left, geometry_of, positions_of, rest_of, samples_of, seat_of}
@@ -7,9 +7,9 @@ use Rattle.snoop_table.specs.declared.seats.writer.WriterSeat.{WriterSeat}
 use Rattle.snoop_table.specs.Writers.{writer_geometry, writer_ring, writer_track}
 use Rattle.card_sim.specs.declared.card.Card.{Card}
 use Rattle.card_sim.specs.Moments.{Moment, moments_of, position_of_writer}
-use Rattle.card_sim.specs.Steps.{AreInStep}
+use Rattle.card_sim.specs.Steps.{AreInStep, AreSeatsOfCard}
 
--- a card's player and writer, and its period
+-- a card's player and writer, its period, and whether it records
 abbrev pub player_of : Card → CardPlayer
 player_of c = c.player
 
@@ -18,6 +18,13 @@ writer_of c = c.writer
 
 abbrev pub period_of : Card → ℕ
 period_of c = c.period
+
+abbrev pub records_of : Card → Bool
+records_of c = c.records
+
+-- what a card captures of some samples, positions or moments: all of them where it records, and none where it doesn't
+abbrev pub captured_if : {T : Type 0} → Bool → List T → List T
+captured_if records xs = if records then xs else []
 
 -- the writer stored these samples more, in the order of frames and channels, published these positions, and did nothing else
 pub record HasCaptured (w v : WriterSeat) (samples : List ℤ) (positions : List ℕ) : Type 0 where
@@ -40,19 +47,21 @@ pub record PublishesBoth (p : CardPlayer) (w : WriterSeat) (q : CardPlayer) (v :
   pub next : next_of_player (seat_of q) ≡ next_of_player (seat_of p)
   pub in_step : AreInStep q v
 
--- so many frames were captured and played, and both rings' positions published at each multiple of the period, and at the end
-pub record RunsFrames (p : CardPlayer) (w : WriterSeat) (q : CardPlayer) (v : WriterSeat) (period frames : ℕ) (captured old new : List ℤ) : Type 0 where
+-- So many frames were played, and the sum ring's position published at each multiple of the period, and at the end. Where the card records, as many
+-- were captured, and the snoop ring's positions published too.
+pub record RunsFrames (records : Bool) (p : CardPlayer) (w : WriterSeat) (q : CardPlayer) (v : WriterSeat) (period frames : ℕ) (captured old new : List ℤ) : Type 0 where
   pub played : HasPlayed (seat_of p) (seat_of q) (samples_of p frames new) (positions_of period (frame_of p) frames)
-  pub stored : HasCaptured w v (samples_of p frames captured) (positions_of period (frame_of p) frames)
+  pub stored : HasCaptured w v (captured_if records (samples_of p frames captured)) (captured_if records (positions_of period (frame_of p) frames))
   pub next : next_of_player (seat_of q) ≡ at_frame (frame_of p + frames)
-  pub in_step : AreInStep q v
+  pub in_step : AreSeatsOfCard records q v
   pub rest : rest_of p frames new ≡ rest_of p frames old
 
 -- a card runs for as many frames as its buffers hold and its rings have
 abbrev pub RunsThrough : Card → Card → List ℤ → List ℤ → List ℤ → Type 0
 RunsThrough c d captured old new =
-    RunsFrames (player_of c) (writer_of c) (player_of d) (writer_of d) (period_of c) (frames_left (player_of c) old) captured old new
+    RunsFrames (records_of c) (player_of c) (writer_of c) (player_of d) (writer_of d) (period_of c) (frames_left (player_of c) old) captured old new
 
--- what is seen of that run
+-- what is seen of that run: nothing where the card doesn't record
 abbrev pub moments_through : Card → List ℤ → List Moment
-moments_through c out = moments_of (period_of c) (frame_of (player_of c)) (position_of_writer (writer_of c)) (frames_left (player_of c) out)
+moments_through c out =
+    captured_if (records_of c) (moments_of (period_of c) (frame_of (player_of c)) (position_of_writer (writer_of c)) (frames_left (player_of c) out))

@@ -1,6 +1,6 @@
 //! The duplex card over the seats of both rings.
 ghost use Rattle.std.specs.Prelude.{◌≤◌};
-ghost use Rattle.card_sim.specs.Steps.{AreInStep, IsPublished};
+ghost use Rattle.card_sim.specs.Steps.{AreSeatsOfCard, IsPublished};
 
 use crate::run::run_frames;
 use crate::watch::{NoWatch, Watch};
@@ -10,31 +10,33 @@ use snd_base::{Geometry, PcmError};
 use snoop_table::{SnoopNote, WriterSeat};
 use sum_table::{PlayerSeat, SeatNote};
 
-/// A duplex card: a player at the sum ring and a writer at the snoop ring, which are always at the same frame. `'p` is the
+/// A duplex card: a player at the sum ring and a writer at the snoop ring, which are always at the same frame. A card that
+/// doesn't record stores nothing in the snoop ring, and publishes nothing on it: for a ring that nobody reads. `'p` is the
 /// borrow of the sum ring, and `'w` that of the snoop ring.
 ///
-/// Its meaning is its player, its writer and its period, in frames.
+/// Its meaning is its player, its writer, its period, in frames, and whether it records.
 #[derive(Drop)]
 pub struct Card<'p, 'w> {
     player: CardPlayer<'p>,
     writer: WriterSeat<'w>,
     period: u32,
+    records: bool,
     ghost period_least: { 1 ≤ period },
-    ghost in_step: { AreInStep player writer },
+    ghost in_step: { AreSeatsOfCard records player writer },
     ghost published: { IsPublished player },
 }
 
 impl<'p, 'w> Card<'p, 'w> {
-    ghost use Rattle.std.specs.Prelude.{◌≡◌, ◌<◌, ◌≤◌, ◌%◌, ◌↔◌, IsTrue, length, IfErr, IsErrOf};
+    ghost use Rattle.std.specs.Prelude.{◌≡◌, ◌<◌, ◌≤◌, ◌%◌, ◌↔◌, true, IsTrue, length, IfErr, IsErrOf};
     ghost use Rattle.sum_table.specs.Joins.{HasHeard, HasPlayerNote, OneRing, note_key, note_ring};
     ghost use Rattle.sum_table.specs.Players.{HasUnplugged, player_key, player_ring, position_of_player};
     ghost use Rattle.snoop_table.specs.Joins.{HasHeard as WriterHasHeard, HasWriterNote, OneRing as OneSnoopRing, note_geometry, note_ring as snoop_note_ring};
     ghost use Rattle.snoop_table.specs.Writers.{HasUnplugged as WriterHasUnplugged, desk_of, writer_geometry, writer_ring};
     ghost use Rattle.card_player.specs.Plays.{EndsEarly, frame_of, geometry_of, seat_of};
-    ghost use Rattle.card_sim.specs.Steps.{AreInStep, IsPublished};
-    ghost use Rattle.card_sim.specs.Runs.{RunsThrough, moments_through, period_of, player_of, writer_of};
+    ghost use Rattle.card_sim.specs.Steps.{AreInStep, AreSeatsOfCard, IsPublished};
+    ghost use Rattle.card_sim.specs.Runs.{RunsThrough, moments_through, period_of, player_of, records_of, writer_of};
 
-    /// A card over a player and a writer, with a period of so many frames, at least 1.
+    /// A card that records, over a player and a writer, with a period of so many frames, at least 1.
     ///
     /// The caller has rings of one geometry, a player that takes next the first word of the frame that the writer stores next,
     /// and this frame is the player's last published position, or the first frame where it published none (`can_use`).
@@ -45,11 +47,32 @@ impl<'p, 'w> Card<'p, 'w> {
         ensures player { player_of result ≡ player.entry }
         ensures writer { writer_of result ≡ writer.entry }
         ensures period { period_of result ≡ period }
+        ensures records { records_of result ≡ true }
+    {
+        Card::with_records(player, writer, period, true)
+    }
+
+    /// A card as `new` makes it, which records or doesn't. One that doesn't record plays from the sum ring alone: no frame is
+    /// stored in the snoop ring, so that its writer may be at another frame than the player.
+    pub fn with_records(
+        player: CardPlayer<'p>,
+        writer: WriterSeat<'w>,
+        period: u32,
+        records: bool,
+    ) -> Card<'p, 'w>
+        requires period { 1 ≤ period }
+        requires in_step { AreSeatsOfCard records player writer }
+        requires published { IsPublished player }
+        ensures player { player_of result ≡ player.entry }
+        ensures writer { writer_of result ≡ writer.entry }
+        ensures period { period_of result ≡ period }
+        ensures records { records_of result ≡ records }
     {
         Card {
             player,
             writer,
             period,
+            records,
         }
     }
 
@@ -78,6 +101,13 @@ impl<'p, 'w> Card<'p, 'w> {
         self.period
     }
 
+    /// Whether the card stores the captured frames in the snoop ring.
+    pub fn records(&self) -> bool
+        ensures { result ≡ records_of self.now }
+    {
+        self.records
+    }
+
     /// The geometry of both rings.
     pub fn geometry(&self) -> Geometry
         ensures { result ≡ geometry_of (player_of self.now) }
@@ -94,7 +124,8 @@ impl<'p, 'w> Card<'p, 'w> {
 
     /// Runs for as many frames as the buffers hold: for each it stores the captured frame and then takes the played one into
     /// `out`, both interleaved. At each multiple of the period, and at the end where it isn't one, it publishes the sum ring's
-    /// position and then the snoop ring's.
+    /// position and then the snoop ring's. A card that doesn't record stores nothing, and publishes the sum ring's position
+    /// alone.
     ///
     /// The caller has buffers of equally many samples, in whole frames. `LapEnd` comes exactly where the lap of one of these
     /// frames is 4294967295: then the frames before it are captured, played and published.
@@ -103,6 +134,7 @@ impl<'p, 'w> Card<'p, 'w> {
         requires whole { length out.old % (geometry_of (player_of self.old)).channels ≡ 0 }
         ensures runs { RunsThrough self.old self.new captured.now out.old out.new }
         ensures period { period_of self.new ≡ period_of self.old }
+        ensures records { records_of self.new ≡ records_of self.old }
         ensures lap_end { IsErrOf result PcmError.LapEnd ↔ EndsEarly (player_of self.old) out.old }
         ensures only { IfErr result (λ e. e ≡ PcmError.LapEnd) }
     {
@@ -110,7 +142,7 @@ impl<'p, 'w> Card<'p, 'w> {
     }
 
     /// Runs in the same way before a watch, which is shown both seats after each step: each store, each take and each
-    /// publication.
+    /// publication. A card that doesn't record shows it nothing.
     pub fn run_watched<W: Watch>(
         &mut self,
         captured: &[i16],
@@ -122,9 +154,13 @@ impl<'p, 'w> Card<'p, 'w> {
         ensures runs { RunsThrough self.old self.new captured.now out.old out.new }
         ensures watched { W.saw watch.old watch.new (moments_through self.old out.old) }
         ensures period { period_of self.new ≡ period_of self.old }
+        ensures records { records_of self.new ≡ records_of self.old }
         ensures lap_end { IsErrOf result PcmError.LapEnd ↔ EndsEarly (player_of self.old) out.old }
         ensures only { IfErr result (λ e. e ≡ PcmError.LapEnd) }
     {
+        if !self.records {
+            return self.player.play_by(self.period, out);
+        }
         let geometry = self.player.geometry();
         let first = self.player.next().frame;
         let frames = out.len() / geometry.channels as usize;
@@ -149,6 +185,7 @@ impl<'p, 'w> Card<'p, 'w> {
         ensures played { HasUnplugged (seat_of (player_of self.old)) (seat_of (player_of self.new)) }
         ensures captured { WriterHasUnplugged (desk_of (writer_of self.old)) (desk_of (writer_of self.new)) }
         ensures period { period_of self.new ≡ period_of self.old }
+        ensures records { records_of self.new ≡ records_of self.old }
     {
         self.player.unplug();
         self.writer.unplug();
@@ -159,6 +196,7 @@ impl<'p, 'w> Card<'p, 'w> {
         ensures note { HasPlayerNote (seat_of (player_of self.old)) (seat_of (player_of self.new)) result }
         ensures writer { writer_of self.new ≡ writer_of self.old }
         ensures period { period_of self.new ≡ period_of self.old }
+        ensures records { records_of self.new ≡ records_of self.old }
     {
         self.player.note()
     }
@@ -170,6 +208,7 @@ impl<'p, 'w> Card<'p, 'w> {
         ensures heard { HasHeard (seat_of (player_of self.old)) (seat_of (player_of self.new)) note.entry }
         ensures writer { writer_of self.new ≡ writer_of self.old }
         ensures period { period_of self.new ≡ period_of self.old }
+        ensures records { records_of self.new ≡ records_of self.old }
     {
         self.player.meet(note);
     }
@@ -179,6 +218,7 @@ impl<'p, 'w> Card<'p, 'w> {
         ensures note { HasWriterNote (writer_of self.old) (writer_of self.new) result }
         ensures player { player_of self.new ≡ player_of self.old }
         ensures period { period_of self.new ≡ period_of self.old }
+        ensures records { records_of self.new ≡ records_of self.old }
     {
         self.writer.note()
     }
@@ -190,6 +230,7 @@ impl<'p, 'w> Card<'p, 'w> {
         ensures heard { WriterHasHeard (writer_of self.old) (writer_of self.new) note.entry }
         ensures player { player_of self.new ≡ player_of self.old }
         ensures period { period_of self.new ≡ period_of self.old }
+        ensures records { records_of self.new ≡ records_of self.old }
     {
         self.writer.meet(note);
     }

@@ -1,7 +1,7 @@
 //! The frames of one run of a duplex card.
-ghost use Rattle.std.specs.Prelude.{◌≡◌, ◌+◌, ◌*◌, ◌<◌, ◌≤◌, ◌&&◌, nat_lt, [], ◌∷◌, length};
+ghost use Rattle.std.specs.Prelude.{◌≡◌, ◌+◌, ◌*◌, ◌<◌, ◌≤◌, true, [], ◌∷◌, length};
 ghost use Rattle.snd_base.specs.Places.{end_frame};
-ghost use Rattle.card_player.specs.Plays.{HasFrame, HasRoom, frame_of, geometry_of, is_multiple, period_at, seat_of};
+ghost use Rattle.card_player.specs.Plays.{HasFrame, HasRoom, IsDue, frame_of, geometry_of, period_at, seat_of};
 ghost use Rattle.sum_table.specs.Players.{position_of_player};
 ghost use Rattle.card_sim.specs.Moments.{frame_moments, moments_of, period_moments, position_of_writer, publish_moments};
 ghost use Rattle.card_sim.specs.Runs.{PublishesBoth, RunsFrame, RunsFrames};
@@ -27,21 +27,52 @@ pub(crate) fn run_frames<W: Watch>(
     requires captured { frames * (geometry_of player.old).channels ≤ length captured.now }
     requires room { frames * (geometry_of player.old).channels ≤ length out.old }
     requires fits { frame_of player.old + frames ≤ end_frame (geometry_of player.old) }
-    ensures runs { RunsFrames player.old writer.old player.new writer.new period frames captured.now out.old out.new }
+    ensures runs { RunsFrames true player.old writer.old player.new writer.new period frames captured.now out.old out.new }
+    ensures watched { W.saw watch.old watch.new
+        (moments_of period (frame_of player.old) (position_of_writer writer.old) frames) }
+{
+    // Each call is a loop of its own in the machine code. In the first one the number of channels is a constant.
+    if player.geometry().channels == 1 && writer.geometry().channels == 1 {
+        run_all(player, writer, period, captured, out, frames, watch);
+    } else {
+        run_all(player, writer, period, captured, out, frames, watch);
+    }
+}
+
+/// Runs for so many frames, in the code of its caller, which may know the number of channels.
+#[inline(always)]
+fn run_all<W: Watch>(
+    player: &mut CardPlayer<'_>,
+    writer: &mut WriterSeat<'_>,
+    period: u32,
+    captured: &[i16],
+    out: &mut [i16],
+    frames: usize,
+    watch: &mut W,
+)
+    requires period { 1 ≤ period }
+    requires in_step { AreInStep player.old writer.old }
+    requires published { IsPublished player.old }
+    requires captured { frames * (geometry_of player.old).channels ≤ length captured.now }
+    requires room { frames * (geometry_of player.old).channels ≤ length out.old }
+    requires fits { frame_of player.old + frames ≤ end_frame (geometry_of player.old) }
+    ensures runs { RunsFrames true player.old writer.old player.new writer.new period frames captured.now out.old out.new }
     ensures watched { W.saw watch.old watch.new
         (moments_of period (frame_of player.old) (position_of_writer writer.old) frames) }
 {
     let channels = player.geometry().channels as usize;
+    let mut due = player.next_period(period);
     for frame in 0..frames {
         run_frame(player, writer, captured, out, frame * channels, watch);
-        publish_period(player, writer, period, watch);
+        due = publish_period(player, writer, period, due, watch);
     }
-    if !has_ended_period(player, period, frames) {
+    if !player.has_ended_period(period, frames) {
         publish(player, writer, watch);
     }
 }
 
 /// Captures and plays one frame, of the samples from an index of both buffers on: first it is stored, then it is taken.
+#[inline(always)]
 fn run_frame<W: Watch>(
     player: &mut CardPlayer<'_>,
     writer: &mut WriterSeat<'_>,
@@ -67,25 +98,33 @@ fn run_frame<W: Watch>(
     watch.see(player, writer);
 }
 
-/// Publishes the positions of both rings where they are a multiple of the period.
+/// Publishes the positions of both rings where they are a multiple of the period, of which it is given the next one. Answers the
+/// next one past them.
+#[inline(always)]
 fn publish_period<W: Watch>(
     player: &mut CardPlayer<'_>,
     writer: &mut WriterSeat<'_>,
     period: u32,
+    due: u64,
     watch: &mut W,
-)
+) -> u64
     requires period { 1 ≤ period }
     requires in_step { AreInStep player.old writer.old }
+    requires due { IsDue period (frame_of player.old) due }
     ensures publishes { PublishesBoth player.old writer.old player.new writer.new (period_at period (frame_of player.old)) }
     ensures watched { W.saw watch.old watch.new
         (period_moments period (frame_of player.old) (position_of_writer writer.old)) }
+    ensures due { IsDue period (frame_of player.new + 1) result }
 {
-    if is_at_period(player, period) {
-        publish(player, writer, watch);
+    if player.next().frame != due {
+        return due;
     }
+    publish(player, writer, watch);
+    due + period as u64
 }
 
 /// Publishes the position of the sum ring and then that of the snoop ring.
+#[inline(always)]
 fn publish<W: Watch>(player: &mut CardPlayer<'_>, writer: &mut WriterSeat<'_>, watch: &mut W)
     requires { AreInStep player.old writer.old }
     ensures publishes { PublishesBoth player.old writer.old player.new writer.new (frame_of player.old ∷ []) }
@@ -95,20 +134,4 @@ fn publish<W: Watch>(player: &mut CardPlayer<'_>, writer: &mut WriterSeat<'_>, w
     watch.see(player, writer);
     writer.publish();
     watch.see(player, writer);
-}
-
-/// Whether the last of so many frames, which were just played, ended a period.
-fn has_ended_period(player: &CardPlayer<'_>, period: u32, frames: usize) -> bool
-    requires { 1 ≤ period }
-    ensures { result ≡ (nat_lt 0 frames && is_multiple period (frame_of player.now)) }
-{
-    frames > 0 && is_at_period(player, period)
-}
-
-/// Whether the next frame begins a period.
-fn is_at_period(player: &CardPlayer<'_>, period: u32) -> bool
-    requires { 1 ≤ period }
-    ensures { result ≡ is_multiple period (frame_of player.now) }
-{
-    player.next().frame % period as u64 == 0
 }

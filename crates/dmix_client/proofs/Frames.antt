@@ -13,7 +13,7 @@ use Rattle.mix_core.specs.declared.port.Ended.TheVariants.{Whole, Late, Stopped}
 use Rattle.mix_core.specs.declared.port.Entry.{Entry}
 use Rattle.mix_core.specs.Port.{PortView}
 use Rattle.bindings.specs.Bound.{AreBindings, rising}
-use Rattle.bindings.specs.RisingLaws.{rising-rises}
+use Rattle.bindings.specs.RisingLaws.{rising-rises, rising-within}
 use Rattle.dmix_client.specs.declared.plain.Plain.{Plain}
 use Rattle.dmix_client.specs.RingLaws.{slot-behind}
 use Rattle.dmix_client.specs.View.{held, held_at}
@@ -52,6 +52,10 @@ pub rising-least : (bindings : List ℕ) (j : ℕ) → AreBindings bindings → 
 rising-least bindings zero are within = omega arith
 rising-least bindings (suc j) are within = omega (arith, rising-rises bindings 0 (suc j) are (omega arith) within)
 
+-- the one channel of a client is the first
+pub rising-single : (bindings : List ℕ) → AreBindings bindings → length bindings ≡ 1 → slice_index (rising bindings) 0 ≡ 0
+rising-single bindings are single = omega (arith, rising-within bindings 0 are (omega (arith, single)), single)
+
 -- the entry of a sample that a client holds, by where its frame begins in the local ring
 pub entry-held : (E : ℕ → ℕ → ℤ → Entry) (plain : Plain) (ring : List ℤ) (number slot q member channel : ℕ) (x : ℤ) → member ≡ plain.identity.member → channel ≡ slice_index plain.setup.bindings q
     → slot ≡ (plain.stretch.source + number) % plain.setup.config.buffer_size * length plain.setup.bindings → x ≡ slice_index_or ring (slot + q) (pos 0)
@@ -66,29 +70,6 @@ pub entry-bound : (E : ℕ → ℕ → ℤ → Entry) (bindings : List ℕ) (rin
 entry-bound E bindings ring slot q m member channel x is_member is_channel is =
     ap (λ (n : ℕ). E n channel x) is_member ∙ ap (λ (k : ℕ). E member k x) is_channel ∙ ap (E member (slice_index bindings q)) is
 
--- the slot behind one that isn't the local ring's last
-pub slot-inside : (buffer channels number : ℕ) → number % buffer * channels + channels < buffer * channels
-    → (number + 1) % buffer * channels ≡ number % buffer * channels + channels
-slot-inside buffer channels number within = elim (cases_lt (number % buffer + 1) buffer) [
-  | inl below ↦ ap (λ (n : ℕ). n * channels) (slot-behind buffer number 1 below) ∙ omega arith
-  | inr not_below ↦
-      let scaled : buffer * channels ≤ (number % buffer + 1) * channels = mul-le-mul_right channels (let h : buffer ≤ number % buffer + 1 = omega (arith, not_below) in h) in
-      absurd (omega (arith, scaled))
-]
-
--- the slot behind the local ring's last one is its first
-pub slot-first : (buffer channels number : ℕ) → 1 ≤ channels → number % buffer * channels + channels ≤ buffer * channels
-    → (number % buffer * channels + channels < buffer * channels → ⊥) → (number + 1) % buffer * channels ≡ 0
-slot-first buffer channels number some within last = elim (cases_lt (number % buffer + 1) buffer) [
-  | inl below ↦
-      let scaled : (number % buffer + 1 + 1) * channels ≤ buffer * channels = mul-le-mul_right channels (let h : number % buffer + 1 + 1 ≤ buffer = omega arith in h) in
-      absurd (last (omega (arith, scaled)))
-  | inr not_below ↦ elim (cases_lt buffer (number % buffer + 1)) [
-    | inl above ↦
-        let scaled : (buffer + 1) * channels ≤ (number % buffer + 1) * channels = mul-le-mul_right channels (let h : buffer + 1 ≤ number % buffer + 1 = omega arith in h) in
-        absurd (omega (arith, scaled))
-    | inr not_above ↦
-        let end : number % buffer + 1 ≡ buffer = omega (arith, not_below, not_above) in
-        ap (λ (n : ℕ). n * channels) (sym (mod-add-mod number buffer 1) ∙ ap (λ (n : ℕ). n % buffer) end ∙ mod_self buffer) ∙ omega arith
-  ]
-]
+-- where the frames of a run begin in the local ring
+pub slot-run : (buffer channels number k : ℕ) → number % buffer + k < buffer → (number + k) % buffer * channels ≡ number % buffer * channels + k * channels
+slot-run buffer channels number k below = ap (λ (n : ℕ). n * channels) (slot-behind buffer number k below) ∙ omega arith

@@ -1,15 +1,15 @@
 -- The loops that lay a frame, and frames, take their courses.
-use Rattle.std.proofs.Common.{◌≡◌, ℕ, ◌+◌, ◌-◌, ◌*◌, ◌%◌, ◌<◌, ◌≤◌, suc, refl, sym, subst, arith, List, length, drop}
+use Rattle.std.proofs.Common.{◌≡◌, ℕ, ◌+◌, ◌-◌, ◌*◌, ◌%◌, ◌<◌, ◌≤◌, zero, suc, refl, sym, ap, ◌∙◌, subst, arith, List, length, drop}
 use Rattle.std.proofs.lemmas.List.{drop_all, drop_more}
 use Rattle.std.specs.Prelude.{ℤ, slice_index}
 use Rattle.mix_core.specs.declared.gate.Gate as gates
 use Rattle.mix_core.specs.declared.port.Ended.{Ended}
-use Rattle.mix_core.specs.declared.port.Ended.TheVariants.{Whole}
+use Rattle.mix_core.specs.declared.port.Ended.TheVariants.{Whole, Late, Stopped}
 use Rattle.mix_core.specs.declared.port.Entry.{Entry}
 use Rattle.mix_core.specs.declared.port.MixPort as mixport
 use Rattle.course.specs.AtPort.{LaysAt, LoadsAt, NoGet, TakesAt}
-use Rattle.course.specs.Course.{◌>>=◌}
-use Rattle.course.specs.CourseLaws.{Takes-map, Takes-then}
+use Rattle.course.specs.Course.{◌>>=◌, ends}
+use Rattle.course.specs.CourseLaws.{Takes-map, Takes-parts, Takes-then}
 use Rattle.dmix_client.specs.declared.commit.Commit.{Commit}
 use Rattle.dmix_client.specs.declared.plain.Plain.{Plain}
 use Rattle.dmix_client.specs.Course.{go_on, lay_each, lay_frame, lay_frames, lay_on, nothing, one_frame_more, one_more}
@@ -113,3 +113,82 @@ module _ {S T : Type 0} (P : mixport.Ghosts S) (G : gates.Ghosts T) where
   RestFrames-all member card bindings samples count first start now i is so_far =
       subst (λ n. TakesAt P G start (lay_frames member card bindings samples count first) now (record { frames = n; part = 0; ended = Whole })) (let counted : i + 0 ≡ count = omega (arith, is) in counted)
       (so_far now nothing (subst (λ n. TakesAt P G now (lay_frames member card bindings samples n (first + i)) now nothing) (sym (let none : count - i ≡ 0 = omega (arith, is) in none)) (record { there = refl; result = refl })))
+
+  -- a run of frames, and those behind it, by the first frame of the run
+  frames-joined-by : (member card : ℕ) (bindings : List ℕ) (samples : ℕ → ℕ → ℤ) (all first : ℕ) (s m n t : S × T) (k done : ℕ) (end : Ended) (x y : Commit) → x.ended ≡ Whole
+      → TakesAt P G s (lay_frame member (card + first) bindings (samples first)) m (done, end)
+      → TakesAt P G m (go_on (done, end) (lay_frames member card bindings samples k (first + 1))) n x
+      → ((x' : Commit) → x'.ended ≡ Whole → TakesAt P G m (lay_frames member card bindings samples k (first + 1)) n x' → TakesAt P G m (lay_frames member card bindings samples all (first + 1)) t (more_frames k y))
+      → TakesAt P G s (lay_frames member card bindings samples (suc all) first) t (more_frames (suc k) y)
+  unfolding lay_frames
+  frames-joined-by member card bindings samples all first s m n t k done (Late word) x y whole frame run behind =
+      absurd (let same : Late word ≡ Whole = sym (ap (λ (c : Commit). c.ended) run.result) ∙ whole in cc)
+  frames-joined-by member card bindings samples all first s m n t k done Stopped x y whole frame run behind =
+      absurd (let same : Stopped ≡ Whole = sym (ap (λ (c : Commit). c.ended) run.result) ∙ whole in cc)
+  frames-joined-by member card bindings samples all first s m n t k done Whole x y whole frame run behind =
+      let parts = Takes-parts (LoadsAt P G) (LaysAt P G) NoGet m n (lay_frames member card bindings samples k (first + 1)) (λ commit. ends (one_frame_more commit)) x run in
+      let ran = subst (λ (u : S × T). TakesAt P G m (lay_frames member card bindings samples k (first + 1)) u parts.1) (sym parts.3.there) parts.2 in
+      let rest = behind parts.1 (sym (ap (λ (c : Commit). c.ended) parts.3.result) ∙ whole) ran in
+      subst (λ j. TakesAt P G s (lay_frames member card bindings samples (suc all) first) t (record { frames = j; part = y.part; ended = y.ended })) (let counted : k + y.frames + 1 ≡ suc k + y.frames = omega arith in counted)
+      (Takes-then (LoadsAt P G) (LaysAt P G) NoGet s m t (lay_frame member (card + first) bindings (samples first)) (λ end. go_on end (lay_frames member card bindings samples all (first + 1))) (done, Whole) (one_frame_more (more_frames k y)) frame
+      (Takes-map (LoadsAt P G) (LaysAt P G) NoGet m t (lay_frames member card bindings samples all (first + 1)) one_frame_more (more_frames k y) (one_frame_more (more_frames k y)) rest refl))
+
+  frames-joined : (member card : ℕ) (bindings : List ℕ) (samples : ℕ → ℕ → ℤ) (k all first : ℕ) (s m t : S × T) (x y : Commit) → k ≤ all → x.ended ≡ Whole
+      → TakesAt P G s (lay_frames member card bindings samples k first) m x → TakesAt P G m (lay_frames member card bindings samples (all - k) (first + k)) t y
+      → TakesAt P G s (lay_frames member card bindings samples all first) t (more_frames k y)
+  unfolding lay_frames
+  frames-joined member card bindings samples zero all first s m t x y few whole run behind =
+      subst (λ n. TakesAt P G s (lay_frames member card bindings samples all first) t (record { frames = n; part = y.part; ended = y.ended })) (let same : y.frames ≡ 0 + y.frames = omega arith in same)
+      (subst (λ n. TakesAt P G s (lay_frames member card bindings samples all n) t y) (let here : first + 0 ≡ first = omega arith in here)
+      (subst (λ n. TakesAt P G s (lay_frames member card bindings samples n (first + 0)) t y) (let counted : all - 0 ≡ all = omega arith in counted)
+      (subst (λ (u : S × T). TakesAt P G u (lay_frames member card bindings samples (all - 0) (first + 0)) t y) run.there behind)))
+  frames-joined member card bindings samples (suc k) zero first s m t x y few whole run behind = absurd (omega (arith, few))
+  frames-joined member card bindings samples (suc k) (suc all) first s m t x y few whole run behind =
+      let parts = Takes-parts (LoadsAt P G) (LaysAt P G) NoGet s m (lay_frame member (card + first) bindings (samples first)) (λ end. go_on end (lay_frames member card bindings samples k (first + 1))) x run in
+      let later = subst (λ n. TakesAt P G m (lay_frames member card bindings samples n (first + 1 + k)) t y) (let left : suc all - suc k ≡ all - k = omega arith in left)
+      (subst (λ n. TakesAt P G m (lay_frames member card bindings samples (suc all - suc k) n) t y) (let at : first + suc k ≡ first + 1 + k = omega arith in at) behind) in
+      frames-joined-by member card bindings samples all first s parts.0 m t k parts.1.0 parts.1.1 x y whole parts.2 parts.3
+      (λ x' whole' ran. frames-joined member card bindings samples k all (first + 1) parts.0 m t x' y (omega (arith, few)) whole' ran later)
+
+  -- a run of frames up to one that is late or stopped, by the first frame of the run
+  frames-ended-by : (member card : ℕ) (bindings : List ℕ) (samples : ℕ → ℕ → ℤ) (all first : ℕ) (s m t : S × T) (k done : ℕ) (end : Ended) (x : Commit) → (x.ended ≡ Whole → ⊥)
+      → TakesAt P G s (lay_frame member (card + first) bindings (samples first)) m (done, end)
+      → TakesAt P G m (go_on (done, end) (lay_frames member card bindings samples k (first + 1))) t x
+      → ((x' : Commit) → (x'.ended ≡ Whole → ⊥) → TakesAt P G m (lay_frames member card bindings samples k (first + 1)) t x' → TakesAt P G m (lay_frames member card bindings samples all (first + 1)) t x')
+      → TakesAt P G s (lay_frames member card bindings samples (suc all) first) t x
+  unfolding lay_frames
+  frames-ended-by member card bindings samples all first s m t k done (Late word) x not_whole frame run more =
+      Takes-then (LoadsAt P G) (LaysAt P G) NoGet s m t (lay_frame member (card + first) bindings (samples first)) (λ end. go_on end (lay_frames member card bindings samples all (first + 1))) (done, Late word) x frame run
+  frames-ended-by member card bindings samples all first s m t k done Stopped x not_whole frame run more =
+      Takes-then (LoadsAt P G) (LaysAt P G) NoGet s m t (lay_frame member (card + first) bindings (samples first)) (λ end. go_on end (lay_frames member card bindings samples all (first + 1))) (done, Stopped) x frame run
+  frames-ended-by member card bindings samples all first s m t k done Whole x not_whole frame run more =
+      let parts = Takes-parts (LoadsAt P G) (LaysAt P G) NoGet m t (lay_frames member card bindings samples k (first + 1)) (λ commit. ends (one_frame_more commit)) x run in
+      let ran = subst (λ (u : S × T). TakesAt P G m (lay_frames member card bindings samples k (first + 1)) u parts.1) (sym parts.3.there) parts.2 in
+      let rest = more parts.1 (λ is. not_whole (ap (λ (c : Commit). c.ended) parts.3.result ∙ is)) ran in
+      Takes-then (LoadsAt P G) (LaysAt P G) NoGet s m t (lay_frame member (card + first) bindings (samples first)) (λ end. go_on end (lay_frames member card bindings samples all (first + 1))) (done, Whole) x frame
+      (Takes-map (LoadsAt P G) (LaysAt P G) NoGet m t (lay_frames member card bindings samples all (first + 1)) one_frame_more parts.1 x rest (sym parts.3.result))
+
+  frames-ended : (member card : ℕ) (bindings : List ℕ) (samples : ℕ → ℕ → ℤ) (k all first : ℕ) (s t : S × T) (x : Commit) → k ≤ all → (x.ended ≡ Whole → ⊥)
+      → TakesAt P G s (lay_frames member card bindings samples k first) t x → TakesAt P G s (lay_frames member card bindings samples all first) t x
+  unfolding lay_frames
+  frames-ended member card bindings samples zero all first s t x few not_whole run = absurd (not_whole (ap (λ (c : Commit). c.ended) run.result))
+  frames-ended member card bindings samples (suc k) zero first s t x few not_whole run = absurd (omega (arith, few))
+  frames-ended member card bindings samples (suc k) (suc all) first s t x few not_whole run =
+      let parts = Takes-parts (LoadsAt P G) (LaysAt P G) NoGet s t (lay_frame member (card + first) bindings (samples first)) (λ end. go_on end (lay_frames member card bindings samples k (first + 1))) x run in
+      frames-ended-by member card bindings samples all first s parts.0 t k parts.1.0 parts.1.1 x not_whole parts.2 parts.3
+      (λ x' not_whole' ran. frames-ended member card bindings samples k all (first + 1) parts.0 t x' (omega (arith, few)) not_whole' ran)
+
+  pub RestFrames-run : (member card : ℕ) (bindings : List ℕ) (samples : ℕ → ℕ → ℤ) (count first : ℕ) (start now next : S × T) (i run : ℕ) (x : Commit) → i + run ≤ count → x.ended ≡ Whole
+      → RestFrames P G member card bindings samples count first start now i → TakesAt P G now (lay_frames member card bindings samples run (first + i)) next x
+      → RestFrames P G member card bindings samples count first start next (i + run)
+  RestFrames-run member card bindings samples count first start now next i run x few whole so_far ran t y takes =
+      let later = subst (λ n. TakesAt P G next (lay_frames member card bindings samples n (first + i + run)) t y) (let left : count - (i + run) ≡ count - i - run = omega arith in left)
+      (subst (λ n. TakesAt P G next (lay_frames member card bindings samples (count - (i + run)) n) t y) (let at : first + (i + run) ≡ first + i + run = omega arith in at) takes) in
+      subst (λ n. TakesAt P G start (lay_frames member card bindings samples count first) t (record { frames = n; part = y.part; ended = y.ended })) (let counted : i + (run + y.frames) ≡ i + run + y.frames = omega arith in counted)
+      (so_far t (more_frames run y) (frames-joined member card bindings samples run (count - i) (first + i) now next t x y (omega (arith, few)) whole ran later))
+
+  pub RestFrames-run_ended : (member card : ℕ) (bindings : List ℕ) (samples : ℕ → ℕ → ℤ) (count first : ℕ) (start now next : S × T) (i run : ℕ) (x : Commit) → i + run ≤ count → (x.ended ≡ Whole → ⊥)
+      → RestFrames P G member card bindings samples count first start now i → TakesAt P G now (lay_frames member card bindings samples run (first + i)) next x
+      → TakesAt P G start (lay_frames member card bindings samples count first) next (more_frames i x)
+  RestFrames-run_ended member card bindings samples count first start now next i run x few not_whole so_far ran =
+      so_far next x (frames-ended member card bindings samples run (count - i) (first + i) now next x (omega (arith, few)) not_whole ran)

@@ -5,10 +5,10 @@ ghost use Rattle.mix_core.specs.Laid.{an_add};
 ghost use Rattle.bindings.specs.Bound.{rising};
 ghost use Rattle.course.specs.AtPort.{LaysAt, TakesAt};
 ghost use Rattle.dmix_client.specs.Calls.{start_count, started_in, sync_count, window_end};
-ghost use Rattle.dmix_client.specs.Course.{commits, lay_frame, looks};
+ghost use Rattle.dmix_client.specs.Course.{commits, lay_frame, lay_frames, looks};
 ghost use Rattle.dmix_client.specs.Port.{CanUse, IsFound, IsOnCard, least_channel};
 ghost use Rattle.pcm_stream.specs.Status.{is_moving};
-ghost use Rattle.dmix_client.specs.View.{IsSound, held_at};
+ghost use Rattle.dmix_client.specs.View.{IsSound, held, held_at};
 
 use crate::plain::Plain;
 use bindings::Bindings;
@@ -85,8 +85,17 @@ pub(crate) fn held_from(plain: &Plain, number: u64) -> usize
     slot as usize * plain.setup.bindings.len() as usize
 }
 
-/// The sample at a place of the frame that begins at `slot` of a local ring, counted by rising card channel.
-pub(crate) fn bound_sample(bindings: &Bindings, ring: &[i16], slot: usize, place: u8) -> BoundSample
+/// The sample at a place of the frame that begins at `slot` of a local ring of so many channels, counted by rising card
+/// channel. A single channel needs no look at the order.
+#[inline(always)]
+pub(crate) fn bound_sample(
+    bindings: &Bindings,
+    ring: &[i16],
+    slot: usize,
+    place: u8,
+    channels: u8,
+) -> BoundSample
+    requires channels { channels ≡ length bindings.now }
     requires place { place < length bindings.now }
     requires slot { slot + length bindings.now ≤ length ring.now }
     ensures channel { result.channel
@@ -94,7 +103,11 @@ pub(crate) fn bound_sample(bindings: &Bindings, ring: &[i16], slot: usize, place
     ensures sample { result.sample
         ≡ slice_index_or ring.now (slot + slice_index (rising bindings.now) place) (pos 0) }
 {
-    let client = bindings.rising(place);
+    let client = if channels == 1 {
+        0
+    } else {
+        bindings.rising(place)
+    };
     BoundSample {
         channel: bindings.card_channel(client),
         sample: ring[slot + client as usize],
@@ -102,6 +115,7 @@ pub(crate) fn bound_sample(bindings: &Bindings, ring: &[i16], slot: usize, place
 }
 
 /// Places one sample, of a frame below the last lap. `Whole` says that it was in time.
+#[inline(always)]
 fn place_sample<P: MixPort, G: Gate>(
     port: &mut P,
     gate: &mut G,
@@ -120,7 +134,9 @@ fn place_sample<P: MixPort, G: Gate>(
     Ended::of(port.place(gate, frame, bound.channel, bound.sample))
 }
 
-/// Places the samples of the frame that begins at `slot` of a local ring at a frame of the card, by rising card channel.
+/// Places the samples of the frame that begins at `slot` of a local ring of so many channels at a frame of the card, by
+/// rising card channel.
+#[inline(always)]
 fn place_frame<P: MixPort, G: Gate>(
     port: &mut P,
     gate: &mut G,
@@ -128,7 +144,9 @@ fn place_frame<P: MixPort, G: Gate>(
     ring: &[i16],
     slot: usize,
     frame: u64,
+    channels: u8,
 ) -> Channels
+    requires channels { channels ≡ length bindings.now }
     requires can_add { (P.view port.old).can_add ≡ true }
     requires bound { IsOnCard bindings.now (P.view port.old).geometry }
     requires slot { slot + length bindings.now ≤ length ring.now }
@@ -140,8 +158,8 @@ fn place_frame<P: MixPort, G: Gate>(
         (lay_frame (P.view port.old).member frame bindings.now (held_at ring.now slot))
         (port.new, gate.new) (result.placed, result.ended) }
 {
-    for place in 0..bindings.len() {
-        let bound = bound_sample(bindings, ring, slot, place);
+    for place in 0..channels {
+        let bound = bound_sample(bindings, ring, slot, place, channels);
         match place_sample(port, gate, frame, bound) {
             Ended::Whole => {}
             ended => return Channels {
@@ -151,23 +169,13 @@ fn place_frame<P: MixPort, G: Gate>(
         }
     }
     Channels {
-        placed: bindings.len(),
+        placed: channels,
         ended: Ended::Whole,
     }
 }
 
-/// Where the frame behind the one that begins at `slot` begins in a local ring of so many samples.
-fn slot_behind(slot: usize, channels: u8, samples: usize) -> usize
-    requires { slot + channels ≤ samples }
-    ensures { (number buffer_size : ℕ) → samples ≡ buffer_size * channels →
-        slot ≡ number % buffer_size * channels → 1 ≤ channels →
-        result ≡ (number + 1) % buffer_size * channels }
-{
-    let next = slot + channels as usize;
-    if next < samples { next } else { 0 }
-}
-
-/// Lays `count` frames of the local ring, from the first that is not committed on, up to one that is late or stopped.
+/// Lays `count` frames of the local ring, from the first that is not committed on, up to one that is late or stopped. They
+/// are laid in runs, each up to the end of the local ring.
 pub(crate) fn lay_frames<P: MixPort, G: Gate>(
     port: &mut P,
     gate: &mut G,
@@ -189,12 +197,100 @@ pub(crate) fn lay_frames<P: MixPort, G: Gate>(
     ensures { TakesAt P.MixPort G.Gate (port.old, gate.old) (commits plain.now ring.now count)
         (port.new, gate.new) result }
 {
+    let mut done: u64 = 0;
+    while done < count {
+        let first = plain.stretch.committed + done;
+        let slot = slot_of(plain.stretch.source, first, plain.setup.config.buffer_size);
+        let run = (plain.setup.config.buffer_size as u64 - slot).min(count - done);
+        let laid = lay_run(port, gate, plain, ring, first, run);
+        match laid.ended {
+            Ended::Whole => {}
+            ended => {
+                return Commit {
+                    frames: done + laid.frames,
+                    part: laid.part,
+                    ended,
+                };
+            }
+        }
+        done += run;
+    }
+    Commit {
+        frames: count,
+        part: 0,
+        ended: Ended::Whole,
+    }
+}
+
+/// Lays `count` frames from number `first` on, which follow one another in the local ring. For one channel and for two
+/// there is code of its own, without a loop over the channels.
+#[inline(never)]
+fn lay_run<P: MixPort, G: Gate>(
+    port: &mut P,
+    gate: &mut G,
+    plain: &Plain,
+    ring: &[i16],
+    first: u64,
+    count: u64,
+) -> Commit
+    requires can_add { (P.view port.old).can_add ≡ true }
+    requires member { (P.view port.old).member ≡ plain.now.identity.member }
+    requires bound { IsOnCard plain.now.setup.bindings (P.view port.old).geometry }
+    requires buffer { 1 ≤ plain.now.setup.config.buffer_size }
+    requires room { length ring.now ≡ plain.now.setup.config.buffer_size * length
+        plain.now.setup.bindings }
+    requires run { (plain.now.stretch.source + first) % plain.now.setup.config.buffer_size + count
+        ≤ plain.now.setup.config.buffer_size }
+    requires from_cursor { IsFrom (P.view port.old).marks.cursor (plain.now.stretch.card + first)
+        (least_channel plain.now.setup.bindings) }
+    requires ahead { 0 < count → plain.now.stretch.card + (first + count)
+        ≤ window_end (P.view port.old).geometry (P.view port.old).seen }
+    ensures { TakesAt P.MixPort G.Gate (port.old, gate.old) (lay_frames plain.now.identity.member
+        plain.now.stretch.card plain.now.setup.bindings (held plain.now ring.now) count first)
+        (port.new, gate.new) result }
+{
+    match plain.setup.bindings.len() {
+        1 => lay_run_of(port, gate, plain, ring, first, count, 1),
+        2 => lay_run_of(port, gate, plain, ring, first, count, 2),
+        channels => lay_run_of(port, gate, plain, ring, first, count, channels),
+    }
+}
+
+/// The same of a client of so many channels.
+#[inline(always)]
+fn lay_run_of<P: MixPort, G: Gate>(
+    port: &mut P,
+    gate: &mut G,
+    plain: &Plain,
+    ring: &[i16],
+    first: u64,
+    count: u64,
+    channels: u8,
+) -> Commit
+    requires channels { channels ≡ length plain.now.setup.bindings }
+    requires can_add { (P.view port.old).can_add ≡ true }
+    requires member { (P.view port.old).member ≡ plain.now.identity.member }
+    requires bound { IsOnCard plain.now.setup.bindings (P.view port.old).geometry }
+    requires buffer { 1 ≤ plain.now.setup.config.buffer_size }
+    requires room { length ring.now ≡ plain.now.setup.config.buffer_size * length
+        plain.now.setup.bindings }
+    requires run { (plain.now.stretch.source + first) % plain.now.setup.config.buffer_size + count
+        ≤ plain.now.setup.config.buffer_size }
+    requires from_cursor { IsFrom (P.view port.old).marks.cursor (plain.now.stretch.card + first)
+        (least_channel plain.now.setup.bindings) }
+    requires ahead { 0 < count → plain.now.stretch.card + (first + count)
+        ≤ window_end (P.view port.old).geometry (P.view port.old).seen }
+    ensures { TakesAt P.MixPort G.Gate (port.old, gate.old) (lay_frames plain.now.identity.member
+        plain.now.stretch.card plain.now.setup.bindings (held plain.now ring.now) count first)
+        (port.new, gate.new) result }
+{
     let bindings = plain.setup.bindings;
+    let from = held_from(plain, first);
     let card = plain.stretch.card;
-    let first = plain.stretch.committed;
-    let mut slot = held_from(plain, first);
     for frame in 0..count {
-        let placed = place_frame(port, gate, &bindings, ring, slot, card + (first + frame));
+        let slot = from + frame as usize * channels as usize;
+        let number = card + (first + frame);
+        let placed = place_frame(port, gate, &bindings, ring, slot, number, channels);
         match placed.ended {
             Ended::Whole => {}
             ended => {
@@ -205,7 +301,6 @@ pub(crate) fn lay_frames<P: MixPort, G: Gate>(
                 };
             }
         }
-        slot = slot_behind(slot, bindings.len(), ring.len());
     }
     Commit {
         frames: count,

@@ -1,3 +1,5 @@
+//! What no clause says of a client: that its calls work, tried over a core with one owner, with positions and samples worked out
+//! by hand.
 ghost use Rattle.std.specs.Prelude.{◌≡◌, []};
 ghost use Rattle.dmix_client.specs.Growth.{IsBacked};
 

@@ -64,7 +64,8 @@ fn take_frame<P: MixPort, G: Gate>(
 {
     let slot = held_from(plain, number);
     for place in (0..plain.setup.bindings.len()).rev() {
-        let bound = bound_sample(&plain.setup.bindings, ring, slot, place);
+        let channels = plain.setup.bindings.len();
+        let bound = bound_sample(&plain.setup.bindings, ring, slot, place, channels);
         match take_sample(port, gate, plain.stretch.card + number, bound) {
             Ended::Whole => {}
             ended => return Left {

@@ -157,6 +157,14 @@ impl Reader {
         self.plain.setup.set_params(params)
     }
 
+    /// The software parameters (`snd_pcm_sw_params_current`): the default ones until others are set, and of no use before
+    /// there is a configuration.
+    pub fn params(&self) -> SwParams
+        ensures { result ≡ self.now.setup.params }
+    {
+        self.plain.setup.params
+    }
+
     /// Prepares the stream (`snd_pcm_prepare`): PREPARED, from SETUP, PREPARED or XRUN. A refused call changes nothing.
     pub fn prepare(&mut self) -> Result<(), PcmError>
         ensures refused { (e : PcmError) → refusal_of Direction.Capture self.old.status call.Prepare ≡ Some e

@@ -1,3 +1,4 @@
+//! Each caller once, where there is memory, with values worked out by hand.
 use super::*;
 use hw_space::Config;
 use mix_core::Taken;

@@ -25,7 +25,7 @@ use Rattle.lab_actor.specs.declared.client.ClientActor.{ClientActor}
 use Rattle.dmix_client.specs.View.{ClientView}
 use Rattle.lab_actor.specs.ClientLines.{Extends}
 use Rattle.lab_actor.specs.ClientPart.{ClientLine, ClientPart, HasDone, client_of}
-use Rattle.lab_actor.specs.Room.{GrowsBy, HasSpace, asked_by}
+use Rattle.lab_actor.specs.Room.{GrowsBy, HasSpace, wanted_by}
 use Rattle.lab_actor.proofs.Away.{Extends-joined, Extends-still}
 
 -- the lines of an actor among the first of a phase's
@@ -198,19 +198,19 @@ pub bool_byte-most : (test : Bool) → bool_byte test ≤ 1
 bool_byte-most true = omega arith
 bool_byte-most false = omega arith
 
--- how many frames they ask to read up to the next one
-pub asked-next : (mine : Actor → Bool) (lines : List Line) (k : ℕ) (line : Line) → k < length lines → get_or lines k line ≡ line
-    → sum_by asked_by (ops_by mine (take k lines)) + (if mine line.actor then asked_by line.op else 0) ≡ sum_by asked_by (ops_by mine (take (k + 1) lines))
-asked-next mine lines k line within is = by_test (mine line.actor) refl
+-- how many frames they want room for up to the next one
+pub wanted-next : (most : ℕ) (mine : Actor → Bool) (lines : List Line) (k : ℕ) (line : Line) → k < length lines → get_or lines k line ≡ line
+    → sum_by (wanted_by most) (ops_by mine (take k lines)) + (if mine line.actor then wanted_by most line.op else 0) ≡ sum_by (wanted_by most) (ops_by mine (take (k + 1) lines))
+wanted-next most mine lines k line within is = by_test (mine line.actor) refl
   where
     by_test : (test : Bool) → mine line.actor ≡ test
-        → sum_by asked_by (ops_by mine (take k lines)) + (if mine line.actor then asked_by line.op else 0) ≡ sum_by asked_by (ops_by mine (take (k + 1) lines))
+        → sum_by (wanted_by most) (ops_by mine (take k lines)) + (if mine line.actor then wanted_by most line.op else 0) ≡ sum_by (wanted_by most) (ops_by mine (take (k + 1) lines))
     by_test true own_is =
-        ap (λ (test : Bool). sum_by asked_by (ops_by mine (take k lines)) + (if test then asked_by line.op else 0)) own_is
-        ∙ sym (ap (sum_by asked_by) (own-line mine lines k line within is own_is)
-        ∙ sum_by-append asked_by (ops_by mine (take k lines)) (line.op ∷ [])
-        ∙ ap (λ (n : ℕ). sum_by asked_by (ops_by mine (take k lines)) + n) (sum_by-cons asked_by line.op [] ∙ (let none : asked_by line.op + 0 ≡ asked_by line.op = omega arith in none)))
+        ap (λ (test : Bool). sum_by (wanted_by most) (ops_by mine (take k lines)) + (if test then wanted_by most line.op else 0)) own_is
+        ∙ sym (ap (sum_by (wanted_by most)) (own-line mine lines k line within is own_is)
+        ∙ sum_by-append (wanted_by most) (ops_by mine (take k lines)) (line.op ∷ [])
+        ∙ ap (λ (n : ℕ). sum_by (wanted_by most) (ops_by mine (take k lines)) + n) (sum_by-cons (wanted_by most) line.op [] ∙ (let none : wanted_by most line.op + 0 ≡ wanted_by most line.op = omega arith in none)))
     by_test false other_is =
-        ap (λ (test : Bool). sum_by asked_by (ops_by mine (take k lines)) + (if test then asked_by line.op else 0)) other_is
-        ∙ (let none : (n : ℕ) → n + 0 ≡ n = λ n. omega arith in none (sum_by asked_by (ops_by mine (take k lines))))
-        ∙ ap (sum_by asked_by) (sym (other-line mine lines k line within is other_is))
+        ap (λ (test : Bool). sum_by (wanted_by most) (ops_by mine (take k lines)) + (if test then wanted_by most line.op else 0)) other_is
+        ∙ (let none : (n : ℕ) → n + 0 ≡ n = λ n. omega arith in none (sum_by (wanted_by most) (ops_by mine (take k lines))))
+        ∙ ap (sum_by (wanted_by most)) (sym (other-line mine lines k line within is other_is))

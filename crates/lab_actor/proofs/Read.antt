@@ -2,9 +2,9 @@
 use Rattle.std.proofs.Common.{◌≡◌, ℕ, ◌+◌, ◌*◌, ◌≤◌, List, [], ◌∷◌, ◌++◌, refl, sym, ◌∙◌, ap, append_assoc, subst, arith, drop, length, take, zero-mul}
 use Rattle.std.proofs.Math.Nat.{mul-div_cancel, mul-mod_left, suc-mul}
 use Rattle.std.proofs.Math.Seq.{take-append-add, take-append_seam}
-use Rattle.std.proofs.lemmas.List.{append-nil, length-append, length-map, length-take, take_at}
+use Rattle.std.proofs.lemmas.List.{append-nil, length-append, length-drop, length-map, length-replicate, length-take, take_at}
 use Rattle.std.proofs.lemmas.List.Elements.{All-contains_itself, All-nil}
-use Rattle.std.specs.Prelude.{◌-◌, ◌/◌, ◌%◌, ℤ, pos, slice_index_or, Contains, Option, Some, None, Result, Ok, Err}
+use Rattle.std.specs.Prelude.{◌-◌, ◌/◌, ◌%◌, ℤ, min, pos, replicate, slice_index_or, Contains, Option, Some, None, Result, Ok, Err}
 use Rattle.std.specs.Result.{result_unwrap_or}
 use Rattle.std.specs.List.{range_with_len}
 use Rattle.snd_base.specs.declared.errors.PcmError.{PcmError}
@@ -25,6 +25,7 @@ use Rattle.pcm_stream.specs.declared.direction.Direction.TheVariants.{Capture}
 use Rattle.dsnoop_client.specs.declared.plain.Plain.{Plain}
 use Rattle.dsnoop_client.specs.Calls.{Answered, in_state}
 use Rattle.dsnoop_client.specs.Course.{admitted, admitted_by, read_course}
+use Rattle.dsnoop_client.specs.FewerReads.{most_read, read_course-fewer}
 use Rattle.dsnoop_client.specs.Port.{Keeps}
 use Rattle.dsnoop_client.specs.Reads.{Reads, through, through_all}
 use Rattle.dsnoop_client.specs.View.{CanRead, CanUse, frames_in}
@@ -83,6 +84,15 @@ can-read r room n some few size = λ configured. record {
   whole = ap (λ (k : ℕ). k % length r.setup.bindings) size ∙ mul-mod_left n (length r.setup.bindings);
   few = subst (λ (k : ℕ). k ≤ 4194304) (sym (frames_in-whole r room n some size)) few;
 }
+
+-- the room for so many samples that were put behind others
+pub length-room : (old xs : List ℤ) (before count : ℕ) → xs ≡ old ++ replicate count (pos 0) → length old ≡ before → length (take (length xs - before) (drop before xs)) ≡ count
+length-room old xs before count is size =
+    let whole = ap length is ∙ length-append old (replicate count (pos 0)) in
+    let zeros = length-replicate count (pos 0) in
+    let dropped = length-drop before xs in
+    let taken = length-take (length xs - before) (drop before xs) in
+    omega (arith, whole, zeros, size, dropped, taken)
 
 -- samples that were put into room behind others, of which the first are kept
 placed_behind : {X : Type 0} (n b : ℕ) (xs d p r : List X) → b ≤ length xs → b + length d ≡ n → take n ((take b xs ++ (d ++ p)) ++ r) ≡ take b xs ++ d
@@ -191,16 +201,17 @@ module _ {S T : Type 0} (P : snoopport.Ghosts S) (G : gates.Ghosts T) (composes 
     has_read = HasRead-none P s.0 s.0 r r before asked (Failed e) [] (composes.none s.0) usable (record { same_ring = refl; same_setup = refl }) (got-none asked e) (frames-none asked e r);
   }
 
-  -- a read into room for n frames, of which the samples that it gave are kept
+  -- a read of n frames into room for as many of them as a read gets or starts by; the samples that it gave are kept
   pub called-read : (s t : S × T) (r d : Plain) (before samples room filled : List ℤ) (n : ℕ) (result : Result ℕ PcmError) (answer : Answer)
-      → 1 ≤ length r.setup.bindings → length room ≡ n * length r.setup.bindings
+      → 1 ≤ length r.setup.bindings → length room ≡ min n (most_read r) * length r.setup.bindings
       → TakesAtSnoop P G s (admitted r call.Transfer (read_course r (frames_in r room))) t (d, result) → Reads P s.0 t.0 r d room filled result
       → Keeps P G s t r d result → answer ≡ count_answer result → samples ≡ before ++ take (result_unwrap_or result 0 * length r.setup.bindings) filled
       → HasCalled P G s t r d before samples (op.Read n) answer
   called-read s t r d before samples room filled n result answer some size takes reads keeps is kept = record {
     takes = Takes-map (LoadsAtSnoop P G) NoLay (GetsAtSnoop P G) s t (admitted r call.Transfer (read_course r n)) (λ (done : Answered ℕ). (done.0, count_answer done.1))
         (d, result) (d, answer)
-        (subst (λ (k : ℕ). TakesAtSnoop P G s (admitted r call.Transfer (read_course r k)) t (d, result)) (frames_in-whole r room n some size) takes)
+        (read_course-fewer P G s t r n (most_read r) (d, result) (omega arith)
+        (subst (λ (k : ℕ). TakesAtSnoop P G s (admitted r call.Transfer (read_course r k)) t (d, result)) (frames_in-whole r room (min n (most_read r)) some size) takes))
         (ap (λ (a : Answer). (d, a)) (sym is));
     has_read = record {
       usable = keeps.port;

@@ -6,13 +6,14 @@ use Rattle.std.proofs.lemmas.List.{append-nil, map-append}
 use Rattle.std.proofs.lemmas.List.Concat.{flat_map-append}
 use Rattle.std.proofs.lemmas.List.Sums.{sum_by-cons}
 use Rattle.std.proofs.lemmas.List.Elements.{All-append, All-nil, All-weaker, Contains-append_left, Contains-append_right}
-use Rattle.std.specs.Prelude.{All, Bool, true, false, Contains, ℤ, Option, Some, if◌then◌else◌, sum_by}
+use Rattle.std.specs.Prelude.{All, Bool, true, false, Contains, ℤ, Option, Some, if◌then◌else◌, max, sum_by}
 use Rattle.snd_base.specs.declared.geometry.Geometry.{Geometry}
 use Rattle.snd_base.specs.Relations.{Composes}
 use Rattle.snoop_core.specs.declared.port.Frame.{Frame}
 use Rattle.snoop_core.specs.declared.port.SnoopPort as snoopport
 use Rattle.pcm_stream.specs.declared.setup.Setup.{Setup}
 use Rattle.dsnoop_client.specs.declared.plain.Plain.{Plain}
+use Rattle.dsnoop_client.specs.FewerReads.{most_read}
 use Rattle.dsnoop_client.specs.Reads.{through, through_all}
 use Rattle.lab_script.specs.declared.line.Actor.{Actor}
 use Rattle.lab_script.specs.declared.line.Line.{Line}
@@ -26,7 +27,7 @@ use Rattle.lab_actor.specs.declared.reader.ReaderActor.{ReaderActor}
 use Rattle.lab_actor.specs.FrameRuns.{frames_in}
 use Rattle.lab_actor.specs.ReaderLines.{AreSamples, HasSameSetup}
 use Rattle.lab_actor.specs.ReaderPart.{Appends, HasDone, HasRoomFor, IsSameActor, ReaderLine, ReaderPart, TakesRoom, reader_of}
-use Rattle.lab_actor.specs.Room.{asked_by}
+use Rattle.lab_actor.specs.Room.{wanted_by}
 use Rattle.lab_actor.proofs.Parts.{other-line, own-line}
 
 -- an actor is the same as itself, and after two lines
@@ -40,8 +41,10 @@ IsSameActor-joined a x b one two = record {
 }
 
 -- the first line of some, and those that are left after it, where it took no more room than it wants
-sum_asked : (asked : Op) (more : List Op) (channels : ℕ) → sum_by asked_by (asked ∷ more) * channels ≡ asked_by asked * channels + sum_by asked_by more * channels
-sum_asked asked more channels = ap (λ (n : ℕ). n * channels) (sum_by-cons asked_by asked more) ∙ add-mul (asked_by asked) (sum_by asked_by more) channels
+sum_wanted : (most : ℕ) (asked : Op) (more : List Op) (channels : ℕ)
+    → sum_by (wanted_by most) (asked ∷ more) * channels ≡ wanted_by most asked * channels + sum_by (wanted_by most) more * channels
+sum_wanted most asked more channels =
+    ap (λ (n : ℕ). n * channels) (sum_by-cons (wanted_by most) asked more) ∙ add-mul (wanted_by most asked) (sum_by (wanted_by most) more) channels
 
 pub room-first : (a : ReaderActor) (asked : Op) (more : List Op) → HasRoomFor a (asked ∷ more) → HasRoomFor a (asked ∷ [])
 room-first a asked more room =
@@ -49,9 +52,10 @@ room-first a asked more room =
     let rows = room.rows in
     let runs = room.runs in
     let samples = room.samples in
-    let all = sum_asked asked more channels in
-    let one = sum_asked asked [] channels in
-    let none : sum_by asked_by [] * channels ≡ 0 = zero-mul channels in
+    let most = most_read a.reader in
+    let all = sum_wanted most asked more channels in
+    let one = sum_wanted most asked [] channels in
+    let none : sum_by (wanted_by most) [] * channels ≡ 0 = zero-mul channels in
     record { rows = omega (arith, rows); runs = omega (arith, runs); samples = omega (arith, samples, all, one, none) }
 
 pub room-left : (a b : ReaderActor) (asked : Op) (more : List Op) → HasRoomFor a (asked ∷ more) → TakesRoom a b asked → IsSameActor a b → HasRoomFor b more
@@ -65,13 +69,13 @@ room-left a b asked more room takes same =
     let samples = room.samples in
     let samples_few = takes.samples.few in
     let samples_kept = takes.samples.kept in
-    let all = sum_asked asked more channels in
-    let same_channels : sum_by asked_by more * length b.reader.setup.bindings ≡ sum_by asked_by more * channels =
-    ap (λ (setup : Setup). sum_by asked_by more * length setup.bindings) same.setup.same_setup in
+    let all = sum_wanted (most_read a.reader) asked more channels in
+    let same_wanted : sum_by (wanted_by (most_read b.reader)) more * length b.reader.setup.bindings ≡ sum_by (wanted_by (most_read a.reader)) more * channels =
+    ap (λ (setup : Setup). sum_by (wanted_by (max setup.params.start_threshold 16384)) more * length setup.bindings) same.setup.same_setup in
     record {
       rows = omega (arith, rows, rows_few, rows_kept);
       runs = omega (arith, runs, runs_kept);
-      samples = omega (arith, samples, samples_few, samples_kept, all, same_channels);
+      samples = omega (arith, samples, samples_few, samples_kept, all, same_wanted);
     }
 
 -- the lines that are left before and after the next one

@@ -2,6 +2,7 @@
 use Rattle.std.specs.Prelude.{◌≡◌, ℕ, ◌+◌, ◌*◌, ◌≤◌, ℤ, List, [], ◌∷◌, ◌++◌, length, Option, Some, sum_by}
 use Rattle.snd_base.specs.declared.geometry.Geometry.{Geometry}
 use Rattle.snoop_core.specs.declared.port.SnoopPort as snoopport
+use Rattle.dsnoop_client.specs.FewerReads.{most_read}
 use Rattle.lab_script.specs.declared.line.Line.{Line}
 use Rattle.lab_script.specs.declared.line.Op.{Op}
 use Rattle.lab_report.specs.declared.row.Answer.{Answer}
@@ -13,7 +14,7 @@ use Rattle.lab_run.specs.ReaderAtPort.{IsAtSnoop, IsReaderLine}
 use Rattle.lab_actor.specs.declared.reader.ReaderActor.{ReaderActor}
 use Rattle.lab_actor.specs.FrameRuns.{frames_in}
 use Rattle.lab_actor.specs.ReaderLines.{AreSamples, HasSameSetup}
-use Rattle.lab_actor.specs.Room.{GrowsBy, HasSpace, asked_by, samples_asked}
+use Rattle.lab_actor.specs.Room.{GrowsBy, HasSpace, samples_wanted, wanted_by}
 
 -- the reader of an actor, as a run has it
 abbrev pub reader_of : ReaderActor → Reader
@@ -28,11 +29,11 @@ pub record IsSameActor (a b : ReaderActor) : Type 0 where
 abbrev pub channels_of : ReaderActor → ℕ
 channels_of a = length a.reader.setup.bindings
 
--- an actor has the room that lines want which ask for this: a row and a run each, and the samples of all frames
+-- an actor has the room that lines want which ask for this: a row and a run each, and the samples of the frames that each may get
 pub record HasRoomFor (a : ReaderActor) (ops : List Op) : Type 0 where
   pub rows : HasSpace (length ops) a.rows
   pub runs : length ops ≤ a.frames.room
-  pub samples : HasSpace (sum_by asked_by ops * channels_of a) a.samples
+  pub samples : HasSpace (sum_by (wanted_by (most_read a.reader)) ops * channels_of a) a.samples
 
 -- it has the room for its lines of a phase
 abbrev pub HasRoom : ReaderActor → List Line → Type 0
@@ -42,7 +43,7 @@ HasRoom a lines = HasRoomFor a (ops_by (is_reader a.number) lines)
 pub record TakesRoom (a b : ReaderActor) (asked : Op) : Type 0 where
   pub rows : GrowsBy 1 a.rows b.rows
   pub runs : a.frames.room ≤ b.frames.room + 1
-  pub samples : GrowsBy (samples_asked (channels_of a) asked) a.samples b.samples
+  pub samples : GrowsBy (samples_wanted a.reader asked) a.samples b.samples
 
 -- frames were appended to the runs of an actor, and their samples to its samples
 pub record Appends {S : Type 0} (P : snoopport.Ghosts S) (p q : S) (a b : ReaderActor) : Type 0 where

@@ -1,6 +1,8 @@
 -- How many lines of a phase an actor has, and the room for what they leave.
-use Rattle.std.specs.Prelude.{ℕ, ◌+◌, ◌*◌, ◌≤◌, Bool, false, List, length, vec_capacity, vec_len}
+use Rattle.std.specs.Prelude.{ℕ, ◌+◌, ◌*◌, ◌≤◌, Bool, false, List, length, min, vec_capacity, vec_len}
 use Rattle.std.specs.Global.{Vec}
+use Rattle.dsnoop_client.specs.declared.plain.Plain.{Plain}
+use Rattle.dsnoop_client.specs.FewerReads.{most_read}
 use Rattle.lab_script.specs.declared.line.Actor.{Actor}
 use Rattle.lab_script.specs.declared.line.Actor.TheVariants.{Card, Client, Reader}
 use Rattle.lab_script.specs.declared.line.Line.{Line}
@@ -26,11 +28,11 @@ pub record GrowsBy {X : Type 0} (most : ℕ) (before after : Vec X) : Type 0 whe
   pub few : vec_len after ≤ vec_len before + most
   pub kept : vec_capacity before ≤ vec_capacity after
 
--- the frames that a line asks to read
-abbrev pub asked_by : Op → ℕ
-asked_by (op.Read frames) = frames
-asked_by other = 0
+-- the frames that a line of a reader wants room for: as many as it asks to read, and no more than a read gets or starts by
+abbrev pub wanted_by : ℕ → Op → ℕ
+wanted_by most (op.Read frames) = min frames most
+wanted_by most other = 0
 
--- the samples of these frames, of so many channels
-abbrev pub samples_asked : ℕ → Op → ℕ
-samples_asked channels asked = asked_by asked * channels
+-- the samples of these frames
+abbrev pub samples_wanted : Plain → Op → ℕ
+samples_wanted reader asked = wanted_by (most_read reader) asked * length reader.setup.bindings

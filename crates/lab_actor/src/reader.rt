@@ -9,12 +9,12 @@ ghost use Rattle.lab_actor.specs.ClientPart.{left_in, stops_in};
 ghost use Rattle.lab_actor.specs.Countdown.{IsSameGate, by_gate_of, left_of};
 ghost use Rattle.lab_actor.specs.ReaderLines.{HasAnswered, IsFewRead};
 ghost use Rattle.lab_actor.specs.ReaderPart.{HasRoom, HasRoomFor, ReaderLine, ReaderPart, TakesRoom};
-ghost use Rattle.lab_actor.specs.Room.{GrowsBy, HasSpace, samples_asked};
+ghost use Rattle.lab_actor.specs.Room.{GrowsBy, HasSpace, samples_wanted};
 
 use crate::countdown::Countdown;
 use crate::frame_runs::FrameRuns;
-use crate::reader_calls::call;
-use crate::room::{frames_asked, is_of, line_count, push_row};
+use crate::reader_calls::{call, most_read};
+use crate::room::{frames_wanted, is_of, line_count, push_row};
 use dsnoop_client::Reader;
 use lab_report::{Answer, Row};
 use lab_run::{lines_without_calls, parts_grow, reader_lines_are_parts};
@@ -58,11 +58,11 @@ fn call_line<P: SnoopPort, G: Gate, L: Ledger>(
     requires few { IsFewRead asked }
     requires can { CanCall reader.old.status.stopped asked }
     requires usable { CanUse reader.old (P.view port.old) }
-    requires room { HasSpace (samples_asked (length reader.old.setup.bindings) asked) samples.old }
+    requires room { HasSpace (samples_wanted reader.old asked) samples.old }
     ensures answered { HasAnswered P.SnoopPort left_of (by_gate_of G.stops) (port.old, gate.old) (port.new, gate.new)
         reader.old reader.new samples.old.items samples.new.items asked result }
     ensures same_gate { IsSameGate gate.old gate.new }
-    ensures room { GrowsBy (samples_asked (length reader.old.setup.bindings) asked) samples.old samples.new }
+    ensures room { GrowsBy (samples_wanted reader.old asked) samples.old samples.new }
 {
     reader_lines_are_parts::<P, Countdown<'_, G, L>>();
     call(reader, port, gate, samples, asked)
@@ -78,11 +78,11 @@ fn answer_line<P: SnoopPort, G: Gate, L: Ledger>(
 ) -> Answer
     requires few { IsFewRead asked }
     requires usable { CanUse reader.old (P.view port.old) }
-    requires room { HasSpace (samples_asked (length reader.old.setup.bindings) asked) samples.old }
+    requires room { HasSpace (samples_wanted reader.old asked) samples.old }
     ensures answered { HasAnswered P.SnoopPort left_of (by_gate_of G.stops) (port.old, gate.old) (port.new, gate.new)
         reader.old reader.new samples.old.items samples.new.items asked result }
     ensures same_gate { IsSameGate gate.old gate.new }
-    ensures room { GrowsBy (samples_asked (length reader.old.setup.bindings) asked) samples.old samples.new }
+    ensures room { GrowsBy (samples_wanted reader.old asked) samples.old samples.new }
 {
     lines_without_calls();
     if reader.is_stopped() {
@@ -96,8 +96,9 @@ fn answer_line<P: SnoopPort, G: Gate, L: Ledger>(
 }
 
 impl ReaderActor {
-    /// Takes the room that the lines of a phase want, so that `run_lines` takes no memory: a row and a run for each, and the
-    /// samples of as many frames as its reads ask for. It refuses, with `Memory`, only where no memory is left, or where
+    /// Takes the room that the lines of a phase want, so that `run_lines` takes no memory: a row and a run for each, and for
+    /// each read the samples of as many frames as it asks for, but of no more than a ring has or than start the reader: a
+    /// read of more gets no more of them. It refuses, with `Memory`, only where no memory is left, or where
     /// these are more samples than an address space has; then nothing but the room is changed.
     pub fn take_room(&mut self, lines: &[Line]) -> Result<(), PcmError>
         ensures room { OnOk result (HasRoom self.new lines.now) }
@@ -110,7 +111,7 @@ impl ReaderActor {
     {
         let own = Actor::Reader(self.number);
         let count = line_count(lines, own);
-        let frames = frames_asked(lines, own).ok_or(PcmError::Memory)?;
+        let frames = frames_wanted(lines, own, most_read(&self.reader)).ok_or(PcmError::Memory)?;
         let samples = frames
             .checked_mul(self.reader.channels() as usize)
             .ok_or(PcmError::Memory)?;

@@ -1,8 +1,9 @@
 //! The calls that the lines of an open reader name.
-ghost use Rattle.std.specs.Prelude.{◌≡◌, ◌*◌, ◌≤◌, ◌++◌, length, pos, replicate};
+ghost use Rattle.std.specs.Prelude.{◌≡◌, ◌≤◌, ◌++◌, min, pos, replicate};
+ghost use Rattle.dsnoop_client.specs.FewerReads.{most_read};
 ghost use Rattle.dsnoop_client.specs.View.{CanUse};
 ghost use Rattle.lab_actor.specs.ReaderLines.{HasCalled, IsFewRead};
-ghost use Rattle.lab_actor.specs.Room.{GrowsBy, HasSpace, samples_asked};
+ghost use Rattle.lab_actor.specs.Room.{GrowsBy, HasSpace, samples_wanted};
 
 use crate::answer::{counted, done, moved};
 use dsnoop_client::Reader;
@@ -21,6 +22,21 @@ fn push_silence(samples: &mut Vec<i16>, count: usize)
     samples.resize(samples.len() + count, 0).unwrap();
 }
 
+/// As many frames as a ring has at most, or as start a reader: a read of more does the same as one of so many.
+pub(crate) fn most_read(reader: &Reader) -> u64
+    ensures { result ≡ most_read reader.now }
+{
+    reader.params().start_threshold.max(16384)
+}
+
+/// For how many frames a read of `frames` frames wants room.
+fn read_room(reader: &Reader, frames: u32) -> usize
+    ensures value { result ≡ min frames (most_read reader.now) }
+    ensures few { result ≤ frames }
+{
+    (frames as u64).min(most_read(reader)) as usize
+}
+
 /// The reader reads up to `frames` frames, and appends the samples of those that it got.
 fn read<P: SnoopPort, G: Gate>(
     reader: &mut Reader,
@@ -31,14 +47,15 @@ fn read<P: SnoopPort, G: Gate>(
 ) -> Answer
     requires few { frames ≤ 4194304 }
     requires usable { CanUse reader.old (P.view port.old) }
-    requires room { HasSpace (frames * length reader.old.setup.bindings) samples.old }
+    requires room { HasSpace (samples_wanted reader.old (Op.Read frames)) samples.old }
     ensures called { HasCalled P.SnoopPort G.Gate (port.old, gate.old) (port.new, gate.new)
         reader.old reader.new samples.old.items samples.new.items (Op.Read frames) result }
-    ensures room { GrowsBy (frames * length reader.old.setup.bindings) samples.old samples.new }
+    ensures room { GrowsBy (samples_wanted reader.old (Op.Read frames)) samples.old samples.new }
 {
     let channels = reader.channels() as usize;
     let before = samples.len();
-    push_silence(samples, frames as usize * channels);
+    let room = read_room(reader, frames);
+    push_silence(samples, room * channels);
     let answer = reader.readi(port, gate, &mut samples[before..]);
     samples.truncate(before + answer.unwrap_or(0) as usize * channels);
     moved(answer)
@@ -54,10 +71,10 @@ pub(crate) fn call<P: SnoopPort, G: Gate>(
 ) -> Answer
     requires few { IsFewRead asked }
     requires usable { CanUse reader.old (P.view port.old) }
-    requires room { HasSpace (samples_asked (length reader.old.setup.bindings) asked) samples.old }
+    requires room { HasSpace (samples_wanted reader.old asked) samples.old }
     ensures called { HasCalled P.SnoopPort G.Gate (port.old, gate.old) (port.new, gate.new)
         reader.old reader.new samples.old.items samples.new.items asked result }
-    ensures room { GrowsBy (samples_asked (length reader.old.setup.bindings) asked) samples.old samples.new }
+    ensures room { GrowsBy (samples_wanted reader.old asked) samples.old samples.new }
 {
     match asked {
         Op::Read(frames) => read(reader, port, gate, samples, frames),

@@ -3,7 +3,7 @@ ghost use Rattle.std.specs.Prelude.{◌≡◌, ◌<◌, ◌≤◌, ◌+◌, ◌+
 ghost use Rattle.lab_script.specs.declared.line.Line.{Line};
 ghost use Rattle.lab_run.specs.Phases.{ops_by};
 ghost use Rattle.lab_actor.specs.ReaderLines.{IsFewRead};
-ghost use Rattle.lab_actor.specs.Room.{asked_by, is_actor, line_count};
+ghost use Rattle.lab_actor.specs.Room.{is_actor, line_count, wanted_by};
 
 use lab_report::Row;
 use lab_script::{Actor, Line, Op};
@@ -31,15 +31,17 @@ pub fn line_count(lines: &[Line], actor: Actor) -> usize
     count
 }
 
-/// How many frames a line of a client or reader asks to read; a line of another actor asks for none.
-fn frames_of(line: &Line, actor: Actor) -> u32
-    ensures { result ≡ (if is_actor actor line.now.actor then asked_by line.now.op else 0) }
+/// How many frames a line of a client or reader wants room for: as many as it asks to read, and no more than a read gets or
+/// starts by. A line of another actor wants none.
+fn frames_of(line: &Line, actor: Actor, most: u64) -> u64
+    ensures value { result ≡ (if is_actor actor line.now.actor then wanted_by most line.now.op else 0) }
+    ensures few { result < 4294967296 }
 {
     if !is_of(line, actor) {
         return 0;
     }
     match line.op {
-        Op::Read(frames) => frames,
+        Op::Read(frames) => (frames as u64).min(most),
         _ => 0,
     }
 }
@@ -61,13 +63,13 @@ pub fn reads_are_few(lines: &[Line]) -> bool
     lines.iter().all(|line| is_few_read(line.op))
 }
 
-/// How many frames an actor's lines of a phase ask to read, where that is a `usize`.
-pub(crate) fn frames_asked(lines: &[Line], actor: Actor) -> Option<usize>
-    ensures { IfSome result (λ frames. frames ≡ sum_by asked_by (ops_by (is_actor actor) lines.now)) }
+/// How many frames an actor's lines of a phase want room for, where that is a `usize`.
+pub(crate) fn frames_wanted(lines: &[Line], actor: Actor, most: u64) -> Option<usize>
+    ensures { IfSome result (λ frames. frames ≡ sum_by (wanted_by most) (ops_by (is_actor actor) lines.now)) }
 {
     let mut frames: usize = 0;
     for index in 0..lines.len() {
-        frames = frames.checked_add(frames_of(&lines[index], actor) as usize)?;
+        frames = frames.checked_add(frames_of(&lines[index], actor, most) as usize)?;
     }
     Some(frames)
 }

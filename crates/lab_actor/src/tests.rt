@@ -142,6 +142,23 @@ fn a_reader_that_came_too_late_reads_on_behind_the_gap(rt: HostRuntime) -> Resul
 }
 
 #[test]
+fn a_read_takes_no_more_room_than_a_ring_has_frames(rt: HostRuntime) -> Result<(), Fail> {
+    let mut core = SnoopCore::new(rt.alloc(), RING)?;
+    let mut actor = opened(&rt, rt.alloc())?;
+    run(&rt, &mut core, &mut actor, 1, &[line(Op::Start)])?;
+    capture(&rt, &mut core, 0, 64)?;
+    run(&rt, &mut core, &mut actor, 3, &[line(Op::Read(4194304))])?;
+    let rows = [
+        row(1, Op::Start, Answer::Done, State::Running, 0),
+        row(3, Op::Read(4194304), Answer::Count(64), State::Running, 64),
+    ];
+    assert_eq!(rt; actor.rows.as_slice(), rows.as_slice());
+    assert_eq!(rt; actor.frames.as_slice(), [(0, 64)].as_slice());
+    assert!(rt; actor.samples.capacity() < 100_000);
+    Ok(())
+}
+
+#[test]
 fn a_reader_that_dies_in_a_read_reads_nothing_more(rt: HostRuntime) -> Result<(), Fail> {
     let mut core = SnoopCore::new(rt.alloc(), RING)?;
     let mut actor = opened(&rt, rt.alloc())?;

@@ -18,7 +18,7 @@ use Rattle.lab_script.specs.Ops.{played_by}
 use Rattle.lab_script.specs.Script.{is_unplug}
 use Rattle.card_player.specs.Plays.{HasPlayed, frames_left, is_multiple, periods_to, positions_of, samples_of, seat_of}
 use Rattle.card_sim.specs.declared.card.Card.{Card}
-use Rattle.card_sim.specs.Runs.{HasCaptured, RunsFrames, RunsThrough, period_of, player_of, writer_of}
+use Rattle.card_sim.specs.Runs.{HasCaptured, RunsFrames, RunsThrough, captured_if, period_of, player_of, records_of, writer_of}
 use Rattle.lab_card.specs.declared.card.CardActor.{CardActor}
 use Rattle.lab_card.specs.Captures.{captured_frames}
 use Rattle.lab_card.specs.CardLines.{CardDid, positions_at}
@@ -49,38 +49,39 @@ captured-moves w v xs ps captured = record {
 mul-div : (n c : ℕ) → 0 < c → n * c / c ≡ n
 mul-div n c positive = mul-div_cancel n positive
 
-run-moves : (c d : Card) (n : ℕ) (captured old new : List ℤ) → RunsThrough c d captured old new → period_of d ≡ period_of c
+run-moves : (c d : Card) (n : ℕ) (captured old new : List ℤ) → RunsThrough c d captured old new → period_of d ≡ period_of c → records_of d ≡ records_of c
     → length captured ≡ n * (geometry_of_card c).channels → length old ≡ n * (geometry_of_card c).channels → length new ≡ n * (geometry_of_card c).channels
     → frame_of_card c + n ≤ end_frame (geometry_of_card c) → CardMoves c d n new captured (positions_of (period_of c) (frame_of_card c) n) false
-run-moves c d n captured old new runs period captured_size old_size new_size fits =
+run-moves c d n captured old new runs period records captured_size old_size new_size fits =
     let channels : ℕ = (geometry_of_card c).channels in
     let all : length old / channels ≡ n = ap (λ (k : ℕ). k / channels) old_size ∙ mul-div n channels (geometry_of_card c).channels_least in
     let left : frames_left (player_of c) old ≡ n = ap (λ (k : ℕ). min (end_frame (geometry_of_card c) - frame_of_card c) k) all ∙ (let e : min (end_frame (geometry_of_card c) - frame_of_card c) n ≡ n = omega (arith, fits) in e) in
-    let run : RunsFrames (player_of c) (writer_of c) (player_of d) (writer_of d) (period_of c) n captured old new =
-    subst (λ (k : ℕ). RunsFrames (player_of c) (writer_of c) (player_of d) (writer_of d) (period_of c) k captured old new) left runs in
+    let run : RunsFrames (records_of c) (player_of c) (writer_of c) (player_of d) (writer_of d) (period_of c) n captured old new =
+    subst (λ (k : ℕ). RunsFrames (records_of c) (player_of c) (writer_of c) (player_of d) (writer_of d) (period_of c) k captured old new) left runs in
     let taken : samples_of (player_of c) n new ≡ new = take_all (n * channels) new (omega (arith, new_size)) in
     let stored : samples_of (player_of c) n captured ≡ captured = take_all (n * channels) captured (omega (arith, captured_size)) in
     let positions : List ℕ = positions_of (period_of c) (frame_of_card c) n in
     record {
       player = played-moves (seat_of (player_of c)) (seat_of (player_of d)) new positions
           (subst (λ (xs : List ℤ). HasPlayed (seat_of (player_of c)) (seat_of (player_of d)) xs positions) taken run.played);
-      writer = captured-moves (writer_of c) (writer_of d) captured positions
-          (subst (λ (xs : List ℤ). HasCaptured (writer_of c) (writer_of d) xs positions) stored run.stored);
+      writer = captured-moves (writer_of c) (writer_of d) (captured_if (records_of c) captured) (captured_if (records_of c) positions)
+          (subst (λ (xs : List ℤ). HasCaptured (writer_of c) (writer_of d) (captured_if (records_of c) xs) (captured_if (records_of c) positions)) stored run.stored);
       period = period;
+      records = records;
       frame = ap (λ (at : Rattle.snd_base.specs.declared.places.Cursor.Cursor). at.frame) run.next;
       whole = new_size;
     }
 
 -- a run over a buffer at the end of the played samples
 pub CardDid-run : (capture : Option Sound) (a b : CardActor) (n : ℕ) (captured old new : List ℤ) → RunsThrough a.card b.card captured old new → period_of b.card ≡ period_of a.card
-    → captured ≡ captured_frames capture (geometry_of_card a.card).channels (frames_since_first a.card) n
+    → records_of b.card ≡ records_of a.card → captured ≡ captured_frames capture (geometry_of_card a.card).channels (frames_since_first a.card) n
     → length captured ≡ n * (geometry_of_card a.card).channels → length old ≡ n * (geometry_of_card a.card).channels → length new ≡ n * (geometry_of_card a.card).channels
     → frame_of_card a.card + n ≤ end_frame (geometry_of_card a.card) → b.played.items ≡ a.played.items ++ new
     → CardDid capture a b n (positions_of (period_of a.card) (frame_of_card a.card) n) false
-CardDid-run capture a b n captured old new runs period captured_is captured_size old_size new_size fits played = record {
+CardDid-run capture a b n captured old new runs period records captured_is captured_size old_size new_size fits played = record {
   samples = new;
   moves = subst (λ (xs : List ℤ). CardMoves a.card b.card n new xs (positions_of (period_of a.card) (frame_of_card a.card) n) false) captured_is
-      (run-moves a.card b.card n captured old new runs period captured_size old_size new_size fits);
+      (run-moves a.card b.card n captured old new runs period records captured_size old_size new_size fits);
   played = played;
 }
 

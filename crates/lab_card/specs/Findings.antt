@@ -36,7 +36,7 @@ use Rattle.snoop_table.specs.Writers.{writer_geometry, writer_track}
 use Rattle.wav_io.specs.Sound.{Sound}
 use Rattle.card_player.specs.Plays.{at_frame}
 use Rattle.card_sim.specs.declared.card.Card.{Card}
-use Rattle.card_sim.specs.Runs.{period_of, writer_of}
+use Rattle.card_sim.specs.Runs.{captured_if, period_of, records_of, writer_of}
 use Rattle.lab_script.specs.declared.line.Line.{Line}
 use Rattle.lab_script.specs.Script.{is_of_card}
 use Rattle.lab_run.specs.ActorPart.{AreOf, Each, Findings}
@@ -277,7 +277,10 @@ module _ {capture : Option Sound} {phase : ℕ} (c : Card) (a b : CardActor) (d 
         overtaken = subst (Each (λ (place : ℕ × ℕ). place.0 + (geometry_of_card c).frames < frame_of_card b.card)) (sym client.overtaken) tt;
       }
 
-  -- ---- of a reader
+  -- ---- of a reader, whose card records
+
+  pub records-between : records_of d ≡ records_of c
+  records-between = is.after.records ∙ (is.part.did.moves.records ∙ is.before.records)
 
   writer-geometry : writer_geometry (writer_of d) ≡ writer_geometry (writer_of c)
   writer-geometry = is.after.writer.geometry ∙ (is.part.did.moves.writer.geometry ∙ is.before.writer.geometry)
@@ -289,31 +292,33 @@ module _ {capture : Option Sound} {phase : ℕ} (c : Card) (a b : CardActor) (d 
       ∙ (ap (λ (x : Bool). (writer_track (writer_of a.card)).gone || x) is.plugged
       ∙ (sym (or-false (writer_track (writer_of a.card)).gone) ∙ (ap (λ (t : snoop_track.Track). t.gone) is.before.writer.track ∙ is.rests.gone))))
 
-  stored-positions : (writer_track (writer_of d)).published ≡ (writer_track (writer_of c)).published ++ positions_by (period_of c) (frame_of_card c) (ops_by is_of_card lines)
-  stored-positions =
+  stored-positions : records_of c ≡ true → (writer_track (writer_of d)).published ≡ (writer_track (writer_of c)).published ++ positions_by (period_of c) (frame_of_card c) (ops_by is_of_card lines)
+  stored-positions records =
       ap (λ (t : snoop_track.Track). t.published) is.after.writer.track
       ∙ (is.part.did.moves.writer.published
+      ∙ (ap (λ (x : Bool). (writer_track (writer_of a.card)).published ++ captured_if x (positions_by (period_of a.card) (frame_of_card a.card) (ops_by is_of_card lines)))
+      (is.before.records ∙ records)
       ∙ (ap (λ (t : snoop_track.Track). t.published ++ positions_by (period_of a.card) (frame_of_card a.card) (ops_by is_of_card lines)) is.before.writer.track
-      ∙ ap (λ (ps : List ℕ). (writer_track (writer_of c)).published ++ ps) positions-between))
+      ∙ ap (λ (ps : List ℕ). (writer_track (writer_of c)).published ++ ps) positions-between)))
 
   -- a position of a reader that the card knows, likewise
-  reader-position : (x : ℕ) → IsPosition (writer_geometry (writer_of d)) (writer_track (writer_of d)).published x → frame_of_card c ≤ x
+  reader-position : records_of c ≡ true → (x : ℕ) → IsPosition (writer_geometry (writer_of d)) (writer_track (writer_of d)).published x → frame_of_card c ≤ x
       → Contains (published (period_of c) (frame_of_card c) lines) x
-  reader-position x at up =
+  reader-position records x at up =
       let same : writer_geometry (writer_of d) ≡ geometry_of_card c = writer-geometry ∙ sym c.in_step.geometry in
       published-position (period_of c) (first_frame (geometry_of_card c)) (frame_of_card c) (writer_track (writer_of c)).published lines x (frame-least c) is.rests.captured
-      (subst (λ (ps : List ℕ). IsPosition (geometry_of_card c) ps x) stored-positions
+      (subst (λ (ps : List ℕ). IsPosition (geometry_of_card c) ps x) (stored-positions records)
       (subst (λ (g : Geometry). IsPosition g (writer_track (writer_of d)).published x) same at)) up
 
   -- a frame of which a reader shows a word of a later lap is stored over
-  reader-overtaken : (s t u v : ReaderSeat) (found : Findings) → ReaderPhase c d s t u v found → (f n word : ℕ) → snoop_port.IsPast readers.seat_view readers.shown u f n word
+  reader-overtaken : records_of c ≡ true → (s t u v : ReaderSeat) (found : Findings) → ReaderPhase c d s t u v found → (f n word : ℕ) → snoop_port.IsPast readers.seat_view readers.shown u f n word
       → f + (geometry_of_card c).frames < frame_of_card b.card
-  reader-overtaken s t u v found reader f n word past =
+  reader-overtaken records s t u v found reader f n word past =
       let g : Geometry = writer_geometry (writer_of d) in
       let own : readers.geometry_of u ≡ writer_geometry (writer_of c) = reader.geometry ∙ (reader.informed.geometry ∙ reader.of_ring.1) in
       let same : readers.geometry_of u ≡ g = own ∙ sym writer-geometry in
       let rings : g ≡ geometry_of_card c = writer-geometry ∙ sym c.in_step.geometry in
-      let next : next_of g (writer_track (writer_of d)) ≡ at_frame (frame_of_card d) = writer-next d in
+      let next : next_of g (writer_track (writer_of d)) ≡ at_frame (frame_of_card d) = writer-next d (records-between ∙ records) in
       let start : first_free (next_of g (writer_track (writer_of d))) n ≡ frame_of_card d = first_free-at_frame (next_of g (writer_track (writer_of d))) (frame_of_card d) n next in
       let channel : n < g.channels = subst (λ (h : Geometry). n < h.channels) same past.channel in
       let later : f / g.frames + 1 < laps_of word = subst (λ (h : Geometry). f / h.frames + 1 < laps_of word) same past.past in
@@ -322,7 +327,7 @@ module _ {capture : Option Sound} {phase : ℕ} (c : Card) (a b : CardActor) (d 
       ap (λ (w : snoop_view.View). slice_index_or w.noted (index_of g k n) None) reader.same.view
       ∙ (ap (λ (m : ℕ). slice_index_or (readers.view_of u).noted (m * g.channels + n + 1) None) slot_is
       ∙ (ap (λ (h : Geometry). slice_index_or (readers.view_of u).noted (index_of h f n) None) (sym same) ∙ past.shown)) in
-      let least : g.first_lap * g.frames ≤ frame_of_card d = writer-least d in
+      let least : g.first_lap * g.frames ≤ frame_of_card d = writer-least d (records-between ∙ records) in
       let over : f + g.frames < frame_of_card d =
       stored-over g.frames g.first_lap (frame_of_card d) f (omega (arith, g.frames_least)) least (laps_of word) later
       (λ k low below last slot_is.
@@ -333,24 +338,24 @@ module _ {capture : Option Sound} {phase : ℕ} (c : Card) (a b : CardActor) (d 
 
   -- What a reader found in a phase is what the phase allows: each position that it loaded is published in it, and gone where the card is;
   -- and each frame that was overtaken is stored over by then.
-  pub reader-found : (s t u v : ReaderSeat) (found : Findings) → ReaderPhase c d s t u v found → AreOf (rules_between c b.card lines) found
-  reader-found s t u v found reader =
+  pub reader-found : records_of c ≡ true → (s t u v : ReaderSeat) (found : Findings) → ReaderPhase c d s t u v found → AreOf (rules_between c b.card lines) found
+  reader-found records s t u v found reader =
       let positions : (readers.view_of v).positions ≡ (readers.view_of t).positions ++ map (λ (p : Position). p.frame) found.loads =
       ap (λ (w : snoop_view.View). w.positions) reader.same.view ∙ reader.loads.positions in
       let seen : (readers.view_of v).seen_gone ≡ (readers.view_of u).seen_gone = ap (λ (w : snoop_view.View). w.seen_gone) reader.same.view in
       let informed : (readers.view_of t).seen_gone ≡ ((readers.view_of s).seen_gone || is_gone c) =
       reader.informed.gone ∙ ap (λ (x : Bool). (readers.view_of s).seen_gone || x) is.rests.gone in
       let start : position_of (writer_geometry (writer_of c)) (writer_track (writer_of c)) ≡ frame_of_card c =
-      ap (λ (h : Geometry). position_of h (writer_track (writer_of c))) (sym c.in_step.geometry) ∙ is.rests.position in
+      ap (λ (h : Geometry). position_of h (writer_track (writer_of c))) (sym c.in_step.geometry) ∙ is.rests.position records in
       record {
         loads = Each-both (λ (p : Position). Contains (published (period_of c) (frame_of_card c) lines) p.frame) (λ (p : Position). p.gone ≡ is_gone c) found.loads
             (loads-each (Contains (published (period_of c) (frame_of_card c) lines)) (frame_of_card c) (readers.seen_of t) (readers.view_of t).positions found.loads
             (omega (arith, reader.informed.seen, start)) reader.loads.rising
-            (λ i x at up. reader-position x (reader.knows.positions i x (ap (λ (xs : List ℕ). get_elem? xs i) positions ∙ at)) up))
+            (λ i x at up. reader-position records x (reader.knows.positions i x (ap (λ (xs : List ℕ). get_elem? xs i) positions ∙ at)) up))
             (loaded-gone (is_gone c) (readers.view_of t).seen_gone (readers.view_of u).seen_gone (readers.view_of s).seen_gone found.loads informed reader.loads.gone reader.loads.after_gone
             (λ is_so. sym writer-gone ∙ reader.knows.gone (seen ∙ is_so)));
         late = subst (Each (λ (place : ℕ × ℕ). place.0 < frame_of_card b.card)) (sym reader.late) tt;
         overtaken = Each-less (λ (place : ℕ × ℕ). (word : ℕ) × snoop_port.IsPast readers.seat_view readers.shown u place.0 place.1 word)
             (λ (place : ℕ × ℕ). place.0 + (geometry_of_card c).frames < frame_of_card b.card) found.overtaken
-            (λ place past. reader-overtaken s t u v found reader place.0 place.1 past.0 past.1) reader.overtaken;
+            (λ place past. reader-overtaken records s t u v found reader place.0 place.1 past.0 past.1) reader.overtaken;
       }

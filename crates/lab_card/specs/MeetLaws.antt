@@ -1,5 +1,5 @@
 -- Meets one after the other: what stays of a card, of its rings and of what a phase allows.
-use Rattle.std.specs.Prelude.{◌≡◌, ℕ, ◌≤◌, Bool, List}
+use Rattle.std.specs.Prelude.{◌≡◌, ℕ, ◌≤◌, Bool, true, List}
 use Rattle.std.proofs.Common.{refl, sym, ap, subst, ◌∙◌}
 use Rattle.snd_base.specs.declared.geometry.Geometry.{Geometry}
 use Rattle.snd_base.specs.declared.places.Cursor.{Cursor}
@@ -13,7 +13,7 @@ use Rattle.snoop_table.specs.declared.view.Track as snoop_track
 use Rattle.snoop_table.specs.Writers.{writer_track}
 use Rattle.sum_table.specs.Players.{track_of}
 use Rattle.card_sim.specs.declared.card.Card.{Card}
-use Rattle.card_sim.specs.Runs.{period_of, writer_of}
+use Rattle.card_sim.specs.Runs.{period_of, records_of, writer_of}
 use Rattle.lab_script.specs.declared.line.Line.{Line}
 use Rattle.lab_run.specs.ActorPart.{Each}
 use Rattle.lab_run.specs.Phases.{published}
@@ -29,6 +29,7 @@ IsSameCard-none c = record {
   player = record { ring = refl; key = refl; track = refl; next = refl };
   writer = record { ring = refl; geometry = refl; track = refl; next = refl };
   period = refl;
+  records = refl;
 }
 
 pub IsSameCard-joined : (c d e : Card) → IsSameCard c d → IsSameCard d e → IsSameCard c e
@@ -46,6 +47,7 @@ IsSameCard-joined c d e first then_ = record {
     next = then_.writer.next ∙ first.writer.next;
   };
   period = then_.period ∙ first.period;
+  records = then_.records ∙ first.records;
 }
 
 -- it plays the same frame next, and its rings have the same shape
@@ -62,8 +64,10 @@ Rests-same c d same rests = record {
       (subst (λ (n : ℕ). Each (λ (x : ℕ). x ≤ n) (track_of (seat_of_card c)).published) (sym (frame-same c d same)) rests.played);
   captured = subst (λ (t : snoop_track.Track). Each (λ (x : ℕ). x ≤ frame_of_card d) t.published) (sym same.writer.track)
       (subst (λ (n : ℕ). Each (λ (x : ℕ). x ≤ n) (writer_track (writer_of c)).published) (sym (frame-same c d same)) rests.captured);
-  position = ap (λ (t : snoop_track.Track). last_of (first_frame (geometry_of_card d)) t.published) same.writer.track
-      ∙ (ap (λ (g : Geometry). last_of (first_frame g) (writer_track (writer_of c)).published) (geometry-same c d same) ∙ (rests.position ∙ sym (frame-same c d same)));
+  position = λ (recorded : records_of d ≡ true).
+      ap (λ (t : snoop_track.Track). last_of (first_frame (geometry_of_card d)) t.published) same.writer.track
+      ∙ (ap (λ (g : Geometry). last_of (first_frame g) (writer_track (writer_of c)).published) (geometry-same c d same)
+      ∙ (rests.position (sym same.records ∙ recorded) ∙ sym (frame-same c d same)));
   gone = ap (λ (t : snoop_track.Track). t.gone) same.writer.track ∙ (rests.gone ∙ sym (ap (λ (t : Track). t.gone) same.player.track));
 }
 

@@ -19,7 +19,7 @@ use Rattle.snoop_table.specs.Readers as readers
 use Rattle.snoop_table.specs.Writers.{next_frame, writer_geometry, writer_ring, writer_track, writer_view}
 use Rattle.snoop_table.specs.Captured.{position_of}
 use Rattle.card_sim.specs.declared.card.Card.{Card}
-use Rattle.card_sim.specs.Runs.{period_of, writer_of}
+use Rattle.card_sim.specs.Runs.{period_of, records_of, writer_of}
 use Rattle.lab_card.specs.Moves.{frame_of_card, is_gone, seat_of_card}
 
 -- a client's seat, and a reader's, is of a card's ring
@@ -46,6 +46,7 @@ pub record IsSameCard (c d : Card) : Type 0 where
   pub player : IsSamePlayer (seat_of_card c) (seat_of_card d)
   pub writer : IsSameWriter (writer_of c) (writer_of d)
   pub period : period_of d ≡ period_of c
+  pub records : records_of d ≡ records_of c
 
 -- a client's seat met a note of the card's player: it has seen each position that the card published, and the card gone where it
 -- is, and else it is as before

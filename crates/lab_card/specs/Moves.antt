@@ -8,9 +8,9 @@ use Rattle.snoop_table.specs.declared.seats.writer.WriterSeat.{WriterSeat}
 use Rattle.snoop_table.specs.Writers.{writer_geometry, writer_ring, writer_track}
 use Rattle.card_player.specs.Plays.{behind_words, frame_of, geometry_of, seat_of, words_at}
 use Rattle.card_sim.specs.declared.card.Card.{Card}
-use Rattle.card_sim.specs.Runs.{period_of, player_of, writer_of}
+use Rattle.card_sim.specs.Runs.{captured_if, period_of, player_of, records_of, writer_of}
 
--- a card's seat at the sum ring, its geometry, the frame that it plays and captures next, which is the position that it published
+-- a card's seat at the sum ring, its geometry, the frame that it plays next, and captures where it records, which is the position that it published
 -- last, and whether it is gone
 abbrev pub seat_of_card : Card → PlayerSeat
 seat_of_card c = seat_of (player_of c)
@@ -45,11 +45,12 @@ pub record WriterMoves (w x : WriterSeat) (samples : List ℤ) (positions : List
   pub published : (writer_track x).published ≡ (writer_track w).published ++ positions
   pub gone : (writer_track x).gone ≡ ((writer_track w).gone || unplugged)
 
--- A card played so many frames: it took these samples from the sum ring and stored the captured ones in the snoop ring, and published these
--- positions on both. And it was unplugged, or not.
+-- A card played so many frames: it took these samples from the sum ring and published these positions there. Where it records it stored the captured
+-- samples in the snoop ring, and published the positions there too. And it was unplugged, or not.
 pub record CardMoves (c d : Card) (frames : ℕ) (samples captured : List ℤ) (positions : List ℕ) (unplugged : Bool) : Type 0 where
   pub player : PlayerMoves (seat_of_card c) (seat_of_card d) samples positions unplugged
-  pub writer : WriterMoves (writer_of c) (writer_of d) captured positions unplugged
+  pub writer : WriterMoves (writer_of c) (writer_of d) (captured_if (records_of c) captured) (captured_if (records_of c) positions) unplugged
   pub period : period_of d ≡ period_of c
+  pub records : records_of d ≡ records_of c
   pub frame : frame_of_card d ≡ frame_of_card c + frames
   pub whole : length samples ≡ frames * (geometry_of_card c).channels

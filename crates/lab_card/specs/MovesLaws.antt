@@ -20,7 +20,7 @@ use Rattle.wav_io.specs.Sound.{Sound}
 use Rattle.card_player.specs.PlayLaws.{behind_words-append, words_at-append}
 use Rattle.card_player.specs.Plays.{at_frame, behind_words, words_at}
 use Rattle.card_sim.specs.declared.card.Card.{Card}
-use Rattle.card_sim.specs.Runs.{period_of, writer_of}
+use Rattle.card_sim.specs.Runs.{captured_if, period_of, records_of, writer_of}
 use Rattle.lab_script.specs.declared.line.Op.{Op}
 use Rattle.lab_script.specs.Ops.{played_by}
 use Rattle.lab_script.specs.Script.{is_unplug}
@@ -95,11 +95,22 @@ WriterMoves-joined w v u xs ys early late before after first then_ = record {
 pub CardMoves-geometry : (c d : Card) (n : ℕ) (xs ys : List ℤ) (ps : List ℕ) (b : Bool) → CardMoves c d n xs ys ps b → geometry_of_card d ≡ geometry_of_card c
 CardMoves-geometry c d n xs ys ps b moves = ap (λ (k : Key). k.geometry) moves.player.key
 
+-- nothing is captured of nothing, and of two parts what is captured of each
+pub captured_if-none : {T : Type 0} (records : Bool) → captured_if {T = T} records [] ≡ []
+captured_if-none true = refl
+captured_if-none false = refl
+
+pub captured_if-append : {T : Type 0} (records : Bool) (xs ys : List T) → captured_if records xs ++ captured_if records ys ≡ captured_if records (xs ++ ys)
+captured_if-append true xs ys = refl
+captured_if-append false xs ys = refl
+
 pub CardMoves-none : (c : Card) → CardMoves c c 0 [] [] [] false
 CardMoves-none c = record {
   player = PlayerMoves-none (seat_of_card c);
-  writer = WriterMoves-none (writer_of c);
+  writer = subst (λ (xs : List ℤ). WriterMoves (writer_of c) (writer_of c) xs (captured_if (records_of c) []) false) (sym (captured_if-none (records_of c)))
+      (subst (λ (ps : List ℕ). WriterMoves (writer_of c) (writer_of c) [] ps false) (sym (captured_if-none (records_of c))) (WriterMoves-none (writer_of c)));
   period = refl;
+  records = refl;
   frame = omega arith;
   whole = omega arith;
 }
@@ -109,8 +120,18 @@ pub CardMoves-joined : (c d e : Card) (n m : ℕ) (xs ys first_captured then_cap
     → CardMoves c e (n + m) (xs ++ ys) (first_captured ++ then_captured) (early ++ late) (before || after)
 CardMoves-joined c d e n m xs ys first_captured then_captured early late before after first then_ = record {
   player = PlayerMoves-joined (seat_of_card c) (seat_of_card d) (seat_of_card e) xs ys early late before after first.player then_.player;
-  writer = WriterMoves-joined (writer_of c) (writer_of d) (writer_of e) first_captured then_captured early late before after first.writer then_.writer;
+  writer =
+      let records : Bool = records_of c in
+      let later : WriterMoves (writer_of d) (writer_of e) (captured_if records then_captured) (captured_if records late) after =
+      subst (λ (b : Bool). WriterMoves (writer_of d) (writer_of e) (captured_if b then_captured) (captured_if b late) after) first.records then_.writer in
+      subst (λ (xs : List ℤ). WriterMoves (writer_of c) (writer_of e) xs (captured_if records (early ++ late)) (before || after))
+      (captured_if-append records first_captured then_captured)
+      (subst (λ (ps : List ℕ). WriterMoves (writer_of c) (writer_of e) (captured_if records first_captured ++ captured_if records then_captured) ps (before || after))
+      (captured_if-append records early late)
+      (WriterMoves-joined (writer_of c) (writer_of d) (writer_of e) (captured_if records first_captured) (captured_if records then_captured) (captured_if records early)
+      (captured_if records late) before after first.writer later));
   period = then_.period ∙ first.period;
+  records = then_.records ∙ first.records;
   frame = omega (arith, first.frame, then_.frame);
   whole =
       let size : length (xs ++ ys) ≡ length xs + length ys = length-append xs ys in
@@ -133,20 +154,20 @@ frame-least c = (seat_of_card c).known.next_within.least
 
 -- between calls a card has taken whole frames
 pub next-at_frame : (c : Card) → next_of_player (seat_of_card c) ≡ at_frame (frame_of_card c)
-next-at_frame c = c.in_step.next ∙ ap (λ (at : Cursor). at_frame at.frame) (sym c.in_step.next)
+next-at_frame c = c.in_step.whole
 
--- and stored as many
-pub writer-next : (c : Card) → next_of (writer_geometry (writer_of c)) (writer_track (writer_of c)) ≡ at_frame (frame_of_card c)
-writer-next c =
+-- and stored as many where it records
+pub writer-next : (c : Card) → records_of c ≡ true → next_of (writer_geometry (writer_of c)) (writer_track (writer_of c)) ≡ at_frame (frame_of_card c)
+writer-next c records =
     let w : WriterSeat = writer_of c in
     sym w.desk.known.next_is
     ∙ (ap (λ (n : ℕ). record { frame = w.desk.place.next.frame; channel = n }) w.whole
-    ∙ ap at_frame (sym (ap (λ (at : Cursor). at.frame) c.in_step.next)))
+    ∙ ap at_frame (sym (ap (λ (at : Cursor). at.frame) (c.in_step.next records))))
 
-pub writer-least : (c : Card) → first_frame (writer_geometry (writer_of c)) ≤ frame_of_card c
-writer-least c =
+pub writer-least : (c : Card) → records_of c ≡ true → first_frame (writer_geometry (writer_of c)) ≤ frame_of_card c
+writer-least c records =
     let low = (writer_of c).desk.known.next_within.least in
-    let next : frame_of_card c ≡ next_frame (writer_of c) = ap (λ (at : Cursor). at.frame) c.in_step.next in
+    let next : frame_of_card c ≡ next_frame (writer_of c) = ap (λ (at : Cursor). at.frame) (c.in_step.next records) in
     omega (arith, low, next)
 
 frames_since-after : (c d : Card) (n : ℕ) → geometry_of_card d ≡ geometry_of_card c → frame_of_card d ≡ frame_of_card c + n → frames_since_first d ≡ frames_since_first c + n

@@ -7,7 +7,7 @@ ghost use Rattle.lab_script.specs.Script.{is_of_card};
 ghost use Rattle.lab_report.specs.declared.row.Row.{Row};
 ghost use Rattle.lab_run.specs.Phases.{ops_by};
 ghost use Rattle.card_player.specs.Plays.{positions_of};
-ghost use Rattle.card_sim.specs.Runs.{RunsThrough, period_of, player_of};
+ghost use Rattle.card_sim.specs.Runs.{RunsThrough, period_of, player_of, records_of};
 ghost use Rattle.lab_card.specs.CardLines.{CardDid, CardPart, frames_by, positions_by, unplugs_by};
 ghost use Rattle.lab_card.specs.Moves.{frame_of_card, geometry_of_card};
 ghost use Rattle.lab_card.specs.Room.{FitsRing, HasRoom, KeepsRoom};
@@ -15,6 +15,7 @@ ghost use Rattle.lab_card.specs.Room.{FitsRing, HasRoom, KeepsRoom};
 use crate::capture::{capture_frames, push_silence};
 use crate::lines::{frame_count, is_of_card, line_count, plays_at_most, row_of};
 use card_sim::Card;
+use core::mem::replace_with;
 use lab_report::Row;
 use lab_script::{Line, Op};
 use snd_base::PcmError;
@@ -41,18 +42,22 @@ fn push_row(rows: &mut Vec<Row>, row: Row)
     rows.push(row).unwrap();
 }
 
-/// Runs a card for as many frames as both buffers have, all of which are before the rings' end.
-fn run_over(card: &mut Card<'_, '_>, captured: &[i16], out: &mut [i16])
+/// Runs a card for as many frames as both buffers have, all of which are before the rings' end. It owns the card meanwhile, so
+/// that the compiler keeps the card's fields in registers: behind a reference each atomic step loads and stores them anew.
+fn run_over<'a>(card: Card<'a, 'a>, captured: &[i16], out: &mut [i16]) -> Card<'a, 'a>
     requires same { length captured.now ≡ length out.old }
-    requires whole { length out.old % (geometry_of_card card.old).channels ≡ 0 }
-    requires fits { frame_of_card card.old + length out.old / (geometry_of_card card.old).channels
-        ≤ end_frame (geometry_of_card card.old) }
-    ensures runs { RunsThrough card.old card.new captured.now out.old out.new }
-    ensures period { period_of card.new ≡ period_of card.old }
+    requires whole { length out.old % (geometry_of_card card).channels ≡ 0 }
+    requires fits { frame_of_card card + length out.old / (geometry_of_card card).channels
+        ≤ end_frame (geometry_of_card card) }
+    ensures runs { RunsThrough card.entry result captured.now out.old out.new }
+    ensures period { period_of result ≡ period_of card.entry }
+    ensures records { records_of result ≡ records_of card.entry }
 {
-    let Ok(()) = card.run(captured, out) else {
+    let mut own = card;
+    let Ok(()) = own.run(captured, out) else {
         unreachable!()
     };
+    own
 }
 
 /// How many frames a card plays to the end of its period.
@@ -121,16 +126,41 @@ impl<'a> CardActor<'a> {
         ensures room { KeepsRoom self.old self.new 0 frames }
         ensures rows { self.new.rows ≡ self.old.rows }
     {
-        let geometry = self.card.geometry();
-        let from = self.card.position() - geometry.first_frame();
-        capture_frames(&mut self.captured, capture, from, frames, geometry.channels);
-        let at = self.played.len();
-        push_silence(&mut self.played, frames * geometry.channels as usize);
-        run_over(
-            &mut self.card,
-            self.captured.as_slice(),
-            &mut self.played[at..],
-        );
+        replace_with(self, (capture, frames), CardActor::run_owned)
+    }
+
+    // The same by value, of a file that is captured and so many frames: so the card is a value of its own meanwhile (`run_over`).
+    fn run_owned(self, asked: (Option<&Wav>, usize)) -> (CardActor<'a>, ())
+        requires fits { frame_of_card self.card + asked.1 ≤ end_frame (geometry_of_card self.card) }
+        requires room { HasRoom self 0 asked.1 }
+        requires few { asked.1 ≤ period_of self.card }
+        ensures did { CardDid (option_copied asked.entry.0) self.entry result.0 asked.entry.1
+            (positions_of (period_of self.entry.card) (frame_of_card self.entry.card) asked.entry.1) false }
+        ensures room { KeepsRoom self.entry result.0 0 asked.entry.1 }
+        ensures rows { result.0.rows ≡ self.entry.rows }
+    {
+        let (capture, frames) = asked;
+        let CardActor {
+            card,
+            mut played,
+            rows,
+            mut captured,
+        } = self;
+        let geometry = card.geometry();
+        let from = card.position() - geometry.first_frame();
+        capture_frames(&mut captured, capture, from, frames, geometry.channels);
+        let at = played.len();
+        push_silence(&mut played, frames * geometry.channels as usize);
+        let card = run_over(card, captured.as_slice(), &mut played[at..]);
+        (
+            CardActor {
+                card,
+                played,
+                rows,
+                captured,
+            },
+            (),
+        )
     }
 
     // Plays so many frames, period by period.
@@ -204,8 +234,8 @@ impl<'a> CardActor<'a> {
     /// end (`can_run`), as those of each script are.
     ///
     /// By `play` the card takes the next frames from the sum ring, whose samples come behind those that it has, and captures the
-    /// file's frames of the same numbers, counted from the card's first; it publishes its position at each multiple of its period,
-    /// and at the end. `unplug` unplugs it from both rings. Each line appends its row.
+    /// file's frames of the same numbers, counted from the card's first, where it records; it publishes its position at each
+    /// multiple of its period, and at the end. `unplug` unplugs it from both rings. Each line appends its row.
     pub fn run_lines(&mut self, capture: Option<&Wav>, phase: u32, lines: &[Line])
         requires fits { FitsRing self.old (ops_by is_of_card lines.now) }
         requires room { HasRoom self.old (length (ops_by is_of_card lines.now))

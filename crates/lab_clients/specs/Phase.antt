@@ -49,6 +49,7 @@ IsSameCard-back c d same = record {
   player = record { ring = sym same.player.ring; key = sym same.player.key; track = sym same.player.track; next = sym same.player.next };
   writer = record { ring = sym same.writer.ring; geometry = sym same.writer.geometry; track = sym same.writer.track; next = sym same.writer.next };
   period = sym same.period;
+  records = sym same.records;
 }
 
 -- a card in a phase, from one of the meets before it to one of those after it

@@ -7,7 +7,7 @@ use Rattle.lab_run.specs.Stage.{Session}
 use Rattle.lab_headline.specs.Clients.{IsSumOfClients}
 use Rattle.lab_headline.specs.Files.{IsMixOfFiles, IsPlacedFrom}
 use Rattle.lab_headline.specs.Late.{LateRowsMiss}
-use Rattle.lab_headline.specs.OneSample.{AreBound, HasOneSample}
+use Rattle.lab_headline.specs.OneSample.{HasOneSample}
 use Rattle.lab_headline.specs.Recordings.{AreRecordingsOf, ReadersAreBound}
 
 -- The played samples are the saturated sums of exactly the samples that the report's segments placed, which are those of the script and the files; each
@@ -21,4 +21,4 @@ pub record Headline (script : Script) (wavs : List Sound) (session : Session) (c
   pub recordings : AreRecordingsOf session capture outcome.report outcome.recorded
   pub readers : ReadersAreBound script session
   -- where clients share the card by channels
-  pub one : AreBound session → HasOneSample session outcome.report
+  pub one : HasOneSample session outcome.report

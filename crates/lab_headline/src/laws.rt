@@ -203,7 +203,7 @@ pub fn worked_rows()
 /// It does nothing.
 pub fn runs_keep_headline()
     ensures { (script : Script) (wavs : List Sound) (session : Session) (capture : Option Sound)
-        (client_stops reader_stops : ℕ → ℕ) (outcome : Outcome) →
+        (client_stops reader_stops : ℕ → ℕ) (outcome : Outcome) → IsScript script →
         IsSessionOf script wavs session →
         LabRun session capture script.body client_stops reader_stops outcome →
         Headline script wavs session capture outcome }
@@ -212,5 +212,6 @@ pub fn runs_keep_headline()
     mixes_are_of_clients();
     late_rows_miss();
     runs_record_captures();
+    scripts_bind_channels();
     channels_have_one_sample();
 }

@@ -18,21 +18,21 @@ use Rattle.snoop_table.specs.Captured as captured
 use Rattle.snoop_table.specs.Rings as snoop
 use Rattle.snoop_table.specs.Writers.{writer_track}
 use Rattle.wav_io.specs.Sound.{Sound}
-use Rattle.card_sim.specs.Runs.{period_of, writer_of}
+use Rattle.card_sim.specs.Runs.{period_of, records_of, writer_of}
 use Rattle.lab_script.specs.Script.{first_frame}
 use Rattle.lab_run.specs.Stage.{Session, first_stage}
 use Rattle.lab_card.specs.declared.card.CardActor.{CardActor}
 use Rattle.lab_card.specs.Moves.{frame_of_card, geometry_of_card, is_gone, seat_of_card}
 use Rattle.lab_card.specs.Rests.{Rests-new}
 use Rattle.lab_reader.specs.RecordedLaws.{IsCapturedUpTo-new}
-use Rattle.lab_phase.specs.CardStage.{IsCardIn, PlaysAll-new, first_word}
+use Rattle.lab_phase.specs.CardStage.{IsCardIn, PlaysAll-new, first_word, has_readers}
 
--- a card over new rings, that did no line yet, is the card of the first stage
+-- a card over new rings, that did no line yet and stores where the session has a reader, is the card of the first stage
 pub IsCardIn-new : (session : Session) (capture : Option Sound) (a : CardActor) (key : Key) (player : PlayerSeat) (mix : MixSeat) (shape : Geometry) (writer : WriterSeat)
     (reader : ReaderSeat) → sum.HasSeats key player mix → snoop.HasSeats shape writer reader → seat_of_card a.card ≡ player → writer_of a.card ≡ writer
-    → period_of a.card ≡ session.card.period → key.geometry ≡ session.ring → first_frame session.card ≡ rings.first_frame session.ring → a.played.items ≡ []
+    → period_of a.card ≡ session.card.period → records_of a.card ≡ has_readers session → key.geometry ≡ session.ring → first_frame session.card ≡ rings.first_frame session.ring → a.played.items ≡ []
     → IsCardIn session capture (first_stage session) a
-IsCardIn-new session capture a key player mix shape writer reader sums_are snoops player_is writer_is period ring first none =
+IsCardIn-new session capture a key player mix shape writer reader sums_are snoops player_is writer_is period records ring first none =
     let key_is : player_key (seat_of_card a.card) ≡ key = ap player_key player_is ∙ sums_are.player_key in
     let of_ring : geometry_of_card a.card ≡ session.ring = ap (λ (k : Key). k.geometry) key_is ∙ ring in
     let next : Rattle.sum_table.specs.Players.next_of_player (seat_of_card a.card) ≡ first_word (geometry_of_card a.card) =
@@ -53,6 +53,7 @@ IsCardIn-new session capture a key player mix shape writer reader sums_are snoop
     record {
       at = record { ring = of_ring; period = period; frame = frame ∙ (ap rings.first_frame of_ring ∙ sym first); gone = not_gone };
       rests = Rests-new a.card none_published none_captured frame (writer_stays ∙ sym not_gone);
+      records = records;
       captured = IsCapturedUpTo-new capture a.card none_stored frame;
       plays = PlaysAll-new a none none_taken next;
     }

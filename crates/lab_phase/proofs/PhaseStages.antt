@@ -39,6 +39,7 @@ use Rattle.lab_phase.specs.Alone.{unplugs_by-others}
 use Rattle.lab_phase.specs.Asked.{CanMeet}
 use Rattle.lab_phase.specs.AtStage.{AreActorsOf, AreOfRings, IsAtStage, IsCardOf, IsNext, capture_of, played_by, played_of, session_of}
 use Rattle.lab_phase.specs.BorderLaws.{HasDone-next, AreSetUp-same, session_of-same}
+use Rattle.lab_phase.specs.Counts.{AreAll-reached}
 use Rattle.lab_phase.specs.PhaseLaws.{ActorLaws, HaveDone, asks_at, have-done}
 use Rattle.lab_phase.specs.PhaseRuns.{AreStopsOf, CountsPhase, DoesPhase, HasRunLines, HasRunPhase, IsLonger, Reaps, RunsPhase, Stops, stops_by}
 use Rattle.lab_phase.specs.PhaseSteps.{HaveMet, HaveRoom}
@@ -155,7 +156,7 @@ module _ {G : Type 0} (stops : G → ℕ) (gates gates_after : List G) (lab mid 
       (drop 64 gates) (drop 64 gates_after) run.card run.run.roomy_card run.run.met_card run.card_after lab.clients run.run.roomy_clients run.run.met_clients mid.clients lab.readers
       run.run.roomy_readers run.run.met_readers mid.readers lab.rows.items mid.rows.items actors-before run.run.room met-at run.run.given base.clients base.readers
       (files-reached lab.script.now lab.wavs.now (session_of lab) at.has_done.done (first-item lab stage lines at is).others lines stage (reached-phase lab stage lines at is))
-      counted.clients counted.readers
+      (AreAll-reached (session_of lab) stage at.has_done.done at.has_done.reached.may).readers counted.clients counted.readers
 
   -- the card and all others are of the same rings as before
   rings-after : AreOfRings run.card_after.card mid.clients mid.readers

@@ -1,5 +1,5 @@
--- The card of a lab at a stage of a run: all that it took it played, and all that it captured is what the capture file has.
-use Rattle.std.specs.Prelude.{◌≡◌, ℕ, ◌+◌, ◌*◌, ◌-◌, List, [], ◌++◌, length, Option, All}
+-- The card of a lab at a stage of a run: all that it took it played, and all that it stored is what the capture file has.
+use Rattle.std.specs.Prelude.{◌≡◌, ℕ, ◌+◌, ◌*◌, ◌-◌, nat_lt, Bool, List, [], ◌++◌, length, Option, All}
 use Rattle.std.proofs.Common.{refl, sym, ap, ◌∙◌, arith}
 use Rattle.std.proofs.lemmas.List.{length-append}
 use Rattle.snd_base.specs.declared.geometry.Geometry.{Geometry}
@@ -11,6 +11,7 @@ use Rattle.sum_table.specs.Players.{next_of_player, track_of}
 use Rattle.wav_io.specs.Sound.{Sound}
 use Rattle.card_player.specs.Plays.{at_frame, behind_words, words_at}
 use Rattle.card_player.specs.PlayLaws.{behind_words-append, words_at-append}
+use Rattle.card_sim.specs.Runs.{records_of}
 use Rattle.lab_script.specs.declared.line.Line.{Line}
 use Rattle.lab_script.specs.declared.line.Op.{Op}
 use Rattle.lab_script.specs.Limits.{IsLine}
@@ -44,10 +45,15 @@ pub record PlaysAll (a : CardActor) : Type 0 where
   pub next : next_of_player (seat_of_card a.card) ≡ behind_words (geometry_of_card a.card) (first_word (geometry_of_card a.card)) a.played.items
   pub len : length a.played.items ≡ frames_since_first a.card * (geometry_of_card a.card).channels
 
--- the card of a lab between two items
+-- whether a session has a reader
+abbrev pub has_readers : Session → Bool
+has_readers session = nat_lt 0 (length session.readers)
+
+-- the card of a lab between two items: it stores what it captures where the session has a reader
 pub record IsCardIn (session : Session) (capture : Option Sound) (stage : Stage) (a : CardActor) : Type 0 where
   pub at : IsCardAt session stage a.card
   pub rests : Rests a.card
+  pub records : records_of a.card ≡ has_readers session
   pub captured : IsCapturedUpTo capture a.card
   pub plays : PlaysAll a
 
@@ -129,6 +135,7 @@ IsCardIn-same session capture stage after a b same stays is =
     record {
       at = record { ring = at.ring; period = at.period; frame = at.frame ∙ sym stays.position; gone = at.gone ∙ sym stays.gone };
       rests = Rests-same a.card b.card same.card is.rests;
+      records = same.card.records ∙ is.records;
       captured = IsCapturedUpTo-same capture a.card b.card same.card is.captured;
       plays = PlaysAll-same a b same is.plays;
     }
@@ -140,6 +147,7 @@ pub IsCardIn-after : (session : Session) (capture : Option Sound) (stage : Stage
 IsCardIn-after session capture stage phase clients readers a b lines client_ends reader_ends each part is = record {
   at = IsCardAt-after session stage capture phase clients readers a b lines client_ends reader_ends each part is.at;
   rests = Rests-after capture phase a b (ops_by is_of_card lines) is.rests part;
+  records = part.did.moves.records ∙ is.records;
   captured = IsCapturedUpTo-part capture a.card a b b.card (ops_by is_of_card lines) (IsSameCard-none a.card) part (IsSameCard-none b.card) is.captured;
   plays = PlaysAll-after capture phase a b (ops_by is_of_card lines) part is.plays;
 }

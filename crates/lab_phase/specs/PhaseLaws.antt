@@ -1,8 +1,10 @@
 -- A phase of a lab is one that a run allows, and its actors are those of the next stage after it.
-use Rattle.std.specs.Prelude.{◌≡◌, ℕ, ◌+◌, false, List, [], ◌++◌, length, Option, Some}
+use Rattle.std.specs.Prelude.{◌≡◌, ℕ, ◌+◌, ◌<◌, false, true, List, [], ◌++◌, length, Option, Some}
 use Rattle.std.specs.List.{flat_map}
-use Rattle.std.proofs.Common.{refl, sym, ap, subst, ◌∙◌}
+use Rattle.std.proofs.Common.{refl, sym, ap, subst, ◌∙◌, arith}
+use Rattle.std.proofs.lemmas.Bool.{lt-ltb}
 use Rattle.wav_io.specs.Sound.{Sound}
+use Rattle.card_sim.specs.Runs.{records_of}
 use Rattle.lab_script.specs.declared.line.Line.{Line}
 use Rattle.lab_script.specs.Limits.{IsPhase}
 use Rattle.lab_script.specs.Script.{is_of_card}
@@ -112,13 +114,17 @@ module _ (session : Session) (capture : Option Sound) (stage : Stage) (lines : L
         same_places = given.places ∙ (met.places ∙ room.places);
       })
 
-  readers-done : (base : ℕ → ℕ) → AreCounted base (stops_at stops far) 0 stage.readers
+  -- where there is a reader the card stores what it captures
+  records-met : length stage.readers ≡ length session.readers → 0 < length stage.readers → records_of met.between ≡ true
+  records-met count some = met.first.records ∙ (at-room.records ∙ lt-ltb 0 (length session.readers) (omega (arith, count, some)))
+
+  readers-done : (base : ℕ → ℕ) → length stage.readers ≡ length session.readers → AreCounted base (stops_at stops far) 0 stage.readers
       → ReadersMay session stage capture lines base (stops_at stops far_after) stage.readers (flat_map reader.rows_of (readers.readers_of gs)) ss
-  readers-done base counted =
+  readers-done base count counted =
       readers-phase session stage capture lines base (stops_at stops far) (stops_at stops far_after) met.between met.before met.after met.heard
       (CardPhase-between capture (stage.phases + 1) a1.card met.before met.after met.after.card met.between met.heard lines met.first met.third card-phase)
       (IsCardAt-same session stage a1.card met.between met.first at-room.at) (IsCapturedUpTo-same capture a1.card met.between met.first at-room.captured) laws.readers
-      stage.readers rs0 ss (flat_map reader.rows_of (readers.readers_of gs))
+      stage.readers rs0 ss (flat_map reader.rows_of (readers.readers_of gs)) (records-met count)
       (record {
         of_ring = met.first.writer.ring ∙ (ap (λ c. Rattle.snoop_table.specs.Writers.writer_ring (Rattle.card_sim.specs.Runs.writer_of c)) room.card
             ∙ sym are.card_is.rings.snoop_ring);
@@ -147,13 +153,14 @@ module _ (session : Session) (capture : Option Sound) (stage : Stage) (lines : L
       (ap (λ v. v.items) met.second.rows ∙ (room.rows ∙ are.card_is.rows))
       ∙ ap (λ (n : ℕ). card_rows (stage.phases + 1) n (ops_by is_of_card lines)) at-before.at.frame))
 
-  pub have-done : (client_base reader_base : ℕ → ℕ) → length session.sounds ≡ length stage.clients → AreCounted client_base (stops_at stops near) 0 stage.clients
+  pub have-done : (client_base reader_base : ℕ → ℕ) → length session.sounds ≡ length stage.clients → length stage.readers ≡ length session.readers
+      → AreCounted client_base (stops_at stops near) 0 stage.clients
       → AreCounted reader_base (stops_at stops far) 0 stage.readers
       → HaveDone session capture stage lines client_base (stops_at stops near_after) reader_base (stops_at stops far_after) b ds ss
       (f.rows.items ++ flat_map client.rows_of (clients.clients_of fs) ++ flat_map reader.rows_of (readers.readers_of gs))
-  have-done client_base reader_base files near_counted far_counted =
+  have-done client_base reader_base files count near_counted far_counted =
       let own = clients-done client_base files near_counted in
-      let others = readers-done reader_base far_counted in
+      let others = readers-done reader_base count far_counted in
       let client_rows : List Row = flat_map client.rows_of (clients.clients_of fs) in
       let reader_rows : List Row = flat_map reader.rows_of (readers.readers_of gs) in
       record {

@@ -84,9 +84,12 @@ impl<'r, 's> Lab<'r, 's> {
             mix,
             script.card.share,
         )?;
-        let readers = LabReaders::new(alloc, script.readers.as_slice().len() as u32, reader)?;
+        let count = script.readers.as_slice().len();
+        let readers = LabReaders::new(alloc, count as u32, reader)?;
         let period = script.card.period;
-        let card = Card::new(CardPlayer::new(player, period), writer, period);
+        let player = CardPlayer::new(player, period);
+        // Where there is no reader nobody sees the snoop ring, and the card stores nothing in it.
+        let card = Card::with_records(player, writer, period, count > 0);
         Ok(Lab {
             alloc,
             script,

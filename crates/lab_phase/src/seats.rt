@@ -53,9 +53,10 @@ pub(crate) fn open_beside<'r>(
         captured,
     } = actor;
     let period = card.period();
+    let records = card.records();
     let (mut player, writer) = card.into_seats();
     let opened = clients.open(alloc, number, opening, phase, &mut player);
-    let card = Card::new(CardPlayer::new(player, period), writer, period);
+    let card = Card::with_records(CardPlayer::new(player, period), writer, period, records);
     let actor = CardActor {
         card,
         played,

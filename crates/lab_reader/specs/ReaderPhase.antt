@@ -1,5 +1,5 @@
 -- A reader in a phase: what its steps were is what a run of the script may have of it.
-use Rattle.std.specs.Prelude.{◌≡◌, ℕ, ◌+◌, ◌≤◌, List, [], ◌++◌, Option, Some, None}
+use Rattle.std.specs.Prelude.{◌≡◌, ℕ, ◌+◌, ◌≤◌, true, List, [], ◌++◌, Option, Some, None}
 use Rattle.std.proofs.Common.{refl, sym, ap, subst, ◌∙◌, arith}
 use Rattle.atomic_table.specs.Seated.{TableId}
 use Rattle.snd_base.specs.declared.geometry.Geometry.{Geometry}
@@ -9,6 +9,7 @@ use Rattle.dsnoop_client.specs.declared.plain.Plain.{Plain}
 use Rattle.dsnoop_client.specs.View.{CanUse}
 use Rattle.wav_io.specs.Sound.{Sound}
 use Rattle.card_sim.specs.declared.card.Card.{Card}
+use Rattle.card_sim.specs.Runs.{records_of}
 use Rattle.lab_script.specs.declared.line.Actor.TheVariants as actor
 use Rattle.lab_script.specs.declared.line.Line.{Line}
 use Rattle.lab_script.specs.declared.line.Op.{Op}
@@ -44,14 +45,15 @@ pub record Steps (c d : Card) (phase stops after : ℕ) (lines : List Line) (r s
   pub heard : IsHeard d t u
 
 -- A reader did its part of a run in a phase, and is at its port so after it; its own gate had stopped so many other times before the run began. Where
--- the card did its lines in between, what the reader found is what the phase allows.
+-- the card, which stores what it captures, did its lines in between, what the reader found is what the phase allows.
 pub record SeatPart (ring : TableId) (geometry : Geometry) (c d : Card) (phase base after : ℕ) (ops : List Op) (before : AtPort) (x : ReaderActor) (p : Option ReaderSeat)
     (y : ReaderActor) (q : Option ReaderSeat) : Type 0 where
   pub end : AtPort
   pub rows : List Row
   pub found : Findings
   pub part : ActorPart (reader_kind phase x.number) geometry ((before, reader_at p x), nothing_found) ops ((end, reader_at q y), found) rows
-  pub allowed : (capture : Option Sound) (number : ℕ) (a b : CardActor) (lines : List Line) → CardPhase capture number c a b d lines → AreOf (rules_between c b.card lines) found
+  pub allowed : (capture : Option Sound) (number : ℕ) (a b : CardActor) (lines : List Line) → CardPhase capture number c a b d lines → records_of c ≡ true
+      → AreOf (rules_between c b.card lines) found
   pub is : IsSeatedAt ring geometry y q end
   pub gate : end.by_gate + base ≡ after
   pub rows_are : y.rows.items ≡ x.rows.items ++ rows
@@ -99,7 +101,7 @@ module _ (ring : TableId) (geometry : Geometry) (c d : Card) (over : IsOver ring
         found = nothing_found;
         part = subst (λ (z : Reader). ActorPart (reader_kind phase x.number) geometry ((before, reader), nothing_found) ops ((before, z), nothing_found) rows) same
             (ran.part.readers geometry before nothing_found reader refl);
-        allowed = λ capture number a b lines is. record { loads = tt; late = tt; overtaken = tt };
+        allowed = λ capture number a b lines is records. record { loads = tt; late = tt; overtaken = tt };
         is = at;
         gate = gate ∙ sym ran.same_stops;
         rows_are = ran.rows;
@@ -147,7 +149,7 @@ module _ (ring : TableId) (geometry : Geometry) (c d : Card) (over : IsOver ring
         rows = ran.part.rows;
         found = found;
         part = low.2;
-        allowed = λ capture number a b lines is. reader-found c a b d lines is s t u v found meets;
+        allowed = λ capture number a b lines is records. reader-found c a b d lines is records s t u v found meets;
         is = record {
           of_ring = same.ring ∙ (ran.same_ring.0 ∙ (informed.ring ∙ at.of_ring));
           of_geometry = same.geometry ∙ (ran.same_ring.1 ∙ (informed.geometry ∙ at.of_geometry));
@@ -181,11 +183,11 @@ module _ (ring : TableId) (geometry : Geometry) (c d : Card) (over : IsOver ring
       subst (λ (y : ReaderActor). SeatPart ring geometry c d phase base after (ops_of r lines) before r.actor r.seat y u.seat) (sym steps.heard.actor)
       (part-seats (ops_of r lines) r.actor t.actor r.seat s.seat t.seat u.seat at steps.informed.seats ran steps.heard.seats steps.heard.knows)
 
-  -- It does its lines of a phase as a run may have it, where its card did its own.
-  pub reader-may : {capture : Option Sound} (a b : CardActor) (lines : List Line) → CardPhase capture phase c a b d lines → (r s t u : LabReader)
+  -- It does its lines of a phase as a run may have it, where its card, which stores what it captures, did its own.
+  pub reader-may : {capture : Option Sound} (a b : CardActor) (lines : List Line) → CardPhase capture phase c a b d lines → records_of c ≡ true → (r s t u : LabReader)
       → PartsAreRuns (reader_kind phase r.actor.number) (rules_between c b.card lines) → IsAt ring geometry r before → Steps c d phase stops after lines r s t u
       → ReaderMay ring geometry (rules_between c b.card lines) phase base after lines before r u
-  reader-may {capture = capture} a b lines is r s t u runs at steps =
+  reader-may {capture = capture} a b lines is records r s t u runs at steps =
       let did = reader-part lines r s t u at steps in
       let same : geometry ≡ geometry_of_card c = sym over.of_geometry ∙ sym c.in_step.geometry in
       let part =
@@ -195,7 +197,7 @@ module _ (ring : TableId) (geometry : Geometry) (c d : Card) (over : IsOver ring
       record {
         end = did.end;
         rows = did.rows;
-        may = runs (before, reader_in r) (did.end, reader_in u) did.found (ops_of r lines) did.rows part (did.allowed capture phase a b lines is);
+        may = runs (before, reader_in r) (did.end, reader_in u) did.found (ops_of r lines) did.rows part (did.allowed capture phase a b lines is records);
         is = did.is;
         gate = did.gate;
         rows_are = did.rows_are;

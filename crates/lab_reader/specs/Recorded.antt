@@ -1,5 +1,5 @@
 -- What a reader recorded: its samples are those of the capture file at the frames that it read, through its bindings.
-use Rattle.std.specs.Prelude.{◌≡◌, ℕ, ◌-◌, ◌<◌, ℤ, List, [], ◌∷◌, ◌++◌, map, All, Option, Some, None}
+use Rattle.std.specs.Prelude.{◌≡◌, ℕ, ◌-◌, ◌<◌, true, ℤ, List, [], ◌∷◌, ◌++◌, map, All, Option, Some, None}
 use Rattle.std.specs.List.{flat_map, slice_index_or}
 use Rattle.std.proofs.Common.{refl, sym, ap, ◌∙◌}
 use Rattle.snd_base.specs.declared.geometry.Geometry.{Geometry}
@@ -8,7 +8,7 @@ use Rattle.snoop_table.specs.declared.seats.reader.ReaderSeat.{ReaderSeat}
 use Rattle.snoop_table.specs.Writers.{writer_track}
 use Rattle.wav_io.specs.Sound.{Sound}
 use Rattle.card_sim.specs.declared.card.Card.{Card}
-use Rattle.card_sim.specs.Runs.{writer_of}
+use Rattle.card_sim.specs.Runs.{records_of, writer_of}
 use Rattle.lab_script.specs.Script as scripts
 use Rattle.lab_run.specs.LabRun.{bindings_of, captured, recorded_by}
 use Rattle.lab_run.specs.Stage.{Session}
@@ -37,9 +37,10 @@ pub record IsRecordedAt (capture : Option Sound) (geometry : Geometry) (bindings
 abbrev pub IsRecorded : Option Sound → Geometry → List ℕ → LabReader → Type 0
 IsRecorded capture geometry bindings r = IsRecordedAt capture geometry bindings r.actor r.seat
 
--- all that a card stored in its snoop ring is what the capture file has of its frames so far
+-- all that a card stored in its snoop ring, where it stores there, is what the capture file has of its frames so far
 abbrev pub IsCapturedUpTo : Option Sound → Card → Type 0
-IsCapturedUpTo capture c = (writer_track (writer_of c)).stored ≡ captured_frames capture (geometry_of_card c).channels 0 (frames_since_first c)
+IsCapturedUpTo capture c =
+    records_of c ≡ true → (writer_track (writer_of c)).stored ≡ captured_frames capture (geometry_of_card c).channels 0 (frames_since_first c)
 
 -- ---- as a run has it
 

@@ -1,5 +1,5 @@
 -- What a card stored is what the capture file has, and so is what a reader recorded of it, from phase to phase.
-use Rattle.std.specs.Prelude.{◌≡◌, ℕ, zero, suc, ◌+◌, ◌-◌, ◌*◌, ◌<◌, ℤ, pos, List, [], ◌∷◌, ◌++◌, length, map, All, Contains, Option, Some, None}
+use Rattle.std.specs.Prelude.{◌≡◌, ℕ, zero, suc, ◌+◌, ◌-◌, ◌*◌, ◌<◌, Bool, true, ℤ, pos, List, [], ◌∷◌, ◌++◌, length, map, All, Contains, Option, Some, None}
 use Rattle.std.specs.List.{slice_index_or}
 use Rattle.std.proofs.Common.{refl, sym, ap, subst, ◌∙◌, arith}
 use Rattle.std.proofs.lemmas.List.{get_or-append-add, get_or_append_left}
@@ -24,7 +24,7 @@ use Rattle.pcm_stream.specs.declared.setup.Setup as streams
 use Rattle.dsnoop_client.specs.Reads.{through, through_all}
 use Rattle.wav_io.specs.Sound.{Sound}
 use Rattle.card_sim.specs.declared.card.Card.{Card}
-use Rattle.card_sim.specs.Runs.{writer_of}
+use Rattle.card_sim.specs.Runs.{captured_if, records_of, writer_of}
 use Rattle.lab_script.specs.declared.line.Line.{Line}
 use Rattle.lab_script.specs.declared.line.Op.{Op}
 use Rattle.lab_script.specs.Script.{is_of_card}
@@ -60,7 +60,8 @@ captured_frames-same capture g h n m same frames =
 -- a card that stored nothing yet
 pub IsCapturedUpTo-new : (capture : Option Sound) (c : Card) → (writer_track (writer_of c)).stored ≡ [] → frame_of_card c ≡ first_frame (geometry_of_card c) → IsCapturedUpTo capture c
 IsCapturedUpTo-new capture c none first =
-    let zero_frames : 0 ≡ frames_since_first c = omega (arith, first) in none ∙ ap (captured_frames capture (geometry_of_card c).channels 0) zero_frames
+    let zero_frames : 0 ≡ frames_since_first c = omega (arith, first) in
+    λ records. none ∙ ap (captured_frames capture (geometry_of_card c).channels 0) zero_frames
 
 -- it stays so where the card met notes
 pub IsCapturedUpTo-same : (capture : Option Sound) (c d : Card) → IsSameCard c d → IsCapturedUpTo capture c → IsCapturedUpTo capture d
@@ -69,8 +70,9 @@ IsCapturedUpTo-same capture c d same is =
     let frame : frame_of_card d ≡ frame_of_card c = ap (λ (at : Cursor). at.frame) same.player.next in
     let since : frames_since_first c ≡ frames_since_first d =
     let more = frames_since-more c d 0 rings (omega (arith, frame)) in omega (arith, more) in
+    λ records.
     ap (λ (t : Track). t.stored) same.writer.track
-    ∙ (is ∙ captured_frames-same capture (geometry_of_card c) (geometry_of_card d) (frames_since_first c) (frames_since_first d) (sym rings) since)
+    ∙ (is (sym same.records ∙ records) ∙ captured_frames-same capture (geometry_of_card c) (geometry_of_card d) (frames_since_first c) (frames_since_first d) (sym rings) since)
 
 -- over the card's lines, between meets
 pub IsCapturedUpTo-part : {phase : ℕ} (capture : Option Sound) (c : Card) (a b : CardActor) (d : Card) (ops : List Op) → IsSameCard c a.card → CardPart capture phase a b ops
@@ -86,11 +88,14 @@ IsCapturedUpTo-part capture c a b d ops met part heard before =
     let next : captured_frames capture channels (0 + m) n ≡ captured_frames capture channels m n =
     ap (λ k. captured_frames capture channels k n) (let e : 0 + m ≡ m = omega arith in e) in
     let stored : IsCapturedUpTo capture b.card =
+    λ records.
+    let own : records_of a.card ≡ true = sym moves.records ∙ records in
     moves.writer.stored
-    ∙ (ap (λ (xs : List ℤ). xs ++ captured_frames capture channels m n) at
+    ∙ (ap (λ (b : Bool). (writer_track (writer_of a.card)).stored ++ captured_if b (captured_frames capture channels m n)) own
+    ∙ (ap (λ (xs : List ℤ). xs ++ captured_frames capture channels m n) (at own)
     ∙ (ap (λ (xs : List ℤ). captured_frames capture channels 0 m ++ xs) (sym next)
     ∙ (sym (captured_frames-append capture channels 0 m n)
-    ∙ captured_frames-same capture (geometry_of_card a.card) (geometry_of_card b.card) (m + n) (frames_since_first b.card) (sym rings) since))) in
+    ∙ captured_frames-same capture (geometry_of_card a.card) (geometry_of_card b.card) (m + n) (frames_since_first b.card) (sym rings) since)))) in
     IsCapturedUpTo-same capture b.card d heard stored
 
 -- so over a phase
@@ -125,37 +130,37 @@ map-All f g P (x ∷ xs) all same =
     ∙ ap (λ ys. g x ∷ ys) (map-All f g P xs (λ k d inside. all (suc k) d (omega (arith, inside))) same)
 
 -- a frame that the card stored, through bindings
-pub through-captured : (capture : Option Sound) (c : Card) (bindings : List ℕ) (frame : Frame) → IsCapturedUpTo capture c
+pub through-captured : (capture : Option Sound) (c : Card) (bindings : List ℕ) (frame : Frame) → records_of c ≡ true → IsCapturedUpTo capture c
     → IsCaptured (writer_geometry (writer_of c)) (writer_track (writer_of c)).stored frame → All (λ channel. channel < (geometry_of_card c).channels) bindings
     → through bindings frame.samples ≡ map (captured_from capture (first_frame (geometry_of_card c)) frame.number) bindings
-through-captured capture c bindings frame up_to captured_it on_card =
+through-captured capture c bindings frame records up_to captured_it on_card =
     let g : Geometry = geometry_of_card c in
     let xs : List ℤ = (writer_track (writer_of c)).stored in
     let same : writer_geometry (writer_of c) ≡ g = sym c.in_step.geometry in
     let is : IsCaptured g xs frame = subst (λ (h : Geometry). IsCaptured h xs frame) same captured_it in
     let next : (next_of g (writer_track (writer_of c))).frame ≡ frame_of_card c =
-    ap (λ (h : Geometry). (next_of h (writer_track (writer_of c))).frame) (sym same) ∙ ap (λ (at : Cursor). at.frame) (writer-next c) in
+    ap (λ (h : Geometry). (next_of h (writer_track (writer_of c))).frame) (sym same) ∙ ap (λ (at : Cursor). at.frame) (writer-next c records) in
     let whole = is.whole in
     let least = is.least in
     let within : frame.number - first_frame g < frames_since_first c = omega (arith, whole, least, next) in
     map-All (λ channel. slice_index_or frame.samples channel (pos 0)) (captured_from capture (first_frame g) frame.number) (λ channel. channel < g.channels) bindings on_card
     (λ channel below.
     is.samples channel below
-    ∙ (ap (λ (ys : List ℤ). sample_at g ys frame.number channel) up_to
+    ∙ (ap (λ (ys : List ℤ). sample_at g ys frame.number channel) (up_to records)
     ∙ (captured_frames-get capture g.channels 0 (frames_since_first c) (frame.number - first_frame g) channel (pos 0) within below
     ∙ ap (λ (i : ℕ). captured_at capture i channel) (let e : 0 + (frame.number - first_frame g) ≡ frame.number - first_frame g = omega arith in e))))
 
 -- frames that the card stored, through bindings
-pub through_all-captured : (capture : Option Sound) (c : Card) (bindings : List ℕ) (frames : List Frame) → IsCapturedUpTo capture c
+pub through_all-captured : (capture : Option Sound) (c : Card) (bindings : List ℕ) (frames : List Frame) → records_of c ≡ true → IsCapturedUpTo capture c
     → All (λ (frame : Frame). IsCaptured (writer_geometry (writer_of c)) (writer_track (writer_of c)).stored frame) frames
     → All (λ channel. channel < (geometry_of_card c).channels) bindings
     → through_all bindings frames ≡ recorded capture (first_frame (geometry_of_card c)) bindings (map (λ (frame : Frame). frame.number) frames)
-through_all-captured capture c bindings [] up_to all on_card = refl
-through_all-captured capture c bindings (frame ∷ frames) up_to all on_card =
+through_all-captured capture c bindings [] records up_to all on_card = refl
+through_all-captured capture c bindings (frame ∷ frames) records up_to all on_card =
     let others = map (λ (x : Frame). x.number) frames in
-    ap (λ (ys : List ℤ). ys ++ through_all bindings frames) (through-captured capture c bindings frame up_to (all 0 frame (omega arith)) on_card)
+    ap (λ (ys : List ℤ). ys ++ through_all bindings frames) (through-captured capture c bindings frame records up_to (all 0 frame (omega arith)) on_card)
     ∙ ap (λ (ys : List ℤ). map (captured_from capture (first_frame (geometry_of_card c)) frame.number) bindings ++ ys)
-    (through_all-captured capture c bindings frames up_to (λ k d inside. all (suc k) d (omega (arith, inside))) on_card)
+    (through_all-captured capture c bindings frames records up_to (λ k d inside. all (suc k) d (omega (arith, inside))) on_card)
 
 -- ---- lists
 
@@ -170,7 +175,8 @@ recorded-append capture first bindings xs ys = flat_map-append (λ frame. map (c
 
 -- ---- what a reader recorded in a phase
 
-module _ (capture : Option Sound) (ring : TableId) (geometry : Geometry) (d : Card) (over : IsOver ring geometry d) (up_to : IsCapturedUpTo capture d) (bindings : List ℕ) where
+module _ (capture : Option Sound) (ring : TableId) (geometry : Geometry) (d : Card) (over : IsOver ring geometry d) (records : records_of d ≡ true) (up_to : IsCapturedUpTo capture d)
+    (bindings : List ℕ) where
   geometry-card : geometry_of_card d ≡ geometry
   geometry-card = d.in_step.geometry ∙ over.of_geometry
 
@@ -194,7 +200,7 @@ module _ (capture : Option Sound) (ring : TableId) (geometry : Geometry) (d : Ca
       let more : appends.more ≡ recorded capture first bindings appends.numbers =
       read.samples_are
       ∙ (ap (λ (bound : List ℕ). through_all bound read.frames) before.bound
-      ∙ (through_all-captured capture d bindings read.frames up_to all on_card
+      ∙ (through_all-captured capture d bindings read.frames records up_to all on_card
       ∙ (ap (λ (g : Geometry). recorded capture (first_frame g) bindings (map (λ (frame : Frame). frame.number) read.frames)) geometry-card
       ∙ ap (recorded capture first bindings) read.numbers_are))) in
       record {

@@ -1,13 +1,14 @@
 -- All readers of the lab in a phase: what its steps made of them is what a run of the script may have of them.
-use Rattle.std.specs.Prelude.{◌≡◌, ℕ, ◌+◌, List, ◌++◌, Option, None, slice_index_or}
+use Rattle.std.specs.Prelude.{◌≡◌, ℕ, ◌+◌, ◌<◌, true, List, [], ◌∷◌, ◌++◌, length, Option, None, slice_index_or}
 use Rattle.std.specs.List.{flat_map}
-use Rattle.std.proofs.Common.{refl, sym, ap, subst, ◌∙◌}
+use Rattle.std.proofs.Common.{refl, sym, ap, subst, ◌∙◌, arith}
 use Rattle.atomic_table.specs.Seated.{TableId}
 use Rattle.snd_base.specs.declared.geometry.Geometry.{Geometry}
 use Rattle.snoop_table.specs.declared.seats.reader.ReaderSeat.{ReaderSeat}
 use Rattle.snoop_table.specs.Readers as seats
 use Rattle.wav_io.specs.Sound.{Sound}
 use Rattle.card_sim.specs.declared.card.Card.{Card}
+use Rattle.card_sim.specs.Runs.{records_of}
 use Rattle.lab_script.specs.declared.line.Line.{Line}
 use Rattle.lab_report.specs.declared.row.Row.{Row}
 use Rattle.lab_run.specs.ActorPart.{PartsAreRuns}
@@ -22,7 +23,7 @@ use Rattle.lab_actors.specs.Actors.{ActorMay, ActorsMay, actors-may}
 use Rattle.lab_actors.specs.Gates.{AreCounted}
 use Rattle.lab_actors.specs.Walks.{AreEach, AreEach-joined, AreEach-map, AreJoined}
 use Rattle.lab_card.specs.declared.card.CardActor.{CardActor}
-use Rattle.lab_card.specs.Findings.{CardPhase, rules_between}
+use Rattle.lab_card.specs.Findings.{CardPhase, records-between, rules_between}
 use Rattle.lab_card.specs.MeetLaws.{IsSameCard-joined, Rests-same, rules_between-same}
 use Rattle.lab_card.specs.Meets.{IsSameCard}
 use Rattle.lab_card.specs.Stages.{CardPhase-rules, IsCardAt}
@@ -51,6 +52,7 @@ IsSameCard-back c d same = record {
   player = record { ring = sym same.player.ring; key = sym same.player.key; track = sym same.player.track; next = sym same.player.next };
   writer = record { ring = sym same.writer.ring; geometry = sym same.writer.geometry; track = sym same.writer.track; next = sym same.writer.next };
   period = sym same.period;
+  records = sym same.records;
 }
 
 -- a phase of a card, from any of the meets before it to any of those after it
@@ -103,8 +105,8 @@ StepsOf c d phase stops after lines =
 module _ (session : Session) (stage : Stage) (capture : Option Sound) (ring : TableId) (lines : List Line) (base stops after : ℕ → ℕ) (c : Card) (a b : CardActor) (d : Card)
     (is : CardPhase capture (stage.phases + 1) c a b d lines) (card : IsCardAt session stage c) (over : IsOver ring session.ring c) (up_to : IsCapturedUpTo capture c)
     (runs : ReaderPartsAreRuns) where
-  -- a reader's part between its meets with the card
-  module _ (number : ℕ) (r s t u v : LabReader) (took : HasTakenRoom lines number r s) (informed : IsInformedBy c number s t)
+  -- a reader's part between its meets with the card, which stores what it captures
+  module _ (records : records_of c ≡ true) (number : ℕ) (r s t u v : LabReader) (took : HasTakenRoom lines number r s) (informed : IsInformedBy c number s t)
       (ran : RunsBehind stops after (stage.phases + 1) lines number t u) (heard : IsHeardBy d number u v) (x : AtPort × Reader)
       (at : IsReaderAt session capture ring session.ring number r x) (counted : IsCounted base stops number x) where
     own-phase : CardPhase capture (stage.phases + 1) informed.card a b heard.card lines
@@ -115,6 +117,12 @@ module _ (session : Session) (stage : Stage) (capture : Option Sound) (ring : Ta
 
     over-after : IsOver ring session.ring heard.card
     over-after = IsOver-phase ring session.ring capture (stage.phases + 1) informed.card a b heard.card lines own-phase own-over
+
+    own-records : records_of informed.card ≡ true
+    own-records = informed.same.records ∙ records
+
+    records-after : records_of heard.card ≡ true
+    records-after = records-between informed.card a b heard.card lines own-phase ∙ own-records
 
     own-steps : Steps informed.card heard.card (stage.phases + 1) (stops number) (after number) lines s t u v
     own-steps = record { informed = informed.informed; ran = ran; heard = heard.heard }
@@ -131,7 +139,7 @@ module _ (session : Session) (stage : Stage) (capture : Option Sound) (ring : Ta
 
     own-may : ReaderMay ring session.ring (rules_between informed.card b.card lines) (stage.phases + 1) (base number) (after number) lines x.0 s v
     own-may =
-        reader-may ring session.ring informed.card heard.card own-over (stage.phases + 1) (base number) (stops number) (after number) x.0 counted a b lines own-phase s t u v
+        reader-may ring session.ring informed.card heard.card own-over (stage.phases + 1) (base number) (stops number) (after number) x.0 counted a b lines own-phase own-records s t u v
         (runs (stage.phases + 1) (number_of s) (rules_between informed.card b.card lines)) (IsAt-same ring session.ring r s x.0 took.kept.same at.is.at) own-steps
 
     rows-are : own-may.rows ≡ rows_of v
@@ -150,7 +158,7 @@ module _ (session : Session) (stage : Stage) (capture : Option Sound) (ring : Ta
     recorded : IsRecorded capture session.ring (bindings_of (slice_index_or session.readers number None)) v
     recorded =
         let bindings = bindings_of (slice_index_or session.readers number None) in
-        IsRecorded-phase capture ring session.ring heard.card over-after
+        IsRecorded-phase capture ring session.ring heard.card over-after records-after
         (IsCapturedUpTo-phase capture informed.card a b heard.card lines own-phase (IsCapturedUpTo-same capture c informed.card informed.same up_to)) bindings informed.card
         (stage.phases + 1) (stops number) (after number) lines s t u v (IsRecorded-same capture session.ring bindings r s took.kept.same at.is.recorded) own-steps
 
@@ -166,11 +174,11 @@ module _ (session : Session) (stage : Stage) (capture : Option Sound) (ring : Ta
     }
 
   -- the parts of all readers
-  parts-may : (xs : List (AtPort × Reader)) (rs ss : List LabReader) → AreEach (IsReaderAt session capture ring session.ring) 0 rs xs → AreCounted base stops 0 xs
+  parts-may : records_of c ≡ true → (xs : List (AtPort × Reader)) (rs ss : List LabReader) → AreEach (IsReaderAt session capture ring session.ring) 0 rs xs → AreCounted base stops 0 xs
       → AreEach (StepsOf c d (stage.phases + 1) stops after lines) 0 rs ss
       → ActorsMay (reader_kinds stage) (rules_of session stage lines) (λ n. ops_by (is_reader n) lines)
       (λ n w y. IsReaderIn session capture ring session.ring n w y × IsCounted base after n y) rows_of 0 xs ss
-  parts-may xs rs ss are counted steps =
+  parts-may records xs rs ss are counted steps =
       actors-may (reader_kinds stage) (rules_of session stage lines) (λ n. ops_by (is_reader n) lines)
       (λ n r x. IsReaderAt session capture ring session.ring n r x × IsCounted base stops n x)
       (λ n w y. IsReaderIn session capture ring session.ring n w y × IsCounted base after n y) rows_of 0 rs ss xs
@@ -179,7 +187,17 @@ module _ (session : Session) (stage : Stage) (capture : Option Sound) (ring : Ta
       (λ n r v. (x : AtPort × Reader) → IsReaderAt session capture ring session.ring n r x × IsCounted base stops n x
       → ActorMay (reader_kinds stage) (rules_of session stage lines) (λ m. ops_by (is_reader m) lines)
       (λ m w y. IsReaderIn session capture ring session.ring m w y × IsCounted base after m y) rows_of n x v) 0 rs ss
-      (λ n r v all x now. reader-after n r all.first.first.between all.first.between all.between v all.first.first.first all.first.first.then all.first.then all.then x now.0 now.1) steps)
+      (λ n r v all x now. reader-after records n r all.first.first.between all.first.between all.between v all.first.first.first all.first.first.then all.first.then all.then x now.0 now.1) steps)
+
+  -- where there is a reader the card stores what it captures
+  parts-any : (xs : List (AtPort × Reader)) (rs ss : List LabReader) → (0 < length xs → records_of c ≡ true) → AreEach (IsReaderAt session capture ring session.ring) 0 rs xs
+      → AreCounted base stops 0 xs → AreEach (StepsOf c d (stage.phases + 1) stops after lines) 0 rs ss
+      → ActorsMay (reader_kinds stage) (rules_of session stage lines) (λ n. ops_by (is_reader n) lines)
+      (λ n w y. IsReaderIn session capture ring session.ring n w y × IsCounted base after n y) rows_of 0 xs ss
+  parts-any [] [] [] records are counted steps = record { next = []; rows = []; may = (refl, refl); are = tt; rows_are = refl }
+  parts-any (x ∷ xs) rs ss records are counted steps = parts-may (records (omega arith)) (x ∷ xs) rs ss are counted steps
+  parts-any [] (r ∷ rs) ss records are counted steps = absurd are
+  parts-any [] [] (s ∷ ss) records are counted steps = absurd steps
 
 -- rows that are taken leave a reader as it is
 IsReaderDone-taken : (session : Session) (capture : Option Sound) (ring : TableId) (number : ℕ) (r s : LabReader) (x : AtPort × Reader)
@@ -195,12 +213,12 @@ IsReaderDone-taken session capture ring number r s x is taken = record {
 }
 
 -- What the steps of a phase make of all readers is what the phase may make of the readers of a run, whichever meets with the card they had: the card
--- gave notes and met some from c on, did its lines, and gave notes and met some up to d and beyond.
+-- gave notes and met some from c on, did its lines, and gave notes and met some up to d and beyond. Where there is a reader it stores what it captures.
 pub readers-phase : (session : Session) (stage : Stage) (capture : Option Sound) (lines : List Line) (base stops after : ℕ → ℕ) (c : Card) (a b : CardActor) (d : Card)
     → CardPhase capture (stage.phases + 1) c a b d lines → IsCardAt session stage c → IsCapturedUpTo capture c → ReaderPartsAreRuns
-    → (xs : List (AtPort × Reader)) (rs ss : LabReaders) (rows : List Row) → IsOver (ring_of rs) session.ring c → AreAt session capture xs rs → AreCounted base stops 0 xs
+    → (xs : List (AtPort × Reader)) (rs ss : LabReaders) (rows : List Row) → (0 < length xs → records_of c ≡ true) → IsOver (ring_of rs) session.ring c → AreAt session capture xs rs → AreCounted base stops 0 xs
     → ReadersSteps c d (stage.phases + 1) stops after lines rs ss rows → ReadersMay session stage capture lines base after xs rows ss
-readers-phase session stage capture lines base stops after c a b d is card up_to runs xs rs ss rows over are counted steps =
+readers-phase session stage capture lines base stops after c a b d is card up_to runs xs rs ss rows records over are counted steps =
     let phase : ℕ = stage.phases + 1 in
     let first : List LabReader = readers_of rs in
     let last : List LabReader = readers_of steps.heard in
@@ -212,7 +230,7 @@ readers-phase session stage capture lines base stops after c a b d is card up_to
     let all : AreEach (StepsOf c d phase stops after lines) 0 first last =
     AreEach-joined (AreJoined (AreJoined (HasTakenRoom lines) (IsInformedBy c)) (RunsBehind stops after phase lines)) (IsHeardBy d) 0 first (readers_of steps.run) last run
     steps.hear.each in
-    let parts = parts-may session stage capture (ring_of rs) lines base stops after c a b d is card over up_to runs xs first last are.each counted all in
+    let parts = parts-any session stage capture (ring_of rs) lines base stops after c a b d is card over up_to runs xs first last records are.each counted all in
     let seat : spare_of ss ≡ spare_of rs =
     steps.take_rows.spare ∙ (steps.hear.spare ∙ (steps.run_lines.spare ∙ (steps.inform.spare ∙ steps.take_room.spare))) in
     let done : AreEach (IsReaderDone session capture (ring_of rs) session.ring) 0 (readers_of ss) parts.next =

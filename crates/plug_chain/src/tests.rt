@@ -1,3 +1,4 @@
+//! What no clause says of a plug: that it works where there is memory, and samples worked out by hand.
 use super::*;
 use std::alloc::Global;
 use std::test::Fail;

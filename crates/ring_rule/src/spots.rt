@@ -47,10 +47,7 @@ impl LapStart {
     {
         let slot = frame.wrapping_sub(self.frame);
         if slot >= geometry.frames as u64 {
-            return Spot {
-                lap: geometry.lap(frame),
-                index: geometry.word_index(frame, channel) + 1,
-            };
+            return far_spot(geometry, frame, channel);
         }
         Spot {
             lap: self.lap,
@@ -65,7 +62,18 @@ impl LapStart {
         ensures { (result ≡ true) ↔ (4294967295 ≤ lap geometry.now frame) }
     {
         frame.wrapping_sub(self.frame) >= geometry.frames as u64
-            && geometry.lap(frame) >= 4294967295
+            && far_lap(geometry, frame) >= 4294967295
+    }
+
+    /// Goes to the lap of a frame, where words can have it. It divides only where the frame is in another lap.
+    #[inline(always)]
+    pub fn turn_to_frame(&mut self, geometry: &Geometry, frame: u64)
+        requires { IsLapStart geometry.now self.old }
+        ensures { IsLapStart geometry.now self.new }
+    {
+        if frame.wrapping_sub(self.frame) >= geometry.frames as u64 {
+            self.turn_to(geometry, geometry.lap(frame));
+        }
     }
 
     /// Goes to another lap, where words can have it.
@@ -78,5 +86,27 @@ impl LapStart {
             self.lap = lap;
             self.frame = lap * geometry.frames as u64;
         }
+    }
+}
+
+/// The lap of a frame that is far: it is divided for here, so that the loops that place samples have no division in them.
+#[cold]
+#[inline(never)]
+fn far_lap(geometry: &Geometry, frame: u64) -> u64
+    ensures { result ≡ lap geometry.now frame }
+{
+    geometry.lap(frame)
+}
+
+/// Where the word of a far frame is.
+#[cold]
+#[inline(never)]
+fn far_spot(geometry: &Geometry, frame: u64, channel: u8) -> Spot
+    requires { channel < geometry.now.channels }
+    ensures { IsSpot geometry.now frame channel result }
+{
+    Spot {
+        lap: geometry.lap(frame),
+        index: geometry.word_index(frame, channel) + 1,
     }
 }

@@ -31,21 +31,21 @@ impl Share {
 
 /// How many threads lay.
 #[derive(Clone, Copy, PartialEq, Eq)]
-pub(crate) enum Crew {
+pub(crate) enum Workers {
     Two,
     Four,
 }
 
-/// A mix seat for one thread, with room behind it, so that no two threads write to one cache line but in the ring.
+/// A mix seat for one thread, with padding after it, so that no two threads write to one cache line but in the ring.
 #[derive(Drop)]
-struct Berth<'a> {
+struct PaddedSeat<'a> {
     seat: MixSeat<'a>,
     room: [u64; 16],
 }
 
-impl<'a> Berth<'a> {
-    fn new(seat: MixSeat<'a>) -> Berth<'a> {
-        Berth {
+impl<'a> PaddedSeat<'a> {
+    fn new(seat: MixSeat<'a>) -> PaddedSeat<'a> {
+        PaddedSeat {
             seat,
             room: [0; 16],
         }
@@ -55,10 +55,10 @@ impl<'a> Berth<'a> {
 /// The four mix seats of a ring.
 #[derive(Drop)]
 struct Seats<'a> {
-    first: Berth<'a>,
-    second: Berth<'a>,
-    third: Berth<'a>,
-    fourth: Berth<'a>,
+    first: PaddedSeat<'a>,
+    second: PaddedSeat<'a>,
+    third: PaddedSeat<'a>,
+    fourth: PaddedSeat<'a>,
 }
 
 impl Seats<'_> {
@@ -75,8 +75,8 @@ impl Seats<'_> {
 /// laid.
 fn lay_two<R: Threads + Sync>(
     rt: &R,
-    left: &mut Berth<'_>,
-    right: &mut Berth<'_>,
+    left: &mut PaddedSeat<'_>,
+    right: &mut PaddedSeat<'_>,
     offsets: (u32, u32),
     count: u32,
 ) -> u64 {
@@ -113,11 +113,11 @@ fn lay_four<R: Threads + Sync>(rt: &R, seats: &mut Seats<'_>, step: u32, count: 
 fn lay_shared<R: Threads + Sync>(
     rt: &R,
     seats: &mut Seats<'_>,
-    threads: Crew,
+    threads: Workers,
     share: Share,
 ) -> u64 {
     match threads {
-        Crew::Two => {
+        Workers::Two => {
             let count = FRAMES / 2;
             lay_two(
                 rt,
@@ -127,7 +127,7 @@ fn lay_shared<R: Threads + Sync>(
                 count,
             )
         }
-        Crew::Four => {
+        Workers::Four => {
             let count = FRAMES / 4;
             lay_four(rt, seats, share.step(count), count)
         }
@@ -139,7 +139,7 @@ fn time_lap<R: Clock + Threads + Sync>(
     rt: &R,
     player: &mut PlayerSeat<'_>,
     seats: &mut Seats<'_>,
-    threads: Crew,
+    threads: Workers,
     share: Share,
 ) -> io::Result<Best> {
     seats.look();
@@ -156,7 +156,7 @@ fn time_lap<R: Clock + Threads + Sync>(
 /// The fastest lap of a ring of one channel and four places that some threads lay and one takes.
 pub(crate) fn time_beside<R: Clock + Threads + Sync + Alloc<A = Global>>(
     rt: &R,
-    threads: Crew,
+    threads: Workers,
     share: Share,
 ) -> io::Result<Best> {
     let mut ring = new_ring(rt.alloc(), 1, 4)?;
@@ -165,10 +165,10 @@ pub(crate) fn time_beside<R: Clock + Threads + Sync + Alloc<A = Global>>(
     let third = first.split(1, 2);
     let fourth = first.split(1, 3);
     let mut seats = Seats {
-        first: Berth::new(first),
-        second: Berth::new(second),
-        third: Berth::new(third),
-        fourth: Berth::new(fourth),
+        first: PaddedSeat::new(first),
+        second: PaddedSeat::new(second),
+        third: PaddedSeat::new(third),
+        fourth: PaddedSeat::new(fourth),
     };
     let mut best = Best::NONE;
     for _ in 0..LAPS {

@@ -6,7 +6,7 @@ mod beside;
 mod lap;
 
 use alone::time_alone;
-use beside::{Crew, Share, time_beside};
+use beside::{Share, Workers, time_beside};
 use std::{env, io};
 
 /// `sum_bench time` prints a line for each measurement: what was done, and the nanoseconds of the fastest lap of the ring.
@@ -21,7 +21,7 @@ fn main(rt: HostRuntime) -> io::Result<()> {
         println!(rt; "alone {channels} place {}", best.place)?;
         println!(rt; "alone {channels} take {}", best.take)?;
     }
-    for (number, threads) in [(2, Crew::Two), (4, Crew::Four)] {
+    for (number, threads) in [(2, Workers::Two), (4, Workers::Four)] {
         for (name, share) in [("same", Share::Same), ("staggered", Share::Staggered)] {
             let best = time_beside(&rt, threads, share)?;
             println!(rt; "{name} {number} place {}", best.place)?;

@@ -15,6 +15,7 @@ impl MixSeat<'_> {
     /// steps on the ring's words. The counter rises by one for each of them: one load, and then one compare-exchange for each
     /// further ask that was passed, of which there are at most three for each place of the ring. `LapEnd` comes before any ask
     /// and any step.
+    #[inline(always)]
     pub fn place_counted<G: Gate, L: Ledger>(
         &mut self,
         gate: &mut G,
@@ -43,6 +44,7 @@ impl MixSeat<'_> {
     }
 
     // The same with a counter of its own, at the ledger of a blank.
+    #[inline(always)]
     pub(crate) fn place_at<G: Gate, L: Ledger>(
         &mut self,
         gate: &mut G,
@@ -71,6 +73,7 @@ impl MixSeat<'_> {
 
     // Lays an entry of a kind: looks at the word, and exchanges it until the entry is laid, or a word of a later lap was found,
     // or the gate stops a step. Each word that an exchange finds has a greater count than the one before.
+    #[inline(always)]
     pub(crate) fn lay<G: Gate, L: Ledger>(
         &mut self,
         gate: &mut G,

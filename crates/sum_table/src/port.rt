@@ -78,6 +78,7 @@ impl MixPort for MixSeat<'_> {
         Ok(self.locate())
     }
 
+    #[inline(always)]
     fn place<G: Gate>(
         &mut self,
         gate: &mut G,

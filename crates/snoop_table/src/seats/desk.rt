@@ -37,10 +37,14 @@ impl Desk<'_> {
         let behind = self.place.behind(&self.geometry);
         self.ring
             .store::<Keep>(&mut self.seat, self.place.index, word);
-        self.place = behind;
+        self.place.next.frame = behind.next.frame;
+        self.place.next.channel = behind.next.channel;
+        self.place.index = behind.index;
+        self.place.laps = behind.laps;
     }
 
     // Stores the samples of the next frame, one for each channel, by one store each.
+    #[inline(always)]
     pub(super) fn store_frame(&mut self, frame: &[i16])
         requires whole { (next_of_desk self.old).channel ≡ 0 }
         requires channels { length frame.now ≡ (desk_geometry self.old).channels }

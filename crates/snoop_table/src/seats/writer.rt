@@ -37,6 +37,7 @@ impl WriterSeat<'_> {
 
     /// Stores the next captured frame, of one sample for each channel, by one store for each, over the frame of the lap before.
     /// `LapEnd` comes exactly where the next frame's lap is 4294967295; nothing changes then.
+    #[inline(always)]
     pub fn store_frame(&mut self, frame: &[i16]) -> Result<(), PcmError>
         requires { length frame.now ≡ (writer_geometry self.old).channels }
         ensures ok { OnOk result (HasStored (desk_of self.old) (desk_of self.new) frame.now) }

@@ -75,9 +75,9 @@ impl PlayerSeat<'_> {
         if spot.lap == 4294967295 {
             return Err(PcmError::LapEnd);
         }
+        self.start.turn_to_frame(&geometry, frame);
         let empty = lap_word::pack(spot.lap as u32 + 1, 0, 0);
         let found = self.ring.swap::<Take>(&mut self.seat, spot.index, empty);
-        self.start.turn_to(&geometry, spot.lap);
         let next = Cursor::behind(&geometry, frame, channel);
         self.next.frame = next.frame;
         self.next.channel = next.channel;

@@ -1,75 +1,67 @@
-use Rattle.std.proofs.Common.{◌≡◌, ◌∙◌, ℕ, ◌+◌, ◌*◌, ◌%◌, ap, length, refl, subst, sym, arith}
+use Rattle.std.proofs.Common.{ℕ, ◌+◌, ◌≤◌, length, refl, subst, arith}
 use Rattle.mix_core.specs.declared.port.Ended.{Ended}
-use Rattle.mix_core.specs.declared.port.Ended.TheVariants.{Whole}
-use Rattle.mix_core.specs.Port.{PortView}
-use Rattle.course.specs.AtPort.{TakesAt}
-use Rattle.bindings.specs.Bound.{rising}
-use Rattle.dmix_client.specs.Course.{lay_frame}
-use Rattle.dmix_client.specs.CourseLaws.{TakesAt-frame}
-use Rattle.dmix_client.specs.Port.{least_channel}
-use Rattle.dmix_client.specs.RingLaws.{slot-within}
+use Rattle.mix_core.specs.declared.port.Ended.TheVariants.{Whole, Late, Stopped}
+use Rattle.mix_core.specs.Port.{OnWhole}
+use Rattle.snd_base.specs.Places.{first_free}
+use Rattle.dmix_client.specs.Port.{IsCommit, least_channel}
+use Rattle.dmix_client.specs.CourseLaws.{TakesAt-frames}
 use Rattle.dmix_client.specs.View.{held}
-use Rattle.dmix_client.proofs.Frames.{IsFrom-next, marks-joined}
-use Rattle.dmix_client.proofs.Laying.{RestFrames-all, RestFrames-ended, RestFrames-next, RestFrames-none, TakesAt-held}
+use Rattle.dmix_client.proofs.Frames.{marks-joined}
+use Rattle.dmix_client.proofs.Laying.{RestFrames-all, RestFrames-none, RestFrames-run, RestFrames-run_ended}
 use Rattle.dmix_client.proofs.commit.lay_frames.Goals as goal
 
-pub loop-frame-init : goal.loop-frame-init
-loop-frame-init g c =
-    let port = g.P.MixPort in
+pub loop-done-init : goal.loop-done-init
+loop-done-init g c =
     let plain = c.args.plain.now in
     record {
       view_is = refl;
+      few = omega arith;
       cursor = omega (arith, c.requires.from_cursor);
-      slot_is = c.held_from-slot.ensures.value
-          ∙ ap (λ (n : ℕ). (plain.stretch.source + n) % plain.setup.config.buffer_size * length plain.setup.bindings) (let here : plain.stretch.committed ≡ plain.stretch.committed + 0 = omega arith in here);
-      takes = RestFrames-none port g.G.Gate plain.identity.member plain.stretch.card plain.setup.bindings (held plain c.args.ring.now) c.args.count plain.stretch.committed (c.args.port.now, c.args.gate.now);
+      takes = RestFrames-none g.P.MixPort g.G.Gate plain.identity.member plain.stretch.card plain.setup.bindings (held plain c.args.ring.now) c.args.count plain.stretch.committed (c.args.port.now, c.args.gate.now);
     }
 
-pub place_frame-placed-requires-clause-slot : goal.place_frame-placed-requires-clause-slot
-place_frame-placed-requires-clause-slot g c =
-    let plain = c.args.plain.now in
-    let within = slot-within plain.setup.config.buffer_size (length plain.setup.bindings) (plain.stretch.source + (plain.stretch.committed + c.loop-frame.frame)) c.requires.buffer in
-    omega (arith, c.requires.room, c.loop-frame.invariant.slot_is, within)
+few_frames : (e : Ended) (frames part count channels : ℕ) → IsCommit e frames part count channels → frames ≤ count
+few_frames Whole frames part count channels is = omega (arith, is.0)
+few_frames (Late word) frames part count channels is = omega (arith, is.0)
+few_frames Stopped frames part count channels is = omega (arith, is.0)
 
-pub loop-frame-preserved : goal.loop-frame-preserved
-loop-frame-preserved g c =
-    let port = g.P.MixPort in
-    let before = c.loop-frame.invariant in
+pub overflow_add-result : goal.overflow_add-result
+overflow_add-result g c =
     let plain = c.args.plain.now in
-    let number : ℕ = plain.stretch.committed + c.loop-frame.frame in
-    let member : (port.view c.loop-frame.port).member ≡ plain.identity.member = ap (λ (v : PortView). v.member) before.view_is ∙ c.requires.member in
-    let placed = TakesAt-held port g.G.Gate plain c.args.ring.now (port.view c.loop-frame.port).member (plain.stretch.card + number) c.loop-frame.slot number (c.loop-frame.port, c.loop-frame.gate) (c.place_frame-placed.new.port, c.place_frame-placed.new.gate)
-    (c.place_frame-placed.result.placed, c.place_frame-placed.result.ended) member refl before.slot_is c.place_frame-placed.ensures in
-    let step : TakesAt port g.G.Gate (c.loop-frame.port, c.loop-frame.gate) (lay_frame plain.identity.member (plain.stretch.card + number) plain.setup.bindings (held plain c.args.ring.now number)) (c.place_frame-placed.new.port, c.place_frame-placed.new.gate) (c.place_frame-placed.result.placed, Whole) =
-    subst (λ (e : Ended). TakesAt port g.G.Gate (c.loop-frame.port, c.loop-frame.gate) (lay_frame plain.identity.member (plain.stretch.card + number) plain.setup.bindings (held plain c.args.ring.now number)) (c.place_frame-placed.new.port, c.place_frame-placed.new.gate) (c.place_frame-placed.result.placed, e)) c.in-Whole.is placed in
-    let frame = TakesAt-frame port g.G.Gate g.met.P.MixPort.laid_composes g.met.P.MixPort.loaded_composes plain.identity.member (plain.stretch.card + number) plain.setup.bindings (held plain c.args.ring.now number) (rising plain.setup.bindings)
-    (c.loop-frame.port, c.loop-frame.gate) (c.place_frame-placed.new.port, c.place_frame-placed.new.gate) c.place_frame-placed.result.placed Whole step in
-    record {
-      view_is = marks-joined (port.view c.args.port.now) (port.view c.loop-frame.port) (port.view c.place_frame-placed.new.port) _ before.view_is frame.view_is;
-      cursor = omega (arith, frame.free (least_channel plain.setup.bindings) (IsFrom-next (port.view c.loop-frame.port).marks.cursor (plain.stretch.card + number) (least_channel plain.setup.bindings) (least_channel plain.setup.bindings) (omega (arith, before.cursor))));
-      slot_is = c.slot_behind-slot.ensures (plain.stretch.source + number) plain.setup.config.buffer_size (c.requires.room ∙ ap (λ (n : ℕ). plain.setup.config.buffer_size * n) (sym c.len.ensures.value))
-          (before.slot_is ∙ ap (λ (n : ℕ). (plain.stretch.source + number) % plain.setup.config.buffer_size * n) (sym c.len.ensures.value)) (omega (arith, c.len.ensures.value, c.len.ensures.bound.some))
-          ∙ ap (λ (n : ℕ). (plain.stretch.source + number + 1) % plain.setup.config.buffer_size * n) c.len.ensures.value
-          ∙ ap (λ (n : ℕ). n % plain.setup.config.buffer_size * length plain.setup.bindings)
-          (let next : plain.stretch.source + number + 1 ≡ plain.stretch.source + (plain.stretch.committed + (c.loop-frame.frame + 1)) = omega arith in next);
-      takes = RestFrames-next port g.G.Gate plain.identity.member plain.stretch.card plain.setup.bindings (held plain c.args.ring.now) c.args.count plain.stretch.committed (c.args.port.now, c.args.gate.now) (c.loop-frame.port, c.loop-frame.gate) (c.place_frame-placed.new.port, c.place_frame-placed.new.gate)
-          c.loop-frame.frame c.place_frame-placed.result.placed c.loop-frame-test.true before.takes step;
-    }
+    let x = c.lay_run-laid.result in
+    let laid = TakesAt-frames g.P.MixPort g.G.Gate g.met.P.MixPort.laid_composes g.met.P.MixPort.loaded_composes plain.identity.member plain.stretch.card plain.setup.bindings (held plain c.args.ring.now) c.min-run.result (plain.stretch.committed + c.loop-done.done)
+    (c.loop-done.port, c.loop-done.gate) (c.lay_run-laid.new.port, c.lay_run-laid.new.gate) x c.requires.bound.bound c.lay_run-laid.ensures in
+    let frames : x.frames ≤ c.min-run.result = few_frames x.ended x.frames x.part c.min-run.result (length plain.setup.bindings) laid.commit_is in
+    omega (arith, frames, c.min-run.ensures, c.loop-done.invariant.few, c.ranges.count)
 
 pub returns-in_default : goal.returns-in_default
 returns-in_default g c =
-    let port = g.P.MixPort in
-    let before = c.loop-frame.invariant in
     let plain = c.args.plain.now in
-    let number : ℕ = plain.stretch.committed + c.loop-frame.frame in
-    RestFrames-ended port g.G.Gate plain.identity.member plain.stretch.card plain.setup.bindings (held plain c.args.ring.now) c.args.count plain.stretch.committed (c.args.port.now, c.args.gate.now) (c.loop-frame.port, c.loop-frame.gate) (c.place_frame-placed.new.port, c.place_frame-placed.new.gate)
-    c.loop-frame.frame c.place_frame-placed.result.placed c.place_frame-placed.result.ended c.loop-frame-test.true c.in_default.not-Whole before.takes
-    (TakesAt-held port g.G.Gate plain c.args.ring.now (port.view c.loop-frame.port).member (plain.stretch.card + number) c.loop-frame.slot number (c.loop-frame.port, c.loop-frame.gate) (c.place_frame-placed.new.port, c.place_frame-placed.new.gate)
-    (c.place_frame-placed.result.placed, c.place_frame-placed.result.ended) (ap (λ (v : PortView). v.member) before.view_is ∙ c.requires.member) refl before.slot_is c.place_frame-placed.ensures)
+    RestFrames-run_ended g.P.MixPort g.G.Gate plain.identity.member plain.stretch.card plain.setup.bindings (held plain c.args.ring.now) c.args.count plain.stretch.committed (c.args.port.now, c.args.gate.now) (c.loop-done.port, c.loop-done.gate) (c.lay_run-laid.new.port, c.lay_run-laid.new.gate)
+    c.loop-done.done c.min-run.result c.lay_run-laid.result (omega (arith, c.min-run.ensures, c.loop-done.invariant.few)) c.in_default.not-Whole c.loop-done.invariant.takes c.lay_run-laid.ensures
+
+pub loop-done-preserved : goal.loop-done-preserved
+loop-done-preserved g c =
+    let port = g.P.MixPort in
+    let plain = c.args.plain.now in
+    let before = c.loop-done.invariant in
+    let x = c.lay_run-laid.result in
+    let first : ℕ = plain.stretch.committed + c.loop-done.done in
+    let least : ℕ = least_channel plain.setup.bindings in
+    let laid = TakesAt-frames port g.G.Gate g.met.P.MixPort.laid_composes g.met.P.MixPort.loaded_composes plain.identity.member plain.stretch.card plain.setup.bindings (held plain c.args.ring.now) c.min-run.result first
+    (c.loop-done.port, c.loop-done.gate) (c.lay_run-laid.new.port, c.lay_run-laid.new.gate) x c.requires.bound.bound c.lay_run-laid.ensures in
+    let commit = subst (λ (e : Ended). IsCommit e x.frames x.part c.min-run.result (length plain.setup.bindings)) c.in-Whole.is laid.commit_is in
+    let free = subst (λ (e : Ended). OnWhole e (first_free (port.view c.lay_run-laid.new.port).marks.cursor least ≤ plain.stretch.card + (first + x.frames))) c.in-Whole.is (laid.free least (omega (arith, before.cursor))) in
+    record {
+      view_is = marks-joined (port.view c.args.port.now) (port.view c.loop-done.port) (port.view c.lay_run-laid.new.port) _ before.view_is laid.view_is;
+      few = omega (arith, c.min-run.ensures, before.few);
+      cursor = omega (arith, free, commit.0);
+      takes = RestFrames-run port g.G.Gate plain.identity.member plain.stretch.card plain.setup.bindings (held plain c.args.ring.now) c.args.count plain.stretch.committed (c.args.port.now, c.args.gate.now) (c.loop-done.port, c.loop-done.gate) (c.lay_run-laid.new.port, c.lay_run-laid.new.gate)
+          c.loop-done.done c.min-run.result x (omega (arith, c.min-run.ensures, before.few)) c.in-Whole.is before.takes c.lay_run-laid.ensures;
+    }
 
 pub returns : goal.returns
 returns g c =
-    let port = g.P.MixPort in
     let plain = c.args.plain.now in
-    RestFrames-all port g.G.Gate plain.identity.member plain.stretch.card plain.setup.bindings (held plain c.args.ring.now) c.args.count plain.stretch.committed (c.args.port.now, c.args.gate.now) (c.loop-frame.port, c.loop-frame.gate) c.loop-frame.frame
-    (omega (arith, c.loop-frame-test.false, c.loop-frame.auto.frame-end)) c.loop-frame.invariant.takes
+    RestFrames-all g.P.MixPort g.G.Gate plain.identity.member plain.stretch.card plain.setup.bindings (held plain c.args.ring.now) c.args.count plain.stretch.committed (c.args.port.now, c.args.gate.now) (c.loop-done.port, c.loop-done.gate) c.loop-done.done
+    (omega (arith, c.loop-done-test.false, c.loop-done.invariant.few)) c.loop-done.invariant.takes

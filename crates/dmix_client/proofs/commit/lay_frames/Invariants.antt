@@ -1,14 +1,18 @@
-use Rattle.std.proofs.Common.{◌≡◌, ◌+◌, ◌*◌, ◌%◌, length}
+use Rattle.std.proofs.Common.{◌≡◌, ℕ, ◌+◌, ◌-◌, ◌≤◌}
 use Rattle.snd_base.specs.Places.{IsFrom}
 use Rattle.dmix_client.specs.Port.{least_channel}
 use Rattle.dmix_client.specs.View.{held}
 use Rattle.dmix_client.proofs.Laying.{RestFrames}
 use Rattle.dmix_client.proofs.commit.lay_frames.Given as goal
 
-abbrev pub invariant-loop-frame : goal.invariant-loop-frame
-invariant-loop-frame g l = let port = g.P.MixPort in record {
+abbrev pub invariant-loop-done : goal.invariant-loop-done
+invariant-loop-done g l = let port = g.P.MixPort in record {
   view_is : port.view l.port ≡ record (port.view l.fn.port) { marks = (port.view l.port).marks };
-  cursor : IsFrom (port.view l.port).marks.cursor (l.plain.stretch.card + (l.plain.stretch.committed + l.frame)) (least_channel l.plain.setup.bindings);
-  slot_is : l.slot ≡ (l.plain.stretch.source + (l.plain.stretch.committed + l.frame)) % l.plain.setup.config.buffer_size * length l.plain.setup.bindings;
-  takes : RestFrames g.P.MixPort g.G.Gate l.plain.identity.member l.plain.stretch.card l.plain.setup.bindings (held l.plain l.ring) l.count l.plain.stretch.committed (l.fn.port, l.fn.gate) (l.port, l.gate) l.frame;
+  few : l.done ≤ l.count;
+  cursor : IsFrom (port.view l.port).marks.cursor (l.plain.stretch.card + (l.plain.stretch.committed + l.done)) (least_channel l.plain.setup.bindings);
+  takes : RestFrames g.P.MixPort g.G.Gate l.plain.identity.member l.plain.stretch.card l.plain.setup.bindings (held l.plain l.ring) l.count l.plain.stretch.committed (l.fn.port, l.fn.gate) (l.port, l.gate) l.done;
 }
+
+-- each run has a frame
+abbrev pub decreases-loop-done : goal.decreases-loop-done
+decreases-loop-done g l = l.count - l.done

@@ -31,7 +31,7 @@ loop-place-preserved g c =
     let bound = c.bound_sample-bound.ensures in
     let member : (port.view c.loop-place.port).member ≡ (port.view c.args.port.now).member = ap (λ (v : PortView). v.member) before.view_is in
     let step = subst (λ (e : Ended). LaysAt port g.G.Gate (c.loop-place.port, c.loop-place.gate) (an_add (port.view c.loop-place.port).member frame c.bound_sample-bound.result.channel c.bound_sample-bound.result.sample) e (c.place_sample.new.port, c.place_sample.new.gate)) c.in-Whole.is c.place_sample.ensures in
-    let place_within : c.loop-place.place < length list = omega (arith, c.len-place-end.ensures.value, c.loop-place-test.true) in
+    let place_within : c.loop-place.place < length list = omega (arith, c.requires.channels, c.loop-place-test.true) in
     let in_range : (j : ℕ) → j < length list → slice_index list (slice_index (rising list) j) < (port.view c.loop-place.port).geometry.channels =
     λ j within. subst (λ (v : PortView). slice_index list (slice_index (rising list) j) < v.geometry.channels) (sym before.view_is)
     (c.requires.bound.below (slice_index (rising list) j) 0 (rising-within list j before.bound within)) in
@@ -53,14 +53,14 @@ returns-in_default g c =
     let frame : ℕ = c.args.frame in
     let bound = c.bound_sample-bound.ensures in
     Rest-ended port g.G.Gate (port.view c.args.port.now).member frame list (held_at c.args.ring.now c.args.slot) (rising list) (c.args.port.now, c.args.gate.now) (c.loop-place.port, c.loop-place.gate) (c.place_sample.new.port, c.place_sample.new.gate) c.loop-place.place _ c.place_sample.result
-    (omega (arith, c.len-place-end.ensures.value, c.loop-place-test.true, length-rising list before.bound))
+    (omega (arith, c.requires.channels, c.loop-place-test.true, length-rising list before.bound))
     (entry-bound (λ m k x. an_add m frame k x) list c.args.ring.now c.args.slot _ _ _ _ _ (ap (λ (v : PortView). v.member) before.view_is) bound.channel bound.sample) c.in_default.not-Whole before.takes c.place_sample.ensures
 
 pub returns : goal.returns
 returns g c =
     let port = g.P.MixPort in
     let list = c.args.bindings.now in
-    let all : c.loop-place.place ≡ c.len.result = omega (arith, c.loop-place-test.false, c.loop-place.auto.place-end, c.len-place-end.ensures.value, c.len.ensures.value) in
+    let all : c.loop-place.place ≡ c.args.channels = omega (arith, c.loop-place-test.false, c.loop-place.auto.place-end) in
     subst (λ n. TakesAt port g.G.Gate (c.args.port.now, c.args.gate.now) (lay_frame (port.view c.args.port.now).member c.args.frame list (held_at c.args.ring.now c.args.slot)) (c.loop-place.port, c.loop-place.gate) (n, Whole)) all
     (Rest-all port g.G.Gate (port.view c.args.port.now).member c.args.frame list (held_at c.args.ring.now c.args.slot) (rising list) (c.args.port.now, c.args.gate.now) (c.loop-place.port, c.loop-place.gate) c.loop-place.place
-    (omega (arith, length-rising list c.requires.bound.bound, c.loop-place-test.false, c.len-place-end.ensures.value)) c.loop-place.invariant.takes)
+    (omega (arith, length-rising list c.requires.bound.bound, c.loop-place-test.false, c.requires.channels)) c.loop-place.invariant.takes)

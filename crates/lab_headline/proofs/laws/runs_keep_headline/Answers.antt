@@ -2,12 +2,14 @@ use Rattle.lab_headline.proofs.Recorded.{session-bound}
 use Rattle.lab_headline.proofs.laws.runs_keep_headline.Goals as goal
 
 pub returns : goal.returns
-returns c script wavs session capture client_stops reader_stops outcome is run = record {
+returns c script wavs session capture client_stops reader_stops outcome valid is run = record {
   mix = c.runs_mix_files.ensures.mix script wavs session capture client_stops reader_stops outcome is run;
   placed = c.runs_mix_files.ensures.placed script wavs session capture client_stops reader_stops outcome is run;
   clients = c.mixes_are_of_clients.ensures session capture script.body client_stops reader_stops outcome run;
   late = c.late_rows_miss.ensures.rows session capture script.body client_stops reader_stops outcome run;
   recordings = c.runs_record_captures.ensures session capture script.body client_stops reader_stops outcome run;
   readers = session-bound script wavs session is;
-  one = λ bound. c.channels_have_one_sample.ensures script wavs session capture client_stops reader_stops outcome is bound run;
+  one =
+      let bound = c.scripts_bind_channels.ensures script wavs session valid is in
+      c.channels_have_one_sample.ensures script wavs session capture client_stops reader_stops outcome is bound run;
 }

@@ -1,4 +1,4 @@
-use Rattle.std.proofs.Common.{◌≡◌, ◌<◌, ◌+◌, SFits, rules, arith, subst, sym, ap, ℤ, to_z-of_z, w16, of_z, to_z}
+use Rattle.std.proofs.Common.{◌≡◌, ◌+◌, SFits, rules, arith, subst, sym, ap, ℤ, to_z-of_z, w16}
 use Rattle.std.proofs.Math.ListN.{set}
 use Rattle.snd_base.specs.declared.geometry.Geometry.{Geometry}
 use Rattle.card_player.specs.Plays.{geometry_of}

@@ -35,7 +35,7 @@ invariant_of-self c =
       same_ring = (c.swap-found.ensures.0 ∙ p.same_ring.0, p.same_ring.1, ap (λ (x : Me Entry View). x.1) c.swap-found.ensures.2.6 ∙ p.same_ring.2, p.same_ring.3);
       known = subst (λ (y : Cursor). IsPlayer c.swap-found.new.seat.me.0 p.key y p.position p.gone) (sym c.behind-next.ensures)
           (known_taken p.key p.next p.position p.gone p.ring.now.table_id.slots c.spot-spot.result.index c.pack-empty.result c.swap-found.result p.seat.me c.swap-found.new.seat.me p.known (fits_next p other) c.swap-found.ensures.2);
-      lap_start = c.turn_to.ensures;
+      lap_start = c.turn_to_frame.ensures;
     }
 
 pub returns-clause-ok : goal.returns-clause-ok

@@ -4,14 +4,19 @@ use Rattle.snd_base.specs.declared.places.Cursor.{Cursor}
 use Rattle.sum_table.specs.declared.view.Key.{Key}
 use Rattle.card_player.specs.declared.player.CardPlayer.{CardPlayer}
 use Rattle.card_player.specs.FillLaws.{HasFilled, HasFilled-more}
-use Rattle.card_player.specs.Plays.{ends_period, frame_of, geometry_of, is_multiple, periods_to, samples_of, seat_of}
+use Rattle.card_player.specs.Plays.{IsDue, ends_period, frame_of, geometry_of, is_multiple, periods_to, samples_of, seat_of}
 use Rattle.card_sim.specs.RunLaws.{HasCaptured-more, RunsFrames-ended, RunsFrames-published}
 use Rattle.card_sim.specs.Runs.{HasCaptured}
 use Rattle.snoop_table.specs.declared.seats.writer.WriterSeat.{WriterSeat}
 use Rattle.card_sim.specs.Moments.{moments_to, position_of_writer}
 use Rattle.card_sim.proofs.Watching.{position_of_writer-captured, saw-ended, saw-more, saw-published}
 use Rattle.ring_rule.specs.Positions.{last_of}
-use Rattle.card_sim.proofs.run.run_frames.Goals as goal
+use Rattle.card_sim.proofs.run.run_all.Goals as goal
+
+pub publish_period-due-requires-clause-due : goal.publish_period-due-requires-clause-due
+publish_period-due-requires-clause-due g c =
+    let next : frame_of c.run_frame.new.player ≡ frame_of c.loop-frame.player + 1 = ap (λ (x : Cursor). x.frame) c.run_frame.ensures.runs.takes.next in
+    subst (λ (n : ℕ). IsDue c.args.period n c.loop-frame.due) (sym next) c.loop-frame.invariant.due
 
 pub loop-frame-preserved : goal.loop-frame-preserved
 loop-frame-preserved g c =
@@ -29,19 +34,20 @@ loop-frame-preserved g c =
     let last_is : frame_of c.run_frame.new.player ≡ frame_of p + c.loop-frame.frame + 1 =
     ap (λ (x : Cursor). x.frame) ran.takes.next ∙ ap (λ (n : ℕ). n + 1) frame_is in
     record {
-      filled = HasFilled-more (seat_of p) (seat_of q) (seat_of c.run_frame.new.player) (seat_of c.publish_period.new.player) c.args.period c.loop-frame.frame at c.args.out.now c.loop-frame.out c.run_frame.new.out
-          filled at_is ran.takes.played ran.takes.next ran.takes.before ran.takes.rest c.publish_period.ensures.publishes.played c.publish_period.ensures.publishes.next;
-      captured = HasCaptured-more w v u c.publish_period.new.writer c.args.captured.now c.args.period (frame_of p) c.loop-frame.frame at (geometry_of p).channels (frame_of c.run_frame.new.player)
+      filled = HasFilled-more (seat_of p) (seat_of q) (seat_of c.run_frame.new.player) (seat_of c.publish_period-due.new.player) c.args.period c.loop-frame.frame at c.args.out.now c.loop-frame.out c.run_frame.new.out
+          filled at_is ran.takes.played ran.takes.next ran.takes.before ran.takes.rest c.publish_period-due.ensures.publishes.played c.publish_period-due.ensures.publishes.next;
+      captured = HasCaptured-more w v u c.publish_period-due.new.writer c.args.captured.now c.args.period (frame_of p) c.loop-frame.frame at (geometry_of p).channels (frame_of c.run_frame.new.player)
           c.loop-frame.invariant.captured at_is
           (subst (λ (n : ℕ). HasCaptured v u (drop at (take (at + n) c.args.captured.now)) []) same ran.stored)
-          last_is c.publish_period.ensures.publishes.stored;
-      in_step = c.publish_period.ensures.publishes.in_step;
+          last_is c.publish_period-due.ensures.publishes.stored;
+      in_step = c.publish_period-due.ensures.publishes.in_step;
+      due = c.publish_period-due.ensures.due;
       watched = saw-more g.W.Watch.saw g.met.W.Watch.saw_composes _ _ _ _ c.args.period (frame_of p) (position_of_writer w) c.loop-frame.frame _ _ _ _ _
           c.loop-frame.invariant.watched
           c.run_frame.ensures.watched frame_is
           (filled.played.position ∙ ap (λ (n : ℕ). last_of n (periods_to c.args.period (frame_of p) c.loop-frame.frame)) c.requires.published)
           (position_of_writer-captured w v _ _ c.loop-frame.invariant.captured)
-          c.publish_period.ensures.watched last_is
+          c.publish_period-due.ensures.watched last_is
           (position_of_writer-captured v u _ [] ran.stored);
     }
 

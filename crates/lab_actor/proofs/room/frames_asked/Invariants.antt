@@ -1,8 +1,0 @@
-use Rattle.std.proofs.Common.{◌≡◌, take}
-use Rattle.std.specs.Prelude.{sum_by}
-use Rattle.lab_run.specs.Phases.{ops_by}
-use Rattle.lab_actor.specs.Room.{asked_by, is_actor}
-use Rattle.lab_actor.proofs.room.frames_asked.Given as goal
-
-abbrev pub invariant-loop-index : goal.invariant-loop-index
-invariant-loop-index l = l.frames ≡ sum_by asked_by (ops_by (is_actor l.actor) (take l.index l.lines))
