@@ -15,7 +15,7 @@ _dmixlab() {
   local word=${COMP_WORDS[COMP_CWORD]}
   COMPREPLY=()
   case $COMP_CWORD:${COMP_WORDS[1]} in
-    1:*) mapfile -t COMPREPLY < <(compgen -W "run refine conf --help --version" -- "$word") ;;
+    1:*) mapfile -t COMPREPLY < <(compgen -W "run refine conf make --help --version" -- "$word") ;;
     2:run | 2:refine | 2:conf)
       compopt -o filenames
       mapfile -t COMPREPLY < <(compgen -f -- "$word")

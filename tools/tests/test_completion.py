@@ -30,7 +30,7 @@ class Completion(unittest.TestCase):
             return {line for line in ran.stdout.splitlines() if line}
 
     def test_commands(self):
-        self.assertEqual(self.offered(""), {"run", "refine", "conf", "--help", "--version"})
+        self.assertEqual(self.offered(""), {"run", "refine", "conf", "make", "--help", "--version"})
         self.assertEqual(self.offered("re"), {"refine"})
 
     def test_files_where_files_go(self):
@@ -46,7 +46,7 @@ class Completion(unittest.TestCase):
         self.assertEqual(self.offered("conf", "my.conf", "s"), {"shared"})
 
     def test_nothing_behind_a_whole_command(self):
-        for words in (("--help", ""), ("refine", "my.conf", ""), ("run", "a", "b", ""), ("conf", "my.conf", "shared", "")):
+        for words in (("--help", ""), ("refine", "my.conf", ""), ("make", ""), ("run", "a", "b", ""), ("conf", "my.conf", "shared", "")):
             self.assertEqual(self.offered(*words), set())
 
 

@@ -18,7 +18,9 @@ use Rattle.lab_shelf.specs.Files.{Files}
 use Rattle.lab_stop.specs.declared.stop.Stop.{Stop}
 use Rattle.lab_stop.specs.declared.stop.Stop.TheVariants.{Words, Script, Conf, Wav, Read, Write, Memory}
 use Rattle.lab_stop.specs.Stops.{IsWriteStop}
-use Rattle.dmixlab.specs.Words.{run}
+use Rattle.lab_make.specs.declared.workload.Workload.{Workload}
+use Rattle.lab_workload.specs.Made.{IsMade, IsMadePart}
+use Rattle.dmixlab.specs.Words.{make, run}
 use Rattle.dmixlab.specs.Run.{Finished, Unfinished}
 use Rattle.dmixlab.specs.Top.{Leaves}
 
@@ -29,18 +31,18 @@ pub record RunLaws : Type 0 where
       → IsUnstoppedRun session capture script.body outcome → IsOwnRun script session outcome
 
 -- a run that is done is finished
-Finished-played : (laws : RunLaws) (input : RunInput) (script out : List ℕ) (gates : Stops) (before between after : Option Files) (taken taken_after : Option (List ℕ))
-    → ForSome before (λ files. input_in files script ≡ Ok input) → IsScript input.script → between ≡ before → HasPlayed input out gates between after taken taken_after
-    → Finished script out gates before after taken taken_after
-Finished-played laws input script out gates before between after taken taken_after read valid same played = record {
+pub Finished-played : (laws : RunLaws) (input : RunInput) (script out : List ℕ) (gates : Stops) (before between after : Option Files) (taken taken_after : Option (List ℕ))
+    → ForSome before (λ files. input_in files script ≡ Ok input) → IsScript input.script → between ≡ before → (outcome : Outcome)
+    → HasPlayed input out gates outcome between after taken taken_after → Finished script out gates before after taken taken_after
+Finished-played laws input script out gates before between after taken taken_after read valid same outcome played = record {
   input = input;
   read = read;
   session = played.session;
-  outcome = played.outcome;
+  outcome = outcome;
   is = played.is;
-  exact = λ none. laws.exact played.session input.capture input.script.body played.outcome
+  exact = λ none. laws.exact played.session input.capture input.script.body outcome
       (record { client_stops = gates.clients; reader_stops = gates.readers; clients = none.clients; readers = none.readers; run = played.is.run });
-  own = λ none. laws.own input.script input.sounds played.session input.capture played.outcome valid played.is.session_is
+  own = λ none. laws.own input.script input.sounds played.session input.capture outcome valid played.is.session_is
       (record { client_stops = gates.clients; reader_stops = gates.readers; clients = none.clients; readers = none.readers; run = played.is.run });
   files = played.files ∙ ap (option_map _) same;
   text = played.text;
@@ -52,14 +54,27 @@ module _ (laws : RunLaws) (input : RunInput) (script out : List ℕ) (gates : St
   left-part (inl untouched) = inl (record { files = untouched.files ∙ same; text = untouched.text })
   left-part (inr stopped) = inr (record { input = input; read = read; stopped = subst (λ (b : Option Files). HasStopped input out b after taken taken_after) same stopped })
 
-  -- what a run leaves that was read
-  pub Leaves-played : (r : Result (Unit {0}) Stop) → IfErr r IsWriteStop → OnOk r (HasPlayed input out gates between after taken taken_after)
-      → OnErr r (HasPlayedPart input out between after taken taken_after) → Leaves r (Some (run script out)) gates before after taken taken_after
-  Leaves-played (Ok x) only done part = Finished-played laws input script out gates before between after taken taken_after read valid same done
-  Leaves-played (Err Words) only done part = absurd only
-  Leaves-played (Err (Script error)) only done part = absurd only
-  Leaves-played (Err (Conf error)) only done part = absurd only
-  Leaves-played (Err (Wav name why)) only done part = absurd only
-  Leaves-played (Err (Read name)) only done part = absurd only
-  Leaves-played (Err Write) only done part = left-part part
-  Leaves-played (Err Memory) only done part = left-part part
+  -- what a run leaves that was read and stopped
+  pub Leaves-stopped : (stop : Stop) → IsWriteStop stop → HasPlayedPart input out between after taken taken_after
+      → Leaves {X = Unit {0}} (Err stop) (Some (run script out)) gates before after taken taken_after
+  Leaves-stopped Words only part = absurd only
+  Leaves-stopped (Script error) only part = absurd only
+  Leaves-stopped (Conf error) only part = absurd only
+  Leaves-stopped (Wav name why) only part = absurd only
+  Leaves-stopped (Read name) only part = absurd only
+  Leaves-stopped Write only part = left-part part
+  Leaves-stopped Memory only part = left-part part
+
+-- what a call leaves that makes a workload
+pub Leaves-made : (w : Workload) (gates : Stops) (before after : Option Files) (taken taken_after : Option (List ℕ)) (r : Result (Unit {0}) Stop) → IfErr r IsWriteStop
+    → OnOk r (IsMade w gates before after taken taken_after)
+    → OnErr r (IsUntouched before after taken taken_after ⊎ IsMadePart w gates before after taken taken_after)
+    → Leaves r (Some (make w)) gates before after taken taken_after
+Leaves-made w gates before after taken taken_after (Ok x) only done part = done
+Leaves-made w gates before after taken taken_after (Err Words) only done part = absurd only
+Leaves-made w gates before after taken taken_after (Err (Script error)) only done part = absurd only
+Leaves-made w gates before after taken taken_after (Err (Conf error)) only done part = absurd only
+Leaves-made w gates before after taken taken_after (Err (Wav name why)) only done part = absurd only
+Leaves-made w gates before after taken taken_after (Err (Read name)) only done part = absurd only
+Leaves-made w gates before after taken taken_after (Err Write) only done part = part
+Leaves-made w gates before after taken taken_after (Err Memory) only done part = part

@@ -19,7 +19,7 @@ use Rattle.lab_stop.specs.declared.stop.Stop.{Stop}
 use Rattle.lab_stop.specs.declared.stop.Stop.TheVariants.{Words, Script, Conf, Wav, Read, Write, Memory}
 use Rattle.lab_stop.specs.Stops.{status_of}
 use Rattle.wav_io.specs.Sound.{Sound}
-use Rattle.dmixlab.specs.Words.{Form, run, refine, conf, help, version}
+use Rattle.dmixlab.specs.Words.{Form, run, refine, conf, make, help, version}
 use Rattle.dmixlab.specs.Run.{Finished, IsOnlyRun, IsOnlyRunOf}
 use Rattle.dmixlab.specs.Top.{Leaves, OnlyIn}
 
@@ -54,6 +54,7 @@ DoneIn-only one (Ok x) None gates before after taken taken_after done zero = abs
 DoneIn-only one (Ok x) (Some (run script out)) gates before after taken taken_after done zero = Finished-only one script out gates before after taken taken_after done
 DoneIn-only one (Ok x) (Some (refine text)) gates before after taken taken_after done zero = tt
 DoneIn-only one (Ok x) (Some (conf file name)) gates before after taken taken_after done zero = Described-only file name before after taken taken_after done
+DoneIn-only one (Ok x) (Some (make workload)) gates before after taken taken_after done zero = done.only
 DoneIn-only one (Ok x) (Some help) gates before after taken taken_after done zero = tt
 DoneIn-only one (Ok x) (Some version) gates before after taken taken_after done zero = tt
 DoneIn-only one (Err Words) form gates before after taken taken_after done zero = absurd (omega (arith, zero))

@@ -1,11 +1,11 @@
 -- What the command `run` leaves.
 use Rattle.std.specs.Prelude.{◌≡◌, ◌++◌, ℕ, List, Option, Some, Ok}
 use Rattle.std.specs.Option.{ForSome, option_map}
-use Rattle.lab_headline.specs.Exact.{IsExactRun, IsOwnRun, IsUnstopped}
+use Rattle.lab_headline.specs.Exact.{IsExactRun, IsOwnRun}
 use Rattle.lab_input.specs.Input.{RunInput, input_in}
 use Rattle.lab_output.specs.Files.{output_files, stored}
 use Rattle.lab_phase.specs.PhaseRuns.{Stops}
-use Rattle.lab_play.specs.Played.{IsRunOf, sounds_of}
+use Rattle.lab_play.specs.Played.{HaveNoStops, IsRunOf, sounds_of}
 use Rattle.lab_play.specs.Playing.{HasStopped}
 use Rattle.lab_report.specs.Text.{report_text}
 use Rattle.lab_run.specs.LabRun.{Outcome, lab_text}
@@ -13,11 +13,6 @@ use Rattle.lab_run.specs.Openings.{IsSessionOf}
 use Rattle.lab_run.specs.Phases.{AreUnmixed}
 use Rattle.lab_run.specs.Stage.{Session}
 use Rattle.lab_shelf.specs.Files.{Files}
-
--- no gate stopped an actor
-pub record HaveNoStops (stops : Stops) : Type 0 where
-  pub clients : IsUnstopped stops.clients
-  pub readers : IsUnstopped stops.readers
 
 -- A run is done. Its script and all WAV files that it names are what the files held. There are a report and samples that are of a run of them, in which
 -- each gate stopped its actor at most so often (`IsRunOf`). OUT.wav is the WAV file of what the card played, and OUT.NAME.wav that of what each reader

@@ -6,7 +6,7 @@ use Rattle.asound_conf.specs.declared.plugin.Device.{Device}
 use Rattle.lab_conf.specs.Described.{Described, DescribedPart, IsOnlyDevice, device_in}
 use Rattle.lab_input.specs.Input.{input_in}
 use Rattle.lab_phase.specs.PhaseRuns.{Stops}
-use Rattle.lab_play.specs.Played.{IsUntouched}
+use Rattle.lab_play.specs.Played.{HaveNoStops, IsUntouched}
 use Rattle.lab_refine.specs.Answered.{Answered, AnsweredPart, request_in}
 use Rattle.lab_script.specs.declared.error.ScriptError.{ScriptError}
 use Rattle.lab_shelf.specs.Files.{Files, TookPart}
@@ -14,7 +14,8 @@ use Rattle.lab_stop.specs.Causes.{Cause, cause, missing, script_refused, conf_re
 use Rattle.lab_stop.specs.declared.stop.Stop.{Stop}
 use Rattle.lab_stop.specs.declared.stop.Stop.TheVariants as stops
 use Rattle.wav_io.specs.declared.error.WavError.{WavError}
-use Rattle.dmixlab.specs.Words.{Form, run, refine, conf, help, version, form_of, help_text, version_text}
+use Rattle.lab_workload.specs.Made.{IsMade, IsMadePart, IsOnlyMade}
+use Rattle.dmixlab.specs.Words.{Form, run, refine, conf, make, help, version, form_of, help_text, version_text}
 use Rattle.dmixlab.specs.Run.{Finished, IsOnlyRunOf, Unfinished}
 
 -- the first cause in the order of the work, form by form
@@ -23,6 +24,7 @@ cause_in None files = None
 cause_in (Some (run script out)) files = cause (input_in files script)
 cause_in (Some (refine text)) files = cause (request_in files text)
 cause_in (Some (conf file name)) files = cause (device_in files file name)
+cause_in (Some (make workload)) files = None
 cause_in (Some help) files = None
 cause_in (Some version) files = None
 
@@ -84,24 +86,27 @@ DoneIn None gates before after taken taken_after = ⊥
 DoneIn (Some (run script out)) gates before after taken taken_after = Finished script out gates before after taken taken_after
 DoneIn (Some (refine text)) gates before after taken taken_after = Answered text before after taken taken_after
 DoneIn (Some (conf file name)) gates before after taken taken_after = Described file name before after taken taken_after
+DoneIn (Some (make workload)) gates before after taken taken_after = IsMade workload gates before after taken taken_after
 DoneIn (Some help) gates before after taken taken_after = HasPut help_text before after taken taken_after
 DoneIn (Some version) gates before after taken taken_after = HasPut version_text before after taken taken_after
 
--- what a command leaves that ended in its output, form by form
-abbrev pub PartIn : Option Form → Option Files → Option Files → Option (List ℕ) → Option (List ℕ) → Type 0
-PartIn None before after taken taken_after = ⊥
-PartIn (Some (run script out)) before after taken taken_after = Unfinished script out before after taken taken_after
-PartIn (Some (refine text)) before after taken taken_after = AnsweredPart text before after taken taken_after
-PartIn (Some (conf file name)) before after taken taken_after = DescribedPart file name before after taken taken_after
-PartIn (Some help) before after taken taken_after = HasPutPart help_text before after taken taken_after
-PartIn (Some version) before after taken taken_after = HasPutPart version_text before after taken taken_after
+-- what a command leaves that ended in its output, form by form; the gates stopped actors so often
+abbrev pub PartIn : Option Form → Stops → Option Files → Option Files → Option (List ℕ) → Option (List ℕ) → Type 0
+PartIn None gates before after taken taken_after = ⊥
+PartIn (Some (run script out)) gates before after taken taken_after = Unfinished script out before after taken taken_after
+PartIn (Some (refine text)) gates before after taken taken_after = AnsweredPart text before after taken taken_after
+PartIn (Some (conf file name)) gates before after taken taken_after = DescribedPart file name before after taken taken_after
+PartIn (Some (make workload)) gates before after taken taken_after = IsMadePart workload gates before after taken taken_after
+PartIn (Some help) gates before after taken taken_after = HasPutPart help_text before after taken taken_after
+PartIn (Some version) gates before after taken taken_after = HasPutPart version_text before after taken taken_after
 
 -- what a command leaves that is done is the only thing that it can leave: a run of a script without mixed phases, whose gates stopped nobody, has one
--- report and one list of samples for each file, and a configuration has one device of a name
+-- report and one list of samples for each file, so also a run of a workload, and a configuration has one device of a name
 abbrev pub OnlyIn : Option Form → Stops → Option Files → Option Files → Option (List ℕ) → Option (List ℕ) → Type 0
 OnlyIn (Some (run script out)) gates before after taken taken_after = IsOnlyRunOf script out gates before after taken taken_after
 OnlyIn (Some (conf file name)) gates before after taken taken_after =
     ForSome before (λ files. (device : Device) → device_in files file name ≡ Ok device → IsOnlyDevice after files taken taken_after device)
+OnlyIn (Some (make workload)) gates before after taken taken_after = HaveNoStops gates → IsOnlyMade workload before after taken taken_after
 OnlyIn other gates before after taken taken_after = ⊤
 
 -- what a call leaves with status 0
@@ -113,10 +118,10 @@ abbrev pub IsExact : List (List ℕ) → Stops → Option Files → Option Files
 IsExact words gates before after taken taken_after = OnlyIn (form_of words) gates before after taken taken_after
 
 -- what a call leaves with another status: nothing was written, or, with 5 or 6, it ended in its output
-abbrev pub IsLeft : ℕ → List (List ℕ) → Option Files → Option Files → Option (List ℕ) → Option (List ℕ) → Type 0
-IsLeft result words before after taken taken_after =
+abbrev pub IsLeft : ℕ → List (List ℕ) → Stops → Option Files → Option Files → Option (List ℕ) → Option (List ℕ) → Type 0
+IsLeft result words gates before after taken taken_after =
     IsUntouched before after taken taken_after
-    ⊎ (((result ≡ 5) ⊎ (result ≡ 6)) × PartIn (form_of words) before after taken taken_after)
+    ⊎ (((result ≡ 5) ⊎ (result ≡ 6)) × PartIn (form_of words) gates before after taken taken_after)
 
 -- what a command leaves, by how it ended
 abbrev pub Leaves : {X : Type 0} → Result X Stop → Option Form → Stops → Option Files → Option Files → Option (List ℕ) → Option (List ℕ) → Type 0
@@ -126,5 +131,5 @@ Leaves (Err (stops.Script error)) form gates before after taken taken_after = Is
 Leaves (Err (stops.Conf error)) form gates before after taken taken_after = IsUntouched before after taken taken_after
 Leaves (Err (stops.Wav name why)) form gates before after taken taken_after = IsUntouched before after taken taken_after
 Leaves (Err (stops.Read name)) form gates before after taken taken_after = IsUntouched before after taken taken_after
-Leaves (Err stops.Write) form gates before after taken taken_after = IsUntouched before after taken taken_after ⊎ PartIn form before after taken taken_after
-Leaves (Err stops.Memory) form gates before after taken taken_after = IsUntouched before after taken taken_after ⊎ PartIn form before after taken taken_after
+Leaves (Err stops.Write) form gates before after taken taken_after = IsUntouched before after taken taken_after ⊎ PartIn form gates before after taken taken_after
+Leaves (Err stops.Memory) form gates before after taken taken_after = IsUntouched before after taken taken_after ⊎ PartIn form gates before after taken taken_after

@@ -1,17 +1,21 @@
 -- The words of a call, and which forms of them are listed.
-use Rattle.std.specs.Prelude.{ℕ, ◌==◌, ◌&&◌, not, nat_lt, nat_le, if◌then◌else◌, Bool, List, [], ◌∷◌, ◌++◌, length, map, codes, Option, Some, None}
+use Rattle.std.specs.Prelude.{ℕ, ◌==◌, ◌&&◌, not, nat_lt, nat_le, if◌then◌else◌, Bool, List, [], ◌∷◌, ◌++◌, length, map, codes, Option, Some, None, Result, Ok, Err, ⊤}
 use Rattle.std.specs.List.{list_all, list_any}
 use Rattle.std.specs.Str.{bytes_eq, is_utf8}
 use Rattle.std.specs.Global.{Vec}
+use Rattle.lab_make.specs.declared.workload.Workload.{Workload}
+use Rattle.lab_make.specs.declared.workload.WorkloadError.{WorkloadError}
+use Rattle.lab_make.specs.Workload.{IsWorkload, workload_of}
 use Rattle.dmixlab.specs.declared.words.Command.{Command}
 use Rattle.dmixlab.specs.declared.words.Command.TheVariants as commands
 
 -- what the words ask for: a run of a script with the output's name, answers to a text on a parameter space, the device of a
--- name in a configuration, the help text, or the version
+-- name in a configuration, a run of a workload that is made, the help text, or the version
 pub data Form : Type 0 where
   run : List ℕ → List ℕ → Form
   refine : List ℕ → Form
   conf : List ℕ → List ℕ → Form
+  make : Workload → Form
   help : Form
   version : Form
 
@@ -44,6 +48,14 @@ names_device word = nat_lt 0 (length word) && nat_le (length word) 64 && list_al
 abbrev pub conf_of : List ℕ → List ℕ → Option Form
 conf_of file name = if names_file file && names_device name then Some (conf file name) else None
 
+-- the form of `make SEED CLIENTS PHASES`, whose three words give a workload
+abbrev pub made_of : Result Workload WorkloadError → Option Form
+made_of (Ok workload) = Some (make workload)
+made_of (Err why) = None
+
+abbrev pub make_of : List ℕ → List ℕ → List ℕ → Option Form
+make_of seed clients phases = made_of (workload_of seed clients phases)
+
 -- the form of a single word
 abbrev pub single_of : List ℕ → Option Form
 single_of word = if bytes_eq word (codes "--help") then Some help
@@ -57,7 +69,9 @@ form_of (word ∷ text ∷ []) = if bytes_eq word (codes "refine") then refine_o
 form_of (word ∷ second ∷ third ∷ []) =
     if bytes_eq word (codes "run") then run_of second third
     else (if bytes_eq word (codes "conf") then conf_of second third else None)
-form_of (word ∷ script ∷ out ∷ more ∷ rest) = None
+form_of (word ∷ seed ∷ clients ∷ phases ∷ []) =
+    if bytes_eq word (codes "make") then make_of seed clients phases else None
+form_of (word ∷ second ∷ third ∷ fourth ∷ more ∷ rest) = None
 
 -- the form that a command has
 abbrev pub form_seen : Option Command → Option Form
@@ -65,8 +79,18 @@ form_seen None = None
 form_seen (Some (commands.Run script out)) = Some (run script.now out.now)
 form_seen (Some (commands.Refine text)) = Some (refine text.now)
 form_seen (Some (commands.Conf file name)) = Some (conf file.now name.now)
+form_seen (Some (commands.Make workload)) = Some (make workload)
 form_seen (Some commands.Help) = Some help
 form_seen (Some commands.Version) = Some version
+
+-- a workload that is to be made is within the limits of workloads
+abbrev pub IsWithinLimits : Command → Type 0
+IsWithinLimits (commands.Run script out) = ⊤
+IsWithinLimits (commands.Refine text) = ⊤
+IsWithinLimits (commands.Conf file name) = ⊤
+IsWithinLimits (commands.Make workload) = IsWorkload workload
+IsWithinLimits commands.Help = ⊤
+IsWithinLimits commands.Version = ⊤
 
 -- lines of text, each with its line feed
 abbrev pub lines_of : List (List ℕ) → List ℕ
@@ -82,6 +106,7 @@ unfoldable pub help_text : List ℕ
 help_text = lines_of (codes "usage: dmixlab run SCRIPT OUT"
     ∷ codes "       dmixlab refine TEXT"
     ∷ codes "       dmixlab conf FILE NAME"
+    ∷ codes "       dmixlab make SEED CLIENTS PHASES"
     ∷ codes "       dmixlab --help"
     ∷ codes "       dmixlab --version"
     ∷ []
@@ -97,6 +122,11 @@ help_text = lines_of (codes "usage: dmixlab run SCRIPT OUT"
     ∷ []
     ∷ codes "conf reads FILE, which is written as asound.conf is, and prints the type of its"
     ∷ codes "device pcm.NAME, the device's card as a script's card line, and its bindings."
+    ∷ []
+    ∷ codes "make stores WAV files of pseudorandom samples for CLIENTS clients, a script in"
+    ∷ codes "which they write in PHASES turns, what the card plays of it (made.wav) and its"
+    ∷ codes "report (made.report), and prints a summary. SEED is below 2^64, CLIENTS 1 to 64,"
+    ∷ codes "PHASES 1 to 1000."
     ∷ []
     ∷ codes "Files are named from the folder in which the program runs. Pipes can't be read."
     ∷ []

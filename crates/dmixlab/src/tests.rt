@@ -8,11 +8,13 @@ mod changed;
 mod checker;
 mod dying;
 mod mixed;
+mod plugs;
 mod readers;
 mod refusals;
 mod runs;
 mod sessions;
 mod stretches;
+mod workloads;
 
 use crate::top::dmixlab;
 use lab_shelf::{MemoryShelf, MemorySink};
@@ -380,17 +382,23 @@ fn runs_leave_their_report_and_files(rt: HostRuntime) -> Result<(), Fail> {
 }
 
 #[test]
-fn help_and_version_are_put(rt: HostRuntime) -> Result<(), Fail> {
+fn commands_that_read_no_file_put_their_text(rt: HostRuntime) -> Result<(), Fail> {
     let alloc = rt.alloc();
-    for (word, first, last) in [
+    let table: [(&[&str], &str, &str); 3] = [
         (
-            "--help",
+            &["--help"],
             "usage: dmixlab run SCRIPT OUT\n",
             "which man -l docs/dmixlab.1 shows.\n",
         ),
-        ("--version", "dmixlab 0.1.0\n", "dmixlab 0.1.0\n"),
-    ] {
-        let left = call(&rt, alloc, &[word], Vec::new(alloc), (&[], &[]))?;
+        (&["--version"], "dmixlab 0.1.0\n", "dmixlab 0.1.0\n"),
+        (
+            &["make", "07", "1", "1"],
+            "made 7 1 1\nplayed 64\nsegments 1\nlaid 130\n",
+            "xruns 0\nsum 0\n",
+        ),
+    ];
+    for (words, first, last) in table {
+        let left = call(&rt, alloc, words, Vec::new(alloc), (&[], &[]))?;
         assert_eq!(rt; left.status, 0);
         assert!(rt; left.out.bytes().starts_with(first.as_bytes()));
         assert!(rt; left.out.bytes().ends_with(last.as_bytes()));

@@ -8,7 +8,7 @@ ghost use Rattle.lab_stop.specs.Stops.{EndsOf, EndsReliably, InputFaults, Output
 ghost use Rattle.dmixlab.specs.Words.{form_of, texts};
 ghost use Rattle.dmixlab.specs.Top.{cause_in, ComesExactly, EndsWell, Headline, IsExact, IsLeft, IsMissing, IsTextRefused, IsValid, IsWavRefused, Leaves};
 
-use crate::commands::{conf_command, refine_command, run_command};
+use crate::commands::{conf_command, make_command, refine_command, run_command};
 use crate::words::{Command, help, read_command, version};
 use lab_headline::scripts_have_one_session;
 use lab_shelf::{Shelf, Sink};
@@ -30,11 +30,17 @@ use std::thread::Threads;
 /// - `conf FILE NAME` reads in the file FILE the device `pcm.NAME` as `asound_conf` does, and puts on
 ///   `out` the lines `type KIND`, `card channels C rate R period P ring N` and, where the device has
 ///   bindings, `bindings` with its card channels. The card's line by itself is a script.
+/// - `make SEED CLIENTS PHASES` makes a workload and runs it: a WAV file `made-K.wav` for each client K
+///   of CLIENTS, from 0, with samples of the pseudorandom generator of SEED; and the script
+///   `made.script`, in which in each of PHASES turns every client writes and then the card plays one
+///   period. It stores these, runs the script as `run made.script made` does, but from what it holds
+///   in place of fetching it, stores the report as `made.report`, and puts a summary of the run on `out`.
 /// - `--help` and `--version`, each alone, put their text on `out`.
 ///
 /// A word for a file is 1 to 4,096 bytes of UTF-8 without a zero byte; NAME is 1 to 64 visible ASCII
-/// characters. The status is 0 where all was done, and then `errors` takes nothing. Otherwise one line
-/// on `errors` says why it is not, and a fault there changes nothing:
+/// characters; SEED, CLIENTS and PHASES are decimal numbers of 1 to 20 digits, below 2^64, from 1 to 64
+/// and from 1 to 1,000. The status is 0 where all was done, and then `errors` takes nothing. Otherwise
+/// one line on `errors` says why it is not, and a fault there changes nothing:
 ///
 /// - 1: the words are none of these;
 /// - 2: the script has more than 1,048,576 bytes, or isn't a script as `lab_script::read_script`
@@ -62,8 +68,10 @@ use std::thread::Threads;
 /// captured frames that the report says the reader read. With 1 to 4 no file changed and `out` took
 /// nothing. With 5 and 6 each of these files is as it was or holds the first bytes of what it was to hold
 /// by then, or all with some bytes of the head still open; no other file changed, and `out` took the
-/// first bytes of the report. `refine` and `conf` change no file: with status 0 `out` took all their
-/// lines, put with one call, with 5 and 6 the first bytes of them or nothing.
+/// first bytes of the report. `make` stores the clients' files, the script, `made.wav` and `made.report`
+/// in this order, and then puts the summary with one call: with status 0 all of them, with 5 and 6 the
+/// first of these, and of one of them maybe a part. `refine` and `conf` change no file: with status 0
+/// `out` took all their lines, put with one call, with 5 and 6 the first bytes of them or nothing.
 ///
 /// In a phase the card and all actors run at once, each in a thread of its own where one can be made.
 /// `gates` are at least 128: the first 64 are the clients', by the numbers of their lines, and the ones
@@ -119,6 +127,7 @@ pub fn dmixlab<R: Threads + Sync, S: Shelf, K: Sink, E: Sink, G: Gate + Send>(
 
     // What is left after another status.
     ensures rest { result ≢ 0 → IsLeft result (texts words.now)
+        (rises (stops_by G.stops gates.old) (stops_by G.stops gates.new))
         (S.files shelf.old) (S.files shelf.new) (K.taken out.old) (K.taken out.new) }
 
     // `errors` takes nothing where all was done.
@@ -160,6 +169,7 @@ fn command<R: Threads + Sync, S: Shelf, K: Sink, G: Gate + Send>(
         }
         Some(Command::Refine { text }) => refine_command(alloc, shelf, out, text),
         Some(Command::Conf { file, name }) => conf_command(alloc, shelf, out, file, name),
+        Some(Command::Make(workload)) => { make_command(rt, alloc, shelf, out, gates, &workload) }
         Some(Command::Help) => put(out, help()),
         Some(Command::Version) => put(out, version()),
         None => Err(Stop::Words),

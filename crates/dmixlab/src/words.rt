@@ -1,9 +1,10 @@
 //! The words of a call: which commands there are, and their texts.
-ghost use Rattle.std.specs.Prelude.{◌≡◌, ◌==◌};
+ghost use Rattle.std.specs.Prelude.{◌≡◌, ◌==◌, IfSome};
 ghost use Rattle.std.specs.List.{list_all, list_any};
 ghost use Rattle.std.specs.Str.{is_utf8};
-ghost use Rattle.dmixlab.specs.Words.{conf_of, form_of, form_seen, help_text, is_visible, names_device, names_file, refine_of, run_of, single_of, texts, version_text};
+ghost use Rattle.dmixlab.specs.Words.{IsWithinLimits, conf_of, form_of, form_seen, help_text, is_visible, make_of, names_device, names_file, refine_of, run_of, single_of, texts, version_text};
 
+use lab_make::{Workload, read_workload};
 use std::str;
 
 /// The most bytes that a word for a file has.
@@ -21,6 +22,8 @@ pub(crate) enum Command<'a> {
     Refine { text: &'a [u8] },
     /// The device of a name in the configuration in a file.
     Conf { file: &'a [u8], name: &'a [u8] },
+    /// A run of a workload that is made.
+    Make(Workload),
     /// The help text.
     Help,
     /// The program's version.
@@ -29,7 +32,8 @@ pub(crate) enum Command<'a> {
 
 /// The command that the words are, or `None` where they are no listed form.
 pub(crate) fn read_command(words: &[Vec<u8>]) -> Option<Command<'_>>
-    ensures { form_seen result ≡ form_of (texts words.now) }
+    ensures form { form_seen result ≡ form_of (texts words.now) }
+    ensures limits { IfSome result IsWithinLimits }
 {
     match words {
         [word] => read_single(word.as_slice()),
@@ -40,13 +44,17 @@ pub(crate) fn read_command(words: &[Vec<u8>]) -> Option<Command<'_>>
         [word, file, name] if word.as_slice() == b"conf".as_slice() => {
             read_conf(file.as_slice(), name.as_slice())
         }
+        [word, seed, clients, phases] if word.as_slice() == b"make".as_slice() => {
+            read_make(seed.as_slice(), clients.as_slice(), phases.as_slice())
+        }
         _ => None,
     }
 }
 
 /// The command of one word.
 fn read_single(word: &[u8]) -> Option<Command<'_>>
-    ensures { form_seen result ≡ single_of word.now }
+    ensures form { form_seen result ≡ single_of word.now }
+    ensures limits { IfSome result IsWithinLimits }
 {
     if word == b"--help".as_slice() {
         Some(Command::Help)
@@ -59,7 +67,8 @@ fn read_single(word: &[u8]) -> Option<Command<'_>>
 
 /// The run of a script's file, with the output's name.
 fn read_run<'a>(script: &'a [u8], out: &'a [u8]) -> Option<Command<'a>>
-    ensures { form_seen result ≡ run_of script.now out.now }
+    ensures form { form_seen result ≡ run_of script.now out.now }
+    ensures limits { IfSome result IsWithinLimits }
 {
     if is_file_name(script) && is_file_name(out) {
         Some(Command::Run { script, out })
@@ -70,7 +79,8 @@ fn read_run<'a>(script: &'a [u8], out: &'a [u8]) -> Option<Command<'a>>
 
 /// The answers to the text in a file.
 fn read_refine(text: &[u8]) -> Option<Command<'_>>
-    ensures { form_seen result ≡ refine_of text.now }
+    ensures form { form_seen result ≡ refine_of text.now }
+    ensures limits { IfSome result IsWithinLimits }
 {
     if is_file_name(text) {
         Some(Command::Refine { text })
@@ -81,12 +91,24 @@ fn read_refine(text: &[u8]) -> Option<Command<'_>>
 
 /// The device of a name in a file.
 fn read_conf<'a>(file: &'a [u8], name: &'a [u8]) -> Option<Command<'a>>
-    ensures { form_seen result ≡ conf_of file.now name.now }
+    ensures form { form_seen result ≡ conf_of file.now name.now }
+    ensures limits { IfSome result IsWithinLimits }
 {
     if is_file_name(file) && is_device_name(name) {
         Some(Command::Conf { file, name })
     } else {
         None
+    }
+}
+
+/// The run of the workload of three words.
+fn read_make<'a>(seed: &[u8], clients: &[u8], phases: &[u8]) -> Option<Command<'a>>
+    ensures form { form_seen result ≡ make_of seed.now clients.now phases.now }
+    ensures limits { IfSome result IsWithinLimits }
+{
+    match read_workload(seed, clients, phases) {
+        Ok(workload) => Some(Command::Make(workload)),
+        Err(_) => None,
     }
 }
 
@@ -129,6 +151,7 @@ fn is_visible(word: &[u8]) -> bool
 const HELP: &[u8] = b"usage: dmixlab run SCRIPT OUT
        dmixlab refine TEXT
        dmixlab conf FILE NAME
+       dmixlab make SEED CLIENTS PHASES
        dmixlab --help
        dmixlab --version
 
@@ -144,6 +167,11 @@ lines of TEXT ask, and prints what is left of them.
 
 conf reads FILE, which is written as asound.conf is, and prints the type of its
 device pcm.NAME, the device's card as a script's card line, and its bindings.
+
+make stores WAV files of pseudorandom samples for CLIENTS clients, a script in
+which they write in PHASES turns, what the card plays of it (made.wav) and its
+report (made.report), and prints a summary. SEED is below 2^64, CLIENTS 1 to 64,
+PHASES 1 to 1000.
 
 Files are named from the folder in which the program runs. Pipes can't be read.
 

@@ -39,7 +39,8 @@ use Rattle.lab_play.proofs.ItemsStopped.{HasStopped-at, HasStopped-with, TookPar
 abbrev pub RunFacts : Type 0
 RunFacts =
     (script : Script) (wavs : List Sound) (session : Session) (capture : Option Sound) (client_stops reader_stops : ℕ → ℕ) (outcome : Outcome)
-    → IsSessionOf script wavs session → LabRun session capture script.body client_stops reader_stops outcome → Headline script wavs session capture outcome
+    → IsScript script → IsSessionOf script wavs session → LabRun session capture script.body client_stops reader_stops outcome
+    → Headline script wavs session capture outcome
 
 -- ---- the text
 
@@ -94,11 +95,13 @@ module _ (start : Start) (stops : Stops) (lab : Lab) (outputs : Outputs) (files 
       (AreWithin-counted start.stops.clients stops.clients 0 is.stage.clients counted.clients)
       (AreWithin-counted start.stops.readers stops.readers 0 is.stage.readers counted.readers)))
 
+  valid-at_end : IsScript start.input.script
+  valid-at_end = subst IsScript is.lab_is.script_is.script_is is.lab_is.stage_is.has_done.reached.script_is
+
   pub report-at_end : OutcomesAreOfScripts → IsReportOf start.input.script outcome.report
   report-at_end laws =
       let own = is.lab_is.script_is in
-      let valid : IsScript start.input.script = subst IsScript own.script_is is.lab_is.stage_is.has_done.reached.script_is in
-      (laws start.input.script start.input.sounds (session_of lab) start.input.capture (rises start.stops stops).clients (rises start.stops stops).readers (outcome_in outcome) valid
+      (laws start.input.script start.input.sounds (session_of lab) start.input.capture (rises start.stops stops).clients (rises start.stops stops).readers (outcome_in outcome) valid-at_end
       own.session_is run-at_end).report
 
   pub rows-few : outputs.rows ≤ length outcome.report.rows
@@ -111,15 +114,14 @@ module _ (start : Start) (stops : Stops) (lab : Lab) (outputs : Outputs) (files 
   -- all is written
   pub HasPlayed-end : (facts : RunFacts) (files_after : Option Files) (taken_after : Option (List ℕ)) → files_after ≡ option_map (stored outputs.files.items (sounds_at lab is.stage)) start.files
       → taken_after ≡ option_map (λ t. t ++ tail_from start.input.script outputs.rows outcome.report) taken
-      → HasPlayed start.input start.out (rises start.stops stops) start.files files_after start.taken taken_after
+      → HasPlayed start.input start.out (rises start.stops stops) (outcome_in outcome) start.files files_after start.taken taken_after
   HasPlayed-end facts files_after taken_after files_are text = record {
     session = session_of lab;
-    outcome = outcome_in outcome;
     is = record {
       session_is = is.lab_is.script_is.session_is;
       run = run-at_end;
       headline = facts start.input.script start.input.sounds (session_of lab) start.input.capture (rises start.stops stops).clients (rises start.stops stops).readers (outcome_in outcome)
-          is.lab_is.script_is.session_is run-at_end;
+          valid-at_end is.lab_is.script_is.session_is run-at_end;
     };
     files = files_are
         ∙ (ap (λ (outs : List OutputFile). option_map (stored outs (sounds_at lab is.stage)) start.files) is.written.files_are

@@ -1,6 +1,7 @@
 -- The beginning of a run, and its end.
 use Rattle.std.specs.Prelude.{◌≡◌, ℕ, List, [], Option, IsSome}
 use Rattle.lab_script.specs.declared.script.Script.{Script}
+use Rattle.lab_run.specs.LabRun.{Outcome}
 use Rattle.lab_run.specs.Stage.{first_stage}
 use Rattle.lab_input.specs.Input.{RunInput}
 use Rattle.lab_phase.specs.declared.lab.Lab.{Lab}
@@ -34,10 +35,10 @@ pub record CanEnd (script : Script) (at : Scene) : Type 0 where
   pub script_is : start.input.script ≡ script
   pub is : IsPlaying start stops at
 
--- a run of which all items are done is done with this
-abbrev pub EndsWith : Scene → Option Files → Option (List ℕ) → Type 0
-EndsWith before files taken =
-    (start : Start) (stops : Stops) → IsPlaying start stops before → HasPlayed start.input start.out (rises start.stops stops) start.files files start.taken taken
+-- a run of which all items are done is done with this outcome
+abbrev pub EndsWith : Scene → Outcome → Option Files → Option (List ℕ) → Type 0
+EndsWith before outcome files taken =
+    (start : Start) (stops : Stops) → IsPlaying start stops before → HasPlayed start.input start.out (rises start.stops stops) outcome start.files files start.taken taken
 
 abbrev pub StopsAtEnd : Scene → Option Files → Option (List ℕ) → Type 0
 StopsAtEnd before files taken = (start : Start) (stops : Stops) → IsPlaying start stops before → IsStopped start files taken

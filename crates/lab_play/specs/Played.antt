@@ -1,10 +1,11 @@
--- What a run of a script leaves that is done.
+-- What a run of a script leaves that is done, and how often its gates stopped actors.
 use Rattle.std.specs.Prelude.{◌≡◌, ◌⊎◌, ℕ, ◌-◌, ℤ, List, ◌∷◌, ◌++◌, Option}
 use Rattle.std.specs.Option.{option_map}
 use Rattle.lab_report.specs.Text.{report_text}
 use Rattle.lab_run.specs.LabRun.{LabRun, Outcome}
 use Rattle.lab_run.specs.Openings.{IsSessionOf}
 use Rattle.lab_run.specs.Stage.{Session}
+use Rattle.lab_headline.specs.Exact.{IsUnstopped}
 use Rattle.lab_headline.specs.Headline.{Headline}
 use Rattle.lab_input.specs.Input.{RunInput}
 use Rattle.lab_phase.specs.PhaseRuns.{Stops}
@@ -19,6 +20,11 @@ rises before after = record {
   readers = λ n. after.readers n - before.readers n;
 }
 
+-- no gate stopped an actor
+pub record HaveNoStops (stops : Stops) : Type 0 where
+  pub clients : IsUnstopped stops.clients
+  pub readers : IsUnstopped stops.readers
+
 -- the samples of each output: what the card played, and what each reader recorded
 abbrev pub sounds_of : Outcome → List (List ℤ)
 sounds_of outcome = outcome.played ∷ outcome.recorded
@@ -31,10 +37,9 @@ pub record IsRunOf (input : RunInput) (session : Session) (stops : Stops) (outco
   pub run : LabRun session input.capture input.script.body stops.clients stops.readers outcome
   pub headline : Headline input.script input.sounds session input.capture outcome
 
--- a run is done: each of its files is the canonical WAV file of its samples, no other file changed, and the report's text was put
-pub record HasPlayed (input : RunInput) (out : List ℕ) (stops : Stops) (before after : Option Files) (taken taken_after : Option (List ℕ)) : Type 0 where
+-- a run is done with this outcome: each of its files is the canonical WAV file of its samples, no other file changed, and the report's text was put
+pub record HasPlayed (input : RunInput) (out : List ℕ) (stops : Stops) (outcome : Outcome) (before after : Option Files) (taken taken_after : Option (List ℕ)) : Type 0 where
   pub session : Session
-  pub outcome : Outcome
   pub is : IsRunOf input session stops outcome
   pub files : after ≡ option_map (stored (output_files input.script out) (sounds_of outcome)) before
   pub text : taken_after ≡ option_map (λ t. t ++ report_text input.script outcome.report) taken

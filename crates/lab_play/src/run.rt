@@ -11,6 +11,7 @@ ghost use Rattle.lab_shelf.specs.Files.{TookPart};
 ghost use Rattle.lab_stop.specs.Stops.{IsWriteStop};
 ghost use Rattle.lab_stop.specs.declared.stop.Stop.TheVariants as stops;
 ghost use Rattle.lab_phase.specs.AtStage.{items_done};
+ghost use Rattle.lab_phase.specs.Ended.{outcome_in};
 ghost use Rattle.lab_phase.specs.PhaseRuns.{stops_by};
 ghost use Rattle.lab_output.specs.Files.{MayHold, nothing};
 ghost use Rattle.lab_output.specs.Going.{AreOutputs, IsGoingOn};
@@ -24,7 +25,7 @@ use crate::items::do_items;
 use lab_headline::runs_keep_headline;
 use lab_input::Input;
 use lab_output::{Outputs, outputs_of};
-use lab_phase::Lab;
+use lab_phase::{Lab, Outcome};
 use lab_rows::outcomes_are_of_scripts;
 use lab_script::Script;
 use lab_setup::ring_of;
@@ -44,7 +45,8 @@ use sum_table::SumRing;
 /// At the end of each phase what was played and recorded in it is appended, and then its rows are put on `out`. At the end each file gets its
 /// true head, and then the rest of the report is put. `name` is OUT.
 ///
-/// It stops with `Write` where the shelf or `out` fails, which counts that, and with `Memory` only where no memory is left.
+/// It gives the report, what the card played and what each reader recorded, which are what was written. It stops with `Write` where the shelf or
+/// `out` fails, which counts that, and with `Memory` only where no memory is left.
 ///
 /// The caller has read the input (`lab_input::read_input`), and has 128 gates: the first 64 are the clients', by the numbers of their lines, and
 /// the ones after them the readers'.
@@ -56,14 +58,14 @@ pub fn play<R: Threads + Sync, S: Shelf, K: Sink, G: Gate + Send>(
     shelf: &mut S,
     out: &mut K,
     gates: &mut [G],
-) -> Result<(), Stop>
+) -> Result<Outcome, Stop>
     requires script { IsScript input.now.script }
     requires files { length input.now.wavs.items ≡ length input.now.script.clients }
     requires gates { 128 ≤ length gates.old }
 
     // The files and the report's text are those of a run of the script, in which each gate stopped its actor at most so often.
-    ensures done { OnOk result (HasPlayed (input_of input.now) name.now
-        (rises (stops_by G.stops gates.old) (stops_by G.stops gates.new))
+    ensures done { IfOk result (λ outcome. HasPlayed (input_of input.now) name.now
+        (rises (stops_by G.stops gates.old) (stops_by G.stops gates.new)) (outcome_in outcome)
         (S.files shelf.old) (S.files shelf.new) (K.taken out.old) (K.taken out.new)) }
 
     // Otherwise nothing was written, or what is written is of a run that reached a stage.
@@ -73,6 +75,8 @@ pub fn play<R: Threads + Sync, S: Shelf, K: Sink, G: Gate + Send>(
     ensures fetch_faults { S.fetch_faults shelf.new ≡ S.fetch_faults shelf.old }
     ensures faults { PlayFaults result (S.write_faults shelf.old) (S.write_faults shelf.new)
         (K.faults out.old) (K.faults out.new) }
+
+    ensures reliable { S.is_reliable shelf.old → S.is_reliable shelf.new }
 
     // Over a reliable shelf that tells its files, and a reliable output, nothing fails but for want of memory.
     ensures never { S.is_reliable shelf.old → K.is_reliable out.old → IsSome (S.files shelf.old)
@@ -137,11 +141,11 @@ fn play_all<R: Threads + Sync, S: Shelf, K: Sink, G: Gate + Send>(
     shelf: &mut S,
     out: &mut K,
     gates: &mut [G],
-) -> Result<(), Stop>
+) -> Result<Outcome, Stop>
     requires new { IsSomeNewRun script.now lab outputs }
     requires gates { 128 ≤ length gates.old }
-    ensures done { OnOk result ((input : RunInput) (name : List ℕ) → IsNewRun input name lab.entry outputs
-        → HasPlayed input name (rises (stops_by G.stops gates.old) (stops_by G.stops gates.new))
+    ensures done { IfOk result (λ outcome. (input : RunInput) (name : List ℕ) → IsNewRun input name lab.entry outputs
+        → HasPlayed input name (rises (stops_by G.stops gates.old) (stops_by G.stops gates.new)) (outcome_in outcome)
         (S.files shelf.old) (S.files shelf.new) (K.taken out.old) (K.taken out.new)) }
     ensures part { OnErr result ((input : RunInput) (name : List ℕ) → IsNewRun input name lab.entry outputs
         → HasStopped input name (S.files shelf.old) (S.files shelf.new) (K.taken out.old) (K.taken out.new)) }
@@ -149,6 +153,7 @@ fn play_all<R: Threads + Sync, S: Shelf, K: Sink, G: Gate + Send>(
     ensures fetch_faults { S.fetch_faults shelf.new ≡ S.fetch_faults shelf.old }
     ensures faults { PlayFaults result (S.write_faults shelf.old) (S.write_faults shelf.new)
         (K.faults out.old) (K.faults out.new) }
+    ensures reliable { S.is_reliable shelf.old → S.is_reliable shelf.new }
     ensures never { S.is_reliable shelf.old → K.is_reliable out.old → IsSome (S.files shelf.old)
         → result ≢ Err stops.Write }
 {
@@ -181,7 +186,7 @@ fn begin<S: Shelf, K: Sink>(outputs: &Outputs, shelf: &mut S, out: &mut K) -> Re
     outputs.put_head(out)
 }
 
-/// Ends the run: gives each file its true head, and puts the rest of the report.
+/// Ends the run: gives each file its true head, puts the rest of the report, and gives what the run leaves.
 fn end<S: Shelf, K: Sink>(
     alloc: Global,
     script: &Script,
@@ -189,10 +194,11 @@ fn end<S: Shelf, K: Sink>(
     outputs: &Outputs,
     shelf: &mut S,
     out: &mut K,
-) -> Result<(), Stop>
+) -> Result<Outcome, Stop>
     requires playing { CanEnd script.now (scene lab outputs.now (S.files shelf.old) (K.taken out.old)) }
     requires all { items_done lab ≡ length script.now.body }
-    ensures done { OnOk result (EndsWith (scene lab.entry outputs.now (S.files shelf.old) (K.taken out.old))
+    ensures done { IfOk result (λ outcome. EndsWith
+        (scene lab.entry outputs.now (S.files shelf.old) (K.taken out.old)) (outcome_in outcome)
         (S.files shelf.new) (K.taken out.new)) }
     ensures part { OnErr result (StopsAtEnd (scene lab.entry outputs.now (S.files shelf.old) (K.taken out.old))
         (S.files shelf.new) (K.taken out.new)) }
@@ -200,6 +206,7 @@ fn end<S: Shelf, K: Sink>(
     ensures fetch_faults { S.fetch_faults shelf.new ≡ S.fetch_faults shelf.old }
     ensures faults { PlayFaults result (S.write_faults shelf.old) (S.write_faults shelf.new)
         (K.faults out.old) (K.faults out.new) }
+    ensures reliable { S.is_reliable shelf.old → S.is_reliable shelf.new }
     ensures never { S.is_reliable shelf.old → K.is_reliable out.old
         → IsKnownAtEnd (scene lab.entry outputs.now (S.files shelf.old) (K.taken out.old)) → result ≢ Err stops.Write }
 {
@@ -210,5 +217,6 @@ fn end<S: Shelf, K: Sink>(
         Err(_) => return Err(Stop::Memory),
     };
     outputs.finish(shelf)?;
-    outputs.put_tail(out, alloc, script, &outcome.report)
+    outputs.put_tail(out, alloc, script, &outcome.report)?;
+    Ok(outcome)
 }

@@ -23,9 +23,9 @@ abbrev pub tested : {A : Type 0} → ScriptWhy → Bool → A → Result A Scrip
 tested cause test x = if test then Ok x else Err cause
 
 -- a value where there is one
-abbrev pub known : {A : Type 0} → ScriptWhy → Option A → Result A ScriptWhy
-known cause None = Err cause
-known cause (Some x) = Ok x
+abbrev pub found_or_refused : {A : Type 0} → ScriptWhy → Option A → Result A ScriptWhy
+found_or_refused cause None = Err cause
+found_or_refused cause (Some x) = Ok x
 
 -- a value seen by a view
 abbrev pub result_view : {A B : Type 0} → (A → B) → Result A ScriptWhy → Result B ScriptWhy
@@ -38,15 +38,15 @@ word_in [] = Err why.Missing
 word_in (word ∷ words) = Ok (word, words)
 
 -- the line's end, where no further word may follow
-abbrev pub ended : ScriptWhy → List (List ℕ) → Result (Unit {0}) ScriptWhy
-ended cause [] = Ok tt
-ended cause (word ∷ words) = Err cause
+abbrev pub end_of_line : ScriptWhy → List (List ℕ) → Result (Unit {0}) ScriptWhy
+end_of_line cause [] = Ok tt
+end_of_line cause (word ∷ words) = Err cause
 
 -- a number in its range, and the words after it
 unfoldable pub number_in : ℕ → ℕ → List (List ℕ) → Result (ℕ × List (List ℕ)) ScriptWhy
 number_in least most words = do
   word ← word_in words
-  n ← known why.Number (number_of word.0)
+  n ← found_or_refused why.Number (number_of word.0)
   tested why.Range (nat_le least n && nat_le n most) (n, word.1)
 
 -- the number after its key, and the words after both
@@ -60,7 +60,7 @@ keyed_in key least most words = do
 unfoldable pub param_in : List (List ℕ) → Result (Param × List (List ℕ)) ScriptWhy
 param_in words = do
   word ← word_in words
-  param ← known why.Word (param_of word.0)
+  param ← found_or_refused why.Word (param_of word.0)
   Ok (param, word.1)
 
 -- a parameter that is an interval, and the words after it
@@ -119,7 +119,7 @@ slave_of words = do
   rate ← keyed_in (codes "rate") 4000 192000 channels.1
   period ← keyed_in (codes "period") 16 18446744073709551615 rate.1
   ring ← keyed_in (codes "ring") 64 16384 period.1
-  end ← ended why.Extra ring.1
+  end ← end_of_line why.Extra ring.1
   slave_with channels.0 rate.0 period.0 ring.0
 
 -- a parameter and a value for it
@@ -127,7 +127,7 @@ unfoldable pub valued_in : List (List ℕ) → Result (Param × ℕ) ScriptWhy
 valued_in words = do
   param ← param_in words
   value ← number_in 0 (most_of param.0) param.1
-  end ← ended why.Extra value.1
+  end ← end_of_line why.Extra value.1
   Ok (param.0, value.0)
 
 -- a parameter that is an interval, and a value for it
@@ -135,21 +135,21 @@ unfoldable pub bounded_in : List (List ℕ) → Result (Param × ℕ) ScriptWhy
 bounded_in words = do
   param ← interval_in words
   value ← number_in 0 4294967295 param.1
-  end ← ended why.Extra value.1
+  end ← end_of_line why.Extra value.1
   Ok (param.0, value.0)
 
 -- a parameter, to the line's end
 unfoldable pub whole_param_in : List (List ℕ) → Result Param ScriptWhy
 whole_param_in words = do
   param ← param_in words
-  end ← ended why.Extra param.1
+  end ← end_of_line why.Extra param.1
   Ok param.0
 
 -- a parameter that is an interval, to the line's end
 unfoldable pub whole_interval_in : List (List ℕ) → Result Param ScriptWhy
 whole_interval_in words = do
   param ← interval_in words
-  end ← ended why.Extra param.1
+  end ← end_of_line why.Extra param.1
   Ok param.0
 
 -- what the words after a line's first word ask
@@ -173,14 +173,14 @@ asked_by verbs.Show words = do
   param ← whole_param_in words
   Ok (asks.Show param)
 asked_by verbs.Choose words = do
-  end ← ended why.Extra words
+  end ← end_of_line why.Extra words
   Ok asks.Choose
 
 -- what a line asks
 unfoldable pub ask_of : List (List ℕ) → Result Ask ScriptWhy
 ask_of words = do
   word ← word_in words
-  verb ← known (misplaced word.0) (verb_of word.0)
+  verb ← found_or_refused (misplaced word.0) (verb_of word.0)
   asked_by verb word.1
 
 -- what a line can ask: a mask is only set, to a number below 64, or shown

@@ -2,7 +2,7 @@
 ghost use Rattle.std.specs.Prelude.{◌≡◌, ◌≤◌, IfOk, false};
 ghost use Rattle.lab_script.specs.Lexing.{words_between};
 ghost use Rattle.lab_refine.specs.Params.{is_mask};
-ghost use Rattle.lab_refine.specs.Grammar.{ended, interval_in, keyed_in, number_in, param_in, result_view, word_in};
+ghost use Rattle.lab_refine.specs.Grammar.{end_of_line, interval_in, keyed_in, number_in, param_in, result_view, word_in};
 
 use crate::params::{is_mask, param_of};
 use hw_space::Param;
@@ -21,7 +21,7 @@ pub(crate) fn word(line: &[u8]) -> Result<(&[u8], &[u8]), ScriptWhy>
 
 /// The line's end. A word that follows instead has this cause.
 pub(crate) fn end(line: &[u8], why: ScriptWhy) -> Result<(), ScriptWhy>
-    ensures { result ≡ ended why (words_between line.now) }
+    ensures { result ≡ end_of_line why (words_between line.now) }
 {
     match next_word(line) {
         Some(_) => Err(why),

@@ -22,6 +22,3 @@ pub use reader::read_report;
 pub use report::{Report, Rows, Runs, Segments};
 pub use request::{Request, requests_of};
 pub use row::{Answer, Row};
-
-#[cfg(test)]
-mod tests;

@@ -27,6 +27,3 @@ pub use ops::{print_op, push_op};
 pub use reader::read_script;
 pub use script::{Body, CardLine, ClientLine, Clients, ReaderLine, Readers, Script, Share, Stop};
 pub use word::read_number;
-
-#[cfg(test)]
-mod tests;

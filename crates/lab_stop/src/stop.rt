@@ -1,5 +1,6 @@
 //! Why a command stops, the exit status that says so, and the line that it puts.
-ghost use Rattle.std.specs.Prelude.{◌≡◌};
+ghost use Rattle.std.specs.Prelude.{◌≡◌, ◌≤◌, List, ℕ};
+ghost use Rattle.lab_shelf.specs.Files.{TookPart};
 ghost use Rattle.lab_stop.specs.Stops.{IsConfStop, IsScriptStop, IsWavStop, status_of};
 
 use asound_conf::{ConfError, ConfWhy};
@@ -122,12 +123,26 @@ fn reason(alloc: Global, stop: &Stop) -> Result<String, AllocError> {
     }
 }
 
+/// Puts a line on a sink, as much of it as the sink takes.
+fn put_line<E: Sink>(errors: &mut E, line: &[u8])
+    ensures took { TookPart (E.taken errors.old) (E.taken errors.new) line.now }
+    ensures faults { E.faults errors.old ≤ E.faults errors.new }
+    ensures reliable { E.is_reliable errors.old → E.is_reliable errors.new }
+{
+    let _end = errors.put(line);
+}
+
 /// Puts the line that says why a command stopped on `errors`: `dmixlab: ` and then `words`,
 /// `script line L: WHY`, `conf line L: WHY`, `wav NAME: WHY`, `read NAME`, `write` or `memory`, where
 /// WHY is the variant's name, with its number where it has one. A name that isn't UTF-8 is left out.
-/// The line is left out where there is no memory for it or the sink fails; nothing else changes then.
-pub fn tell<E: Sink>(alloc: Global, errors: &mut E, stop: &Stop) {
+/// The line is left out where there is no memory for it or the sink fails; nothing else changes then. Whatever happens, the
+/// sink keeps what it took before, and takes no more than the first bytes of one line.
+pub fn tell<E: Sink>(alloc: Global, errors: &mut E, stop: &Stop)
+    ensures took { (line : List ℕ) × TookPart (E.taken errors.old) (E.taken errors.new) line }
+    ensures faults { E.faults errors.old ≤ E.faults errors.new }
+    ensures reliable { E.is_reliable errors.old → E.is_reliable errors.new }
+{
     if let Ok(line) = reason(alloc, stop) {
-        let _told = errors.put(line.as_bytes());
+        put_line(errors, line.as_bytes());
     }
 }

@@ -3,15 +3,14 @@ use Rattle.std.specs.Option.{option_map}
 use Rattle.std.proofs.Common.{ap, subst, sym, ◌∙◌}
 use Rattle.lab_output.specs.Text.{tail_from}
 use Rattle.lab_phase.specs.AtStage.{items_done}
-use Rattle.lab_phase.specs.BorderLaws.{OnOk-more}
 use Rattle.lab_report.specs.Text.{IsReportOf}
 use Rattle.lab_script.specs.declared.script.Script.{Script}
 use Rattle.lab_shelf.specs.Files.{TookPart}
 use Rattle.lab_stop.specs.declared.stop.Stop.TheVariants as stop
-use Rattle.lab_play.specs.Ends.{EndsWith, StopsAtEnd}
+use Rattle.lab_play.specs.Ends.{StopsAtEnd}
 use Rattle.lab_play.specs.Playing.{Scene, scene, sounds_at}
 use Rattle.lab_play.proofs.Ending.{HasPlayed-end, IsStopped-finish, IsStopped-tail, report-at_end, rows-few, same-script, stop-passed}
-use Rattle.lab_play.proofs.ItemsResults.{OnErr-all, OnErr-more}
+use Rattle.lab_play.proofs.ItemsResults.{OnErr-all}
 use Rattle.lab_play.proofs.ItemsStopped.{HasStopped-playing}
 use Rattle.lab_play.proofs.run.end.Goals as goal
 
@@ -56,35 +55,35 @@ put_tail-requires-clause-more g c =
     rows-few own.start own.stops c.args.lab c.args.outputs.now (g.S.Shelf.files c.args.shelf.now) (g.K.Sink.taken c.args.out.now) own.is
     (subst (λ (s : Script). items_done c.args.lab ≡ length s.body) (sym own.script_is) c.requires.all) c.in-Ok.outcome c.in-Ok.ensures.stage c.in-Ok.ensures.run c.in-Ok.ensures.played
 
-pub returns-clause-done : goal.returns-clause-done
-returns-clause-done g c =
+pub returns-in_err-put_tail-clause-part : goal.returns-in_err-put_tail-clause-part
+returns-in_err-put_tail-clause-part g c =
     let at : Scene = scene c.args.lab c.args.outputs.now (g.S.Shelf.files c.args.shelf.now) (g.K.Sink.taken c.args.out.now) in
     let script : Script = c.args.script.now in
     let own = c.requires.playing in
     let taken : Option (List ℕ) = g.K.Sink.taken c.args.out.now in
     let taken_after : Option (List ℕ) = g.K.Sink.taken c.put_tail.new.out in
-    OnOk-more (taken_after ≡ option_map (λ t. t ++ tail_from script c.args.outputs.now.rows c.in-Ok.outcome.report) taken)
-    (EndsWith at (g.S.Shelf.files c.finish-2.new.shelf) taken_after) c.put_tail.result
-    (λ text start stops is. let same = same-script script own.start start own.stops stops at own.script_is own.is is in
+    OnErr-all (StopsAtEnd at (g.S.Shelf.files c.finish-2.new.shelf) taken_after) c.from_residual-in_err-put_tail.result
+    (λ start stops is. let same = same-script script own.start start own.stops stops at own.script_is own.is is in
+    IsStopped-tail start stops c.args.lab c.args.outputs.now (g.S.Shelf.files c.args.shelf.now) taken is
+    (subst (λ (s : Script). items_done c.args.lab ≡ length s.body) same c.requires.all) c.in-Ok.outcome c.in-Ok.ensures.stage c.in-Ok.ensures.run c.in-Ok.ensures.played
+    (g.S.Shelf.files c.finish-2.new.shelf) taken_after (c.finish-2.ensures.changes start.files (sounds_at c.args.lab is.stage) is.written.going_on)
+    (subst (λ (s : Script). TookPart taken taken_after (tail_from s c.args.outputs.now.rows c.in-Ok.outcome.report)) same c.in_err-put_tail.ensures.text))
+
+pub returns-in_err-put_tail-clause-never : goal.returns-in_err-put_tail-clause-never
+returns-in_err-put_tail-clause-never g c shelf out known failed =
+    c.put_tail.ensures.reliable out
+    (c.in_err-put_tail.was ∙ ap Err (stop-passed c.from_residual-in_err-put_tail.result c.in_err-put_tail.field-0.0 stop.Write c.from_residual-in_err-put_tail.ensures.1 failed))
+
+pub returns-clause-done : goal.returns-clause-done
+returns-clause-done g c start stops is =
+    let at : Scene = scene c.args.lab c.args.outputs.now (g.S.Shelf.files c.args.shelf.now) (g.K.Sink.taken c.args.out.now) in
+    let script : Script = c.args.script.now in
+    let own = c.requires.playing in
+    let taken : Option (List ℕ) = g.K.Sink.taken c.args.out.now in
+    let taken_after : Option (List ℕ) = g.K.Sink.taken c.put_tail.new.out in
+    let same = same-script script own.start start own.stops stops at own.script_is own.is is in
     HasPlayed-end start stops c.args.lab c.args.outputs.now (g.S.Shelf.files c.args.shelf.now) taken is
     (subst (λ (s : Script). items_done c.args.lab ≡ length s.body) same c.requires.all) c.in-Ok.outcome c.in-Ok.ensures.stage c.in-Ok.ensures.run c.in-Ok.ensures.played
     c.runs_keep_headline.ensures (g.S.Shelf.files c.finish-2.new.shelf) taken_after
     (c.in_ok-finish.ensures.stored start.files (sounds_at c.args.lab is.stage) is.written.going_on)
-    (subst (λ (s : Script). taken_after ≡ option_map (λ t. t ++ tail_from s c.args.outputs.now.rows c.in-Ok.outcome.report) taken) same text))
-    c.put_tail.ensures.taken
-
-pub returns-clause-part : goal.returns-clause-part
-returns-clause-part g c =
-    let at : Scene = scene c.args.lab c.args.outputs.now (g.S.Shelf.files c.args.shelf.now) (g.K.Sink.taken c.args.out.now) in
-    let script : Script = c.args.script.now in
-    let own = c.requires.playing in
-    let taken : Option (List ℕ) = g.K.Sink.taken c.args.out.now in
-    let taken_after : Option (List ℕ) = g.K.Sink.taken c.put_tail.new.out in
-    OnErr-more (TookPart taken taken_after (tail_from script c.args.outputs.now.rows c.in-Ok.outcome.report)) (StopsAtEnd at (g.S.Shelf.files c.finish-2.new.shelf) taken_after)
-    c.put_tail.result
-    (λ part start stops is. let same = same-script script own.start start own.stops stops at own.script_is own.is is in
-    IsStopped-tail start stops c.args.lab c.args.outputs.now (g.S.Shelf.files c.args.shelf.now) taken is
-    (subst (λ (s : Script). items_done c.args.lab ≡ length s.body) same c.requires.all) c.in-Ok.outcome c.in-Ok.ensures.stage c.in-Ok.ensures.run c.in-Ok.ensures.played
-    (g.S.Shelf.files c.finish-2.new.shelf) taken_after (c.finish-2.ensures.changes start.files (sounds_at c.args.lab is.stage) is.written.going_on)
-    (subst (λ (s : Script). TookPart taken taken_after (tail_from s c.args.outputs.now.rows c.in-Ok.outcome.report)) same part))
-    c.put_tail.ensures.text
+    (subst (λ (s : Script). taken_after ≡ option_map (λ t. t ++ tail_from s c.args.outputs.now.rows c.in-Ok.outcome.report) taken) same c.in_ok-put_tail.ensures.taken)

@@ -1,10 +1,11 @@
 use Rattle.std.specs.Prelude.{ℕ, List, Option}
 use Rattle.std.specs.Option.{option_copied}
+use Rattle.std.proofs.lemmas.Result.{IfOk-weaker}
 use Rattle.std.proofs.Common.{inr, refl, subst}
 use Rattle.lab_input.specs.Input.{RunInput}
 use Rattle.lab_input.specs.Read.{input_of}
 use Rattle.lab_phase.specs.AtStage.{IsOfScript}
-use Rattle.lab_phase.specs.BorderLaws.{OnOk-more}
+use Rattle.lab_phase.specs.Ended.{outcome_in}
 use Rattle.lab_phase.specs.PhaseRuns.{Stops, stops_by}
 use Rattle.lab_shelf.specs.Files.{Files}
 use Rattle.wav_io.specs.Sound.{Sound}
@@ -39,10 +40,11 @@ returns-clause-done g c =
     let taken : Option (List ℕ) = g.K.Sink.taken c.args.out.now in
     let files_after : Option Files = g.S.Shelf.files c.play_all.new.shelf in
     let taken_after : Option (List ℕ) = g.K.Sink.taken c.play_all.new.out in
-    OnOk-more
-    ((own : RunInput) (name : List ℕ) → IsNewRun own name c.in-Ok.lab c.in_ok-outputs.outputs → HasPlayed own name stops files files_after taken taken_after)
-    (HasPlayed input c.args.name.now stops files files_after taken taken_after) c.play_all.result
-    (λ done. done input c.args.name.now (record {
+    IfOk-weaker c.play_all.result
+    (λ outcome. (own : RunInput) (name : List ℕ) → IsNewRun own name c.in-Ok.lab c.in_ok-outputs.outputs
+    → HasPlayed own name stops (outcome_in outcome) files files_after taken taken_after)
+    (λ outcome. HasPlayed input c.args.name.now stops (outcome_in outcome) files files_after taken taken_after)
+    (λ outcome done. done input c.args.name.now (record {
       script_is =
           subst (λ (capture : Option Sound). IsOfScript c.args.input.now.script c.args.input.now.wavs.items capture c.in-Ok.lab) c.as_ref.ensures.value
           (subst (λ (wavs : List Sound). IsOfScript c.args.input.now.script wavs (option_copied c.as_ref.result) c.in-Ok.lab) c.deref.ensures.value c.in-Ok.ensures.script);

@@ -1,7 +1,8 @@
 use Rattle.std.specs.Prelude.{ℕ, List, Option, Err}
+use Rattle.std.proofs.lemmas.Result.{IfOk-weaker}
 use Rattle.std.proofs.Common.{ap, ◌∙◌}
 use Rattle.lab_input.specs.Input.{RunInput}
-use Rattle.lab_phase.specs.BorderLaws.{OnOk-more}
+use Rattle.lab_phase.specs.Ended.{outcome_in}
 use Rattle.lab_phase.specs.PhaseRuns.{Stops, stops_by}
 use Rattle.lab_shelf.specs.Files.{Files}
 use Rattle.lab_stop.specs.declared.stop.Stop.TheVariants as stop
@@ -88,11 +89,10 @@ returns-clause-done g c =
     let files : Option Files = g.S.Shelf.files c.args.shelf.now in
     let taken : Option (List ℕ) = g.K.Sink.taken c.args.out.now in
     let at : Scene = scene c.do_items.new.lab c.do_items.new.outputs (g.S.Shelf.files c.do_items.new.shelf) (g.K.Sink.taken c.do_items.new.out) in
-    OnOk-more (EndsWith at (g.S.Shelf.files c.end.new.shelf) (g.K.Sink.taken c.end.new.out))
-    ((input : RunInput) (name : List ℕ) → IsNewRun input name c.args.lab c.args.outputs
-    → HasPlayed input name (rises stops after) files (g.S.Shelf.files c.end.new.shelf) taken (g.K.Sink.taken c.end.new.out))
-    c.end.result
-    (λ ends input name is. ends (start-of input name stops c.args.lab c.args.outputs files taken is) after
+    IfOk-weaker c.end.result (λ outcome. EndsWith at (outcome_in outcome) (g.S.Shelf.files c.end.new.shelf) (g.K.Sink.taken c.end.new.out))
+    (λ outcome. (input : RunInput) (name : List ℕ) → IsNewRun input name c.args.lab c.args.outputs
+    → HasPlayed input name (rises stops after) (outcome_in outcome) files (g.S.Shelf.files c.end.new.shelf) taken (g.K.Sink.taken c.end.new.out))
+    (λ outcome ends input name is. ends (start-of input name stops c.args.lab c.args.outputs files taken is) after
     (c.in_ok-do_items.ensures.done (start-of input name stops c.args.lab c.args.outputs files taken is)
     (IsPlaying-first input name stops c.args.lab c.args.outputs files taken is (g.S.Shelf.files c.begin.new.shelf) (g.K.Sink.taken c.begin.new.out) c.in_ok-begin.ensures.going_on
     c.in_ok-begin.ensures.taken)))

@@ -1,6 +1,5 @@
 //! Whole sessions: a script and a report of it, which is read and printed as it is.
-use crate::{print_report, read_report};
-use lab_script::read_script;
+use super::{printed_again, script_of};
 use std::test::*;
 
 /// One client, which the card plays.
@@ -223,25 +222,22 @@ end
 ",
 );
 
+const SESSIONS: [(&str, &str); 7] = [
+    ONE_WRITE,
+    LAST_LAP,
+    UNPLUGGED,
+    DRAINED,
+    SILENT_PLACE,
+    OVERRUN,
+    REWOUND,
+];
+
 #[test]
 fn reads_and_prints_whole_sessions(rt: HostRuntime) -> Result<(), Fail> {
     let alloc = rt.alloc();
-    for (text, printed) in [
-        ONE_WRITE,
-        LAST_LAP,
-        UNPLUGGED,
-        DRAINED,
-        SILENT_PLACE,
-        OVERRUN,
-        REWOUND,
-    ] {
-        let Ok(script) = read_script(alloc, text.as_bytes()) else {
-            return Err("the text is a script".into());
-        };
-        let Ok(report) = read_report(alloc, printed.as_bytes(), &script) else {
-            return Err("the text is a report".into());
-        };
-        let bytes = print_report(alloc, &report, &script)?;
+    for (text, printed) in &SESSIONS {
+        let script = script_of(alloc, text.as_bytes())?;
+        let bytes = printed_again(alloc, printed, &script)?;
         assert_eq!(rt; bytes.as_slice(), printed.as_bytes(), "at {text}");
     }
     Ok(())

@@ -1,15 +1,17 @@
 //! Scripts that are read, and texts that are refused, each with its line.
-use super::*;
-use crate::error::ScriptWhy as Why;
+use lab_script::{
+    Actor, CardLine, ClientLine, Item, Op, ScriptWhy as Why, Share, Stop, print_op, read_script,
+};
 use std::alloc::{AllocError, Global};
+use std::process::Abort;
 use std::test::*;
 
 /// The line and the cause of a refusal.
-fn refusal(alloc: Global, text: &[u8]) -> Option<(u32, ScriptWhy)> {
-    match read_script(alloc, text) {
-        Ok(_) => None,
-        Err(error) => Some((error.line, error.why)),
-    }
+fn refusal(alloc: Global, text: &[u8]) -> Option<(u32, Why)> {
+    let Err(error) = read_script(alloc, text) else {
+        return None;
+    };
+    Some((error.line, error.why))
 }
 
 /// A card's line and a text, so many times.
@@ -21,98 +23,101 @@ fn repeated(alloc: Global, text: &str, times: u32) -> Result<String, AllocError>
     Ok(all)
 }
 
+/// Texts that are refused, each with the line and the cause.
+const REFUSED: [(&str, u32, Why); 69] = [
+    ("# no words\n\n \t\r\n", 0, Why::NoCard),
+    ("client a f", 1, Why::Order),
+    ("foo", 1, Why::Word),
+    ("\n\ncard channels", 3, Why::Missing),
+    ("card channels 9", 1, Why::Range),
+    ("card rate 3999", 1, Why::Range),
+    ("card period 15", 1, Why::Range),
+    ("card period 9999999999999999999", 1, Why::Fit),
+    ("card period 40 ring 96", 1, Why::Fit),
+    ("card ring 64", 1, Why::Fit),
+    ("card places 65", 1, Why::Range),
+    ("card lap 4294967295", 1, Why::Range),
+    ("card rate 00000000000000048000", 1, Why::Number),
+    ("card ring x channels 2 ring 64", 1, Why::Number),
+    ("card rate 48000 rate", 1, Why::KeyTwice),
+    ("card rate 48000 rates 1", 1, Why::Word),
+    ("card buffer 64", 1, Why::Word),
+    ("card capture \x7f", 1, Why::File),
+    ("card share dsnoop", 1, Why::Word),
+    ("card\ncard", 2, Why::Order),
+    ("card\nplay", 2, Why::Word),
+    ("card\nend", 2, Why::Order),
+    ("card\nclient", 2, Why::Missing),
+    ("card\nclient A f", 2, Why::Name),
+    ("card\nclient end f", 2, Why::Name),
+    ("card\nclient a", 2, Why::Missing),
+    ("card\nclient a \x7f", 2, Why::File),
+    ("card\nclient a f plug linear plug", 2, Why::KeyTwice),
+    ("card\nclient a f plug cubic", 2, Why::Word),
+    ("card\nclient a f stop foo", 2, Why::Number),
+    ("card\nclient a f lead 9999999999999999999", 2, Why::Fit),
+    ("card\nclient a f lead 8192", 2, Why::Fit),
+    ("card\nclient a f start 65537", 2, Why::Range),
+    ("card\nclient a f bindings 0,,1", 2, Why::Number),
+    ("card\nclient a f bindings 0,4294967296", 2, Why::Range),
+    (
+        "card\nclient a f bindings 0,1,0,1,0,1,0,1,0",
+        2,
+        Why::BindingsTooMany,
+    ),
+    ("card\nclient a f bindings 2", 2, Why::BindingRange(2)),
+    ("card\nclient a f bindings 1,1", 2, Why::BindingTwice(1)),
+    ("card\nclient a f\nclient a g lead 8192", 3, Why::NameTwice),
+    ("card\nclient a f\nreader a", 3, Why::NameTwice),
+    ("card\nreader r lead 64", 2, Why::Word),
+    ("card\nclient a f\nopen a\nclient b f", 4, Why::Order),
+    ("card\nopen", 2, Why::Missing),
+    ("card\nopen b", 2, Why::Word),
+    ("card\nopen card", 2, Why::Word),
+    ("card\nclient a f\nopen a b", 3, Why::Extra),
+    ("card\nclient a f\na write 1", 3, Why::Order),
+    ("card\nphase 1", 2, Why::Extra),
+    ("card\nphase\n\nphase", 4, Why::Order),
+    ("card\nphase\nb write 1", 3, Why::Word),
+    ("card\nphase\ncard", 3, Why::Missing),
+    ("card\nphase\ncard write 1", 3, Why::Word),
+    ("card\nphase\ncard play", 3, Why::Missing),
+    ("card\nphase\ncard play -1", 3, Why::Number),
+    ("card\nphase\ncard play 4194305", 3, Why::Range),
+    ("card\nphase\ncard play 1 1", 3, Why::Extra),
+    ("card\nphase\ncard play 1\ncard unplug", 4, Why::Alone),
+    (
+        "card\nphase\ncard play 4194304\ncard play 1",
+        4,
+        Why::Frames,
+    ),
+    ("card\nphase\ncard play 1\nend end", 4, Why::Extra),
+    ("card\nphase\ncard play 1\n# the end\n", 2, Why::Unended),
+    ("card\nclient a f\nphase\na play 1", 4, Why::Word),
+    ("card\nclient a f\nphase\na read 1", 4, Why::Word),
+    ("card\nclient a f\nphase\na die 1000001", 4, Why::Range),
+    ("card\nphase\ncard unplug\ncard unplug", 4, Why::Alone),
+    (
+        "card\nphase\ncard unplug\nend\nphase\ncard play 0",
+        6,
+        Why::Unplugged,
+    ),
+    (
+        "card ring 256 period 64 lap 4294967293\nphase\ncard play 256\nend\nphase\ncard play 256",
+        6,
+        Why::LapEnd,
+    ),
+    ("card\nreader r\nphase\nr write 1", 4, Why::Word),
+    ("card\nreader r\nphase\nr drain", 4, Why::Word),
+    ("card\nreader r\nopen r\nreader q", 4, Why::Order),
+];
+
 #[test]
 fn refuses_each_line_of_its_own(rt: HostRuntime) -> Result<(), Fail> {
-    for (text, line, why) in [
-        ("# no words\n\n \t\r\n", 0, Why::NoCard),
-        ("client a f", 1, Why::Order),
-        ("foo", 1, Why::Word),
-        ("\n\ncard channels", 3, Why::Missing),
-        ("card channels 9", 1, Why::Range),
-        ("card rate 3999", 1, Why::Range),
-        ("card period 15", 1, Why::Range),
-        ("card period 9999999999999999999", 1, Why::Fit),
-        ("card period 40 ring 96", 1, Why::Fit),
-        ("card ring 64", 1, Why::Fit),
-        ("card places 65", 1, Why::Range),
-        ("card lap 4294967295", 1, Why::Range),
-        ("card rate 00000000000000048000", 1, Why::Number),
-        ("card ring x channels 2 ring 64", 1, Why::Number),
-        ("card rate 48000 rate", 1, Why::KeyTwice),
-        ("card rate 48000 rates 1", 1, Why::Word),
-        ("card buffer 64", 1, Why::Word),
-        ("card capture \x7f", 1, Why::File),
-        ("card share dsnoop", 1, Why::Word),
-        ("card\ncard", 2, Why::Order),
-        ("card\nplay", 2, Why::Word),
-        ("card\nend", 2, Why::Order),
-        ("card\nclient", 2, Why::Missing),
-        ("card\nclient A f", 2, Why::Name),
-        ("card\nclient end f", 2, Why::Name),
-        ("card\nclient a", 2, Why::Missing),
-        ("card\nclient a \x7f", 2, Why::File),
-        ("card\nclient a f plug linear plug", 2, Why::KeyTwice),
-        ("card\nclient a f plug cubic", 2, Why::Word),
-        ("card\nclient a f stop foo", 2, Why::Number),
-        ("card\nclient a f lead 9999999999999999999", 2, Why::Fit),
-        ("card\nclient a f lead 8192", 2, Why::Fit),
-        ("card\nclient a f start 65537", 2, Why::Range),
-        ("card\nclient a f bindings 0,,1", 2, Why::Number),
-        ("card\nclient a f bindings 0,4294967296", 2, Why::Range),
-        (
-            "card\nclient a f bindings 0,1,0,1,0,1,0,1,0",
-            2,
-            Why::BindingsTooMany,
-        ),
-        ("card\nclient a f bindings 2", 2, Why::BindingRange(2)),
-        ("card\nclient a f bindings 1,1", 2, Why::BindingTwice(1)),
-        ("card\nclient a f\nclient a g lead 8192", 3, Why::NameTwice),
-        ("card\nclient a f\nreader a", 3, Why::NameTwice),
-        ("card\nreader r lead 64", 2, Why::Word),
-        ("card\nclient a f\nopen a\nclient b f", 4, Why::Order),
-        ("card\nopen", 2, Why::Missing),
-        ("card\nopen b", 2, Why::Word),
-        ("card\nopen card", 2, Why::Word),
-        ("card\nclient a f\nopen a b", 3, Why::Extra),
-        ("card\nclient a f\na write 1", 3, Why::Order),
-        ("card\nphase 1", 2, Why::Extra),
-        ("card\nphase\n\nphase", 4, Why::Order),
-        ("card\nphase\nb write 1", 3, Why::Word),
-        ("card\nphase\ncard", 3, Why::Missing),
-        ("card\nphase\ncard write 1", 3, Why::Word),
-        ("card\nphase\ncard play", 3, Why::Missing),
-        ("card\nphase\ncard play -1", 3, Why::Number),
-        ("card\nphase\ncard play 4194305", 3, Why::Range),
-        ("card\nphase\ncard play 1 1", 3, Why::Extra),
-        ("card\nphase\ncard play 1\ncard unplug", 4, Why::Alone),
-        (
-            "card\nphase\ncard play 4194304\ncard play 1",
-            4,
-            Why::Frames,
-        ),
-        ("card\nphase\ncard play 1\nend end", 4, Why::Extra),
-        ("card\nphase\ncard play 1\n# the end\n", 2, Why::Unended),
-        ("card\nclient a f\nphase\na play 1", 4, Why::Word),
-        ("card\nclient a f\nphase\na read 1", 4, Why::Word),
-        ("card\nclient a f\nphase\na die 1000001", 4, Why::Range),
-        ("card\nphase\ncard unplug\ncard unplug", 4, Why::Alone),
-        (
-            "card\nphase\ncard unplug\nend\nphase\ncard play 0",
-            6,
-            Why::Unplugged,
-        ),
-        (
-            "card ring 256 period 64 lap 4294967293\nphase\ncard play 256\nend\nphase\ncard play 256",
-            6,
-            Why::LapEnd,
-        ),
-        ("card\nreader r\nphase\nr write 1", 4, Why::Word),
-        ("card\nreader r\nphase\nr drain", 4, Why::Word),
-        ("card\nreader r\nopen r\nreader q", 4, Why::Order),
-    ] {
+    for (text, line, why) in &REFUSED {
         assert_eq!(rt;
             refusal(rt.alloc(), text.as_bytes()),
-            Some((line, why)),
+            Some((*line, *why)),
             "at {text}"
         );
     }
@@ -152,12 +157,12 @@ fn keeps_the_limits(rt: HostRuntime) -> Result<(), Fail> {
     let more = repeated(rt.alloc(), phase, 4097)?;
     assert_eq!(rt;
         refusal(rt.alloc(), more.as_bytes()),
-        Some((12290, ScriptWhy::TooMany))
+        Some((12290, Why::TooMany))
     );
     let long = repeated(rt.alloc(), "0123456789abcdef", 65536)?;
     assert_eq!(rt;
         refusal(rt.alloc(), long.as_bytes()),
-        Some((0, ScriptWhy::TooLong))
+        Some((0, Why::TooLong))
     );
     let mut clients = String::from_str(rt.alloc(), "card\n")?;
     for number in 0..65u32 {
@@ -166,7 +171,7 @@ fn keeps_the_limits(rt: HostRuntime) -> Result<(), Fail> {
     }
     assert_eq!(rt;
         refusal(rt.alloc(), clients.as_bytes()),
-        Some((66, ScriptWhy::TooMany))
+        Some((66, Why::TooMany))
     );
     Ok(())
 }
@@ -225,21 +230,21 @@ end
 close a
 ";
 
-#[test]
-fn reads_a_script_with_everything(rt: HostRuntime) -> Result<(), Fail> {
-    let script = read_script(rt.alloc(), EVERYTHING)
-        .ok()
-        .ok_or("the text is a script")?;
-    let card = script.card;
+/// The card's line of that script.
+fn shows_card<A: Abort>(rt: &A, card: &CardLine) -> Result<(), Fail> {
     assert_eq!(rt; card.number, 1);
     assert_eq!(rt; (card.channels, card.rate, card.period), (4, 8000, 64));
     assert_eq!(rt; (card.ring, card.places, card.lap), (256, 2, 3));
     assert_eq!(rt; card.share, Share::Dshare);
-    let file = card.capture.ok_or("a file is captured")?;
-    assert_eq!(rt; file.as_str(), "in.wav");
-    let [client, other] = script.clients.as_slice() else {
-        return Err("there are two clients".into());
+    let Some(file) = &card.capture else {
+        return Err("a file is captured".into());
     };
+    assert_eq!(rt; file.as_str(), "in.wav");
+    Ok(())
+}
+
+/// The line of its first client, which has each key.
+fn shows_client<A: Abort>(rt: &A, client: &ClientLine) {
     assert_eq!(rt; (client.number, client.name.as_str()), (2, "a"));
     assert_eq!(rt; client.file.as_str(), "a.wav");
     assert_eq!(rt; (client.buffer, client.period), (Some(64), Some(32)));
@@ -247,10 +252,27 @@ fn reads_a_script_with_everything(rt: HostRuntime) -> Result<(), Fail> {
     assert_eq!(rt; client.stop, Some(Stop::At(9)));
     assert!(rt; client.plug);
     assert!(rt; client.bindings.is_some());
+}
+
+/// The line of its second client, which has one key.
+fn shows_other_client<A: Abort>(rt: &A, other: &ClientLine) {
     assert_eq!(rt; (other.number, other.name.as_str()), (4, "write"));
     assert_eq!(rt; (other.start, other.lead), (1, 64));
     assert_eq!(rt; other.stop, Some(Stop::Never));
     assert!(rt; !other.plug);
+}
+
+#[test]
+fn reads_a_script_with_everything(rt: HostRuntime) -> Result<(), Fail> {
+    let script = read_script(rt.alloc(), EVERYTHING)
+        .ok()
+        .ok_or("the text is a script")?;
+    shows_card(&rt, &script.card)?;
+    let [client, other] = script.clients.as_slice() else {
+        return Err("there are two clients".into());
+    };
+    shows_client(&rt, client);
+    shows_other_client(&rt, other);
     let [reader] = script.readers.as_slice() else {
         return Err("there is one reader".into());
     };

@@ -1,0 +1,5 @@
+mod Making
+mod Reading
+mod Sizes
+mod Storing
+mod Unmixed

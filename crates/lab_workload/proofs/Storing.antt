@@ -1,0 +1,84 @@
+-- The clients' files are stored one after the other.
+use Rattle.std.proofs.Common.{◌≡◌, inl, inr, ℕ, ◌+◌, ◌<◌, ◌≤◌, List, [], ◌∷◌, length, add-one, drop, take, get_or, refl, sym, ap, subst, ◌∙◌, suc, Some, None, option_map}
+use Rattle.std.proofs.Math.Seq.{drop-cons}
+use Rattle.std.proofs.Math.ListN.{drop_of_length-le}
+use Rattle.std.proofs.lemmas.List.{take_all}
+use Rattle.std.proofs.lemmas.List.Elements.{All-more}
+use Rattle.std.specs.Prelude.{All, Option}
+use Rattle.wav_io.specs.Canonical.{canonical}
+use Rattle.wav_io.specs.Sound.{Sound}
+use Rattle.lab_shelf.specs.Files.{Files, IsPartWritten, with_file}
+use Rattle.lab_make.specs.Files.{file_name}
+use Rattle.lab_workload.specs.Stored.{IsReadBack, NamedFile, StoredInPart, sound_files, with_files}
+
+-- the first files are stored, and what is left to do does all
+pub record Storing (before now : Option Files) (sounds : List Sound) (n : ℕ) (fetches fetches_now writes writes_now : ℕ) (steady steady_now : Type 0) : Type 0 where
+  pub more : option_map (with_files (sound_files n (drop n sounds))) now ≡ option_map (with_files (sound_files 0 sounds)) before
+  pub part : (after : Option Files) → StoredInPart (sound_files n (drop n sounds)) now after → StoredInPart (sound_files 0 sounds) before after
+  pub read : All IsReadBack (take n sounds)
+  pub fetch_faults : fetches_now ≡ fetches
+  pub write_faults : writes_now ≡ writes
+  pub reliable : steady → steady_now
+
+-- what is left begins with the file of the next client
+left : (sounds : List Sound) (n : ℕ) (sound : Sound) → n < length sounds → sound ≡ get_or sounds n sound
+    → sound_files n (drop n sounds) ≡ record { name = file_name n; bytes = canonical sound } ∷ sound_files (n + 1) (drop (n + 1) sounds)
+left sounds n sound within is =
+    ap (sound_files n) (drop-cons sounds n sound within)
+    ∙ ap (λ (s : Sound). sound_files n (s ∷ drop (suc n) sounds)) (sym is)
+    ∙ ap (λ (k : ℕ). sound_files n (sound ∷ drop k sounds)) (sym (add-one n))
+
+-- a file is stored, and then those after it
+with_files-joined : (file : NamedFile) (files : List NamedFile) (now : Option Files)
+    → option_map (with_files files) (option_map (λ m. with_file m file.name file.bytes) now) ≡ option_map (with_files (file ∷ files)) now
+with_files-joined file files None = refl
+with_files-joined file files (Some m) = refl
+
+-- no file is left to store
+with_files-none : (now : Option Files) → option_map (with_files []) now ≡ now
+with_files-none None = refl
+with_files-none (Some m) = refl
+
+-- the next file is stored
+pub Storing-next : (before now then : Option Files) (sounds : List Sound) (n : ℕ) (sound : Sound)
+    (fetches fetches_now fetches_then writes writes_now writes_then : ℕ) (steady steady_now steady_then : Type 0)
+    → Storing before now sounds n fetches fetches_now writes writes_now steady steady_now → n < length sounds → sound ≡ get_or sounds n sound
+    → then ≡ option_map (λ files. with_file files (file_name n) (canonical sound)) now → IsReadBack sound
+    → fetches_then ≡ fetches_now → writes_then ≡ writes_now → (steady_now → steady_then)
+    → Storing before then sounds (n + 1) fetches fetches_then writes writes_then steady steady_then
+Storing-next before now then sounds n sound fetches fetches_now fetches_then writes writes_now writes_then steady steady_now steady_then so_far within is stored back same_fetches same_writes stays = record {
+  more =
+      ap (option_map (with_files (sound_files (n + 1) (drop (n + 1) sounds)))) stored
+      ∙ with_files-joined (record { name = file_name n; bytes = canonical sound }) (sound_files (n + 1) (drop (n + 1) sounds)) now
+      ∙ ap (λ (files : List NamedFile). option_map (with_files files) now) (sym (left sounds n sound within is))
+      ∙ so_far.more;
+  part = λ after part. so_far.part after
+      (subst (λ (files : List NamedFile). StoredInPart files now after) (sym (left sounds n sound within is))
+      (inr (subst (λ (f : Option Files). StoredInPart (sound_files (n + 1) (drop (n + 1) sounds)) f after) stored part)));
+  read = All-more IsReadBack sounds n sound within so_far.read (subst IsReadBack is back);
+  fetch_faults = same_fetches ∙ so_far.fetch_faults;
+  write_faults = same_writes ∙ so_far.write_faults;
+  reliable = λ r. stays (so_far.reliable r);
+}
+
+-- the next file is stored in part
+pub Storing-stop : (before now after : Option Files) (sounds : List Sound) (n : ℕ) (sound : Sound)
+    (fetches fetches_now writes writes_now : ℕ) (steady steady_now : Type 0)
+    → Storing before now sounds n fetches fetches_now writes writes_now steady steady_now → n < length sounds → sound ≡ get_or sounds n sound
+    → IsPartWritten now after (file_name n) (canonical sound) → StoredInPart (sound_files 0 sounds) before after
+Storing-stop before now after sounds n sound fetches fetches_now writes writes_now steady steady_now so_far within is part =
+    so_far.part after
+    (subst (λ (files : List NamedFile). StoredInPart files now after) (sym (left sounds n sound within is)) (inl part))
+
+module _ (before now : Option Files) (sounds : List Sound) (n : ℕ) (fetches fetches_now writes writes_now : ℕ) (steady steady_now : Type 0)
+    (so_far : Storing before now sounds n fetches fetches_now writes writes_now steady steady_now) (all : length sounds ≤ n) where
+  -- all files are stored
+  pub Storing-all : now ≡ option_map (with_files (sound_files 0 sounds)) before
+  Storing-all =
+      sym (with_files-none now)
+      ∙ ap (λ (more : List Sound). option_map (with_files (sound_files n more)) now) (sym (drop_of_length-le sounds all))
+      ∙ so_far.more
+
+  -- and each is read as its sound
+  pub Storing-read : All IsReadBack sounds
+  Storing-read = subst (All IsReadBack) (take_all n sounds all) so_far.read

@@ -1,0 +1,86 @@
+use Rattle.std.specs.Prelude.{All, ℕ, List, Ok, Option}
+use Rattle.std.specs.Option.{option_map}
+use Rattle.std.proofs.Common.{◌≡◌, ap, sym, subst, inr, ◌∙◌}
+use Rattle.std.proofs.lemmas.Result.{err_from_is_err_and, on_err_weaker, on_ok_weaker}
+use Rattle.lab_input.specs.Input.{RunInput}
+use Rattle.lab_input.specs.Read.{input_of}
+use Rattle.lab_make.specs.declared.workload.Workload.{Workload}
+use Rattle.lab_make.specs.Files.{IsMadeSound}
+use Rattle.lab_phase.specs.Ended.{outcome_in}
+use Rattle.lab_phase.specs.PhaseRuns.{Stops, stops_by}
+use Rattle.lab_play.specs.Played.{rises}
+use Rattle.lab_script.specs.Limits.{IsScript}
+use Rattle.lab_shelf.specs.Files.{Files, IsPartWritten, with_file}
+use Rattle.lab_workload.specs.Made.{report_name}
+use Rattle.lab_workload.specs.Stored.{IsReadBack}
+use Rattle.lab_workload.proofs.Making.{IsMade-all, IsMadePart-before, IsMadePart-report, IsMadePart-run, IsMadePart-summary}
+use Rattle.lab_workload.proofs.make.make_workload.Goals as goal
+
+pub returns-in_err-store_input-clause-part : goal.returns-in_err-store_input-clause-part
+returns-in_err-store_input-clause-part g c =
+    let w : Workload = c.args.workload.now in
+    let stops : Stops = rises (stops_by g.G.Gate.stops c.args.gates.now) (stops_by g.G.Gate.stops c.args.gates.now) in
+    let p = err_from_is_err_and c.from_residual-in_err-store_input.result c.from_residual-in_err-store_input.ensures.1 in
+    rw p.1
+    (inr (IsMadePart-before w stops c.as_slice.result.now c.as_slice-2.result.now (g.S.Shelf.files c.args.shelf.now) (g.S.Shelf.files c.store_input.new.shelf) (g.K.Sink.taken c.args.out.now)
+    (c.as_slice.ensures.value ∙ ap (λ (i : RunInput). i.sounds) c.in_ok-made.ensures.input) (c.as_slice-2.ensures.value ∙ c.in_ok-made.ensures.text)
+    c.in_err-store_input.ensures.part))
+
+pub returns-in_err-run-clause-part : goal.returns-in_err-run-clause-part
+returns-in_err-run-clause-part g c =
+    let w : Workload = c.args.workload.now in
+    let stops : Stops = rises (stops_by g.G.Gate.stops c.args.gates.now) (stops_by g.G.Gate.stops c.run_input.new.gates) in
+    let p = err_from_is_err_and c.from_residual-in_err-run.result c.from_residual-in_err-run.ensures.1 in
+    rw p.1
+    (inr (IsMadePart-run w stops (input_of c.in_ok-made.made.input) c.as_slice.result.now c.as_slice-2.result.now (g.S.Shelf.files c.args.shelf.now) (g.S.Shelf.files c.store_input.new.shelf)
+    (g.K.Sink.taken c.args.out.now) c.in_ok-made.ensures.input
+    (c.as_slice.ensures.value ∙ ap (λ (i : RunInput). i.sounds) c.in_ok-made.ensures.input) (c.as_slice-2.ensures.value ∙ c.in_ok-made.ensures.text)
+    c.in_ok-store_input.ensures.stored (g.S.Shelf.files c.run_input.new.shelf) c.in_err-run.ensures.part))
+
+pub returns-in_err-store-clause-part : goal.returns-in_err-store-clause-part
+returns-in_err-store-clause-part g c =
+    let w : Workload = c.args.workload.now in
+    let stops : Stops = rises (stops_by g.G.Gate.stops c.args.gates.now) (stops_by g.G.Gate.stops c.run_input.new.gates) in
+    let ran : Option Files = g.S.Shelf.files c.run_input.new.shelf in
+    let after : Option Files = g.S.Shelf.files c.store.new.shelf in
+    let p = err_from_is_err_and c.from_residual-in_err-store.result c.from_residual-in_err-store.ensures.1 in
+    rw p.1
+    (inr (IsMadePart-report w stops (input_of c.in_ok-made.made.input) c.as_slice.result.now c.as_slice-2.result.now (g.S.Shelf.files c.args.shelf.now) (g.S.Shelf.files c.store_input.new.shelf)
+    (g.K.Sink.taken c.args.out.now) c.in_ok-made.ensures.input
+    (c.as_slice.ensures.value ∙ ap (λ (i : RunInput). i.sounds) c.in_ok-made.ensures.input) (c.as_slice-2.ensures.value ∙ c.in_ok-made.ensures.text)
+    c.in_ok-store_input.ensures.stored ran (outcome_in c.in_ok-run.run'.outcome) c.in_ok-run.run'.report.items c.in_ok-run.ensures.done after
+    (subst (λ (bytes : List ℕ). IsPartWritten ran after report_name bytes) c.as_slice-3.ensures.value c.in_err-store.ensures.part)))
+
+pub returns-clause-part : goal.returns-clause-part
+returns-clause-part g c =
+    let w : Workload = c.args.workload.now in
+    let stops : Stops = rises (stops_by g.G.Gate.stops c.args.gates.now) (stops_by g.G.Gate.stops c.run_input.new.gates) in
+    let ran : Option Files = g.S.Shelf.files c.run_input.new.shelf in
+    let after : Option Files = g.S.Shelf.files c.store.new.shelf in
+    on_err_weaker c.put_summary.result
+    (λ part. inr (IsMadePart-summary w stops (input_of c.in_ok-made.made.input) c.as_slice.result.now c.as_slice-2.result.now (g.S.Shelf.files c.args.shelf.now) (g.S.Shelf.files c.store_input.new.shelf)
+    (g.K.Sink.taken c.args.out.now) c.in_ok-made.ensures.input
+    (c.as_slice.ensures.value ∙ ap (λ (i : RunInput). i.sounds) c.in_ok-made.ensures.input) (c.as_slice-2.ensures.value ∙ c.in_ok-made.ensures.text)
+    c.in_ok-store_input.ensures.stored ran (outcome_in c.in_ok-run.run'.outcome) c.in_ok-run.run'.report.items c.in_ok-run.ensures.done after (g.K.Sink.taken c.put_summary.new.out)
+    (c.in_ok-store.ensures.stored ∙ ap (λ (bytes : List ℕ). option_map (λ files. with_file files report_name bytes) ran) c.as_slice-3.ensures.value) part))
+    c.put_summary.ensures.part
+
+pub returns-clause-done : goal.returns-clause-done
+returns-clause-done g c =
+    let w : Workload = c.args.workload.now in
+    let stops : Stops = rises (stops_by g.G.Gate.stops c.args.gates.now) (stops_by g.G.Gate.stops c.run_input.new.gates) in
+    let ran : Option Files = g.S.Shelf.files c.run_input.new.shelf in
+    let after : Option Files = g.S.Shelf.files c.store.new.shelf in
+    let input_is = c.in_ok-made.ensures.input in
+    on_ok_weaker c.put_summary.result
+    (λ put. IsMade-all w stops (input_of c.in_ok-made.made.input) c.as_slice.result.now c.as_slice-2.result.now (g.S.Shelf.files c.args.shelf.now) (g.S.Shelf.files c.store_input.new.shelf)
+    (g.K.Sink.taken c.args.out.now) input_is
+    (c.as_slice.ensures.value ∙ ap (λ (i : RunInput). i.sounds) input_is) (c.as_slice-2.ensures.value ∙ c.in_ok-made.ensures.text)
+    c.in_ok-store_input.ensures.stored ran (outcome_in c.in_ok-run.run'.outcome) c.in_ok-run.run'.report.items c.in_ok-run.ensures.done
+    (record { exact = c.runs_are_exact.ensures; own = c.actors_do_their_own.ensures; one = c.scripts_have_one_session.ensures })
+    (subst IsScript (ap (λ (i : RunInput). i.script) input_is) c.in_ok-made.ensures.script) after (g.K.Sink.taken c.put_summary.new.out)
+    (c.in_ok-store.ensures.stored ∙ ap (λ (bytes : List ℕ). option_map (λ files. with_file files report_name bytes) ran) c.as_slice-3.ensures.value) put
+    c.requires.workload (c.in_ok-made.ensures.spelled ∙ ap (λ (i : RunInput). Ok i.script) input_is)
+    (subst (All IsMadeSound) (ap (λ (i : RunInput). i.sounds) input_is) c.in_ok-made.ensures.sounds)
+    (subst (All IsReadBack) (c.as_slice.ensures.value ∙ ap (λ (i : RunInput). i.sounds) input_is) c.in_ok-store_input.ensures.read))
+    c.put_summary.ensures.done

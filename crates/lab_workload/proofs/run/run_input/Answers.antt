@@ -1,0 +1,59 @@
+use Rattle.std.specs.Prelude.{◌≡◌, ℕ, Err, List, Option, [], Some}
+use Rattle.std.proofs.Common.{◌⊎◌, ap, sym, subst, inl, inr, arith, ◌∙◌}
+use Rattle.std.proofs.lemmas.Result.{err_from_is_err_and}
+use Rattle.lab_input.specs.Input.{RunInput}
+use Rattle.lab_input.specs.Read.{input_of}
+use Rattle.lab_phase.specs.declared.finish.Outcome.{Outcome}
+use Rattle.lab_phase.specs.Ended.{outcome_in}
+use Rattle.lab_phase.specs.PhaseRuns.{Stops, stops_by}
+use Rattle.lab_play.specs.Counts.{PlayFaults}
+use Rattle.lab_play.specs.Played.{HasPlayed, HasPlayedPart, rises}
+use Rattle.lab_shelf.specs.Counts.{Rose}
+use Rattle.lab_shelf.specs.Files.{Files}
+use Rattle.lab_stop.specs.declared.stop.Stop.{Stop}
+use Rattle.lab_stop.specs.declared.stop.Stop.TheVariants as stops
+use Rattle.lab_workload.specs.Made.{output_name}
+use Rattle.lab_workload.proofs.run.run_input.Goals as goal
+
+-- a count that is always 0 never rose
+one-rose : (writes writes_now : ℕ) → Rose writes writes_now ⊎ Rose 0 0 → Rose writes writes_now
+one-rose writes writes_now (inl rose) = rose
+one-rose writes writes_now (inr never) = absurd (omega (arith, never))
+
+-- so a run whose text is kept stops at a write only where the shelf failed
+rose-if : (X : Type 0) (e : Stop) (writes writes_now : ℕ) → e ≡ stops.Write → PlayFaults {X = X} (Err e) writes writes_now 0 0 → Rose writes writes_now
+rose-if X e writes writes_now is faults = one-rose writes writes_now (subst (λ (s : Stop). PlayFaults {X = X} (Err s) writes writes_now 0 0) is faults)
+
+pub returns-in_err-outcome-clause-part : goal.returns-in_err-outcome-clause-part
+returns-in_err-outcome-clause-part g c =
+    let p = err_from_is_err_and c.from_residual.result c.from_residual.ensures.1 in
+    let input : RunInput = input_of c.args.input.now in
+    rw p.1 (
+      c.play.new.out,
+      subst (λ (text : List ℕ). HasPlayedPart input output_name (g.S.Shelf.files c.args.shelf.now) (g.S.Shelf.files c.play.new.shelf) (Some text) (Some c.play.new.out)) c.new-text.ensures
+          c.in_err-outcome.ensures.part,
+    )
+
+pub returns-in_err-outcome-clause-rose : goal.returns-in_err-outcome-clause-rose
+returns-in_err-outcome-clause-rose g c =
+    let p = err_from_is_err_and c.from_residual.result c.from_residual.ensures.1 in
+    rw (p.1, p.2)
+    (λ is. let same : c.in_err-outcome.field-0.0 ≡ stops.Write = cc in rose-if Outcome c.in_err-outcome.field-0.0 _ _ same c.in_err-outcome.ensures.faults)
+
+pub returns-in_err-outcome-clause-never : goal.returns-in_err-outcome-clause-never
+returns-in_err-outcome-clause-never g c shelf known failed =
+    let p = err_from_is_err_and c.from_residual.result c.from_residual.ensures.1 in
+    let stopped : p.0 ≡ stops.Write = cc in
+    c.play.ensures.never shelf tt known (c.in_err-outcome.was ∙ ap Err (sym p.2 ∙ stopped))
+
+pub returns-clause-done : goal.returns-clause-done
+returns-clause-done g c =
+    let input : RunInput = input_of c.args.input.now in
+    let stops : Stops = rises (stops_by g.G.Gate.stops c.args.gates.now) (stops_by g.G.Gate.stops c.play.new.gates) in
+    let played : List ℕ → List ℕ → Type 0 = λ text text_now. HasPlayed input output_name stops (outcome_in c.in_ok-outcome.outcome) (g.S.Shelf.files c.args.shelf.now)
+    (g.S.Shelf.files c.play.new.shelf) (Some text) (Some text_now) in
+    subst (λ (text : List ℕ). played [] text) (sym c.into_bytes.ensures)
+    (subst (λ (text : List ℕ). played text c.play.new.out) c.new-text.ensures c.in_ok-outcome.ensures.done)
+
+pub returns-clause-same : goal.returns-clause-same
+returns-clause-same g c = c.in_ok-outcome.ensures.faults.writes_same

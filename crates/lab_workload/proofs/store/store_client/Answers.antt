@@ -1,0 +1,15 @@
+use Rattle.std.specs.Prelude.{ℕ, List, Option}
+use Rattle.std.proofs.Common.{subst, ◌∙◌}
+use Rattle.std.proofs.lemmas.Result.{on_err_weaker}
+use Rattle.wav_io.specs.Canonical.{canonical}
+use Rattle.lab_shelf.specs.Files.{Files, IsPartWritten}
+use Rattle.lab_workload.proofs.store.store_client.Goals as goal
+
+pub returns-clause-part : goal.returns-clause-part
+returns-clause-part g c =
+    let before : Option Files = g.S.Shelf.files c.args.shelf.now in
+    let after : Option Files = g.S.Shelf.files c.store.new.shelf in
+    on_err_weaker c.store.result
+    (λ part. subst (λ (name : List ℕ). IsPartWritten before after name (canonical c.args.wav.now)) (c.as_bytes.ensures.value ∙ c.in_ok-name.ensures)
+    (subst (λ (bytes : List ℕ). IsPartWritten before after c.as_bytes.result.now bytes) (c.deref.ensures.value ∙ c.in_ok-bytes.ensures.bytes) part))
+    c.store.ensures.part

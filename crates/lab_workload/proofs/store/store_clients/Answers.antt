@@ -1,0 +1,28 @@
+use Rattle.std.proofs.Common.{refl}
+use Rattle.std.proofs.lemmas.List.Elements.{All-nil}
+use Rattle.std.proofs.lemmas.Result.{err_from_is_err_and}
+use Rattle.lab_workload.specs.Stored.{IsReadBack}
+use Rattle.lab_workload.proofs.Storing.{Storing-all, Storing-next, Storing-read, Storing-stop}
+use Rattle.lab_workload.proofs.store.store_clients.Goals as goal
+
+pub loop-client-init : goal.loop-client-init
+loop-client-init g c = record { more = refl; part = λ after p. p; read = All-nil IsReadBack; fetch_faults = refl; write_faults = refl; reliable = λ r. r }
+
+pub loop-client-preserved : goal.loop-client-preserved
+loop-client-preserved g c =
+    Storing-next _ _ _ _ _ c.index-wavs-client.result _ _ _ _ _ _ _ _ _ c.loop-client.invariant c.loop-client-test.true c.index-wavs-client.is
+    c.in_ok-store_client.ensures.stored c.in_ok-store_client.ensures.read c.in_ok-store_client.ensures.fetch_faults c.in_ok-store_client.ensures.faults
+    c.in_ok-store_client.ensures.reliable
+
+pub returns-in_err-store_client-clause-part : goal.returns-in_err-store_client-clause-part
+returns-in_err-store_client-clause-part g c =
+    let p = err_from_is_err_and c.from_residual.result c.from_residual.ensures.1 in
+    rw p.1
+    (Storing-stop _ _ _ _ _ c.index-wavs-client.result _ _ _ _ _ _ c.loop-client.invariant c.loop-client-test.true c.index-wavs-client.is
+    c.in_err-store_client.ensures.part)
+
+pub returns-clause-stored : goal.returns-clause-stored
+returns-clause-stored g c = Storing-all _ _ _ _ _ _ _ _ _ _ c.loop-client.invariant c.loop-client-test.false
+
+pub returns-clause-read : goal.returns-clause-read
+returns-clause-read g c = Storing-read _ _ _ _ _ _ _ _ _ _ c.loop-client.invariant c.loop-client-test.false

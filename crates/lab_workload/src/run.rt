@@ -1,0 +1,68 @@
+//! The run of a workload.
+ghost use Rattle.std.specs.Prelude.{[], ◌≡◌, ◌≢◌, ◌≤◌, ℕ, Err, IfErr, IfOk, IsErrOf, IsSome, List, OnErr, OnOk, Some, length};
+ghost use Rattle.lab_input.specs.Read.{input_of};
+ghost use Rattle.lab_phase.specs.Ended.{outcome_in};
+ghost use Rattle.lab_phase.specs.PhaseRuns.{stops_by};
+ghost use Rattle.lab_play.specs.Played.{HasPlayed, HasPlayedPart, rises};
+ghost use Rattle.lab_script.specs.Limits.{IsScript};
+ghost use Rattle.lab_shelf.specs.Counts.{Rose};
+ghost use Rattle.lab_stop.specs.Stops.{IsWriteStop};
+ghost use Rattle.lab_stop.specs.declared.stop.Stop.TheVariants as stops;
+ghost use Rattle.lab_workload.specs.Made.{output_name};
+
+use crate::kept::KeptText;
+use lab_input::Input;
+use lab_phase::Outcome;
+use lab_play::play;
+use lab_shelf::Shelf;
+use lab_stop::Stop;
+use mix_core::Gate;
+use std::alloc::Global;
+use std::marker::{Send, Sync};
+use std::thread::Threads;
+
+/// What a run of a workload leaves, and the text of its report.
+#[derive(Drop)]
+pub(crate) struct MadeRun {
+    /// The report, and what the card played.
+    pub(crate) outcome: Outcome,
+    /// The text of the report.
+    pub(crate) report: Vec<u8>,
+}
+
+/// Runs an input, writes the run's files, of which `made.wav` is the first, and keeps the text of the
+/// report in memory.
+///
+/// It stops with `Write` where the shelf fails, which counts that, and with `Memory` only where no
+/// memory is left. The caller has 128 gates, as for `lab_play::play`.
+pub(crate) fn run_input<R: Threads + Sync, S: Shelf, G: Gate + Send>(
+    rt: &R,
+    alloc: Global,
+    input: &Input,
+    shelf: &mut S,
+    gates: &mut [G],
+) -> Result<MadeRun, Stop>
+    requires script { IsScript input.now.script }
+    requires files { length input.now.wavs.items ≡ length input.now.script.clients }
+    requires gates { 128 ≤ length gates.old }
+    ensures done { IfOk result (λ made. HasPlayed (input_of input.now) output_name
+        (rises (stops_by G.stops gates.old) (stops_by G.stops gates.new)) (outcome_in made.outcome)
+        (S.files shelf.old) (S.files shelf.new) (Some []) (Some made.report.items)) }
+    ensures part { OnErr result ((report : List ℕ) × HasPlayedPart (input_of input.now) output_name
+        (S.files shelf.old) (S.files shelf.new) (Some []) (Some report)) }
+    ensures only { IfErr result IsWriteStop }
+    ensures fetch_faults { S.fetch_faults shelf.new ≡ S.fetch_faults shelf.old }
+    ensures same { OnOk result (S.write_faults shelf.new ≡ S.write_faults shelf.old) }
+    ensures reliable { S.is_reliable shelf.old → S.is_reliable shelf.new }
+    ensures rose { IsErrOf result stops.Write
+        → Rose (S.write_faults shelf.old) (S.write_faults shelf.new) }
+    ensures never { S.is_reliable shelf.old → IsSome (S.files shelf.old)
+        → result ≢ Err stops.Write }
+{
+    let mut text = KeptText::new(alloc);
+    let outcome = play(rt, alloc, input, b"made", shelf, &mut text, gates)?;
+    Ok(MadeRun {
+        outcome,
+        report: text.into_bytes(),
+    })
+}
