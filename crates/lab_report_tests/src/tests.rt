@@ -136,7 +136,7 @@ fn reads_a_report(rt: HostRuntime) -> Result<(), Fail> {
 }
 
 /// Answers, states and what was seen, as rows have them.
-const ANSWERS: [(&str, &str, &str); 16] = [
+const ANSWER_WORDS: [(&str, &str, &str); 16] = [
     ("ok", "PREPARED", "-"),
     ("0", "RUNNING", "0"),
     ("18446744073709551615", "RUNNING", "18446744073709551615"),
@@ -190,7 +190,7 @@ fn printed_again(alloc: Global, text: &str, script: &Script) -> Result<Vec<u8>, 
 fn prints_what_it_read(rt: HostRuntime) -> Result<(), Fail> {
     let alloc = rt.alloc();
     let script = script(alloc)?;
-    for (answer, state, seen) in &ANSWERS {
+    for (answer, state, seen) in &ANSWER_WORDS {
         let text = answered(alloc, answer, state, seen)?;
         let bytes = printed_again(alloc, text.as_str(), &script)?;
         assert_eq!(rt; bytes.as_slice(), text.as_bytes(), "at {answer}");
