@@ -1,16 +1,7 @@
 //! dmixlab: mixes the clients of a script as ALSA's dmix does, and reports what was mixed.
 #![tactic(auto)]
 
-mod commands;
-#[cfg(test)]
-mod conf_tests;
-#[cfg(test)]
-mod refine_tests;
-#[cfg(test)]
-mod tests;
-mod top;
-mod words;
-
+use lab_commands::dmixlab;
 use lab_shelf::{FileShelf, StdSink};
 use lab_stop::{Stop, status, tell};
 use mix_core::NeverStops;
@@ -18,7 +9,6 @@ use std::alloc::Global;
 use std::process::ExitCode;
 use std::rt::Env;
 use std::{env, io};
-use top::dmixlab;
 
 /// The program's words after its name. One that isn't UTF-8 is no listed word.
 fn program_words<R: Env + Alloc<A = Global>>(rt: &R) -> Result<Vec<Vec<u8>>, Stop> {

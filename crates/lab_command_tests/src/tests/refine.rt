@@ -1,0 +1,95 @@
+// What no clause says of the call of `refine`: that it is done where there is memory, the line on the errors' stream for each
+// status, and what a fault leaves.
+use lab_calls::{Left, call};
+use std::alloc::{AllocError, Global};
+use std::test::Fail;
+use std::thread::Threads;
+
+// Calls `refine` with this name, where the file `t` has this text. The shelf's and the output's calls of
+// these numbers fail.
+fn refine<R: Threads + Sync>(
+    rt: &R,
+    alloc: Global,
+    name: &str,
+    text: &[u8],
+    failing: (&[u64], &[u64]),
+) -> Result<Left, AllocError> {
+    let mut files = Vec::new(alloc);
+    files.push((Vec::from_slice(alloc, b"t")?, Vec::from_slice(alloc, text)?))?;
+    call(rt, alloc, &["refine", name], files, failing)
+}
+
+// Texts and their answers.
+const ANSWERED: [(&str, &str); 3] = [
+    // A period of 1024 frames at 48000 Hz lasts 21333.3 microseconds, so no whole number of them.
+    (
+        "slave channels 2 rate 48000 period 1024 ring 8192\nset period_size 1024\nshow period_time\ninteger period_time\nchoose\n",
+        "ok period_size [1024,1024] integer\nok period_time (21333,21334)\nempty\nchoice channels 1 rate 48000 period 1024 buffer 8192 periods 8\n",
+    ),
+    // What leaves nothing changes nothing.
+    (
+        "slave channels 2 rate 48000 period 1024 ring 8192\nnear period_size 10\nset channels 3\nshow format\nset format 1\n",
+        "ok period_size [16,16] integer\nempty\nok format 2\nempty\n",
+    ),
+    // The slave alone.
+    ("slave channels 1 rate 192000 period 8192 ring 16384", ""),
+];
+
+#[test]
+fn answers_are_put(rt: HostRuntime) -> Result<(), Fail> {
+    let alloc = rt.alloc();
+    for (text, answers) in &ANSWERED {
+        let left = refine(&rt, alloc, "t", text.as_bytes(), (&[], &[]))?;
+        assert_eq!(rt; left.status, 0, "{text}");
+        assert_eq!(rt; left.out.bytes(), answers.as_bytes(), "{text}");
+        assert!(rt; left.errors.bytes().is_empty());
+    }
+    Ok(())
+}
+
+const SLAVE: &str = "slave channels 2 rate 48000 period 1024 ring 8192\n";
+
+// Texts that are refused, each with the line and the cause.
+const REFUSED: [(&str, &str); 4] = [
+    ("", "line 0: NoCard"),
+    ("show rate\n", "line 1: Order"),
+    (
+        "slave channels 9 rate 48000 period 1024 ring 8192\n",
+        "line 1: Range",
+    ),
+    (
+        "slave channels 2 rate 48000 period 1024 ring 8192\nset channels 1\nmin access 3\n",
+        "line 3: Word",
+    ),
+];
+
+#[test]
+fn refused_texts_are_named(rt: HostRuntime) -> Result<(), Fail> {
+    let alloc = rt.alloc();
+    for (text, why) in &REFUSED {
+        let line = format!(in alloc; "dmixlab: script {why}\n")?;
+        let left = refine(&rt, alloc, "t", text.as_bytes(), (&[], &[]))?;
+        assert_eq!(rt; left.status, 2, "{text}");
+        assert_eq!(rt; left.errors.bytes(), line.as_bytes(), "{text}");
+        assert!(rt; left.out.bytes().is_empty());
+    }
+    Ok(())
+}
+
+#[test]
+fn faults_leave_no_answer(rt: HostRuntime) -> Result<(), Fail> {
+    let alloc = rt.alloc();
+    let text = format!(in alloc; "{SLAVE}show rate\n")?;
+    for (name, failing, status, line) in [
+        ("u", ([].as_slice(), [].as_slice()), 4, "dmixlab: read u\n"),
+        ("t", ([1].as_slice(), [].as_slice()), 4, "dmixlab: read t\n"),
+        ("t", ([].as_slice(), [1].as_slice()), 5, "dmixlab: write\n"),
+        ("", ([].as_slice(), [].as_slice()), 1, "dmixlab: words\n"),
+    ] {
+        let left = refine(&rt, alloc, name, text.as_bytes(), failing)?;
+        assert_eq!(rt; left.status, status, "{line}");
+        assert_eq!(rt; left.errors.bytes(), line.as_bytes());
+        assert!(rt; left.out.bytes().is_empty());
+    }
+    Ok(())
+}

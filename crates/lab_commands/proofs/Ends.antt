@@ -1,0 +1,88 @@
+-- Exit statuses 2 and 3 come exactly where their causes do, and how a call ends where nothing fails.
+use Rattle.std.proofs.Common.{◌≡◌, ◌⊎◌, ℕ, ap, refl, subst, inl, inr, List, arith}
+use Rattle.std.specs.Prelude.{Option, Some, None, IsSome, Result, Ok, Err}
+use Rattle.wav_io.specs.declared.error.WavError.{WavError}
+use Rattle.lab_shelf.specs.Files.{Files}
+use Rattle.lab_shelf.specs.Counts.{Rose}
+use Rattle.lab_stop.specs.declared.stop.Stop.{Stop}
+use Rattle.lab_stop.specs.declared.stop.Stop.TheVariants.{Words, Script, Conf, Wav, Read, Write, Memory}
+use Rattle.lab_commands.specs.Words.{Form, form_of}
+use Rattle.lab_stop.specs.Causes.{Cause, wav_refused}
+use Rattle.lab_stop.specs.Stops.{status_of, EndsOf, EndsReliably, Refuses, InputFaults}
+use Rattle.lab_commands.specs.Top.{cause_in, ComesExactly, EndsWell, IsConfRefused, IsScriptRefused}
+
+-- words without a form have no cause
+none_caused : (form : Option Form) (files : Files) → form ≡ None → cause_in form files ≡ None
+none_caused form files none = ap (λ f. cause_in f files) none
+
+-- where there is no cause, no text is refused
+none_refused : (first : Option Cause) → first ≡ None → IsScriptRefused first ⊎ IsConfRefused first → ⊥
+none_refused first none (inl refused) = let e = refused.1 in cc
+none_refused first none (inr refused) = let e = refused.1 in cc
+
+-- where a client's file is refused first, no text is
+wav_is_no_text : (first : Option Cause) (name : List ℕ) (why : WavError) → first ≡ Some (wav_refused name why) → IsScriptRefused first ⊎ IsConfRefused first → ⊥
+wav_is_no_text first name why wav (inl refused) = let e = refused.1 in cc
+wav_is_no_text first name why wav (inr refused) = let e = refused.1 in cc
+
+-- status 2 comes exactly where a text is refused
+pub status_of-text : {T : Type 0} (end : Result T Stop) (form : Option Form) (files : Files) (before now : ℕ)
+    → EndsOf end (cause_in form files) → Refuses end form → InputFaults end before now
+    → ComesExactly 2 (status_of end) (Rose before now) (IsScriptRefused (cause_in form files) ⊎ IsConfRefused (cause_in form files))
+status_of-text (Ok x) form files before now ends refuses faults =
+    record { only = λ is. absurd (omega arith); always = λ given kept left. absurd (none_refused _ ends given) }
+status_of-text (Err Words) form files before now ends refuses faults =
+    record { only = λ is. absurd (omega arith); always = λ given kept left. absurd (none_refused _ (none_caused form files refuses) given) }
+status_of-text (Err (Script error)) form files before now ends refuses faults =
+    record { only = λ is. inl (error, ends); always = λ given kept left. refl }
+status_of-text (Err (Conf error)) form files before now ends refuses faults =
+    record { only = λ is. inr (error, ends); always = λ given kept left. refl }
+status_of-text (Err (Wav name why)) form files before now ends refuses faults =
+    record { only = λ is. absurd (omega arith); always = λ given kept left. absurd (wav_is_no_text _ name.items why ends given) }
+status_of-text (Err (Read name)) form files before now ends refuses faults =
+    record { only = λ is. absurd (omega arith); always = λ given kept left. absurd (kept faults) }
+status_of-text (Err Write) form files before now ends refuses faults =
+    record { only = λ is. absurd (omega arith); always = λ given kept left. absurd (none_refused _ ends given) }
+status_of-text (Err Memory) form files before now ends refuses faults =
+    record { only = λ is. absurd (omega arith); always = λ given kept left. absurd (left refl) }
+
+-- status 3 comes exactly where a client's file is refused
+pub status_of-wav : {T : Type 0} (end : Result T Stop) (form : Option Form) (files : Files) (before now : ℕ)
+    → EndsOf end (cause_in form files) → Refuses end form → InputFaults end before now
+    → ComesExactly 3 (status_of end) (Rose before now) ((name : List ℕ) × ((e : WavError) × (cause_in form files ≡ Some (wav_refused name e))))
+status_of-wav (Ok x) form files before now ends refuses faults =
+    record { only = λ is. absurd (omega arith); always = λ given kept left. absurd (let e = given.1.1 in cc) }
+status_of-wav (Err Words) form files before now ends refuses faults =
+    record { only = λ is. absurd (omega arith); always = λ given kept left. absurd (let e = given.1.1 in let n = none_caused form files refuses in cc) }
+status_of-wav (Err (Script error)) form files before now ends refuses faults =
+    record { only = λ is. absurd (omega arith); always = λ given kept left. absurd (let e = given.1.1 in cc) }
+status_of-wav (Err (Conf error)) form files before now ends refuses faults =
+    record { only = λ is. absurd (omega arith); always = λ given kept left. absurd (let e = given.1.1 in cc) }
+status_of-wav (Err (Wav name why)) form files before now ends refuses faults =
+    record { only = λ is. (name.items, (why, ends)); always = λ given kept left. refl }
+status_of-wav (Err (Read name)) form files before now ends refuses faults =
+    record { only = λ is. absurd (omega arith); always = λ given kept left. absurd (kept faults) }
+status_of-wav (Err Write) form files before now ends refuses faults =
+    record { only = λ is. absurd (omega arith); always = λ given kept left. absurd (let e = given.1.1 in cc) }
+status_of-wav (Err Memory) form files before now ends refuses faults =
+    record { only = λ is. absurd (omega arith); always = λ given kept left. absurd (left refl) }
+
+-- over reliable files and a reliable output a call ends well
+pub status_of-reliable : {T : Type 0} (end : Result T Stop) (words : List (List ℕ)) (files : Files)
+    → EndsOf end (cause_in (form_of words) files) → Refuses end (form_of words) → EndsReliably end (cause_in (form_of words) files)
+    → EndsWell (status_of end) words files
+status_of-reliable (Ok x) words files ends refuses reliable =
+    record { reads = λ is. absurd (omega arith); writes = λ is. omega arith; valid = λ given. inl refl }
+status_of-reliable (Err Words) words files ends refuses reliable =
+    record { reads = λ is. absurd (omega arith); writes = λ is. omega arith; valid = λ given. absurd (let some = subst IsSome refuses given.0 in cc) }
+status_of-reliable (Err (Script error)) words files ends refuses reliable =
+    record { reads = λ is. absurd (omega arith); writes = λ is. omega arith; valid = λ given. absurd (let e = given.1 in cc) }
+status_of-reliable (Err (Conf error)) words files ends refuses reliable =
+    record { reads = λ is. absurd (omega arith); writes = λ is. omega arith; valid = λ given. absurd (let e = given.1 in cc) }
+status_of-reliable (Err (Wav name why)) words files ends refuses reliable =
+    record { reads = λ is. absurd (omega arith); writes = λ is. omega arith; valid = λ given. absurd (let e = given.1 in cc) }
+status_of-reliable (Err (Read name)) words files ends refuses reliable =
+    record { reads = λ is. (name.items, reliable); writes = λ is. omega arith; valid = λ given. absurd (let e = given.1 in cc) }
+status_of-reliable (Err Write) words files ends refuses reliable = absurd reliable
+status_of-reliable (Err Memory) words files ends refuses reliable =
+    record { reads = λ is. absurd (omega arith); writes = λ is. omega arith; valid = λ given. inr refl }

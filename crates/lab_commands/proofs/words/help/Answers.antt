@@ -1,0 +1,7 @@
+use Rattle.std.proofs.Common.{rules}
+use Rattle.lab_commands.specs.Words.{help_text}
+use Rattle.lab_commands.proofs.words.help.Goals as goal
+
+pub returns : goal.returns
+unfolding help_text
+returns c = search rules

@@ -1,0 +1,8 @@
+//! What a call of the program does: its words, its commands and its exit status, over any shelf of files and any outputs.
+#![tactic(auto)]
+
+mod commands;
+mod top;
+mod words;
+
+pub use top::dmixlab;

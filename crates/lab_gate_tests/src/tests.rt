@@ -1,0 +1,3 @@
+// Runs with gates.
+mod at_once;
+mod dying;

@@ -1,0 +1,249 @@
+// Mixed phases, in which clients and readers run while the card plays. What each sees of the card depends on the order of the
+// threads, so these runs are repeated, and each is checked by what must hold in every order.
+use super::checker::{Plan, Sounds, check};
+use lab_calls::{Left, MONO, STEREO, call, files_of, text_in, wav_around, wav_of};
+use std::alloc::{AllocError, Global};
+use std::marker::Sync;
+use std::test::Fail;
+use std::thread::Threads;
+
+// The samples of client number k, 2,048 frames of two channels, which differ from one client to the next.
+fn sound_of(alloc: Global, client: u32) -> Result<Vec<i16>, AllocError> {
+    let mut samples = Vec::new(alloc);
+    for number in 0..4096u32 {
+        let mixed = client
+            .wrapping_mul(7919)
+            .wrapping_add(number.wrapping_mul(10477))
+            % 24576;
+        samples.push(i16::try_from(mixed).unwrap_or(0).wrapping_sub(12288))?;
+    }
+    Ok(samples)
+}
+
+// The samples of so many clients.
+pub(super) fn sounds_of(alloc: Global, clients: u32) -> Result<Vec<Vec<i16>>, AllocError> {
+    let mut sounds = Vec::new(alloc);
+    for client in 0..clients {
+        sounds.push(sound_of(alloc, client)?)?;
+    }
+    Ok(sounds)
+}
+
+// What is captured: 1,024 frames, 1, 2 and so on.
+pub(super) fn captured(alloc: Global) -> Result<Vec<i16>, AllocError> {
+    let mut samples = Vec::new(alloc);
+    for number in 1..1025i16 {
+        samples.push(number)?;
+    }
+    Ok(samples)
+}
+
+// The lines of the card, of so many clients and of so many readers, and their openings.
+pub(super) fn opened(alloc: Global, clients: u32, readers: u32) -> Result<Plan, AllocError> {
+    let mut declared = String::new(alloc);
+    declared.push_str("card channels 2 rate 48000 period 64 ring 256 capture captured\n")?;
+    for client in 0..clients {
+        writeln!(declared, "client c{client} f{client}")?;
+    }
+    for reader in 0..readers {
+        writeln!(declared, "reader r{reader}")?;
+    }
+    let mut plan = Plan::new(alloc, declared.as_str())?;
+    for actor in 0..clients {
+        let name = format!(in alloc; "c{actor}")?;
+        plan.open(alloc, name.as_str(), actor as usize)?;
+    }
+    for reader in 0..readers {
+        let name = format!(in alloc; "r{reader}")?;
+        plan.open(alloc, name.as_str(), clients.wrapping_add(reader) as usize)?;
+    }
+    Ok(plan)
+}
+
+// A phase: what the card plays, and the lines of each client and of each reader.
+pub(super) fn push_phase(
+    alloc: Global,
+    plan: &mut Plan,
+    actors: (u32, u32),
+    plays: &[u64],
+    lines: (&[&str], &[&str]),
+) -> Result<(), AllocError> {
+    let before = plan.begin(alloc, plays)?;
+    for client in 0..actors.0 {
+        let name = format!(in alloc; "c{client}")?;
+        plan.lines(alloc, name.as_str(), client as usize, lines.0, before)?;
+    }
+    for reader in 0..actors.1 {
+        let name = format!(in alloc; "r{reader}")?;
+        let actor = actors.0.wrapping_add(reader) as usize;
+        plan.lines(alloc, name.as_str(), actor, lines.1, before)?;
+    }
+    plan.end()
+}
+
+// The script of so many clients and readers: they start without the card, run with it, are prepared again where they had an
+// xrun, run with it again, and at last the card plays alone.
+fn plan_of(alloc: Global, actors: (u32, u32)) -> Result<Plan, AllocError> {
+    let mut plan = opened(alloc, actors.0, actors.1)?;
+    push_phase(alloc, &mut plan, actors, &[], (&["write 128"], &["start"]))?;
+    push_phase(
+        alloc,
+        &mut plan,
+        actors,
+        &[64, 128],
+        (
+            &["write 100", "delay", "write 100"],
+            &["read 64", "read 100"],
+        ),
+    )?;
+    push_phase(alloc, &mut plan, actors, &[], (&["prepare"], &["read 500"]))?;
+    push_phase(
+        alloc,
+        &mut plan,
+        actors,
+        &[64, 64, 64],
+        (
+            &["write 200", "rewind 30", "write 60", "sync"],
+            &["avail", "read 30", "prepare", "read 300"],
+        ),
+    )?;
+    push_phase(alloc, &mut plan, actors, &[], (&["die 100"], &["die 50"]))?;
+    push_phase(
+        alloc,
+        &mut plan,
+        actors,
+        &[64, 64],
+        (
+            &["prepare", "write 100", "avail"],
+            &["prepare", "read 100", "read 9"],
+        ),
+    )?;
+    push_phase(alloc, &mut plan, (0, 0), &[256], (&[], &[]))?;
+    Ok(plan)
+}
+
+// What a run of a plan leaves, whose clients and whose capture have these samples.
+pub(super) fn left_of<R: Threads + Sync>(
+    rt: &R,
+    alloc: Global,
+    plan: &Plan,
+    sounds: &Sounds<'_>,
+) -> Result<Left, AllocError> {
+    let text = Vec::from_slice(alloc, plan.text.as_bytes())?;
+    let mut files = files_of(alloc, text, &[])?;
+    let name = Vec::from_slice(alloc, b"captured")?;
+    files.push((name, wav_around(alloc, MONO, sounds.captured)?))?;
+    let mut number = 0u32;
+    for samples in sounds.clients {
+        let name = format!(in alloc; "f{number}")?;
+        files.push((name.into_bytes(), wav_around(alloc, sounds.head, samples)?))?;
+        number = number.wrapping_add(1);
+    }
+    call(rt, alloc, &["run", "s", "o"], files, (&[], &[]))
+}
+
+// Runs the script of so many clients and readers so often, and checks each run.
+fn check_runs<R: Threads + Sync>(
+    rt: &R,
+    alloc: Global,
+    actors: (u32, u32),
+    times: u32,
+) -> Result<(), Fail> {
+    let plan = plan_of(alloc, actors)?;
+    let clients = sounds_of(alloc, actors.0)?;
+    let captured = captured(alloc)?;
+    let sounds = Sounds {
+        channels: 2,
+        head: STEREO,
+        clients: &clients,
+        readers: actors.1 as usize,
+        captured: &captured,
+    };
+    for _ in 0..times {
+        let left = left_of(rt, alloc, &plan, &sounds)?;
+        check(alloc, &plan, &sounds, &left)?;
+    }
+    Ok(())
+}
+
+#[test]
+fn two_clients_run_while_the_card_plays(rt: HostRuntime) -> Result<(), Fail> {
+    check_runs(&rt, rt.alloc(), (2, 0), 50)
+}
+
+#[test]
+fn eight_clients_and_two_readers_run_while_the_card_plays(rt: HostRuntime) -> Result<(), Fail> {
+    check_runs(&rt, rt.alloc(), (8, 2), 20)
+}
+
+#[test]
+fn sixty_four_clients_and_sixteen_readers_run_while_the_card_plays(
+    rt: HostRuntime,
+) -> Result<(), Fail> {
+    check_runs(&rt, rt.alloc(), (64, 16), 4)
+}
+
+// A client that writes while the card plays 64 frames starts before or after them, and the report says which.
+const ONE: &str =
+    "card channels 1 rate 48000 period 64 ring 256\nclient a a.wav\nopen a\nphase\na write 64\ncard play 64\nend\nphase\ncard play 192\nend\n";
+
+#[test]
+fn a_start_in_a_mixed_phase_is_before_or_after_the_play(rt: HostRuntime) -> Result<(), Fail> {
+    let alloc = rt.alloc();
+    for _ in 0..50u32 {
+        let text = Vec::from_slice(alloc, ONE.as_bytes())?;
+        let files = files_of(alloc, text, &[("a.wav", MONO, &[(64, 1000)])])?;
+        let left = call(&rt, alloc, &["run", "s", "o"], files, (&[], &[]))?;
+        assert_eq!(rt; left.status, 0);
+        let report = text_in(left.out.bytes());
+        let is_after = report.contains("1 a write 64 = 64 RUNNING 64\n");
+        let (seen, silent, rest) = if is_after {
+            (64, 128, 64)
+        } else {
+            (0, 64, 128)
+        };
+        let wanted = format!(in alloc;
+            "dmixlab 1\n0 a open = ok PREPARED -\n1 card play 64 = 64 RUNNING 64\n1 a write 64 = 64 RUNNING {seen}\n2 card play 192 = 192 RUNNING 256\nsegment a 0 {silent} 64 0\nplayed 0 256\nend\n"
+        )?;
+        assert_eq!(rt; report, wanted.as_str());
+        let file = wav_of(alloc, MONO, &[(silent, 0), (64, 1000), (rest, 0)])?;
+        assert_eq!(rt; left.shelf.file(b"o.wav").unwrap_or(&[]), file.as_slice());
+    }
+    Ok(())
+}
+
+// All 64 clients write in one phase without the card: nothing depends on their order, and the sum of 64 times -32768 is
+// saturated once.
+#[test]
+fn sixty_four_clients_write_at_once(rt: HostRuntime) -> Result<(), Fail> {
+    let alloc = rt.alloc();
+    let mut script = String::new(alloc);
+    let mut rows = String::new(alloc);
+    let mut segments = String::new(alloc);
+    let mut writes = String::new(alloc);
+    script.push_str("card channels 1 rate 48000 period 64 ring 256\n")?;
+    for number in 0..64u32 {
+        writeln!(script, "client c{number} a.wav")?;
+        writeln!(rows, "0 c{number} open = ok PREPARED -")?;
+        writeln!(segments, "segment c{number} 0 64 64 0")?;
+        writeln!(writes, "c{number} write 64")?;
+    }
+    for number in 0..64u32 {
+        writeln!(script, "open c{number}")?;
+        writeln!(rows, "1 c{number} write 64 = 64 RUNNING 0")?;
+    }
+    writeln!(script, "phase\n{writes}end\nphase\ncard play 128\nend")?;
+    let report = format!(in alloc;
+        "dmixlab 1\n{rows}2 card play 128 = 128 RUNNING 128\n{segments}played 0 128\nend\n"
+    )?;
+    let file = wav_of(alloc, MONO, &[(64, 0), (64, -32768)])?;
+    for _ in 0..4u32 {
+        let text = Vec::from_slice(alloc, script.as_bytes())?;
+        let files = files_of(alloc, text, &[("a.wav", MONO, &[(64, -32768)])])?;
+        let left = call(&rt, alloc, &["run", "s", "o"], files, (&[], &[]))?;
+        assert_eq!(rt; left.status, 0);
+        assert_eq!(rt; text_in(left.out.bytes()), report.as_str());
+        assert_eq!(rt; left.shelf.file(b"o.wav").unwrap_or(&[]), file.as_slice());
+    }
+    Ok(())
+}

@@ -1,0 +1,251 @@
+// What no clause says: that runs succeed where there is memory, and what is in the report and in the files
+// byte for byte.
+mod calls;
+mod plugs;
+mod readers;
+mod runs;
+mod sessions;
+
+use lab_calls::{MONO, call, files_of, steps_of, text_in, wav_around, wav_of};
+use readers::READERS;
+use runs::RUNS;
+use sessions::{SESSIONS, Session};
+use std::alloc::{AllocError, Global};
+use std::test::Fail;
+
+// Appends the lines of a phase.
+fn push_phase(text: &mut String, lines: &[(&str, &str)]) -> Result<(), AllocError> {
+    text.push_str("phase\n")?;
+    for (line, _) in lines {
+        writeln!(text, "{line}")?;
+    }
+    text.push_str("end\n")
+}
+
+// Appends the lines of the clients and of their openings.
+fn push_clients(text: &mut String, clients: &[(&str, &str, &str)]) -> Result<(), AllocError> {
+    for (name, file, _) in clients {
+        writeln!(text, "client {name} {file}")?;
+    }
+    for (name, _, _) in clients {
+        writeln!(text, "open {name}")?;
+    }
+    Ok(())
+}
+
+// The script of a session.
+fn script_of(alloc: Global, session: &Session<'_>) -> Result<Vec<u8>, AllocError> {
+    let mut text = String::new(alloc);
+    writeln!(text, "{}", session.card)?;
+    push_clients(&mut text, session.clients)?;
+    for phase in session.phases {
+        push_phase(&mut text, phase)?;
+    }
+    Ok(text.into_bytes())
+}
+
+// Appends the rows of the phase of this number.
+fn push_rows(text: &mut String, number: usize, lines: &[(&str, &str)]) -> Result<(), AllocError> {
+    for (line, answer) in lines {
+        writeln!(text, "{number} {line} = {answer}")?;
+    }
+    Ok(())
+}
+
+// Appends the rows of the openings.
+fn push_opens(text: &mut String, clients: &[(&str, &str, &str)]) -> Result<(), AllocError> {
+    for (name, _, answer) in clients {
+        writeln!(text, "0 {name} open = {answer}")?;
+    }
+    Ok(())
+}
+
+// The report that a session is to leave.
+fn report_of(alloc: Global, session: &Session<'_>) -> Result<Vec<u8>, AllocError> {
+    let mut text = String::new(alloc);
+    text.push_str("dmixlab 1\n")?;
+    push_opens(&mut text, session.clients)?;
+    let mut number = 0usize;
+    for phase in session.phases {
+        number = number.wrapping_add(1);
+        push_rows(&mut text, number, phase)?;
+    }
+    for line in session.tail {
+        writeln!(text, "{line}")?;
+    }
+    text.push_str("end\n")?;
+    Ok(text.into_bytes())
+}
+
+#[test]
+fn sessions_leave_their_report_and_file(rt: HostRuntime) -> Result<(), Fail> {
+    let alloc = rt.alloc();
+    for session in &SESSIONS {
+        let script = script_of(alloc, session)?;
+        let report = report_of(alloc, session)?;
+        let file = wav_of(alloc, session.head, session.played)?;
+        let files = files_of(alloc, script, session.wavs)?;
+        let left = call(&rt, alloc, &["run", "s", "o"], files, (&[], &[]))?;
+        let text = text_in(left.out.bytes());
+        let wanted = text_in(&report);
+        assert_eq!(rt; left.status, 0, "{}", session.name);
+        assert_eq!(rt; text, wanted, "{}", session.name);
+        assert_eq!(rt;
+            left.shelf.file(b"o.wav").unwrap_or(&[]),
+            file.as_slice(),
+            "{}",
+            session.name
+        );
+        assert!(rt; left.errors.bytes().is_empty());
+    }
+    Ok(())
+}
+
+// A line for each client number, made by a function of it.
+#[test]
+fn sixty_four_clients_are_saturated_once(rt: HostRuntime) -> Result<(), Fail> {
+    let alloc = rt.alloc();
+    let mut lines = String::new(alloc);
+    let mut rows = String::new(alloc);
+    lines.push_str("card channels 1 rate 48000 period 64 ring 256\n")?;
+    for k in 0u8..64 {
+        writeln!(lines, "client c{k} a.wav")?;
+        writeln!(rows, "0 c{k} open = ok PREPARED -")?;
+    }
+    for k in 0u8..64 {
+        writeln!(lines, "open c{k}")?;
+    }
+    for k in 0u8..64 {
+        writeln!(lines, "phase\nc{k} write 64\nend")?;
+        writeln!(rows, "{} c{k} write 64 = 64 RUNNING 0", k.wrapping_add(1))?;
+    }
+    lines.push_str("phase\ncard play 128\nend\n")?;
+    rows.push_str("65 card play 128 = 128 RUNNING 128\n")?;
+    for k in 0u8..64 {
+        writeln!(rows, "segment c{k} 0 64 64 0")?;
+    }
+    let files = files_of(
+        alloc,
+        lines.into_bytes(),
+        &[("a.wav", MONO, &[(64, -32768)])],
+    )?;
+    let left = call(&rt, alloc, &["run", "s", "o"], files, (&[], &[]))?;
+    assert_eq!(rt; left.status, 0);
+    let report = format!(in alloc; "dmixlab 1\n{rows}played 0 128\nend\n")?;
+    assert_eq!(rt; left.out.bytes(), report.as_bytes());
+    let file = wav_of(alloc, MONO, &[(64, 0), (64, -32768)])?;
+    assert_eq!(rt; left.shelf.file(b"o.wav").unwrap_or(&[]), file.as_slice());
+    Ok(())
+}
+
+#[test]
+fn a_script_has_4096_phases(rt: HostRuntime) -> Result<(), Fail> {
+    let alloc = rt.alloc();
+    let mut lines = String::new(alloc);
+    let mut rows = String::new(alloc);
+    lines.push_str("card channels 1 rate 48000 period 64 ring 256\nclient a a.wav\nopen a\n")?;
+    for number in 1u32..4097 {
+        lines.push_str("phase\ncard play 1\nend\n")?;
+        writeln!(rows, "{number} card play 1 = 1 RUNNING {number}")?;
+    }
+    let files = files_of(alloc, lines.into_bytes(), &[("a.wav", MONO, &[(1, 5)])])?;
+    let left = call(&rt, alloc, &["run", "s", "o"], files, (&[], &[]))?;
+    assert_eq!(rt; left.status, 0);
+    let report = format!(in alloc;
+        "dmixlab 1\n0 a open = ok PREPARED -\n{rows}played 0 4096\nend\n"
+    )?;
+    assert_eq!(rt; text_in(left.out.bytes()), text_in(report.as_bytes()));
+    let file = wav_of(alloc, MONO, &[(4096, 0)])?;
+    assert_eq!(rt; left.shelf.file(b"o.wav").unwrap_or(&[]), file.as_slice());
+    Ok(())
+}
+
+// An item of a script's body: the opening or closing of an actor with its answer, or a phase, of whose lines each has its answer.
+enum Act<'a> {
+    Opens(&'a str, &'a str),
+    Closes(&'a str, &'a str),
+    Phase(&'a [(&'a str, &'a str)]),
+}
+
+// A run: its name; the lines of the card, the clients and the readers; the body, whose lines are in the order of the report; the
+// report's lines behind the rows; the WAV files that are read, and those that are written.
+struct Run<'a> {
+    name: &'a str,
+    declared: &'a [&'a str],
+    body: &'a [Act<'a>],
+    tail: &'a [&'a str],
+    wavs: &'a [(&'a str, &'a [u8], &'a [(u16, i16, i16)])],
+    stored: &'a [(&'a str, &'a [u8], &'a [(u16, i16, i16)])],
+}
+
+// The script of a run.
+fn script_of_run(alloc: Global, run: &Run<'_>) -> Result<Vec<u8>, AllocError> {
+    let mut text = String::new(alloc);
+    for line in run.declared {
+        writeln!(text, "{line}")?;
+    }
+    for act in run.body {
+        match act {
+            Act::Opens(name, _) => writeln!(text, "open {name}")?,
+            Act::Closes(name, _) => writeln!(text, "close {name}")?,
+            Act::Phase(lines) => push_phase(&mut text, lines)?,
+        }
+    }
+    Ok(text.into_bytes())
+}
+
+// The report that a run is to leave.
+fn report_of_run(alloc: Global, run: &Run<'_>) -> Result<Vec<u8>, AllocError> {
+    let mut text = String::new(alloc);
+    text.push_str("dmixlab 1\n")?;
+    let mut number = 0usize;
+    for act in run.body {
+        match act {
+            Act::Opens(name, answer) => writeln!(text, "{number} {name} open = {answer}")?,
+            Act::Closes(name, answer) => writeln!(text, "{number} {name} close = {answer}")?,
+            Act::Phase(lines) => {
+                number = number.wrapping_add(1);
+                push_rows(&mut text, number, lines)?;
+            }
+        }
+    }
+    for line in run.tail {
+        writeln!(text, "{line}")?;
+    }
+    text.push_str("end\n")?;
+    Ok(text.into_bytes())
+}
+
+// The files that a run reads: the script `s`, and the WAV files.
+fn files_of_run(alloc: Global, run: &Run<'_>) -> Result<Vec<(Vec<u8>, Vec<u8>)>, AllocError> {
+    let mut files = Vec::new(alloc);
+    files.push((Vec::from_slice(alloc, b"s")?, script_of_run(alloc, run)?))?;
+    for (name, head, runs) in run.wavs {
+        let samples = steps_of(alloc, runs)?;
+        files.push((
+            Vec::from_slice(alloc, name.as_bytes())?,
+            wav_around(alloc, head, &samples)?,
+        ))?;
+    }
+    Ok(files)
+}
+
+#[test]
+fn runs_leave_their_report_and_files(rt: HostRuntime) -> Result<(), Fail> {
+    let alloc = rt.alloc();
+    for run in RUNS.iter().chain(READERS.iter()) {
+        let report = report_of_run(alloc, run)?;
+        let files = files_of_run(alloc, run)?;
+        let left = call(&rt, alloc, &["run", "s", "o"], files, (&[], &[]))?;
+        assert_eq!(rt; text_in(left.errors.bytes()), "", "{}", run.name);
+        assert_eq!(rt; left.status, 0, "{}", run.name);
+        assert_eq!(rt; text_in(left.out.bytes()), text_in(&report), "{}", run.name);
+        for (name, head, runs) in run.stored {
+            let samples = steps_of(alloc, runs)?;
+            let file = wav_around(alloc, head, &samples)?;
+            let held = left.shelf.file(name.as_bytes()).unwrap_or(&[]);
+            assert_eq!(rt; held, file.as_slice(), "{name} of {}", run.name);
+        }
+    }
+    Ok(())
+}
