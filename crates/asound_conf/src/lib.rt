@@ -26,6 +26,3 @@ pub use find::device;
 pub use plugin::{Device, DeviceKind};
 pub use print::print_device;
 pub use reader::read_conf;
-
-#[cfg(test)]
-mod tests;

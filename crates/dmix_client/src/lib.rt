@@ -18,6 +18,3 @@ mod write;
 pub use client::Client;
 pub use commit::Commit;
 pub use plain::Plain;
-
-#[cfg(test)]
-mod tests;

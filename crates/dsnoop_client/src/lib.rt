@@ -11,6 +11,3 @@ mod usable;
 
 pub use plain::Plain;
 pub use reader::Reader;
-
-#[cfg(test)]
-mod tests;

@@ -17,6 +17,3 @@ pub use frame_runs::FrameRuns;
 pub use reader::ReaderActor;
 pub use refused::refuse_lines;
 pub use room::{line_count, reads_are_few};
-
-#[cfg(test)]
-mod tests;

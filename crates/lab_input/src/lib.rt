@@ -6,8 +6,6 @@ mod input;
 mod plug;
 mod shape;
 mod sound;
-#[cfg(test)]
-mod tests;
 mod wavs;
 
 pub use input::{Input, read_input};

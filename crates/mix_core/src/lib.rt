@@ -18,6 +18,3 @@ pub use port::{Ended, Entry, Kind, MixPort, Placed, Position};
 pub use ring::Core;
 pub use turn::Turn;
 pub use usable::can_place;
-
-#[cfg(test)]
-mod tests;

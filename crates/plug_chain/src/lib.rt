@@ -18,6 +18,3 @@ pub use laws::{conversions_have_whole_frames, output_frames_lie_before_the_end};
 pub use plug::Plug;
 pub use table::Table;
 pub use wide::Wide;
-
-#[cfg(test)]
-mod tests;

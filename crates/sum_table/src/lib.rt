@@ -17,6 +17,3 @@ pub use ring::SumRing;
 pub use rule::Exactly;
 pub use seats::{Closed, MixSeat, PlayerSeat, SeatNote};
 pub use view::{Key, Sighting, Track, View};
-
-#[cfg(test)]
-mod tests;

@@ -1,0 +1,225 @@
+ghost use Rattle.std.specs.Prelude.{◌≡◌, ◌+◌, ◌<◌, ◌≤◌, Some, IfOk, IfErr};
+ghost use Rattle.sum_table.specs.Rings.{GaveNone, key_of_ring};
+ghost use Rattle.std.specs.Prelude.{[], ◌∷◌, Ok};
+ghost use Rattle.mix_core.specs.Laid.{an_add};
+ghost use Rattle.mix_core.specs.Port.{OnWhole, ended_of};
+ghost use Rattle.sum_table.specs.Seats.{CanAdd, Goes, SeatLaid, member_of, shown};
+
+mod threads;
+
+use mix_core::{MixPort, NeverStops, Placed, Position};
+use snd_base::{Cursor, Geometry, Steps};
+use std::alloc::Global;
+use std::marker::Brand;
+use std::process::Abort;
+use std::sync::ledger::{Blank, Ledger};
+use std::test::Fail;
+use sum_table::{Closed, MixSeat, SumRing};
+
+// A ring of 64 frames from lap 0 on.
+fn new_ring(alloc: Global, channels: u8, places: u32) -> Result<SumRing, Fail>
+    requires one { 1 ≤ channels }
+    requires most { channels ≤ 8 }
+    requires least { 1 ≤ places }
+    requires few { places ≤ 64 }
+    ensures gave_none { IfOk result (λ ring. GaveNone ring) }
+    ensures places { IfOk result (λ ring. (key_of_ring ring).places ≡ places) }
+{
+    let geometry = Geometry {
+        frames: 64,
+        channels,
+        first_lap: 0,
+    };
+    Ok(SumRing::new(alloc, geometry, places)?)
+}
+
+// Places a sample where the seat may, as seen at run time.
+#[tactic(auto, using(sum_table::proofs::Going::stays))]
+fn try_place(seat: &mut MixSeat<'_>, frame: u64, channel: u8, sample: i16) -> Result<Placed, Fail>
+    ensures goes { Goes seat.old seat.new }
+    ensures laid { IfOk result (λ placed. OnWhole (ended_of (Ok placed)) (SeatLaid seat.old seat.new (an_add (member_of seat.old) frame channel sample ∷ []))) }
+{
+    let geometry = seat.geometry();
+    if !seat.can_add() || channel >= geometry.channels || geometry.lap(frame) >= 4294967295 {
+        return Err("no place".into());
+    }
+    let ahead = seat.seen() + geometry.frames as u64;
+    if frame < seat.cursor().first_free(channel) || frame >= ahead {
+        return Err("outside".into());
+    }
+    Ok(seat.place(&mut NeverStops, frame, channel, sample)?)
+}
+
+// Places a sample and withdraws it again, where the seat may, as seen at run time.
+fn place_and_withdraw(seat: &mut MixSeat<'_>, frame: u64, sample: i16) -> Result<Placed, Fail> {
+    let Placed::In = try_place(seat, frame, 0, sample)? else {
+        return Err("late".into());
+    };
+    if frame < seat.floor().first_free(0) {
+        return Err("before the floor".into());
+    }
+    Ok(seat.withdraw(&mut NeverStops, frame, 0, sample)?)
+}
+
+// Exchanges a word that the seat noted, where it may, as seen at run time.
+fn try_exchange<L: Ledger>(
+    seat: &mut MixSeat<'_>,
+    frame: u64,
+    old: u64,
+    sample: i16,
+    steps: &mut Steps<L>,
+) -> Result<Result<(), u64>, Fail>
+    requires noted { shown seat.old frame 0 ≡ Some old }
+    ensures noted { IfOk result (λ answer. IfErr answer (λ found. shown seat.new frame 0 ≡ Some found)) }
+{
+    let geometry = seat.geometry();
+    let its_lap = geometry.lap(frame);
+    if seat.places() == 0 || its_lap >= 4294967295 || lap_word::lap(old) as u64 != its_lap {
+        return Err("another lap".into());
+    }
+    if frame < seat.cursor().first_free(0) || frame >= seat.seen() + geometry.frames as u64 {
+        return Err("outside".into());
+    }
+    Ok(seat.exchange_word(frame, 0, old, sample, steps))
+}
+
+fn lose_once<L: Ledger, A: Abort>(rt: &A, alloc: Global, blank: Blank) -> Result<(), Fail>
+    requires name { blank.name ≡ L.name }
+    requires parts { blank.parts ≡ L.parts }
+    requires some { 0 < blank.parts }
+{
+    let mut steps: Steps<L> = Steps::open(blank);
+    let mut ring = new_ring(alloc, 1, 2)?;
+    let (mut player, mut a) = ring.seats();
+    let mut b = a.split(1, 1);
+    let word = a.load_word(5, 0, &mut steps);
+    assert_eq!(rt; word, 8388608);
+    assert_eq!(rt; try_place(&mut b, 5, 0, 10000)?, Placed::In);
+    let Err(found) = try_exchange(&mut a, 5, word, 30000, &mut steps)? else {
+        return Err("the exchange was won".into());
+    };
+    assert_eq!(rt; found, 25175824);
+    assert_eq!(rt; try_exchange(&mut a, 5, found, 30000, &mut steps)?, Ok(()));
+    assert_eq!(rt; a.load_word(5, 0, &mut steps), 41983040);
+    for _ in 0..5 {
+        assert_eq!(rt; player.take_word()?.value, 0);
+    }
+    assert_eq!(rt; player.take_word()?.value, 32767);
+    Ok(())
+}
+
+// Of two seats that found one word the second loses its exchange, finds the first one's sample there, and adds its own.
+#[test]
+fn a_lost_exchange_is_tried_again(rt: HostRuntime) -> Result<(), Fail> {
+    lose_once::<Brand, _>(&rt, rt.alloc(), Blank::new(1))
+}
+
+#[test]
+fn a_place_at_a_taken_frame_is_late(rt: HostRuntime) -> Result<(), Fail> {
+    let mut ring = new_ring(rt.alloc(), 1, 1)?;
+    let (mut player, mut a) = ring.seats();
+    for _ in 0..10 {
+        assert_eq!(rt; player.take_word()?.value, 0);
+    }
+    player.publish();
+    let position = Position {
+        frame: 10,
+        gone: false,
+    };
+    let before = a.cursor();
+    assert_eq!(rt; a.position(&mut NeverStops)?, position);
+    let late = Placed::Late { seen: 4303355904 };
+    assert_eq!(rt; try_place(&mut a, 7, 0, 1)?, late);
+    assert_eq!(rt; a.cursor(), before);
+    assert_eq!(rt; a.last(), None);
+    player.unplug();
+    assert!(rt; a.position(&mut NeverStops)?.gone);
+    Ok(())
+}
+
+fn lay_anew<L: Ledger, A: Abort>(rt: &A, alloc: Global, blank: Blank) -> Result<(), Fail>
+    requires name { blank.name ≡ L.name }
+    requires parts { blank.parts ≡ L.parts }
+    requires some { 0 < blank.parts }
+{
+    let mut steps: Steps<L> = Steps::open(blank);
+    let mut ring = new_ring(alloc, 1, 1)?;
+    let (mut player, mut a) = ring.seats();
+    assert_eq!(rt; place_and_withdraw(&mut a, 0, 30000)?, Placed::In);
+    assert_eq!(rt; try_place(&mut a, 0, 0, 7)?, Placed::In);
+    assert_eq!(rt; a.load_word(0, 0, &mut steps), 58720263);
+    assert_eq!(rt; player.take_word()?.value, 7);
+    Ok(())
+}
+
+// A sample that is placed, withdrawn and placed anew is three changes of one word, and the last sample is played.
+#[test]
+fn a_withdrawn_sample_is_placed_anew(rt: HostRuntime) -> Result<(), Fail> {
+    lay_anew::<Brand, _>(&rt, rt.alloc(), Blank::new(1))
+}
+
+// The largest ring is made where there is memory for it, and its last word is laid.
+#[test]
+fn the_largest_ring_is_made(rt: HostRuntime) -> Result<(), Fail> {
+    let geometry = Geometry {
+        frames: 16384,
+        channels: 8,
+        first_lap: 0,
+    };
+    let mut ring = SumRing::new(rt.alloc(), geometry, 64)?;
+    let (mut player, mut seat) = ring.seats();
+    assert_eq!(rt; seat.places(), 64);
+    assert_eq!(rt; try_place(&mut seat, 16383, 7, 5)?, Placed::In);
+    assert_eq!(rt; player.take_word()?.value, 0);
+    Ok(())
+}
+
+fn sum_three<L: Ledger, A: Abort>(rt: &A, alloc: Global, blank: Blank) -> Result<(), Fail>
+    requires name { blank.name ≡ L.name }
+    requires parts { blank.parts ≡ L.parts }
+    requires some { 0 < blank.parts }
+{
+    let mut steps: Steps<L> = Steps::open(blank);
+    let mut ring = new_ring(alloc, 1, 3)?;
+    let (mut player, mut a) = ring.seats();
+    let mut b = a.split(1, 1);
+    let mut c = a.split(1, 2);
+    assert_eq!(rt; try_place(&mut a, 0, 0, 30000)?, Placed::In);
+    assert_eq!(rt; try_place(&mut b, 0, 0, 10000)?, Placed::In);
+    assert_eq!(rt; try_place(&mut c, 0, 0, -20000)?, Placed::In);
+    assert_eq!(rt; a.load_word(0, 0, &mut steps), 58740256);
+    assert_eq!(rt; player.take_word()?.value, 20000);
+    Ok(())
+}
+
+// 30000, 10000 and -20000 are summed before the cut: 20000 is played.
+#[test]
+fn three_samples_share_one_word(rt: HostRuntime) -> Result<(), Fail> {
+    sum_three::<Brand, _>(&rt, rt.alloc(), Blank::new(1))
+}
+
+// Seats are split off, lay, meet the player, are joined again, and end with it.
+#[test]
+fn seats_end_where_they_began(rt: HostRuntime) -> Result<(), Fail> {
+    let mut ring = new_ring(rt.alloc(), 2, 3)?;
+    let (mut player, mut mix) = ring.seats();
+    let mut a = mix.split(2, 7);
+    assert_eq!(rt; a.member(), 7);
+    assert_eq!(rt; try_place(&mut a, 0, 1, -32768)?, Placed::In);
+    assert_eq!(rt; player.take_word()?.value, 0);
+    assert_eq!(rt; player.take_word()?.value, -32768);
+    player.publish();
+    a.meet(player.note());
+    assert_eq!(rt; a.seen(), 1);
+    player.meet(a.note());
+    assert_eq!(rt; try_place(&mut a, 3, 0, 5)?, Placed::In);
+    mix.join(a);
+    assert_eq!(rt; mix.places(), 3);
+    assert_eq!(rt; mix.last(), Some(3));
+    let next = Cursor {
+        frame: 1,
+        channel: 0,
+    };
+    assert_eq!(rt; mix.close(player), Closed { position: 1, next });
+    Ok(())
+}
