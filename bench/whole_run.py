@@ -6,9 +6,10 @@ usage: bench/whole_run.py [PROGRAM]        from the top of the repository; build
 - 64 clients write files of 60 s in rounds of one write each and one play: processor time for each input sample, beside
   `sox -m -v 1`, `ffmpeg` with `amix` and a plain C program (bench/plain_sum.c), which mix the same files, where they are there.
 - A card that plays alone: processor time for each word that it takes, saturates and writes.
-- 4,096 phases in which one client has a line, and 1,000 in which 64 clients have one: processor time for each phase.
+- 4,096 phases in which one client has a line, and 1,000 in which 64 clients have one: processor time for each phase, and time on the clock.
+- `dmixlab make 1 64 1000`, which makes a script of 64 clients and 1,000 phases and runs it.
 
-Times are processor time (user and system), the least of three runs, and of 25 of the card alone. The program runs with the C library's settings that the
+Times are processor time (user and system) where they don't say that they are on the clock, the least of some runs. The program runs with the C library's settings that the
 script `dmixlab` gives it.
 """
 import array
@@ -19,6 +20,7 @@ import struct
 import subprocess
 import sys
 import tempfile
+import time
 from pathlib import Path
 
 TOP = Path(__file__).resolve().parent.parent
@@ -59,30 +61,47 @@ def play_script(rounds):
     return "\n".join(lines) + "\n"
 
 
-def least_time(command, folder, runs):
-    """The least processor time of so many runs of a command, and its greatest peak of memory in KiB."""
-    best, peak = None, 0
+class Cost:
+    """What runs of a command took at least: seconds of processor time, seconds on the clock; and the greatest peak of memory in KiB."""
+
+    def __init__(self):
+        self.spent = self.clock = float("inf")
+        self.peak = 0
+
+    def add(self, spent, clock, peak):
+        self.spent, self.clock, self.peak = min(self.spent, spent), min(self.clock, clock), max(self.peak, peak)
+
+
+def least_cost(command, folder, runs):
+    """What so many runs of a command took."""
+    cost = Cost()
     given = {"GLIBC_TUNABLES": SETTINGS, **os.environ}
     for _ in range(runs):
+        begun = time.monotonic()
         process = subprocess.Popen(command, cwd=folder, env=given, stdout=subprocess.DEVNULL, stderr=subprocess.DEVNULL)
         _, status, usage = os.wait4(process.pid, 0)
         if status != 0:
             sys.exit(f"{command[0]} ended with {status}")
-        spent = usage.ru_utime + usage.ru_stime
-        best = spent if best is None else min(best, spent)
-        peak = max(peak, usage.ru_maxrss)
-    return best, peak
+        cost.add(usage.ru_utime + usage.ru_stime, time.monotonic() - begun, usage.ru_maxrss)
+    return cost
 
 
-def processor_time(program, folder, script, runs=3):
+def run_cost(program, folder, script, runs=3):
+    """What the program takes for a script."""
     (folder / "s").write_text(script)
-    return least_time([program, "run", "s", "o"], folder, runs)
+    return least_cost([program, "run", "s", "o"], folder, runs)
 
 
-def phase_time(program, folder, count, phases):
-    """The processor time of a phase in which so many clients have a line, without the reading of their files."""
-    spent = processor_time(program, folder, phases_script(count, phases))[0]
-    return (spent - processor_time(program, folder, phases_script(count, 1))[0]) / (phases - 1)
+def phase_times(program, folder, count, phases):
+    """Microseconds of a phase in which so many clients have a line, without the reading of their files: of processor time, and on the clock."""
+    many, one = (run_cost(program, folder, phases_script(count, number), 5) for number in (phases, 1))
+    return [(whole - begun) * 1e6 / (phases - 1) for whole, begun in ((many.spent, one.spent), (many.clock, one.clock))]
+
+
+def make_times(program, folder):
+    """Seconds of `make 1 64 1000`: of processor time, and on the clock."""
+    cost = least_cost([program, "make", "1", "64", "1000"], folder, 3)
+    return cost.spent, cost.clock
 
 
 def others(folder):
@@ -113,15 +132,17 @@ def main():
         for k in range(CLIENTS):
             write_wav(folder / f"c{k}.wav", noise[k * 1000:] + noise[:k * 1000])
         samples = CLIENTS * frames
-        spent, peak = processor_time(program, folder, mix_script(frames))
-        print(f"64 clients: {spent * 1e9 / samples:.1f} ns an input sample, peak memory {peak} KiB")
+        mixed = run_cost(program, folder, mix_script(frames))
+        print(f"64 clients: {mixed.spent * 1e9 / samples:.1f} ns an input sample, peak memory {mixed.peak} KiB")
         for name, command in others(folder):
-            spent, _ = least_time(command, folder, 3)
-            print(f"{name}: {spent * 1e9 / samples:.1f} ns an input sample")
-        played, begun = (processor_time(program, folder, play_script(rounds), 25)[0] for rounds in (PLAYS, 1))
+            print(f"{name}: {least_cost(command, folder, 3).spent * 1e9 / samples:.1f} ns an input sample")
+        played, begun = (run_cost(program, folder, play_script(rounds), 25).spent for rounds in (PLAYS, 1))
         print(f"a card alone: {(played - begun) * 1e9 / ((PLAYS - 1) * ROUND):.1f} ns a played word")
-        print(f"a phase of one client: {phase_time(program, folder, 1, 4096) * 1e6:.1f} us")
-        print(f"a phase of 64 clients: {phase_time(program, folder, 64, 1000) * 1e6:.0f} us")
+        for count, phases in ((1, 4096), (64, 1000)):
+            spent, clock = phase_times(program, folder, count, phases)
+            print(f"a phase of {count} client{'s' * (count > 1)}: {spent:.1f} us, {clock:.1f} us on the clock")
+        spent, clock = make_times(program, folder)
+        print(f"make 1 64 1000: {spent:.1f} s, {clock:.1f} s on the clock")
 
 
 if __name__ == "__main__":
