@@ -18,13 +18,13 @@ use Rattle.dmix_client.specs.declared.commit.Commit.{Commit}
 use Rattle.mix_core.specs.declared.port.Ended.{Ended}
 use Rattle.mix_core.specs.declared.port.Ended.TheVariants as ended
 use Rattle.dmix_client.specs.declared.plain.Plain.{Plain}
-use Rattle.dmix_client.specs.Calls.{Answered, accepted, accepted_if, commit_count, committed_by, end_channel, end_of_commit, is_running, is_stop, late_at, late_of, over_of, seen_at, settled, started, started_in, sync_count, synced, taken_of, with_number, written_on}
+use Rattle.dmix_client.specs.Calls.{Answered, accepted, accepted_if, commit_count, committed_by, end_channel, end_of_commit, is_running, is_stop, late_at, late_of, over_of, seen_at, with_outcome, after_start, started_in, sync_count, after_sync, taken_of, with_number, written_on}
 use Rattle.dmix_client.specs.Causes.{IsCaused, IsGone, IsOfSteps, Reaches}
 use Rattle.mix_core.specs.Port.{IsPast, OnLate, PortView}
 use Rattle.dmix_client.specs.Port.{IsCommit, IsFound, IsStep}
 use Rattle.pcm_stream.specs.Status.{is_moving}
 use Rattle.dmix_client.specs.View.{avail_of, queued_of}
-use Rattle.dmix_client.proofs.Ends.{by-test, next-ends, started-ends, written-ends}
+use Rattle.dmix_client.proofs.Ends.{by-test, next-ends, after_start-ends, written-ends}
 use Rattle.dmix_client.proofs.Sound.{none-of}
 
 -- two errors are the same whatever else their calls would answer
@@ -181,9 +181,9 @@ last-true true b n is = refl
 last-true false true n is = refl
 last-true false false n is = absurd (cc)
 
-IsPlain-synced : (c : Plain) (position : Position) (x : Commit) → IsCommit x.ended x.frames x.part (sync_count c position) (length c.setup.bindings)
+IsPlain-after_sync : (c : Plain) (position : Position) (x : Commit) → IsCommit x.ended x.frames x.part (sync_count c position) (length c.setup.bindings)
     → IsPlain position.gone (over_of (seen_at c position) position) x.ended
-IsPlain-synced c position x is =
+IsPlain-after_sync c position x is =
     let over = over_of (seen_at c position) position in
     let count = commit_count c position.frame c.stretch.written in
     let whole : sync_count c position ≡ 0 → x.ended ≡ ended.Whole =
@@ -237,7 +237,7 @@ free-at c position here none = record {
 module _ {S : Type 0} (view : S → PortView) (shows : S → ℕ → ℕ → Option ℕ) (q : S) where
   pub IsCaused-plain : (c : Plain) (call : Call) (load : Option Position) (x : Commit) → IsStep c.status.state call → IfSome load (λ position. IsPlain position.gone (over_of (seen_at c position) position) x.ended)
       → IfSome load (λ position. OnLate x.ended (λ word. IsPast view shows q (end_of_commit c x) (end_channel c x) word))
-      → IsCaused {X = Unit {0}} view shows q c (synced c call load x).0 load (synced c call load x).1
+      → IsCaused {X = Unit {0}} view shows q c (after_sync c call load x).0 load (after_sync c call load x).1
   IsCaused-plain c call None x step plain shown = caused-none view shows q c (record c { status = record c.status { stopped = true } })
   IsCaused-plain c call (Some position) x step plain shown =
       let done : Plain = committed_by (seen_at c position) x in
@@ -247,7 +247,7 @@ module _ {S : Type 0} (view : S → PortView) (shows : S → ℕ → ℕ → Opt
         here = λ gone. let no : is_stop ended.Whole ≡ true = subst (λ (e : Ended). is_stop e ≡ true) (plain.here gone) stop in cc;
         below = λ a f h. let no : is_stop ended.Whole ≡ true = subst (λ (e : Ended). is_stop e ≡ true) (plain.below a f (some-of c position a f h.1 h.2 h.3 h.4)) stop in cc;
       }) other-stopped)
-      (λ going. next-ends (λ (o : Outcome). IsCaused {X = Unit {0}} view shows q c (settled done o).0 (Some position) o.answer) c.status.state call (queued_of done) position.gone (over_of (seen_at c position) position) (late_of (seen_at c position) x) step
+      (λ going. next-ends (λ (o : Outcome). IsCaused {X = Unit {0}} view shows q c (with_outcome done o).0 (Some position) o.answer) c.status.state call (queued_of done) position.gone (over_of (seen_at c position) position) (late_of (seen_at c position) x) step
       (λ gone. caused-gone view shows q c _ position gone)
       (λ a f here runs is. caused-over view shows q c _ position a f (reaches-of c position a f here is))
       (λ w here none is. caused-late view shows q c c _ (Some position) x w (free-at c position here none) refl refl is shown)
@@ -256,24 +256,24 @@ module _ {S : Type 0} (view : S → PortView) (shows : S → ℕ → ℕ → Opt
       (λ here drains in_time same. caused-other view shows q c _ (Some position) _ (free-at c position here (λ runs. absurd (cc))) (other-ok tt))
       (λ here drains in_time same. caused-other view shows q c _ (Some position) _ (free-at c position here (λ runs. absurd (cc))) other-again))
 
-  pub IsCaused-synced : (c : Plain) (call : Call) (load : Option Position) (x : Commit) → IsStep c.status.state call → IsFound load x (λ position. c) (sync_count c) (length c.setup.bindings)
+  pub IsCaused-after_sync : (c : Plain) (call : Call) (load : Option Position) (x : Commit) → IsStep c.status.state call → IsFound load x (λ position. c) (sync_count c) (length c.setup.bindings)
       → IfSome load (λ position. OnLate x.ended (λ word. IsPast view shows q (end_of_commit c x) (end_channel c x) word))
-      → IsCaused {X = Unit {0}} view shows q c (synced c call load x).0 load (synced c call load x).1
-  IsCaused-synced c call load x step found shown = IsCaused-plain c call load x step (plain-found load found.commit_is) shown
+      → IsCaused {X = Unit {0}} view shows q c (after_sync c call load x).0 load (after_sync c call load x).1
+  IsCaused-after_sync c call load x step found shown = IsCaused-plain c call load x step (plain-found load found.commit_is) shown
     where
       plain-found : (at : Option Position) → IfSome at (λ (position : Position). IsCommit x.ended x.frames x.part (sync_count c position) (length c.setup.bindings))
           → IfSome at (λ position. IsPlain position.gone (over_of (seen_at c position) position) x.ended)
       plain-found None commit_is = tt
-      plain-found (Some position) commit_is = IsPlain-synced c position x commit_is
+      plain-found (Some position) commit_is = IsPlain-after_sync c position x commit_is
 
   -- ---- a start
 
-  pub IsCaused-started : (c : Plain) (state : State) (cursor : Cursor) (load : Option Position) (x : Commit) → c.status.state ≡ Prepared
+  pub IsCaused-after_start : (c : Plain) (state : State) (cursor : Cursor) (load : Option Position) (x : Commit) → c.status.state ≡ Prepared
       → IfSome load (λ (position : Position). OnLate x.ended (λ word. IsPast view shows q (end_of_commit (started_in c Running position cursor) x) (end_channel (started_in c Running position cursor) x) word))
-      → IsCaused {X = Unit {0}} view shows q c (started c state cursor load x).0 load (started c state cursor load x).1
-  IsCaused-started c state cursor None x waits shown = caused-none view shows q c (record c { status = record c.status { stopped = true } })
-  IsCaused-started c state cursor (Some position) x waits shown =
-      started-ends (λ (a : Answered (Unit {0})). IsCaused {X = Unit {0}} view shows q c a.0 (Some position) a.1) c state cursor position x
+      → IsCaused {X = Unit {0}} view shows q c (after_start c state cursor load x).0 load (after_start c state cursor load x).1
+  IsCaused-after_start c state cursor None x waits shown = caused-none view shows q c (record c { status = record c.status { stopped = true } })
+  IsCaused-after_start c state cursor (Some position) x waits shown =
+      after_start-ends (λ (a : Answered (Unit {0})). IsCaused {X = Unit {0}} view shows q c a.0 (Some position) a.1) c state cursor position x
       (λ gone. caused-gone view shows q c _ position gone)
       (λ here stop. caused-other view shows q c _ (Some position) (Err Stopped) (free-at c position here (λ runs. absurd (cc))) other-stopped)
       (λ w here going is. caused-late view shows q c (started_in c Running position cursor) _ (Some position) x w (free-at c position here (λ runs. absurd (cc))) refl refl is shown)
@@ -308,9 +308,9 @@ caused-moved view shows q r load c (d, Ok done) first same = record {
 
 -- ---- when a write is to be made again
 
-pub synced-not_again : (c : Plain) (load : Option Position) (x : Commit) → c.status.state ≡ Running → (synced c call.Transfer load x).1 ≡ Err Again → ⊥
-synced-not_again c None x running = λ is. cc
-synced-not_again c (Some position) x running =
+pub after_sync-not_again : (c : Plain) (load : Option Position) (x : Commit) → c.status.state ≡ Running → (after_sync c call.Transfer load x).1 ≡ Err Again → ⊥
+after_sync-not_again c None x running = λ is. cc
+after_sync-not_again c (Some position) x running =
     by-test (λ (a : Answered (Unit {0})). a.1 ≡ Err Again → ⊥) (is_stop x.ended) _ _ (λ stop is. cc)
     (λ going. next-ends (λ (o : Outcome). o.answer ≡ Err Again → ⊥) c.status.state call.Transfer (queued_of (committed_by (seen_at c position) x)) position.gone (over_of (seen_at c position) position) (late_of (seen_at c position) x)
     (subst (λ (s : State). IsStep s call.Transfer) (sym running) tt) (λ gone is. cc) (λ a f here runs over is. cc) (λ w here none late is. cc) (λ here runs none in_time is. cc) (λ here drains in_time is. cc) (λ here drains in_time same is. cc) (λ here drains in_time same. absurd (cc)))

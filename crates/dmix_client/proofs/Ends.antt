@@ -14,7 +14,7 @@ use Rattle.snd_base.specs.declared.errors.PcmError.TheVariants as error
 use Rattle.snd_base.specs.declared.errors.XrunWhy.TheVariants as why
 use Rattle.snd_base.specs.declared.errors.XrunWhy.{XrunWhy}
 use Rattle.snd_base.specs.declared.places.Cursor.{Cursor}
-use Rattle.dmix_client.specs.Calls.{Answered, accepted, accepted_if, committed_by, found_at, going_on, in_state, is_stop, late_of, seen_at, settled, started, started_in, stopped_in, synced, taken_of, written_after}
+use Rattle.dmix_client.specs.Calls.{Answered, accepted, accepted_if, committed_by, found_at, going_on, in_state, is_stop, late_of, seen_at, with_outcome, after_start, started_in, stopped_in, after_sync, taken_of, written_after}
 use Rattle.dmix_client.specs.Growth.{KeepsAccepted}
 use Rattle.dmix_client.specs.Port.{IsStep}
 use Rattle.dmix_client.specs.View.{avail_of}
@@ -81,13 +81,13 @@ start-ends X false None at_gone at_late begins = begins refl refl
 -- ---- by the call
 
 -- a start that loaded a position
-pub started-ends : (X : Answered (Unit {0}) → Type 0) (c : Plain) (state : State) (cursor : Cursor) (position : Position) (x : Commit)
+pub after_start-ends : (X : Answered (Unit {0}) → Type 0) (c : Plain) (state : State) (cursor : Cursor) (position : Position) (x : Commit)
     → (position.gone ≡ true → X (in_state (seen_at c position) Disconnected, Err error.NoDevice))
     → (position.gone ≡ false → is_stop x.ended ≡ true → X (stopped_in (committed_by (started_in c state position cursor) x)))
     → ((w : XrunWhy) → position.gone ≡ false → is_stop x.ended ≡ false → late_of (started_in c state position cursor) x ≡ Some w → X (in_state (committed_by (started_in c state position cursor) x) Xrun, Err (error.Xrun w)))
     → (position.gone ≡ false → is_stop x.ended ≡ false → late_of (started_in c state position cursor) x ≡ None → X (in_state (committed_by (started_in c state position cursor) x) state, Ok tt))
-    → X (started c state cursor (Some position) x)
-started-ends X c state cursor position x at_gone at_stop at_late begins =
+    → X (after_start c state cursor (Some position) x)
+after_start-ends X c state cursor position x at_gone at_stop at_late begins =
     let done : Plain = committed_by (started_in c state position cursor) x in
     let late : Option XrunWhy = late_of (started_in c state position cursor) x in
     by-test X position.gone _ _
@@ -98,7 +98,7 @@ started-ends X c state cursor position x at_gone at_stop at_late begins =
 -- the commit of a write
 accepted-ends : (X : Answered ℕ → Type 0) (d : Plain) (m : ℕ) (late : Option XrunWhy) → ((w : XrunWhy) → late ≡ Some w → X (in_state d Xrun, Err (error.Xrun w)))
     → (late ≡ None → X (accepted (in_state d Running) m, Ok m))
-    → X (accepted_if m (settled d (next_of Running call.Transfer (found_at (record { frame = 0; gone = false }) late))))
+    → X (accepted_if m (with_outcome d (next_of Running call.Transfer (found_at (record { frame = 0; gone = false }) late))))
 accepted-ends X d m (Some w) at_late goes = at_late w refl
 accepted-ends X d m None at_late goes = goes refl
 
@@ -123,13 +123,13 @@ written-ends X c n x again at_stop at_late goes =
 -- ---- what is left of a client, in some status
 
 -- a sync that loaded a position leaves the client behind its commit
-pub synced-leaves : (X : Plain → Type 0) (c : Plain) (call : Call) (position : Position) (x : Commit) → ((s : Status) → X (record (committed_by (seen_at c position) x) { status = s }))
-    → X (synced c call (Some position) x).0
-synced-leaves X c call position x all = by-test (λ (a : Answered (Unit {0})). X a.0) (is_stop x.ended) _ _ (λ stop. all _) (λ going. all _)
+pub after_sync-leaves : (X : Plain → Type 0) (c : Plain) (call : Call) (position : Position) (x : Commit) → ((s : Status) → X (record (committed_by (seen_at c position) x) { status = s }))
+    → X (after_sync c call (Some position) x).0
+after_sync-leaves X c call position x all = by-test (λ (a : Answered (Unit {0})). X a.0) (is_stop x.ended) _ _ (λ stop. all _) (λ going. all _)
 
 -- what was accepted stays so over a start
-pub KeepsAccepted-started : (c : Plain) (state : State) (cursor : Cursor) (load : Option Position) (x : Commit) → KeepsAccepted c (started c state cursor load x).0
-KeepsAccepted-started c state cursor None x = record { written = refl; fed = refl; bindings = refl }
-KeepsAccepted-started c state cursor (Some position) x =
-    started-ends (λ (a : Answered (Unit {0})). KeepsAccepted c a.0) c state cursor position x (λ gone. record { written = refl; fed = refl; bindings = refl }) (λ here stop. record { written = refl; fed = refl; bindings = refl })
+pub KeepsAccepted-after_start : (c : Plain) (state : State) (cursor : Cursor) (load : Option Position) (x : Commit) → KeepsAccepted c (after_start c state cursor load x).0
+KeepsAccepted-after_start c state cursor None x = record { written = refl; fed = refl; bindings = refl }
+KeepsAccepted-after_start c state cursor (Some position) x =
+    after_start-ends (λ (a : Answered (Unit {0})). KeepsAccepted c a.0) c state cursor position x (λ gone. record { written = refl; fed = refl; bindings = refl }) (λ here stop. record { written = refl; fed = refl; bindings = refl })
     (λ w here going late. record { written = refl; fed = refl; bindings = refl }) (λ here going in_time. record { written = refl; fed = refl; bindings = refl })

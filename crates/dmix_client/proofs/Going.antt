@@ -19,8 +19,8 @@ use Rattle.snd_base.specs.declared.errors.PcmError.TheVariants.{Again, Stopped}
 use Rattle.snd_base.specs.declared.errors.PcmError.{PcmError}
 use Rattle.snd_base.specs.declared.errors.XrunWhy.TheVariants as why
 use Rattle.snd_base.specs.declared.places.Cursor.{Cursor}
-use Rattle.dmix_client.proofs.Ends.{by-test, next-ends, started-ends}
-use Rattle.dmix_client.specs.Calls.{Answered, accepted_if, committed_by, is_stop, late_of, over_of, seen_at, settled, started, started_in, stopped_in, synced}
+use Rattle.dmix_client.proofs.Ends.{by-test, next-ends, after_start-ends}
+use Rattle.dmix_client.specs.Calls.{Answered, accepted_if, committed_by, is_stop, late_of, over_of, seen_at, with_outcome, after_start, started_in, stopped_in, after_sync}
 use Rattle.dmix_client.specs.Port.{CountsEnd, IsStep}
 use Rattle.dmix_client.specs.View.{queued_of}
 use Rattle.dmix_client.specs.declared.commit.Commit.{Commit}
@@ -61,9 +61,9 @@ pub refused-go : (c : Plain) (call : Call) → c.status.stopped ≡ false → pa
 refused-go c call unstopped = go-by c.status.stopped (next_of c.status.state call (nothing_found Playback)).answer unstopped
 
 -- a stream that runs still runs after a sync for a write that went well
-pub synced-runs : (c : Plain) (load : Option Position) (x : Commit) → c.status.state ≡ Running → OnOk (synced c call.Transfer load x).1 ((synced c call.Transfer load x).0.status.state ≡ Running)
-synced-runs c None x runs = tt
-synced-runs c (Some position) x runs =
+pub after_sync-runs : (c : Plain) (load : Option Position) (x : Commit) → c.status.state ≡ Running → OnOk (after_sync c call.Transfer load x).1 ((after_sync c call.Transfer load x).0.status.state ≡ Running)
+after_sync-runs c None x runs = tt
+after_sync-runs c (Some position) x runs =
     by-test (λ (a : Answered (Unit {0})). OnOk a.1 (a.0.status.state ≡ Running)) (is_stop x.ended) _ _ (λ stop. tt)
     (λ going. next-ends (λ (o : Outcome). OnOk o.answer (o.state ≡ Running)) c.status.state call.Transfer (queued_of (committed_by (seen_at c position) x)) position.gone (over_of (seen_at c position) position) (late_of (seen_at c position) x)
     (subst (λ (s : State). IsStep s call.Transfer) (sym runs) tt) (λ gone. tt) (λ a f here same is. tt) (λ w here none is. tt) (λ here same none in_time. refl) (λ here drains in_time. absurd (cc)) (λ here drains in_time same. absurd (cc)) (λ here drains in_time same. tt))
@@ -82,20 +82,20 @@ stopped-still : (c : Plain) → IsStill (stopped_in c)
 stopped-still c = (λ h. cc, λ h. let x = h.1 in cc)
 
 -- the sync of a stream that drains
-pub synced-still : (c : Plain) (load : Option Position) (x : Commit) → c.status.state ≡ Draining → c.status.stopped ≡ false → IsStill (synced c call.Drain load x)
-synced-still c None x drains going = stopped-still c
-synced-still c (Some position) x drains going =
+pub after_sync-still : (c : Plain) (load : Option Position) (x : Commit) → c.status.state ≡ Draining → c.status.stopped ≡ false → IsStill (after_sync c call.Drain load x)
+after_sync-still c None x drains going = stopped-still c
+after_sync-still c (Some position) x drains going =
     let done : Plain = committed_by (seen_at c position) x in
     by-test IsStill (is_stop x.ended) _ _ (λ stop. stopped-still done)
-    (λ goes. next-ends (λ (o : Outcome). IsStill (settled done o)) c.status.state call.Drain (queued_of done) position.gone (over_of (seen_at c position) position) (late_of (seen_at c position) x)
+    (λ goes. next-ends (λ (o : Outcome). IsStill (with_outcome done o)) c.status.state call.Drain (queued_of done) position.gone (over_of (seen_at c position) position) (late_of (seen_at c position) x)
     (subst (λ (s : State). IsStep s call.Drain) (sym drains) tt) (λ gone. (λ h. cc, λ h. let y = h.0 in cc)) (λ a f here runs is. absurd (cc)) (λ w here none is. (λ h. cc, λ h. let y = h.0 in cc))
     (λ here runs none in_time. absurd (cc)) (λ here same in_time. (λ h. cc, λ h. let y = h.0 in cc)) (λ here same in_time is. absurd (cc)) (λ here same in_time is. (λ h. (refl, going), λ h. refl)))
 
 -- a start that leads to draining, and is refused
-pub started-still : (c : Plain) (cursor : Cursor) (load : Option Position) (x : Commit) (e : PcmError) → (started c Draining cursor load x).1 ≡ Err e → IsStill (started c Draining cursor load x)
-started-still c cursor None x e = λ is. stopped-still c
-started-still c cursor (Some position) x e =
-    started-ends (λ (a : Answered (Unit {0})). a.1 ≡ Err e → IsStill a) c Draining cursor position x (λ gone is. (λ h. cc, λ h. let y = h.0 in cc)) (λ here stop is. stopped-still (committed_by (started_in c Draining position cursor) x))
+pub after_start-still : (c : Plain) (cursor : Cursor) (load : Option Position) (x : Commit) (e : PcmError) → (after_start c Draining cursor load x).1 ≡ Err e → IsStill (after_start c Draining cursor load x)
+after_start-still c cursor None x e = λ is. stopped-still c
+after_start-still c cursor (Some position) x e =
+    after_start-ends (λ (a : Answered (Unit {0})). a.1 ≡ Err e → IsStill a) c Draining cursor position x (λ gone is. (λ h. cc, λ h. let y = h.0 in cc)) (λ here stop is. stopped-still (committed_by (started_in c Draining position cursor) x))
     (λ w here going late is. (λ h. cc, λ h. let y = h.0 in cc)) (λ here going in_time is. absurd (cc))
 
 -- a client whose call is admitted isn't stopped

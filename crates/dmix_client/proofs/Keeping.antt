@@ -32,14 +32,14 @@ use Rattle.snd_base.specs.declared.errors.PcmError.TheVariants as error
 use Rattle.snd_base.specs.declared.errors.PcmError.{PcmError}
 use Rattle.snd_base.specs.declared.geometry.Geometry.{Geometry}
 use Rattle.snd_base.specs.declared.places.Cursor.{Cursor}
-use Rattle.dmix_client.proofs.Caused.{IsCaused-started, IsCaused-synced, caused-accepted, caused-moved, caused-none, caused-number, caused-on, synced-not_again, written_on-again}
-use Rattle.dmix_client.proofs.Ends.{by-test, started-ends, written-ends}
-use Rattle.dmix_client.proofs.Going.{IsStill, OnOk-of, accepted_if-told, started-still, synced-runs, synced-still, told-going, told-stop}
+use Rattle.dmix_client.proofs.Caused.{IsCaused-after_start, IsCaused-after_sync, caused-accepted, caused-moved, caused-none, caused-number, caused-on, after_sync-not_again, written_on-again}
+use Rattle.dmix_client.proofs.Ends.{by-test, after_start-ends, written-ends}
+use Rattle.dmix_client.proofs.Going.{IsStill, OnOk-of, accepted_if-told, after_start-still, after_sync-runs, after_sync-still, told-going, told-stop}
 use Rattle.dmix_client.proofs.Growing.{StandsFor-after, StandsUpTo-filled, accepted-none, laid_at, laid_at-none, segment_entries-after}
 use Rattle.dmix_client.proofs.Looking.{starts-by}
 use Rattle.dmix_client.proofs.Sound.{CanUse-still, CommitsAs, min-none, CommitsAs-seen, CommitsAs-started, CommitsAs-written, IsLoaded, IsMoving-after, IsMoving-seen, IsMoving-written, IsSound-after, IsSound-status, IsSound-stopped, after, configured-moving, configured-prepared, count-whole, hw-started, if-le, next-GoesOn, none-of, not_paused-moving, not_prepared-moving, taken-none, taken_fits, whole-of, whole_least, window_end-above}
 use Rattle.dmix_client.proofs.Storing.{StandsUpTo-written}
-use Rattle.dmix_client.specs.Calls.{Answered, accepted, accepted_if, base_of, commit_count, committed_by, dropped, end_channel, end_of_commit, facts_of, is_paused, is_stop, late_of, over_of, paused, pending_of, rebased, resumed, seen_at, start_count, started, started_in, stopped_in, sync_count, synced, taken_of, with_number, written_after, written_on}
+use Rattle.dmix_client.specs.Calls.{Answered, accepted, accepted_if, base_of, commit_count, committed_by, dropped, end_channel, end_of_commit, facts_of, is_paused, is_stop, late_of, over_of, paused, pending_of, rebased, resumed, seen_at, start_count, after_start, started_in, stopped_in, sync_count, after_sync, taken_of, with_number, written_after, written_on}
 use Rattle.dmix_client.specs.Causes.{Explains, ExplainsWrite, IsCaused}
 use Rattle.dmix_client.specs.Course.{commits, looks, resumes, starts, starts_taking, syncs, takes_more, write_on}
 use Rattle.dmix_client.specs.CourseLaws.{LaysFrames, TakesAt-frames, TakesAt-looks, TakesAt-step}
@@ -126,15 +126,15 @@ accepted-count m (c, Err e) = tt
 
 module _ {S T : Type 0} (P : mixport.Ghosts S) (G : gates.Ghosts T) (laid_composes : Composes P.laid) (loaded_composes : Composes P.loaded) where
   pub syncs-step : (s t : S × T) (c : Plain) (ring : List ℤ) (call : Call) (a : Answered (Unit {0})) → AreBindings c.setup.bindings → TakesAt P G s (syncs c call ring) t a
-      → TakesStep P G s t ring (λ position. c) (sync_count c) (length c.setup.bindings) (synced c call) a
+      → TakesStep P G s t ring (λ position. c) (sync_count c) (length c.setup.bindings) (after_sync c call) a
   unfolding syncs
-  syncs-step s t c ring call a bound takes = TakesAt-step P G laid_composes loaded_composes (λ position. c) (sync_count c) ring c.setup.bindings (synced c call) s t a bound (λ position. refl) takes
+  syncs-step s t c ring call a bound takes = TakesAt-step P G laid_composes loaded_composes (λ position. c) (sync_count c) ring c.setup.bindings (after_sync c call) s t a bound (λ position. refl) takes
 
   pub starts-step : (s t : S × T) (c : Plain) (ring : List ℤ) (state : State) (cursor : Cursor) (upto : ℕ) (a : Answered (Unit {0})) → AreBindings c.setup.bindings → TakesAt P G s (starts c state cursor upto ring) t a
-      → TakesStep P G s t ring (λ position. started_in c Running position cursor) (λ position. start_count c cursor position upto) (length c.setup.bindings) (started c state cursor) a
+      → TakesStep P G s t ring (λ position. started_in c Running position cursor) (λ position. start_count c cursor position upto) (length c.setup.bindings) (after_start c state cursor) a
   unfolding starts
   starts-step s t c ring state cursor upto a bound takes =
-      TakesAt-step P G laid_composes loaded_composes (λ position. started_in c Running position cursor) (λ position. start_count c cursor position upto) ring c.setup.bindings (started c state cursor) s t a bound (λ position. refl) takes
+      TakesAt-step P G laid_composes loaded_composes (λ position. started_in c Running position cursor) (λ position. start_count c cursor position upto) ring c.setup.bindings (after_start c state cursor) s t a bound (λ position. refl) takes
 
   -- what a call keeps that laid nothing and left the segment as it was
   pub Keeps-still : {X : Type 0} (s t : S × T) (c d : Plain) (ring new : List ℤ) (answer : Result X PcmError) (For : List ℤ → Type 0) → IsSound d new → CanUse d (P.view t.0) → P.laid s.0 t.0 []
@@ -196,7 +196,7 @@ module _ {S T : Type 0} (P : mixport.Ghosts S) (G : gates.Ghosts T) (laid_compos
       → CommitsAs c (seen_at c position) ring x count c.stretch.written → CanUse c (P.view s.0) → IsSamePort (P.view s.0) (P.view t.0) → (P.view t.0).seen ≡ position.frame → P.laid s.0 t.0 (laid_at c (seen_at c position) ring x) → CountsEnd x.ended (G.stops s.1) (G.stops t.1)
       → ((st : State) → is_stop x.ended ≡ false → position.gone ≡ false → late_of (seen_at c position) x ≡ None → (c.status.state ≡ Running → over_of (seen_at c position) position ≡ None)
       → IsMoving (after c (seen_at c position) x (record c.status { state = st }) c.stretch.written c.fed) × IsFrom (P.view t.0).marks.cursor (end_of_commit c x) (least_channel c.setup.bindings) × Past (after c (seen_at c position) x (record c.status { state = st }) c.stretch.written c.fed))
-      → Synced s t c ring Past (synced c call (Some position) x)
+      → Synced s t c ring Past (after_sync c call (Some position) x)
   loaded-kept s t c ring call position x count Past moves going step y port same saw laid_it told still =
       let b : Plain = seen_at c position in
       let done : Plain = committed_by b x in
@@ -222,7 +222,7 @@ module _ {S T : Type 0} (P : mixport.Ghosts S) (G : gates.Ghosts T) (laid_compos
 
   -- a sync of a client that moves frames
   looked-kept : (s t : S × T) (c : Plain) (ring : List ℤ) (call : Call) (load : Option Position) (x : Commit) → IsSound c ring → is_moving c.status.state ≡ true → c.status.stopped ≡ false → IsStep c.status.state call → CanUse c (P.view s.0)
-      → IsSamePort (P.view s.0) (P.view t.0) → Looked P G s t ring (λ position. c) (sync_count c) (length c.setup.bindings) load x → Synced s t c ring IsLaidPast (synced c call load x)
+      → IsSamePort (P.view s.0) (P.view t.0) → Looked P G s t ring (λ position. c) (sync_count c) (length c.setup.bindings) load x → Synced s t c ring IsLaidPast (after_sync c call load x)
   looked-kept s t c ring call None x sound moves going step port same l = unloaded-kept s t c ring IsLaidPast sound port same l.laid_them l.stopped
   looked-kept s t c ring call (Some position) x sound moves going step port same l =
       let b : Plain = seen_at c position in
@@ -253,7 +253,7 @@ module _ {S T : Type 0} (P : mixport.Ghosts S) (G : gates.Ghosts T) (laid_compos
   begun-kept : (s t : S × T) (c : Plain) (ring : List ℤ) (state : State) (m : ℕ) (load : Option Position) (x : Commit) → IsSound c ring → c.status.state ≡ Prepared → is_moving state ≡ true → c.stretch.written + m ≤ c.setup.config.buffer_size
       → (P.view s.0).marks.cursor.frame ≤ end_frame c.identity.geometry → CanUse c (P.view s.0) → IsSamePort (P.view s.0) (P.view t.0)
       → Looked P G s t ring (λ position. started_in c Running position (P.view s.0).marks.cursor) (λ position. start_count c (P.view s.0).marks.cursor position (c.stretch.written + m)) (length c.setup.bindings) load x
-      → Begun s t c ring state m (started c state (P.view s.0).marks.cursor load x)
+      → Begun s t c ring state m (after_start c state (P.view s.0).marks.cursor load x)
   begun-kept s t c ring state m None x sound waits leads fits near port same l = record {
     keeps = Keeps-still s t c (stopped_in {T = ℕ} c).0 ring ring (Err error.Stopped) _ (IsSound-stopped c ring sound) (CanUse-still c _ _ _ port same refl (λ moves going. cc)) l.laid_them (λ unstopped. l.stopped) (λ samples stands. refl) refl refl (λ samples stands up. stands);
     goes = tt;
@@ -267,7 +267,7 @@ module _ {S T : Type 0} (P : mixport.Ghosts S) (G : gates.Ghosts T) (laid_compos
       let most : position.frame ≤ end_frame c.identity.geometry = subst (λ (g : Geometry). position.frame ≤ end_frame g) port.same_geometry l.near.1.most in
       let y = CommitsAs-started c ring state position cursor x upto sound waits near most l.found.commit_is in
       let keeps = Keeps-after {X = ℕ} s t c b ring ring x count upto (λ samples. StandsUpTo c ring samples upto) y port same (omega (arith, l.near.2)) l.laid_them (λ samples stands up. up) in
-      started-ends (Begun s t c ring state m) c state cursor position x
+      after_start-ends (Begun s t c ring state m) c state cursor position x
       (λ gone.
       let none = none-of x.ended x.frames x.part (length c.setup.bindings) (subst (λ (n : ℕ). IsCommit x.ended x.frames x.part n (length c.setup.bindings)) (ap (λ (g : Bool). if g then 0 else commit_count b position.frame upto) gone) l.found.commit_is) in
       let d : Plain = record c { status = record c.status { state = Disconnected }; seen = Some position.frame } in
@@ -407,22 +407,22 @@ module _ {S T : Type 0} (P : mixport.Ghosts S) (G : gates.Ghosts T) (laid_compos
 
   -- why a sync and a start answered so
   pub syncs-explained : (s t : S × T) (c : Plain) (ring : List ℤ) (call : Call) (a : Answered (Unit {0})) → AreBindings c.setup.bindings → IsStep c.status.state call
-      → TakesAt P G s (syncs c call ring) t a → Explains P G s t (client c ring) (λ position. c) (sync_count c) (synced c call) a
+      → TakesAt P G s (syncs c call ring) t a → Explains P G s t (client c ring) (λ position. c) (sync_count c) (after_sync c call) a
   syncs-explained s t c ring call a bound step takes =
       let st = syncs-step s t c ring call a bound takes in
       record {
         step = st;
-        why = subst (λ (d : Answered (Unit {0})). IsCaused P.view P.shows t.0 c d.0 st.load d.1) st.outcome (IsCaused-synced P.view P.shows t.0 c call st.load st.commit step st.looked.found st.looked.shown);
+        why = subst (λ (d : Answered (Unit {0})). IsCaused P.view P.shows t.0 c d.0 st.load d.1) st.outcome (IsCaused-after_sync P.view P.shows t.0 c call st.load st.commit step st.looked.found st.looked.shown);
       }
 
   pub starts-explained : (s t : S × T) (c : Plain) (ring : List ℤ) (state : State) (cursor : Cursor) (upto : ℕ) (a : Answered (Unit {0})) → AreBindings c.setup.bindings → c.status.state ≡ Prepared
       → TakesAt P G s (starts c state cursor upto ring) t a
-      → Explains P G s t (client c ring) (λ position. started_in c Running position cursor) (λ position. start_count c cursor position upto) (started c state cursor) a
+      → Explains P G s t (client c ring) (λ position. started_in c Running position cursor) (λ position. start_count c cursor position upto) (after_start c state cursor) a
   starts-explained s t c ring state cursor upto a bound waits takes =
       let st = starts-step s t c ring state cursor upto a bound takes in
       record {
         step = st;
-        why = subst (λ (d : Answered (Unit {0})). IsCaused P.view P.shows t.0 c d.0 st.load d.1) st.outcome (IsCaused-started P.view P.shows t.0 c state cursor st.load st.commit waits st.looked.shown);
+        why = subst (λ (d : Answered (Unit {0})). IsCaused P.view P.shows t.0 c d.0 st.load d.1) st.outcome (IsCaused-after_start P.view P.shows t.0 c state cursor st.load st.commit waits st.looked.shown);
       }
 
   -- with a number in its answer
@@ -443,7 +443,7 @@ module _ {S T : Type 0} (P : mixport.Ghosts S) (G : gates.Ghosts T) (laid_compos
       → TakesAt P G s (syncs c call.Drain ring) t a → IsStill a
   syncs-still s t c ring a bound drains going takes =
       let st = syncs-step s t c ring call.Drain a bound takes in
-      subst IsStill st.outcome (synced-still c st.load st.commit drains going)
+      subst IsStill st.outcome (after_sync-still c st.load st.commit drains going)
 
   -- a write into a stream that runs, by its two parts
   pub writes-explained : (s m t : S × T) (c : Plain) (ring new_ring offered : List ℤ) (n : ℕ) (middle : Answered (Unit {0})) (a : Answered ℕ) → AreBindings c.setup.bindings → c.status.state ≡ Running
@@ -464,7 +464,7 @@ module _ {S T : Type 0} (P : mixport.Ghosts S) (G : gates.Ghosts T) (laid_compos
         why = subst (λ (d : Answered ℕ). IsCaused P.view P.shows t.0 c d.0 st.load d.1) outcome
             (caused-on P.view P.shows t.0 st.load c middle n last (caused-moved P.view P.shows m.0 t.0 st.load c middle one.why (λ e is. ap (λ (u : S × T). u.0) (stays e is))) late);
         again = subst (λ (d : Answered ℕ). (d.1 ≡ Err error.Again) ↔ ((middle.1 ≡ Ok tt) × (0 < n) × (avail_of middle.0 ≡ 0))) outcome
-            (written_on-again middle n last (λ is. synced-not_again c st.load st.commit runs (ap (λ (b : Answered (Unit {0})). b.1) st.outcome ∙ is)));
+            (written_on-again middle n last (λ is. after_sync-not_again c st.load st.commit runs (ap (λ (b : Answered (Unit {0})). b.1) st.outcome ∙ is)));
       }
 
   -- a stream that runs still runs after a sync for a write that went well
@@ -472,14 +472,14 @@ module _ {S T : Type 0} (P : mixport.Ghosts S) (G : gates.Ghosts T) (laid_compos
       → TakesAt P G s (syncs c call.Transfer ring) t a → a.0.status.state ≡ Running
   syncs-runs s t c ring a bound runs ok takes =
       let st = syncs-step s t c ring call.Transfer a bound takes in
-      OnOk-of a.1 (a.0.status.state ≡ Running) ok (subst (λ (b : Answered (Unit {0})). OnOk b.1 (b.0.status.state ≡ Running)) st.outcome (synced-runs c st.load st.commit runs))
+      OnOk-of a.1 (a.0.status.state ≡ Running) ok (subst (λ (b : Answered (Unit {0})). OnOk b.1 (b.0.status.state ≡ Running)) st.outcome (after_sync-runs c st.load st.commit runs))
 
   -- the start of a drain, where it didn't go well
   pub drains-ill : (s m : S × T) (c : Plain) (ring : List ℤ) (cursor : Cursor) (a : Answered (Unit {0})) (e : PcmError) → AreBindings c.setup.bindings → a.1 ≡ Err e
       → TakesAt P G s (starts c Draining cursor c.stretch.written ring) m a → IsStill a
   drains-ill s m c ring cursor a e bound is takes =
       let st = starts-step s m c ring Draining cursor c.stretch.written a bound takes in
-      subst (λ (b : Answered (Unit {0})). b.1 ≡ Err e → IsStill b) st.outcome (started-still c cursor st.load st.commit e) is
+      subst (λ (b : Answered (Unit {0})). b.1 ≡ Err e → IsStill b) st.outcome (after_start-still c cursor st.load st.commit e) is
 
   -- a write into a prepared stream that doesn't start it
   pub stored-kept : (s : S × T) (c : Plain) (ring stored samples : List ℤ) (n m : ℕ) → m ≡ taken_of c n → stored ≡ ring_with c ring samples m → IsSound c ring → IsSound c stored → c.status.state ≡ Prepared
@@ -496,7 +496,7 @@ module _ {S T : Type 0} (P : mixport.Ghosts S) (G : gates.Ghosts T) (laid_compos
     pub keeps : Keeps P G s t (client c ring) (client a.0 stored) a.1 (λ all. Follows c all samples n)
     pub count : IfOk a.1 (λ k. k ≡ m)
     pub explains : Explains P G s t (client c stored) (λ position. started_in c Running position (P.view s.0).marks.cursor) (λ position. start_count c (P.view s.0).marks.cursor position (c.stretch.written + m))
-        (λ load commit. accepted_if m (started c Running (P.view s.0).marks.cursor load commit)) a
+        (λ load commit. accepted_if m (after_start c Running (P.view s.0).marks.cursor load commit)) a
 
   pub filled-kept : (s t : S × T) (c : Plain) (ring stored samples : List ℤ) (n m : ℕ) (a : Answered ℕ) → m ≡ taken_of c n → stored ≡ ring_with c ring samples m → IsSound c ring → IsSound c stored → c.status.state ≡ Prepared
       → n * length c.setup.bindings ≤ length samples → (P.view s.0).marks.cursor.frame ≤ end_frame c.identity.geometry → CanUse c (P.view s.0)
@@ -514,7 +514,7 @@ module _ {S T : Type 0} (P : mixport.Ghosts S) (G : gates.Ghosts T) (laid_compos
           stands = λ all stands for. let up = filled-stands c ring stored samples all n m is is_stored sound waits held_all stands for in begun.keeps.stands all (λ j q low high in_range. up j q low (omega (arith, high)) in_range) up;
         };
         count = accepted-count m parts.1;
-        explains = Explains-by (accepted_if m) s parts.0 (client c stored) (λ position. started_in c Running position (P.view s.0).marks.cursor) (λ position. start_count c (P.view s.0).marks.cursor position (c.stretch.written + m)) (started c Running (P.view s.0).marks.cursor) parts.1 (accepted_if m parts.1) (λ load why. caused-accepted P.view P.shows parts.0.0 load c m parts.1 why) refl
+        explains = Explains-by (accepted_if m) s parts.0 (client c stored) (λ position. started_in c Running position (P.view s.0).marks.cursor) (λ position. start_count c (P.view s.0).marks.cursor position (c.stretch.written + m)) (after_start c Running (P.view s.0).marks.cursor) parts.1 (accepted_if m parts.1) (λ load why. caused-accepted P.view P.shows parts.0.0 load c m parts.1 why) refl
             (starts-explained s parts.0 c stored Running (P.view s.0).marks.cursor (c.stretch.written + m) parts.1 (configured-prepared c stored sound_stored waits).bound waits parts.2);
       }))
 
@@ -607,9 +607,9 @@ IsSound-paused c ring sound runs going =
     IsSound-status c (record c.status { state = Paused }) c.seen ring sound sound.seen (λ set. sound.set_up (ap is_set_up runs)) (λ waits. absurd (cc)) (λ moves still. absurd (cc)) (λ still. sound.moving (ap is_moving runs) going)
 
 -- a start that loaded the position isn't paused
-not_paused-started : (c : Plain) (cursor : Cursor) (position : Position) (commit : Commit) → is_paused (started c Running cursor (Some position) commit).0.status.state ≡ false
-not_paused-started c cursor position commit =
-    started-ends (λ (a : Answered (Unit {0})). is_paused a.0.status.state ≡ false) c Running cursor position commit (λ gone. refl) (λ here stop. refl) (λ w here going late. refl) (λ here going in_time. refl)
+not_paused-after_start : (c : Plain) (cursor : Cursor) (position : Position) (commit : Commit) → is_paused (after_start c Running cursor (Some position) commit).0.status.state ≡ false
+not_paused-after_start c cursor position commit =
+    after_start-ends (λ (a : Answered (Unit {0})). is_paused a.0.status.state ≡ false) c Running cursor position commit (λ gone. refl) (λ here stop. refl) (λ w here going late. refl) (λ here going in_time. refl)
 
 module _ {S T : Type 0} (P : mixport.Ghosts S) (G : gates.Ghosts T) (laid_composes : Composes P.laid) (loaded_composes : Composes P.loaded) where
   -- a pause
@@ -634,15 +634,15 @@ module _ {S T : Type 0} (P : mixport.Ghosts S) (G : gates.Ghosts T) (laid_compos
   -- a resume with pending frames
   resumed-by : (s t : S × T) (c : Plain) (ring : List ℤ) (cursor : Cursor) (load : Option Position) (commit : Commit) → IsSound c ring → c.status.state ≡ Paused → CanUse c (P.view s.0) → IsSamePort (P.view s.0) (P.view t.0)
       → P.laid s.0 t.0 (entries_at load (λ position. started_in (rebased c) Running position cursor) ring commit)
-      → Keeps P G s t (client (rebased c) ring) (client (started (rebased c) Running cursor load commit).0 ring) (started (rebased c) Running cursor load commit).1 AnySamples
+      → Keeps P G s t (client (rebased c) ring) (client (after_start (rebased c) Running cursor load commit).0 ring) (after_start (rebased c) Running cursor load commit).1 AnySamples
       → Keeps P G s t (client (base_of c (resumed c cursor load commit).0) ring) (client (resumed c cursor load commit).0 ring) (resumed c cursor load commit).1 AnySamples
   resumed-by s t c ring cursor None commit sound is port same laid_nothing keeps =
       let d : Plain = record c { status = record c.status { stopped = true } } in
       subst (λ (b : Plain). Keeps P G s t (client b ring) (client d ring) (let r : Result (Unit {0}) PcmError = Err error.Stopped in r) AnySamples) (sym (base-kept c d (λ is. is)))
       (Keeps-still P G laid_composes loaded_composes s t c d ring ring (Err error.Stopped) AnySamples (IsSound-stopped c ring sound) (CanUse-still c d (P.view s.0) (P.view t.0) port same refl (λ moves going. cc)) laid_nothing keeps.told (λ samples stands. refl) refl refl (λ samples stands any. stands))
   resumed-by s t c ring cursor (Some position) commit sound is port same laid_nothing keeps =
-      subst (λ (b : Plain). Keeps P G s t (client b ring) (client (started (rebased c) Running cursor (Some position) commit).0 ring) (started (rebased c) Running cursor (Some position) commit).1 AnySamples)
-      (sym (base-anew c (started (rebased c) Running cursor (Some position) commit).0 is (not_paused-started (rebased c) cursor position commit))) keeps
+      subst (λ (b : Plain). Keeps P G s t (client b ring) (client (after_start (rebased c) Running cursor (Some position) commit).0 ring) (after_start (rebased c) Running cursor (Some position) commit).1 AnySamples)
+      (sym (base-anew c (after_start (rebased c) Running cursor (Some position) commit).0 is (not_paused-after_start (rebased c) cursor position commit))) keeps
 
   pub resumes-kept : (s t : S × T) (c : Plain) (ring : List ℤ) (a : Answered (Unit {0})) → IsSound c ring → c.status.state ≡ Paused → (P.view s.0).marks.cursor.frame ≤ end_frame c.identity.geometry → CanUse c (P.view s.0)
       → TakesAt P G s (resumes c (P.view s.0).marks.cursor ring) t a → Keeps P G s t (client (base_of c a.0) ring) (client a.0 ring) a.1 AnySamples
@@ -653,7 +653,7 @@ module _ {S T : Type 0} (P : mixport.Ghosts S) (G : gates.Ghosts T) (laid_compos
       let count : Position → ℕ = λ position. start_count (rebased c) cursor position (pending_of c) in
       let bound = (sound.configured (sound.set_up (ap is_set_up is))).bound in
       let parts = Takes-parts (LoadsAt P G) (LaysAt P G) NoGet s t (looks at count ring) (λ found. ends (resumed c cursor found.0 found.1)) a takes in
-      let begun : Answered (Unit {0}) = started (rebased c) Running cursor parts.1.0 parts.1.1 in
+      let begun : Answered (Unit {0}) = after_start (rebased c) Running cursor parts.1.0 parts.1.1 in
       let keeps = (start-kept P G laid_composes loaded_composes s parts.0 (rebased c) ring Running begun (IsSound-rebased c ring sound is) refl refl near (CanUse-rebased c (P.view s.0) port)
       (starts-by P G s parts.0 (rebased c) Running cursor (pending_of c) ring parts.1.0 parts.1.1 begun parts.2 refl)).0 in
       let looked = TakesAt-looks P G laid_composes loaded_composes at count ring c.setup.bindings s parts.0 parts.1.0 parts.1.1 bound (λ position. refl) parts.2 in
@@ -665,7 +665,7 @@ module _ {S T : Type 0} (P : mixport.Ghosts S) (G : gates.Ghosts T) (laid_compos
       → IfSome load (λ position. OnLate commit.ended (λ word. IsPast P.view P.shows t.0 (end_of_commit (started_in (rebased c) Running position cursor) commit) (end_channel (started_in (rebased c) Running position cursor) commit) word))
       → IsCaused {X = Unit {0}} P.view P.shows t.0 (rebased c) (resumed c cursor load commit).0 load (resumed c cursor load commit).1
   why-resumed t c cursor None commit shown = caused-none P.view P.shows t.0 (rebased c) (record c { status = record c.status { stopped = true } })
-  why-resumed t c cursor (Some position) commit shown = IsCaused-started P.view P.shows t.0 (rebased c) Running cursor (Some position) commit refl shown
+  why-resumed t c cursor (Some position) commit shown = IsCaused-after_start P.view P.shows t.0 (rebased c) Running cursor (Some position) commit refl shown
 
   pub resumes-explained : (s t : S × T) (c : Plain) (ring : List ℤ) (cursor : Cursor) (a : Answered (Unit {0})) → IsSound c ring → c.status.state ≡ Paused → TakesAt P G s (resumes c cursor ring) t a
       → Explains P G s t (client (rebased c) ring) (λ position. started_in (rebased c) Running position cursor) (λ position. start_count (rebased c) cursor position (pending_of c)) (resumed c cursor) a

@@ -17,7 +17,7 @@ use Rattle.dmix_client.specs.declared.commit.Commit.{Commit}
 use Rattle.dmix_client.specs.declared.plain.Plain.{Plain}
 use Rattle.pcm_stream.specs.Status.{is_moving, refusal_of, refused_by}
 use Rattle.pcm_stream.specs.declared.direction.Direction.TheVariants.{Playback}
-use Rattle.dmix_client.specs.Calls.{Answered, is_running, pending_of, rebased, resumed, start_count, started, started_in, sync_count, synced, taken_of, with_number, written_after}
+use Rattle.dmix_client.specs.Calls.{Answered, is_running, pending_of, rebased, resumed, start_count, after_start, started_in, sync_count, after_sync, taken_of, with_number, written_after}
 use Rattle.dmix_client.specs.Course.{admitted, admitted_by, commits, drain_on, drains, fills, looks, nothing, number_course, numbered, resumes, starts, syncs, takes_more, write_course, write_on, writes_on}
 use Rattle.dmix_client.specs.Rewind.{rewind_course, rewinds}
 use Rattle.dmix_client.specs.Writes.{count_with, frames_in, ring_with}
@@ -42,17 +42,17 @@ module _ {S T : Type 0} (P : mixport.Ghosts S) (G : gates.Ghosts T) where
 
   -- the sync of a client, and its start, by a load and the commit behind it
   pub syncs-by : (s t : S × T) (c : Plain) (call : Call) (ring : List ℤ) (load : Option Position) (commit : Commit) (done : Answered (Unit {0}))
-      → TakesAt P G s (looks (λ position. c) (sync_count c) ring) t (load, commit) → synced c call load commit ≡ done → TakesAt P G s (syncs c call ring) t done
+      → TakesAt P G s (looks (λ position. c) (sync_count c) ring) t (load, commit) → after_sync c call load commit ≡ done → TakesAt P G s (syncs c call ring) t done
   unfolding syncs
   syncs-by s t c call ring load commit done takes is =
-      Takes-map (LoadsAt P G) (LaysAt P G) NoGet s t (looks (λ position. c) (sync_count c) ring) (λ found. synced c call found.0 found.1) (load, commit) done takes is
+      Takes-map (LoadsAt P G) (LaysAt P G) NoGet s t (looks (λ position. c) (sync_count c) ring) (λ found. after_sync c call found.0 found.1) (load, commit) done takes is
 
   pub starts-by : (s t : S × T) (c : Plain) (state : State) (cursor : Cursor) (upto : ℕ) (ring : List ℤ) (load : Option Position) (commit : Commit) (done : Answered (Unit {0}))
       → TakesAt P G s (looks (λ position. started_in c Running position cursor) (λ position. start_count c cursor position upto) ring) t (load, commit)
-      → started c state cursor load commit ≡ done → TakesAt P G s (starts c state cursor upto ring) t done
+      → after_start c state cursor load commit ≡ done → TakesAt P G s (starts c state cursor upto ring) t done
   unfolding starts
   starts-by s t c state cursor upto ring load commit done takes is =
-      Takes-map (LoadsAt P G) (LaysAt P G) NoGet s t (looks (λ position. started_in c Running position cursor) (λ position. start_count c cursor position upto) ring) (λ found. started c state cursor found.0 found.1) (load, commit) done takes is
+      Takes-map (LoadsAt P G) (LaysAt P G) NoGet s t (looks (λ position. started_in c Running position cursor) (λ position. start_count c cursor position upto) ring) (λ found. after_start c state cursor found.0 found.1) (load, commit) done takes is
 
   pub resumes-by : (s t : S × T) (c : Plain) (cursor : Cursor) (ring : List ℤ) (load : Option Position) (commit : Commit) (done : Answered (Unit {0}))
       → TakesAt P G s (looks (λ position. started_in (rebased c) Running position cursor) (λ position. start_count (rebased c) cursor position (pending_of c)) ring) t (load, commit)
@@ -90,10 +90,10 @@ module _ {S T : Type 0} (P : mixport.Ghosts S) (G : gates.Ghosts T) where
       Takes-map (LoadsAt P G) (LaysAt P G) NoGet s t (commits c (ring_with c ring samples (taken_of c n)) (count_with c (taken_of c n))) (λ last. written_after c n last) last done
       (subst (λ k. TakesAt P G s (commits c (ring_with c ring samples k) (count_with c k)) t last) is_taken (subst (λ r. TakesAt P G s (commits c r (count_with c taken)) t last) is_stored takes)) is
 
-  pub writes_on-by : (s t u : S × T) (c : Plain) (ring samples : List ℤ) (n : ℕ) (synced : Answered (Unit {0})) (done : Answered ℕ)
-      → TakesAt P G s (syncs c call.Transfer ring) t synced → TakesAt P G t (write_on ring samples n synced) u done → TakesAt P G s (writes_on c ring samples n) u done
+  pub writes_on-by : (s t u : S × T) (c : Plain) (ring samples : List ℤ) (n : ℕ) (after_sync : Answered (Unit {0})) (done : Answered ℕ)
+      → TakesAt P G s (syncs c call.Transfer ring) t after_sync → TakesAt P G t (write_on ring samples n after_sync) u done → TakesAt P G s (writes_on c ring samples n) u done
   unfolding writes_on
-  writes_on-by s t u c ring samples n synced done one two = Takes-then (LoadsAt P G) (LaysAt P G) NoGet s t u (syncs c call.Transfer ring) (write_on ring samples n) synced done one two
+  writes_on-by s t u c ring samples n after_sync done one two = Takes-then (LoadsAt P G) (LaysAt P G) NoGet s t u (syncs c call.Transfer ring) (write_on ring samples n) after_sync done one two
 
   -- the write of a client that runs
   pub write-running : (s t : S × T) (c : Plain) (ring samples : List ℤ) (cursor : Cursor) (n : ℕ) (done : Answered ℕ) → is_running c.status.state ≡ true → n ≡ frames_in c samples

@@ -29,13 +29,13 @@ use Rattle.snd_base.specs.declared.errors.PcmError.{PcmError}
 use Rattle.snd_base.specs.declared.errors.XrunWhy.TheVariants as why
 use Rattle.snd_base.specs.declared.places.Cursor.{Cursor}
 use Rattle.dmix_client.proofs.Caused.{IsCaused-plain, IsOther, caused-number, caused-other, free-by, if-none, other-ok, other-stopped}
-use Rattle.dmix_client.proofs.Ends.{next-ends, synced-leaves}
+use Rattle.dmix_client.proofs.Ends.{next-ends, after_sync-leaves}
 use Rattle.dmix_client.proofs.Frames.{IsFrom-later}
-use Rattle.dmix_client.proofs.Going.{synced-runs}
+use Rattle.dmix_client.proofs.Going.{after_sync-runs}
 use Rattle.dmix_client.proofs.Keeping.{IsSamePort-refl, Keeps-numbered, Synced, client, loaded-kept, loaded-of, unloaded-kept}
 use Rattle.dmix_client.proofs.Sound.{CanUse-still, CommitsAs-seen, IsMoving-seen, configured-moving, hw-started, min-newer, not_prepared-moving}
 use Rattle.dmix_client.proofs.Withdrawing.{AreLeft, HoldsBy, TakesAt-back, TakesAway-behind, TakesAway-joined, TakesAway-none, TookFrames, last_frame, last_place}
-use Rattle.dmix_client.specs.Calls.{Answered, committed_by, over_of, seen_at, synced, with_number}
+use Rattle.dmix_client.specs.Calls.{Answered, committed_by, over_of, seen_at, after_sync, with_number}
 use Rattle.dmix_client.specs.Causes.{IsCaused}
 use Rattle.dmix_client.specs.Course.{nothing, numbered}
 use Rattle.dmix_client.specs.Expansion.{run_entries, sample_at}
@@ -56,31 +56,31 @@ pub record Checked {S T : Type 0} (P : mixport.Ghosts S) (G : gates.Ghosts T) (s
   pub marks : (P.view t.0).marks ≡ (P.view s.0).marks
   pub same : a.0 ≡ record c { status = a.0.status; seen = a.0.seen }
   pub later : min c.stretch.committed (hw_of c) ≤ hw_of a.0
-  pub explains : ExplainsCheck P G s t c (λ load. synced c call.Transfer load nothing) a
+  pub explains : ExplainsCheck P G s t c (λ load. after_sync c call.Transfer load nothing) a
   pub timely : (frame channel word : ℕ) → a.1 ≡ Err (error.Xrun (why.Late frame channel word)) → ⊥
 
 any-of : (load : Option Position) (X : Position → Type 0) → ((position : Position) → X position) → IfSome load X
 any-of None X is = tt
 any-of (Some position) X is = is position
 
-same-of : (c : Plain) (load : Option Position) → c.stretch.part ≡ 0 → (let a = synced c call.Transfer load nothing in a.0 ≡ record c { status = a.0.status; seen = a.0.seen })
+same-of : (c : Plain) (load : Option Position) → c.stretch.part ≡ 0 → (let a = after_sync c call.Transfer load nothing in a.0 ≡ record c { status = a.0.status; seen = a.0.seen })
 same-of c None whole = refl
 same-of c (Some position) whole =
-    synced-leaves (λ (d : Plain). d ≡ record c { status = d.status; seen = d.seen }) c call.Transfer position nothing
+    after_sync-leaves (λ (d : Plain). d ≡ record c { status = d.status; seen = d.seen }) c call.Transfer position nothing
     (λ s. ap (λ (k : ℕ). record c { status = s; seen = Some position.frame; stretch = record c.stretch { committed = k; part = 0 } }) (add-zero c.stretch.committed)
     ∙ ap (λ (k : ℕ). record c { status = s; seen = Some position.frame; stretch = record c.stretch { part = k } }) (sym whole))
 
 -- nothing that it answers is late
-synced-timely : (c : Plain) (load : Option Position) (frame channel word : ℕ) → c.status.state ≡ Running → (synced c call.Transfer load nothing).1 ≡ Err (error.Xrun (why.Late frame channel word)) → ⊥
-synced-timely c None frame channel word runs = λ is. cc
-synced-timely c (Some position) frame channel word runs =
+after_sync-timely : (c : Plain) (load : Option Position) (frame channel word : ℕ) → c.status.state ≡ Running → (after_sync c call.Transfer load nothing).1 ≡ Err (error.Xrun (why.Late frame channel word)) → ⊥
+after_sync-timely c None frame channel word runs = λ is. cc
+after_sync-timely c (Some position) frame channel word runs =
     next-ends (λ (o : Outcome). o.answer ≡ Err (error.Xrun (why.Late frame channel word)) → ⊥) c.status.state call.Transfer (queued_of (committed_by (seen_at c position) nothing)) position.gone (over_of (seen_at c position) position) None
     (subst (λ (s : State). IsStep s call.Transfer) (sym runs) tt) (λ gone is. cc) (λ a f here same over is. cc) (λ w here none late. absurd (cc)) (λ here same none in_time is. cc) (λ here drains in_time is. cc) (λ here drains in_time same is. cc) (λ here drains in_time same is. cc)
 
 module _ {S T : Type 0} (P : mixport.Ghosts S) (G : gates.Ghosts T) (laid_composes : Composes P.laid) (loaded_composes : Composes P.loaded) where
   -- by what was loaded: what is kept, and that the frames played don't fall
   checked-by : (s t : S × T) (c : Plain) (ring : List ℤ) (load : Option Position) → IsSound c ring → c.status.state ≡ Running → c.status.stopped ≡ false → CanUse c (P.view s.0) → IsSamePort (P.view s.0) (P.view t.0) → LoadsAt P G s load t
-      → Synced P G laid_composes loaded_composes s t c ring (λ d. Unit {0}) (synced c call.Transfer load nothing) × (min c.stretch.committed (hw_of c) ≤ hw_of (synced c call.Transfer load nothing).0)
+      → Synced P G laid_composes loaded_composes s t c ring (λ d. Unit {0}) (after_sync c call.Transfer load nothing) × (min c.stretch.committed (hw_of c) ≤ hw_of (after_sync c call.Transfer load nothing).0)
   checked-by s t c ring None sound runs going port same step =
       (unloaded-kept P G laid_composes loaded_composes s t c ring (λ d. Unit {0}) sound port same step.laid_nothing step.stopped, min-newer c.stretch.committed (hw_of c) (hw_of c) (omega arith))
   checked-by s t c ring (Some position) sound runs going port same step =
@@ -93,19 +93,19 @@ module _ {S T : Type 0} (P : mixport.Ghosts S) (G : gates.Ghosts T) (laid_compos
       subst (λ (v : PortView). IsFrom v.marks.cursor (c.stretch.card + (c.stretch.committed + 0)) (least_channel c.setup.bindings)) (sym step.view_is) (omega (arith, port.behind moves going)) in (
         loaded-kept P G laid_composes loaded_composes s t c ring call.Transfer position nothing 0 (λ d. Unit {0}) moves going callable y port same (ap (λ (v : PortView). v.seen) step.view_is) step.laid_nothing step.stopped
             (λ st on gone in_time none. (record { started = m.started; whole = refl; laid_most = omega (arith, m.laid_most); fits = m.fits; pending = omega (arith, m.pending) }, here, tt)),
-        synced-leaves (λ (d : Plain). min c.stretch.committed (hw_of c) ≤ hw_of d) c call.Transfer position nothing (λ st. y.later),
+        after_sync-leaves (λ (d : Plain). min c.stretch.committed (hw_of c) ≤ hw_of d) c call.Transfer position nothing (λ st. y.later),
       )
 
   pub checks-kept : (s t : S × T) (c : Plain) (ring : List ℤ) (a : Answered (Unit {0})) → IsSound c ring → c.status.state ≡ Running → c.status.stopped ≡ false → CanUse c (P.view s.0)
       → TakesAt P G s (checks c) t a → Checked P G s t c ring a
   unfolding checks
   checks-kept s t c ring a sound runs going port (load, m, step, rest) =
-      let kept = checked-by s m c ring load sound runs going port (TakesAt-same P G s m (checks c) (synced c call.Transfer load nothing) (load, m, step, record { there = refl; result = refl })) step in
+      let kept = checked-by s m c ring load sound runs going port (TakesAt-same P G s m (checks c) (after_sync c call.Transfer load nothing) (load, m, step, record { there = refl; result = refl })) step in
       let callable : IsStep c.status.state call.Transfer = subst (λ (st : State). IsStep st call.Transfer) (sym runs) tt in
       subst (λ (u : S × T). Checked P G s u c ring a) (sym rest.there) (subst (λ (b : Answered (Unit {0})). Checked P G s m c ring b) (sym rest.result) (record {
         keeps = kept.0.keeps;
         goes = kept.0.goes;
-        runs = synced-runs c load nothing runs;
+        runs = after_sync-runs c load nothing runs;
         marks = ap (λ (v : PortView). v.marks) step.view_is;
         same = same-of c load (sound.moving (ap is_moving runs) going).whole;
         later = kept.1;
@@ -116,10 +116,10 @@ module _ {S T : Type 0} (P : mixport.Ghosts S) (G : gates.Ghosts T) (laid_compos
           outcome = refl;
           why = IsCaused-plain P.view P.shows m.0 c call.Transfer load nothing callable (any-of load _ (λ position. record { here = λ gone. refl; below = λ x f over. refl })) (any-of load _ (λ position. tt));
         };
-        timely = λ frame channel word is. synced-timely c load frame channel word runs is;
+        timely = λ frame channel word is. after_sync-timely c load frame channel word runs is;
       }))
 
-  pub checks-by : (s t : S × T) (c : Plain) (load : Option Position) (done : Answered (Unit {0})) → LoadsAt P G s load t → synced c call.Transfer load nothing ≡ done → TakesAt P G s (checks c) t done
+  pub checks-by : (s t : S × T) (c : Plain) (load : Option Position) (done : Answered (Unit {0})) → LoadsAt P G s load t → after_sync c call.Transfer load nothing ≡ done → TakesAt P G s (checks c) t done
   unfolding checks
   checks-by s t c load done step is = (load, t, step, record { there = refl; result = sym is })
 
@@ -536,7 +536,7 @@ module _ {S T : Type 0} (P : mixport.Ghosts S) (G : gates.Ghosts T) (holds : Hol
   -- a call that does no more than the load, and answers a number
   pub record Numbered (s t : S × T) (c : Plain) (ring : List ℤ) (number : Plain → ℕ) (b : Answered ℕ) : Type 0 where
     pub keeps : Keeps P G s t (client c ring) (client b.0 ring) b.1 AnySamples
-    pub explains : ExplainsCheck P G s t c (λ load. with_number number (synced c call.Transfer load nothing)) b
+    pub explains : ExplainsCheck P G s t c (λ load. with_number number (after_sync c call.Transfer load nothing)) b
 
   pub numbered-kept : (s t : S × T) (c : Plain) (ring : List ℤ) (number : Plain → ℕ) (b : Answered ℕ) → IsSound c ring → c.status.state ≡ Running → c.status.stopped ≡ false → CanUse c (P.view s.0)
       → TakesAt P G s (numbered number (checks c)) t b → Numbered s t c ring number b

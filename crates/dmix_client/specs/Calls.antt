@@ -44,8 +44,8 @@ abbrev pub stopped_in : {T : Type 0} → Plain → Answered T
 stopped_in c = (record c { status = status.stopped_in c.status }, Err Stopped)
 
 -- the call ends with an outcome of the state table
-abbrev pub settled : Plain → Outcome → Answered (Unit {0})
-settled c outcome = (in_state c outcome.state, outcome.answer)
+abbrev pub with_outcome : Plain → Outcome → Answered (Unit {0})
+with_outcome c outcome = (in_state c outcome.state, outcome.answer)
 
 -- the calls that take no step
 
@@ -62,11 +62,11 @@ waiting written source =
     }
 
 -- a client that is opened
-abbrev pub opened : Geometry → ℕ → ℕ → Plain
-opened g member lead = record {
+abbrev pub new_client : Geometry → ℕ → ℕ → Plain
+new_client g member lead = record {
   identity = record { geometry = g; member = member; lead = lead };
   setup = setup.no_setup;
-  status = status.opened;
+  status = status.at_open;
   stretch = waiting 0 0;
   seen = None;
   fed = 0;
@@ -200,14 +200,14 @@ sync_count c position =
     else commit_count c position.frame c.stretch.written
 
 -- the sync of a client that moves frames: the load, the stop threshold, the commit
-abbrev pub synced : Plain → Call → Option Position → Commit → Answered (Unit {0})
-synced c call None commit = stopped_in c
-synced c call (Some position) commit =
+abbrev pub after_sync : Plain → Call → Option Position → Commit → Answered (Unit {0})
+after_sync c call None commit = stopped_in c
+after_sync c call (Some position) commit =
     let loaded = seen_at c position in
     let done = committed_by loaded commit in
     if is_stop commit.ended
     then stopped_in done
-    else settled done (next_of c.status.state call
+    else with_outcome done (next_of c.status.state call
     (facts_of done position (over_of loaded position) (late_of loaded commit)))
 
 -- the facts of a start, or of a commit behind a sync, that isn't empty
@@ -238,9 +238,9 @@ abbrev pub going_on : Plain → State → Outcome → Answered (Unit {0})
 going_on c state outcome = going_on_by outcome.answer c state outcome.state
 
 -- the start of a client that is prepared and has frames, which leads to a state: the load, and the commit
-abbrev pub started : Plain → State → Cursor → Option Position → Commit → Answered (Unit {0})
-started c state cursor None commit = stopped_in c
-started c state cursor (Some position) commit =
+abbrev pub after_start : Plain → State → Cursor → Option Position → Commit → Answered (Unit {0})
+after_start c state cursor None commit = stopped_in c
+after_start c state cursor (Some position) commit =
     if position.gone
     then going_on (seen_at c position) state (next_of Prepared call.Start (found_at position None))
     else (
@@ -275,7 +275,7 @@ base_of c d = if is_paused c.status.state && not (is_paused d.status.state) then
 -- the resume of a client with pending frames: a start of these, once the position was loaded
 abbrev pub resumed : Plain → Cursor → Option Position → Commit → Answered (Unit {0})
 resumed c cursor None commit = stopped_in c
-resumed c cursor (Some position) commit = started (rebased c) Running cursor (Some position) commit
+resumed c cursor (Some position) commit = after_start (rebased c) Running cursor (Some position) commit
 
 -- an answer's number, where there is one
 abbrev pub with_number : (Plain → ℕ) → Answered (Unit {0}) → Answered ℕ
@@ -330,7 +330,7 @@ written_after c n commit =
     if is_stop commit.ended
     then stopped_in (committed_by c commit)
     else accepted_if (taken_of c n)
-    (settled (committed_by c commit)
+    (with_outcome (committed_by c commit)
     (next_of Running call.Transfer
     (found_at (record { frame = 0; gone = false }) (late_of c commit))))
     )

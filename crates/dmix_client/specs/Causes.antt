@@ -14,7 +14,7 @@ use Rattle.bindings.specs.Bound.{rising}
 use Rattle.pcm_states.specs.declared.states.State.TheVariants.{Running}
 use Rattle.pcm_states.specs.declared.calls.Call.TheVariants as call
 use Rattle.dmix_client.specs.declared.plain.Plain.{Plain}
-use Rattle.dmix_client.specs.Calls.{Answered, seen_at, synced}
+use Rattle.dmix_client.specs.Calls.{Answered, seen_at, after_sync}
 use Rattle.dmix_client.specs.View.{ClientView, avail_of}
 use Rattle.dmix_client.specs.Course.{write_on}
 use Rattle.dmix_client.specs.Port.{TakesStep}
@@ -75,7 +75,7 @@ pub record ExplainsWrite {S T : Type 0} (P : mixport.Ghosts S) (G : gates.Ghosts
   pub between : S × T
   pub middle : Answered (Unit {0})
   pub first : TakesStep P G s between ring (λ position. c) (sync_count c) (length c.setup.bindings)
-      (synced c call.Transfer) middle
+      (after_sync c call.Transfer) middle
   pub rest : TakesAt P G between (write_on ring samples n middle) t done
   pub ring_is : new_ring ≡ ring_with middle.0 ring samples (taken_after middle n)
   pub why : IsCaused P.view P.shows t.0 c done.0 first.load done.1

@@ -17,7 +17,7 @@ use Rattle.dmix_client.specs.declared.commit.Commit.{Commit}
 use Rattle.dmix_client.specs.declared.plain.Plain.{Plain}
 use Rattle.pcm_stream.specs.Status.{is_moving, nothing_found, refusal_of}
 use Rattle.pcm_stream.specs.declared.direction.Direction.TheVariants.{Playback}
-use Rattle.dmix_client.specs.Calls.{Answered, accepted, accepted_if, draining, dropped, has_frames, is_running, paused, pending_of, rebased, resumed, settled, start_count, started, started_in, sync_count, synced, taken_of, with_number, written_after}
+use Rattle.dmix_client.specs.Calls.{Answered, accepted, accepted_if, draining, dropped, has_frames, is_running, paused, pending_of, rebased, resumed, with_outcome, start_count, after_start, started_in, sync_count, after_sync, taken_of, with_number, written_after}
 use Rattle.dmix_client.specs.View.{held}
 use Rattle.dmix_client.specs.Writes.{count_with, frames_in, ring_with, starts_with}
 
@@ -79,14 +79,14 @@ looks at count ring = loads (λ load. commit_at at count ring load >>= λ commit
 -- the sync of a client that moves frames: the load, and the commit
 unfoldable pub syncs : Plain → Call → List ℤ → Course (Answered (Unit {0}))
 syncs c call ring = looks (λ position. c) (sync_count c) ring
-    >>= λ found. ends (synced c call found.0 found.1)
+    >>= λ found. ends (after_sync c call found.0 found.1)
 
 -- the start of a client that has frames: the load, and the commit of those before one
 unfoldable pub starts : Plain → State → Cursor → ℕ → List ℤ → Course (Answered (Unit {0}))
 starts c state cursor upto ring =
     looks (λ position. started_in c Running position cursor)
     (λ position. start_count c cursor position upto) ring
-    >>= λ found. ends (started c state cursor found.0 found.1)
+    >>= λ found. ends (after_start c state cursor found.0 found.1)
 
 -- the calls, each of a client that isn't refused before
 
@@ -96,7 +96,7 @@ sync_course c ring = if is_moving c.status.state then syncs c call.Sync ring els
 abbrev pub start_course : Plain → List ℤ → Cursor → Course (Answered (Unit {0}))
 start_course c ring cursor = if nat_eq c.stretch.written 0
     then ends
-    (settled c (next_of c.status.state call.Start (record (nothing_found Playback) { queued = 0 })))
+    (with_outcome c (next_of c.status.state call.Start (record (nothing_found Playback) { queued = 0 })))
     else starts c Running cursor c.stretch.written ring
 
 abbrev pub drain_on : List ℤ → Answered (Unit {0}) → Course (Answered (Unit {0}))

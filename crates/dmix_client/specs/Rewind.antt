@@ -13,7 +13,7 @@ use Rattle.pcm_states.specs.declared.states.State.TheVariants.{Running}
 use Rattle.pcm_states.specs.Table.{next_of}
 use Rattle.dmix_client.specs.declared.commit.Commit.{Commit}
 use Rattle.dmix_client.specs.declared.plain.Plain.{Plain}
-use Rattle.dmix_client.specs.Calls.{Answered, found_at, is_running, is_stop, late_at, pending_of, settled, stopped_in, synced, with_number}
+use Rattle.dmix_client.specs.Calls.{Answered, found_at, is_running, is_stop, late_at, pending_of, with_outcome, stopped_in, after_sync, with_number}
 use Rattle.dmix_client.specs.Course.{nothing, numbered}
 use Rattle.dmix_client.specs.Expansion.{run_entries}
 use Rattle.dmix_client.specs.View.{held, hw_of}
@@ -65,7 +65,7 @@ rewound c n left =
     if is_stop left.ended
     then stopped_in done
     else with_number (λ d. n)
-    (settled done (next_of Running call.Transfer
+    (with_outcome done (next_of Running call.Transfer
     (found_at (record { frame = 0; gone = false })
     (late_at left.ended (last_laid done) (last_channel done)))))
 
@@ -103,7 +103,7 @@ take_frames member card bindings samples first (suc n) =
 
 -- the load of a client that runs, behind which nothing is committed
 unfoldable pub checks : Plain → Course (Answered (Unit {0}))
-checks c = loads (λ load. ends (synced c call.Transfer load nothing))
+checks c = loads (λ load. ends (after_sync c call.Transfer load nothing))
 
 abbrev pub rewindable_course : Plain → Cursor → Course (Answered ℕ)
 rewindable_course c floor = if is_running c.status.state

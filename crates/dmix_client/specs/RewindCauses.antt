@@ -12,7 +12,7 @@ use Rattle.mix_core.specs.Port.{IsPast, PortView}
 use Rattle.course.specs.AtPort.{TakesAt}
 use Rattle.pcm_states.specs.declared.calls.Call.TheVariants as call
 use Rattle.dmix_client.specs.declared.plain.Plain.{Plain}
-use Rattle.dmix_client.specs.Calls.{Answered, synced}
+use Rattle.dmix_client.specs.Calls.{Answered, after_sync}
 use Rattle.dmix_client.specs.Causes.{IsCaused, IsGone, IsOfSteps, Reaches}
 use Rattle.dmix_client.specs.Course.{nothing}
 use Rattle.dmix_client.specs.Rewind.{last_channel, last_laid, rewind_on}
@@ -50,7 +50,7 @@ pub record ExplainsRewind {S T : Type 0} (P : mixport.Ghosts S) (G : gates.Ghost
     (c : Plain) (ring : List ℤ) (floor : Cursor) (n : ℕ) (done : Answered ℕ) : Type 0 where
   pub between : S × T
   pub middle : Answered (Unit {0})
-  pub first : ExplainsCheck P G s between c (λ load. synced c call.Transfer load nothing) middle
+  pub first : ExplainsCheck P G s between c (λ load. after_sync c call.Transfer load nothing) middle
   pub rest : TakesAt P G between (rewind_on floor ring n middle) t done
   pub loaded_nothing : P.loaded between.0 t.0 []
   pub why : IsKeptCause P.view P.shows t.0 c done.0 first.load done.1

@@ -4,7 +4,7 @@ ghost use Rattle.pcm_states.specs.declared.calls.Call.TheVariants as call;
 ghost use Rattle.pcm_stream.specs.Setup.{Checks, config_of};
 ghost use Rattle.pcm_stream.specs.Status.{refusal_of};
 ghost use Rattle.pcm_stream.specs.declared.direction.Direction.{Direction};
-ghost use Rattle.dmix_client.specs.Calls.{configured_with, dropped, freed, opened, prepared, segment_of, with_params};
+ghost use Rattle.dmix_client.specs.Calls.{configured_with, dropped, freed, new_client, prepared, segment_of, with_params};
 ghost use Rattle.dmix_client.specs.View.{ClientView, IsSound};
 ghost use Rattle.sw_limits.specs.Boundary.{IsBoundary};
 
@@ -51,10 +51,10 @@ impl Client {
     /// ring's length, past the card's position.
     pub fn new(alloc: Global, geometry: Geometry, member: u32, lead: u32) -> Client
         requires { lead < geometry.frames }
-        ensures { result ≡ record { plain = opened geometry member lead; ring = [] } }
+        ensures { result ≡ record { plain = new_client geometry member lead; ring = [] } }
     {
         Client {
-            plain: Plain::opened(geometry, member, lead),
+            plain: Plain::new(geometry, member, lead),
             ring: Vec::new(alloc),
         }
     }

@@ -5,7 +5,7 @@ ghost use Rattle.snd_base.specs.Places.{end_frame};
 ghost use Rattle.course.specs.AtPort.{TakesAt};
 ghost use Rattle.pcm_stream.specs.Status.{is_moving, refusal_of};
 ghost use Rattle.pcm_stream.specs.declared.direction.Direction.{Direction};
-ghost use Rattle.dmix_client.specs.Calls.{draining, start_count, started, started_in, sync_count, synced};
+ghost use Rattle.dmix_client.specs.Calls.{draining, start_count, after_start, started_in, sync_count, after_sync};
 ghost use Rattle.dmix_client.specs.Causes.{Explains};
 ghost use Rattle.dmix_client.specs.Course.{admitted, drain_course, drains, start_course, starts};
 ghost use Rattle.dmix_client.specs.Growth.{AnySamples, Keeps, KeepsAccepted};
@@ -16,7 +16,7 @@ use crate::client::Client;
 use crate::commit::look_and_start;
 use crate::plain::Plain;
 use crate::status::sync_call;
-use crate::steps::started;
+use crate::steps::after_start;
 use mix_core::{Gate, MixPort};
 use pcm_states::{Call, State};
 use pcm_stream::Direction;
@@ -43,7 +43,7 @@ pub(crate) fn begin<P: MixPort, G: Gate>(
 {
     let cursor = port.cursor();
     let found = look_and_start(plain, ring, port, gate, cursor, upto);
-    started(*plain, state, cursor, found.load, found.commit)
+    after_start(*plain, state, cursor, found.load, found.commit)
 }
 
 /// The start, to `state`, of a client that is prepared and has frames.
@@ -70,7 +70,7 @@ fn start_all<P: MixPort, G: Gate>(
         (record { plain = plain.old; ring = ring.now })
         (λ position. started_in plain.old State.Running position (P.view port.old).marks.cursor)
         (λ position. start_count plain.old (P.view port.old).marks.cursor position
-        plain.old.stretch.written) (started plain.old state (P.view port.old).marks.cursor)
+        plain.old.stretch.written) (after_start plain.old state (P.view port.old).marks.cursor)
         (plain.new, result) }
 {
     let upto = plain.stretch.written;
@@ -135,7 +135,7 @@ impl Client {
             (P.view port.old).marks.cursor)
             (λ position. start_count self.old.plain (P.view port.old).marks.cursor position
             self.old.plain.stretch.written)
-            (started self.old.plain State.Running (P.view port.old).marks.cursor)
+            (after_start self.old.plain State.Running (P.view port.old).marks.cursor)
             (self.new.plain, result) }
     {
         self.plain.status.admit(Direction::Playback, Call::Start)?;
@@ -174,7 +174,7 @@ impl Client {
             Explains P.MixPort G.Gate (port.old, gate.old) (port.new, gate.new)
             (record { plain = draining self.old.plain; ring = self.old.ring })
             (λ position. draining self.old.plain) (sync_count (draining self.old.plain))
-            (synced (draining self.old.plain) call.Drain) (self.new.plain, result) }
+            (after_sync (draining self.old.plain) call.Drain) (self.new.plain, result) }
     {
         self.plain.status.admit(Direction::Playback, Call::Drain)?;
         let ring = self.ring.as_slice();

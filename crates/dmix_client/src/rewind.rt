@@ -5,7 +5,7 @@ ghost use Rattle.pcm_states.specs.declared.calls.Call.TheVariants as call;
 ghost use Rattle.course.specs.AtPort.{LoadsAt, TakesAt};
 ghost use Rattle.pcm_stream.specs.Status.{refusal_of};
 ghost use Rattle.pcm_stream.specs.declared.direction.Direction.{Direction};
-ghost use Rattle.dmix_client.specs.Calls.{synced, with_number};
+ghost use Rattle.dmix_client.specs.Calls.{after_sync, with_number};
 ghost use Rattle.dmix_client.specs.Course.{admitted, nothing, numbered};
 ghost use Rattle.dmix_client.specs.Growth.{AnySamples, Keeps, KeepsBack};
 ghost use Rattle.dmix_client.specs.Port.{CanUse};
@@ -17,7 +17,7 @@ use crate::client::Client;
 use crate::commit::Commit;
 use crate::plain::Plain;
 use crate::rewound::{rewound, with_rewindable};
-use crate::steps::synced;
+use crate::steps::after_sync;
 use crate::withdraw::take_frames;
 use mix_core::{Gate, MixPort, Position};
 use pcm_states::{Call, State};
@@ -44,7 +44,7 @@ fn check<P: MixPort, G: Gate>(plain: &mut Plain, port: &mut P, gate: &mut G) -> 
         (plain.new, result) }
 {
     let found = load(port, gate);
-    let (after, answer) = synced(*plain, Call::Transfer, found, Commit::NOTHING);
+    let (after, answer) = after_sync(*plain, Call::Transfer, found, Commit::NOTHING);
     *plain = after;
     answer
 }
@@ -91,7 +91,7 @@ fn rewindable_running<P: MixPort, G: Gate>(
         result AnySamples }
     ensures explains { ExplainsCheck P.MixPort G.Gate (port.old, gate.old) (port.new, gate.new)
         plain.old (λ load. with_number (rewindable_of (P.view port.old).marks.floor)
-        (synced plain.old call.Transfer load nothing)) (plain.new, result) }
+        (after_sync plain.old call.Transfer load nothing)) (plain.new, result) }
 {
     let floor = port.floor();
     let checked = check(plain, port, gate);
@@ -159,7 +159,7 @@ impl Client {
             self.old.plain.status.state ≡ State.Running →
             ExplainsCheck P.MixPort G.Gate (port.old, gate.old) (port.new, gate.new) self.old.plain
             (λ load. with_number (rewindable_of (P.view port.old).marks.floor)
-            (synced self.old.plain call.Transfer load nothing)) (self.new.plain, result) }
+            (after_sync self.old.plain call.Transfer load nothing)) (self.new.plain, result) }
     {
         self.plain
             .status

@@ -6,7 +6,7 @@ ghost use Rattle.dmix_client.specs.Rewind.{back_of, last_channel, last_laid, rew
 
 use crate::commit::Commit;
 use crate::plain::{Plain, Stretch};
-use crate::steps::{Answered, found_at, is_stop, settled, stopped_in};
+use crate::steps::{Answered, found_at, is_stop, with_outcome, stopped_in};
 use mix_core::{Ended, Position};
 use pcm_states::{Call, State, next};
 use snd_base::{Cursor, PcmError, XrunWhy};
@@ -135,7 +135,7 @@ pub(crate) fn rewound(plain: Plain, frames: u64, left: Commit) -> Answered<u64>
     let facts = found_at(here, done.late_withdrawal(left.ended));
     with_count(
         frames,
-        settled(done, next(State::Running, Call::Transfer, facts)),
+        with_outcome(done, next(State::Running, Call::Transfer, facts)),
     )
 }
 

@@ -5,7 +5,7 @@ ghost use Rattle.course.specs.AtPort.{TakesAt};
 ghost use Rattle.pcm_stream.specs.Status.{is_moving, refusal_of};
 ghost use Rattle.pcm_stream.specs.declared.direction.Direction.{Direction};
 ghost use Rattle.dmix_client.specs.Asked.{number_of};
-ghost use Rattle.dmix_client.specs.Calls.{avail_answer, delay_answer, sync_count, synced, with_number};
+ghost use Rattle.dmix_client.specs.Calls.{avail_answer, delay_answer, sync_count, after_sync, with_number};
 ghost use Rattle.dmix_client.specs.Causes.{Explains};
 ghost use Rattle.dmix_client.specs.Course.{admitted, number_course, sync_course, syncs};
 ghost use Rattle.dmix_client.specs.Growth.{AnySamples, Keeps, KeepsAccepted};
@@ -15,7 +15,7 @@ ghost use Rattle.dmix_client.specs.View.{IsGoing, IsSound};
 use crate::client::Client;
 use crate::commit::look_and_commit;
 use crate::plain::Plain;
-use crate::steps::{synced, with_number};
+use crate::steps::{after_sync, with_number};
 use mix_core::{Gate, MixPort};
 use pcm_states::Call;
 use pcm_stream::Direction;
@@ -54,10 +54,10 @@ pub(crate) fn sync_call<P: MixPort, G: Gate>(
     ensures same { KeepsAccepted plain.old plain.new }
     ensures explains { Explains P.MixPort G.Gate (port.old, gate.old) (port.new, gate.new)
         (record { plain = plain.old; ring = ring.now }) (λ position. plain.old)
-        (sync_count plain.old) (synced plain.old call) (plain.new, result) }
+        (sync_count plain.old) (after_sync plain.old call) (plain.new, result) }
 {
     let found = look_and_commit(plain, ring, port, gate);
-    let (after, answer) = synced(*plain, call, found.load, found.commit);
+    let (after, answer) = after_sync(*plain, call, found.load, found.commit);
     *plain = after;
     answer
 }
@@ -89,7 +89,7 @@ impl Client {
             is_moving self.old.plain.status.state ≡ true →
             Explains P.MixPort G.Gate (port.old, gate.old) (port.new, gate.new) self.old
             (λ position. self.old.plain) (sync_count self.old.plain)
-            (synced self.old.plain call.Sync) (self.new.plain, result) }
+            (after_sync self.old.plain call.Sync) (self.new.plain, result) }
     {
         self.plain.status.admit(Direction::Playback, Call::Sync)?;
         if !self.plain.status.is_moving() {
@@ -122,7 +122,8 @@ impl Client {
             is_moving self.old.plain.status.state ≡ true →
             Explains P.MixPort G.Gate (port.old, gate.old) (port.new, gate.new) self.old
             (λ position. self.old.plain) (sync_count self.old.plain)
-            (λ load commit. with_number (number_of asked) (synced self.old.plain call.Sync load commit))
+            (λ load commit.
+                with_number (number_of asked) (after_sync self.old.plain call.Sync load commit))
             (self.new.plain, result) }
     {
         self.plain.status.admit(Direction::Playback, Call::Sync)?;
@@ -158,7 +159,8 @@ impl Client {
             is_moving self.old.plain.status.state ≡ true →
             Explains P.MixPort G.Gate (port.old, gate.old) (port.new, gate.new) self.old
             (λ position. self.old.plain) (sync_count self.old.plain)
-            (λ load commit. with_number avail_answer (synced self.old.plain call.Sync load commit))
+            (λ load commit.
+                with_number avail_answer (after_sync self.old.plain call.Sync load commit))
             (self.new.plain, result) }
     {
         self.ask(port, gate, Asked::Avail)
@@ -188,7 +190,8 @@ impl Client {
             is_moving self.old.plain.status.state ≡ true →
             Explains P.MixPort G.Gate (port.old, gate.old) (port.new, gate.new) self.old
             (λ position. self.old.plain) (sync_count self.old.plain)
-            (λ load commit. with_number delay_answer (synced self.old.plain call.Sync load commit))
+            (λ load commit.
+                with_number delay_answer (after_sync self.old.plain call.Sync load commit))
             (self.new.plain, result) }
     {
         self.ask(port, gate, Asked::Delay)

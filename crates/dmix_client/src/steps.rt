@@ -1,6 +1,6 @@
 //! What a client is after each part of a call, by what the part found.
 ghost use Rattle.std.specs.Prelude.{◌≡◌, ℕ, ◌+◌, ◌*◌, ◌^◌, ◌<◌, ◌≤◌, IfSome, OnOk, length, unwrap_or};
-ghost use Rattle.dmix_client.specs.Calls.{in_state, waiting, draining, has_frames, with_number, configured_with, dropped, freed, opened, accepted, accepted_if, written_after, avail_answer, commit_count, committed_by, delay_answer, facts_of, found_at, going_on, is_stop, late_of, over_of, paused, pending_of, prepared, rebased, resumed, seen_at, segment_of, settled, start_count, start_frame, started, started_in, stopped_in, sync_count, synced, taken_of, window_end};
+ghost use Rattle.dmix_client.specs.Calls.{in_state, waiting, draining, has_frames, with_number, configured_with, dropped, freed, new_client, accepted, accepted_if, written_after, avail_answer, commit_count, committed_by, delay_answer, facts_of, found_at, going_on, is_stop, late_of, over_of, paused, pending_of, prepared, rebased, resumed, seen_at, segment_of, with_outcome, start_count, start_frame, after_start, started_in, stopped_in, sync_count, after_sync, taken_of, window_end};
 ghost use Rattle.dmix_client.specs.Asked.{number_of};
 ghost use Rattle.mix_core.specs.Port.{OnLate};
 ghost use Rattle.dmix_client.specs.Writes.{count_with};
@@ -212,14 +212,14 @@ pub(crate) fn stopped_in<T>(plain: Plain) -> Answered<T>
 }
 
 /// The call ends with an outcome of the state table.
-pub(crate) fn settled(plain: Plain, outcome: Outcome) -> Answered<()>
-    ensures { result ≡ settled plain outcome }
+pub(crate) fn with_outcome(plain: Plain, outcome: Outcome) -> Answered<()>
+    ensures { result ≡ with_outcome plain outcome }
 {
     (plain.in_state(outcome.state), outcome.answer)
 }
 
 /// The sync of a client that moves frames, by what its load and its commit found.
-pub(crate) fn synced(
+pub(crate) fn after_sync(
     plain: Plain,
     call: Call,
     load: Option<Position>,
@@ -228,7 +228,7 @@ pub(crate) fn synced(
     requires ready { IsReadyAt plain load }
     requires fits { plain.stretch.card + (plain.stretch.committed + commit.frames) < 2 ^ 64 }
     requires part { OnLate commit.ended (λ _. commit.part < length plain.setup.bindings) }
-    ensures { result ≡ synced plain call load commit }
+    ensures { result ≡ after_sync plain call load commit }
 {
     let Some(position) = load else {
         return stopped_in(plain);
@@ -246,7 +246,7 @@ pub(crate) fn synced(
         over: loaded.over(position),
         late: loaded.late(commit),
     };
-    settled(done, next(plain.status.state, call, facts))
+    with_outcome(done, next(plain.status.state, call, facts))
 }
 
 /// The call goes on in `state`, unless the table refuses it.
@@ -364,7 +364,7 @@ impl Plain {
 }
 
 /// The start of a client that is prepared and has frames, which leads to `state`.
-pub(crate) fn started(
+pub(crate) fn after_start(
     plain: Plain,
     state: State,
     cursor: Cursor,
@@ -375,7 +375,7 @@ pub(crate) fn started(
     requires cursor { cursor.frame < 2 ^ 63 }
     requires fits { plain.stretch.committed + commit.frames < 2 ^ 62 }
     requires part { OnLate commit.ended (λ _. commit.part < length plain.setup.bindings) }
-    ensures { result ≡ started plain state cursor load commit }
+    ensures { result ≡ after_start plain state cursor load commit }
 {
     let Some(position) = load else {
         return stopped_in(plain);
@@ -439,7 +439,7 @@ pub(crate) fn resumed(
 {
     match load {
         None => stopped_in(plain),
-        Some(position) => started(
+        Some(position) => after_start(
             plain.rebased(),
             State::Running,
             cursor,
@@ -485,14 +485,14 @@ pub(crate) fn written_after(plain: Plain, frames: u64, commit: Commit) -> Answer
     let facts = found_at(here, plain.late(commit));
     accepted_if(
         plain.taken(frames),
-        settled(done, next(State::Running, Call::Transfer, facts)),
+        with_outcome(done, next(State::Running, Call::Transfer, facts)),
     )
 }
 
 impl Plain {
     /// A client that is opened.
-    pub(crate) fn opened(geometry: Geometry, member: u32, lead: u32) -> Plain
-        ensures { result ≡ opened geometry member lead }
+    pub(crate) fn new(geometry: Geometry, member: u32, lead: u32) -> Plain
+        ensures { result ≡ new_client geometry member lead }
     {
         Plain {
             identity: Identity {
@@ -501,7 +501,7 @@ impl Plain {
                 lead,
             },
             setup: Setup::none(),
-            status: Status::opened(),
+            status: Status::at_open(),
             stretch: Stretch::waiting(0, 0),
             seen: None,
             fed: 0,

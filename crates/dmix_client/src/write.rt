@@ -5,7 +5,7 @@ ghost use Rattle.pcm_states.specs.declared.calls.Call.TheVariants as call;
 ghost use Rattle.course.specs.AtPort.{TakesAt};
 ghost use Rattle.pcm_stream.specs.Status.{is_moving, refusal_of};
 ghost use Rattle.pcm_stream.specs.declared.direction.Direction.{Direction};
-ghost use Rattle.dmix_client.specs.Calls.{accepted_if, start_count, started, started_in, taken_of};
+ghost use Rattle.dmix_client.specs.Calls.{accepted_if, start_count, after_start, started_in, taken_of};
 ghost use Rattle.dmix_client.specs.Causes.{Explains, ExplainsWrite};
 ghost use Rattle.dmix_client.specs.Course.{admitted, commits, fills, starts_taking, takes_more, write_course, writes_on};
 ghost use Rattle.dmix_client.specs.Growth.{Follows, Keeps};
@@ -186,7 +186,7 @@ fn write_prepared<P: MixPort, G: Gate>(
         (λ position. start_count plain.old (P.view port.old).marks.cursor position
         (plain.old.stretch.written + taken_of plain.old frames))
         (λ load commit. accepted_if (taken_of plain.old frames)
-        (started plain.old State.Running (P.view port.old).marks.cursor load commit))
+        (after_start plain.old State.Running (P.view port.old).marks.cursor load commit))
         (plain.new, result) }
 {
     let taken = plain.taken(frames);
@@ -268,7 +268,7 @@ impl Client {
             (frames_in self.old.plain samples.now)))
             (λ load commit. accepted_if
             (taken_of self.old.plain (frames_in self.old.plain samples.now))
-            (started self.old.plain State.Running (P.view port.old).marks.cursor load commit))
+            (after_start self.old.plain State.Running (P.view port.old).marks.cursor load commit))
             (self.new.plain, result) }
         ensures again { refusal_of Direction.Playback self.old.plain.status call.Transfer ≡ None →
             self.old.plain.status.state ≡ State.Running →

@@ -14,16 +14,16 @@ use Rattle.course.specs.AtSnoopPort.{GetsAtSnoop, LoadsAtSnoop, NoLay, TakesAtSn
 use Rattle.course.specs.Course.{Course}
 use Rattle.course.specs.CourseLaws.{Takes-map, Takes-then}
 use Rattle.dsnoop_client.specs.declared.plain.Plain.{Plain}
-use Rattle.dsnoop_client.specs.Calls.{Answered, read_after, started, synced, taken_of, with_avail}
+use Rattle.dsnoop_client.specs.Calls.{Answered, read_after, after_start, after_sync, taken_of, with_avail}
 use Rattle.dsnoop_client.specs.Course.{admitted, admitted_by, counts, gets_frames, reads_first, reads_on, starts, syncs, transfer_on, transfers}
 
 module _ {S T : Type 0} (P : snoopport.Ghosts S) (G : gates.Ghosts T) where
   -- a start and a sync, by their loads
-  pub starts-by : (s t : S × T) (c : Plain) (call : Call) (load : Option Position) (done : Answered (Unit {0})) → LoadsAtSnoop P G s load t → done ≡ started c call load → TakesAtSnoop P G s (starts c call) t done
+  pub starts-by : (s t : S × T) (c : Plain) (call : Call) (load : Option Position) (done : Answered (Unit {0})) → LoadsAtSnoop P G s load t → done ≡ after_start c call load → TakesAtSnoop P G s (starts c call) t done
   unfolding starts
   starts-by s t c call load done step is = (load, t, step, record { there = refl; result = is })
 
-  pub syncs-by : (s t : S × T) (c : Plain) (call : Call) (load : Option Position) (done : Answered (Unit {0})) → LoadsAtSnoop P G s load t → done ≡ synced c call load → TakesAtSnoop P G s (syncs c call) t done
+  pub syncs-by : (s t : S × T) (c : Plain) (call : Call) (load : Option Position) (done : Answered (Unit {0})) → LoadsAtSnoop P G s load t → done ≡ after_sync c call load → TakesAtSnoop P G s (syncs c call) t done
   unfolding syncs
   syncs-by s t c call load done step is = (load, t, step, record { there = refl; result = is })
 

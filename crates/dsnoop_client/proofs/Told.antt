@@ -25,7 +25,7 @@ use Rattle.snoop_core.specs.Port.{SnoopView}
 use Rattle.course.specs.AtSnoopPort.{LoadsAtSnoop}
 use Rattle.course.specs.Stops.{pass_by}
 use Rattle.dsnoop_client.specs.declared.plain.Plain.{Plain}
-use Rattle.dsnoop_client.specs.Calls.{Answered, found, in_state, over_of, seen_at, settled, started, synced, with_avail}
+use Rattle.dsnoop_client.specs.Calls.{Answered, found, in_state, over_of, seen_at, with_outcome, after_start, after_sync, with_avail}
 use Rattle.dsnoop_client.specs.Causes.{Explains, FindsNone, IsMissed, IsOfSteps, Reaches}
 use Rattle.dsnoop_client.specs.Port.{Keeps}
 use Rattle.dsnoop_client.specs.View.{CanUse, avail_of, IsSound, IsStart, IsSync, is_of_capture}
@@ -221,16 +221,16 @@ module _ {S T : Type 0} (P : snoopport.Ghosts S) (G : gates.Ghosts T) where
 
   -- a start, by what its load gave
   pub start-after : (s t : S × T) (c : Plain) (k : Call) (load : Option Position) (done : Answered (Unit {0})) → IsSound c → c.status.state ≡ state.Prepared → c.status.stopped ≡ false → IsStart k
-      → CanUse c (P.view s.0) → LoadsAtSnoop P G s load t → done ≡ started c k load → After s t c done
+      → CanUse c (P.view s.0) → LoadsAtSnoop P G s load t → done ≡ after_start c k load → After s t c done
   unfolding told-none told-gone told-some
   start-after s t c k None done sound waits unstopped start can step is =
       subst (λ (x : Answered (Unit {0})). After s t c x) (sym is) (record { told = told-none s t c sound can step; went = tt; ended = (λ h. h, λ h. cc, tt); asked = step.asked_it })
   start-after s t c k (Some position) done sound waits unstopped start can step is = by position.gone refl
     where
-      comes : (gone : Bool) → position.gone ≡ gone → done ≡ settled (if gone then seen_at c position else at_start c position) (if gone then refused_in state.Disconnected NoDevice else done_in state.Running)
+      comes : (gone : Bool) → position.gone ≡ gone → done ≡ with_outcome (if gone then seen_at c position else at_start c position) (if gone then refused_in state.Disconnected NoDevice else done_in state.Running)
       comes gone same =
-          is ∙ ap (λ (g : Bool). settled (if g then seen_at c position else at_start c position) (next_of c.status.state k (found g None None))) same
-          ∙ ap (settled (if gone then seen_at c position else at_start c position)) (starts-outcome c.status.state k gone waits start)
+          is ∙ ap (λ (g : Bool). with_outcome (if g then seen_at c position else at_start c position) (next_of c.status.state k (found g None None))) same
+          ∙ ap (with_outcome (if gone then seen_at c position else at_start c position)) (starts-outcome c.status.state k gone waits start)
 
       by : (gone : Bool) → position.gone ≡ gone → After s t c done
       by true gone =
@@ -256,18 +256,18 @@ module _ {S T : Type 0} (P : snoopport.Ghosts S) (G : gates.Ghosts T) where
 
   -- a sync, by what its load gave
   pub sync-after : (s t : S × T) (c : Plain) (k : Call) (load : Option Position) (done : Answered (Unit {0})) → IsSound c → c.status.state ≡ state.Running → c.status.stopped ≡ false → IsSync k
-      → CanUse c (P.view s.0) → LoadsAtSnoop P G s load t → done ≡ synced c k load → After s t c done
+      → CanUse c (P.view s.0) → LoadsAtSnoop P G s load t → done ≡ after_sync c k load → After s t c done
   unfolding told-none told-over told-some told-gone
   sync-after s t c k None done sound runs unstopped sync can step is =
       subst (λ (x : Answered (Unit {0})). After s t c x) (sym is) (record { told = told-none s t c sound can step; went = tt; ended = (λ h. h, λ h. cc, tt); asked = step.asked_it })
   sync-after s t c k (Some position) done sound runs unstopped sync can step is = by position.gone (nat_le c.setup.params.stop_threshold (position.frame - c.next)) refl refl
     where
       comes : (gone over : Bool) → position.gone ≡ gone → nat_le c.setup.params.stop_threshold (position.frame - c.next) ≡ over
-          → done ≡ settled (seen_at c position) (going_outcome gone (if over then Some (position.frame - c.next, position.frame) else None))
+          → done ≡ with_outcome (seen_at c position) (going_outcome gone (if over then Some (position.frame - c.next, position.frame) else None))
       comes gone over same reached =
-          is ∙ ap (λ (g : Bool). settled (seen_at c position) (next_of c.status.state k (found g (over_of (seen_at c position)) None))) same
-          ∙ ap (λ (b : Bool). settled (seen_at c position) (next_of c.status.state k (found gone (if b then Some (position.frame - c.next, position.frame) else None) None))) reached
-          ∙ ap (settled (seen_at c position)) (syncs-outcome c.status.state k gone (if over then Some (position.frame - c.next, position.frame) else None) runs sync)
+          is ∙ ap (λ (g : Bool). with_outcome (seen_at c position) (next_of c.status.state k (found g (over_of (seen_at c position)) None))) same
+          ∙ ap (λ (b : Bool). with_outcome (seen_at c position) (next_of c.status.state k (found gone (if b then Some (position.frame - c.next, position.frame) else None) None))) reached
+          ∙ ap (with_outcome (seen_at c position)) (syncs-outcome c.status.state k gone (if over then Some (position.frame - c.next, position.frame) else None) runs sync)
 
       by : (gone over : Bool) → position.gone ≡ gone → nat_le c.setup.params.stop_threshold (position.frame - c.next) ≡ over → After s t c done
       by true over gone reached =

@@ -34,8 +34,8 @@ in_state c state = record c { status = status.in_state c.status state }
 -- the calls that take no step
 
 -- a reader that is opened
-abbrev pub opened : Geometry → Plain
-opened g = record { geometry = g; setup = setup.no_setup; status = status.opened; seen = None; next = 0 }
+abbrev pub new_reader : Geometry → Plain
+new_reader g = record { geometry = g; setup = setup.no_setup; status = status.at_open; seen = None; next = 0 }
 
 -- the reader is prepared with a configuration, with the default thresholds
 abbrev pub configured_with : Plain → Config → List ℕ → Plain
@@ -60,8 +60,8 @@ abbrev pub stopped_in : {T : Type 0} → Plain → Answered T
 stopped_in c = (record c { status = status.stopped_in c.status }, Err error.Stopped)
 
 -- the call ends with an outcome of the state table
-abbrev pub settled : Plain → Outcome → Answered (Unit {0})
-settled c outcome = (in_state c outcome.state, outcome.answer)
+abbrev pub with_outcome : Plain → Outcome → Answered (Unit {0})
+with_outcome c outcome = (in_state c outcome.state, outcome.answer)
 
 -- a position was loaded
 abbrev pub seen_at : Plain → Position → Plain
@@ -72,19 +72,19 @@ abbrev pub started_at : Plain → Position → Plain
 started_at c position = if position.gone then seen_at c position else record c { seen = Some position.frame; next = position.frame }
 
 -- a start, by the position that it loaded
-abbrev pub started : Plain → Call → Option Position → Answered (Unit {0})
-started c call None = stopped_in c
-started c call (Some position) = settled (started_at c position) (next_of c.status.state call (found position.gone None None))
+abbrev pub after_start : Plain → Call → Option Position → Answered (Unit {0})
+after_start c call None = stopped_in c
+after_start c call (Some position) = with_outcome (started_at c position) (next_of c.status.state call (found position.gone None None))
 
 -- the stop threshold was reached: the frames available, and the position seen
 abbrev pub over_of : Plain → Option (ℕ × ℕ)
 over_of c = if nat_le c.setup.params.stop_threshold (avail_of c) then Some (avail_of c, unwrap_or c.seen 0) else None
 
 -- the sync of a reader that runs, by the position that it loaded
-abbrev pub synced : Plain → Call → Option Position → Answered (Unit {0})
-synced c call None = stopped_in c
-synced c call (Some position) =
-    settled (seen_at c position) (next_of c.status.state call (found position.gone (over_of (seen_at c position)) None))
+abbrev pub after_sync : Plain → Call → Option Position → Answered (Unit {0})
+after_sync c call None = stopped_in c
+after_sync c call (Some position) =
+    with_outcome (seen_at c position) (next_of c.status.state call (found position.gone (over_of (seen_at c position)) None))
 
 -- the frames that `avail_update` answers after its sync
 abbrev pub with_avail : Answered (Unit {0}) → Answered ℕ
@@ -108,7 +108,7 @@ numbered n (c, Err e) = (c, Err e)
 abbrev pub read_to : Plain → ℕ → Got → Answered ℕ
 read_to c done Whole = (record c { next = c.next + done }, Ok done)
 read_to c done (Overtaken channel word) =
-    numbered 0 (settled c (next_of state.Running call.Transfer (found false None (Some (why.Overtaken (c.next + done) channel word)))))
+    numbered 0 (with_outcome c (next_of state.Running call.Transfer (found false None (Some (why.Overtaken (c.next + done) channel word)))))
 read_to c done Stopped = stopped_in c
 
 -- a read of n frames after its load of the position, by how many it loaded, and how the last load ended

@@ -9,7 +9,7 @@ use Rattle.snoop_core.specs.declared.port.Got.{Got}
 use Rattle.snoop_core.specs.declared.port.Got.TheVariants.{Whole, Overtaken, Stopped}
 use Rattle.course.specs.Course.{◌>>=◌, Course, ends, gets, loads}
 use Rattle.dsnoop_client.specs.declared.plain.Plain.{Plain}
-use Rattle.dsnoop_client.specs.Calls.{Answered, read_after, started, synced, taken_of, waits, with_avail}
+use Rattle.dsnoop_client.specs.Calls.{Answered, read_after, after_start, after_sync, taken_of, waits, with_avail}
 use Rattle.dsnoop_client.specs.View.{is_running}
 
 -- so many frames are got, one after the other from a first one on, up to the first that isn't: how many were, and how it ended
@@ -27,10 +27,10 @@ gets_frames (suc count) first = gets first (λ got. get_on got (gets_frames coun
 
 -- the load of a start, and of a sync
 unfoldable pub starts : Plain → Call → Course (Answered (Unit {0}))
-starts c call = loads (λ load. ends (started c call load))
+starts c call = loads (λ load. ends (after_start c call load))
 
 unfoldable pub syncs : Plain → Call → Course (Answered (Unit {0}))
-syncs c call = loads (λ load. ends (synced c call load))
+syncs c call = loads (λ load. ends (after_sync c call load))
 
 -- the frames of a read, behind its load
 unfoldable pub transfers : Plain → ℕ → Course (Answered ℕ)

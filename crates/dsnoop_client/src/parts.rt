@@ -1,6 +1,6 @@
 //! What a reader is after each part of a call, by what the part found.
 ghost use Rattle.std.specs.Prelude.{◌≡◌, ◌+◌, ◌^◌, ◌<◌};
-ghost use Rattle.dsnoop_client.specs.Calls.{configured_with, found, freed, in_state, numbered, opened, over_of, read_after, read_to, seen_at, settled, started, started_at, stopped_in, synced, taken_of, waits, with_avail};
+ghost use Rattle.dsnoop_client.specs.Calls.{configured_with, found, freed, in_state, numbered, new_reader, over_of, read_after, read_to, seen_at, with_outcome, after_start, started_at, stopped_in, after_sync, taken_of, waits, with_avail};
 ghost use Rattle.dsnoop_client.specs.View.{IsReady, IsReadyAt, IsReadyIf, avail_of, is_running};
 
 use crate::plain::Plain;
@@ -19,13 +19,13 @@ pub(crate) type Answered<T> = (Plain, Result<T, PcmError>);
 
 impl Plain {
     /// A reader that is opened.
-    pub(crate) fn opened(geometry: Geometry) -> Plain
-        ensures { result ≡ opened geometry }
+    pub(crate) fn new(geometry: Geometry) -> Plain
+        ensures { result ≡ new_reader geometry }
     {
         Plain {
             geometry,
             setup: Setup::none(),
-            status: Status::opened(),
+            status: Status::at_open(),
             seen: None,
             next: 0,
         }
@@ -154,37 +154,37 @@ fn stopped_in<T>(plain: Plain) -> Answered<T>
 }
 
 /// The call ends with an outcome of the state table.
-fn settled(plain: Plain, outcome: Outcome) -> Answered<()>
-    ensures { result ≡ settled plain outcome }
+fn with_outcome(plain: Plain, outcome: Outcome) -> Answered<()>
+    ensures { result ≡ with_outcome plain outcome }
 {
     (plain.in_state(outcome.state), outcome.answer)
 }
 
 /// A start, by the position that it loaded.
-pub(crate) fn started(plain: Plain, call: Call, load: Option<Position>) -> Answered<()>
-    ensures { result ≡ started plain call load }
+pub(crate) fn after_start(plain: Plain, call: Call, load: Option<Position>) -> Answered<()>
+    ensures { result ≡ after_start plain call load }
 {
     let Some(position) = load else {
         return stopped_in(plain);
     };
     let facts = found(position.gone, None, None);
-    settled(
+    with_outcome(
         plain.started_at(position),
         next(plain.status.state, call, facts),
     )
 }
 
 /// The sync of a reader that runs, by the position that it loaded.
-pub(crate) fn synced(plain: Plain, call: Call, load: Option<Position>) -> Answered<()>
+pub(crate) fn after_sync(plain: Plain, call: Call, load: Option<Position>) -> Answered<()>
     requires { IsReadyAt plain load }
-    ensures { result ≡ synced plain call load }
+    ensures { result ≡ after_sync plain call load }
 {
     let Some(position) = load else {
         return stopped_in(plain);
     };
     let loaded = plain.seen_at(position);
     let facts = found(position.gone, loaded.over(), None);
-    settled(loaded, next(plain.status.state, call, facts))
+    with_outcome(loaded, next(plain.status.state, call, facts))
 }
 
 /// The frames available after a sync that went well.
@@ -242,7 +242,7 @@ fn read_to(plain: Plain, loaded: u64, ended: Got) -> Answered<u64>
             let facts = found(false, None, Some(why));
             numbered(
                 0,
-                settled(plain, next(State::Running, Call::Transfer, facts)),
+                with_outcome(plain, next(State::Running, Call::Transfer, facts)),
             )
         }
         Got::Stopped => stopped_in(plain),

@@ -10,7 +10,7 @@ ghost use Rattle.dsnoop_client.specs.Course.{admitted, avail_course, starts, syn
 ghost use Rattle.dsnoop_client.specs.Port.{Keeps};
 ghost use Rattle.dsnoop_client.specs.View.{CanUse, IsGoing, IsReadyIf, IsSound, IsStart, IsSync, is_running};
 
-use crate::parts::{started, synced, with_avail};
+use crate::parts::{after_start, after_sync, with_avail};
 use crate::plain::Plain;
 use crate::reader::Reader;
 use mix_core::{Gate, Position};
@@ -50,7 +50,7 @@ pub(crate) fn start_call<P: SnoopPort, G: Gate>(
     ensures got_nothing { P.got port.old port.new [] }
 {
     let position = load(port, gate);
-    let (after, answer) = started(*plain, call, position);
+    let (after, answer) = after_start(*plain, call, position);
     *plain = after;
     answer
 }
@@ -78,7 +78,7 @@ pub(crate) fn sync_call<P: SnoopPort, G: Gate>(
     ensures ready { IsReadyIf plain.new result }
 {
     let position = load(port, gate);
-    let (after, answer) = synced(*plain, call, position);
+    let (after, answer) = after_sync(*plain, call, position);
     *plain = after;
     answer
 }

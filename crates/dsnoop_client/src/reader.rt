@@ -5,7 +5,7 @@ ghost use Rattle.pcm_stream.specs.Setup.{CanRunWith, Checks, config_of};
 ghost use Rattle.pcm_stream.specs.Status.{refusal_of};
 ghost use Rattle.pcm_stream.specs.declared.direction.Direction.{Direction};
 ghost use Rattle.sw_limits.specs.Boundary.{IsBoundary};
-ghost use Rattle.dsnoop_client.specs.Calls.{configured_with, freed, in_state, opened, with_params};
+ghost use Rattle.dsnoop_client.specs.Calls.{configured_with, freed, in_state, new_reader, with_params};
 ghost use Rattle.dsnoop_client.specs.View.{IsSound};
 
 use crate::plain::Plain;
@@ -44,10 +44,10 @@ impl Model for Reader {
 impl Reader {
     /// A reader in OPEN, of a ring of this geometry.
     pub fn new(alloc: Global, geometry: Geometry) -> Reader
-        ensures { result ≡ opened geometry }
+        ensures { result ≡ new_reader geometry }
     {
         Reader {
-            plain: Plain::opened(geometry),
+            plain: Plain::new(geometry),
             frame: Vec::new(alloc),
         }
     }

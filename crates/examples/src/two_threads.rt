@@ -1,7 +1,7 @@
 //! Two seats of one ring, each in a thread of its own.
 ghost use Rattle.std.specs.Prelude.{◌≡◌, ◌+ℤ◌, IfOk, OnOk};
 ghost use Rattle.lap_word.specs.Clamp.{clamp_of};
-ghost use Rattle.sum_table.specs.Seats.{Goes};
+ghost use Rattle.sum_table.specs.Seats.{IsLaterSeat};
 ghost use Rattle.examples.specs.FirstWord.{CanPlaceFirst, HasPlacedFirst};
 
 use mix_core::{MixPort, NeverStops, Placed};
@@ -52,8 +52,8 @@ fn place_both<R: Threads + Sync>(
 ) -> (Result<(), PcmError>, Result<(), PcmError>)
     requires left { CanPlaceFirst left.old }
     requires right { CanPlaceFirst right.old }
-    ensures left_goes { Goes left.old left.new }
-    ensures right_goes { Goes right.old right.new }
+    ensures left_goes { IsLaterSeat left.old left.new }
+    ensures right_goes { IsLaterSeat right.old right.new }
     ensures left { OnOk result.0 (HasPlacedFirst left.old left.new first) }
     ensures right { OnOk result.1 (HasPlacedFirst right.old right.new second) }
 {
@@ -67,7 +67,7 @@ fn place_both<R: Threads + Sync>(
 /// Places a sample in the ring's first frame, where the seat may; `Ok` says that it was in time.
 fn place_first(seat: &mut MixSeat<'_>, sample: i16) -> Result<(), PcmError>
     requires { CanPlaceFirst seat.old }
-    ensures goes { Goes seat.old seat.new }
+    ensures goes { IsLaterSeat seat.old seat.new }
     ensures placed { OnOk result (HasPlacedFirst seat.old seat.new sample) }
 {
     match seat.place(&mut NeverStops, 0, 0, sample)? {

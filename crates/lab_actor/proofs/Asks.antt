@@ -7,7 +7,7 @@ use Rattle.mix_core.specs.declared.gate.Pass.TheVariants.{Go, Stop}
 use Rattle.mix_core.specs.declared.gate.StepKind.{StepKind}
 use Rattle.mix_core.specs.declared.gate.StepKind.TheVariants.{Again, Exchange, Look, Position}
 use Rattle.mix_core.specs.Gate.{stops_after}
-use Rattle.lab_run.specs.PortSteps.{IsAnswered, counted, is_counted, stop_at}
+use Rattle.lab_run.specs.PortSteps.{IsAnswered, ask_count, is_counted, stop_at}
 use Rattle.lab_run.specs.Rules.{AtPort, left_after, lets_pass, with_asks, with_gate_stop, with_stop, with_stop_by}
 use Rattle.lab_actor.specs.declared.countdown.Countdown.{Countdown}
 use Rattle.lab_actor.specs.Countdown.{CountsAsks, IsSameGate, by_gate_of, left_of}
@@ -53,7 +53,7 @@ died step a left after n m is ends after_is same = (
 passed : (step : StepKind) (pass : Pass) (a : AtPort) (left after : Option ℕ) (n m : ℕ) → is_counted step ≡ 1 → lets_pass 1 left ≡ true → after ≡ left_after 1 left → m ≡ stops_after pass n
     → IsAnswered (step ∷ []) pass (at_gate a left n) (at_gate a after m)
 passed step Go a left after n m is lets after_is stops =
-    let one : counted (step ∷ []) ≡ 1 = omega (arith, is) in (
+    let one : ask_count (step ∷ []) ≡ 1 = omega (arith, is) in (
       subst (λ (k : ℕ). lets_pass k left ≡ true) (sym one) lets,
       same-at a after (left_after 1 left) m n after_is stops ∙ ap (λ (k : ℕ). with_asks k (at_gate a left n)) (sym one),
     )

@@ -19,7 +19,7 @@ use Rattle.pcm_stream.specs.Status.{refusal_of, is_moving}
 use Rattle.pcm_stream.specs.declared.direction.Direction.TheVariants.{Playback}
 use Rattle.dmix_client.specs.declared.commit.Commit.{Commit}
 use Rattle.dmix_client.specs.declared.plain.Plain.{Plain}
-use Rattle.dmix_client.specs.Calls.{Answered, accepted_if, committed_by, draining, found_at, going_on, going_on_by, has_frames, is_running, is_stop, late_at, late_of, pending_of, rebased, resumed, seen_at, settled, started, started_in, stopped_in, synced, taken_of, with_number, written_after}
+use Rattle.dmix_client.specs.Calls.{Answered, accepted_if, committed_by, draining, found_at, going_on, going_on_by, has_frames, is_running, is_stop, late_at, late_of, pending_of, rebased, resumed, seen_at, with_outcome, after_start, started_in, stopped_in, after_sync, taken_of, with_number, written_after}
 use Rattle.dmix_client.specs.Course.{admitted, admitted_by, drain_course, drain_on, drains, fills, number_course, numbered, pause_course, resumes, start_course, starts, starts_taking, sync_course, syncs, takes_more, write_course, write_on, writes_on}
 use Rattle.dmix_client.specs.Rewind.{back_of, back_on, checks, last_channel, last_laid, left_of, rewind_course, rewind_on, rewindable_course, rewindable_of, rewinds, rewound, take_frames, taken_back, takes_back, without}
 use Rattle.dmix_client.specs.View.{IsSound, avail_of}
@@ -38,9 +38,9 @@ by_test : {X : Type 0} (n : ℕ) (test : Bool) (one other : Plain × X) → IsSa
 by_test n true one other first second = first
 by_test n false one other first second = second
 
-synced-fed : (c : Plain) (what : Call) (load : Option Position) (commit : Commit) → IsSame c.fed (synced c what load commit)
-synced-fed c what None commit = record { same = refl }
-synced-fed c what (Some position) commit = by_test c.fed (is_stop commit.ended) _ _ (record { same = refl }) (record { same = refl })
+after_sync-fed : (c : Plain) (what : Call) (load : Option Position) (commit : Commit) → IsSame c.fed (after_sync c what load commit)
+after_sync-fed c what None commit = record { same = refl }
+after_sync-fed c what (Some position) commit = by_test c.fed (is_stop commit.ended) _ _ (record { same = refl }) (record { same = refl })
 
 going_on-fed : (c : Plain) (state : State) (o : Outcome) → IsSame c.fed (going_on c state o)
 going_on-fed c state o = by_answer o.answer
@@ -49,9 +49,9 @@ going_on-fed c state o = by_answer o.answer
     by_answer (Ok done) = record { same = refl }
     by_answer (Err e) = record { same = refl }
 
-started-fed : (c : Plain) (state : State) (cursor : Cursor) (load : Option Position) (commit : Commit) → IsSame c.fed (started c state cursor load commit)
-started-fed c state cursor None commit = record { same = refl }
-started-fed c state cursor (Some position) commit =
+after_start-fed : (c : Plain) (state : State) (cursor : Cursor) (load : Option Position) (commit : Commit) → IsSame c.fed (after_start c state cursor load commit)
+after_start-fed c state cursor None commit = record { same = refl }
+after_start-fed c state cursor (Some position) commit =
     let from : Plain = started_in c state position cursor in
     let done : Plain = committed_by from commit in
     let lost : Outcome = next_of Prepared call.Start (found_at position None) in
@@ -62,24 +62,24 @@ started-fed c state cursor (Some position) commit =
 
 resumed-fed : (c : Plain) (cursor : Cursor) (load : Option Position) (commit : Commit) → IsSame c.fed (resumed c cursor load commit)
 resumed-fed c cursor None commit = record { same = refl }
-resumed-fed c cursor (Some position) commit = started-fed (rebased c) _ cursor (Some position) commit
+resumed-fed c cursor (Some position) commit = after_start-fed (rebased c) _ cursor (Some position) commit
 
 with_number-fed : (number : Plain → ℕ) (n : ℕ) (done : Answered (Unit {0})) → IsSame n done → IsSame n (with_number number done)
 with_number-fed number n (c, Ok done) is = record { same = is.same }
 with_number-fed number n (c, Err e) is = record { same = is.same }
 
-settled-fed : (c : Plain) (o : Outcome) → IsSame c.fed (settled c o)
-settled-fed c o = record { same = refl }
+with_outcome-fed : (c : Plain) (o : Outcome) → IsSame c.fed (with_outcome c o)
+with_outcome-fed c o = record { same = refl }
 
 -- the parts of the calls
 
 syncs-fed : (c : Plain) (what : Call) (ring : List ℤ) → Gives (IsSame c.fed) (syncs c what ring)
 unfolding syncs
-syncs-fed c what ring = Gives-behind (IsSame c.fed) _ _ (λ found. synced-fed c what found.0 found.1)
+syncs-fed c what ring = Gives-behind (IsSame c.fed) _ _ (λ found. after_sync-fed c what found.0 found.1)
 
 starts-fed : (c : Plain) (state : State) (cursor : Cursor) (upto : ℕ) (ring : List ℤ) → Gives (IsSame c.fed) (starts c state cursor upto ring)
 unfolding starts
-starts-fed c state cursor upto ring = Gives-behind (IsSame c.fed) _ _ (λ found. started-fed c state cursor found.0 found.1)
+starts-fed c state cursor upto ring = Gives-behind (IsSame c.fed) _ _ (λ found. after_start-fed c state cursor found.0 found.1)
 
 resumes-fed : (c : Plain) (cursor : Cursor) (ring : List ℤ) → Gives (IsSame c.fed) (resumes c cursor ring)
 unfolding resumes
@@ -116,9 +116,9 @@ written_after-fed : (c : Plain) (n : ℕ) (commit : Commit) → IsFed (c.fed + n
 written_after-fed c n commit =
     let o : Outcome = next_of Running call.Transfer (found_at (record { frame = 0; gone = false }) (late_of c commit)) in
     let stopped : Answered ℕ = stopped_in (committed_by c commit) in
-    let taken : Answered ℕ = accepted_if (taken_of c n) (settled (committed_by c commit) o) in
+    let taken : Answered ℕ = accepted_if (taken_of c n) (with_outcome (committed_by c commit) o) in
     let few = taken_of-most c n in
-    let done = (accepted_if-fed c.fed (taken_of c n) (settled (committed_by c commit) o) (record { same = refl })).most in
+    let done = (accepted_if-fed c.fed (taken_of c n) (with_outcome (committed_by c commit) o) (record { same = refl })).most in
     fed-test (c.fed + n) (nat_lt 0 n && nat_eq (avail_of c) 0) (c, Err Again) (if is_stop commit.ended then stopped else taken) (record { most = omega arith })
     (fed-test (c.fed + n) (is_stop commit.ended) stopped taken (record { most = omega arith }) (record { most = omega (arith, few, done) }))
 
@@ -176,7 +176,7 @@ write-fed c ring samples cursor = admitted-gives c call.Transfer _ (IsFed (c.fed
 
 checks-fed : (c : Plain) → Gives (IsSame c.fed) (checks c)
 unfolding checks
-checks-fed c = λ load. synced-fed c call.Transfer load _
+checks-fed c = λ load. after_sync-fed c call.Transfer load _
 
 pub rewindable-fed : (c : Plain) (floor : Cursor) → Gives (IsSame c.fed) (admitted c call.Transfer (rewindable_course c floor))
 rewindable-fed c floor = admitted-gives c call.Transfer _ (IsSame c.fed) (by_course (IsSame c.fed) (is_running c.status.state) _ _ (numbered-fed _ c.fed _ (checks-fed c)) (record { same = refl })) (λ e. record { same = refl })
@@ -209,8 +209,8 @@ rewound-fed c n left =
     let done : Plain = taken_back c n left in
     let o : Outcome = next_of Running call.Transfer (found_at (record { frame = 0; gone = false }) (late_at left.ended (last_laid done) (last_channel done))) in
     let stopped : Answered ℕ = stopped_in done in
-    by_test (c.fed - n + left.frames) (is_stop left.ended) stopped (with_number (λ d. n) (settled done o)) (record { same = refl })
-    (with_number-fed (λ d. n) (c.fed - n + left.frames) (settled done o) (record { same = refl }))
+    by_test (c.fed - n + left.frames) (is_stop left.ended) stopped (with_number (λ d. n) (with_outcome done o)) (record { same = refl })
+    (with_number-fed (λ d. n) (c.fed - n + left.frames) (with_outcome done o) (record { same = refl }))
 
 takes_back-fed : (c : Plain) (ring : List ℤ) (n : ℕ) → n ≤ c.fed → Gives (IsFed c.fed) (takes_back c ring n)
 unfolding takes_back

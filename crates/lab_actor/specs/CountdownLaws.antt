@@ -7,13 +7,13 @@ use Rattle.mix_core.specs.declared.gate.Pass.TheVariants.{Go, Stop}
 use Rattle.mix_core.specs.declared.gate.StepKind.{StepKind}
 use Rattle.mix_core.specs.Gate.{AsksCompose}
 use Rattle.mix_core.specs.Laid.{without_last}
-use Rattle.lab_run.specs.PortSteps.{CountsDown, IsAnswered, counted, last_kind, stop_at, with_gate}
+use Rattle.lab_run.specs.PortSteps.{CountsDown, IsAnswered, ask_count, last_kind, stop_at, with_gate}
 use Rattle.lab_run.specs.Rules.{AtPort, left_after, lets_pass, with_asks}
 use Rattle.lab_actor.specs.Countdown.{Answers, CountsAsks, by_gate_of, left_of}
 
-counted-append : (xs ys : List StepKind) → counted (xs ++ ys) ≡ counted xs + counted ys
-counted-append [] ys = omega arith
-counted-append (x ∷ xs) ys = let rest = counted-append xs ys in omega (arith, rest)
+ask_count-append : (xs ys : List StepKind) → ask_count (xs ++ ys) ≡ ask_count xs + ask_count ys
+ask_count-append [] ys = omega arith
+ask_count-append (x ∷ xs) ys = let rest = ask_count-append xs ys in omega (arith, rest)
 
 lets_pass-joined : (n m : ℕ) (left : Option ℕ) → lets_pass n left ≡ true → lets_pass m (left_after n left) ≡ true → lets_pass (n + m) left ≡ true
 lets_pass-joined n m None first later = refl
@@ -39,22 +39,22 @@ last_kind-append (x ∷ z ∷ xs) y ys = last_kind-append (z ∷ xs) y ys
 -- asks that all passed, and then others
 passed-joined : (xs ys : List StepKind) (a b c : AtPort) → IsAnswered xs Go a b → IsAnswered ys Go b c → IsAnswered (xs ++ ys) Go a c
 passed-joined xs ys a b c first later =
-    let passes : lets_pass (counted ys) (left_after (counted xs) a.left) ≡ true = subst (λ (d : AtPort). lets_pass (counted ys) d.left ≡ true) first.1 later.0 in (
-      subst (λ (n : ℕ). lets_pass n a.left ≡ true) (sym (counted-append xs ys)) (lets_pass-joined (counted xs) (counted ys) a.left first.0 passes),
-      later.1 ∙ ap (with_asks (counted ys)) first.1 ∙ with_asks-joined (counted xs) (counted ys) a ∙ ap (λ (n : ℕ). with_asks n a) (sym (counted-append xs ys)),
+    let passes : lets_pass (ask_count ys) (left_after (ask_count xs) a.left) ≡ true = subst (λ (d : AtPort). lets_pass (ask_count ys) d.left ≡ true) first.1 later.0 in (
+      subst (λ (n : ℕ). lets_pass n a.left ≡ true) (sym (ask_count-append xs ys)) (lets_pass-joined (ask_count xs) (ask_count ys) a.left first.0 passes),
+      later.1 ∙ ap (with_asks (ask_count ys)) first.1 ∙ with_asks-joined (ask_count xs) (ask_count ys) a ∙ ap (λ (n : ℕ). with_asks n a) (sym (ask_count-append xs ys)),
     )
 
 stopped-joined : (xs : List StepKind) (y : StepKind) (ys : List StepKind) (a b c : AtPort) → IsAnswered xs Go a b → IsAnswered (y ∷ ys) Stop b c → IsAnswered (xs ++ y ∷ ys) Stop a c
 stopped-joined xs y ys a b c first later =
-    let n = counted xs in
-    let m = counted (without_last (y ∷ ys)) in
+    let n = ask_count xs in
+    let m = ask_count (without_last (y ∷ ys)) in
     let passes : lets_pass m (left_after n a.left) ≡ true = subst (λ (d : AtPort). lets_pass m d.left ≡ true) first.1 later.0 in
-    let number : counted (without_last (xs ++ y ∷ ys)) ≡ n + m = ap counted (without_last-append xs y ys) ∙ counted-append xs (without_last (y ∷ ys)) in (
+    let number : ask_count (without_last (xs ++ y ∷ ys)) ≡ n + m = ap ask_count (without_last-append xs y ys) ∙ ask_count-append xs (without_last (y ∷ ys)) in (
       subst (λ (k : ℕ). lets_pass k a.left ≡ true) (sym number) (lets_pass-joined n m a.left first.0 passes),
       later.1
           ∙ ap (λ (d : AtPort). stop_at (last_kind (y ∷ ys)) (with_asks m d)) first.1
           ∙ ap (stop_at (last_kind (y ∷ ys))) (with_asks-joined n m a ∙ ap (λ (k : ℕ). with_asks k a) (sym number))
-          ∙ ap (λ (kind : StepKind). stop_at kind (with_asks (counted (without_last (xs ++ y ∷ ys))) a)) (sym (last_kind-append xs y ys)),
+          ∙ ap (λ (kind : StepKind). stop_at kind (with_asks (ask_count (without_last (xs ++ y ∷ ys))) a)) (sym (last_kind-append xs y ys)),
     )
 
 -- what `Answers` says, of any asks

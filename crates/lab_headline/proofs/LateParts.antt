@@ -21,7 +21,7 @@ use Rattle.dmix_client.specs.declared.commit.Commit.{Commit}
 use Rattle.dmix_client.specs.declared.plain.Plain.{Plain}
 use Rattle.pcm_stream.specs.declared.direction.Direction.TheVariants.{Playback}
 use Rattle.pcm_stream.specs.Status.{is_moving, is_refusal, nothing_found, refusal_in, refusal_of}
-use Rattle.dmix_client.specs.Calls.{Answered, accepted, accepted_if, avail_answer, committed_by, delay_answer, dropped, end_channel, end_of_commit, facts_of, found_at, going_on, going_on_by, is_running, is_stop, late_at, late_of, over_of, paused, pending_of, prepared, rebased, resumed, seen_at, settled, started, started_in, start_count, stopped_in, sync_count, synced, taken_of, with_number, written_after}
+use Rattle.dmix_client.specs.Calls.{Answered, accepted, accepted_if, avail_answer, committed_by, delay_answer, dropped, end_channel, end_of_commit, facts_of, found_at, going_on, going_on_by, is_running, is_stop, late_at, late_of, over_of, paused, pending_of, prepared, rebased, resumed, seen_at, with_outcome, after_start, started_in, start_count, stopped_in, sync_count, after_sync, taken_of, with_number, written_after}
 use Rattle.dmix_client.specs.Calls as calls
 use Rattle.dmix_client.specs.Course.{admitted, admitted_by, commits, drain_course, drain_on, drains, fills, commit_at, go_on, lay_each, lay_frame, lay_frames, lay_on, looks, nothing, number_course, numbered, one_frame_more, one_more, pause_course, resumes, start_course, starts, starts_taking, syncs, takes_more, write_on, writes_on}
 use Rattle.dmix_client.specs.Rewind.{back_of, checks, last_channel, last_laid, rewind_course, rewind_on, rewindable_course, rewindable_of, rewinds, rewound, take_frames, taken_back, takes_back}
@@ -114,21 +114,21 @@ going_on-kept : (b : List ℕ) (c : Plain) (state refused : State) (r : Result (
 going_on-kept b c state refused (Ok done) is late = (is, tt)
 going_on-kept b c state refused (Err e) is late = (is, late)
 
-synced-kept : (b : List ℕ) (c : Plain) (asked : Call) (load : Option Position) (x : Commit) → c.setup.bindings ≡ b → Short b x → Kept b (synced c asked load x)
-synced-kept b c asked None x is short = (is, tt)
-synced-kept b c asked (Some p) x is short = by_stop (is_stop x.ended)
+after_sync-kept : (b : List ℕ) (c : Plain) (asked : Call) (load : Option Position) (x : Commit) → c.setup.bindings ≡ b → Short b x → Kept b (after_sync c asked load x)
+after_sync-kept b c asked None x is short = (is, tt)
+after_sync-kept b c asked (Some p) x is short = by_stop (is_stop x.ended)
   where
     f : Facts
     f = facts_of (committed_by (seen_at c p) x) p (over_of (seen_at c p) p) (late_of (seen_at c p) x)
 
-    by_stop : (stop : Bool) → Kept b (if stop then stopped_in (committed_by (seen_at c p) x) else settled (committed_by (seen_at c p) x) (next_of c.status.state asked f))
+    by_stop : (stop : Bool) → Kept b (if stop then stopped_in (committed_by (seen_at c p) x) else with_outcome (committed_by (seen_at c p) x) (next_of c.status.state asked f))
     by_stop true = (is, tt)
     by_stop false = (is, next-late (λ frame channel. x.part < length (rising b)) c.status.state asked f (late-short b (seen_at c p) x short))
 
-started-kept : (b : List ℕ) (c : Plain) (state : State) (cursor : Cursor) (load : Option Position) (x : Commit) → c.setup.bindings ≡ b → Short b x
-    → Kept b (started c state cursor load x)
-started-kept b c state cursor None x is short = (is, tt)
-started-kept b c state cursor (Some p) x is short = by_gone p.gone
+after_start-kept : (b : List ℕ) (c : Plain) (state : State) (cursor : Cursor) (load : Option Position) (x : Commit) → c.setup.bindings ≡ b → Short b x
+    → Kept b (after_start c state cursor load x)
+after_start-kept b c state cursor None x is short = (is, tt)
+after_start-kept b c state cursor (Some p) x is short = by_gone p.gone
   where
     from : Plain
     from = started_in c state p cursor
@@ -146,7 +146,7 @@ started-kept b c state cursor (Some p) x is short = by_gone p.gone
 
 resumed-kept : (b : List ℕ) (c : Plain) (cursor : Cursor) (load : Option Position) (x : Commit) → c.setup.bindings ≡ b → Short b x → Kept b (resumed c cursor load x)
 resumed-kept b c cursor None x is short = (is, tt)
-resumed-kept b c cursor (Some p) x is short = started-kept b (rebased c) Running cursor (Some p) x is short
+resumed-kept b c cursor (Some p) x is short = after_start-kept b (rebased c) Running cursor (Some p) x is short
 
 accepted-kept : (b : List ℕ) (n : ℕ) (done : Answered (Unit {0})) → Kept b done → Kept b (accepted_if n done)
 accepted-kept b n (c, Ok done) kept = (kept.0, tt)
@@ -163,10 +163,10 @@ written-kept b c n x is short = by_test (nat_lt 0 n && nat_eq (avail_of c) 0) (i
     f = found_at (record { frame = 0; gone = false }) (late_of c x)
 
     by_test : (none stop : Bool) → Kept b (if none then (c, Err error.Again) else (if stop then stopped_in (committed_by c x)
-        else accepted_if (taken_of c n) (settled (committed_by c x) (next_of Running call.Transfer f))))
+        else accepted_if (taken_of c n) (with_outcome (committed_by c x) (next_of Running call.Transfer f))))
     by_test true stop = (is, tt)
     by_test false true = (is, tt)
-    by_test false false = accepted-kept b (taken_of c n) (settled (committed_by c x) (next_of Running call.Transfer f))
+    by_test false false = accepted-kept b (taken_of c n) (with_outcome (committed_by c x) (next_of Running call.Transfer f))
         (is, next-late (λ frame channel. x.part < length (rising b)) Running call.Transfer f (late-short b c x short))
 
 -- ---- the calls
@@ -182,16 +182,16 @@ All-after Q m f each = All-then (λ x. ⊤) Q m f (All-any (λ x. ⊤) m (λ x. 
 syncs-kept : (b : List ℕ) (c : Plain) (asked : Call) (ring : List ℤ) → c.setup.bindings ≡ b → All (Kept b) (syncs c asked ring)
 unfolding syncs
 syncs-kept b c asked ring is = All-then (λ (x : Option Position × Commit). Short b x.1) (Kept b) (looks (λ position. c) (sync_count c) ring)
-    (λ found. ends (synced c asked found.0 found.1)) (looks-short b (λ position. c) (sync_count c) ring (λ p. is))
-    (λ found short. synced-kept b c asked found.0 found.1 is short)
+    (λ found. ends (after_sync c asked found.0 found.1)) (looks-short b (λ position. c) (sync_count c) ring (λ p. is))
+    (λ found short. after_sync-kept b c asked found.0 found.1 is short)
 
 starts-kept : (b : List ℕ) (c : Plain) (state : State) (cursor : Cursor) (upto : ℕ) (ring : List ℤ) → c.setup.bindings ≡ b → All (Kept b) (starts c state cursor upto ring)
 unfolding starts
 starts-kept b c state cursor upto ring is = All-then (λ (x : Option Position × Commit). Short b x.1) (Kept b)
     (looks (λ position. started_in c Running position cursor) (λ position. start_count c cursor position upto) ring)
-    (λ found. ends (started c state cursor found.0 found.1))
+    (λ found. ends (after_start c state cursor found.0 found.1))
     (looks-short b (λ position. started_in c Running position cursor) (λ position. start_count c cursor position upto) ring (λ p. is))
-    (λ found short. started-kept b c state cursor found.0 found.1 is short)
+    (λ found short. after_start-kept b c state cursor found.0 found.1 is short)
 
 resumes-kept : (b : List ℕ) (c : Plain) (cursor : Cursor) (ring : List ℤ) → c.setup.bindings ≡ b → All (Kept b) (resumes c cursor ring)
 unfolding resumes
@@ -222,7 +222,7 @@ write-kept b c cursor n is = All-if (Kept b) (is_running c.status.state) (writes
     (is, tt))
 
 start-kept : (b : List ℕ) (c : Plain) (cursor : Cursor) → c.setup.bindings ≡ b → All (Kept b) (start_course c [] cursor)
-start-kept b c cursor is = All-if (Kept b) (nat_eq c.stretch.written 0) (ends (settled c (next_of c.status.state call.Start f))) (starts c Running cursor c.stretch.written [])
+start-kept b c cursor is = All-if (Kept b) (nat_eq c.stretch.written 0) (ends (with_outcome c (next_of c.status.state call.Start f))) (starts c Running cursor c.stretch.written [])
     (is, next-late (λ frame channel. c.stretch.part < length (rising b)) c.status.state call.Start f tt) (starts-kept b c Running cursor c.stretch.written [] is)
   where
     f : Facts
@@ -248,7 +248,7 @@ number_course-kept b number c is = All-if (Kept b) (is_moving c.status.state) (n
 
 checks-kept : (b : List ℕ) (c : Plain) → c.setup.bindings ≡ b → All (Kept b) (checks c)
 unfolding checks
-checks-kept b c is = λ load. synced-kept b c call.Transfer load nothing is tt
+checks-kept b c is = λ load. after_sync-kept b c call.Transfer load nothing is tt
 
 rewindable-kept : (b : List ℕ) (c : Plain) (floor : Cursor) → c.setup.bindings ≡ b → All (Kept b) (rewindable_course c floor)
 rewindable-kept b c floor is = All-if (Kept b) (is_running c.status.state) (numbered (rewindable_of floor) (checks c)) _
@@ -328,7 +328,7 @@ rewound-bound b c n left is = by_stop (is_stop left.ended)
     by_answer d (Ok done) same = same
     by_answer d (Err e) same = same
 
-    by_stop : (stop : Bool) → Bound b (if stop then stopped_in (taken_back c n left) else with_number (λ (e : Plain). n) (settled (taken_back c n left)
+    by_stop : (stop : Bool) → Bound b (if stop then stopped_in (taken_back c n left) else with_number (λ (e : Plain). n) (with_outcome (taken_back c n left)
         (next_of Running call.Transfer (found_at (record { frame = 0; gone = false }) (late_at left.ended (last_laid (taken_back c n left)) (last_channel (taken_back c n left)))))))
     by_stop true = is
     by_stop false = by_answer _ _ is

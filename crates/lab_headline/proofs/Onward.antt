@@ -29,7 +29,7 @@ use Rattle.snoop_core.specs.declared.port.Got.{Got}
 use Rattle.course.specs.Course.{◌>>=◌, Course, ends, gets, lays, loads}
 use Rattle.dmix_client.specs.declared.commit.Commit.{Commit}
 use Rattle.dmix_client.specs.declared.plain.Plain.{Plain}
-use Rattle.dmix_client.specs.Calls.{Answered, committed_by, facts_of, found_at, going_on, going_on_by, is_prepared, is_stop, late_of, over_of, seen_at, settled, start_count, start_frame, started, started_in, stopped_in, sync_count, synced}
+use Rattle.dmix_client.specs.Calls.{Answered, committed_by, facts_of, found_at, going_on, going_on_by, is_prepared, is_stop, late_of, over_of, seen_at, with_outcome, start_count, start_frame, after_start, started_in, stopped_in, sync_count, after_sync}
 use Rattle.dmix_client.specs.Course.{commits, go_on, lay_each, lay_frame, lay_frames, looks, nothing, one_frame_more, one_more, starts, syncs}
 use Rattle.dmix_client.specs.Port.{IsStep}
 use Rattle.dmix_client.specs.View.{held}
@@ -372,10 +372,10 @@ module _ (p : ℕ) (g : Geometry) (x y : ℕ) where
       (earlier-lies p x y c.stretch.card (end_of c) (end_of c) (c.stretch.card + c.stretch.committed) m (omega arith) lies)
 
   -- the sync of a client that moves frames
-  pub synced-goes : (c : Plain) (asked : Call) (position : Position) (commit : Commit) (n : Marks) → Channels c.setup.bindings → c.stretch.started ≡ true → is_prepared c.status.state ≡ false
+  pub after_sync-goes : (c : Plain) (asked : Call) (position : Position) (commit : Commit) (n : Marks) → Channels c.setup.bindings → c.stretch.started ≡ true → is_prepared c.status.state ≡ false
       → IsStep c.status.state asked → x ≤ c.stretch.card → Lies p x y c.stretch.card (end_of c) (end_of (committed_by c commit)) n
-      → Begun p x y n (synced c asked (Some position) commit).0
-  synced-goes c asked position commit n bound started unprepared step past lies = by_stop (is_stop commit.ended)
+      → Begun p x y n (after_sync c asked (Some position) commit).0
+  after_sync-goes c asked position commit n bound started unprepared step past lies = by_stop (is_stop commit.ended)
     where
       done : Plain
       done = committed_by (seen_at c position) commit
@@ -386,7 +386,7 @@ module _ (p : ℕ) (g : Geometry) (x y : ℕ) where
       there : Lies p x y c.stretch.card (end_of done) (end_of done) n
       there = ended-lies p x y c.stretch.card (end_of c) (end_of done) n lies
 
-      by_stop : (stop : Bool) → Begun p x y n (if stop then stopped_in {T = Unit {0}} done else settled done (next_of c.status.state asked f)).0
+      by_stop : (stop : Bool) → Begun p x y n (if stop then stopped_in {T = Unit {0}} done else with_outcome done (next_of c.status.state asked f)).0
       by_stop true = record { bound = bound; started = started; unprepared = unprepared; past = past; lies = there }
       by_stop false = record { bound = bound; started = started; unprepared = stepped-unprepared c.status.state asked f step refl; past = past; lies = there }
 
@@ -394,18 +394,18 @@ module _ (p : ℕ) (g : Geometry) (x y : ℕ) where
       → Leads p g (λ n done. Begun p x y n done.0) m (syncs c asked ring)
   unfolding syncs
   syncs-go c asked ring m step is =
-      Leads-then p g (λ n found. Begun p x y n (synced c asked found.0 found.1).0) (λ n done. Begun p x y n done.0) m (looks (λ position. c) (sync_count c) ring)
-      (λ found. ends (synced c asked found.0 found.1))
-      (looks-lead (λ n found. Begun p x y n (synced c asked found.0 found.1).0) (λ position. c) (sync_count c) ring m none some) (λ n found goes. goes)
+      Leads-then p g (λ n found. Begun p x y n (after_sync c asked found.0 found.1).0) (λ n done. Begun p x y n done.0) m (looks (λ position. c) (sync_count c) ring)
+      (λ found. ends (after_sync c asked found.0 found.1))
+      (looks-lead (λ n found. Begun p x y n (after_sync c asked found.0 found.1).0) (λ position. c) (sync_count c) ring m none some) (λ n found goes. goes)
     where
-      none : Begun p x y m (synced c asked None nothing).0
+      none : Begun p x y m (after_sync c asked None nothing).0
       none = is
 
-      some : (position : Position) → p ≤ position.frame → Leads p g (λ n commit. Begun p x y n (synced c asked (Some position) commit).0) m (commits c ring (sync_count c position))
+      some : (position : Position) → p ≤ position.frame → Leads p g (λ n commit. Begun p x y n (after_sync c asked (Some position) commit).0) m (commits c ring (sync_count c position))
       some position least = Leads-map p g (λ n commit. Lies p x y c.stretch.card (end_of c) (end_of (committed_by c commit)) n)
-          (λ n commit. Begun p x y n (synced c asked (Some position) commit).0) m (commits c ring (sync_count c position))
+          (λ n commit. Begun p x y n (after_sync c asked (Some position) commit).0) m (commits c ring (sync_count c position))
           (commits-lead c ring (sync_count c position) m is.bound is.past is.lies)
-          (λ n commit lies. synced-goes c asked position commit n is.bound is.started is.unprepared step is.past lies)
+          (λ n commit lies. after_sync-goes c asked position commit n is.bound is.started is.unprepared step is.past lies)
 
   -- the start of a client that waits
   abbrev pub Started : State → Marks → Answered (Unit {0}) → Type 0
@@ -416,23 +416,23 @@ module _ (p : ℕ) (g : Geometry) (x y : ℕ) where
   going_on-state c state refused (Ok done) = refl
   going_on-state c state refused (Err e) = tt
 
-  pub started-begun : (c : Plain) (state refused : State) (r : Result (Unit {0}) PcmError) (n : Marks) → Channels c.setup.bindings → c.stretch.started ≡ true → is_prepared state ≡ false
+  pub after_start-begun : (c : Plain) (state refused : State) (r : Result (Unit {0}) PcmError) (n : Marks) → Channels c.setup.bindings → c.stretch.started ≡ true → is_prepared state ≡ false
       → is_prepared refused ≡ false → x ≤ c.stretch.card → Lies p x y c.stretch.card (end_of c) (end_of c) n → Begun p x y n (going_on_by r c state refused).0
-  started-begun c state refused (Ok done) n bound started unprepared other past lies = record { bound = bound; started = started; unprepared = unprepared; past = past; lies = lies }
-  started-begun c state refused (Err e) n bound started unprepared other past lies = record { bound = bound; started = started; unprepared = other; past = past; lies = lies }
+  after_start-begun c state refused (Ok done) n bound started unprepared other past lies = record { bound = bound; started = started; unprepared = unprepared; past = past; lies = lies }
+  after_start-begun c state refused (Err e) n bound started unprepared other past lies = record { bound = bound; started = started; unprepared = other; past = past; lies = lies }
 
   pub starting-unprepared : (frame : ℕ) (late : Option XrunWhy) → is_prepared (next_of Prepared call.Start (found_at (record { frame = frame; gone = false }) late)).state ≡ false
   starting-unprepared frame None = refl
   starting-unprepared frame (Some w) = refl
 
-  pub started-goes : (c : Plain) (state : State) (cursor : Cursor) (frame : ℕ) (gone : Bool) (commit : Commit) (n : Marks) → Channels c.setup.bindings → is_prepared state ≡ false
+  pub after_start-goes : (c : Plain) (state : State) (cursor : Cursor) (frame : ℕ) (gone : Bool) (commit : Commit) (n : Marks) → Channels c.setup.bindings → is_prepared state ≡ false
       → c.stretch.committed ≡ 0 → c.stretch.part ≡ 0 → x ≤ start_frame c frame cursor
       → (let position : Position = record { frame = frame; gone = gone } in let from : Plain = started_in c state position cursor in
       Lies p x y (start_frame c frame cursor) (end_of from) (end_of (committed_by from commit)) n
-      → Started state n (started c state cursor (Some position) commit))
-  started-goes c state cursor frame true commit n bound unprepared none no_part past lies =
+      → Started state n (after_start c state cursor (Some position) commit))
+  after_start-goes c state cursor frame true commit n bound unprepared none no_part past lies =
       (inr (record { bound = bound; still = refl; none = none; no_part = no_part; low = lies.low; top = lies.top; high = lies.high }), tt)
-  started-goes c state cursor frame false commit n bound unprepared none no_part past lies = by_stop (is_stop commit.ended)
+  after_start-goes c state cursor frame false commit n bound unprepared none no_part past lies = by_stop (is_stop commit.ended)
     where
       position : Position
       position = record { frame = frame; gone = false }
@@ -452,7 +452,7 @@ module _ (p : ℕ) (g : Geometry) (x y : ℕ) where
       by_stop : (stop : Bool) → Started state n (if stop then stopped_in done else going_on done state outcome)
       by_stop true = (inl (record { bound = bound; started = refl; unprepared = unprepared; past = past; lies = there }), tt)
       by_stop false = (
-        inl (started-begun done state outcome.state outcome.answer n bound refl unprepared (starting-unprepared frame (late_of from commit)) past there),
+        inl (after_start-begun done state outcome.state outcome.answer n bound refl unprepared (starting-unprepared frame (late_of from commit)) past there),
         going_on-state done state outcome.state outcome.answer,
       )
 
@@ -465,11 +465,11 @@ module _ (p : ℕ) (g : Geometry) (x y : ℕ) where
 
   pub start-commits : (c : Plain) (state : State) (count : ℕ) (ring : List ℤ) (m : Marks) → is_prepared state ≡ false → Waits p x y m c
       → (position : Position) → p ≤ position.frame
-      → Leads p g (λ n commit. Started state n (started c state m.cursor (Some position) commit)) m (commits (started_in c Running position m.cursor) ring count)
+      → Leads p g (λ n commit. Started state n (after_start c state m.cursor (Some position) commit)) m (commits (started_in c Running position m.cursor) ring count)
   start-commits c state count ring m unprepared waits position least =
       let past : x ≤ start_frame c position.frame m.cursor = start-past c m position.frame least waits.low in
       Leads-map p g (λ n commit. Lies p x y (start_frame c position.frame m.cursor) (end_of at) (end_of (committed_by at commit)) n)
-      (λ n commit. Started state n (started c state m.cursor (Some position) commit)) m (commits at ring count)
+      (λ n commit. Started state n (after_start c state m.cursor (Some position) commit)) m (commits at ring count)
       (commits-lead at ring count m waits.bound past (record {
         low = waits.low;
         top = waits.top;
@@ -477,7 +477,7 @@ module _ (p : ℕ) (g : Geometry) (x y : ℕ) where
         kept = rw nothing-placed (omega arith);
         end = rw nothing-placed (omega arith);
       }))
-      (λ n commit lies. started-goes c state m.cursor position.frame position.gone commit n waits.bound unprepared waits.none waits.no_part past lies)
+      (λ n commit lies. after_start-goes c state m.cursor position.frame position.gone commit n waits.bound unprepared waits.none waits.no_part past lies)
     where
       at : Plain
       at = started_in c Running position m.cursor
@@ -489,9 +489,9 @@ module _ (p : ℕ) (g : Geometry) (x y : ℕ) where
       → Leads p g (Started state) m (starts c state m.cursor upto ring)
   unfolding starts
   starts-go c state upto ring m unprepared waits =
-      Leads-then p g (λ n found. Started state n (started c state m.cursor found.0 found.1)) (Started state) m
+      Leads-then p g (λ n found. Started state n (after_start c state m.cursor found.0 found.1)) (Started state) m
       (looks (λ position. started_in c Running position m.cursor) (λ position. start_count c m.cursor position upto) ring)
-      (λ found. ends (started c state m.cursor found.0 found.1))
-      (looks-lead (λ n found. Started state n (started c state m.cursor found.0 found.1)) (λ position. started_in c Running position m.cursor)
+      (λ found. ends (after_start c state m.cursor found.0 found.1))
+      (looks-lead (λ n found. Started state n (after_start c state m.cursor found.0 found.1)) (λ position. started_in c Running position m.cursor)
       (λ position. start_count c m.cursor position upto) ring m (inr waits, tt)
       (λ position least. start-commits c state (start_count c m.cursor position upto) ring m unprepared waits position least)) (λ n found goes. goes)

@@ -19,7 +19,7 @@ use Rattle.pcm_stream.specs.Status.{is_moving, nothing_found, refusal_of}
 use Rattle.course.specs.Course.{Course, ends}
 use Rattle.dmix_client.specs.declared.commit.Commit.{Commit}
 use Rattle.dmix_client.specs.declared.plain.Plain.{Plain}
-use Rattle.dmix_client.specs.Calls.{Answered, committed_by, found_at, is_prepared, is_stop, late_of, settled, start_count, started, started_in, stopped_in, accepted_if, avail_answer, delay_answer, draining, dropped, has_frames, in_state, is_running, late_at, pending_of, prepared, rebased, resumed, taken_of, with_number, written_after}
+use Rattle.dmix_client.specs.Calls.{Answered, committed_by, found_at, is_prepared, is_stop, late_of, with_outcome, start_count, after_start, started_in, stopped_in, accepted_if, avail_answer, delay_answer, draining, dropped, has_frames, in_state, is_running, late_at, pending_of, prepared, rebased, resumed, taken_of, with_number, written_after}
 use Rattle.dmix_client.specs.Course.{commits, looks, nothing, starts, syncs, admitted, admitted_by, drain_course, drain_on, drains, fills, number_course, numbered, pause_course, resumes, start_course, starts_taking, sync_course, takes_more, write_on, writes_on}
 use Rattle.dmix_client.specs.Port.{IsStep}
 use Rattle.dmix_client.specs.Rewind.{back_of, checks, last_channel, last_laid, rewind_course, rewind_on, rewindable_course, rewindable_of, rewinds, rewound, take_frames, taken_back, takes_back, without}
@@ -30,7 +30,7 @@ use Rattle.lab_script.specs.declared.line.Op.TheVariants as op
 use Rattle.lab_report.specs.declared.row.Answer.{Answer}
 use Rattle.wav_io.specs.Sound.{Sound}
 use Rattle.lab_run.specs.Client.{answered, call_of, count_answer, done_answer, write_course}
-use Rattle.lab_headline.proofs.Onward.{Begun, Channels, Goes, Leads, Leads-if, Leads-map, Leads-then, Lies, Onward, Started, Waits, begun, commits-lead, earlier-lies, end_of, ended-lies, free_frame, high_end, looks-lead, moving-begun, moving-unprepared, start-commits, starts-go, synced-goes, syncs-go}
+use Rattle.lab_headline.proofs.Onward.{Begun, Channels, Goes, Leads, Leads-if, Leads-map, Leads-then, Lies, Onward, Started, Waits, begun, commits-lead, earlier-lies, end_of, ended-lies, free_frame, high_end, looks-lead, moving-begun, moving-unprepared, start-commits, starts-go, after_sync-goes, syncs-go}
 use Rattle.lab_headline.proofs.Withdrawn.{below-sum, frames-back}
 
 -- ---- the calls
@@ -141,7 +141,7 @@ module _ (p : ℕ) (g : Geometry) (x y : ℕ) where
       f = found_at (record { frame = 0; gone = false }) (late_of c commit)
 
       by_test : (none stop : Bool) → Goes p x y m (if none then (c, Err error.Again) else (if stop then stopped_in done
-          else accepted_if (taken_of c n) (settled done (next_of Running call.Transfer f))))
+          else accepted_if (taken_of c n) (with_outcome done (next_of Running call.Transfer f))))
       by_test true stop = inl (record {
         bound = bound;
         started = started;
@@ -150,7 +150,7 @@ module _ (p : ℕ) (g : Geometry) (x y : ℕ) where
         lies = record { low = lies.low; top = lies.top; high = lies.high; kept = lies.kept; end = lies.kept };
       })
       by_test false true = inl (record { bound = bound; started = started; unprepared = unprepared; past = past; lies = there })
-      by_test false false = accepted-goes (taken_of c n) m (settled done (next_of Running call.Transfer f))
+      by_test false false = accepted-goes (taken_of c n) m (with_outcome done (next_of Running call.Transfer f))
           (inl (record { bound = bound; started = started; unprepared = moving-unprepared f; past = past; lies = there }))
 
   pub write_on-goes : (n : ℕ) (m : Marks) (done : Answered (Unit {0})) → Begun p x y m done.0 → Leads p g (Goes p x y) m (write_on [] [] n done)
@@ -217,7 +217,7 @@ module _ (p : ℕ) (g : Geometry) (x y : ℕ) where
       (λ found. ends (resumed c m.cursor found.0 found.1))
       (looks-lead p g x y (λ n found. Q n (resumed c m.cursor found.0 found.1)) (λ position. started_in (rebased c) Running position m.cursor)
       (λ position. start_count (rebased c) m.cursor position (pending_of c)) [] m stop
-      (λ position least. Leads-map p g (λ n commit. Started p g x y Running n (started (rebased c) Running m.cursor (Some position) commit))
+      (λ position least. Leads-map p g (λ n commit. Started p g x y Running n (after_start (rebased c) Running m.cursor (Some position) commit))
       (λ n commit. Q n (resumed c m.cursor (Some position) commit)) m (commits (started_in (rebased c) Running position m.cursor) [] _)
       (start-commits p g x y (rebased c) Running (start_count (rebased c) m.cursor position (pending_of c)) [] m refl waits position least)
       (λ n commit started. on n (resumed c m.cursor (Some position) commit) started.0)))
@@ -242,7 +242,7 @@ module _ (p : ℕ) (g : Geometry) (x y : ℕ) where
   unfolding checks
   checks-go c m runs is = (
     is,
-    λ position least. synced-goes p g x y c call.Transfer position nothing m is.bound is.started is.unprepared (running-transfers c.status.state runs) is.past
+    λ position least. after_sync-goes p g x y c call.Transfer position nothing m is.bound is.started is.unprepared (running-transfers c.status.state runs) is.past
         (earlier-lies p x y c.stretch.card (end_of c) (end_of c) (end_of (committed_by c nothing)) m (omega arith) is.lies),
   )
 
@@ -268,9 +268,9 @@ module _ (p : ℕ) (g : Geometry) (x y : ℕ) where
       there : Lies p x y c.stretch.card (end_of done) (end_of done) m
       there = ended-lies p x y c.stretch.card 0 (end_of done) m lies
 
-      by_stop : (stop : Bool) → Goes p x y m (if stop then stopped_in done else with_number (λ (d : Plain). n) (settled done (next_of Running call.Transfer f)))
+      by_stop : (stop : Bool) → Goes p x y m (if stop then stopped_in done else with_number (λ (d : Plain). n) (with_outcome done (next_of Running call.Transfer f)))
       by_stop true = inl (record { bound = bound; started = started; unprepared = unprepared; past = past; lies = there })
-      by_stop false = number-goes (λ (d : Plain). n) m (settled done (next_of Running call.Transfer f))
+      by_stop false = number-goes (λ (d : Plain). n) m (with_outcome done (next_of Running call.Transfer f))
           (inl (record { bound = bound; started = started; unprepared = moving-unprepared f; past = past; lies = there }))
 
   pub takes_back-goes : (c : Plain) (n : ℕ) (m : Marks) → back_of c n ≤ c.stretch.committed → Begun p x y m c → Leads p g (Goes p x y) m (takes_back c [] n)

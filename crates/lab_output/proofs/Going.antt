@@ -6,13 +6,13 @@ use Rattle.std.specs.List.{flat_map}
 use Rattle.std.specs.Option.{option_map_or}
 use Rattle.std.proofs.lemmas.List.{get_or-set_same}
 use Rattle.wav_io.specs.Canonical.{sample_bytes}
-use Rattle.lab_shelf.specs.Files.{Files, held, with_file, changed, overwritten, IsPartAppended, IsPartFinished}
+use Rattle.lab_shelf.specs.Files.{Files, bytes_under, with_file, changed, overwritten, IsPartAppended, IsPartFinished}
 use Rattle.lab_shelf.specs.Changes.{Changes, Changes-nothing, Changes-then, Changes-with_file, Changes-part}
 use Rattle.lab_output.specs.declared.file.OutputFile.{OutputFile}
 use Rattle.lab_output.specs.Files.{AreApart, begun, stored, nothing, open_head_of, head_of, open_file, finished_file, IsFormOf, MayHold}
 use Rattle.lab_output.specs.Going.{opened, OpenedInPart, closed, ClosedInPart, HaveHeadRoom, AreLonger, IsPartOf, IsGoingOn}
 use Rattle.lab_output.specs.GoingLaws.{AreLonger-forms, IsGoingOn-Changes, Into, open_file-more, with_outputs-Changes, written-Changes}
-use Rattle.lab_output.proofs.Shelves.{changed-first, changed-output, held-output}
+use Rattle.lab_output.proofs.Shelves.{changed-first, changed-output, bytes_under-with_outputs}
 use Rattle.lab_output.proofs.Forms.{length-open_head, AllForms-open, AllForms-finished, IsFormOf-head, IsFormOf-opened, IsFormOf-closing, IsFormOf-finished, MayHold-at, open_file-nothing, finished_file-made}
 use Rattle.lab_output.proofs.Longer.{longer-at, longer-before, longer-form, longer-length}
 
@@ -160,7 +160,7 @@ IsGoingOn-appended outputs counts sounds before now after n output samples k apa
 
 -- a change of one file, which it may hold
 changed-Changes : (may_hold : List ℕ → List ℕ → Type 0) (make : List ℕ → List ℕ) (m : Files) (name content : List ℕ)
-    → held m name ≡ Some content → may_hold name (make content) → Changes may_hold (Some m) (Some (changed make m name))
+    → bytes_under m name ≡ Some content → may_hold name (make content) → Changes may_hold (Some m) (Some (changed make m name))
 changed-Changes may_hold make m name content is may =
     subst (λ (o : Option (List ℕ)). Changes may_hold (Some m) (Some (option_map_or (λ c. with_file m name (make c)) o m))) (sym is)
     (Changes-with_file may_hold (Some m) name (make content) may)
@@ -189,7 +189,7 @@ part-Changes outputs sounds targets m after n output samples k apart even within
     (written-Changes open_file outputs sounds targets (Some m)
     (AreLonger-forms outputs sounds targets (longer-before sounds targets n samples k first longer)))
     (changed-Changes may (λ content. take part.0 (content ++ new)) now output.name (open_file output (get_or sounds n []))
-    (held-output open_file outputs sounds m n output apart even within is)
+    (bytes_under-with_outputs open_file outputs sounds m n output apart even within is)
     (MayHold-at outputs targets n output (take part.0 (open_file output (get_or sounds n []) ++ new))
     (longer-length (set sounds n samples) targets longer ∙ length-set sounds n samples ∙ even) within is
     (subst (λ (bytes : List ℕ). IsFormOf output (get_or targets n []) (take part.0 bytes))
@@ -255,7 +255,7 @@ rooms [] sounds m apart even = tt
 rooms (output ∷ outputs) [] m apart even = absurd (omega (arith, even))
 rooms (output ∷ outputs) (samples ∷ sounds) m apart even = (
   subst (λ (o : Option (List ℕ)). IfSome o (λ content. 44 ≤ length content))
-      (sym (held-output open_file (output ∷ outputs) (samples ∷ sounds) m zero output apart even (omega arith) refl))
+      (sym (bytes_under-with_outputs open_file (output ∷ outputs) (samples ∷ sounds) m zero output apart even (omega arith) refl))
       (room output samples),
   rooms outputs sounds (with_file m output.name (open_file output samples)) apart.1 (omega (arith, even)),
 )

@@ -3,28 +3,28 @@ use Rattle.std.proofs.Common.{◌≡◌, ◌≢◌, ℕ, ◌<◌, Bool, true, fa
 use Rattle.std.proofs.lemmas.List.Elements.{All-from_recursion}
 use Rattle.std.specs.Prelude.{ℤ, Option, IsErrAnd, IsSome, Result, Ok, Err}
 use Rattle.std.specs.Option.{option_map_or}
-use Rattle.lab_shelf.specs.Files.{Files, held, with_file, changed}
+use Rattle.lab_shelf.specs.Files.{Files, bytes_under, with_file, changed}
 use Rattle.lab_stop.specs.declared.stop.Stop.{Stop}
 use Rattle.lab_stop.specs.declared.stop.Stop.TheVariants.{Write}
 use Rattle.lab_output.specs.declared.file.OutputFile.{OutputFile}
 use Rattle.lab_output.specs.Files.{AreApart, begun, open_file}
 use Rattle.lab_output.specs.Going.{HasFile, HaveFiles, IsGoingOn}
-use Rattle.lab_output.proofs.Shelves.{held-output, held-written, test}
+use Rattle.lab_output.proofs.Shelves.{bytes_under-with_outputs, bytes_under-with_file_at, test}
 
 -- a file that was written is there, and so are those that were
-written-there : (m : Files) (name bytes q : List ℕ) → IsSome (held m q) → IsSome (held (with_file m name bytes) q)
+written-there : (m : Files) (name bytes q : List ℕ) → IsSome (bytes_under m q) → IsSome (bytes_under (with_file m name bytes) q)
 written-there m name bytes q there =
-    subst (λ (o : Option (List ℕ)). IsSome o) (sym (held-written m name bytes q)) (chosen (test q name))
+    subst (λ (o : Option (List ℕ)). IsSome o) (sym (bytes_under-with_file_at m name bytes q)) (chosen (test q name))
   where
-    chosen : (b : Bool) → IsSome (cond b (Some bytes) (held m q))
+    chosen : (b : Bool) → IsSome (cond b (Some bytes) (bytes_under m q))
     chosen true = refl
     chosen false = there
 
 -- a file that changes stays there, and so do the others
-changed-there : (make : List ℕ → List ℕ) (m : Files) (name q : List ℕ) → IsSome (held m q) → IsSome (held (changed make m name) q)
-changed-there make m name q there = of (held m name)
+changed-there : (make : List ℕ → List ℕ) (m : Files) (name q : List ℕ) → IsSome (bytes_under m q) → IsSome (bytes_under (changed make m name) q)
+changed-there make m name q there = of (bytes_under m name)
   where
-    of : (o : Option (List ℕ)) → IsSome (held (option_map_or (λ c. with_file m name (make c)) o m) q)
+    of : (o : Option (List ℕ)) → IsSome (bytes_under (option_map_or (λ c. with_file m name (make c)) o m) q)
     of None = there
     of (Some c) = written-there m name (make c) q there
 
@@ -55,7 +55,7 @@ begun-there [] sounds m apart even = tt
 begun-there (output ∷ outputs) [] m apart even = absurd (omega (arith, even))
 begun-there (output ∷ outputs) (samples ∷ sounds) m apart even = (
   subst (λ (o : Option (List ℕ)). IsSome o)
-      (sym (held-output open_file (output ∷ outputs) (samples ∷ sounds) m zero output apart even (omega arith) refl)) refl,
+      (sym (bytes_under-with_outputs open_file (output ∷ outputs) (samples ∷ sounds) m zero output apart even (omega arith) refl)) refl,
   begun-there outputs sounds (with_file m output.name (open_file output samples)) apart.1 (omega (arith, even)),
 )
 

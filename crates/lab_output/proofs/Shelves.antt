@@ -8,7 +8,7 @@ use Rattle.std.specs.Option.{option_map_or}
 use Rattle.std.specs.Ordering.{nat_cmp, eq_by_cmp}
 use Rattle.std.specs.Cmp.Lexicographic.{slice_cmp, nat_list_cmp_total}
 use Rattle.std.specs.FinMap.{same_map, get-insert, nat_cmp-IsAntisymmetric, slice_cmp-IsAntisymmetric}
-use Rattle.lab_shelf.specs.Files.{Files, held, with_file, changed, held-with_file_same, held-with_file_other, name_test-Decides}
+use Rattle.lab_shelf.specs.Files.{Files, bytes_under, with_file, changed, bytes_under-with_file_same, bytes_under-with_file_other, name_test-Decides}
 use Rattle.lab_output.specs.declared.file.OutputFile.{OutputFile}
 use Rattle.lab_output.specs.Files.{AreApart, with_outputs}
 
@@ -17,12 +17,12 @@ abbrev pub test : List ℕ → List ℕ → Bool
 test q name = eq_by_cmp (slice_cmp nat_cmp) q name
 
 -- files that hold the same are the same
-same_files : (a b : Files) → ((q : List ℕ) → held a q ≡ held b q) → a ≡ b
+same_files : (a b : Files) → ((q : List ℕ) → bytes_under a q ≡ bytes_under b q) → a ≡ b
 same_files a b at = same_map nat_list_cmp_total (slice_cmp-IsAntisymmetric nat_cmp-IsAntisymmetric) a b at
 
 -- what is held of a name once a file was written
-pub held-written : (m : Files) (name bytes q : List ℕ) → held (with_file m name bytes) q ≡ cond (test q name) (Some bytes) (held m q)
-held-written m name bytes q = get-insert nat_list_cmp_total m name bytes q
+pub bytes_under-with_file_at : (m : Files) (name bytes q : List ℕ) → bytes_under (with_file m name bytes) q ≡ cond (test q name) (Some bytes) (bytes_under m q)
+bytes_under-with_file_at m name bytes q = get-insert nat_list_cmp_total m name bytes q
 
 -- the later of two answers
 later : {X : Type 0} (b : Bool) (x y z : X) → cond b x (cond b y z) ≡ cond b x z
@@ -39,35 +39,35 @@ either false false x y z never = refl
 -- a file that is written twice holds what was written last
 twice : (m : Files) (name a b : List ℕ) → with_file (with_file m name a) name b ≡ with_file m name b
 twice m name a b = same_files _ _ (λ q.
-    held-written (with_file m name a) name b q
-    ∙ ap (cond (test q name) (Some b)) (held-written m name a q)
-    ∙ later (test q name) (Some b) (Some a) (held m q)
-    ∙ sym (held-written m name b q))
+    bytes_under-with_file_at (with_file m name a) name b q
+    ∙ ap (cond (test q name) (Some b)) (bytes_under-with_file_at m name a q)
+    ∙ later (test q name) (Some b) (Some a) (bytes_under m q)
+    ∙ sym (bytes_under-with_file_at m name b q))
 
 -- files of two names may be written in either order
 swapped : (m : Files) (name other a b : List ℕ) → name ≢ other
     → with_file (with_file m other b) name a ≡ with_file (with_file m name a) other b
 swapped m name other a b apart = same_files _ _ (λ q.
-    held-written (with_file m other b) name a q
-    ∙ ap (cond (test q name) (Some a)) (held-written m other b q)
-    ∙ either (test q other) (test q name) (Some b) (Some a) (held m q)
+    bytes_under-with_file_at (with_file m other b) name a q
+    ∙ ap (cond (test q name) (Some a)) (bytes_under-with_file_at m other b q)
+    ∙ either (test q other) (test q name) (Some b) (Some a) (bytes_under m q)
     (λ is_other is_name. apart (sym ((name_test-Decides q name).0 is_name) ∙ (name_test-Decides q other).0 is_other))
-    ∙ ap (cond (test q other) (Some b)) (sym (held-written m name a q))
-    ∙ sym (held-written (with_file m name a) other b q))
+    ∙ ap (cond (test q other) (Some b)) (sym (bytes_under-with_file_at m name a q))
+    ∙ sym (bytes_under-with_file_at (with_file m name a) other b q))
 
 -- a change of a file that was just written
 changed-written : (make : List ℕ → List ℕ) (m : Files) (name bytes : List ℕ)
     → changed make (with_file m name bytes) name ≡ with_file m name (make bytes)
 changed-written make m name bytes =
-    ap (λ o. option_map_or (λ c. with_file (with_file m name bytes) name (make c)) o (with_file m name bytes)) (held-with_file_same m name bytes)
+    ap (λ o. option_map_or (λ c. with_file (with_file m name bytes) name (make c)) o (with_file m name bytes)) (bytes_under-with_file_same m name bytes)
     ∙ twice m name bytes (make bytes)
 
 -- a change of a file before another is written
 changed-other : (make : List ℕ → List ℕ) (m : Files) (name other bytes : List ℕ) → name ≢ other
     → changed make (with_file m other bytes) name ≡ with_file (changed make m name) other bytes
 changed-other make m name other bytes apart =
-    ap (λ o. option_map_or (λ c. with_file (with_file m other bytes) name (make c)) o (with_file m other bytes)) (held-with_file_other m other bytes name apart)
-    ∙ by_cases (held m name)
+    ap (λ o. option_map_or (λ c. with_file (with_file m other bytes) name (make c)) o (with_file m other bytes)) (bytes_under-with_file_other m other bytes name apart)
+    ∙ by_cases (bytes_under m name)
   where
     by_cases : (o : Option (List ℕ)) → option_map_or (λ c. with_file (with_file m other bytes) name (make c)) o (with_file m other bytes)
         ≡ with_file (option_map_or (λ c. with_file m name (make c)) o m) other bytes
@@ -110,44 +110,44 @@ changed-output form make (first ∷ outputs) (sound ∷ sounds) m (suc n) output
     (omega (arith, even)) (omega (arith, within)) is makes
 
 -- a name that is none of the outputs' holds what it held
-held-outside : (form : OutputFile → List ℤ → List ℕ) (outputs : List OutputFile) (sounds : List (List ℤ)) (m : Files) (name : List ℕ)
+bytes_under-with_outputs_apart : (form : OutputFile → List ℤ → List ℕ) (outputs : List OutputFile) (sounds : List (List ℤ)) (m : Files) (name : List ℕ)
     → AllByRecursion (λ (other : OutputFile). name ≢ other.name) outputs
-    → held (with_outputs form outputs sounds m) name ≡ held m name
-held-outside form [] sounds m name apart = refl
-held-outside form (output ∷ outputs) [] m name apart = refl
-held-outside form (output ∷ outputs) (samples ∷ sounds) m name apart =
-    held-outside form outputs sounds (with_file m output.name (form output samples)) name apart.1
-    ∙ held-with_file_other m output.name (form output samples) name apart.0
+    → bytes_under (with_outputs form outputs sounds m) name ≡ bytes_under m name
+bytes_under-with_outputs_apart form [] sounds m name apart = refl
+bytes_under-with_outputs_apart form (output ∷ outputs) [] m name apart = refl
+bytes_under-with_outputs_apart form (output ∷ outputs) (samples ∷ sounds) m name apart =
+    bytes_under-with_outputs_apart form outputs sounds (with_file m output.name (form output samples)) name apart.1
+    ∙ bytes_under-with_file_other m output.name (form output samples) name apart.0
 
 -- what is held of an output
-pub held-output : (form : OutputFile → List ℤ → List ℕ) (outputs : List OutputFile) (sounds : List (List ℤ)) (m : Files)
+pub bytes_under-with_outputs : (form : OutputFile → List ℤ → List ℕ) (outputs : List OutputFile) (sounds : List (List ℤ)) (m : Files)
     (n : ℕ) (output : OutputFile) → AreApart outputs → length sounds ≡ length outputs → n < length outputs
     → output ≡ get_or outputs n output
-    → held (with_outputs form outputs sounds m) output.name ≡ Some (form output (get_or sounds n []))
-held-output form [] sounds m n output apart even within is = absurd (omega (arith, within))
-held-output form (first ∷ outputs) [] m n output apart even within is = absurd (omega (arith, even))
-held-output form (first ∷ outputs) (sound ∷ sounds) m zero output apart even within is =
-    ap (λ (o : OutputFile). held (with_outputs form (first ∷ outputs) (sound ∷ sounds) m) o.name) is
-    ∙ held-outside form outputs sounds (with_file m first.name (form first sound)) first.name apart.0
-    ∙ held-with_file_same m first.name (form first sound)
+    → bytes_under (with_outputs form outputs sounds m) output.name ≡ Some (form output (get_or sounds n []))
+bytes_under-with_outputs form [] sounds m n output apart even within is = absurd (omega (arith, within))
+bytes_under-with_outputs form (first ∷ outputs) [] m n output apart even within is = absurd (omega (arith, even))
+bytes_under-with_outputs form (first ∷ outputs) (sound ∷ sounds) m zero output apart even within is =
+    ap (λ (o : OutputFile). bytes_under (with_outputs form (first ∷ outputs) (sound ∷ sounds) m) o.name) is
+    ∙ bytes_under-with_outputs_apart form outputs sounds (with_file m first.name (form first sound)) first.name apart.0
+    ∙ bytes_under-with_file_same m first.name (form first sound)
     ∙ ap (λ (o : OutputFile). Some (form o sound)) (sym is)
-held-output form (first ∷ outputs) (sound ∷ sounds) m (suc n) output apart even within is =
-    held-output form outputs sounds (with_file m first.name (form first sound)) n output apart.1
+bytes_under-with_outputs form (first ∷ outputs) (sound ∷ sounds) m (suc n) output apart even within is =
+    bytes_under-with_outputs form outputs sounds (with_file m first.name (form first sound)) n output apart.1
     (omega (arith, even)) (omega (arith, within)) is
 
 -- a file to which nothing is appended holds what it held
-same-written : (m : Files) (name content : List ℕ) → held m name ≡ Some content → with_file m name (content ++ []) ≡ m
-same-written m name content is = same_files _ _ (λ q. held-written m name (content ++ []) q ∙ at q (test q name) refl)
+same-written : (m : Files) (name content : List ℕ) → bytes_under m name ≡ Some content → with_file m name (content ++ []) ≡ m
+same-written m name content is = same_files _ _ (λ q. bytes_under-with_file_at m name (content ++ []) q ∙ at q (test q name) refl)
   where
-    at : (q : List ℕ) (b : Bool) → test q name ≡ b → cond b (Some (content ++ [])) (held m q) ≡ held m q
-    at q true is_name = ap Some (append-nil content) ∙ sym is ∙ ap (held m) (sym ((name_test-Decides q name).0 is_name))
+    at : (q : List ℕ) (b : Bool) → test q name ≡ b → cond b (Some (content ++ [])) (bytes_under m q) ≡ bytes_under m q
+    at q true is_name = ap Some (append-nil content) ∙ sym is ∙ ap (bytes_under m) (sym ((name_test-Decides q name).0 is_name))
     at q false other = refl
 
 -- the same of a file that may not be there
 same-changed : (m : Files) (name : List ℕ) → changed (λ content. content ++ []) m name ≡ m
-same-changed m name = of (held m name) refl
+same-changed m name = of (bytes_under m name) refl
   where
-    of : (o : Option (List ℕ)) → held m name ≡ o → option_map_or (λ content. with_file m name (content ++ [])) o m ≡ m
+    of : (o : Option (List ℕ)) → bytes_under m name ≡ o → option_map_or (λ content. with_file m name (content ++ [])) o m ≡ m
     of None is = refl
     of (Some content) is = same-written m name content is
 

@@ -4,10 +4,10 @@ use Rattle.std.proofs.Math.Seq.{drop-cons}
 use Rattle.std.proofs.Math.ListN.{drop_of_length-le}
 use Rattle.std.proofs.lemmas.List.{length-drop}
 use Rattle.std.proofs.lemmas.List.Elements.{All-from_recursion}
-use Rattle.lab_output.proofs.Shelves.{held-written, test}
+use Rattle.lab_output.proofs.Shelves.{bytes_under-with_file_at, test}
 use Rattle.std.specs.Prelude.{Option, IfSome}
 use Rattle.std.specs.Option.{option_map_or}
-use Rattle.lab_shelf.specs.Files.{Files, held, with_file, changed, overwritten, IsPartWritten, IsPartFinished}
+use Rattle.lab_shelf.specs.Files.{Files, bytes_under, with_file, changed, overwritten, IsPartWritten, IsPartFinished}
 use Rattle.lab_output.specs.declared.file.OutputFile.{OutputFile}
 use Rattle.lab_output.specs.Files.{open_head_of, head_of}
 use Rattle.lab_output.specs.Going.{opened, OpenedInPart, closed, ClosedInPart, HasHeadRoom, HaveFiles, HaveHeadRoom}
@@ -120,29 +120,29 @@ overwritten-room head content room =
     omega (arith, room, length-append head (drop (length head) content), length-drop (length head) content)
 
 -- what is held of a name once a file was written there is room in
-written-room : (m : Files) (name bytes q : List ℕ) → 44 ≤ length bytes → IfSome (held m q) (λ content. 44 ≤ length content)
-    → IfSome (held (with_file m name bytes) q) (λ content. 44 ≤ length content)
+written-room : (m : Files) (name bytes q : List ℕ) → 44 ≤ length bytes → IfSome (bytes_under m q) (λ content. 44 ≤ length content)
+    → IfSome (bytes_under (with_file m name bytes) q) (λ content. 44 ≤ length content)
 written-room m name bytes q room before =
-    subst (λ (o : Option (List ℕ)). IfSome o (λ content. 44 ≤ length content)) (sym (held-written m name bytes q)) (chosen (test q name))
+    subst (λ (o : Option (List ℕ)). IfSome o (λ content. 44 ≤ length content)) (sym (bytes_under-with_file_at m name bytes q)) (chosen (test q name))
   where
-    chosen : (b : Bool) → IfSome (cond b (Some bytes) (held m q)) (λ content. 44 ≤ length content)
+    chosen : (b : Bool) → IfSome (cond b (Some bytes) (bytes_under m q)) (λ content. 44 ≤ length content)
     chosen true = room
     chosen false = before
 
 -- a file's new head leaves room in each file
 changed-room : (m : Files) (name head q : List ℕ)
-    → IfSome (held m name) (λ content. 44 ≤ length content) → IfSome (held m q) (λ content. 44 ≤ length content)
-    → IfSome (held (changed (overwritten head) m name) q) (λ content. 44 ≤ length content)
-changed-room m name head q named before = of (held m name) named
+    → IfSome (bytes_under m name) (λ content. 44 ≤ length content) → IfSome (bytes_under m q) (λ content. 44 ≤ length content)
+    → IfSome (bytes_under (changed (overwritten head) m name) q) (λ content. 44 ≤ length content)
+changed-room m name head q named before = of (bytes_under m name) named
   where
     of : (o : Option (List ℕ)) → IfSome o (λ content. 44 ≤ length content)
-        → IfSome (held (option_map_or (λ c. with_file m name (overwritten head c)) o m) q) (λ content. 44 ≤ length content)
+        → IfSome (bytes_under (option_map_or (λ c. with_file m name (overwritten head c)) o m) q) (λ content. 44 ≤ length content)
     of None room = before
     of (Some c) room = written-room m name (overwritten head c) q (overwritten-room head c room) before
 
 -- the same of each output
 changed-rooms : (outputs : List OutputFile) (m : Files) (name head : List ℕ)
-    → IfSome (held m name) (λ content. 44 ≤ length content) → HaveHeadRoom (Some m) outputs
+    → IfSome (bytes_under m name) (λ content. 44 ≤ length content) → HaveHeadRoom (Some m) outputs
     → HaveHeadRoom (Some (changed (overwritten head) m name)) outputs
 changed-rooms [] m name head named rooms = tt
 changed-rooms (output ∷ outputs) m name head named rooms =

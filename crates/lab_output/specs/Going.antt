@@ -2,7 +2,7 @@
 use Rattle.std.specs.Prelude.{◌≡◌, ◌⊎◌, ℕ, ◌+◌, ◌*◌, ◌^◌, ◌<◌, ◌≤◌, ℤ, List, [], ◌∷◌, length, map, take, All, Option, IfSome, IsSome, IsSomeAnd, ⊤}
 use Rattle.std.specs.List.{AllByRecursion}
 use Rattle.std.specs.Option.{option_map}
-use Rattle.lab_shelf.specs.Files.{Files, held, with_file, changed, overwritten, IsPartWritten, IsPartFinished}
+use Rattle.lab_shelf.specs.Files.{Files, bytes_under, with_file, changed, overwritten, IsPartWritten, IsPartFinished}
 use Rattle.lab_output.specs.declared.file.OutputFile.{OutputFile}
 use Rattle.lab_script.specs.declared.script.Script.{Script}
 use Rattle.lab_output.specs.declared.outputs.Outputs.{Outputs}
@@ -38,7 +38,7 @@ ClosedInPart (output ∷ outputs) (samples ∷ counts) before after =
 
 -- a file of this name, where it is told, has room for a head
 abbrev pub HasHeadRoom : Option Files → List ℕ → Type 0
-HasHeadRoom files name = IfSome files (λ m. IfSome (held m name) (λ content. 44 ≤ length content))
+HasHeadRoom files name = IfSome files (λ m. IfSome (bytes_under m name) (λ content. 44 ≤ length content))
 
 -- each output, where the files are told, has room for a head
 abbrev pub HaveHeadRoom : Option Files → List OutputFile → Type 0
@@ -46,7 +46,7 @@ HaveHeadRoom files outputs = AllByRecursion (λ (output : OutputFile). HasHeadRo
 
 -- the files are told, and one of them has this name
 abbrev pub HasFile : Option Files → List ℕ → Type 0
-HasFile files name = IsSomeAnd files (λ m. IsSome (held m name))
+HasFile files name = IsSomeAnd files (λ m. IsSome (bytes_under m name))
 
 -- the same of each output
 abbrev pub HaveFiles : Option Files → List OutputFile → Type 0

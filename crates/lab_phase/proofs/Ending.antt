@@ -15,7 +15,7 @@ use Rattle.lab_report.specs.declared.report.Report.{Report}
 use Rattle.lab_report.specs.declared.row.Row.{Row}
 use Rattle.lab_run.specs.Items.{ItemsMay, held_of}
 use Rattle.lab_run.specs.LabRun as runs
-use Rattle.lab_run.specs.LabRun.{all_runs, all_segments, mixed, outcome_of, recorded_from}
+use Rattle.lab_run.specs.LabRun.{all_runs, all_segments, mix_of, outcome_of, recorded_from}
 use Rattle.lab_run.specs.Stage.{Session, Stage, first_stage}
 use Rattle.lab_card.specs.declared.card.CardActor.{CardActor}
 use Rattle.lab_card.specs.Moves.{frames_since_first, geometry_of_card}
@@ -24,7 +24,7 @@ use Rattle.lab_phase.specs.AtStage.{IsAtStage, IsCardOf, capture_of, session_of}
 use Rattle.lab_phase.specs.CardStage.{first_word}
 use Rattle.lab_phase.specs.Ended.{HaveAllPlaces, IsAtEnd, IsMixOf}
 use Rattle.lab_phase.specs.Places.{place_count-reached}
-use Rattle.lab_phase.specs.Played.{played-mixed}
+use Rattle.lab_phase.specs.Played.{played-mix_of}
 
 abbrev outcome_with : Report → List ℤ → List (List ℤ) → runs.Outcome
 outcome_with report played recorded = record { report = report; played = played; recorded = recorded }
@@ -35,13 +35,13 @@ report_with rows segments all first frames = record { rows = rows; segments = se
 -- the parts of what a run leaves
 pub outcome-parts : (session : Session) (capture : Option Sound) (stage : Stage) (report : Report) (played : List ℤ) (recorded : List (List ℤ)) → report.rows ≡ stage.rows
     → report.segments ≡ all_segments stage.clients → report.runs ≡ all_runs stage.readers → report.first ≡ first_frame session.card
-    → report.frames ≡ stage.position - first_frame session.card → played ≡ mixed session (all_segments stage.clients) (stage.position - first_frame session.card)
+    → report.frames ≡ stage.position - first_frame session.card → played ≡ mix_of session (all_segments stage.clients) (stage.position - first_frame session.card)
     → recorded ≡ recorded_from session capture 0 stage.readers
     → outcome_with report played recorded ≡ outcome_of session capture stage
 outcome-parts session capture stage report played recorded rows segments all first frames mix records =
     ap (λ (r : Report). outcome_with r played recorded) whole
     ∙ (ap (λ (samples : List ℤ). outcome_with (runs.report_of session stage) samples recorded) mix
-    ∙ ap (λ (all_recorded : List (List ℤ)). outcome_with (runs.report_of session stage) (mixed session (all_segments stage.clients) (stage.position - first_frame session.card)) all_recorded) records)
+    ∙ ap (λ (all_recorded : List (List ℤ)). outcome_with (runs.report_of session stage) (mix_of session (all_segments stage.clients) (stage.position - first_frame session.card)) all_recorded) records)
   where
     whole : report ≡ runs.report_of session stage
     whole =
@@ -91,10 +91,10 @@ module _ (lab : Lab) (stage : Stage) (at : IsAtStage lab stage) (a : CardActor) 
   channels-at = ap (λ (g : Geometry). g.channels) own-card.is.at.ring
       ∙ (at.has_done.reached.session_is.ring.channels ∙ ap (λ (card : CardLine). card.channels) (sym at.has_done.reached.session_is.card))
 
-  mixed-at : IsMixOf session (all_segments stage.clients) a.card → a.played.items ≡ mixed session (all_segments stage.clients) (stage.position - first_frame session.card)
+  mixed-at : IsMixOf session (all_segments stage.clients) a.card → a.played.items ≡ mix_of session (all_segments stage.clients) (stage.position - first_frame session.card)
   mixed-at mix =
       let g : Geometry = geometry_of_card a.card in
-      played-mixed session (all_segments stage.clients) g (first_word g) a.played.items mix.laid (stage.position - first_frame session.card) channels-at first-at
+      played-mix_of session (all_segments stage.clients) g (first_word g) a.played.items mix.laid (stage.position - first_frame session.card) channels-at first-at
       (subst (λ (words : List Taken). AreInOrder g words) own-card.is.plays.taken mix.in_order)
       (subst (λ (words : List Taken). AreExact mix.laid words) own-card.is.plays.taken mix.values) mix.totals
       (own-card.is.plays.len ∙ (ap (λ (n : ℕ). n * g.channels) frames-at ∙ ap (λ (n : ℕ). (stage.position - first_frame session.card) * n) channels-at))

@@ -14,7 +14,7 @@ use Rattle.mix_core.specs.History.{AreExact, AreInOrder, place_of}
 use Rattle.mix_core.specs.Laid.{total}
 use Rattle.card_player.specs.Plays.{words_at}
 use Rattle.lab_script.specs.Script.{first_frame}
-use Rattle.lab_run.specs.LabRun.{entries_of, mixed, mixed_at}
+use Rattle.lab_run.specs.LabRun.{entries_of, mix_of, mixed_at}
 use Rattle.lab_run.specs.Stage.{Session}
 
 -- a list is what a function gives at the numbers of its items
@@ -42,10 +42,10 @@ no_word = record { frame = 0; channel = 0; value = pos 0 }
 
 -- The played samples, of which all words were taken in order and each with the total of what was laid there, are the mix of segments whose entries give
 -- the same totals.
-pub played-mixed : (session : Session) (segments : List (ℕ × Segment)) (g : Geometry) (at : Cursor) (xs : List ℤ) (es : List Entry) (frames : ℕ)
+pub played-mix_of : (session : Session) (segments : List (ℕ × Segment)) (g : Geometry) (at : Cursor) (xs : List ℤ) (es : List Entry) (frames : ℕ)
     → g.channels ≡ session.card.channels → places.first_frame g ≡ first_frame session.card → AreInOrder g (words_at g at xs) → AreExact es (words_at g at xs)
-    → ((f k : ℕ) → total es f k ≡ total (entries_of session segments) f k) → length xs ≡ frames * session.card.channels → xs ≡ mixed session segments frames
-played-mixed session segments g at xs es frames channels first in_order exact totals len =
+    → ((f k : ℕ) → total es f k ≡ total (entries_of session segments) f k) → length xs ≡ frames * session.card.channels → xs ≡ mix_of session segments frames
+played-mix_of session segments g at xs es frames channels first in_order exact totals len =
     list-is-map (mixed_at session.card.channels (first_frame session.card) (entries_of session segments)) 0 xs (frames * session.card.channels) len each
   where
     each : (i : ℕ) (d : ℤ) → i < length xs → slice_index_or xs i d ≡ mixed_at session.card.channels (first_frame session.card) (entries_of session segments) (0 + i)

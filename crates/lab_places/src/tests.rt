@@ -4,7 +4,7 @@ ghost use Rattle.sum_table.specs.declared.seats.mix.MixSeat.{MixSeat};
 ghost use Rattle.sum_table.specs.Joins.{OneRing};
 ghost use Rattle.sum_table.specs.Players.{player_key, player_ring};
 ghost use Rattle.sum_table.specs.Rings.{GaveNone, key_of_ring};
-ghost use Rattle.sum_table.specs.Seats.{Goes, key_of, ring_of};
+ghost use Rattle.sum_table.specs.Seats.{IsLaterSeat, key_of, ring_of};
 ghost use Rattle.lab_places.specs.Held.{key_of_places, ring_of_places, shares_of};
 
 use super::*;
@@ -112,7 +112,7 @@ impl Card<'_> {
 
 // Places a sample where the seat may, as seen at run time, and says whether it was in time.
 fn try_place(seat: &mut MixSeat<'_>, frame: u64, sample: i16) -> bool
-    ensures { Goes seat.old seat.new }
+    ensures { IsLaterSeat seat.old seat.new }
 {
     let geometry = seat.geometry();
     if !seat.can_add() || geometry.lap(frame) >= 4294967295 {

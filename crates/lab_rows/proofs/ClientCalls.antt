@@ -18,7 +18,7 @@ use Rattle.course.specs.Course.{◌>>=◌, Course, ends}
 use Rattle.wav_io.specs.Sound.{Sound}
 use Rattle.dmix_client.specs.declared.commit.Commit.{Commit}
 use Rattle.dmix_client.specs.declared.plain.Plain.{Plain}
-use Rattle.dmix_client.specs.Calls.{Answered, accepted, accepted_if, avail_answer, committed_by, delay_answer, dropped, facts_of, found_at, going_on, going_on_by, is_running, is_stop, late_at, late_of, over_of, paused, pending_of, prepared, rebased, resumed, seen_at, settled, started, started_in, start_count, stopped_in, sync_count, synced, taken_of, with_number, written_after}
+use Rattle.dmix_client.specs.Calls.{Answered, accepted, accepted_if, avail_answer, committed_by, delay_answer, dropped, facts_of, found_at, going_on, going_on_by, is_running, is_stop, late_at, late_of, over_of, paused, pending_of, prepared, rebased, resumed, seen_at, with_outcome, after_start, started_in, start_count, stopped_in, sync_count, after_sync, taken_of, with_number, written_after}
 use Rattle.dmix_client.specs.Calls as calls
 use Rattle.dmix_client.specs.Course.{admitted, admitted_by, commits, drain_course, drain_on, drains, fills, looks, nothing, number_course, numbered, pause_course, resumes, start_course, starts, starts_taking, sync_course, syncs, takes_more, write_on, writes_on}
 use Rattle.dmix_client.specs.Rewind.{back_of, checks, last_channel, last_laid, rewind_course, rewind_on, rewindable_course, rewindable_of, rewinds, rewound, take_frames, taken_back, takes_back, without}
@@ -52,20 +52,20 @@ begun-reports c s f is =
     let o = next-reports Prepared call.Start f tt in
     going_on-reports c s (next_of Prepared call.Start f).state (next_of Prepared call.Start f).answer is o.1 o.0
 
-synced-reports : (c : Plain) (asked : Call) (load : Option Position) (x : Commit) → HasState c → Reports (synced c asked load x)
-synced-reports c asked None x is = (tt, is)
-synced-reports c asked (Some p) x is = by_stop (is_stop x.ended)
+after_sync-reports : (c : Plain) (asked : Call) (load : Option Position) (x : Commit) → HasState c → Reports (after_sync c asked load x)
+after_sync-reports c asked None x is = (tt, is)
+after_sync-reports c asked (Some p) x is = by_stop (is_stop x.ended)
   where
     f : Facts
     f = facts_of (committed_by (seen_at c p) x) p (over_of (seen_at c p) p) (late_of (seen_at c p) x)
 
-    by_stop : (b : Bool) → Reports (if b then stopped_in (committed_by (seen_at c p) x) else settled (committed_by (seen_at c p) x) (next_of c.status.state asked f))
+    by_stop : (b : Bool) → Reports (if b then stopped_in (committed_by (seen_at c p) x) else with_outcome (committed_by (seen_at c p) x) (next_of c.status.state asked f))
     by_stop true = (tt, is)
     by_stop false = next-reports c.status.state asked f is
 
-started-reports : (c : Plain) (s : State) (cursor : Cursor) (load : Option Position) (x : Commit) → HasState c → HasStateText s → Reports (started c s cursor load x)
-started-reports c s cursor None x is there = (tt, is)
-started-reports c s cursor (Some p) x is there = by_gone p.gone
+after_start-reports : (c : Plain) (s : State) (cursor : Cursor) (load : Option Position) (x : Commit) → HasState c → HasStateText s → Reports (after_start c s cursor load x)
+after_start-reports c s cursor None x is there = (tt, is)
+after_start-reports c s cursor (Some p) x is there = by_gone p.gone
   where
     from : Plain
     from = started_in c s p cursor
@@ -81,7 +81,7 @@ started-reports c s cursor (Some p) x is there = by_gone p.gone
 
 resumed-reports : (c : Plain) (cursor : Cursor) (load : Option Position) (x : Commit) → HasState c → Reports (resumed c cursor load x)
 resumed-reports c cursor None x is = (tt, is)
-resumed-reports c cursor (Some p) x is = started-reports (rebased c) Running cursor (Some p) x tt tt
+resumed-reports c cursor (Some p) x is = after_start-reports (rebased c) Running cursor (Some p) x tt tt
 
 accepted-reports : (n : ℕ) (done : Answered (Unit {0})) → Reports done → Reports (accepted_if n done)
 accepted-reports n (c, Ok done) reports = (tt, reports.1)
@@ -98,10 +98,10 @@ written-reports c n x is = by_test (nat_lt 0 n && nat_eq (avail_of c) 0) (is_sto
     f = found_at (record { frame = 0; gone = false }) (late_of c x)
 
     by_test : (none stop : Bool) → Reports (if none then (c, Err error.Again) else (if stop then stopped_in (committed_by c x)
-        else accepted_if (taken_of c n) (settled (committed_by c x) (next_of Running call.Transfer f))))
+        else accepted_if (taken_of c n) (with_outcome (committed_by c x) (next_of Running call.Transfer f))))
     by_test true stop = (tt, is)
     by_test false true = (tt, is)
-    by_test false false = accepted-reports (taken_of c n) (settled (committed_by c x) (next_of Running call.Transfer f)) (next-reports Running call.Transfer f tt)
+    by_test false false = accepted-reports (taken_of c n) (with_outcome (committed_by c x) (next_of Running call.Transfer f)) (next-reports Running call.Transfer f tt)
 
 rewound-reports : (c : Plain) (n : ℕ) (left : Commit) → HasState c → Reports (rewound c n left)
 rewound-reports c n left is = by_stop (is_stop left.ended)
@@ -112,9 +112,9 @@ rewound-reports c n left is = by_stop (is_stop left.ended)
     f : Facts
     f = found_at (record { frame = 0; gone = false }) (late_at left.ended (last_laid done) (last_channel done))
 
-    by_stop : (b : Bool) → Reports (if b then stopped_in done else with_number (λ d. n) (settled done (next_of Running call.Transfer f)))
+    by_stop : (b : Bool) → Reports (if b then stopped_in done else with_number (λ d. n) (with_outcome done (next_of Running call.Transfer f)))
     by_stop true = (tt, is)
-    by_stop false = number-reports (λ d. n) (settled done (next_of Running call.Transfer f)) (next-reports Running call.Transfer f tt)
+    by_stop false = number-reports (λ d. n) (with_outcome done (next_of Running call.Transfer f)) (next-reports Running call.Transfer f tt)
 
 -- ---- the calls
 
@@ -128,14 +128,14 @@ All-after Q m f each = All-then (λ x. ⊤) Q m f (All-any (λ x. ⊤) m (λ x. 
 
 syncs-reports : (c : Plain) (asked : Call) (ring : List ℤ) → HasState c → All Reports (syncs c asked ring)
 unfolding syncs
-syncs-reports c asked ring is = All-after Reports (looks (λ position. c) (sync_count c) ring) (λ found. ends (synced c asked found.0 found.1))
-    (λ found. synced-reports c asked found.0 found.1 is)
+syncs-reports c asked ring is = All-after Reports (looks (λ position. c) (sync_count c) ring) (λ found. ends (after_sync c asked found.0 found.1))
+    (λ found. after_sync-reports c asked found.0 found.1 is)
 
 starts-reports : (c : Plain) (s : State) (cursor : Cursor) (upto : ℕ) (ring : List ℤ) → HasState c → HasStateText s → All Reports (starts c s cursor upto ring)
 unfolding starts
 starts-reports c s cursor upto ring is there =
     All-after Reports (looks (λ position. started_in c Running position cursor) (λ position. start_count c cursor position upto) ring)
-    (λ found. ends (started c s cursor found.0 found.1)) (λ found. started-reports c s cursor found.0 found.1 is there)
+    (λ found. ends (after_start c s cursor found.0 found.1)) (λ found. after_start-reports c s cursor found.0 found.1 is there)
 
 resumes-reports : (c : Plain) (cursor : Cursor) (ring : List ℤ) → HasState c → All Reports (resumes c cursor ring)
 unfolding resumes
@@ -164,7 +164,7 @@ write-reports c cursor n is = All-if Reports (is_running c.status.state) (writes
     (tt, is))
 
 start-reports : (c : Plain) (cursor : Cursor) → HasState c → All Reports (start_course c [] cursor)
-start-reports c cursor is = All-if Reports (nat_eq c.stretch.written 0) (ends (settled c (next_of c.status.state call.Start f))) (starts c Running cursor c.stretch.written [])
+start-reports c cursor is = All-if Reports (nat_eq c.stretch.written 0) (ends (with_outcome c (next_of c.status.state call.Start f))) (starts c Running cursor c.stretch.written [])
     (next-reports c.status.state call.Start f is) (starts-reports c Running cursor c.stretch.written [] is tt)
   where
     f : Facts
@@ -193,7 +193,7 @@ number_course-reports number c is = All-if Reports (is_moving c.status.state) (n
 
 checks-reports : (c : Plain) → HasState c → All Reports (checks c)
 unfolding checks
-checks-reports c is = λ load. synced-reports c call.Transfer load nothing is
+checks-reports c is = λ load. after_sync-reports c call.Transfer load nothing is
 
 rewindable-reports : (c : Plain) (floor : Cursor) → HasState c → All Reports (rewindable_course c floor)
 rewindable-reports c floor is = All-if Reports (is_running c.status.state) (numbered (rewindable_of floor) (checks c)) _

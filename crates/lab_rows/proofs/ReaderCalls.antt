@@ -15,7 +15,7 @@ use Rattle.course.specs.Course.{◌>>=◌, Course, ends}
 use Rattle.snoop_core.specs.declared.port.Got.{Got}
 use Rattle.snoop_core.specs.declared.port.Got.TheVariants as got
 use Rattle.dsnoop_client.specs.declared.plain.Plain.{Plain}
-use Rattle.dsnoop_client.specs.Calls.{Answered, found, in_state, numbered, over_of, read_after, read_to, seen_at, settled, started, synced, taken_of, waits, with_avail}
+use Rattle.dsnoop_client.specs.Calls.{Answered, found, in_state, numbered, over_of, read_after, read_to, seen_at, with_outcome, after_start, after_sync, taken_of, waits, with_avail}
 use Rattle.dsnoop_client.specs.Course.{admitted, admitted_by, avail_course, counts, gets_frames, read_course, reads_first, reads_on, starts, sync_course, syncs, transfer_on, transfers}
 use Rattle.dsnoop_client.specs.View.{avail_of, is_running}
 use Rattle.lab_script.specs.declared.line.Op.{Op}
@@ -38,13 +38,13 @@ Reports (d, r) = CanReportIn r × HasState d
 
 -- ---- the parts of a call
 
-started-reports : (r : Plain) (asked : Call) (load : Option Position) → HasState r → Reports (started r asked load)
-started-reports r asked None is = (tt, is)
-started-reports r asked (Some p) is = next-reports r.status.state asked (found p.gone None None) is
+after_start-reports : (r : Plain) (asked : Call) (load : Option Position) → HasState r → Reports (after_start r asked load)
+after_start-reports r asked None is = (tt, is)
+after_start-reports r asked (Some p) is = next-reports r.status.state asked (found p.gone None None) is
 
-synced-reports : (r : Plain) (asked : Call) (load : Option Position) → HasState r → Reports (synced r asked load)
-synced-reports r asked None is = (tt, is)
-synced-reports r asked (Some p) is = next-reports r.status.state asked (found p.gone (over_of (seen_at r p)) None) is
+after_sync-reports : (r : Plain) (asked : Call) (load : Option Position) → HasState r → Reports (after_sync r asked load)
+after_sync-reports r asked None is = (tt, is)
+after_sync-reports r asked (Some p) is = next-reports r.status.state asked (found p.gone (over_of (seen_at r p)) None) is
 
 avail-reports : (done : Answered (Unit {0})) → Reports done → Reports (with_avail done)
 avail-reports (r, Ok done) reports = (tt, reports.1)
@@ -57,7 +57,7 @@ number-reports n (r, Err e) reports = reports
 read_to-reports : (r : Plain) (done : ℕ) (ended : Got) → HasState r → Reports (read_to r done ended)
 read_to-reports r done got.Whole is = (tt, is)
 read_to-reports r done (got.Overtaken channel word) is =
-    number-reports 0 (settled r (next_of Running call.Transfer (found false None (Some (why.Overtaken (r.next + done) channel word)))))
+    number-reports 0 (with_outcome r (next_of Running call.Transfer (found false None (Some (why.Overtaken (r.next + done) channel word)))))
     (next-reports Running call.Transfer (found false None (Some (why.Overtaken (r.next + done) channel word))) tt)
 read_to-reports r done got.Stopped is = (tt, is)
 
@@ -79,11 +79,11 @@ waits-reports r n is = by_test (nat_eq n 0)
 
 starts-reports : (r : Plain) (asked : Call) → HasState r → All Reports (starts r asked)
 unfolding starts
-starts-reports r asked is = λ load. started-reports r asked load is
+starts-reports r asked is = λ load. after_start-reports r asked load is
 
 syncs-reports : (r : Plain) (asked : Call) → HasState r → All Reports (syncs r asked)
 unfolding syncs
-syncs-reports r asked is = λ load. synced-reports r asked load is
+syncs-reports r asked is = λ load. after_sync-reports r asked load is
 
 sync-reports : (r : Plain) → HasState r → All Reports (sync_course r)
 sync-reports r is = All-if Reports (is_running r.status.state) (syncs r call.Sync) (ends (r, Ok tt)) (syncs-reports r call.Sync is) (tt, is)

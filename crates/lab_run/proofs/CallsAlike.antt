@@ -17,7 +17,7 @@ use Rattle.dmix_client.specs.declared.commit.Commit.{Commit}
 use Rattle.dmix_client.specs.declared.plain.Plain.{Plain}
 use Rattle.pcm_stream.specs.declared.direction.Direction.TheVariants.{Playback}
 use Rattle.pcm_stream.specs.Status.{is_moving, refusal_of}
-use Rattle.dmix_client.specs.Calls.{Answered, accepted, accepted_if, avail_answer, avail_in, commit_count, delay_answer, delay_in, draining, dropped, has_frames, is_running, paused, pending_of, prepared, rebased, resumed, start_count, started, started_in, sync_count, synced, taken_of, with_number, written_after}
+use Rattle.dmix_client.specs.Calls.{Answered, accepted, accepted_if, avail_answer, avail_in, commit_count, delay_answer, delay_in, draining, dropped, has_frames, is_running, paused, pending_of, prepared, rebased, resumed, start_count, after_start, started_in, sync_count, after_sync, taken_of, with_number, written_after}
 use Rattle.dmix_client.specs.Course.{admitted, admitted_by, commit_at, commits, drain_course, drain_on, drains, fills, go_on, lay_each, lay_frame, lay_frames, lay_on, looks, nothing, number_course, numbered, one_frame_more, one_more, pause_call, pause_course, resumes, start_course, starts, starts_taking, sync_course, syncs, takes_more, write_on, writes_on}
 use Rattle.dmix_client.specs.Course as client_calls
 use Rattle.dmix_client.specs.Rewind.{back_of, back_on, checks, left_of, rewind_course, rewind_on, rewindable_course, rewindable_of, rewinds, rewound, take_each, take_frames, takes_back, without}
@@ -28,7 +28,7 @@ use Rattle.lab_run.specs.Alike.{Alike, CallsAreAlike, IsFromOn, SameButMember, S
 use Rattle.lab_run.specs.Client.{count_answer, done_answer, write_course}
 use Rattle.lab_run.specs.Members.{with_member}
 use Rattle.lab_run.proofs.AlikeLaws.{Alike-if, Alike-then, without_word}
-use Rattle.lab_run.proofs.ReportedWords.{accepted_if-alike, commit_without_word, resumed-word, rewound-word, started-word, synced-word, with_number-alike, written_after-word}
+use Rattle.lab_run.proofs.ReportedWords.{accepted_if-alike, commit_without_word, resumed-word, rewound-word, after_start-word, after_sync-word, with_number-alike, written_after-word}
 
 -- how far the samples of a frame were laid, and how far a commit got, but for the word
 abbrev SameEnd : ℕ × Ended → ℕ × Ended → Type 0
@@ -132,8 +132,8 @@ module _ (from member : ℕ) where
 
   syncs-alike : (c : Plain) (call : Call) (ring other : List ℤ) → Alike from (SameButMember member done_answer) (syncs c call ring) (syncs (other_of c) call other)
   unfolding syncs
-  syncs-alike c call ring other = found-alike (λ p. c) (λ p. other_of c) (sync_count c) (sync_count (other_of c)) ring other (synced c call) (synced (other_of c) call)
-      (λ p after. refl) (λ p after. refl) (λ load x after. synced-word member c call load x)
+  syncs-alike c call ring other = found-alike (λ p. c) (λ p. other_of c) (sync_count c) (sync_count (other_of c)) ring other (after_sync c call) (after_sync (other_of c) call)
+      (λ p after. refl) (λ p after. refl) (λ load x after. after_sync-word member c call load x)
 
   -- a start at a port whose cursor is the same from the frame on
   started_in-same : (c : Plain) (cursor other : Cursor) → SameFrom from cursor other → (p : Position) → from ≤ p.frame
@@ -147,23 +147,23 @@ module _ (from member : ℕ) where
   start_count-same c cursor other upto same p after =
       ap (λ (d : Plain). if p.gone then 0 else commit_count d p.frame upto) (started_in-same c cursor other same p after)
 
-  started-same : (c : Plain) (state : State) (cursor other : Cursor) → SameFrom from cursor other → (load : Option Position) (x : Commit) → IsFromOn from load
-      → started c state other load x ≡ started c state cursor load x
-  started-same c state cursor other same None x after = refl
-  started-same c state cursor other same (Some p) x after = rw (same (p.frame + c.identity.lead) (omega (arith, after))) refl
+  after_start-same : (c : Plain) (state : State) (cursor other : Cursor) → SameFrom from cursor other → (load : Option Position) (x : Commit) → IsFromOn from load
+      → after_start c state other load x ≡ after_start c state cursor load x
+  after_start-same c state cursor other same None x after = refl
+  after_start-same c state cursor other same (Some p) x after = rw (same (p.frame + c.identity.lead) (omega (arith, after))) refl
 
   starts-alike : (c : Plain) (state : State) (cursor other : Cursor) (upto : ℕ) (ring more : List ℤ) → SameFrom from cursor other
       → Alike from (SameButMember member done_answer) (starts c state cursor upto ring) (starts (other_of c) state other upto more)
   unfolding starts
   starts-alike c state cursor other upto ring more same =
       found-alike (λ p. started_in c Running p cursor) (λ p. started_in (other_of c) Running p other) (λ p. start_count c cursor p upto) (λ p. start_count (other_of c) other p upto) ring more
-      (started c state cursor) (started (other_of c) state other) (started_in-same c cursor other same) (start_count-same c cursor other upto same)
-      (λ load x after. subst (SameButMember member done_answer (started c state cursor load x)) (sym (started-same (other_of c) state cursor other same load (commit_without_word x) after)) (started-word member c state cursor load x))
+      (after_start c state cursor) (after_start (other_of c) state other) (started_in-same c cursor other same) (start_count-same c cursor other upto same)
+      (λ load x after. subst (SameButMember member done_answer (after_start c state cursor load x)) (sym (after_start-same (other_of c) state cursor other same load (commit_without_word x) after)) (after_start-word member c state cursor load x))
 
   resumed-same : (c : Plain) (cursor other : Cursor) → SameFrom from cursor other → (load : Option Position) (x : Commit) → IsFromOn from load
       → resumed c other load x ≡ resumed c cursor load x
   resumed-same c cursor other same None x after = refl
-  resumed-same c cursor other same (Some p) x after = started-same (rebased c) Running cursor other same (Some p) x after
+  resumed-same c cursor other same (Some p) x after = after_start-same (rebased c) Running cursor other same (Some p) x after
 
   resumes-alike : (c : Plain) (cursor other : Cursor) (ring more : List ℤ) → SameFrom from cursor other
       → Alike from (SameButMember member done_answer) (resumes c cursor ring) (resumes (other_of c) other more)
@@ -311,9 +311,9 @@ module _ (from member : ℕ) where
   unfolding checks
   checks-alike c = by_load
     where
-      by_load : (load : Option Position) → IsFromOn from load → SameLook from member (synced c call.Transfer load nothing) (synced (other_of c) call.Transfer load nothing)
+      by_load : (load : Option Position) → IsFromOn from load → SameLook from member (after_sync c call.Transfer load nothing) (after_sync (other_of c) call.Transfer load nothing)
       by_load None after = record { answer = record { client = refl; answer_is = refl }; seen = tt }
-      by_load (Some p) after = record { answer = record { client = refl; answer_is = refl }; seen = on-ok (synced c call.Transfer (Some p) nothing).1 _ after }
+      by_load (Some p) after = record { answer = record { client = refl; answer_is = refl }; seen = on-ok (after_sync c call.Transfer (Some p) nothing).1 _ after }
 
   rewindable-same : (floor lower : Cursor) (c : Plain) → SameFrom from floor lower → from ≤ unwrap_or c.seen 0 → rewindable_of floor c ≡ rewindable_of lower (other_of c)
   rewindable-same floor lower c same seen = ap (λ (n : ℕ). pending_of c + (c.stretch.committed - (n - c.stretch.card))) (same (unwrap_or c.seen 0) seen)

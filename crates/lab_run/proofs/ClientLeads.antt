@@ -16,7 +16,7 @@ use Rattle.dmix_client.specs.declared.commit.Commit.{Commit}
 use Rattle.dmix_client.specs.declared.plain.Plain.{Plain}
 use Rattle.pcm_stream.specs.declared.direction.Direction.TheVariants.{Playback}
 use Rattle.pcm_stream.specs.Status.{is_moving, refusal_of}
-use Rattle.dmix_client.specs.Calls.{Answered, accepted_if, draining, has_frames, is_running, pending_of, rebased, resumed, start_count, started, started_in, sync_count, synced, taken_of, with_number, written_after}
+use Rattle.dmix_client.specs.Calls.{Answered, accepted_if, draining, has_frames, is_running, pending_of, rebased, resumed, start_count, after_start, started_in, sync_count, after_sync, taken_of, with_number, written_after}
 use Rattle.dmix_client.specs.Course.{admitted, admitted_by, commit_at, commits, drain_course, drain_on, drains, fills, go_on, lay_each, lay_frame, lay_frames, lay_on, looks, number_course, numbered, one_frame_more, one_more, pause_course, resumes, start_course, starts, starts_taking, sync_course, syncs, takes_more, write_on, writes_on}
 use Rattle.dmix_client.specs.View.{held}
 use Rattle.dmix_client.specs.Writes.{count_with, ring_with, starts_with}
@@ -78,12 +78,12 @@ found-led at count ring done none loaded =
 
 syncs-led : (c : Plain) (call : Call) (ring : List ℤ) (loaded : Bool) → Led OkLed loaded (syncs c call ring)
 unfolding syncs
-syncs-led c call ring loaded = found-led (λ position. c) (sync_count c) ring (synced c call) (λ l x. tt) loaded
+syncs-led c call ring loaded = found-led (λ position. c) (sync_count c) ring (after_sync c call) (λ l x. tt) loaded
 
 starts-led : (c : Plain) (state : State) (cursor : Cursor) (upto : ℕ) (ring : List ℤ) (loaded : Bool) → Led OkLed loaded (starts c state cursor upto ring)
 unfolding starts
 starts-led c state cursor upto ring loaded =
-    found-led (λ position. started_in c Running position cursor) (λ position. start_count c cursor position upto) ring (started c state cursor) (λ l x. tt) loaded
+    found-led (λ position. started_in c Running position cursor) (λ position. start_count c cursor position upto) ring (after_start c state cursor) (λ l x. tt) loaded
 
 resumes-led : (c : Plain) (cursor : Cursor) (ring : List ℤ) (loaded : Bool) → Led OkLed loaded (resumes c cursor ring)
 unfolding resumes

@@ -24,7 +24,7 @@ use Rattle.dmix_client.specs.declared.commit.Commit.{Commit}
 use Rattle.dmix_client.specs.declared.plain.Plain.{Plain}
 use Rattle.pcm_stream.specs.declared.direction.Direction.TheVariants.{Playback}
 use Rattle.pcm_stream.specs.Status.{is_moving, is_refusal, nothing_found, refusal_in, refusal_of}
-use Rattle.dmix_client.specs.Calls.{Answered, accepted, accepted_if, avail_answer, committed_by, delay_answer, dropped, end_channel, end_of_commit, facts_of, found_at, going_on, going_on_by, is_running, is_stop, late_at, late_of, over_of, paused, pending_of, prepared, rebased, resumed, seen_at, settled, started, started_in, start_count, stopped_in, sync_count, synced, taken_of, with_number, written_after}
+use Rattle.dmix_client.specs.Calls.{Answered, accepted, accepted_if, avail_answer, committed_by, delay_answer, dropped, end_channel, end_of_commit, facts_of, found_at, going_on, going_on_by, is_running, is_stop, late_at, late_of, over_of, paused, pending_of, prepared, rebased, resumed, seen_at, with_outcome, after_start, started_in, start_count, stopped_in, sync_count, after_sync, taken_of, with_number, written_after}
 use Rattle.dmix_client.specs.Calls as calls
 use Rattle.dmix_client.specs.Course.{admitted, admitted_by, commits, drain_course, drain_on, drains, fills, looks, nothing, number_course, numbered, pause_course, resumes, start_course, starts, starts_taking, syncs, takes_more, write_on, writes_on}
 use Rattle.dmix_client.specs.Rewind.{checks, rewindable_course, rewindable_of}
@@ -151,20 +151,20 @@ going_on-missed : (c : Plain) (state refused : State) (r : Result (Unit {0}) Pcm
 going_on-missed c state refused (Ok done) late = tt
 going_on-missed c state refused (Err e) late = late
 
-synced-missed : (c : Plain) (asked : Call) (load : Option Position) (x : Commit) → Missed (synced c asked load x)
-synced-missed c asked None x = tt
-synced-missed c asked (Some p) x = by_stop (is_stop x.ended)
+after_sync-missed : (c : Plain) (asked : Call) (load : Option Position) (x : Commit) → Missed (after_sync c asked load x)
+after_sync-missed c asked None x = tt
+after_sync-missed c asked (Some p) x = by_stop (is_stop x.ended)
   where
     f : Facts
     f = facts_of (committed_by (seen_at c p) x) p (over_of (seen_at c p) p) (late_of (seen_at c p) x)
 
-    by_stop : (b : Bool) → Missed (if b then stopped_in (committed_by (seen_at c p) x) else settled (committed_by (seen_at c p) x) (next_of c.status.state asked f))
+    by_stop : (b : Bool) → Missed (if b then stopped_in (committed_by (seen_at c p) x) else with_outcome (committed_by (seen_at c p) x) (next_of c.status.state asked f))
     by_stop true = tt
     by_stop false = next-late (IsNext (committed_by (seen_at c p) x)) c.status.state asked f (commit-missed (seen_at c p) x)
 
-started-missed : (c : Plain) (state : State) (cursor : Cursor) (load : Option Position) (x : Commit) → Missed (started c state cursor load x)
-started-missed c state cursor None x = tt
-started-missed c state cursor (Some p) x = by_gone p.gone
+after_start-missed : (c : Plain) (state : State) (cursor : Cursor) (load : Option Position) (x : Commit) → Missed (after_start c state cursor load x)
+after_start-missed c state cursor None x = tt
+after_start-missed c state cursor (Some p) x = by_gone p.gone
   where
     from : Plain
     from = started_in c state p cursor
@@ -182,7 +182,7 @@ started-missed c state cursor (Some p) x = by_gone p.gone
 
 resumed-missed : (c : Plain) (cursor : Cursor) (load : Option Position) (x : Commit) → Missed (resumed c cursor load x)
 resumed-missed c cursor None x = tt
-resumed-missed c cursor (Some p) x = started-missed (rebased c) Running cursor (Some p) x
+resumed-missed c cursor (Some p) x = after_start-missed (rebased c) Running cursor (Some p) x
 
 accepted-missed : (n : ℕ) (done : Answered (Unit {0})) → Missed done → Missed (accepted_if n done)
 accepted-missed n (c, Ok done) late = tt
@@ -199,10 +199,10 @@ written-missed c n x = by_test (nat_lt 0 n && nat_eq (avail_of c) 0) (is_stop x.
     f = found_at (record { frame = 0; gone = false }) (late_of c x)
 
     by_test : (none stop : Bool) → Missed (if none then (c, Err error.Again) else (if stop then stopped_in (committed_by c x)
-        else accepted_if (taken_of c n) (settled (committed_by c x) (next_of Running call.Transfer f))))
+        else accepted_if (taken_of c n) (with_outcome (committed_by c x) (next_of Running call.Transfer f))))
     by_test true stop = tt
     by_test false true = tt
-    by_test false false = accepted-missed (taken_of c n) (settled (committed_by c x) (next_of Running call.Transfer f))
+    by_test false false = accepted-missed (taken_of c n) (with_outcome (committed_by c x) (next_of Running call.Transfer f))
         (next-late (IsNext (committed_by c x)) Running call.Transfer f (commit-missed c x))
 
 -- ---- the calls
@@ -217,14 +217,14 @@ All-after Q m f each = All-then (λ x. ⊤) Q m f (All-any (λ x. ⊤) m (λ x. 
 
 syncs-missed : (c : Plain) (asked : Call) (ring : List ℤ) → All Missed (syncs c asked ring)
 unfolding syncs
-syncs-missed c asked ring = All-after Missed (looks (λ position. c) (sync_count c) ring) (λ found. ends (synced c asked found.0 found.1))
-    (λ found. synced-missed c asked found.0 found.1)
+syncs-missed c asked ring = All-after Missed (looks (λ position. c) (sync_count c) ring) (λ found. ends (after_sync c asked found.0 found.1))
+    (λ found. after_sync-missed c asked found.0 found.1)
 
 starts-missed : (c : Plain) (state : State) (cursor : Cursor) (upto : ℕ) (ring : List ℤ) → All Missed (starts c state cursor upto ring)
 unfolding starts
 starts-missed c state cursor upto ring =
     All-after Missed (looks (λ position. started_in c Running position cursor) (λ position. start_count c cursor position upto) ring)
-    (λ found. ends (started c state cursor found.0 found.1)) (λ found. started-missed c state cursor found.0 found.1)
+    (λ found. ends (after_start c state cursor found.0 found.1)) (λ found. after_start-missed c state cursor found.0 found.1)
 
 resumes-missed : (c : Plain) (cursor : Cursor) (ring : List ℤ) → All Missed (resumes c cursor ring)
 unfolding resumes
@@ -252,7 +252,7 @@ write-missed c cursor n = All-if Missed (is_running c.status.state) (writes_on c
     tt)
 
 start-missed : (c : Plain) (cursor : Cursor) → All Missed (start_course c [] cursor)
-start-missed c cursor = All-if Missed (nat_eq c.stretch.written 0) (ends (settled c (next_of c.status.state call.Start f))) (starts c Running cursor c.stretch.written [])
+start-missed c cursor = All-if Missed (nat_eq c.stretch.written 0) (ends (with_outcome c (next_of c.status.state call.Start f))) (starts c Running cursor c.stretch.written [])
     (next-late (IsNext c) c.status.state call.Start f tt) (starts-missed c Running cursor c.stretch.written [])
   where
     f : Facts
@@ -278,7 +278,7 @@ number_course-missed number c = All-if Missed (is_moving c.status.state) (number
 
 checks-missed : (c : Plain) → All Missed (checks c)
 unfolding checks
-checks-missed c = λ load. synced-missed c call.Transfer load nothing
+checks-missed c = λ load. after_sync-missed c call.Transfer load nothing
 
 rewindable-missed : (c : Plain) (floor : Cursor) → All Missed (rewindable_course c floor)
 rewindable-missed c floor = All-if Missed (is_running c.status.state) (numbered (rewindable_of floor) (checks c)) _

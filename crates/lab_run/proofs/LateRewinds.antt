@@ -18,7 +18,7 @@ use Rattle.pcm_stream.specs.declared.direction.Direction.TheVariants.{Playback}
 use Rattle.pcm_stream.specs.Status.{is_refusal, nothing_found, refusal_in, refusal_of}
 use Rattle.dmix_client.specs.declared.commit.Commit.{Commit}
 use Rattle.dmix_client.specs.declared.plain.Plain.{Plain}
-use Rattle.dmix_client.specs.Calls.{Answered, committed_by, facts_of, found_at, is_running, is_stop, late_at, over_of, seen_at, settled, stopped_in, synced, with_number}
+use Rattle.dmix_client.specs.Calls.{Answered, committed_by, facts_of, found_at, is_running, is_stop, late_at, over_of, seen_at, with_outcome, stopped_in, after_sync, with_number}
 use Rattle.dmix_client.specs.Course.{admitted, admitted_by, nothing}
 use Rattle.dmix_client.specs.Rewind.{back_of, back_on, checks, last_channel, last_laid, left_of, rewind_course, rewind_on, rewindable_of, rewinds, rewound, take_each, take_frames, take_on, taken_back, takes_back, without}
 use Rattle.dmix_client.specs.View.{held}
@@ -105,14 +105,14 @@ rewound-kept c n left some = by_stop (is_stop left.ended)
     named (ended.Late word) some = (refl, refl, omega (arith, some))
     named ended.Stopped some = tt
 
-    by_stop : (b : Bool) → Kept (if b then stopped_in done else with_number (λ d. n) (settled done (next_of Running call.Transfer f)))
+    by_stop : (b : Bool) → Kept (if b then stopped_in done else with_number (λ d. n) (with_outcome done (next_of Running call.Transfer f)))
     by_stop true = tt
-    by_stop false = number-kept (λ d. n) (settled done (next_of Running call.Transfer f)) (next-late (IsLast done) Running call.Transfer f (named left.ended some))
+    by_stop false = number-kept (λ d. n) (with_outcome done (next_of Running call.Transfer f)) (next-late (IsLast done) Running call.Transfer f (named left.ended some))
 
 -- the load before it finds nothing late
-synced-kept : (c : Plain) (load : Option Position) → Kept (synced c call.Transfer load nothing)
-synced-kept c None = tt
-synced-kept c (Some p) = next-late (IsLast (committed_by (seen_at c p) nothing)) c.status.state call.Transfer
+after_sync-kept : (c : Plain) (load : Option Position) → Kept (after_sync c call.Transfer load nothing)
+after_sync-kept c None = tt
+after_sync-kept c (Some p) = next-late (IsLast (committed_by (seen_at c p) nothing)) c.status.state call.Transfer
     (facts_of (committed_by (seen_at c p) nothing) p (over_of (seen_at c p) p) None) tt
 
 rewind_on-kept : (floor : Cursor) (n : ℕ) (done : Answered (Unit {0})) → Kept done → All Kept (rewind_on floor [] n done)
@@ -127,7 +127,7 @@ rewind_on-kept floor n (c, Ok done) late =
 
 checks-kept : (c : Plain) → All Kept (checks c)
 unfolding checks
-checks-kept c = λ load. synced-kept c load
+checks-kept c = λ load. after_sync-kept c load
 
 rewind-kept : (c : Plain) (floor : Cursor) (n : ℕ) → All Kept (rewind_course c [] floor n)
 unfolding rewinds

@@ -23,22 +23,22 @@ use Rattle.course.specs.AtPort.{LaysAt, LoadsAt, NoGet, TakesAt}
 use Rattle.course.specs.Course.{Course}
 use Rattle.lab_run.specs.ActorPart.{DoesGet, DoesLay, DoesLoad, Doing, Each, with_late, with_position}
 use Rattle.lab_run.specs.Alike.{Alike, IsFromOn, IsSamePlace}
-use Rattle.lab_run.specs.PortSteps.{CountsDown, IsAnswered, IsAtPort, IsPart, counted, last_kind, with_gate}
+use Rattle.lab_run.specs.PortSteps.{CountsDown, IsAnswered, IsAtPort, IsPart, ask_count, last_kind, with_gate}
 use Rattle.lab_run.specs.Rules.{AtPort, left_after, lets_pass, with_asks, with_gate_stop, with_stop}
 use Rattle.lab_run.proofs.MarksLaws.{entry-alike}
 use Rattle.lab_run.proofs.AlikeLaws.{Takes-alike, without_word}
 
 -- ---- asks
 
-again-counted : (n : ℕ) → counted (replicate n Again) ≡ 0
-again-counted zero = refl
-again-counted (suc n) = omega (arith, again-counted n)
+ask_count-again : (n : ℕ) → ask_count (replicate n Again) ≡ 0
+ask_count-again zero = refl
+ask_count-again (suc n) = omega (arith, ask_count-again n)
 
 -- a placement that was done, or late, counts two asks at most
-placing-counted : (n : ℕ) → 2 ≤ n → counted (placing n) ≡ 2
-placing-counted zero some = absurd (omega (arith, some))
-placing-counted (suc zero) some = absurd (omega (arith, some))
-placing-counted (suc (suc n)) some = omega (arith, again-counted n)
+ask_count-placing : (n : ℕ) → 2 ≤ n → ask_count (placing n) ≡ 2
+ask_count-placing zero some = absurd (omega (arith, some))
+ask_count-placing (suc zero) some = absurd (omega (arith, some))
+ask_count-placing (suc (suc n)) some = omega (arith, ask_count-again n)
 
 pub no-asks : (a : AtPort) → with_asks 0 a ≡ a
 no-asks a = ap (λ (l : Option ℕ). let b : AtPort = record a { left = l } in b) (same a.left)
@@ -150,7 +150,7 @@ module _ {S T : Type 0} (P : mixport.Ghosts S) (G : gates.Ghosts T) (shown_laid 
       → (v : Doing) × DoesLay ring w d (without_word ended) v × IsAtPort P left by_gate first ring from t v
   lay-part s t (a, found) e d Whole place at step =
       let answered = told s.1 t.1 (placing step.asks) Go a at.left_is at.by_gate_is step.asked_them in
-      let two : counted (placing step.asks) ≡ 2 = placing-counted step.asks step.asks_number in
+      let two : ask_count (placing step.asks) ≡ 2 = ask_count-placing step.asks step.asks_number in
       let same : (P.view t.0).geometry ≡ (P.view s.0).geometry = ap (λ (v : PortView). v.geometry) step.view_is in
       let b : AtPort = record (with_gate left by_gate t.1 a) { marks = marks_after ring a.marks d } in
       let passes : lets_pass 2 a.left ≡ true = rw two at answered.0 in
@@ -193,7 +193,7 @@ module _ {S T : Type 0} (P : mixport.Ghosts S) (G : gates.Ghosts T) (shown_laid 
       by_asks zero number answered = absurd (omega (arith, number.0))
       by_asks (suc zero) number answered = (0, refl, inl refl, answered.0, answered.1, refl)
       by_asks (suc (suc n)) number answered =
-          let two : counted (placing (suc (suc n))) ≡ 2 = placing-counted (suc (suc n)) (omega arith) in
+          let two : ask_count (placing (suc (suc n))) ≡ 2 = ask_count-placing (suc (suc n)) (omega arith) in
           let low : a.seen ≤ d.frame = asked-on n a.seen (P.view s.0).seen d.frame (λ below. number.1 (rw place.frame below)) at.seen in
           let passes : lets_pass 2 a.left ≡ true = rw two at answered.0 in
           let after : with_gate left by_gate t.1 a ≡ with_asks 2 a = rw two at answered.1 in
@@ -224,7 +224,7 @@ module _ {S T : Type 0} (P : mixport.Ghosts S) (G : gates.Ghosts T) (shown_laid 
           (inl (1, inr (refl, low), answered.0, answered.1), refl)
       by_asks (suc (suc (suc n))) number answered =
           let low : a.seen ≤ d.frame = asked-on (suc n) a.seen (P.view s.0).seen d.frame (λ below. number.1 (rw place.frame below)) at.seen in
-          let two : counted (without_last (placing (suc (suc (suc n))))) ≡ 2 = omega (arith, ap counted (again-before n), again-counted n) in
+          let two : ask_count (without_last (placing (suc (suc (suc n))))) ≡ 2 = omega (arith, ap ask_count (again-before n), ask_count-again n) in
           let again : last_kind (placing (suc (suc (suc n)))) ≡ Again = again-last n in
           let passes : lets_pass 2 a.left ≡ true = rw two at answered.0 in
           let after : with_gate left by_gate t.1 a ≡ with_gate_stop (with_asks 2 a) = rw (two, again) at answered.1 in

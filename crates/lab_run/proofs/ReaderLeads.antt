@@ -11,7 +11,7 @@ use Rattle.snoop_core.specs.declared.port.Got.{Got}
 use Rattle.snoop_core.specs.declared.port.Got.TheVariants.{Whole, Overtaken, Stopped}
 use Rattle.course.specs.Course.{Course, ends}
 use Rattle.dsnoop_client.specs.declared.plain.Plain.{Plain}
-use Rattle.dsnoop_client.specs.Calls.{Answered, read_after, started, synced, taken_of, with_avail}
+use Rattle.dsnoop_client.specs.Calls.{Answered, read_after, after_start, after_sync, taken_of, with_avail}
 use Rattle.dsnoop_client.specs.Course.{admitted, admitted_by, avail_course, counts, get_on, gets_frames, one_more, read_course, reads_first, reads_on, starts, sync_course, syncs, transfer_on, transfers}
 use Rattle.dsnoop_client.specs.View.{is_running}
 use Rattle.lab_run.proofs.Leads.{Anything, Led, Led-if, Led-then, LoadsFirst, OkLed, first-of, first-then, is_loaded, on-ok}
@@ -20,17 +20,17 @@ starts-led : (c : Plain) (call : Call) (loaded : Bool) → Led OkLed loaded (sta
 unfolding starts
 starts-led c call loaded = by_load
   where
-    by_load : (load : Option Position) → OkLed (is_loaded loaded load) (started c call load)
+    by_load : (load : Option Position) → OkLed (is_loaded loaded load) (after_start c call load)
     by_load None = tt
-    by_load (Some position) = on-ok true (started c call (Some position)).1 refl
+    by_load (Some position) = on-ok true (after_start c call (Some position)).1 refl
 
 syncs-led : (c : Plain) (call : Call) (loaded : Bool) → Led OkLed loaded (syncs c call)
 unfolding syncs
 syncs-led c call loaded = by_load
   where
-    by_load : (load : Option Position) → OkLed (is_loaded loaded load) (synced c call load)
+    by_load : (load : Option Position) → OkLed (is_loaded loaded load) (after_sync c call load)
     by_load None = tt
-    by_load (Some position) = on-ok true (synced c call (Some position)).1 refl
+    by_load (Some position) = on-ok true (after_sync c call (Some position)).1 refl
 
 get_on-first : (got : Got) (rest : Course (ℕ × Got)) → LoadsFirst true rest → LoadsFirst true (get_on got rest)
 get_on-first Whole rest led = first-then true rest (λ end. ends (one_more end)) led (λ l x. tt)

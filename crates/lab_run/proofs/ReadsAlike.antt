@@ -10,7 +10,7 @@ use Rattle.snoop_core.specs.declared.port.Got.{Got}
 use Rattle.snoop_core.specs.declared.port.Got.TheVariants.{Whole, Overtaken, Stopped}
 use Rattle.course.specs.Course.{Course, ends}
 use Rattle.dsnoop_client.specs.declared.plain.Plain.{Plain}
-use Rattle.dsnoop_client.specs.Calls.{Answered, read_after, started, synced, taken_of, with_avail}
+use Rattle.dsnoop_client.specs.Calls.{Answered, read_after, after_start, after_sync, taken_of, with_avail}
 use Rattle.dsnoop_client.specs.Course.{admitted, admitted_by, avail_course, counts, gets_frames, one_more, read_course, reads_first, reads_on, starts, sync_course, syncs, transfer_on, transfers}
 use Rattle.dsnoop_client.specs.View.{avail_of, is_running}
 use Rattle.lab_report.specs.declared.row.Answer.{Answer}
@@ -41,11 +41,11 @@ at-once answer done = record { client = refl; answer_is = refl }
 
 starts-alike : (c : Plain) (call : Call) → Alike 0 (SameAnswer done_answer) (starts c call) (starts c call)
 unfolding starts
-starts-alike c call = λ load after. at-once done_answer (started c call load)
+starts-alike c call = λ load after. at-once done_answer (after_start c call load)
 
 syncs-alike : (c : Plain) (call : Call) → Alike 0 (SameAnswer done_answer) (syncs c call) (syncs c call)
 unfolding syncs
-syncs-alike c call = λ load after. at-once done_answer (synced c call load)
+syncs-alike c call = λ load after. at-once done_answer (after_sync c call load)
 
 read_after-word : (c : Plain) (n done : ℕ) (g : Got) → SameAnswer count_answer (read_after c n done g) (read_after c n done (got_without_word g))
 read_after-word c n done g = by_again (nat_lt 0 n && nat_eq (avail_of c) 0) refl g

@@ -16,7 +16,7 @@ use Rattle.pcm_states.specs.declared.calls.Outcome.{Outcome}
 use Rattle.pcm_states.specs.Table.{Cell, already, done_in, draining, ebadfd, eio, enodev, filling, first_of, if_empty, if_gone, if_none_left, if_over, moving, next_of, outcome_of, resuming, row_of, starting, stopped_by, to}
 use Rattle.dmix_client.specs.declared.commit.Commit.{Commit}
 use Rattle.dmix_client.specs.declared.plain.Plain.{Plain}
-use Rattle.dmix_client.specs.Calls.{Answered, accepted, accepted_if, committed_by, end_channel, end_of_commit, facts_of, found_at, going_on, going_on_by, over_of, rebased, resumed, seen_at, settled, started, synced, taken_of, with_number, written_after}
+use Rattle.dmix_client.specs.Calls.{Answered, accepted, accepted_if, committed_by, end_channel, end_of_commit, facts_of, found_at, going_on, going_on_by, over_of, rebased, resumed, seen_at, with_outcome, after_start, after_sync, taken_of, with_number, written_after}
 use Rattle.dmix_client.specs.Rewind.{rewound}
 use Rattle.dmix_client.specs.View.{avail_of}
 use Rattle.lab_run.specs.Alike.{SameButMember}
@@ -71,8 +71,8 @@ abbrev pub commit_without_word : Commit → Commit
 commit_without_word x = record x { ended = without_word x.ended }
 
 module _ (member : ℕ) where
-  settled-alike : (c : Plain) (o u : Outcome) → SameOutcome o u → SameButMember member done_answer (settled c o) (settled (with_member member c) u)
-  settled-alike c o u is =
+  with_outcome-alike : (c : Plain) (o u : Outcome) → SameOutcome o u → SameButMember member done_answer (with_outcome c o) (with_outcome (with_member member c) u)
+  with_outcome-alike c o u is =
       record { client = ap (λ s. let d : Plain = record (with_member member c) { status = record c.status { state = s } } in d) is.state; answer_is = is.answer }
 
   going_on-alike : (c : Plain) (state : State) (o u : Outcome) → SameOutcome o u
@@ -89,25 +89,25 @@ module _ (member : ℕ) where
 
   -- the parts of the calls, by a load and a commit
 
-  pub synced-word : (c : Plain) (call : Call) (load : Option Position) (x : Commit)
-      → SameButMember member done_answer (synced c call load x) (synced (with_member member c) call load (commit_without_word x))
-  synced-word c call None x = record { client = refl; answer_is = refl }
-  synced-word c call (Some p) x = by_end x.ended
+  pub after_sync-word : (c : Plain) (call : Call) (load : Option Position) (x : Commit)
+      → SameButMember member done_answer (after_sync c call load x) (after_sync (with_member member c) call load (commit_without_word x))
+  after_sync-word c call None x = record { client = refl; answer_is = refl }
+  after_sync-word c call (Some p) x = by_end x.ended
     where
       by_end : (e : Ended)
-          → SameButMember member done_answer (synced c call (Some p) (record x { ended = e })) (synced (with_member member c) call (Some p) (record x { ended = without_word e }))
+          → SameButMember member done_answer (after_sync c call (Some p) (record x { ended = e })) (after_sync (with_member member c) call (Some p) (record x { ended = without_word e }))
       by_end Whole = record { client = refl; answer_is = refl }
       by_end Stopped = record { client = refl; answer_is = refl }
-      by_end (Late w) = settled-alike (committed_by (seen_at c p) x) _ _
+      by_end (Late w) = with_outcome-alike (committed_by (seen_at c p) x) _ _
           (next-word c.status.state call (facts_of (committed_by (seen_at c p) x) p (over_of (seen_at c p) p) None) (end_of_commit (seen_at c p) x) (end_channel (seen_at c p) x) w)
 
-  pub started-word : (c : Plain) (state : State) (cursor : Cursor) (load : Option Position) (x : Commit)
-      → SameButMember member done_answer (started c state cursor load x) (started (with_member member c) state cursor load (commit_without_word x))
-  started-word c state cursor None x = record { client = refl; answer_is = refl }
-  started-word c state cursor (Some p) x = by_gone p.gone refl x.ended
+  pub after_start-word : (c : Plain) (state : State) (cursor : Cursor) (load : Option Position) (x : Commit)
+      → SameButMember member done_answer (after_start c state cursor load x) (after_start (with_member member c) state cursor load (commit_without_word x))
+  after_start-word c state cursor None x = record { client = refl; answer_is = refl }
+  after_start-word c state cursor (Some p) x = by_gone p.gone refl x.ended
     where
       by_gone : (g : Bool) → p.gone ≡ g → (e : Ended)
-          → SameButMember member done_answer (started c state cursor (Some p) (record x { ended = e })) (started (with_member member c) state cursor (Some p) (record x { ended = without_word e }))
+          → SameButMember member done_answer (after_start c state cursor (Some p) (record x { ended = e })) (after_start (with_member member c) state cursor (Some p) (record x { ended = without_word e }))
       by_gone true is e = rw is (record { client = refl; answer_is = refl })
       by_gone false is Whole = rw is (record { client = refl; answer_is = refl })
       by_gone false is Stopped = rw is (record { client = refl; answer_is = refl })
@@ -116,7 +116,7 @@ module _ (member : ℕ) where
   pub resumed-word : (c : Plain) (cursor : Cursor) (load : Option Position) (x : Commit)
       → SameButMember member done_answer (resumed c cursor load x) (resumed (with_member member c) cursor load (commit_without_word x))
   resumed-word c cursor None x = record { client = refl; answer_is = refl }
-  resumed-word c cursor (Some p) x = started-word (rebased c) Running cursor (Some p) x
+  resumed-word c cursor (Some p) x = after_start-word (rebased c) Running cursor (Some p) x
 
   pub accepted_if-alike : (n : ℕ) (a b : Answered (Unit {0})) → SameButMember member done_answer a b → SameButMember member count_answer (accepted_if n a) (accepted_if n b)
   accepted_if-alike n (c, Ok x) (d, Ok y) is = record { client = ap (λ e. accepted e n) is.client; answer_is = refl }
@@ -141,7 +141,7 @@ module _ (member : ℕ) where
       by_again true is e = rw is (record { client = refl; answer_is = refl })
       by_again false is Whole = rw is (record { client = refl; answer_is = refl })
       by_again false is Stopped = rw is (record { client = refl; answer_is = refl })
-      by_again false is (Late w) = rw is (accepted_if-alike (taken_of c n) _ _ (settled-alike (committed_by c x) _ _
+      by_again false is (Late w) = rw is (accepted_if-alike (taken_of c n) _ _ (with_outcome-alike (committed_by c x) _ _
           (next-word Running call.Transfer (found_at (record { frame = 0; gone = false }) None) (end_of_commit c x) (end_channel c x) w)))
 
   pub rewound-word : (c : Plain) (n : ℕ) (left : Commit)

@@ -9,7 +9,7 @@ use Rattle.pcm_states.specs.declared.calls.Call.TheVariants as call
 use Rattle.course.specs.Course.{Course, ends}
 use Rattle.dmix_client.specs.declared.commit.Commit.{Commit}
 use Rattle.dmix_client.specs.declared.plain.Plain.{Plain}
-use Rattle.dmix_client.specs.Calls.{Answered, is_running, synced, with_number}
+use Rattle.dmix_client.specs.Calls.{Answered, is_running, after_sync, with_number}
 use Rattle.dmix_client.specs.Course.{nothing, numbered}
 use Rattle.dmix_client.specs.Rewind.{back_of, back_on, checks, rewind_course, rewind_on, rewindable_course, rewindable_of, rewinds, rewound, take_each, take_frames, take_on, takes_back}
 use Rattle.dmix_client.specs.View.{held}
@@ -19,9 +19,9 @@ checks-led : (c : Plain) (loaded : Bool) → Led OkLed loaded (checks c)
 unfolding checks
 checks-led c loaded = by_load
   where
-    by_load : (load : Option Position) → OkLed (is_loaded loaded load) (synced c call.Transfer load nothing)
+    by_load : (load : Option Position) → OkLed (is_loaded loaded load) (after_sync c call.Transfer load nothing)
     by_load None = tt
-    by_load (Some position) = on-ok true (synced c call.Transfer (Some position) nothing).1 refl
+    by_load (Some position) = on-ok true (after_sync c call.Transfer (Some position) nothing).1 refl
 
 numbered-first : (number : Plain → ℕ) (course : Course (Answered (Unit {0}))) → LoadsFirst false course → LoadsFirst false (numbered number course)
 unfolding numbered

@@ -20,16 +20,16 @@ use Rattle.course.specs.AtSnoopPort.{GetsAtSnoop, LoadsAtSnoop, NoLay, TakesAtSn
 use Rattle.course.specs.Course.{Course, Takes}
 use Rattle.lab_run.specs.ActorPart.{DoesGet, DoesLay, DoesLoad, Doing, Each, with_overtaken, with_position}
 use Rattle.lab_run.specs.Alike.{Alike, IsFromOn}
-use Rattle.lab_run.specs.PortSteps.{CountsDown, IsAnswered, counted, last_kind, with_gate}
+use Rattle.lab_run.specs.PortSteps.{CountsDown, IsAnswered, ask_count, last_kind, with_gate}
 use Rattle.lab_run.specs.ReaderAtPort.{IsAtSnoop}
 use Rattle.lab_run.specs.Rules.{AtPort, lets_pass, with_asks, with_stop}
 use Rattle.lab_run.proofs.AlikeLaws.{Takes-alike, got_without_word}
 use Rattle.lab_run.proofs.PortLaws.{Each-more, gate-same, no-asks}
 
 -- each look is counted
-look-counted : (n : ℕ) → counted (replicate n Look) ≡ n
-look-counted zero = refl
-look-counted (suc n) = omega (arith, look-counted n)
+ask_count-looks : (n : ℕ) → ask_count (replicate n Look) ≡ n
+ask_count-looks zero = refl
+ask_count-looks (suc n) = omega (arith, ask_count-looks n)
 
 look-before : (n : ℕ) → without_last (replicate (suc n) Look) ≡ replicate n Look
 look-before zero = refl
@@ -113,7 +113,7 @@ module _ {S T : Type 0} (P : snoopport.Ghosts S) (G : gates.Ghosts T) (shown_got
   get-part s t (a, found) frame got.Whole at (samples, step) =
       let answered = told s.1 t.1 (replicate step.asks Look) Go a at.left_is at.by_gate_is step.asked_them in
       let same : (P.view t.0).geometry ≡ (P.view s.0).geometry = ap (λ (v : SnoopView). v.geometry) step.view_is in
-      let all : counted (replicate step.asks Look) ≡ ring.channels = look-counted step.asks ∙ step.asks_number ∙ ap (λ (g : Geometry). g.channels) at.geometry in
+      let all : ask_count (replicate step.asks Look) ≡ ring.channels = ask_count-looks step.asks ∙ step.asks_number ∙ ap (λ (g : Geometry). g.channels) at.geometry in
       let low : a.seen ≤ frame + ring.frames = by_side (not-before a.seen (P.view s.0).seen (frame + (P.view s.0).geometry.frames) ⊥ step.at_once at.seen) in (
         (with_gate left by_gate t.1 a, found),
         (low, rw all at answered.0, rw all at answered.1, refl),
@@ -134,7 +134,7 @@ module _ {S T : Type 0} (P : snoopport.Ghosts S) (G : gates.Ghosts T) (shown_got
   get-part s t (a, found) frame (got.Overtaken channel word) at (samples, step) =
       let answered = told s.1 t.1 (replicate step.asks Look) Go a at.left_is at.by_gate_is step.asked_them in
       let same : (P.view t.0).geometry ≡ (P.view s.0).geometry = ap (λ (v : SnoopView). v.geometry) step.view_is in
-      let all : counted (replicate step.asks Look) ≡ channel + 1 = look-counted step.asks ∙ step.asks_number in
+      let all : ask_count (replicate step.asks Look) ≡ channel + 1 = ask_count-looks step.asks ∙ step.asks_number in
       let inside : channel < ring.channels = rw (sym (same ∙ at.geometry)) step.overtaken.channel in
       let low : (channel ≡ 0) ⊎ (a.seen ≤ frame + ring.frames) =
       by_side (not-before a.seen (P.view s.0).seen (frame + (P.view s.0).geometry.frames) (channel ≡ 0) (λ past. (step.at_once past).0) at.seen) in (
@@ -181,7 +181,7 @@ module _ {S T : Type 0} (P : snoopport.Ghosts S) (G : gates.Ghosts T) (shown_got
           → DoesGet ring (a, found) frame got.Stopped (with_gate left by_gate t.1 a, found)
       by_asks zero some room which answered = absurd (omega (arith, some))
       by_asks (suc n) some room which answered =
-          let before : counted (without_last (replicate (suc n) Look)) ≡ n = ap counted (look-before n) ∙ look-counted n in
+          let before : ask_count (without_last (replicate (suc n) Look)) ≡ n = ap ask_count (look-before n) ∙ ask_count-looks n in
           let last : last_kind (replicate (suc n) Look) ≡ Look = look-last n in
           let passes : lets_pass n a.left ≡ true = rw before at answered.0 in
           let after : with_gate left by_gate t.1 a ≡ with_stop (with_asks n a) = rw (before, last) at answered.1 in

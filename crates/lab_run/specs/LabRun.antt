@@ -69,8 +69,8 @@ entries_of session segments = flat_map (entries_by session) segments
 abbrev pub mixed_at : ℕ → ℕ → List Entry → ℕ → ℤ
 mixed_at channels first entries k = clamp_of (total entries (first + k / channels) (k % channels))
 
-abbrev pub mixed : Session → List (ℕ × Segment) → ℕ → List ℤ
-mixed session segments frames =
+abbrev pub mix_of : Session → List (ℕ × Segment) → ℕ → List ℤ
+mix_of session segments frames =
     map (mixed_at session.card.channels (first_frame session.card) (entries_of session segments))
     (range_with_len 0 (frames * session.card.channels))
 
@@ -103,7 +103,7 @@ pub record Outcome : Type 0 where
 abbrev pub outcome_of : Session → Option Sound → Stage → Outcome
 outcome_of session capture stage = record {
   report = report_of session stage;
-  played = mixed session (all_segments stage.clients) (stage.position - first_frame session.card);
+  played = mix_of session (all_segments stage.clients) (stage.position - first_frame session.card);
   recorded = recorded_from session capture 0 stage.readers;
 }
 

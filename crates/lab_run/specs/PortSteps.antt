@@ -22,9 +22,9 @@ abbrev pub is_counted : StepKind → ℕ
 is_counted Again = 0
 is_counted other = 1
 
-abbrev pub counted : List StepKind → ℕ
-counted [] = 0
-counted (kind ∷ kinds) = is_counted kind + counted kinds
+abbrev pub ask_count : List StepKind → ℕ
+ask_count [] = 0
+ask_count (kind ∷ kinds) = is_counted kind + ask_count kinds
 
 -- the kind of the last of some asks
 abbrev pub last_kind : List StepKind → StepKind
@@ -39,9 +39,9 @@ stop_at other a = with_stop a
 
 -- what asks that were answered so make of an actor at its port
 abbrev pub IsAnswered : List StepKind → Pass → AtPort → AtPort → Type 0
-IsAnswered kinds Go a b = (lets_pass (counted kinds) a.left ≡ true) × (b ≡ with_asks (counted kinds) a)
+IsAnswered kinds Go a b = (lets_pass (ask_count kinds) a.left ≡ true) × (b ≡ with_asks (ask_count kinds) a)
 IsAnswered kinds Stop a b =
-    (lets_pass (counted (without_last kinds)) a.left ≡ true) × (b ≡ stop_at (last_kind kinds) (with_asks (counted (without_last kinds)) a))
+    (lets_pass (ask_count (without_last kinds)) a.left ≡ true) × (b ≡ stop_at (last_kind kinds) (with_asks (ask_count (without_last kinds)) a))
 
 -- an actor at its port, by its gate
 abbrev pub with_gate : {T : Type 0} → (T → Option ℕ) → (T → ℕ) → T → AtPort → AtPort

@@ -11,7 +11,7 @@ use Rattle.hw_space.specs.declared.config.Config.{Config}
 use Rattle.sw_limits.specs.declared.params.SwParams.{SwParams}
 use Rattle.wav_io.specs.Sound.{Sound}
 use Rattle.dmix_client.specs.declared.plain.Plain.{Plain}
-use Rattle.dmix_client.specs.Calls.{configured_with, opened, with_params}
+use Rattle.dmix_client.specs.Calls.{configured_with, new_client, with_params}
 use Rattle.dsnoop_client.specs.declared.plain.Plain as reading
 use Rattle.dsnoop_client.specs.Calls as reading_calls
 use Rattle.dshare.specs.Owners as owners
@@ -112,11 +112,11 @@ renewed ring a = new_port ring a.by_gate
 -- the client of a number that is opened
 abbrev pub opened_client : Geometry → ℕ → Setup → Plain
 opened_client ring number setup =
-    with_params (configured_with (opened ring number setup.lead) setup.config setup.bindings) setup.params
+    with_params (configured_with (new_client ring number setup.lead) setup.config setup.bindings) setup.params
 
 abbrev pub opened_reader : Geometry → Setup → reading.Plain
 opened_reader ring setup =
-    reading_calls.with_params (reading_calls.configured_with (reading_calls.opened ring) setup.config setup.bindings) setup.params
+    reading_calls.with_params (reading_calls.configured_with (reading_calls.new_reader ring) setup.config setup.bindings) setup.params
 
 -- an opening that is refused
 abbrev pub refused_open : Actor → PcmError → Stage → Stage

@@ -14,7 +14,7 @@ use Rattle.std.specs.FinMap.{from_entries, find, get-from_entries, from_entries_
 use Rattle.std.specs.List as list
 use Rattle.std.specs.Option.{option_map_or}
 use Rattle.std.specs.Ordering.{nat_cmp}
-use Rattle.lab_shelf.specs.Files.{Files, held, with_file, changed, held-with_file_same, held-with_file_other}
+use Rattle.lab_shelf.specs.Files.{Files, bytes_under, with_file, changed, bytes_under-with_file_same, bytes_under-with_file_other}
 
 -- the entries of a list as a map's: names with bytes
 abbrev pub pairs_by : {E : Type 0} → (E → List ℕ) → (E → List ℕ) → List E → List (List ℕ × List ℕ)
@@ -33,9 +33,9 @@ find-pairs_by key content q (e ∷ es) =
     ]
 
 -- what the files hold is what the look-up of the list finds
-held-pairs_by : {E : Type 0} (key content : E → List ℕ) (q : List ℕ) (es : List E)
-    → held (from_entries (pairs_by key content es)) q ≡ option_map content (list.find (λ e. bytes_eq q (key e)) es)
-held-pairs_by key content q es =
+bytes_under-pairs_by : {E : Type 0} (key content : E → List ℕ) (q : List ℕ) (es : List E)
+    → bytes_under (from_entries (pairs_by key content es)) q ≡ option_map content (list.find (λ e. bytes_eq q (key e)) es)
+bytes_under-pairs_by key content q es =
     get-from_entries nat_list_cmp_total (pairs_by key content es) q ∙ find-pairs_by key content q es
 
 -- a place that is given is the place that is counted
@@ -64,15 +64,15 @@ find_nowhere p es is =
 
 -- what the files hold of a name with a place
 pub held_found : {E : Type 0} (key content : E → List ℕ) (q : List ℕ) (es : List E) (i : ℕ) (d : E)
-    → list.position (λ e. bytes_eq q (key e)) es ≡ Some i → held (from_entries (pairs_by key content es)) q ≡ Some (content (get_or es i d))
+    → list.position (λ e. bytes_eq q (key e)) es ≡ Some i → bytes_under (from_entries (pairs_by key content es)) q ≡ Some (content (get_or es i d))
 held_found key content q es i d is =
-    held-pairs_by key content q es ∙ ap (option_map content) (find_position (λ e. bytes_eq q (key e)) es i d is)
+    bytes_under-pairs_by key content q es ∙ ap (option_map content) (find_position (λ e. bytes_eq q (key e)) es i d is)
 
 -- the files have no name without a place
 pub held_nowhere : {E : Type 0} (key content : E → List ℕ) (q : List ℕ) (es : List E)
-    → list.position (λ e. bytes_eq q (key e)) es ≡ None → held (from_entries (pairs_by key content es)) q ≡ None
+    → list.position (λ e. bytes_eq q (key e)) es ≡ None → bytes_under (from_entries (pairs_by key content es)) q ≡ None
 held_nowhere key content q es is =
-    held-pairs_by key content q es ∙ ap (option_map content) (find_nowhere (λ e. bytes_eq q (key e)) es is)
+    bytes_under-pairs_by key content q es ∙ ap (option_map content) (find_nowhere (λ e. bytes_eq q (key e)) es is)
 
 -- two names that the test tells apart
 other_name : (q name : List ℕ) → bytes_eq q name ≡ false → q ≢ name
@@ -108,24 +108,24 @@ set_is_with_file key content es i y d name bytes is same holds =
     old : Files
     old = from_entries (pairs_by key content es)
 
-    named : held new name ≡ held (with_file old name bytes) name
+    named : bytes_under new name ≡ bytes_under (with_file old name bytes) name
     named =
-        held-pairs_by key content name (set es i y)
+        bytes_under-pairs_by key content name (set es i y)
         ∙ ap (option_map content) (find_written key es i y d name is same)
         ∙ ap Some holds
-        ∙ sym (held-with_file_same old name bytes)
+        ∙ sym (bytes_under-with_file_same old name bytes)
 
-    unnamed : (q : List ℕ) → bytes_eq q name ≡ false → held new q ≡ held (with_file old name bytes) q
+    unnamed : (q : List ℕ) → bytes_eq q name ≡ false → bytes_under new q ≡ bytes_under (with_file old name bytes) q
     unnamed q other =
-        held-pairs_by key content q (set es i y)
+        bytes_under-pairs_by key content q (set es i y)
         ∙ ap (option_map content) (find_unwritten key es i y d name q is same other)
-        ∙ sym (held-pairs_by key content q es)
-        ∙ sym (held-with_file_other old name bytes q (other_name q name other))
+        ∙ sym (bytes_under-pairs_by key content q es)
+        ∙ sym (bytes_under-with_file_other old name bytes q (other_name q name other))
 
-    at : (q : List ℕ) → held new q ≡ held (with_file old name bytes) q
+    at : (q : List ℕ) → bytes_under new q ≡ bytes_under (with_file old name bytes) q
     at q =
-        elim (bytes_eq q name) as (λ b. bytes_eq q name ≡ b → held new q ≡ held (with_file old name bytes) q) [
-          | true ↦ λ e. subst (λ p. held new p ≡ held (with_file old name bytes) p) (sym ((bytes_eq-Decides q name).0 e)) named
+        elim (bytes_eq q name) as (λ b. bytes_eq q name ≡ b → bytes_under new q ≡ bytes_under (with_file old name bytes) q) [
+          | true ↦ λ e. subst (λ p. bytes_under new p ≡ bytes_under (with_file old name bytes) p) (sym ((bytes_eq-Decides q name).0 e)) named
           | false ↦ λ e. unnamed q e
         ] refl
 

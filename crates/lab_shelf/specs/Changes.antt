@@ -12,12 +12,12 @@ use Rattle.std.proofs.Common.{sym, ap, subst, inl, inr, append_assoc, append-nil
 use Rattle.std.proofs.Math.Nat.{min-le_right}
 use Rattle.std.proofs.Math.Seq.{take-length, take-append-add}
 use Rattle.std.proofs.lemmas.List.{take-append-le, take_min}
-use Rattle.lab_shelf.specs.Files.{Files, held, with_file, held-with_file, held-with_file_same, IsPartWritten, TookPart}
+use Rattle.lab_shelf.specs.Files.{Files, bytes_under, with_file, bytes_under-with_file, bytes_under-with_file_same, IsPartWritten, TookPart}
 
 -- each file is as it was, or holds bytes that it may hold
 abbrev pub ChangesOnly : (List ℕ → List ℕ → Type 0) → Files → Files → Type 0
 ChangesOnly may_hold before after =
-    (name : List ℕ) → (held after name ≡ held before name) ⊎ ((bytes : List ℕ) × ((held after name ≡ Some bytes) × may_hold name bytes))
+    (name : List ℕ) → (bytes_under after name ≡ bytes_under before name) ⊎ ((bytes : List ℕ) × ((bytes_under after name ≡ Some bytes) × may_hold name bytes))
 
 -- the same of files that are told, and go on being told
 abbrev pub Changes : (List ℕ → List ℕ → Type 0) → Option Files → Option Files → Type 0
@@ -33,9 +33,9 @@ Changes-nothing may_hold files m is = (m, (is, λ name. inl refl))
 
 -- one file over two changes
 file_then : (may_hold : List ℕ → List ℕ → Type 0) (a b c : Files) (name : List ℕ)
-    → (held b name ≡ held a name) ⊎ ((bytes : List ℕ) × ((held b name ≡ Some bytes) × may_hold name bytes))
-    → (held c name ≡ held b name) ⊎ ((bytes : List ℕ) × ((held c name ≡ Some bytes) × may_hold name bytes))
-    → (held c name ≡ held a name) ⊎ ((bytes : List ℕ) × ((held c name ≡ Some bytes) × may_hold name bytes))
+    → (bytes_under b name ≡ bytes_under a name) ⊎ ((bytes : List ℕ) × ((bytes_under b name ≡ Some bytes) × may_hold name bytes))
+    → (bytes_under c name ≡ bytes_under b name) ⊎ ((bytes : List ℕ) × ((bytes_under c name ≡ Some bytes) × may_hold name bytes))
+    → (bytes_under c name ≡ bytes_under a name) ⊎ ((bytes : List ℕ) × ((bytes_under c name ≡ Some bytes) × may_hold name bytes))
 file_then may_hold a b c name first (inr new) = inr new
 file_then may_hold a b c name (inl kept) (inl same) = inl (same ∙ kept)
 file_then may_hold a b c name (inr new) (inl same) = inr (new.0, (same ∙ new.1.0, new.1.1))
@@ -51,8 +51,8 @@ Changes-then may_hold before between after first second m is =
 -- one file, which may hold more
 file_wider : (may_hold may_also : List ℕ → List ℕ → Type 0) (a b : Files) (name : List ℕ)
     → ((bytes : List ℕ) → may_hold name bytes → may_also name bytes)
-    → (held b name ≡ held a name) ⊎ ((bytes : List ℕ) × ((held b name ≡ Some bytes) × may_hold name bytes))
-    → (held b name ≡ held a name) ⊎ ((bytes : List ℕ) × ((held b name ≡ Some bytes) × may_also name bytes))
+    → (bytes_under b name ≡ bytes_under a name) ⊎ ((bytes : List ℕ) × ((bytes_under b name ≡ Some bytes) × may_hold name bytes))
+    → (bytes_under b name ≡ bytes_under a name) ⊎ ((bytes : List ℕ) × ((bytes_under b name ≡ Some bytes) × may_also name bytes))
 file_wider may_hold may_also a b name wider (inl kept) = inl kept
 file_wider may_hold may_also a b name wider (inr new) = inr (new.0, (new.1.0, wider new.0 new.1.1))
 
@@ -66,14 +66,14 @@ Changes-wider may_hold may_also before after wider changes m is =
 
 -- one file once another, or itself, was written
 file_written : (may_hold : List ℕ → List ℕ → Type 0) (files : Files) (name bytes q : List ℕ) → may_hold name bytes
-    → (q ≡ name) ⊎ (held (with_file files name bytes) q ≡ held files q)
-    → (held (with_file files name bytes) q ≡ held files q) ⊎ ((content : List ℕ) × ((held (with_file files name bytes) q ≡ Some content) × may_hold q content))
+    → (q ≡ name) ⊎ (bytes_under (with_file files name bytes) q ≡ bytes_under files q)
+    → (bytes_under (with_file files name bytes) q ≡ bytes_under files q) ⊎ ((content : List ℕ) × ((bytes_under (with_file files name bytes) q ≡ Some content) × may_hold q content))
 file_written may_hold files name bytes q may (inr other) = inl other
 file_written may_hold files name bytes q may (inl same) =
     inr (
       bytes,
       (
-        ap (λ other. held (with_file files name bytes) other) same ∙ held-with_file_same files name bytes,
+        ap (λ other. bytes_under (with_file files name bytes) other) same ∙ bytes_under-with_file_same files name bytes,
         subst (λ other. may_hold other bytes) (sym same) may,
       ),
     )
@@ -85,7 +85,7 @@ Changes-with_file may_hold before name bytes may m is = (
   with_file m name bytes,
   (
     ap (option_map (λ files. with_file files name bytes)) is,
-    λ q. file_written may_hold m name bytes q may (held-with_file m name bytes q),
+    λ q. file_written may_hold m name bytes q may (bytes_under-with_file m name bytes q),
   ),
 )
 

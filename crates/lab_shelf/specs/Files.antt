@@ -1,12 +1,12 @@
 -- Files by name, and the bytes that a sink took.
 --     Files       a finite map from names to bytes
---     held files name      what the file of this name holds, if there is one
+--     bytes_under files name      what the file of this name holds, if there is one
 --     with_file files name bytes      the files, with this one holding exactly these bytes
 --     piece files name from most      the file's bytes from a place on, at most so many
 --     changed make files name      the files, with the named one, if it is there, holding what `make` makes of its bytes
 --     overwritten head content      the content with other first bytes
 --     IsPartWritten, IsPartAppended, IsPartFinished, TookPart      what a failed write may leave
---     held-with_file_same, held-with_file, held-with_file_other      what the files hold once one of them was written
+--     bytes_under-with_file_same, bytes_under-with_file, bytes_under-with_file_other      what the files hold once one of them was written
 --     name_test-Decides      the maps' test of two names decides whether they are equal
 use Rattle.std.specs.Prelude.{◌≡◌, ◌≢◌, ◌≤◌, ◌⊎◌, ◌++◌, ℕ, true, false, cond, List, length, take, drop, Option, Some, IfSome, IsSome, refl}
 use Rattle.std.specs.Bool.{Decides}
@@ -23,8 +23,8 @@ abbrev pub Files : Type 0
 Files = FinMap (slice_cmp nat_cmp) (List ℕ)
 
 -- what the file of this name holds, if there is one
-abbrev pub held : Files → List ℕ → Option (List ℕ)
-held files name = get files name
+abbrev pub bytes_under : Files → List ℕ → Option (List ℕ)
+bytes_under files name = get files name
 
 -- the files, with this one holding exactly these bytes
 abbrev pub with_file : Files → List ℕ → List ℕ → Files
@@ -32,11 +32,11 @@ with_file files name bytes = insert files name bytes
 
 -- the bytes of a file from a place on, at most so many of them
 abbrev pub piece : Files → List ℕ → ℕ → ℕ → Option (List ℕ)
-piece files name from most = option_map (λ content. take most (drop from content)) (held files name)
+piece files name from most = option_map (λ content. take most (drop from content)) (bytes_under files name)
 
 -- the files, with the named one, if it is there, holding what is made of its bytes
 abbrev pub changed : (List ℕ → List ℕ) → Files → List ℕ → Files
-changed make files name = option_map_or (λ content. with_file files name (make content)) (held files name) files
+changed make files name = option_map_or (λ content. with_file files name (make content)) (bytes_under files name) files
 
 -- the content with as many other first bytes
 abbrev pub overwritten : List ℕ → List ℕ → List ℕ
@@ -59,11 +59,11 @@ IsPartFinished before after name head =
 
 -- there is a file of this name, where the files are told
 abbrev pub IsHeld : Option Files → List ℕ → Type 0
-IsHeld files name = IfSome files (λ m. IsSome (held m name))
+IsHeld files name = IfSome files (λ m. IsSome (bytes_under m name))
 
 -- where the files are told and there is one of this name, it has as many bytes as the head
 abbrev pub HasRoom : Option Files → List ℕ → List ℕ → Type 0
-HasRoom files name head = IfSome files (λ m. IfSome (held m name) (λ content. length head ≤ length content))
+HasRoom files name head = IfSome files (λ m. IfSome (bytes_under m name) (λ content. length head ≤ length content))
 
 -- a sink took the first of the bytes
 abbrev pub TookPart : Option (List ℕ) → Option (List ℕ) → List ℕ → Type 0
@@ -75,22 +75,22 @@ name_test-Decides q name =
     subst (λ b. Decides b (q ≡ name)) (sym (is_eq-slice_cmp q name)) (bytes_eq-Decides q name)
 
 -- a file that was written holds the bytes
-pub held-with_file_same : (files : Files) (name bytes : List ℕ) → held (with_file files name bytes) name ≡ Some bytes
-held-with_file_same files name bytes =
+pub bytes_under-with_file_same : (files : Files) (name bytes : List ℕ) → bytes_under (with_file files name bytes) name ≡ Some bytes
+bytes_under-with_file_same files name bytes =
     get-insert nat_list_cmp_total files name bytes name
-    ∙ ap (λ b. cond b (Some bytes) (held files name)) ((name_test-Decides name name).1 refl)
+    ∙ ap (λ b. cond b (Some bytes) (bytes_under files name)) ((name_test-Decides name name).1 refl)
 
 -- every other file is as it was
-pub held-with_file : (files : Files) (name bytes q : List ℕ) → (q ≡ name) ⊎ (held (with_file files name bytes) q ≡ held files q)
-held-with_file files name bytes q =
+pub bytes_under-with_file : (files : Files) (name bytes q : List ℕ) → (q ≡ name) ⊎ (bytes_under (with_file files name bytes) q ≡ bytes_under files q)
+bytes_under-with_file files name bytes q =
     elim (eq_by_cmp (slice_cmp nat_cmp) q name) as
-    (λ b. Decides b (q ≡ name) → held (with_file files name bytes) q ≡ cond b (Some bytes) (held files q)
-    → (q ≡ name) ⊎ (held (with_file files name bytes) q ≡ held files q)) [
+    (λ b. Decides b (q ≡ name) → bytes_under (with_file files name bytes) q ≡ cond b (Some bytes) (bytes_under files q)
+    → (q ≡ name) ⊎ (bytes_under (with_file files name bytes) q ≡ bytes_under files q)) [
       | true ↦ λ decides is. inl (decides.0 refl)
       | false ↦ λ decides is. inr is
     ] (name_test-Decides q name) (get-insert nat_list_cmp_total files name bytes q)
 
 -- a file with another name is as it was
-pub held-with_file_other : (files : Files) (name bytes q : List ℕ) → q ≢ name → held (with_file files name bytes) q ≡ held files q
-held-with_file_other files name bytes q other =
-    elim (held-with_file files name bytes q) [ inl same ↦ absurd (other same) | inr is ↦ is ]
+pub bytes_under-with_file_other : (files : Files) (name bytes q : List ℕ) → q ≢ name → bytes_under (with_file files name bytes) q ≡ bytes_under files q
+bytes_under-with_file_other files name bytes q other =
+    elim (bytes_under-with_file files name bytes q) [ inl same ↦ absurd (other same) | inr is ↦ is ]

@@ -6,7 +6,7 @@ use Rattle.std.specs.Global.{Vec}
 use Rattle.std.specs.List.{list_any}
 use Rattle.lab_shelf.specs.declared.fault.ShelfFault.{ShelfFault}
 use Rattle.lab_shelf.specs.declared.fault.ShelfFault.TheVariants.{Failed, Memory}
-use Rattle.lab_shelf.specs.Files.{Files, held, with_file, changed}
+use Rattle.lab_shelf.specs.Files.{Files, bytes_under, with_file, changed}
 use Rattle.lab_shelf.specs.Counts.{one_more}
 
 -- a shelf in memory: its files, the numbers of the calls that fail, how many calls it had, and its two counts of faults
@@ -61,7 +61,7 @@ write_answers failing calls = not (list_any (λ n. nat_eq n (one_more calls)) fa
 
 -- a fetch works where the number of its call isn't listed and there is a file of this name
 abbrev pub fetch_answers : ShelfState → List ℕ → Bool
-fetch_answers s name = write_answers s.failing s.calls && is_some (held s.files name)
+fetch_answers s name = write_answers s.failing s.calls && is_some (bytes_under s.files name)
 
 -- what a fetch leaves: its call is counted, and a fault
 abbrev pub after_fetch : {T : Type 0} → Result T ShelfFault → ShelfState → ShelfState

@@ -1,7 +1,7 @@
 //! Names with their bytes, of which the first of a name stands.
 ghost use Rattle.std.specs.Prelude.{◌≡◌, ◌≤◌, ◌++◌, length, take, drop, position, bytes_eq, None, IfSome, IsSome, IfErr, IsErrOf, OnOk, OnErr, option_map};
 ghost use Rattle.std.specs.Option.{option_copied};
-ghost use Rattle.lab_shelf.specs.Files.{held, with_file, changed, overwritten};
+ghost use Rattle.lab_shelf.specs.Files.{bytes_under, with_file, changed, overwritten};
 ghost use Rattle.lab_shelf.specs.States.{files_of};
 
 use crate::fault::ShelfFault;
@@ -24,7 +24,7 @@ fn place_of(entries: &[(Vec<u8>, Vec<u8>)], name: &[u8]) -> Option<usize>
 
 /// What the first entry of this name holds.
 pub(crate) fn content_of<'a>(entries: &'a [(Vec<u8>, Vec<u8>)], name: &[u8]) -> Option<&'a [u8]>
-    ensures { option_copied result ≡ held (files_of entries.now) name.now }
+    ensures { option_copied result ≡ bytes_under (files_of entries.now) name.now }
 {
     match place_of(entries, name) {
         Some(place) => Some(entries[place].1.as_slice()),
@@ -62,8 +62,9 @@ pub(crate) fn append_to(
     ensures ok { OnOk result
         (files_of entries.new ≡ changed (λ content. content ++ bytes.now) (files_of entries.old) name.now) }
     ensures err { OnErr result (files_of entries.new ≡ files_of entries.old) }
-    ensures held { OnOk result (IsSome (held (files_of entries.old) name.now)) }
-    ensures missing { IsErrOf result ShelfFault.Failed → held (files_of entries.old) name.now ≡ None }
+    ensures held { OnOk result (IsSome (bytes_under (files_of entries.old) name.now)) }
+    ensures missing { IsErrOf result ShelfFault.Failed
+        → bytes_under (files_of entries.old) name.now ≡ None }
 {
     match place_of(entries, name) {
         Some(place) => match entries[place].1.extend_from_slice(bytes) {
@@ -89,12 +90,13 @@ pub(crate) fn overwrite(
     name: &[u8],
     head: &[u8],
 ) -> Result<(), ShelfFault>
-    requires room { IfSome (held (files_of entries.old) name.now) (λ content. length head.now ≤ length content) }
+    requires room { IfSome (bytes_under (files_of entries.old) name.now)
+        (λ content. length head.now ≤ length content) }
     ensures ok { OnOk result
         (files_of entries.new ≡ changed (overwritten head.now) (files_of entries.old) name.now) }
     ensures err { OnErr result (files_of entries.new ≡ files_of entries.old) }
-    ensures held { OnOk result (IsSome (held (files_of entries.old) name.now)) }
-    ensures missing { OnErr result (held (files_of entries.old) name.now ≡ None) }
+    ensures held { OnOk result (IsSome (bytes_under (files_of entries.old) name.now)) }
+    ensures missing { OnErr result (bytes_under (files_of entries.old) name.now ≡ None) }
     ensures failed { IfErr result (λ fault. fault ≡ ShelfFault.Failed) }
 {
     match place_of(entries, name) {

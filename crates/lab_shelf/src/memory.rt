@@ -1,7 +1,7 @@
 //! The forms in memory, whose calls fail where the caller lists their numbers.
 ghost use Rattle.std.specs.Prelude.{◌≡◌, ◌≢◌, ◌≤◌, ◌↔◌, ◌++◌, [], None, Some, Err, IsErrOf, IsTrue, IfOk, OnOk, OnErr, vec_len};
 ghost use Rattle.std.specs.Option.{option_copied};
-ghost use Rattle.lab_shelf.specs.Files.{held, with_file, changed, overwritten, piece, IsPartWritten, IsPartAppended, IsPartFinished, IsHeld, HasRoom, TookPart};
+ghost use Rattle.lab_shelf.specs.Files.{bytes_under, with_file, changed, overwritten, piece, IsPartWritten, IsPartAppended, IsPartFinished, IsHeld, HasRoom, TookPart};
 ghost use Rattle.lab_shelf.specs.Counts.{Counted, Foreseen};
 ghost use Rattle.lab_shelf.specs.States.{files_of, fetch_answers, write_answers, after_fetch, after_store, after_change, after_put};
 
@@ -62,7 +62,7 @@ impl MemoryShelf {
 
     /// The bytes of the file of this name, or `None` where there is no such file.
     pub fn file(&self, name: &[u8]) -> Option<&[u8]>
-        ensures { option_copied result ≡ held self.now.files name.now }
+        ensures { option_copied result ≡ bytes_under self.now.files name.now }
     {
         content_of(&self.entries, name)
     }
@@ -110,7 +110,7 @@ impl Shelf for MemoryShelf {
         ensures write_faults { self.new.write_faults ≡ self.old.write_faults }
         ensures reliable { self.old.failing ≡ [] → self.new.failing ≡ [] }
         ensures missing { self.old.failing ≡ [] → IsErrOf result ShelfFault.Failed
-            → held self.old.files name.now ≡ None }
+            → bytes_under self.old.files name.now ≡ None }
     {
         self.calls = self.calls.saturating_add(1);
         let is_listed = self.failing.contains(&self.calls);
@@ -171,7 +171,7 @@ impl Shelf for MemoryShelf {
         ensures fetch_faults { self.new.fetch_faults ≡ self.old.fetch_faults }
         ensures reliable { self.old.failing ≡ [] → self.new.failing ≡ [] }
         ensures missing { self.old.failing ≡ [] → IsErrOf result ShelfFault.Failed
-            → held self.old.files name.now ≡ None }
+            → bytes_under self.old.files name.now ≡ None }
     {
         self.calls = self.calls.saturating_add(1);
         if self.failing.contains(&self.calls) {
@@ -198,7 +198,7 @@ impl Shelf for MemoryShelf {
         ensures fetch_faults { self.new.fetch_faults ≡ self.old.fetch_faults }
         ensures reliable { self.old.failing ≡ [] → self.new.failing ≡ [] }
         ensures missing { self.old.failing ≡ [] → IsErrOf result ShelfFault.Failed
-            → held self.old.files name.now ≡ None }
+            → bytes_under self.old.files name.now ≡ None }
     {
         self.calls = self.calls.saturating_add(1);
         if self.failing.contains(&self.calls) {

@@ -1,7 +1,7 @@
 //! What no clause says: that calls work where there is memory, and what real files and streams do.
 ghost use Rattle.std.specs.Prelude.{◌≡◌, [], None, IfOk, IsErrOf};
 ghost use Rattle.std.specs.Option.{ForSome};
-ghost use Rattle.lab_shelf.specs.Files.{held};
+ghost use Rattle.lab_shelf.specs.Files.{bytes_under};
 
 use crate::{FileShelf, MemoryShelf, MemorySink, Shelf, ShelfFault, Sink, StdSink};
 use std::alloc::Global;
@@ -33,7 +33,8 @@ fn copy_out<S: Shelf, K: Sink>(
     requires shelf { S.is_reliable shelf.old }
     requires sink { K.is_reliable sink.old }
     ensures reliable { S.is_reliable shelf.new × K.is_reliable sink.new }
-    ensures missing { IsErrOf result ShelfFault.Failed → ForSome (S.files shelf.old) (λ files. held files name.now ≡ None) }
+    ensures missing { IsErrOf result ShelfFault.Failed
+        → ForSome (S.files shelf.old) (λ files. bytes_under files name.now ≡ None) }
 {
     let bytes = shelf.fetch(alloc, name, 0, 9)?;
     shelf.store(copy, &bytes)?;

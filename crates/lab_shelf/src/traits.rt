@@ -1,7 +1,7 @@
 //! What a program asks of its files and of a stream that it writes to.
 ghost use Rattle.std.specs.Prelude.{◌≡◌, ◌≢◌, ◌≤◌, ◌++◌, ℕ, List, Bool, Option, None, Some, Err, IsErrOf, IfOk, IfSome, OnOk, OnErr, vec_len};
 ghost use Rattle.std.specs.Option.{option_map};
-ghost use Rattle.lab_shelf.specs.Files.{Files, held, with_file, changed, overwritten, piece, IsPartWritten, IsPartAppended, IsPartFinished, IsHeld, HasRoom, TookPart};
+ghost use Rattle.lab_shelf.specs.Files.{Files, bytes_under, with_file, changed, overwritten, piece, IsPartWritten, IsPartAppended, IsPartFinished, IsHeld, HasRoom, TookPart};
 ghost use Rattle.lab_shelf.specs.Counts.{Counted, Foreseen};
 
 use crate::fault::ShelfFault;
@@ -54,7 +54,7 @@ pub trait Shelf {
         ensures foreseen { Foreseen result (fetch_works self.old name.now) }
         ensures reliable { is_reliable self.old → is_reliable self.new }
         ensures missing { is_reliable self.old → IsErrOf result ShelfFault.Failed
-            → IfSome (files self.old) (λ held_files. held held_files name.now ≡ None) };
+            → IfSome (files self.old) (λ held_files. bytes_under held_files name.now ≡ None) };
 
     /// Makes the file `name` hold exactly `bytes`. After an error it holds a prefix of them, or is
     /// as it was. `Failed` comes where the file can't be written, and `write_faults` counts it;
@@ -100,7 +100,7 @@ pub trait Shelf {
         ensures foreseen { Foreseen result (change_works self.old name.now) }
         ensures reliable { is_reliable self.old → is_reliable self.new }
         ensures missing { is_reliable self.old → IsErrOf result ShelfFault.Failed
-            → IfSome (files self.old) (λ held_files. held held_files name.now ≡ None) };
+            → IfSome (files self.old) (λ held_files. bytes_under held_files name.now ≡ None) };
 
     /// Finishes the file `name`: replaces its first bytes, which are there, by as many of `head`. The
     /// others aren't touched, and none is read. After an error some first bytes may be those of
@@ -119,7 +119,7 @@ pub trait Shelf {
         ensures foreseen { Foreseen result (change_works self.old name.now) }
         ensures reliable { is_reliable self.old → is_reliable self.new }
         ensures missing { is_reliable self.old → IsErrOf result ShelfFault.Failed
-            → IfSome (files self.old) (λ held_files. held held_files name.now ≡ None) };
+            → IfSome (files self.old) (λ held_files. bytes_under held_files name.now ≡ None) };
 }
 
 /// A stream that takes bytes. A contract sees the bytes that it took, where the sink tells them,

@@ -11,7 +11,7 @@ use Rattle.std.specs.Prelude.{ℕ, List, Option, Some, None, Result, Ok, Err}
 use Rattle.asound_conf.specs.declared.error.ConfError.{ConfError}
 use Rattle.lab_script.specs.declared.error.ScriptError.{ScriptError}
 use Rattle.wav_io.specs.declared.error.WavError.{WavError}
-use Rattle.lab_shelf.specs.Files.{Files, held, piece}
+use Rattle.lab_shelf.specs.Files.{Files, bytes_under, piece}
 
 -- why input can't be read: a file isn't there, the script is refused, a configuration is, or a client's file is
 pub data Cause : Type 0 where
@@ -44,7 +44,7 @@ piece_bytes = 65_536
 
 -- all bytes of a file
 abbrev pub content_in : Files → List ℕ → Result (List ℕ) Cause
-content_in files name = found name (held files name)
+content_in files name = found name (bytes_under files name)
 
 -- why a result is none
 abbrev pub cause : {X : Type 0} → Result X Cause → Option Cause

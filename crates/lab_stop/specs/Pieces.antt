@@ -12,7 +12,7 @@ use Rattle.std.proofs.lemmas.List.{length-take, length-append, take-append-drop,
 use Rattle.std.proofs.Math.Seq.{take-add}
 use Rattle.std.specs.Prelude.{Bool, Option, Some, None, Ok, Err}
 use Rattle.std.specs.Option.{option_map}
-use Rattle.lab_shelf.specs.Files.{Files, held}
+use Rattle.lab_shelf.specs.Files.{Files, bytes_under}
 use Rattle.lab_stop.specs.Causes.{Cause, found, fetched, fetched_from, content_in, piece_bytes}
 
 -- the bytes so far are the first of a file, and all of it behind the last piece
@@ -75,10 +75,10 @@ first_fetched (Some content) name bytes first c is =
     let taken : take (length bytes) content ≡ bytes = cc in
     ap (λ (b : List ℕ). take (length bytes) b) same ∙ taken
 
-first_begun : (files : Files) (name bytes : List ℕ) (last : Bool) → IsBegun files name bytes last → IsFirst (held files name) bytes
+first_begun : (files : Files) (name bytes : List ℕ) (last : Bool) → IsBegun files name bytes last → IsFirst (bytes_under files name) bytes
 first_begun files name bytes last (inl none) c is =
     ap (λ (b : List ℕ). take (length b) c) none.0 ∙ sym none.0
-first_begun files name bytes last (inr so_far) c is = first_fetched (held files name) name bytes so_far.first c is
+first_begun files name bytes last (inr so_far) c is = first_fetched (bytes_under files name) name bytes so_far.first c is
 
 next_first : (content : Option (List ℕ)) (name bytes piece : List ℕ) → IsFirst content bytes
     → found name (option_map (λ (c : List ℕ). take piece_bytes (drop (length bytes) c)) content) ≡ Ok piece
@@ -101,8 +101,8 @@ pub IsFetched-next : (files : Files) (name bytes piece : List ℕ) (last then_la
     → fetched_from files name (length bytes) piece_bytes ≡ Ok piece
     → (then_last ≡ true → length piece < piece_bytes) → IsFetched files name (bytes ++ piece) then_last
 IsFetched-next files name bytes piece last then_last so_far next short = record {
-  first = next_first (held files name) name bytes piece (first_begun files name bytes last so_far) next;
-  whole = λ is. next_whole (held files name) name bytes piece (first_begun files name bytes last so_far) next (short is);
+  first = next_first (bytes_under files name) name bytes piece (first_begun files name bytes last so_far) next;
+  whole = λ is. next_whole (bytes_under files name) name bytes piece (first_begun files name bytes last so_far) next (short is);
 }
 
 most_of : (content : Option (List ℕ)) (name bytes : List ℕ) (most : ℕ)
@@ -123,8 +123,8 @@ whole_of (Some content) name bytes most whole =
 -- the first bytes of a file, once all or enough of them are fetched
 pub IsFetched-most : (files : Files) (name bytes : List ℕ) (last : Bool) (most : ℕ) → IsFetched files name bytes last
     → (last ≡ true) ⊎ (most ≤ length bytes) → fetched files name most ≡ Ok (take most bytes)
-IsFetched-most files name bytes last most so_far (inl all) = whole_of (held files name) name bytes most (so_far.whole all)
-IsFetched-most files name bytes last most so_far (inr enough) = most_of (held files name) name bytes most so_far.first enough
+IsFetched-most files name bytes last most so_far (inl all) = whole_of (bytes_under files name) name bytes most (so_far.whole all)
+IsFetched-most files name bytes last most so_far (inr enough) = most_of (bytes_under files name) name bytes most so_far.first enough
 
 rest_of : (content : Option (List ℕ)) (name bytes : List ℕ)
     → found name (option_map (λ (c : List ℕ). take (length bytes) (drop 0 c)) content) ≡ Ok bytes
@@ -139,7 +139,7 @@ rest_of (Some content) name bytes first =
 -- the bytes of a file, of which some are fetched
 pub IsFetched-rest : (files : Files) (name bytes : List ℕ) (last : Bool) → IsFetched files name bytes last
     → (rest : List ℕ) × (content_in files name ≡ Ok (bytes ++ rest))
-IsFetched-rest files name bytes last so_far = rest_of (held files name) name bytes so_far.first
+IsFetched-rest files name bytes last so_far = rest_of (bytes_under files name) name bytes so_far.first
 
 refused_of : (content : Option (List ℕ)) (name : List ℕ) (f g : List ℕ → List ℕ) (e : Cause)
     → found name (option_map f content) ≡ Err e → found name (option_map g content) ≡ Err e
@@ -150,7 +150,7 @@ refused_of (Some content) name f g e refused = absurd (cc)
 pub refused_alike : (files : Files) (name : List ℕ) (from most other_from other_most : ℕ) (e : Cause)
     → fetched_from files name from most ≡ Err e → fetched_from files name other_from other_most ≡ Err e
 refused_alike files name from most other_from other_most e refused =
-    refused_of (held files name) name (λ (c : List ℕ). take most (drop from c)) (λ (c : List ℕ). take other_most (drop other_from c)) e refused
+    refused_of (bytes_under files name) name (λ (c : List ℕ). take most (drop from c)) (λ (c : List ℕ). take other_most (drop other_from c)) e refused
 
 whole_refused_of : (content : Option (List ℕ)) (name : List ℕ) (f : List ℕ → List ℕ) (e : Cause)
     → found name (option_map f content) ≡ Err e → found name content ≡ Err e
@@ -161,4 +161,4 @@ whole_refused_of (Some content) name f e refused = absurd (cc)
 pub whole_refused : (files : Files) (name : List ℕ) (from most : ℕ) (e : Cause)
     → fetched_from files name from most ≡ Err e → content_in files name ≡ Err e
 whole_refused files name from most e refused =
-    whole_refused_of (held files name) name (λ (c : List ℕ). take most (drop from c)) e refused
+    whole_refused_of (bytes_under files name) name (λ (c : List ℕ). take most (drop from c)) e refused

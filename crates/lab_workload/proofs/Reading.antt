@@ -13,7 +13,7 @@ use Rattle.wav_io.specs.declared.error.WavError.TheVariants.{TooLong}
 use Rattle.wav_io.specs.Canonical.{canonical}
 use Rattle.lab_input.specs.Plug.{sound_file}
 use Rattle.wav_io.specs.Sound.{Sound}
-use Rattle.lab_shelf.specs.Files.{Files, held, with_file, held-with_file, held-with_file_same, held-with_file_other}
+use Rattle.lab_shelf.specs.Files.{Files, bytes_under, with_file, bytes_under-with_file, bytes_under-with_file_same, bytes_under-with_file_other}
 use Rattle.lab_script.specs.declared.error.ScriptError.{ScriptError}
 use Rattle.lab_script.specs.declared.script.CardLine.{CardLine}
 use Rattle.lab_script.specs.declared.script.Script.{Script}
@@ -43,7 +43,7 @@ short : (text : List ℕ) (script : Script) → script_of text ≡ Ok script →
 short text script is = short_if (nat_lt 1048576 (length text)) (length text) _ _ script refl is
 
 -- a text that is held and spells a script is read as that script
-script-held : (files : Files) (name text : List ℕ) (script : Script) → held files name ≡ Some text → script_of text ≡ Ok script → script_in files name ≡ Ok script
+script-held : (files : Files) (name text : List ℕ) (script : Script) → bytes_under files name ≡ Some text → script_of text ≡ Ok script → script_in files name ≡ Ok script
 unfolding script_in
 script-held files name text script is spelled =
     let few = short text script spelled in
@@ -66,61 +66,61 @@ not-script k e = absurd (let n : 45 ≡ 46 = ap (λ (l : List ℕ). get_or l 4 0
 
 -- a client's file that is held stays held where another client's is stored
 kept-once : (seed k n : ℕ) (files : Files) → k < 2 ^ 64 → n < 2 ^ 64
-    → held files (file_name k) ≡ Some (canonical (made_sound seed k))
-    → held (with_file files (file_name n) (canonical (made_sound seed n))) (file_name k) ≡ Some (canonical (made_sound seed k))
+    → bytes_under files (file_name k) ≡ Some (canonical (made_sound seed k))
+    → bytes_under (with_file files (file_name n) (canonical (made_sound seed n))) (file_name k) ≡ Some (canonical (made_sound seed k))
 kept-once seed k n files few less is =
-    elim (held-with_file files (file_name n) (canonical (made_sound seed n)) (file_name k)) [
+    elim (bytes_under-with_file files (file_name n) (canonical (made_sound seed n)) (file_name k)) [
       | inl same ↦
           subst
-          (λ (j : ℕ). held (with_file files (file_name j) (canonical (made_sound seed j))) (file_name k) ≡ Some (canonical (made_sound seed k)))
-          (file_name-one k n few less same) (held-with_file_same files (file_name k) (canonical (made_sound seed k)))
+          (λ (j : ℕ). bytes_under (with_file files (file_name j) (canonical (made_sound seed j))) (file_name k) ≡ Some (canonical (made_sound seed k)))
+          (file_name-one k n few less same) (bytes_under-with_file_same files (file_name k) (canonical (made_sound seed k)))
       | inr other ↦ other ∙ is
     ]
 
 -- it stays held where those of more clients are stored
 kept : (seed k first count : ℕ) (files : Files) → k < 2 ^ 64 → first + count < 2 ^ 64
-    → held files (file_name k) ≡ Some (canonical (made_sound seed k))
-    → held (with_files (sound_files first (map (made_sound seed) (range_with_len first count))) files) (file_name k) ≡ Some (canonical (made_sound seed k))
+    → bytes_under files (file_name k) ≡ Some (canonical (made_sound seed k))
+    → bytes_under (with_files (sound_files first (map (made_sound seed) (range_with_len first count))) files) (file_name k) ≡ Some (canonical (made_sound seed k))
 kept seed k first zero files few less is = is
 kept seed k first (suc count) files few less is =
     kept seed k (first + 1) count (with_file files (file_name first) (canonical (made_sound seed first))) few (omega (arith, less))
     (kept-once seed k first files few (omega (arith, less)) is)
 
 -- each client's file is held once all are stored
-held-from : (seed first count j : ℕ) (files : Files) → j < count → first + count < 2 ^ 64
-    → held (with_files (sound_files first (map (made_sound seed) (range_with_len first count))) files) (file_name (first + j))
+bytes_under-with_files : (seed first count j : ℕ) (files : Files) → j < count → first + count < 2 ^ 64
+    → bytes_under (with_files (sound_files first (map (made_sound seed) (range_with_len first count))) files) (file_name (first + j))
     ≡ Some (canonical (made_sound seed (first + j)))
-held-from seed first zero j files inside less = absurd (omega (arith, inside))
-held-from seed first (suc count) zero files inside less =
+bytes_under-with_files seed first zero j files inside less = absurd (omega (arith, inside))
+bytes_under-with_files seed first (suc count) zero files inside less =
     let files_then = with_file files (file_name first) (canonical (made_sound seed first)) in
     subst
-    (λ (i : ℕ). held (with_files (sound_files (first + 1) (map (made_sound seed) (range_with_len (first + 1) count))) files_then) (file_name i)
+    (λ (i : ℕ). bytes_under (with_files (sound_files (first + 1) (map (made_sound seed) (range_with_len (first + 1) count))) files_then) (file_name i)
     ≡ Some (canonical (made_sound seed i)))
     (omega arith)
     (kept seed first (first + 1) count files_then (omega (arith, less)) (omega (arith, less))
-    (held-with_file_same files (file_name first) (canonical (made_sound seed first))))
-held-from seed first (suc count) (suc j) files inside less =
+    (bytes_under-with_file_same files (file_name first) (canonical (made_sound seed first))))
+bytes_under-with_files seed first (suc count) (suc j) files inside less =
     let files_then = with_file files (file_name first) (canonical (made_sound seed first)) in
     subst
-    (λ (i : ℕ). held (with_files (sound_files (first + 1) (map (made_sound seed) (range_with_len (first + 1) count))) files_then) (file_name i)
+    (λ (i : ℕ). bytes_under (with_files (sound_files (first + 1) (map (made_sound seed) (range_with_len (first + 1) count))) files_then) (file_name i)
     ≡ Some (canonical (made_sound seed i)))
     (omega arith)
-    (held-from seed (first + 1) count j files_then (omega (arith, inside)) (omega (arith, less)))
+    (bytes_under-with_files seed (first + 1) count j files_then (omega (arith, inside)) (omega (arith, less)))
 
 -- so it is once the script is stored as well
-held-client : (w : Workload) (k : ℕ) (files : Files) → k < w.clients → w.clients ≤ 64
-    → held (with_workload w files) (file_name k) ≡ Some (canonical (made_sound w.seed k))
-held-client w k files inside few =
+bytes_under-with_workload : (w : Workload) (k : ℕ) (files : Files) → k < w.clients → w.clients ≤ 64
+    → bytes_under (with_workload w files) (file_name k) ≡ Some (canonical (made_sound w.seed k))
+bytes_under-with_workload w k files inside few =
     let clients = sound_files 0 (made_sounds w.seed w.clients) in
-    held-with_file_other (with_files clients files) script_name (made_text w.clients w.phases) (file_name k) (not-script k)
-    ∙ subst (λ (i : ℕ). held (with_files clients files) (file_name i) ≡ Some (canonical (made_sound w.seed i))) (omega arith)
-    (held-from w.seed 0 w.clients k files inside (omega (arith, few)))
+    bytes_under-with_file_other (with_files clients files) script_name (made_text w.clients w.phases) (file_name k) (not-script k)
+    ∙ subst (λ (i : ℕ). bytes_under (with_files clients files) (file_name i) ≡ Some (canonical (made_sound w.seed i))) (omega arith)
+    (bytes_under-with_files w.seed 0 w.clients k files inside (omega (arith, few)))
 
 -- ---- what is read of them
 
 -- a file is held that is read as its sound
 pub record IsReadable (files : Files) (name : List ℕ) (sound : Sound) : Type 0 where
-  pub is_held : held files name ≡ Some (canonical sound)
+  pub is_held : bytes_under files name ≡ Some (canonical sound)
   pub back : IsReadBack sound
   pub size : length (canonical sound) ≡ 16428
 
@@ -180,13 +180,13 @@ input-made w is spelled made back files =
     let all : Files = with_workload w files in
     let script : Script = made_script w.clients w.phases in
     let readable : (j : ℕ) → j < w.clients → IsReadable all (file_name (0 + j)) (made_sound w.seed (0 + j)) = λ j inside. record {
-      is_held = subst (λ (k : ℕ). held all (file_name k) ≡ Some (canonical (made_sound w.seed k))) (omega arith) (held-client w j files inside is.few_clients);
+      is_held = subst (λ (k : ℕ). bytes_under all (file_name k) ≡ Some (canonical (made_sound w.seed k))) (omega arith) (bytes_under-with_workload w j files inside is.few_clients);
       back = of-client IsReadBack w.seed w.clients j back inside;
       size = length-made (made_sound w.seed (0 + j)) (of-client IsMadeSound w.seed w.clients j made inside);
     } in
     ap
     (λ (r : Result Script Cause). r >>= λ (s : Script). capture_in all s.card.capture >>= λ (capture : Option Sound × ℕ). sounds_in all capture.1 s.card s.clients >>= λ (sounds : List Sound). Ok (run_input s capture.0 sounds))
     (script-held all script_name (made_text w.clients w.phases) script
-    (held-with_file_same (with_files (sound_files 0 (made_sounds w.seed w.clients)) files) script_name (made_text w.clients w.phases)) spelled)
+    (bytes_under-with_file_same (with_files (sound_files 0 (made_sounds w.seed w.clients)) files) script_name (made_text w.clients w.phases)) spelled)
     ∙ ap (λ (r : Result (List Sound) Cause). r >>= λ (sounds : List Sound). Ok (run_input script None sounds))
     (sounds-held all script.card w.seed 0 w.clients 0 readable (let few = is.few_clients in omega (arith, few)))

@@ -4,12 +4,12 @@ use Rattle.mix_core.specs.declared.port.Position.{Position}
 use Rattle.sum_table.specs.declared.seats.mix.MixSeat.{MixSeat}
 use Rattle.sum_table.specs.declared.seats.player.PlayerSeat.{PlayerSeat}
 use Rattle.sum_table.specs.declared.view.Key.{Key}
-use Rattle.sum_table.specs.Seats.{Goes, TableId}
+use Rattle.sum_table.specs.Seats.{IsLaterSeat, TableId}
 use Rattle.lobby.specs.Loads.{HasLoaded, HasLoadedBeside}
 use Rattle.lobby.specs.Seats.{IsPlace}
 
 -- a seat that did something is still that of its place
-IsPlace-goes : (ring : TableId) (key : Key) (place : ℕ) (s t : MixSeat) → Goes s t → IsPlace ring key place s → IsPlace ring key place t
+IsPlace-goes : (ring : TableId) (key : Key) (place : ℕ) (s t : MixSeat) → IsLaterSeat s t → IsPlace ring key place s → IsPlace ring key place t
 IsPlace-goes ring key place s t goes is = record {
   of_ring = goes.ring ∙ is.of_ring;
   of_key = goes.key ∙ is.of_key;

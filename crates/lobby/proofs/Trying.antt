@@ -5,12 +5,12 @@ use Rattle.std.proofs.lemmas.List.{get_or_append_left, length-append}
 use Rattle.std.proofs.lemmas.List.Elements.{All-push}
 use Rattle.sum_table.specs.declared.seats.mix.MixSeat.{MixSeat}
 use Rattle.sum_table.specs.Joins.{OneRing}
-use Rattle.sum_table.specs.Seats.{Goes, Goes-same, key_of, ring_of}
+use Rattle.sum_table.specs.Seats.{IsLaterSeat, IsLaterSeat-same, key_of, ring_of}
 use Rattle.lobby.specs.declared.lobby.Lobby.{Lobby}
 use Rattle.lobby.specs.Lobbies.{GoesOn, IsSilentSeat, key_of_lobby, ring_of_lobby}
 
-pub stays : (s : MixSeat) → Goes s s
-stays s = Goes-same s
+pub stays : (s : MixSeat) → IsLaterSeat s s
+stays s = IsLaterSeat-same s
 
 -- a seat is of a lobby's ring
 abbrev pub IsOfLobby : Lobby → MixSeat → Type 0
@@ -31,7 +31,7 @@ seats_out l m p xs ys s b goes were silent is = subst (All (IsOfLobby m)) (sym i
   by_room false = before
 
 -- a seat that is out was used, and put back behind the others, whether or not there was room
-pub seat_put_back : (l : Lobby) (xs ys zs : List MixSeat) (s t : MixSeat) (b : Bool) → All (IsOfLobby l) xs → xs ≡ ys ++ s ∷ [] → Goes s t
+pub seat_put_back : (l : Lobby) (xs ys zs : List MixSeat) (s t : MixSeat) (b : Bool) → All (IsOfLobby l) xs → xs ≡ ys ++ s ∷ [] → IsLaterSeat s t
     → zs ≡ cond b (ys ++ t ∷ []) ys → All (IsOfLobby l) zs
 seat_put_back l xs ys zs s t b were parts goes is = subst (All (IsOfLobby l)) (sym is) (by_room b) where
   all : All (IsOfLobby l) (ys ++ s ∷ [])

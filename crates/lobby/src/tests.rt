@@ -3,7 +3,7 @@ ghost use Rattle.std.specs.Prelude.{◌≡◌, ◌≤◌, All, IfOk};
 ghost use Rattle.sum_table.specs.Joins.{OneRing};
 ghost use Rattle.sum_table.specs.Players.{player_key, player_ring};
 ghost use Rattle.sum_table.specs.Rings.{GaveNone, key_of_ring};
-ghost use Rattle.sum_table.specs.Seats.{Goes, key_of, ring_of};
+ghost use Rattle.sum_table.specs.Seats.{IsLaterSeat, key_of, ring_of};
 ghost use Rattle.lobby.specs.Lobbies.{key_of_lobby, places_of_lobby, ring_of_lobby};
 
 mod threads;
@@ -36,7 +36,7 @@ fn new_ring(alloc: Global, channels: u8, first_lap: u32, places: u32) -> Result<
 // Lays a sample where the seat may, as seen at run time, and says whether it was laid in time.
 #[tactic(auto, using(crate::proofs::Trying::stays))]
 fn try_lay(seat: &mut MixSeat<'_>, frame: u64, channel: u8, sample: i16) -> bool
-    ensures { Goes seat.old seat.new }
+    ensures { IsLaterSeat seat.old seat.new }
 {
     let geometry = seat.geometry();
     if !seat.can_add() || channel >= geometry.channels || geometry.lap(frame) >= 4294967295 {
@@ -51,7 +51,7 @@ fn try_lay(seat: &mut MixSeat<'_>, frame: u64, channel: u8, sample: i16) -> bool
 
 // Lays a sample in each of some frames, in channel 0, and says whether all were laid in time.
 fn lay_frames(seat: &mut MixSeat<'_>, first: u64, count: u64, sample: i16) -> bool
-    ensures { Goes seat.old seat.new }
+    ensures { IsLaterSeat seat.old seat.new }
 {
     for frame in first..first.saturating_add(count) {
         if !try_lay(seat, frame, 0, sample) {

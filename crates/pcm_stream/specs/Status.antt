@@ -13,8 +13,8 @@ use Rattle.pcm_stream.specs.declared.status.Status.{Status}
 use Rattle.pcm_stream.specs.Direction.{is_capture}
 
 -- a stream that was just opened
-abbrev pub opened : Status
-opened = record { state = state.Open; stopped = false }
+abbrev pub at_open : Status
+at_open = record { state = state.Open; stopped = false }
 
 -- the stream in another state
 abbrev pub in_state : Status → State → Status

@@ -15,11 +15,11 @@ pub struct Status {
 }
 
 impl Status {
-    ghost use Rattle.pcm_stream.specs.Status.{in_state, is_moving, opened, refusal_of, refused_by, stopped_in};
+    ghost use Rattle.pcm_stream.specs.Status.{in_state, is_moving, at_open, refusal_of, refused_by, stopped_in};
 
     /// A stream that was just opened.
-    pub fn opened() -> Status
-        ensures { result ≡ opened }
+    pub fn at_open() -> Status
+        ensures { result ≡ at_open }
     {
         Status {
             state: State::Open,

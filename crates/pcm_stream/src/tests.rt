@@ -23,7 +23,7 @@ const STEREO: Config = Config {
 };
 
 fn status_in(state: State) -> Status {
-    Status::opened().in_state(state)
+    Status::at_open().in_state(state)
 }
 
 // A stream that its gate has stopped refuses each call so, also where the card is gone.

@@ -4,7 +4,7 @@ use Rattle.std.proofs.Math.Seq.{get_or-append_seam}
 use Rattle.std.proofs.lemmas.List.{append-nil}
 use Rattle.std.specs.Prelude.{slice_index_or}
 use Rattle.plug_chain.specs.declared.interpolation.Course.{Course}
-use Rattle.plug_chain.specs.Courses.{Goes}
+use Rattle.plug_chain.specs.Courses.{IsAdvance}
 use Rattle.plug_chain.specs.Growth.{Appends, Extends}
 use Rattle.plug_chain.specs.Held.{samples_of}
 use Rattle.plug_chain.specs.Rates.{AreRates, IsAt, IsUnderway, RatePair, known, known_count, output_count, output_frame, output_frames, resampled, silence}
@@ -79,10 +79,10 @@ IsUnderway-more r all before place next old mid new frame underway is grown move
 }
 
 -- all that one more frame makes known is appended
-pub Goes-one : (r : RatePair) (channels : ℕ) (frames : List (List ℤ)) (x : List ℤ) (course : Course) (place : ℕ) (old new : List ℤ) → AreRates r
+pub IsAdvance-one : (r : RatePair) (channels : ℕ) (frames : List (List ℤ)) (x : List ℤ) (course : Course) (place : ℕ) (old new : List ℤ) → AreRates r
     → IsUnderway r (frames ++ x ∷ []) (length frames) place old new → r.output < place → place ≤ r.input + r.output
-    → samples_of course.last ≡ x → course.place + r.output ≡ place → Goes r channels frames (frames ++ x ∷ []) course old new
-Goes-one r channels frames x course place old new rates underway past near last_is place_is =
+    → samples_of course.last ≡ x → course.place + r.output ≡ place → IsAdvance r channels frames (frames ++ x ∷ []) course old new
+IsAdvance-one r channels frames x course place old new rates underway past near last_is place_is =
     let many : length (frames ++ x ∷ []) ≡ suc (length frames) = omega (arith, length-append frames (x ∷ [])) in
     let behind : length (frames ++ x ∷ []) - 1 ≡ length frames = omega (arith, many) in
     let count : known_count r (length (frames ++ x ∷ [])) ≡ known_count r (length frames) + underway.count =
@@ -116,13 +116,13 @@ Appends-end r frames place old new rates underway past near =
     }
 
 -- no frame more, and some frames more after others
-pub Goes-none : (r : RatePair) (channels : ℕ) (frames : List (List ℤ)) (course : Course) (old : List ℤ) → IsAt r channels frames (samples_of course.last) course.place
-    → Goes r channels frames frames course old old
-Goes-none r channels frames course old at = record { at = at; appends = Appends-none (known r frames) old }
+pub IsAdvance-none : (r : RatePair) (channels : ℕ) (frames : List (List ℤ)) (course : Course) (old : List ℤ) → IsAt r channels frames (samples_of course.last) course.place
+    → IsAdvance r channels frames frames course old old
+IsAdvance-none r channels frames course old at = record { at = at; appends = Appends-none (known r frames) old }
 
-pub Goes-trans : (r : RatePair) (channels : ℕ) (a b c : List (List ℤ)) (start course : Course) (old mid new : List ℤ) → Goes r channels a b start old mid → Goes r channels b c course mid new
-    → Goes r channels a c course old new
-Goes-trans r channels a b c start course old mid new first second = record {
+pub IsAdvance-trans : (r : RatePair) (channels : ℕ) (a b c : List (List ℤ)) (start course : Course) (old mid new : List ℤ) → IsAdvance r channels a b start old mid → IsAdvance r channels b c course mid new
+    → IsAdvance r channels a c course old new
+IsAdvance-trans r channels a b c start course old mid new first second = record {
   at = second.at;
   appends = Appends-trans (known r a) (known r b) (known r c) old mid new first.appends second.appends;
 }

@@ -10,7 +10,7 @@ use Rattle.plug_chain.specs.declared.converter.Progress.{Progress}
 use Rattle.plug_chain.specs.declared.interpolation.Course.{Course}
 use Rattle.plug_chain.specs.declared.wide.Wide.{Wide}
 use Rattle.plug_chain.specs.declared.wide.Wide.TheVariants.{S8, U8, S16Le, S16Be, S24Packed, S32Le}
-use Rattle.plug_chain.specs.Courses.{Advances, Goes}
+use Rattle.plug_chain.specs.Courses.{Advances, IsAdvance}
 use Rattle.plug_chain.specs.Frames.{Conversion, frame_bytes, frame_of, frames_of, rest_of, samples_in}
 use Rattle.plug_chain.specs.Growth.{Appends}
 use Rattle.plug_chain.specs.Held.{part_of, samples_of}
@@ -19,7 +19,7 @@ use Rattle.plug_chain.specs.Rates.{IsAt, RatePair, known}
 use Rattle.plug_chain.specs.Samples.{bytes_of}
 use Rattle.plug_chain.specs.Tables.{ChannelTable, IsTable, mixed, output_channel}
 use Rattle.plug_chain.specs.Views.{conversion_of, stage_of}
-use Rattle.plug_chain.proofs.Courses.{Goes-none, Goes-trans}
+use Rattle.plug_chain.proofs.Courses.{IsAdvance-none, IsAdvance-trans}
 use Rattle.plug_chain.proofs.Cuts.{frames_of-append, frames_of-front, frames_of-short, rest_of-append, rest_of-front, rest_of-short}
 
 -- two facts of what was returned
@@ -58,15 +58,15 @@ length-mixed t samples = length-map-range_with_len (output_channel t samples) 0 
 -- ---- more frames
 
 pub Advances-none : (r : RatePair) (channels : ℕ) (course : Course) (old : List ℤ) → Advances r channels [] course course old old
-Advances-none r channels course old = λ frames at. subst (λ (xs : List (List ℤ)). Goes r channels frames xs course old old) (sym (append-nil frames)) (Goes-none r channels frames course old at)
+Advances-none r channels course old = λ frames at. subst (λ (xs : List (List ℤ)). IsAdvance r channels frames xs course old old) (sym (append-nil frames)) (IsAdvance-none r channels frames course old at)
 
 pub Advances-trans : (r : RatePair) (channels : ℕ) (first : List ℤ) (more : List (List ℤ)) (start middle course : Course) (old mid new : List ℤ)
     → Advances r channels (first ∷ []) start middle old mid → Advances r channels more middle course mid new → Advances r channels (first ∷ more) start course old new
 Advances-trans r channels first more start middle course old mid new one rest = λ frames at.
     let first_goes = one frames at in
     let rest_goes = rest (frames ++ first ∷ []) first_goes.at in
-    subst (λ (xs : List (List ℤ)). Goes r channels frames xs course old new) (append_assoc frames (first ∷ []) more)
-    (Goes-trans r channels frames (frames ++ first ∷ []) ((frames ++ first ∷ []) ++ more) middle course old mid new first_goes rest_goes)
+    subst (λ (xs : List (List ℤ)). IsAdvance r channels frames xs course old new) (append_assoc frames (first ∷ []) more)
+    (IsAdvance-trans r channels frames (frames ++ first ∷ []) ((frames ++ first ∷ []) ++ more) middle course old mid new first_goes rest_goes)
 
 -- ---- more bytes
 

@@ -17,12 +17,12 @@ use Rattle.snoop_core.specs.Port.{Gets, SnoopView, frame_of}
 use Rattle.snoop_core.specs.Word.{laps_of, sample_of}
 use Rattle.snoop_table.specs.declared.seats.reader.ReaderSeat.{ReaderSeat}
 use Rattle.snoop_table.specs.declared.view.View.{View}
-use Rattle.snoop_table.specs.Readers.{Goes, Goes-joined, HasLooked, SeatFinds, SeatGot, SeatLoaded, seat_view, shown, view_of}
+use Rattle.snoop_table.specs.Readers.{IsLaterSeat, IsLaterSeat-joined, HasLooked, SeatFinds, SeatGot, SeatLoaded, seat_view, shown, view_of}
 use Rattle.snoop_table.specs.Steps.{IsNext, samples_before, with_note, with_sample}
 
 -- the channels of a frame before one were loaded, each with the frame's own lap
 pub record IsFetching (s t : ReaderSeat) (f c : ℕ) (out : List ℤ) : Type 0 where
-  pub goes : Goes s t
+  pub goes : IsLaterSeat s t
   pub seen : t.seen ≡ s.seen
   pub positions : (view_of t).positions ≡ (view_of s).positions
   pub seen_gone : (view_of t).seen_gone ≡ (view_of s).seen_gone
@@ -86,7 +86,7 @@ fetching-more s t u f c n out x l in_range looked own is =
     let got : (view_of u).got ≡ cond (c + 1 == v.geometry.channels) (v.got ++ frame_of f (take (c + 1) outs) ∷ []) v.got =
     ap (λ (y : View). y.got) view ∙ ap (λ xs. cond (c + 1 == v.geometry.channels) (v.got ++ frame_of f xs ∷ []) v.got) samples in
     record {
-      goes = Goes-joined s t u l.goes looked.goes;
+      goes = IsLaterSeat-joined s t u l.goes looked.goes;
       seen = looked.seen ∙ l.seen;
       positions = ap (λ (y : View). y.positions) view ∙ l.positions;
       seen_gone = ap (λ (y : View). y.seen_gone) view ∙ l.seen_gone;
@@ -154,7 +154,7 @@ pub gets-overtaken : {T : Type 0} (stops : T → ℕ) (asked : T → T → List 
 gets-overtaken stops asked s t u g h f c n out l in_range looked other asks told =
     let lap_is : lap t.geometry f ≡ lap s.geometry f = ap (λ (k : Geometry). lap k f) l.goes.geometry in
     let view = looked.other (λ e. other (e ∙ ap (λ k. k + 1) lap_is)) in
-    let goes : Goes s u = Goes-joined s t u l.goes looked.goes in
+    let goes : IsLaterSeat s u = IsLaterSeat-joined s t u l.goes looked.goes in
     let seen : u.seen ≡ s.seen = looked.seen ∙ l.seen in
     let geometry : (view_of t).geometry ≡ s.geometry = t.known.same_geometry ∙ l.goes.geometry in
     let past : lap s.geometry f + 1 < laps_of n = omega (arith, looked.found.not_before, ap (λ (k : Geometry). lap k f) geometry, other) in

@@ -52,14 +52,14 @@ abbrev pub SameReader : ReaderSeat → ReaderSeat → Type 0
 SameReader s t = (ring_of t ≡ ring_of s) × (t.geometry ≡ s.geometry)
 
 -- a seat of one ring, later, which met no other seat in between: none of its noted words falls
-pub record Goes (s t : ReaderSeat) : Type 0 where
+pub record IsLaterSeat (s t : ReaderSeat) : Type 0 where
   pub ring : ring_of t ≡ ring_of s
   pub geometry : t.geometry ≡ s.geometry
   pub notes : NeverFall (view_of s).noted (view_of t).noted
 
 -- a seat got some frames: the list of those that it got has them at its end
 pub record SeatGot (s t : ReaderSeat) (fs : List Frame) : Type 0 where
-  pub goes : Goes s t
+  pub goes : IsLaterSeat s t
   pub got : (view_of t).got ≡ (view_of s).got ++ fs
 
 -- a seat loaded some positions: the list of those that it saw has them at its end, they never fall, and the last of them is
@@ -78,7 +78,7 @@ SeatFinds s t f end = ⊤
 
 -- a position was loaded, which is not before the one seen before
 pub record HasLocated (s t : ReaderSeat) (p : Position) : Type 0 where
-  pub goes : Goes s t
+  pub goes : IsLaterSeat s t
   pub view : view_of t ≡ with_position (view_of s) p.frame p.gone
   pub seen : t.seen ≡ p.frame
   pub not_before : s.seen ≤ p.frame
@@ -87,18 +87,18 @@ pub record HasLocated (s t : ReaderSeat) (p : Position) : Type 0 where
 
 -- the word of a frame and channel was found, and noted; where it has the frame's lap, it is the frame's sample
 pub record HasLooked (s t : ReaderSeat) (f c n : ℕ) : Type 0 where
-  pub goes : Goes s t
+  pub goes : IsLaterSeat s t
   pub own : laps_of n ≡ lap s.geometry f + 1 → view_of t ≡ with_sample (with_note (view_of s) (index_of s.geometry f c) n) f c (sample_of n)
   pub other : laps_of n ≢ lap s.geometry f + 1 → view_of t ≡ with_note (view_of s) (index_of s.geometry f c) n
   pub seen : t.seen ≡ s.seen
   pub shows : shown t f c ≡ Some n
   pub found : Finds (view_of s) f c n
 
-pub Goes-same : (s : ReaderSeat) → Goes s s
-Goes-same s = record { ring = refl; geometry = refl; notes = NeverFall-same (view_of s).noted (view_of s).noted refl }
+pub IsLaterSeat-same : (s : ReaderSeat) → IsLaterSeat s s
+IsLaterSeat-same s = record { ring = refl; geometry = refl; notes = NeverFall-same (view_of s).noted (view_of s).noted refl }
 
-pub Goes-joined : (p q r : ReaderSeat) → Goes p q → Goes q r → Goes p r
-Goes-joined p q r first then = record {
+pub IsLaterSeat-joined : (p q r : ReaderSeat) → IsLaterSeat p q → IsLaterSeat q r → IsLaterSeat p r
+IsLaterSeat-joined p q r first then = record {
   ring = then.ring ∙ first.ring;
   geometry = then.geometry ∙ first.geometry;
   notes = NeverFall-joined (view_of p).noted (view_of q).noted (view_of r).noted first.notes then.notes;
@@ -106,9 +106,9 @@ Goes-joined p q r first then = record {
 
 pub SeatGot-composes : Composes SeatGot
 SeatGot-composes = record {
-  none = λ s. record { goes = Goes-same s; got = sym (append-nil (view_of s).got) };
+  none = λ s. record { goes = IsLaterSeat-same s; got = sym (append-nil (view_of s).got) };
   joined = λ p q r xs ys first then. record {
-    goes = Goes-joined p q r first.goes then.goes;
+    goes = IsLaterSeat-joined p q r first.goes then.goes;
     got = then.got ∙ (ap (λ fs. fs ++ ys) first.got ∙ append_assoc (view_of p).got xs ys);
   };
 }

@@ -5,7 +5,7 @@ use Rattle.sum_table.specs.declared.seats.mix.MixSeat.{MixSeat}
 use Rattle.std.proofs.lemmas.List.{append-nil}
 use Rattle.sum_table.specs.declared.seats.player.PlayerSeat.{PlayerSeat}
 use Rattle.sum_table.specs.Players.{PlayerGoes, player_view}
-use Rattle.sum_table.specs.Seats.{BeginsWith-trans, Goes}
+use Rattle.sum_table.specs.Seats.{BeginsWith-trans, IsLaterSeat}
 
 pub player_stays : (p : PlayerSeat) → PlayerGoes p p
 player_stays p = record { ring = refl; key = refl; history = ([], sym (append-nil (player_view p).history)) }
@@ -22,7 +22,7 @@ pub player_same : (p q r : PlayerSeat) → PlayerGoes p q → r ≡ q → Player
 player_same p q r first same = subst (λ s. PlayerGoes p s) (sym same) first
 
 -- a seat that tried to lay, whether or not the lap of the frame fits a word
-pub seat_goes : (s t : MixSeat) (lap : ℕ) → (lap < 4294967295 → Goes s t) → (4294967295 ≤ lap → Goes s t) → Goes s t
+pub seat_goes : (s t : MixSeat) (lap : ℕ) → (lap < 4294967295 → IsLaterSeat s t) → (4294967295 ≤ lap → IsLaterSeat s t) → IsLaterSeat s t
 seat_goes s t lap fits ends = elim (cases_lt lap 4294967295) [
   | inl below ↦ fits below
   | inr past ↦ ends (omega (arith, past))

@@ -3,7 +3,7 @@ ghost use Rattle.std.specs.Prelude.{◌≡◌, ℕ, ◌+◌, ◌<◌, ◌≤◌,
 ghost use Rattle.snd_base.specs.Places.{IsFrom};
 ghost use Rattle.sum_table.specs.Players.{PlayerGoes};
 ghost use Rattle.sum_table.specs.Rings.{GaveNone, key_of_ring};
-ghost use Rattle.sum_table.specs.Seats.{CanAdd, Goes, cursor_of_seat, geometry_of, seen_of};
+ghost use Rattle.sum_table.specs.Seats.{CanAdd, IsLaterSeat, cursor_of_seat, geometry_of, seen_of};
 
 use mix_core::{MixPort, NeverStops, Placed};
 use snd_base::Geometry;
@@ -71,7 +71,7 @@ fn lay_word(seat: &mut MixSeat<'_>, frame: u64, channel: u8) -> u64
     requires channel { channel < (geometry_of seat.old).channels }
     requires from_cursor { IsFrom (cursor_of_seat seat.old) frame channel }
     requires ahead { frame < seen_of seat.old + (geometry_of seat.old).frames }
-    ensures goes { Goes seat.old seat.new }
+    ensures goes { IsLaterSeat seat.old seat.new }
     ensures seen { seen_of seat.new ≡ seen_of seat.old }
     ensures next_channels { (c : ℕ) → channel < c → c < (geometry_of seat.old).channels → IsFrom (cursor_of_seat seat.new) frame c }
     ensures next_frame { IsFrom (cursor_of_seat seat.new) (frame + 1) 0 }
@@ -90,7 +90,7 @@ fn lay_frame(seat: &mut MixSeat<'_>, frame: u64, channels: u8) -> u64
     requires can_add { CanAdd seat.old }
     requires from_cursor { IsFrom (cursor_of_seat seat.old) frame 0 }
     requires ahead { frame < seen_of seat.old + (geometry_of seat.old).frames }
-    ensures goes { Goes seat.old seat.new }
+    ensures goes { IsLaterSeat seat.old seat.new }
     ensures seen { seen_of seat.new ≡ seen_of seat.old }
     ensures next_frame { IsFrom (cursor_of_seat seat.new) (frame + 1) 0 }
     ensures few { result ≤ 8 }
@@ -116,7 +116,7 @@ fn can_lay(seat: &MixSeat<'_>, first: u64, end: u64) -> bool
 /// seat has seen, and answers how many samples were laid: 0 where the seat may not lay in all of them.
 #[inline(always)]
 pub(crate) fn lay(seat: &mut MixSeat<'_>, offset: u32, count: u32) -> u64
-    ensures { Goes seat.old seat.new }
+    ensures { IsLaterSeat seat.old seat.new }
 {
     let first = seat.seen() + offset as u64;
     let end = first + count as u64;

@@ -7,10 +7,10 @@ use Rattle.mix_core.specs.declared.port.Placed.TheVariants.{In, Late}
 use Rattle.mix_core.specs.Port.{OnWhole, ended_of}
 use Rattle.mix_core.specs.Laid.{AreAdds, an_add, standing}
 use Rattle.sum_table.specs.declared.seats.mix.MixSeat.{MixSeat}
-use Rattle.sum_table.specs.Seats.{Goes, Goes-same, SeatEndsIn, SeatEndsIn-laid, SeatLaid, view_of}
+use Rattle.sum_table.specs.Seats.{IsLaterSeat, IsLaterSeat-same, SeatEndsIn, SeatEndsIn-laid, SeatLaid, view_of}
 
-pub stays : (s : MixSeat) → Goes s s
-stays s = Goes-same s
+pub stays : (s : MixSeat) → IsLaterSeat s s
+stays s = IsLaterSeat-same s
 
 one_add : (m f c : ℕ) (x : ℤ) → AreAdds (an_add m f c x ∷ [])
 one_add m f c x = (refl, tt)

@@ -25,7 +25,7 @@ use Rattle.sum_table.specs.declared.view.Key.{Key}
 use Rattle.sum_table.specs.declared.view.View.{View}
 use Rattle.sum_table.specs.Exact.{BeginsWith}
 use Rattle.sum_table.specs.Laid.{by_member}
-use Rattle.sum_table.specs.Seats.{Goes, Goes-joined, Goes-same, HasLaid, HasLost, HasNoted, LaysCounted, MakesIn, MakesLate, MayLay, SeatLaid, SeatLays, SeatLoaded, SeatLoaded-composes, entry_by, seat_view, shown, view_of}
+use Rattle.sum_table.specs.Seats.{IsLaterSeat, IsLaterSeat-joined, IsLaterSeat-same, HasLaid, HasLost, HasNoted, LaysCounted, MakesIn, MakesLate, MayLay, SeatLaid, SeatLays, SeatLoaded, SeatLoaded-composes, entry_by, seat_view, shown, view_of}
 use Rattle.sum_table.specs.Steps.{HoldsLast, IsLateAt, IsLateHeld, IsStep, Makes, MakesLook, MayStand, Tells, in_row, sighting}
 use Rattle.ring_rule.specs.Words.{index_of, rank}
 use Rattle.sum_table.proofs.Rows.{BeginsWith-same}
@@ -42,17 +42,17 @@ step_since u v w by members between rows same begins is = record {
   own_adds = is.own_adds;
 }
 
-same_view_key : (s t : MixSeat) → Goes s t → (view_of t).key ≡ (view_of s).key
+same_view_key : (s t : MixSeat) → IsLaterSeat s t → (view_of t).key ≡ (view_of s).key
 same_view_key s t goes = t.known.same_key ∙ (goes.key ∙ sym s.known.same_key)
 
 -- an entry was laid at last
-pub in_made : (s t u : MixSeat) (e : Entry) → Goes s t → HasLaid t u e → MakesIn s u e
+pub in_made : (s t u : MixSeat) (e : Entry) → IsLaterSeat s t → HasLaid t u e → MakesIn s u e
 in_made s t u e goes laid =
     let made : Makes (view_of t) (view_of u) (λ by. in_row by e ∷ []) = laid.event in
     (made.0, made.1, goes.history.0 ++ made.2, step_since (view_of s) (view_of t) (view_of u) made.0 made.1 made.2 (in_row made.0 e ∷ []) (same_view_key s t goes) goes.history made.3)
 
 -- a word of a later lap was found at last
-pub late_made : (s t u : MixSeat) (n : ℕ) (e : Entry) → Goes s t → t.reach.marks ≡ s.reach.marks → t.seen ≡ s.seen → HasNoted t u e.frame e.channel n → e.kind ≡ Added
+pub late_made : (s t u : MixSeat) (n : ℕ) (e : Entry) → IsLaterSeat s t → t.reach.marks ≡ s.reach.marks → t.seen ≡ s.seen → HasNoted t u e.frame e.channel n → e.kind ≡ Added
     → e.channel < s.key.geometry.channels → IsFrom s.reach.marks.cursor e.frame e.channel → e.frame < s.seen + s.key.geometry.frames → lap s.key.geometry e.frame < lap_of n
     → MakesLate s u e
 late_made s t u n e goes marks seen noted kind channel from ahead past =
@@ -76,7 +76,7 @@ late_made s t u n e goes marks seen noted kind channel from ahead past =
     )
 
 -- a word of a later lap was found at last where the seat's last standing add is
-pub late_back : (s t u : MixSeat) (n : ℕ) (e : Entry) → Goes s t → HoldsLast (view_of t) e.frame e.channel e.sample → HasNoted t u e.frame e.channel n → e.kind ≡ Withdrawn
+pub late_back : (s t u : MixSeat) (n : ℕ) (e : Entry) → IsLaterSeat s t → HoldsLast (view_of t) e.frame e.channel e.sample → HasNoted t u e.frame e.channel n → e.kind ≡ Withdrawn
     → lap s.key.geometry e.frame < lap_of n → MakesLate s u e
 late_back s t u n e goes holds noted kind past =
     let own : s.key ≡ (view_of t).key = sym (t.known.same_key ∙ goes.key) in
@@ -156,7 +156,7 @@ holds_on s t f c sample laid marks holds = record {
   from_floor = subst (λ (x : Marks). IsFrom x.floor f c) (s.known.same_marks ∙ (sym marks ∙ sym t.known.same_marks)) holds.from_floor;
 }
 
-pub at_on : (s t : MixSeat) (f c : ℕ) → Goes s t → (view_of t).laid ≡ (view_of s).laid → t.reach.marks ≡ s.reach.marks → t.seen ≡ s.seen → IsAt s f c → IsAt t f c
+pub at_on : (s t : MixSeat) (f c : ℕ) → IsLaterSeat s t → (view_of t).laid ≡ (view_of s).laid → t.reach.marks ≡ s.reach.marks → t.seen ≡ s.seen → IsAt s f c → IsAt t f c
 at_on s t f c goes laid marks seen at_it =
     let own : s.key ≡ t.key = sym goes.key in
     record {
@@ -175,7 +175,7 @@ rank-fields w fits = rank-of w (lap_of w) (count_of w) (sum_of w) (StandsFor-of 
 
 -- a seat only found some words at a frame and channel: it laid nothing, and loaded no position
 pub record HasFound (s t : MixSeat) (f c : ℕ) (words : List ℕ) : Type 0 where
-  pub goes : Goes s t
+  pub goes : IsLaterSeat s t
   pub laid : (view_of t).laid ≡ (view_of s).laid
   pub mine : (view_of t).mine ≡ (view_of s).mine
   pub positions : (view_of t).positions ≡ (view_of s).positions
@@ -186,7 +186,7 @@ pub record HasFound (s t : MixSeat) (f c : ℕ) (words : List ℕ) : Type 0 wher
 
 pub found_none : (s : MixSeat) (f c : ℕ) → HasFound s s f c []
 found_none s f c = record {
-  goes = Goes-same s;
+  goes = IsLaterSeat-same s;
   laid = refl;
   mine = refl;
   positions = refl;
@@ -201,7 +201,7 @@ found_more s t u f c n words is noted =
     let i : ℕ = index_of s.key.geometry f c in
     let same : index_of t.key.geometry f c ≡ i = ap (λ (k : Key). index_of k.geometry f c) is.goes.key in
     record {
-      goes = Goes-joined s t u is.goes noted.goes;
+      goes = IsLaterSeat-joined s t u is.goes noted.goes;
       laid = ap (λ (x : View). x.laid) noted.view ∙ is.laid;
       mine = ap (λ (x : View). x.mine) noted.view ∙ is.mine;
       positions = ap (λ (x : View). x.positions) noted.view ∙ is.positions;
@@ -335,7 +335,7 @@ one_laid s t u f c words e is laid =
     let made : MakesIn s u e = in_made s t u e is.goes laid in
     let step : IsStep (view_of s) (view_of u) made.0 made.1 made.2 (in_row made.0 e ∷ []) = made.3 in
     record {
-      goes = Goes-joined s t u is.goes laid.goes;
+      goes = IsLaterSeat-joined s t u is.goes laid.goes;
       marks = laid.marks ∙ (ap (λ (k : Key). marks_after k.geometry t.reach.marks e) is.goes.key ∙ ap (λ m. marks_after s.key.geometry m e) is.marks);
       laid = ap (λ (x : View). x.laid) laid.view ∙ ap (λ es. es ++ e ∷ []) is.laid;
       mine = mine;
@@ -357,7 +357,7 @@ port_view g m can marks seen = record { geometry = g; member = m; can_add = can;
 pub view_same : (g k : Geometry) (m n : ℕ) (can may : Bool) (a b : Marks) (p q : ℕ) → g ≡ k → m ≡ n → can ≡ may → a ≡ b → p ≡ q → port_view g m can a p ≡ port_view k n may b q
 view_same g k m n can may a b p q e1 e2 e3 e4 e5 = cc
 
-seat_view_is : (s t : MixSeat) (m : Marks) → Goes s t → t.reach.marks ≡ m → t.seen ≡ s.seen → seat_view t ≡ record (seat_view s) { marks = m }
+seat_view_is : (s t : MixSeat) (m : Marks) → IsLaterSeat s t → t.reach.marks ≡ m → t.seen ≡ s.seen → seat_view t ≡ record (seat_view s) { marks = m }
 seat_view_is s t m goes marks seen =
     view_same _ _ _ _ _ _ _ _ _ _ (ap (λ (k : Key). k.geometry) goes.key) goes.member (ap (λ n. nat_lt 0 n) goes.places) marks seen
 

@@ -109,7 +109,7 @@ NotesRise v w = NeverFall v.noted w.noted
 
 -- a seat of one ring, later, which met no other seat in between: its key and member are the same, it has seen no less of the
 -- ring's history, and none of its noted words falls
-pub record Goes (s t : MixSeat) : Type 0 where
+pub record IsLaterSeat (s t : MixSeat) : Type 0 where
   pub ring : ring_of t ≡ ring_of s
   pub key : t.key ≡ s.key
   pub member : t.member ≡ s.member
@@ -132,7 +132,7 @@ Adds g h mine (e ∷ es) later =
 -- a seat laid some entries: its laid list, and the list of what it laid itself, have them at their end, and so has the
 -- ring's history as far as the seat has seen it; and its marks went on by them
 pub record SeatLaid (s t : MixSeat) (es : List Entry) : Type 0 where
-  pub goes : Goes s t
+  pub goes : IsLaterSeat s t
   pub marks : t.reach.marks ≡ marks_from s.key.geometry s.reach.marks es
   pub laid : (view_of t).laid ≡ (view_of s).laid ++ es
   pub mine : (view_of t).mine ≡ (view_of s).mine ++ es
@@ -151,7 +151,7 @@ pub record SeatLoaded (s t : MixSeat) (ps : List Position) : Type 0 where
 -- a word was found at a frame and channel, and noted; nothing else changed. Where it has the frame's lap, it represents what
 -- the history placed there; where its lap is past the frame's, this was an add with the reply `Late`
 pub record HasNoted (s t : MixSeat) (f c n : ℕ) : Type 0 where
-  pub goes : Goes s t
+  pub goes : IsLaterSeat s t
   pub view : view_of t ≡ with_note (view_of s) (view_of t).history (index_of s.key.geometry f c) n
   pub marks : t.reach.marks ≡ s.reach.marks
   pub seen : t.seen ≡ s.seen
@@ -163,7 +163,7 @@ pub record HasNoted (s t : MixSeat) (f c n : ℕ) : Type 0 where
 
 -- an entry was placed, and the cursor is right after it. This was an add with the reply `In`
 pub record HasLaid (s t : MixSeat) (e : Entry) : Type 0 where
-  pub goes : Goes s t
+  pub goes : IsLaterSeat s t
   pub view : view_of t ≡ with_entry (view_of s) (view_of t).history e
   pub marks : t.reach.marks ≡ marks_after s.key.geometry s.reach.marks e
   pub seen : t.seen ≡ s.seen
@@ -177,7 +177,7 @@ pub record HasLost (s t : MixSeat) (f c old n : ℕ) : Type 0 where
 
 -- a position was loaded, which is not before the one seen before
 pub record HasLocated (s t : MixSeat) (p : Position) : Type 0 where
-  pub goes : Goes s t
+  pub goes : IsLaterSeat s t
   pub view : view_of t ≡ with_position (view_of s) (view_of t).history p.frame p.gone
   pub marks : t.reach.marks ≡ s.reach.marks
   pub seen : t.seen ≡ p.frame
@@ -210,18 +210,18 @@ abbrev pub SeatLays : {T : Type 0} → (T → ℕ) → (T → T → List StepKin
 SeatLays stops asked s g e ended t h = Lays seat_view SeatLaid SeatLoaded shown SeatFinds stops asked s g e ended t h
 
 -- how many of its asks were passed
-abbrev pub passed : Ended → ℕ → ℕ
-passed Whole asks = asks
-passed (Late word) asks = asks
-passed Stopped asks = asks - 1
+abbrev pub pass_count : Ended → ℕ → ℕ
+pass_count Whole asks = asks
+pass_count (Late word) asks = asks
+pass_count Stopped asks = asks - 1
 
 -- the same with a counter of the steps on the ring's words: one for each ask that was passed, a load for the first and an
 -- exchange for each other; and there are at most three exchanges for each place of the ring
 pub record LaysCounted {T : Type 0} (stops : T → ℕ) (asked : T → T → List StepKind → Pass → Type 0)
     (s : MixSeat) (g : T) (before : ℕ) (e : Entry) (ended : Ended) (t : MixSeat) (h : T) (after : ℕ) : Type 0 where
   pub step : SeatLays stops asked s g e ended t h
-  pub counted : after ≡ before + passed ended step.asks
-  pub bound : passed ended step.asks ≤ 1 + 3 * s.key.places
+  pub counted : after ≡ before + pass_count ended step.asks
+  pub bound : pass_count ended step.asks ≤ 1 + 3 * s.key.places
 
 pub BeginsWith-trans : (h j early : List Row) → BeginsWith h j → BeginsWith j early → BeginsWith h early
 BeginsWith-trans h j early late first = (first.0 ++ late.0, late.1 ∙ (ap (λ x. x ++ late.0) first.1 ∙ append_assoc early first.0 late.0))
@@ -232,8 +232,8 @@ NotesRise-same v w same = NeverFall-same v.noted w.noted same
 pub NotesRise-joined : (u v w : View) → NotesRise u v → NotesRise v w → NotesRise u w
 NotesRise-joined u v w first then = NeverFall-joined u.noted v.noted w.noted first then
 
-pub Goes-same : (s : MixSeat) → Goes s s
-Goes-same s = record {
+pub IsLaterSeat-same : (s : MixSeat) → IsLaterSeat s s
+IsLaterSeat-same s = record {
   ring = refl;
   key = refl;
   member = refl;
@@ -243,8 +243,8 @@ Goes-same s = record {
   notes = NotesRise-same (view_of s) (view_of s) refl;
 }
 
-pub Goes-joined : (p q r : MixSeat) → Goes p q → Goes q r → Goes p r
-Goes-joined p q r first then = record {
+pub IsLaterSeat-joined : (p q r : MixSeat) → IsLaterSeat p q → IsLaterSeat q r → IsLaterSeat p r
+IsLaterSeat-joined p q r first then = record {
   ring = then.ring ∙ first.ring;
   key = then.key ∙ first.key;
   member = then.member ∙ first.member;
@@ -285,14 +285,14 @@ Adds-joined g h mine (x ∷ xs) ys j later first then = (
 pub SeatLaid-composes : Composes SeatLaid
 SeatLaid-composes = record {
   none = λ s. record {
-    goes = Goes-same s;
+    goes = IsLaterSeat-same s;
     marks = refl;
     laid = sym (append-nil (view_of s).laid);
     mine = sym (append-nil (view_of s).mine);
     adds = ([], sym (append-nil (view_of s).history));
   };
   joined = λ p q r xs ys first then. record {
-    goes = Goes-joined p q r first.goes then.goes;
+    goes = IsLaterSeat-joined p q r first.goes then.goes;
     marks = then.marks
         ∙ (ap (λ (k : Key). marks_from k.geometry q.reach.marks ys) first.goes.key
         ∙ (ap (λ m. marks_from p.key.geometry m ys) first.marks ∙ sym (fold-append (marks_after p.key.geometry) p.reach.marks xs ys)));

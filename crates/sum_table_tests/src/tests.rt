@@ -3,7 +3,7 @@ ghost use Rattle.sum_table.specs.Rings.{GaveNone, key_of_ring};
 ghost use Rattle.std.specs.Prelude.{[], ◌∷◌, Ok};
 ghost use Rattle.mix_core.specs.Laid.{an_add};
 ghost use Rattle.mix_core.specs.Port.{OnWhole, ended_of};
-ghost use Rattle.sum_table.specs.Seats.{CanAdd, Goes, SeatLaid, member_of, shown};
+ghost use Rattle.sum_table.specs.Seats.{CanAdd, IsLaterSeat, SeatLaid, member_of, shown};
 
 mod threads;
 
@@ -36,7 +36,7 @@ fn new_ring(alloc: Global, channels: u8, places: u32) -> Result<SumRing, Fail>
 // Places a sample where the seat may, as seen at run time.
 #[tactic(auto, using(sum_table::proofs::Going::stays))]
 fn try_place(seat: &mut MixSeat<'_>, frame: u64, channel: u8, sample: i16) -> Result<Placed, Fail>
-    ensures goes { Goes seat.old seat.new }
+    ensures goes { IsLaterSeat seat.old seat.new }
     ensures laid { IfOk result (λ placed. OnWhole (ended_of (Ok placed)) (SeatLaid seat.old seat.new (an_add (member_of seat.old) frame channel sample ∷ []))) }
 {
     let geometry = seat.geometry();

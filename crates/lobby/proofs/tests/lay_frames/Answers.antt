@@ -1,11 +1,11 @@
-use Rattle.sum_table.specs.Seats.{Goes-joined, Goes-same}
+use Rattle.sum_table.specs.Seats.{IsLaterSeat-joined, IsLaterSeat-same}
 use Rattle.lobby.proofs.tests.lay_frames.Goals as goal
 
 pub loop-frame-init : goal.loop-frame-init
-loop-frame-init c = Goes-same c.args.seat.now
+loop-frame-init c = IsLaterSeat-same c.args.seat.now
 
 pub loop-frame-preserved : goal.loop-frame-preserved
-loop-frame-preserved c = Goes-joined c.args.seat.now c.loop-frame.seat c.try_lay.new.seat c.loop-frame.invariant c.try_lay.ensures
+loop-frame-preserved c = IsLaterSeat-joined c.args.seat.now c.loop-frame.seat c.try_lay.new.seat c.loop-frame.invariant c.try_lay.ensures
 
 pub returns-then-not-try_lay : goal.returns-then-not-try_lay
-returns-then-not-try_lay c = Goes-joined c.args.seat.now c.loop-frame.seat c.try_lay.new.seat c.loop-frame.invariant c.try_lay.ensures
+returns-then-not-try_lay c = IsLaterSeat-joined c.args.seat.now c.loop-frame.seat c.try_lay.new.seat c.loop-frame.invariant c.try_lay.ensures

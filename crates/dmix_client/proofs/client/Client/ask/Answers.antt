@@ -3,7 +3,7 @@ use Rattle.std.specs.Prelude.{Ok, Result}
 use Rattle.snd_base.specs.declared.errors.PcmError.{PcmError}
 use Rattle.pcm_states.specs.declared.calls.Call.TheVariants as call
 use Rattle.dmix_client.specs.Asked.{number_of}
-use Rattle.dmix_client.specs.Calls.{Answered, synced}
+use Rattle.dmix_client.specs.Calls.{Answered, after_sync}
 use Rattle.dmix_client.specs.Course.{number_course}
 use Rattle.dmix_client.specs.Growth.{AnySamples, Keeps}
 use Rattle.dmix_client.specs.Port.{CanUse}
@@ -24,7 +24,7 @@ pub returns-clause-causes : goal.returns-clause-causes
 returns-clause-causes g c admitted moves =
     let plain = c.self.inside.plain in
     rw (← c.self.view_is, ← c.as_slice-ring.ensures.value) (Explains-number g.P.MixPort g.G.Gate g.met.P.MixPort.laid_composes g.met.P.MixPort.loaded_composes (c.args.port.now, c.args.gate.now) (c.sync_call-answer.new.port, c.sync_call-answer.new.gate) (client plain c.as_slice-ring.result.now) (λ position. plain) _
-    (synced plain call.Sync) (number_of c.args.asked) (c.sync_call-answer.new.plain, c.sync_call-answer.result) (c.sync_call-answer.new.plain, c.with_number.result) c.with_number.ensures
+    (after_sync plain call.Sync) (number_of c.args.asked) (c.sync_call-answer.new.plain, c.sync_call-answer.result) (c.sync_call-answer.new.plain, c.with_number.result) c.with_number.ensures
     c.sync_call-answer.ensures.explains)
 
 pub returns-then-not-is_moving-clause-keeps : goal.returns-then-not-is_moving-clause-keeps

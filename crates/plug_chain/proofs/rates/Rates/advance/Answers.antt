@@ -1,7 +1,7 @@
 use Rattle.std.proofs.Common.{◌≡◌, ◌≤◌, ◌+◌, ◌-◌, ◌++◌, [], ◌∷◌, refl, ap, ◌∙◌, arith, length}
 use Rattle.plug_chain.specs.Held.{samples_of}
 use Rattle.plug_chain.specs.Rates.{between}
-use Rattle.plug_chain.proofs.Courses.{Extends-refl, Extends-trans, Goes-one, IsUnderway-more, IsUnderway-start}
+use Rattle.plug_chain.proofs.Courses.{Extends-refl, Extends-trans, IsAdvance-one, IsUnderway-more, IsUnderway-start}
 use Rattle.plug_chain.proofs.Places.{output_frame-next}
 use Rattle.plug_chain.proofs.rates.Rates.advance.Goals as goal
 
@@ -37,5 +37,5 @@ loop-course-preserved c =
 
 pub returns-clause-ok : goal.returns-clause-ok
 returns-clause-ok c = λ frames at.
-    Goes-one c.args.self (length (samples_of c.args.next.now)) frames (samples_of c.args.next.now) (record { last = c.args.next.now; place = c.loop-course.course.place - c.from-parts.result }) c.loop-course.course.place
+    IsAdvance-one c.args.self (length (samples_of c.args.next.now)) frames (samples_of c.args.next.now) (record { last = c.args.next.now; place = c.loop-course.course.place - c.from-parts.result }) c.loop-course.course.place
     c.args.out.now.items c.loop-course.out.items c.output.ensures.bound (c.loop-course.invariant.underway frames at) (omega arith) (omega arith) refl (omega arith)
