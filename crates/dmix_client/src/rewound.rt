@@ -6,7 +6,7 @@ ghost use Rattle.dmix_client.specs.Rewind.{back_of, last_channel, last_laid, rew
 
 use crate::commit::Commit;
 use crate::plain::{Plain, Stretch};
-use crate::steps::{Answered, found_at, is_stop, with_outcome, stopped_in};
+use crate::steps::{Answered, found_at, is_stop, stopped_in, with_outcome};
 use mix_core::{Ended, Position};
 use pcm_states::{Call, State, next};
 use snd_base::{Cursor, PcmError, XrunWhy};

@@ -123,7 +123,7 @@ impl Client {
             Explains P.MixPort G.Gate (port.old, gate.old) (port.new, gate.new) self.old
             (λ position. self.old.plain) (sync_count self.old.plain)
             (λ load commit.
-                with_number (number_of asked) (after_sync self.old.plain call.Sync load commit))
+            with_number (number_of asked) (after_sync self.old.plain call.Sync load commit))
             (self.new.plain, result) }
     {
         self.plain.status.admit(Direction::Playback, Call::Sync)?;
@@ -160,7 +160,7 @@ impl Client {
             Explains P.MixPort G.Gate (port.old, gate.old) (port.new, gate.new) self.old
             (λ position. self.old.plain) (sync_count self.old.plain)
             (λ load commit.
-                with_number avail_answer (after_sync self.old.plain call.Sync load commit))
+            with_number avail_answer (after_sync self.old.plain call.Sync load commit))
             (self.new.plain, result) }
     {
         self.ask(port, gate, Asked::Avail)
@@ -191,7 +191,7 @@ impl Client {
             Explains P.MixPort G.Gate (port.old, gate.old) (port.new, gate.new) self.old
             (λ position. self.old.plain) (sync_count self.old.plain)
             (λ load commit.
-                with_number delay_answer (after_sync self.old.plain call.Sync load commit))
+            with_number delay_answer (after_sync self.old.plain call.Sync load commit))
             (self.new.plain, result) }
     {
         self.ask(port, gate, Asked::Delay)
