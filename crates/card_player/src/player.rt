@@ -100,8 +100,21 @@ impl<'a> CardPlayer<'a> {
         requires fits { HasFrame self.old }
         ensures { TakesFrameAt self.old self.new at out.old out.new }
     {
-        let channels = self.seat.geometry().channels as usize;
-        for channel in 0..channels {
+        let channels = self.seat.geometry().channels;
+        self.take_frame_of(out, at, channels);
+    }
+
+    /// Takes a frame in the same way, of a card of so many channels. Where the caller has their number as a constant, no loop over
+    /// them is left.
+    #[inline(always)]
+    pub fn take_frame_of(&mut self, out: &mut [i16], at: usize, channels: u8)
+        requires channels { channels ≡ (geometry_of self.old).channels }
+        requires room { HasRoom self.old at out.old }
+        requires at_frame { IsAtFrame self.old }
+        requires fits { HasFrame self.old }
+        ensures { TakesFrameAt self.old self.new at out.old out.new }
+    {
+        for channel in 0..channels as usize {
             let Ok(taken) = self.seat.take_word() else {
                 unreachable!()
             };
@@ -209,27 +222,26 @@ impl<'a> CardPlayer<'a> {
         requires fits { frame_of self.old + frames ≤ end_frame (geometry_of self.old) }
         ensures { PlaysBy period self.old self.new frames out.old out.new }
     {
-        // Each call is a loop of its own in the machine code. In the first one the number of channels is a constant.
-        if self.seat.geometry().channels == 1 {
-            self.play_all(period, out, frames);
-        } else {
-            self.play_all(period, out, frames);
+        // For one channel there is a loop of its own in the machine code, without one over the channels.
+        match self.seat.geometry().channels {
+            1 => self.play_all(period, out, frames, 1),
+            channels => self.play_all(period, out, frames, channels),
         }
     }
 
-    // Plays so many frames, in the code of its caller, which may know the number of channels.
+    // Plays so many frames of so many channels, in the code of its caller, which may know the number of channels.
     #[inline(always)]
-    fn play_all(&mut self, period: u32, out: &mut [i16], frames: usize)
+    fn play_all(&mut self, period: u32, out: &mut [i16], frames: usize, channels: u8)
+        requires channels { channels ≡ (geometry_of self.old).channels }
         requires period { 1 ≤ period }
         requires room { frames * (geometry_of self.old).channels ≤ length out.old }
         requires at_frame { IsAtFrame self.old }
         requires fits { frame_of self.old + frames ≤ end_frame (geometry_of self.old) }
         ensures { PlaysBy period self.old self.new frames out.old out.new }
     {
-        let channels = self.seat.geometry().channels as usize;
         let mut due = self.next_period(period);
         for frame in 0..frames {
-            self.take_frame_at(out, frame * channels);
+            self.take_frame_of(out, frame * channels as usize, channels);
             due = self.publish_period(period, due);
         }
         if !self.has_ended_period(period, frames) {

@@ -1,5 +1,6 @@
 -- What a duplex card captures, plays and publishes.
-use Rattle.std.specs.Prelude.{◌≡◌, ℕ, ◌+◌, ◌++◌, ℤ, Bool, if◌then◌else◌, List, [], take, drop}
+use Rattle.std.specs.Prelude.{◌≡◌, ℕ, ◌+◌, ◌*◌, ◌≤◌, ◌++◌, ℤ, Bool, if◌then◌else◌, List, [], length, take, drop}
+use Rattle.snd_base.specs.Places.{end_frame}
 use Rattle.sum_table.specs.Players.{next_of_player}
 use Rattle.card_player.specs.declared.player.CardPlayer.{CardPlayer}
 use Rattle.card_player.specs.Plays.{HasPlayed, TakesFrameAt, at_frame, frame_of, frames_left, geometry_of, positions_of, rest_of, samples_of, seat_of}
@@ -7,7 +8,7 @@ use Rattle.snoop_table.specs.declared.seats.writer.WriterSeat.{WriterSeat}
 use Rattle.snoop_table.specs.Writers.{writer_geometry, writer_ring, writer_track}
 use Rattle.card_sim.specs.declared.card.Card.{Card}
 use Rattle.card_sim.specs.Moments.{Moment, moments_of, position_of_writer}
-use Rattle.card_sim.specs.Steps.{AreInStep, AreSeatsOfCard}
+use Rattle.card_sim.specs.Steps.{AreInStep, AreSeatsOfCard, IsPublished}
 
 -- a card's player and writer, its period, and whether it records
 abbrev pub player_of : Card → CardPlayer
@@ -33,6 +34,15 @@ pub record HasCaptured (w v : WriterSeat) (samples : List ℤ) (positions : List
   pub stored : (writer_track v).stored ≡ (writer_track w).stored ++ samples
   pub published : (writer_track v).published ≡ (writer_track w).published ++ positions
   pub gone : (writer_track v).gone ≡ (writer_track w).gone
+
+-- A card can run for so many frames: its seats are in step, its position is published, and both buffers hold so many frames, which the rings still have.
+pub record CanRun (p : CardPlayer) (w : WriterSeat) (period frames : ℕ) (captured out : List ℤ) : Type 0 where
+  pub period_least : 1 ≤ period
+  pub in_step : AreInStep p w
+  pub published : IsPublished p
+  pub captured_holds : frames * (geometry_of p).channels ≤ length captured
+  pub out_holds : frames * (geometry_of p).channels ≤ length out
+  pub rings_hold : frame_of p + frames ≤ end_frame (geometry_of p)
 
 -- one frame was captured and played, of the samples from an index of both buffers on; nothing was published
 pub record RunsFrame (p : CardPlayer) (w : WriterSeat) (q : CardPlayer) (v : WriterSeat) (at : ℕ) (captured old new : List ℤ) : Type 0 where

@@ -1,11 +1,10 @@
 //! The frames of one run of a duplex card.
-ghost use Rattle.std.specs.Prelude.{◌≡◌, ◌+◌, ◌*◌, ◌<◌, ◌≤◌, true, [], ◌∷◌, length};
-ghost use Rattle.snd_base.specs.Places.{end_frame};
+ghost use Rattle.std.specs.Prelude.{◌≡◌, ◌+◌, ◌≤◌, true, [], ◌∷◌};
 ghost use Rattle.card_player.specs.Plays.{HasFrame, HasRoom, IsDue, frame_of, geometry_of, period_at, seat_of};
 ghost use Rattle.sum_table.specs.Players.{position_of_player};
 ghost use Rattle.card_sim.specs.Moments.{frame_moments, moments_of, period_moments, position_of_writer, publish_moments};
-ghost use Rattle.card_sim.specs.Runs.{PublishesBoth, RunsFrame, RunsFrames};
-ghost use Rattle.card_sim.specs.Steps.{AreInStep, IsPublished};
+ghost use Rattle.card_sim.specs.Runs.{CanRun, PublishesBoth, RunsFrame, RunsFrames};
+ghost use Rattle.card_sim.specs.Steps.{AreInStep};
 
 use crate::watch::Watch;
 use card_player::CardPlayer;
@@ -21,25 +20,20 @@ pub(crate) fn run_frames<W: Watch>(
     frames: usize,
     watch: &mut W,
 )
-    requires period { 1 ≤ period }
-    requires in_step { AreInStep player.old writer.old }
-    requires published { IsPublished player.old }
-    requires captured { frames * (geometry_of player.old).channels ≤ length captured.now }
-    requires room { frames * (geometry_of player.old).channels ≤ length out.old }
-    requires fits { frame_of player.old + frames ≤ end_frame (geometry_of player.old) }
-    ensures runs { RunsFrames true player.old writer.old player.new writer.new period frames captured.now out.old out.new }
+    requires { CanRun player.old writer.old period frames captured.now out.old }
+    ensures runs { RunsFrames true player.old writer.old player.new writer.new period frames
+        captured.now out.old out.new }
     ensures watched { W.saw watch.old watch.new
         (moments_of period (frame_of player.old) (position_of_writer writer.old) frames) }
 {
-    // Each call is a loop of its own in the machine code. In the first one the number of channels is a constant.
-    if player.geometry().channels == 1 && writer.geometry().channels == 1 {
-        run_all(player, writer, period, captured, out, frames, watch);
-    } else {
-        run_all(player, writer, period, captured, out, frames, watch);
+    // For one channel there is a loop of its own in the machine code, without one over the channels.
+    match player.geometry().channels {
+        1 => run_all(player, writer, period, captured, out, frames, 1, watch),
+        channels => run_all(player, writer, period, captured, out, frames, channels, watch),
     }
 }
 
-/// Runs for so many frames, in the code of its caller, which may know the number of channels.
+/// Runs for so many frames of so many channels, in the code of its caller, which may know the number of channels.
 #[inline(always)]
 fn run_all<W: Watch>(
     player: &mut CardPlayer<'_>,
@@ -48,22 +42,20 @@ fn run_all<W: Watch>(
     captured: &[i16],
     out: &mut [i16],
     frames: usize,
+    channels: u8,
     watch: &mut W,
 )
-    requires period { 1 ≤ period }
-    requires in_step { AreInStep player.old writer.old }
-    requires published { IsPublished player.old }
-    requires captured { frames * (geometry_of player.old).channels ≤ length captured.now }
-    requires room { frames * (geometry_of player.old).channels ≤ length out.old }
-    requires fits { frame_of player.old + frames ≤ end_frame (geometry_of player.old) }
-    ensures runs { RunsFrames true player.old writer.old player.new writer.new period frames captured.now out.old out.new }
+    requires channels { channels ≡ (geometry_of player.old).channels }
+    requires can_run { CanRun player.old writer.old period frames captured.now out.old }
+    ensures runs { RunsFrames true player.old writer.old player.new writer.new period frames
+        captured.now out.old out.new }
     ensures watched { W.saw watch.old watch.new
         (moments_of period (frame_of player.old) (position_of_writer writer.old) frames) }
 {
-    let channels = player.geometry().channels as usize;
     let mut due = player.next_period(period);
     for frame in 0..frames {
-        run_frame(player, writer, captured, out, frame * channels, watch);
+        let at = frame * channels as usize;
+        run_frame(player, writer, captured, out, at, channels, watch);
         due = publish_period(player, writer, period, due, watch);
     }
     if !player.has_ended_period(period, frames) {
@@ -79,22 +71,24 @@ fn run_frame<W: Watch>(
     captured: &[i16],
     out: &mut [i16],
     at: usize,
+    channels: u8,
     watch: &mut W,
 )
+    requires channels { channels ≡ (geometry_of player.old).channels }
     requires in_step { AreInStep player.old writer.old }
     requires captured { HasRoom player.old at captured.now }
     requires room { HasRoom player.old at out.old }
     requires fits { HasFrame player.old }
     ensures runs { RunsFrame player.old writer.old player.new writer.new at captured.now out.old out.new }
     ensures watched { W.saw watch.old watch.new
-        (frame_moments (frame_of player.old) (position_of_player (seat_of player.old)) (position_of_writer writer.old)) }
+        (frame_moments (frame_of player.old) (position_of_player (seat_of player.old))
+        (position_of_writer writer.old)) }
 {
-    let channels = player.geometry().channels as usize;
-    let Ok(()) = writer.store_frame(&captured[at..at + channels]) else {
+    let Ok(()) = writer.store_frame(&captured[at..at + channels as usize]) else {
         unreachable!()
     };
     watch.see(player, writer);
-    player.take_frame_at(out, at);
+    player.take_frame_of(out, at, channels);
     watch.see(player, writer);
 }
 
@@ -111,7 +105,8 @@ fn publish_period<W: Watch>(
     requires period { 1 ≤ period }
     requires in_step { AreInStep player.old writer.old }
     requires due { IsDue period (frame_of player.old) due }
-    ensures publishes { PublishesBoth player.old writer.old player.new writer.new (period_at period (frame_of player.old)) }
+    ensures publishes { PublishesBoth player.old writer.old player.new writer.new
+        (period_at period (frame_of player.old)) }
     ensures watched { W.saw watch.old watch.new
         (period_moments period (frame_of player.old) (position_of_writer writer.old)) }
     ensures due { IsDue period (frame_of player.new + 1) result }
@@ -127,8 +122,10 @@ fn publish_period<W: Watch>(
 #[inline(always)]
 fn publish<W: Watch>(player: &mut CardPlayer<'_>, writer: &mut WriterSeat<'_>, watch: &mut W)
     requires { AreInStep player.old writer.old }
-    ensures publishes { PublishesBoth player.old writer.old player.new writer.new (frame_of player.old ∷ []) }
-    ensures watched { W.saw watch.old watch.new (publish_moments (frame_of player.old) (position_of_writer writer.old)) }
+    ensures publishes { PublishesBoth player.old writer.old player.new writer.new
+        (frame_of player.old ∷ []) }
+    ensures watched { W.saw watch.old watch.new
+        (publish_moments (frame_of player.old) (position_of_writer writer.old)) }
 {
     player.publish();
     watch.see(player, writer);

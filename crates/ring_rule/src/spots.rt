@@ -71,18 +71,11 @@ impl LapStart {
         requires { IsLapStart geometry.now self.old }
         ensures { IsLapStart geometry.now self.new }
     {
-        if frame.wrapping_sub(self.frame) >= geometry.frames as u64 {
-            self.turn_to(geometry, geometry.lap(frame));
+        if frame.wrapping_sub(self.frame) < geometry.frames as u64 {
+            return;
         }
-    }
-
-    /// Goes to another lap, where words can have it.
-    #[inline(always)]
-    pub fn turn_to(&mut self, geometry: &Geometry, lap: u64)
-        requires { IsLapStart geometry.now self.old }
-        ensures { IsLapStart geometry.now self.new }
-    {
-        if lap != self.lap && lap < 4294967295 {
+        let lap = far_lap(geometry, frame);
+        if lap < 4294967295 {
             self.lap = lap;
             self.frame = lap * geometry.frames as u64;
         }

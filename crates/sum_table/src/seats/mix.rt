@@ -117,7 +117,7 @@ impl MixSeat<'_> {
         steps.tick();
         let geometry = self.key.geometry;
         let spot = self.start.spot(&geometry, frame, channel);
-        self.start.turn_to(&geometry, spot.lap);
+        self.start.turn_to_frame(&geometry, frame);
         let word = self.ring.load::<Look>(&mut self.seat, spot.index);
         (word, spot)
     }

@@ -1,5 +1,4 @@
 use Rattle.std.proofs.Common.{◌≡◌, ◌*◌, ◌+◌, ◌&&◌, ◌≤◌, ℕ, ℤ, List, [], take, drop, nat_lt, ◌∙◌, arith, subst, sym, ap}
-use Rattle.snd_base.specs.declared.geometry.Geometry.{Geometry}
 use Rattle.snd_base.specs.declared.places.Cursor.{Cursor}
 use Rattle.sum_table.specs.declared.view.Key.{Key}
 use Rattle.card_player.specs.declared.player.CardPlayer.{CardPlayer}
@@ -18,6 +17,10 @@ publish_period-due-requires-clause-due g c =
     let next : frame_of c.run_frame.new.player ≡ frame_of c.loop-frame.player + 1 = ap (λ (x : Cursor). x.frame) c.run_frame.ensures.runs.takes.next in
     subst (λ (n : ℕ). IsDue c.args.period n c.loop-frame.due) (sym next) c.loop-frame.invariant.due
 
+pub run_frame-requires-clause-channels : goal.run_frame-requires-clause-channels
+run_frame-requires-clause-channels g c =
+    c.requires.channels ∙ sym (ap (λ (k : Key). k.geometry.channels) c.loop-frame.invariant.filled.played.goes.key)
+
 pub loop-frame-preserved : goal.loop-frame-preserved
 loop-frame-preserved g c =
     let p : CardPlayer = c.args.player.now in
@@ -25,10 +28,10 @@ loop-frame-preserved g c =
     let w : WriterSeat = c.args.writer.now in
     let v : WriterSeat = c.loop-frame.writer in
     let u : WriterSeat = c.run_frame.new.writer in
-    let at : ℕ = c.loop-frame.frame * c.geometry-channels.result.channels in
+    let at : ℕ = c.loop-frame.frame * c.args.channels in
     let filled = c.loop-frame.invariant.filled in
     let ran = c.run_frame.ensures.runs in
-    let at_is : at ≡ c.loop-frame.frame * (geometry_of p).channels = ap (λ (g : Geometry). c.loop-frame.frame * g.channels) c.geometry-channels.ensures in
+    let at_is : at ≡ c.loop-frame.frame * (geometry_of p).channels = ap (λ (n : ℕ). c.loop-frame.frame * n) c.requires.channels in
     let same : (geometry_of q).channels ≡ (geometry_of p).channels = ap (λ (k : Key). k.geometry.channels) filled.played.goes.key in
     let frame_is : frame_of q ≡ frame_of p + c.loop-frame.frame = ap (λ (x : Cursor). x.frame) filled.next in
     let last_is : frame_of c.run_frame.new.player ≡ frame_of p + c.loop-frame.frame + 1 =
@@ -45,7 +48,7 @@ loop-frame-preserved g c =
       watched = saw-more g.W.Watch.saw g.met.W.Watch.saw_composes _ _ _ _ c.args.period (frame_of p) (position_of_writer w) c.loop-frame.frame _ _ _ _ _
           c.loop-frame.invariant.watched
           c.run_frame.ensures.watched frame_is
-          (filled.played.position ∙ ap (λ (n : ℕ). last_of n (periods_to c.args.period (frame_of p) c.loop-frame.frame)) c.requires.published)
+          (filled.played.position ∙ ap (λ (n : ℕ). last_of n (periods_to c.args.period (frame_of p) c.loop-frame.frame)) c.requires.can_run.published)
           (position_of_writer-captured w v _ _ c.loop-frame.invariant.captured)
           c.publish_period-due.ensures.watched last_is
           (position_of_writer-captured v u _ [] ran.stored);

@@ -1,7 +1,6 @@
 use Rattle.std.proofs.Common.{◌≡◌, ◌+◌, ◌-◌, ℕ, ℤ, List, [], take, drop, arith, ap, refl, subst, sym, ◌∙◌}
 use Rattle.std.specs.Prelude.{slice_range}
 use Rattle.std.proofs.lemmas.List.{drop-take}
-use Rattle.snd_base.specs.declared.geometry.Geometry.{Geometry}
 use Rattle.snd_base.specs.declared.places.Cursor.{Cursor}
 use Rattle.sum_table.specs.declared.view.Key.{Key}
 use Rattle.sum_table.specs.Players.{next_of_player}
@@ -23,17 +22,16 @@ range_is at n m xs same =
 
 pub returns-clause-runs : goal.returns-clause-runs
 returns-clause-runs g c =
-    let same : c.geometry-channels.result.channels ≡ (geometry_of c.args.player.now).channels = ap (λ (g : Geometry). g.channels) c.geometry-channels.ensures in
     let stored : HasCaptured c.args.writer.now c.store_frame.new.self (drop c.args.at (take (c.args.at + (geometry_of c.args.player.now).channels) c.args.captured.now)) [] =
     subst (λ (xs : List ℤ). HasCaptured c.args.writer.now c.store_frame.new.self xs [])
-    (range_is c.args.at c.geometry-channels.result.channels (geometry_of c.args.player.now).channels c.args.captured.now same)
-    (HasCaptured-stored c.args.writer.now c.store_frame.new.self (slice_range c.args.captured.now c.args.at (c.args.at + c.geometry-channels.result.channels)) c.in-Ok.ensures.ok) in
+    (range_is c.args.at c.args.channels (geometry_of c.args.player.now).channels c.args.captured.now c.requires.channels)
+    (HasCaptured-stored c.args.writer.now c.store_frame.new.self (slice_range c.args.captured.now c.args.at (c.args.at + c.args.channels)) c.in-Ok.ensures.ok) in
     record {
       stored = stored;
-      takes = c.take_frame_at.ensures;
+      takes = c.take_frame_of.ensures;
       in_step = record {
-        geometry = ap (λ (k : Key). k.geometry) c.take_frame_at.ensures.played.goes.key ∙ (c.requires.in_step.geometry ∙ sym c.in-Ok.ensures.ok.geometry);
-        next = c.take_frame_at.ensures.next ∙ sym (ap (λ (w : Cursor). record { frame = w.frame; channel = 0 }) c.in-Ok.ensures.ok.next ∙ ap (λ (n : ℕ). at_frame (n + 1)) (sym (ap (λ (w : Cursor). w.frame) c.requires.in_step.next)));
+        geometry = ap (λ (k : Key). k.geometry) c.take_frame_of.ensures.played.goes.key ∙ (c.requires.in_step.geometry ∙ sym c.in-Ok.ensures.ok.geometry);
+        next = c.take_frame_of.ensures.next ∙ sym (ap (λ (w : Cursor). record { frame = w.frame; channel = 0 }) c.in-Ok.ensures.ok.next ∙ ap (λ (n : ℕ). at_frame (n + 1)) (sym (ap (λ (w : Cursor). w.frame) c.requires.in_step.next)));
       };
     }
 
@@ -42,7 +40,7 @@ returns-clause-watched g c =
     let p : CardPlayer = c.args.player.now in
     let w : WriterSeat = c.args.writer.now in
     let v : WriterSeat = c.store_frame.new.self in
-    let q : CardPlayer = c.take_frame_at.new.self in
+    let q : CardPlayer = c.take_frame_of.new.self in
     let same : frame_of p ≡ next_frame w = ap (λ (x : Cursor). x.frame) c.requires.in_step.next in
     let takes : next_of_player (seat_of p) ≡ at_frame (frame_of p) = c.requires.in_step.next ∙ ap at_frame (sym same) in
     let stores : next_frame v ≡ frame_of p + 1 = ap (λ (x : Cursor). x.frame) c.in-Ok.ensures.ok.next ∙ ap (λ (n : ℕ). n + 1) (sym same) in
@@ -50,4 +48,4 @@ returns-clause-watched g c =
     position_of_writer-captured w v _ [] (HasCaptured-stored w v _ c.in-Ok.ensures.ok) in
     saw-both g.W.Watch.saw g.met.W.Watch.saw_composes _ _ _ (moment_of p v) (moment_of q v) _ _ c.see.ensures c.see-2.ensures
     (moment_of-at p v _ _ _ _ stores takes refl captured)
-    (moment_of-at q v _ _ _ _ stores c.take_frame_at.ensures.next c.take_frame_at.ensures.played.position captured)
+    (moment_of-at q v _ _ _ _ stores c.take_frame_of.ensures.next c.take_frame_of.ensures.played.position captured)

@@ -1,5 +1,5 @@
 use Rattle.std.proofs.Common.{◌≡◌, ◌*◌, ◌+◌, ◌&&◌, ℕ, ℤ, List, nat_lt, ◌∙◌, arith, subst, sym, ap}
-use Rattle.snd_base.specs.declared.geometry.Geometry.{Geometry}
+use Rattle.sum_table.specs.declared.view.Key.{Key}
 use Rattle.snd_base.specs.declared.places.Cursor.{Cursor}
 use Rattle.card_player.specs.declared.player.CardPlayer.{CardPlayer}
 use Rattle.card_player.specs.Plays.{IsDue, ends_period, frame_of, geometry_of, is_multiple, seat_of}
@@ -8,20 +8,23 @@ use Rattle.card_player.proofs.player.CardPlayer.play_all.Goals as goal
 
 pub publish_period-due-requires-clause-due : goal.publish_period-due-requires-clause-due
 publish_period-due-requires-clause-due c =
-    let next : frame_of c.take_frame_at.new.self ≡ frame_of c.loop-frame.self + 1 = ap (λ (x : Cursor). x.frame) c.take_frame_at.ensures.next in
+    let next : frame_of c.take_frame_of.new.self ≡ frame_of c.loop-frame.self + 1 = ap (λ (x : Cursor). x.frame) c.take_frame_of.ensures.next in
     subst (λ (n : ℕ). IsDue c.args.period n c.loop-frame.due) (sym next) c.loop-frame.invariant.due
+
+pub take_frame_of-requires-clause-channels : goal.take_frame_of-requires-clause-channels
+take_frame_of-requires-clause-channels c =
+    c.requires.channels ∙ sym (ap (λ (k : Key). k.geometry.channels) c.loop-frame.invariant.filled.played.goes.key)
 
 pub loop-frame-preserved : goal.loop-frame-preserved
 loop-frame-preserved c =
     let was = c.loop-frame.invariant in
-    let channels : c.geometry-channels.result.channels ≡ (geometry_of c.args.self.now).channels = ap (λ (g : Geometry). g.channels) c.geometry-channels.ensures in
-    let at_is : c.loop-frame.frame * c.geometry-channels.result.channels ≡ c.loop-frame.frame * (geometry_of c.args.self.now).channels = ap (λ n. c.loop-frame.frame * n) channels in
+    let at_is : c.loop-frame.frame * c.args.channels ≡ c.loop-frame.frame * (geometry_of c.args.self.now).channels = ap (λ n. c.loop-frame.frame * n) c.requires.channels in
     record {
-      filled = HasFilled-more c.args.self.now.seat c.loop-frame.self.seat c.take_frame_at.new.self.seat c.publish_period-due.new.self.seat c.args.period
-          c.loop-frame.frame (c.loop-frame.frame * c.geometry-channels.result.channels) c.args.out.now c.loop-frame.out c.take_frame_at.new.out
-          was.filled at_is c.take_frame_at.ensures.played c.take_frame_at.ensures.next c.take_frame_at.ensures.before c.take_frame_at.ensures.rest
+      filled = HasFilled-more c.args.self.now.seat c.loop-frame.self.seat c.take_frame_of.new.self.seat c.publish_period-due.new.self.seat c.args.period
+          c.loop-frame.frame (c.loop-frame.frame * c.args.channels) c.args.out.now c.loop-frame.out c.take_frame_of.new.out
+          was.filled at_is c.take_frame_of.ensures.played c.take_frame_of.ensures.next c.take_frame_of.ensures.before c.take_frame_of.ensures.rest
           c.publish_period-due.ensures.publishes.played c.publish_period-due.ensures.publishes.next;
-      period = c.publish_period-due.ensures.publishes.period ∙ (c.take_frame_at.ensures.period ∙ was.period);
+      period = c.publish_period-due.ensures.publishes.period ∙ (c.take_frame_of.ensures.period ∙ was.period);
       due = c.publish_period-due.ensures.due;
     }
 

@@ -23,7 +23,7 @@ invariant_of-self g c =
       same_ring = (c.load-word.ensures.0 ∙ s.same_ring.0, s.same_ring.1, ap (λ (x : Rattle.atomic_table.specs.Table.Me _ _). x.1) c.load-word.ensures.2.1.1 ∙ s.same_ring.2, s.same_ring.3);
       known = known_looked s.key s.places s.reach.marks s.seen s.reach.last s.ring.now.table_id.slots c.spot-spot.result.index c.load-word.result s.seat.me c.load-word.new.seat.me s.known c.load-word.ensures.2;
       one_geometry = s.one_geometry;
-      lap_start = c.turn_to.ensures;
+      lap_start = c.turn_to_frame.ensures;
     }
 
 pub returns-clause-noted : goal.returns-clause-noted
