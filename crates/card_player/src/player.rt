@@ -104,8 +104,8 @@ impl<'a> CardPlayer<'a> {
         self.take_frame_of(out, at, channels);
     }
 
-    /// Takes a frame in the same way, of a card of so many channels. Where the caller has their number as a constant, no loop over
-    /// them is left.
+    /// Takes a frame in the same way, of a card of so many channels (`geometry`). Where the caller has their number as a constant,
+    /// no loop over them is left.
     #[inline(always)]
     pub fn take_frame_of(&mut self, out: &mut [i16], at: usize, channels: u8)
         requires channels { channels ≡ (geometry_of self.old).channels }
@@ -130,7 +130,8 @@ impl<'a> CardPlayer<'a> {
     /// 4294967295: then the frames before it are played, and published.
     pub fn play(&mut self, out: &mut [i16]) -> Result<(), PcmError>
         requires { IsAtFrame self.old }
-        ensures plays { PlaysAndPublishes self.old self.new (frames_left self.old out.old) out.old out.new }
+        ensures plays { PlaysAndPublishes self.old self.new (frames_left self.old out.old)
+            out.old out.new }
         ensures lap_end { IsErrOf result PcmError.LapEnd ↔ EndsEarly self.old out.old }
         ensures only { IfErr result (λ e. e ≡ PcmError.LapEnd) }
     {
@@ -141,7 +142,8 @@ impl<'a> CardPlayer<'a> {
     pub fn play_by(&mut self, period: u32, out: &mut [i16]) -> Result<(), PcmError>
         requires period { 1 ≤ period }
         requires at_frame { IsAtFrame self.old }
-        ensures plays { PlaysBy period self.old self.new (frames_left self.old out.old) out.old out.new }
+        ensures plays { PlaysBy period self.old self.new (frames_left self.old out.old)
+            out.old out.new }
         ensures lap_end { IsErrOf result PcmError.LapEnd ↔ EndsEarly self.old out.old }
         ensures only { IfErr result (λ e. e ≡ PcmError.LapEnd) }
     {
@@ -200,7 +202,8 @@ impl<'a> CardPlayer<'a> {
     /// Meets a note of a seat, and learns that what it has seen is what this player did. The caller shows that both are of one
     /// ring.
     pub fn meet(&mut self, note: SeatNote<'_>)
-        requires { OneRing (note_ring note) (note_key note) (player_ring (seat_of self.old)) (player_key (seat_of self.old)) }
+        requires { OneRing (note_ring note) (note_key note) (player_ring (seat_of self.old))
+            (player_key (seat_of self.old)) }
         ensures heard { HasHeard (seat_of self.old) (seat_of self.new) note.entry }
         ensures period { period_of self.new ≡ period_of self.old }
     {

@@ -29,7 +29,9 @@ pub(crate) fn run_frames<W: Watch>(
     // For one channel there is a loop of its own in the machine code, without one over the channels.
     match player.geometry().channels {
         1 => run_all(player, writer, period, captured, out, frames, 1, watch),
-        channels => run_all(player, writer, period, captured, out, frames, channels, watch),
+        channels => run_all(
+            player, writer, period, captured, out, frames, channels, watch,
+        ),
     }
 }
 
@@ -79,7 +81,8 @@ fn run_frame<W: Watch>(
     requires captured { HasRoom player.old at captured.now }
     requires room { HasRoom player.old at out.old }
     requires fits { HasFrame player.old }
-    ensures runs { RunsFrame player.old writer.old player.new writer.new at captured.now out.old out.new }
+    ensures runs { RunsFrame player.old writer.old player.new writer.new at
+        captured.now out.old out.new }
     ensures watched { W.saw watch.old watch.new
         (frame_moments (frame_of player.old) (position_of_player (seat_of player.old))
         (position_of_writer writer.old)) }

@@ -1,5 +1,5 @@
 -- Splits and joins keep the rule, and what the rule tells a seat of its view.
-use Rattle.std.proofs.Common.{◌≡◌, ◌≢◌, ◌⊎◌, ℕ, zero, suc, ◌+◌, ◌*◌, ◌≤◌, ◌||◌, Bool, true, false, Option, None, Some, List, [], ◌∷◌, ◌++◌, map, length, get_or, set, ℤ, pos, inl, inr, arith, subst, sym, refl, ap, ◌∙◌, nat_lt, cond}
+use Rattle.std.proofs.Common.{◌≡◌, ◌≢◌, ◌⊎◌, ℕ, zero, suc, ◌+◌, ◌*◌, ◌≤◌, ◌||◌, Bool, true, false, Option, None, Some, List, [], ◌∷◌, ◌++◌, map, length, get_or, set, ℤ, pos, inl, inr, arith, subst, sym, refl, ap, ◌∙◌}
 use mathlib.Core.Option.{some, none, some-ne-none}
 use lib.ListN.{get_elem?}
 use Rattle.std.proofs.lemmas.Bool.{false≢true}
@@ -18,11 +18,10 @@ use Rattle.sum_table.specs.declared.view.Key.{Key}
 use Rattle.sum_table.specs.declared.view.Track.{Track}
 use Rattle.sum_table.specs.declared.view.View.{View}
 use Rattle.sum_table.specs.Cuts.{start_marks, both_of, either_track, part_of, spent_view, with_places}
-use Rattle.ring_rule.specs.Notes.{later_note, later_notes}
 use Rattle.sum_table.specs.Exact.{Exact, IsHistory, IsView}
 use Rattle.sum_table.specs.Laid.{SameSums, all_laid, by_member, count, own, places_of}
 use Rattle.sum_table.specs.Steps.{Knows, learned, with_history}
-use Rattle.ring_rule.specs.Words.{NotPast, index_of, rank}
+use Rattle.ring_rule.specs.Words.{NotPast, index_of}
 use Rattle.sum_table.proofs.Kept.{kept_join, kept_none, kept_places}
 use Rattle.sum_table.proofs.Keeps.{Holds, idle, loaded, none_made}
 use Rattle.ring_rule.specs.Lists.{at_append, at_more}

@@ -1,5 +1,5 @@
 -- Splits, joins, notes and the close of a ring, said of the fields of the seats.
-use Rattle.std.proofs.Common.{◌≡◌, ℕ, zero, suc, ◌+◌, ◌-◌, ◌≤◌, ◌||◌, Bool, true, false, Option, None, Some, List, [], ◌∷◌, ◌++◌, get_or, max, cond, nat_lt, inl, inr, arith, subst, sym, refl, ap, ◌∙◌}
+use Rattle.std.proofs.Common.{◌≡◌, ℕ, zero, suc, ◌+◌, ◌-◌, ◌≤◌, ◌||◌, Bool, true, false, Option, None, Some, List, [], ◌∷◌, ◌++◌, get_or, max, inl, inr, arith, subst, sym, refl, ap, ◌∙◌}
 use mathlib.Core.Option.{none, some, some-ne-none}
 use lib.ListN.{get_elem?}
 use Rattle.std.proofs.lemmas.Bool.{false≢true}
@@ -22,7 +22,6 @@ use Rattle.sum_table.specs.declared.view.Key.{Key}
 use Rattle.sum_table.specs.declared.view.Track.{Track}
 use Rattle.sum_table.specs.declared.view.View.{View}
 use Rattle.sum_table.specs.Cuts.{joined_marks, both_of, either_track, later_of, part_of, without}
-use Rattle.ring_rule.specs.Notes.{later_note, later_notes}
 use Rattle.sum_table.specs.Exact.{start_marks, BeginsWith, Exact, IsPublished, is_tracked, next_at, position_at, the_track}
 use Rattle.sum_table.specs.Joins.{HasClosed, HasHeard, HasJoined, HasMet, HasPlayerNote, note_view}
 use Rattle.sum_table.specs.Known.{IsKnown, IsNoted, IsPlayer, greater, last_frame}

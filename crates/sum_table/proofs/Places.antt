@@ -1,13 +1,12 @@
 -- Where the words stand, and which of them change when one is written.
 use Rattle.std.proofs.Common.{◌≡◌, ◌≢◌, ℕ, ◌+◌, ◌*◌, ◌%◌, ◌<◌, ◌≤◌, List, length, get_or, set, inl, inr, arith, subst, sym, refl, ap, ◌∙◌}
 use Rattle.std.proofs.lemmas.List.{get_or-set_same, get_or-set_other}
-use Rattle.std.proofs.lemmas.Nat.{mul-add-lt}
 use Rattle.std.proofs.Math.Nat.{add-mod_right, mod-lt}
 use Rattle.std.proofs.lemmas.Bool.Decides.{nat_tests}
 use Rattle.snd_base.specs.declared.geometry.Geometry.{Geometry}
 use Rattle.snd_base.specs.declared.places.Cursor.{Cursor}
-use Rattle.snd_base.specs.PlaceLaws.{first_free-behind_grows, first_free-behind_low, mod-same, mod-window, word_index-same}
-use Rattle.snd_base.specs.Places.{behind, first_free, next_word, slot, word_index}
+use Rattle.snd_base.specs.PlaceLaws.{first_free-behind_grows, first_free-behind_low, mod-same, mod-window}
+use Rattle.snd_base.specs.Places.{behind, first_free, next_word, slot}
 use Rattle.mix_core.specs.Sound.{IsNow}
 use Rattle.ring_rule.specs.Words.{index_of, words_of}
 use Rattle.ring_rule.specs.WordLaws.{index_of-lt, index_of-same}

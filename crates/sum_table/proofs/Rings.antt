@@ -1,7 +1,7 @@
 -- The words, the entries and the player's track agree after each kind of step.
 use Rattle.std.proofs.Common.{◌≡◌, ℕ, ◌+◌, ◌*◌, ◌<◌, ◌≤◌, true, false, ◌==◌, ◌&&◌, ◌||◌, List, [], ◌∷◌, ◌++◌, length, get_or, set, ℤ, pos, negsuc, ◌+ℤ◌, ◌≤ℤ◌, inl, inr, arith, subst, sym, refl, ap, ◌∙◌, nat_lt}
 use Rattle.std.proofs.Math.Bool.{or_comm}
-use Rattle.std.proofs.Math.Nat.{add-div_right, div-lt_iff_lt-mul}
+use Rattle.std.proofs.Math.Nat.{add-div_right}
 use Rattle.std.proofs.Math.Seq.{get_or-append_seam}
 use Rattle.std.proofs.lemmas.Bool.Decides.{nat_tests}
 use Rattle.std.proofs.lemmas.Int.{ints}

@@ -1,12 +1,8 @@
 -- Where the word of a frame is, by the first frame of its lap.
-use Rattle.std.proofs.Common.{◌≡◌, ℕ, ◌+◌, ◌-◌, ◌*◌, ◌%◌, ◌<◌, ◌≤◌, arith, sym, ap, ◌∙◌}
-use Rattle.std.proofs.lemmas.Nat.{div-mul-add, mod-mul-add}
-use Rattle.std.proofs.Math.Nat.{mul-le-mul_right}
+use Rattle.std.proofs.Common.{◌≡◌, ℕ, ◌<◌, arith}
 use Rattle.snd_base.specs.declared.geometry.Geometry.{Geometry}
-use Rattle.snd_base.specs.Places.{lap, slot}
-use Rattle.ring_rule.specs.declared.spots.LapStart.{LapStart}
 use Rattle.ring_rule.specs.declared.spots.Spot.{Spot}
-use Rattle.ring_rule.specs.Spots.{IsLapStart, IsSpot}
+use Rattle.ring_rule.specs.Spots.{IsSpot}
 use Rattle.ring_rule.specs.Words.{words_of}
 use Rattle.ring_rule.specs.WordLaws.{index_of-lt}
 

@@ -1,5 +1,5 @@
 -- How a view is cut in two, and how two views are made one.
-use Rattle.std.specs.Prelude.{ℕ, zero, suc, ◌+◌, ◌-◌, ◌≤◌, ◌||◌, true, false, Option, None, Some, List, [], ◌∷◌, ◌++◌, max, nat_lt, if◌then◌else◌}
+use Rattle.std.specs.Prelude.{ℕ, zero, suc, ◌+◌, ◌-◌, ◌≤◌, ◌||◌, true, false, Option, None, Some, List, [], ◌++◌, max}
 use Rattle.std.proofs.Common.{arith}
 use Rattle.mix_core.specs.declared.marks.Marks.{Marks}
 use Rattle.mix_core.specs.declared.port.Entry.{Entry}
@@ -7,7 +7,6 @@ pub use Rattle.mix_core.specs.Marks.{is_before, later_of, start_marks}
 use Rattle.sum_table.specs.declared.view.Key.{Key}
 use Rattle.sum_table.specs.declared.view.Track.{Track}
 use Rattle.sum_table.specs.declared.view.View.{View}
-use Rattle.ring_rule.specs.Words.{rank}
 use Rattle.ring_rule.specs.Notes.{later_notes}
 
 -- a view with other places

@@ -1,6 +1,6 @@
 -- What holds between any two steps: the words represent the sums of exactly what was placed, and there is one legal history
 -- of all adds, takes and publications.
-use Rattle.std.specs.Prelude.{◌≡◌, ℕ, ◌+◌, ◌*◌, ◌<◌, ◌≤◌, ◌⊎◌, Bool, true, false, Option, None, Some, List, [], ◌∷◌, ◌++◌, map, length, fold, slice_index, nat_lt, pos, ◌+ℤ◌, ◌≤ℤ◌, ⊤, replicate}
+use Rattle.std.specs.Prelude.{◌≡◌, ℕ, ◌+◌, ◌*◌, ◌<◌, ◌≤◌, ◌⊎◌, Bool, true, false, Option, None, Some, List, [], ◌++◌, map, length, fold, slice_index, nat_lt, pos, ◌+ℤ◌, ◌≤ℤ◌, replicate}
 use Rattle.std.specs.List.{slice_index_or}
 use mathlib.Core.Option.{some}
 use lib.ListN.{get_elem?}

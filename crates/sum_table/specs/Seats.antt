@@ -1,7 +1,7 @@
 -- What contracts say of a mix seat, and what its steps do.
 use Rattle.std.specs.Prelude.{◌≡◌, ℕ, ◌+◌, ◌-◌, ◌*◌, ◌<◌, ◌≤◌, Bool, true, false, Option, None, Some, List, [], ◌∷◌, ◌++◌, ◌||◌, map, All, nat_lt, ℤ}
 use Rattle.std.specs.List.{list_any, slice_index_or}
-use Rattle.std.proofs.Common.{refl, sym, ap, ◌∙◌, subst, arith, append_assoc, inl, inr}
+use Rattle.std.proofs.Common.{refl, sym, ap, ◌∙◌, subst, arith, append_assoc}
 use Rattle.std.proofs.lemmas.List.{append-nil, map-append}
 use Rattle.std.proofs.lemmas.List.Elements.{All-append}
 use Rattle.std.proofs.lemmas.List.Folds.{list_any-append}
@@ -33,7 +33,7 @@ use Rattle.sum_table.specs.Exact.{BeginsWith}
 use Rattle.sum_table.specs.Known.{greater}
 use Rattle.sum_table.specs.Laid.{by_member, own}
 use Rattle.sum_table.specs.Steps.{Finds, IsStep, IsSumOf, Makes, MakesLook, in_row, sighting, with_entry, with_note, with_position}
-use Rattle.ring_rule.specs.Words.{NotPast, index_of, rank}
+use Rattle.ring_rule.specs.Words.{index_of, rank}
 use Rattle.ring_rule.specs.NoteLaws.{NeverFall-joined, NeverFall-same}
 use Rattle.ring_rule.specs.Notes.{NeverFall}
 use Rattle.ring_rule.specs.WordLaws.{NotPast-rank}

@@ -1,5 +1,4 @@
-use Rattle.std.proofs.Common.{◌≡◌, ◌<◌, ◌≤◌, ◌∙◌, arith, subst, sym, ap}
-use Rattle.snd_base.specs.declared.geometry.Geometry.{Geometry}
+use Rattle.std.proofs.Common.{◌≡◌, ◌≤◌, ◌∙◌, subst, ap}
 use Rattle.snd_base.specs.declared.places.Cursor.{Cursor}
 use Rattle.snd_base.specs.Places.{end_frame, lap}
 use Rattle.card_player.specs.Plays.{frame_of, geometry_of}

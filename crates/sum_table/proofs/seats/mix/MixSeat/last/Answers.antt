@@ -1,6 +1,5 @@
 use Rattle.std.proofs.Common.{◌<◌, Option, ℕ, IfSome, arith, subst, sym, ◌∙◌}
 use Rattle.snd_base.specs.Places.{IsFrom, end_frame}
-use Rattle.mix_core.specs.declared.port.Entry.{Entry}
 use Rattle.sum_table.specs.declared.seats.mix.MixSeat.{MixSeat}
 use Rattle.sum_table.specs.Known.{free_from}
 use Rattle.sum_table.proofs.Seated.{last_frame-before}
