@@ -1,5 +1,5 @@
 -- When the two seats of a card are in step.
-use Rattle.std.specs.Prelude.{◌≡◌, ℕ, Bool, true}
+use Rattle.std.specs.Prelude.{◌≡◌, Bool, true}
 use Rattle.sum_table.specs.Players.{next_of_player, position_of_player}
 use Rattle.card_player.specs.declared.player.CardPlayer.{CardPlayer}
 use Rattle.card_player.specs.Plays.{at_frame, frame_of, geometry_of, seat_of}
