@@ -43,7 +43,9 @@ fn push_row(rows: &mut Vec<Row>, row: Row)
 }
 
 /// Runs a card for as many frames as both buffers have, all of which are before the rings' end. It owns the card meanwhile, so
-/// that the compiler keeps the card's fields in registers: behind a reference each atomic step loads and stores them anew.
+/// that the compiler keeps the card's fields in registers: behind a reference each atomic step loads and stores them anew. It has
+/// machine code of its own, since within its caller's too few registers are left for them.
+#[inline(never)]
 fn run_over<'a>(card: Card<'a, 'a>, captured: &[i16], out: &mut [i16]) -> Card<'a, 'a>
     requires same { length captured.now ≡ length out.old }
     requires whole { length out.old % (geometry_of_card card).channels ≡ 0 }
