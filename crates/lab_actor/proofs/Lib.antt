@@ -11,5 +11,7 @@ mod Parts
 mod Read
 mod ReaderAnswered
 mod ReaderParts
+mod ReaderProgress
 mod RefusedLaws
+mod Rooms
 mod RunLists

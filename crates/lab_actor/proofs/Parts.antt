@@ -2,7 +2,7 @@
 use Rattle.std.proofs.Common.{◌≡◌, ℕ, ◌+◌, ◌<◌, ◌≤◌, List, [], ◌∷◌, ◌++◌, refl, sym, ◌∙◌, ap, subst, arith, append_assoc, length, get_or, take, drop, suc}
 use Rattle.std.proofs.Math.Seq.{take-suc}
 use Rattle.std.proofs.lemmas.List.{append-nil, length-append, take-append-drop}
-use Rattle.std.proofs.lemmas.List.Sums.{sum_by-append, sum_by-cons}
+use Rattle.std.proofs.lemmas.List.Sums.{sum_by-append, sum_by-cons, sum_by_push}
 use mir.Val.{bool_byte}
 use Rattle.std.specs.Prelude.{Bool, true, false, Option, Some, if◌then◌else◌, sum_by, vec_capacity, vec_len}
 use Rattle.std.specs.Global.{Vec}
@@ -25,7 +25,7 @@ use Rattle.lab_actor.specs.declared.client.ClientActor.{ClientActor}
 use Rattle.dmix_client.specs.View.{ClientView}
 use Rattle.lab_actor.specs.ClientLines.{Extends}
 use Rattle.lab_actor.specs.ClientPart.{ClientLine, ClientPart, HasDone, client_of}
-use Rattle.lab_actor.specs.Room.{GrowsBy, HasSpace, wanted_by}
+use Rattle.lab_actor.specs.Room.{GrowsBy, HasSpace, asked_by}
 use Rattle.lab_actor.proofs.Away.{Extends-joined, Extends-still}
 
 -- the lines of an actor among the first of a phase's
@@ -198,19 +198,28 @@ pub bool_byte-most : (test : Bool) → bool_byte test ≤ 1
 bool_byte-most true = omega arith
 bool_byte-most false = omega arith
 
--- how many frames they want room for up to the next one
-pub wanted-next : (most : ℕ) (mine : Actor → Bool) (lines : List Line) (k : ℕ) (line : Line) → k < length lines → get_or lines k line ≡ line
-    → sum_by (wanted_by most) (ops_by mine (take k lines)) + (if mine line.actor then wanted_by most line.op else 0) ≡ sum_by (wanted_by most) (ops_by mine (take (k + 1) lines))
-wanted-next most mine lines k line within is = by_test (mine line.actor) refl
+-- how many frames they ask to read up to the next one
+pub asked-next : (mine : Actor → Bool) (lines : List Line) (k : ℕ) (line : Line) → k < length lines → get_or lines k line ≡ line
+    → sum_by asked_by (ops_by mine (take k lines)) + (if mine line.actor then asked_by line.op else 0) ≡ sum_by asked_by (ops_by mine (take (k + 1) lines))
+asked-next mine lines k line within is = by_test (mine line.actor) refl
   where
     by_test : (test : Bool) → mine line.actor ≡ test
-        → sum_by (wanted_by most) (ops_by mine (take k lines)) + (if mine line.actor then wanted_by most line.op else 0) ≡ sum_by (wanted_by most) (ops_by mine (take (k + 1) lines))
+        → sum_by asked_by (ops_by mine (take k lines)) + (if mine line.actor then asked_by line.op else 0) ≡ sum_by asked_by (ops_by mine (take (k + 1) lines))
     by_test true own_is =
-        ap (λ (test : Bool). sum_by (wanted_by most) (ops_by mine (take k lines)) + (if test then wanted_by most line.op else 0)) own_is
-        ∙ sym (ap (sum_by (wanted_by most)) (own-line mine lines k line within is own_is)
-        ∙ sum_by-append (wanted_by most) (ops_by mine (take k lines)) (line.op ∷ [])
-        ∙ ap (λ (n : ℕ). sum_by (wanted_by most) (ops_by mine (take k lines)) + n) (sum_by-cons (wanted_by most) line.op [] ∙ (let none : wanted_by most line.op + 0 ≡ wanted_by most line.op = omega arith in none)))
+        ap (λ (test : Bool). sum_by asked_by (ops_by mine (take k lines)) + (if test then asked_by line.op else 0)) own_is
+        ∙ sym (ap (sum_by asked_by) (own-line mine lines k line within is own_is)
+        ∙ sum_by-append asked_by (ops_by mine (take k lines)) (line.op ∷ [])
+        ∙ ap (λ (n : ℕ). sum_by asked_by (ops_by mine (take k lines)) + n) (sum_by-cons asked_by line.op [] ∙ (let none : asked_by line.op + 0 ≡ asked_by line.op = omega arith in none)))
     by_test false other_is =
-        ap (λ (test : Bool). sum_by (wanted_by most) (ops_by mine (take k lines)) + (if test then wanted_by most line.op else 0)) other_is
-        ∙ (let none : (n : ℕ) → n + 0 ≡ n = λ n. omega arith in none (sum_by (wanted_by most) (ops_by mine (take k lines))))
-        ∙ ap (sum_by (wanted_by most)) (sym (other-line mine lines k line within is other_is))
+        ap (λ (test : Bool). sum_by asked_by (ops_by mine (take k lines)) + (if test then asked_by line.op else 0)) other_is
+        ∙ (let none : (n : ℕ) → n + 0 ≡ n = λ n. omega arith in none (sum_by asked_by (ops_by mine (take k lines))))
+        ∙ ap (sum_by asked_by) (sym (other-line mine lines k line within is other_is))
+
+pub asked-within : (mine : Actor → Bool) (lines : List Line) (k : ℕ) (line : Line) → k < length lines → get_or lines k line ≡ line → mine line.actor ≡ true
+    → sum_by asked_by (ops_by mine (take k lines)) + asked_by line.op ≤ sum_by asked_by (ops_by mine lines)
+asked-within mine lines k line within is own =
+    let next = ap (sum_by asked_by) (own-line mine lines k line within is own) ∙ sum_by_push asked_by (ops_by mine (take k lines)) line.op in
+    let all : ops_by mine lines ≡ ops_by mine (take (k + 1) lines) ++ ops_by mine (drop (k + 1) lines) =
+    ap (ops_by mine) (sym (take-append-drop (k + 1) lines)) ∙ ops_by-append mine (take (k + 1) lines) (drop (k + 1) lines) in
+    let whole = ap (sum_by asked_by) all ∙ sum_by-append asked_by (ops_by mine (take (k + 1) lines)) (ops_by mine (drop (k + 1) lines)) in
+    omega (arith, next, whole)

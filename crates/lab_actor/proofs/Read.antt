@@ -39,7 +39,7 @@ use Rattle.lab_run.specs.Stretches.{got_by}
 use Rattle.lab_actor.specs.ReaderLines.{AreSamples, HasCalled, HasRead, HasSameSetup}
 
 -- as many samples as frames times channels
-length-through : (bindings : List ℕ) (frames : List Frame) → length (through_all bindings frames) ≡ length frames * length bindings
+pub length-through : (bindings : List ℕ) (frames : List Frame) → length (through_all bindings frames) ≡ length frames * length bindings
 length-through bindings [] = sym (zero-mul (length bindings))
 length-through bindings (frame ∷ frames) =
     let here = length-append (through bindings frame.samples) (through_all bindings frames) in

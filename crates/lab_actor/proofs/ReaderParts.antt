@@ -1,16 +1,19 @@
 -- A reader's lines, one after the other.
-use Rattle.std.proofs.Common.{◌≡◌, ℕ, ◌+◌, ◌*◌, ◌<◌, List, [], ◌∷◌, ◌++◌, refl, sym, ◌∙◌, ap, subst, arith, append_assoc, length, get_or, take, drop, suc, zero-mul}
-use Rattle.std.proofs.Math.Nat.{add-mul}
+use Rattle.std.proofs.Common.{◌≡◌, ℕ, ◌+◌, ◌*◌, ◌<◌, ◌≤◌, List, [], ◌∷◌, ◌++◌, refl, sym, ◌∙◌, ap, subst, arith, append_assoc, length, get_or, take, drop, suc, zero-mul}
+use Rattle.std.proofs.Math.Nat.{add-mul, mul-le-mul_right}
 use Rattle.std.proofs.Math.Seq.{drop-cons}
-use Rattle.std.proofs.lemmas.List.{append-nil, map-append}
+use Rattle.std.proofs.lemmas.List.{append-nil, length-append, length-map, map-append}
 use Rattle.std.proofs.lemmas.List.Concat.{flat_map-append}
-use Rattle.std.proofs.lemmas.List.Sums.{sum_by-cons}
+use Rattle.std.proofs.lemmas.List.FromFn.{length-range_with_len}
+use Rattle.std.proofs.lemmas.List.Sums.{sum_by-append, sum_by-cons}
+use Rattle.std.proofs.lemmas.Nat.{le-div}
 use Rattle.std.proofs.lemmas.List.Elements.{All-append, All-nil, All-weaker, Contains-append_left, Contains-append_right}
-use Rattle.std.specs.Prelude.{All, Bool, true, false, Contains, ℤ, Option, Some, if◌then◌else◌, max, sum_by}
+use Rattle.std.specs.Prelude.{◌-◌, All, Bool, true, false, Contains, ℤ, Option, Some, if◌then◌else◌, sum_by, vec_capacity, vec_len}
 use Rattle.snd_base.specs.declared.geometry.Geometry.{Geometry}
 use Rattle.snd_base.specs.Relations.{Composes}
 use Rattle.snoop_core.specs.declared.port.Frame.{Frame}
 use Rattle.snoop_core.specs.declared.port.SnoopPort as snoopport
+use Rattle.snoop_core.specs.Port.{SnoopView}
 use Rattle.pcm_stream.specs.declared.setup.Setup.{Setup}
 use Rattle.dsnoop_client.specs.declared.plain.Plain.{Plain}
 use Rattle.dsnoop_client.specs.FewerReads.{most_read}
@@ -18,17 +21,23 @@ use Rattle.dsnoop_client.specs.Reads.{through, through_all}
 use Rattle.lab_script.specs.declared.line.Actor.{Actor}
 use Rattle.lab_script.specs.declared.line.Line.{Line}
 use Rattle.lab_script.specs.declared.line.Op.{Op}
+use Rattle.lab_script.specs.declared.line.Op.TheVariants as op
+use Rattle.lab_report.specs.declared.row.Answer.{Answer}
 use Rattle.lab_report.specs.declared.row.Row.{Row}
 use Rattle.lab_run.specs.ActorPart.{Doing, PartsGrow}
 use Rattle.lab_run.specs.Phases.{ops_by}
-use Rattle.lab_run.specs.Reader.{Reader, reader_kind, row_by}
+use Rattle.lab_run.specs.Reader.{Reader, frames_by, reader_kind, row_by}
 use Rattle.lab_run.specs.ReaderAtPort.{IsAtSnoop, IsReaderLine}
+use Rattle.lab_run.specs.Stretches.{got_by}
 use Rattle.lab_actor.specs.declared.reader.ReaderActor.{ReaderActor}
 use Rattle.lab_actor.specs.FrameRuns.{frames_in}
-use Rattle.lab_actor.specs.ReaderLines.{AreSamples, HasSameSetup}
-use Rattle.lab_actor.specs.ReaderPart.{Appends, HasDone, HasRoomFor, IsSameActor, ReaderLine, ReaderPart, TakesRoom, reader_of}
-use Rattle.lab_actor.specs.Room.{wanted_by}
+use Rattle.lab_actor.specs.ReaderLines.{AreSamples, HasAnswered, HasSameSetup}
+use Rattle.lab_actor.specs.Progress.{Progress-joined, Progress-most, SeesAtMost}
+use Rattle.lab_actor.specs.ReaderPart.{Appends, HasDone, HasGot, HasRowsFor, IsSameActor, ReaderLine, ReaderPart, TakesRow, channels_of, reader_of}
+use Rattle.lab_actor.specs.Room.{HasSpace, asked_by, frames_wanted, most_wanted, spare_frames, wanted_by}
 use Rattle.lab_actor.proofs.Parts.{other-line, own-line}
+use Rattle.lab_actor.proofs.Read.{frames_by-count, length-through}
+use Rattle.lab_actor.proofs.ReaderProgress.{Progress-same}
 
 -- an actor is the same as itself, and after two lines
 pub IsSameActor-none : (a : ReaderActor) → IsSameActor a a
@@ -40,44 +49,6 @@ IsSameActor-joined a x b one two = record {
   setup = record { same_ring = two.setup.same_ring ∙ one.setup.same_ring; same_setup = two.setup.same_setup ∙ one.setup.same_setup };
 }
 
--- the first line of some, and those that are left after it, where it took no more room than it wants
-sum_wanted : (most : ℕ) (asked : Op) (more : List Op) (channels : ℕ)
-    → sum_by (wanted_by most) (asked ∷ more) * channels ≡ wanted_by most asked * channels + sum_by (wanted_by most) more * channels
-sum_wanted most asked more channels =
-    ap (λ (n : ℕ). n * channels) (sum_by-cons (wanted_by most) asked more) ∙ add-mul (wanted_by most asked) (sum_by (wanted_by most) more) channels
-
-pub room-first : (a : ReaderActor) (asked : Op) (more : List Op) → HasRoomFor a (asked ∷ more) → HasRoomFor a (asked ∷ [])
-room-first a asked more room =
-    let channels = length a.reader.setup.bindings in
-    let rows = room.rows in
-    let runs = room.runs in
-    let samples = room.samples in
-    let most = most_read a.reader in
-    let all = sum_wanted most asked more channels in
-    let one = sum_wanted most asked [] channels in
-    let none : sum_by (wanted_by most) [] * channels ≡ 0 = zero-mul channels in
-    record { rows = omega (arith, rows); runs = omega (arith, runs); samples = omega (arith, samples, all, one, none) }
-
-pub room-left : (a b : ReaderActor) (asked : Op) (more : List Op) → HasRoomFor a (asked ∷ more) → TakesRoom a b asked → IsSameActor a b → HasRoomFor b more
-room-left a b asked more room takes same =
-    let channels = length a.reader.setup.bindings in
-    let rows = room.rows in
-    let rows_few = takes.rows.few in
-    let rows_kept = takes.rows.kept in
-    let runs = room.runs in
-    let runs_kept = takes.runs in
-    let samples = room.samples in
-    let samples_few = takes.samples.few in
-    let samples_kept = takes.samples.kept in
-    let all = sum_wanted (most_read a.reader) asked more channels in
-    let same_wanted : sum_by (wanted_by (most_read b.reader)) more * length b.reader.setup.bindings ≡ sum_by (wanted_by (most_read a.reader)) more * channels =
-    ap (λ (setup : Setup). sum_by (wanted_by (max setup.params.start_threshold 16384)) more * length setup.bindings) same.setup.same_setup in
-    record {
-      rows = omega (arith, rows, rows_few, rows_kept);
-      runs = omega (arith, runs, runs_kept);
-      samples = omega (arith, samples, samples_few, samples_kept, all, same_wanted);
-    }
-
 -- the lines that are left before and after the next one
 left-before : (mine : Actor → Bool) (lines : List Line) (k : ℕ) (line : Line) → k < length lines → get_or lines k line ≡ line
     → ops_by mine (drop k lines) ≡ (if mine line.actor then line.op ∷ [] else []) ++ ops_by mine (drop (k + 1) lines)
@@ -86,24 +57,151 @@ left-before mine lines k line within is =
     ∙ ap (λ (x : Line). x ∷ drop (suc k) lines) is
     ∙ ap (λ (j : ℕ). line ∷ drop j lines) (let e : suc k ≡ k + 1 = omega arith in e))
 
-pub room-own : (a : ReaderActor) (mine : Actor → Bool) (lines : List Line) (k : ℕ) (line : Line) → k < length lines → get_or lines k line ≡ line → mine line.actor ≡ true
-    → HasRoomFor a (ops_by mine (drop k lines)) → HasRoomFor a (line.op ∷ ops_by mine (drop (k + 1) lines))
-room-own a mine lines k line within is own room =
-    subst (HasRoomFor a) (left-before mine lines k line within is ∙ ap (λ (test : Bool). (if test then line.op ∷ [] else []) ++ ops_by mine (drop (k + 1) lines)) own) room
+own-left : (mine : Actor → Bool) (lines : List Line) (k : ℕ) (line : Line) → k < length lines → get_or lines k line ≡ line → mine line.actor ≡ true
+    → length (ops_by mine (drop k lines)) ≡ suc (length (ops_by mine (drop (k + 1) lines)))
+own-left mine lines k line within is own =
+    ap length (left-before mine lines k line within is ∙ ap (λ (test : Bool). (if test then line.op ∷ [] else []) ++ ops_by mine (drop (k + 1) lines)) own)
 
-pub room-other : (a : ReaderActor) (mine : Actor → Bool) (lines : List Line) (k : ℕ) (line : Line) → k < length lines → get_or lines k line ≡ line → mine line.actor ≡ false
-    → HasRoomFor a (ops_by mine (drop k lines)) → HasRoomFor a (ops_by mine (drop (k + 1) lines))
-room-other a mine lines k line within is other room =
-    subst (HasRoomFor a) (left-before mine lines k line within is ∙ ap (λ (test : Bool). (if test then line.op ∷ [] else []) ++ ops_by mine (drop (k + 1) lines)) other) room
+other-left : (mine : Actor → Bool) (lines : List Line) (k : ℕ) (line : Line) → k < length lines → get_or lines k line ≡ line → mine line.actor ≡ false
+    → length (ops_by mine (drop k lines)) ≡ length (ops_by mine (drop (k + 1) lines))
+other-left mine lines k line within is other =
+    ap length (left-before mine lines k line within is ∙ ap (λ (test : Bool). (if test then line.op ∷ [] else []) ++ ops_by mine (drop (k + 1) lines)) other)
 
-pub room-next : (a b : ReaderActor) (mine : Actor → Bool) (lines : List Line) (k : ℕ) (line : Line) → k < length lines → get_or lines k line ≡ line
-    → HasRoomFor a (ops_by mine (drop k lines)) → (mine line.actor ≡ true → TakesRoom a b line.op × IsSameActor a b) → (mine line.actor ≡ false → b ≡ a)
-    → HasRoomFor b (ops_by mine (drop (k + 1) lines))
-room-next a b mine lines k line within is room takes others = by_test (mine line.actor) refl
+-- the rows and runs that there is room for before and after it
+pub rows-own : (a : ReaderActor) (mine : Actor → Bool) (lines : List Line) (k : ℕ) (line : Line) → k < length lines → get_or lines k line ≡ line → mine line.actor ≡ true
+    → HasRowsFor a (length (ops_by mine (drop k lines))) → HasRowsFor a 1
+rows-own a mine lines k line within is own room =
+    let size = own-left mine lines k line within is own in
+    let rows = room.rows in
+    let runs = room.runs in
+    record { rows = omega (arith, rows, size); runs = omega (arith, runs, size) }
+
+pub rows-next : (a b : ReaderActor) (mine : Actor → Bool) (lines : List Line) (k : ℕ) (line : Line) → k < length lines → get_or lines k line ≡ line
+    → HasRowsFor a (length (ops_by mine (drop k lines))) → (mine line.actor ≡ true → TakesRow a b) → (mine line.actor ≡ false → b ≡ a)
+    → HasRowsFor b (length (ops_by mine (drop (k + 1) lines)))
+rows-next a b mine lines k line within is room takes others = by_test (mine line.actor) refl
   where
-    by_test : (test : Bool) → mine line.actor ≡ test → HasRoomFor b (ops_by mine (drop (k + 1) lines))
-    by_test true own = room-left a b line.op (ops_by mine (drop (k + 1) lines)) (room-own a mine lines k line within is own room) (takes own).0 (takes own).1
-    by_test false other = subst (λ (x : ReaderActor). HasRoomFor x (ops_by mine (drop (k + 1) lines))) (sym (others other)) (room-other a mine lines k line within is other room)
+    by_test : (test : Bool) → mine line.actor ≡ test → HasRowsFor b (length (ops_by mine (drop (k + 1) lines)))
+    by_test true own =
+        let size = own-left mine lines k line within is own in
+        let rows = room.rows in
+        let few = (takes own).rows.few in
+        let kept = (takes own).rows.kept in
+        let runs = room.runs in
+        let one = (takes own).runs in
+        record { rows = omega (arith, rows, few, kept, size); runs = omega (arith, runs, one, size) }
+    by_test false other =
+        subst (λ (x : ReaderActor). HasRowsFor x (length (ops_by mine (drop (k + 1) lines)))) (sym (others other))
+        (subst (HasRowsFor a) (other-left mine lines k line within is other) room)
+
+-- ---- the frames that they got
+
+-- the samples of frames are as many as these have numbers, times the channels
+AreSamples-length : {S : Type 0} (P : snoopport.Ghosts S) (p q : S) (r : Plain) (numbers : List ℕ) (samples : List ℤ) → AreSamples P p q r numbers samples
+    → length samples ≡ length numbers * length r.setup.bindings
+AreSamples-length P p q r numbers samples are =
+    ap length are.samples_are
+    ∙ length-through r.setup.bindings are.frames
+    ∙ ap (λ (n : ℕ). n * length r.setup.bindings) (sym (length-map are.frames (λ (frame : Frame). frame.number)) ∙ ap length are.numbers_are)
+
+-- a line got as many frames as its row counts
+pub HasGot-line : {S T : Type 0} (P : snoopport.Ghosts S) (left : T → Option ℕ) (by_gate : T → ℕ) (s t : S × T) (a b : ReaderActor) (asked : Op) (answer : Answer)
+    → HasAnswered P left by_gate s t a.reader b.reader a.samples.items b.samples.items asked (spare_frames a.reader a.samples) answer
+    → vec_capacity a.samples ≤ vec_capacity b.samples → HasGot (P.view s.0) (P.view t.0) a b (asked ∷ [])
+HasGot-line P left by_gate s t a b asked answer answered room =
+    let has_read = answered.has_read in
+    let count : ℕ = got_by asked answer in
+    let few = answered.few in
+    let one = sum_by-cons asked_by asked [] in
+    let numbers : length (frames_by asked answer b.reader) ≡ count =
+    ap length (frames_by-count asked answer b.reader) ∙ length-range_with_len (b.reader.next - count) count in
+    let more : length has_read.more ≡ count * channels_of a =
+    AreSamples-length P s.0 t.0 a.reader (frames_by asked answer b.reader) has_read.more has_read.read ∙ ap (λ (n : ℕ). n * channels_of a) numbers in
+    let all = ap length has_read.appended ∙ length-append a.samples.items has_read.more in
+    let before = a.samples.ok.0 in
+    let after = b.samples.ok.0 in
+    record {
+      count = count;
+      few = omega (arith, few, one);
+      samples = omega (arith, all, more, before, after);
+      room = room;
+      progress = answered.progress;
+    }
+
+pub HasGot-none : (v : SnoopView) (a : ReaderActor) → HasGot v v a a []
+HasGot-none v a =
+    let none : 0 * channels_of a ≡ 0 = zero-mul (channels_of a) in
+    record {
+      count = 0;
+      few = omega arith;
+      samples = omega (arith, none);
+      room = omega arith;
+      progress = Progress-same a.reader v;
+    }
+
+HasGot-more : (u v w : SnoopView) (a x b : ReaderActor) (ops : List Op) (asked : Op) → IsSameActor a x → HasGot u v a x ops → HasGot v w x b (asked ∷ [])
+    → HasGot u w a b (ops ++ asked ∷ [])
+HasGot-more u v w a x b ops asked same one two =
+    let few = one.few in
+    let more = two.few in
+    let whole = sum_by-append asked_by ops (asked ∷ []) in
+    let before = one.samples in
+    let after = two.samples in
+    let channels : two.count * channels_of x ≡ two.count * channels_of a = ap (λ (setup : Setup). two.count * length setup.bindings) same.setup.same_setup in
+    let all = add-mul one.count two.count (channels_of a) in
+    let kept = one.room in
+    let still = two.room in
+    record {
+      count = one.count + two.count;
+      few = omega (arith, few, more, whole);
+      samples = omega (arith, before, after, channels, all);
+      room = omega (arith, kept, still);
+      progress = Progress-joined one.count two.count a.reader x.reader b.reader u v w one.progress two.progress;
+    }
+
+pub HasGot-next : (u v w : SnoopView) (a x b : ReaderActor) (mine : Actor → Bool) (lines : List Line) (k : ℕ) (line : Line) → k < length lines → get_or lines k line ≡ line
+    → IsSameActor a x → HasGot u v a x (ops_by mine (take k lines)) → (mine line.actor ≡ true → HasGot v w x b (line.op ∷ []))
+    → (mine line.actor ≡ false → (b ≡ x) × (w ≡ v)) → HasGot u w a b (ops_by mine (take (k + 1) lines))
+HasGot-next u v w a x b mine lines k line within is same got own others = by_test (mine line.actor) refl
+  where
+    by_test : (test : Bool) → mine line.actor ≡ test → HasGot u w a b (ops_by mine (take (k + 1) lines))
+    by_test true own_is = subst (HasGot u w a b) (sym (own-line mine lines k line within is own_is))
+        (HasGot-more u v w a x b (ops_by mine (take k lines)) line.op same got (own own_is))
+    by_test false other_is =
+        let r = others other_is in
+        subst (HasGot u w a b) (sym (other-line mine lines k line within is other_is))
+        (subst (λ (y : ReaderActor). HasGot u w a y (ops_by mine (take k lines))) (sym r.0)
+        (subst (λ (z : SnoopView). HasGot u z a x (ops_by mine (take k lines))) (sym r.1) got))
+
+-- ---- the room for them
+
+-- a read wants no more room than it asks for, and than the most that a read gets or starts by
+wanted-asked : (most : ℕ) (asked : Op) → (wanted_by most asked ≤ asked_by asked) × (wanted_by most asked ≤ most)
+wanted-asked most (op.Read n) = (omega arith, omega arith)
+wanted-asked most other = (omega arith, omega arith)
+
+-- There is room for the next line, where a phase's lines have theirs, and the port saw no more frames so far than the card plays.
+pub line-fits : (played : ℕ) (v w : SnoopView) (a x : ReaderActor) (all ops : List Op) (asked : Op) → 1 ≤ channels_of x → IsSameActor a x → HasGot v w a x ops
+    → sum_by asked_by ops + asked_by asked ≤ sum_by asked_by all
+    → HasSpace (frames_wanted (most_wanted a.reader v.geometry.frames played) all * channels_of a) a.samples → SeesAtMost played v w
+    → wanted_by (most_read x.reader) asked ≤ spare_frames x.reader x.samples
+line-fits played v w a x all ops asked some same got within space most =
+    let wanted : ℕ = wanted_by (most_read x.reader) asked in
+    let count = got.count in
+    let few = got.few in
+    let few_asked = (wanted-asked (most_read x.reader) asked).0 in
+    let few_read = (wanted-asked (most_read x.reader) asked).1 in
+    let start : x.reader.setup.params.start_threshold ≡ a.reader.setup.params.start_threshold = ap (λ (setup : Setup). setup.params.start_threshold) same.setup.same_setup in
+    let held = Progress-most count played a.reader x.reader v w got.progress most in
+    let total : ℕ = frames_wanted (most_wanted a.reader v.geometry.frames played) all in
+    let fits : count + wanted ≤ total = omega (arith, few, few_asked, few_read, start, held, within) in
+    let channels : channels_of x ≡ channels_of a = ap (λ (setup : Setup). length setup.bindings) same.setup.same_setup in
+    let both = add-mul count wanted (channels_of a) in
+    let samples_fit : (count + wanted) * channels_of a ≤ total * channels_of a = mul-le-mul_right (channels_of a) fits in
+    let own : wanted * channels_of x ≡ wanted * channels_of a = ap (λ (n : ℕ). wanted * n) channels in
+    let samples = got.samples in
+    let room = got.room in
+    le-div wanted (vec_capacity x.samples - vec_len x.samples) (channels_of x) some (omega (arith, both, samples_fit, own, samples, room, space))
 
 module _ {S : Type 0} (P : snoopport.Ghosts S) (composes : Composes P.got) where
   -- samples of frames through the same setup
@@ -161,19 +259,20 @@ module _ {S : Type 0} (P : snoopport.Ghosts S) (composes : Composes P.got) where
   }
 
 module _ {S T : Type 0} (P : snoopport.Ghosts S) (composes : Composes P.got) (left : T → Option ℕ) (by_gate : T → ℕ) where
-  pub ReaderPart-none : (s : S × T) (phase : ℕ) (a : ReaderActor) → ReaderPart P left by_gate s s phase a a []
-  ReaderPart-none s phase a = record {
+  pub ReaderPart-none : (s : S × T) (phase played : ℕ) (a : ReaderActor) → ReaderPart P left by_gate s s phase played a a []
+  ReaderPart-none s phase played a = record {
     rows = [];
     rows_are = sym (append-nil a.rows.items);
-    part = λ first ring before at. record { doing = before; done = (refl, refl); at = at };
+    part = λ most first ring before at. record { doing = before; done = (refl, refl); at = at };
     appends = Appends-none P composes s.0 a;
     same = IsSameActor-none a;
   }
 
   pub ReaderPart-more : ((ring : Geometry) (phase number : ℕ) → PartsGrow (reader_kind phase number) ring)
-      → (s t u : S × T) (phase : ℕ) (a x b : ReaderActor) (ops : List Op) (asked : Op)
-      → ReaderPart P left by_gate s t phase a x ops → ReaderLine P left by_gate t u phase x b asked → ReaderPart P left by_gate s u phase a b (ops ++ asked ∷ [])
-  ReaderPart-more grow s t u phase a x b ops asked one line =
+      → (s t u : S × T) (phase played : ℕ) (a x b : ReaderActor) (ops : List Op) (asked : Op) → (P.view t.0).seen ≤ (P.view u.0).seen
+      → (SeesAtMost played (P.view s.0) (P.view t.0) → wanted_by (most_read x.reader) asked ≤ spare_frames x.reader x.samples)
+      → ReaderPart P left by_gate s t phase played a x ops → ReaderLine P left by_gate t u phase x b asked → ReaderPart P left by_gate s u phase played a b (ops ++ asked ∷ [])
+  ReaderPart-more grow s t u phase played a x b ops asked rising fits one line =
       let row : Row = row_by phase a.number asked (Some b.reader) line.answer in
       record {
         rows = one.rows ++ row ∷ [];
@@ -182,10 +281,11 @@ module _ {S T : Type 0} (P : snoopport.Ghosts S) (composes : Composes P.got) (le
             ∙ ap (λ (n : ℕ). x.rows.items ++ row_by phase n asked (Some b.reader) line.answer ∷ []) one.same.number
             ∙ ap (λ (rows : List Row). rows ++ row ∷ []) one.rows_are
             ∙ append_assoc a.rows.items one.rows (row ∷ []);
-        part = λ first ring before at.
-            let p = one.part first ring before at in
+        part = λ most first ring before at.
+            let earlier : SeesAtMost played (P.view s.0) (P.view t.0) = omega (arith, most, rising) in
+            let p = one.part earlier first ring before at in
             let l = subst (λ (n : ℕ). IsReaderLine P left by_gate first ring u phase n p.doing (reader_of x) asked (reader_of b) line.answer) one.same.number
-            (line.line first ring p.doing p.at) in
+            (line.line (fits earlier) first ring p.doing p.at) in
             record {
               doing = l.doing;
               done = grow ring phase a.number ((before.0, reader_of a), before.1) ((p.doing.0, reader_of x), p.doing.1) ((l.doing.0, reader_of b), l.doing.1)
@@ -198,20 +298,22 @@ module _ {S T : Type 0} (P : snoopport.Ghosts S) (composes : Composes P.got) (le
 
   -- one line of a phase, which an actor does where it is its own
   pub ReaderPart-next : ((ring : Geometry) (phase number : ℕ) → PartsGrow (reader_kind phase number) ring)
-      → (s t u : S × T) (phase : ℕ) (a x b : ReaderActor) (mine : Actor → Bool) (lines : List Line) (k : ℕ) (line : Line) → k < length lines → get_or lines k line ≡ line
-      → ReaderPart P left by_gate s t phase a x (ops_by mine (take k lines))
+      → (s t u : S × T) (phase played : ℕ) (a x b : ReaderActor) (mine : Actor → Bool) (lines : List Line) (k : ℕ) (line : Line) → k < length lines
+      → get_or lines k line ≡ line → (mine line.actor ≡ true → (P.view t.0).seen ≤ (P.view u.0).seen)
+      → (mine line.actor ≡ true → SeesAtMost played (P.view s.0) (P.view t.0) → wanted_by (most_read x.reader) line.op ≤ spare_frames x.reader x.samples)
+      → ReaderPart P left by_gate s t phase played a x (ops_by mine (take k lines))
       → (mine line.actor ≡ true → ReaderLine P left by_gate t u phase x b line.op) → (mine line.actor ≡ false → (b ≡ x) × (u.0 ≡ t.0) × (u.1 ≡ t.1))
-      → ReaderPart P left by_gate s u phase a b (ops_by mine (take (k + 1) lines))
-  ReaderPart-next grow s t u phase a x b mine lines k line within is part own others = by_test (mine line.actor) refl
+      → ReaderPart P left by_gate s u phase played a b (ops_by mine (take (k + 1) lines))
+  ReaderPart-next grow s t u phase played a x b mine lines k line within is rising fits part own others = by_test (mine line.actor) refl
     where
-      by_test : (test : Bool) → mine line.actor ≡ test → ReaderPart P left by_gate s u phase a b (ops_by mine (take (k + 1) lines))
-      by_test true own_is = subst (λ (ops : List Op). ReaderPart P left by_gate s u phase a b ops) (sym (own-line mine lines k line within is own_is))
-          (ReaderPart-more grow s t u phase a x b (ops_by mine (take k lines)) line.op part (own own_is))
+      by_test : (test : Bool) → mine line.actor ≡ test → ReaderPart P left by_gate s u phase played a b (ops_by mine (take (k + 1) lines))
+      by_test true own_is = subst (λ (ops : List Op). ReaderPart P left by_gate s u phase played a b ops) (sym (own-line mine lines k line within is own_is))
+          (ReaderPart-more grow s t u phase played a x b (ops_by mine (take k lines)) line.op (rising own_is) (fits own_is) part (own own_is))
       by_test false other_is =
           let r = others other_is in
-          subst (λ (ops : List Op). ReaderPart P left by_gate s u phase a b ops) (sym (other-line mine lines k line within is other_is))
-          (subst (λ (y : ReaderActor). ReaderPart P left by_gate s u phase a y (ops_by mine (take k lines))) (sym r.0)
-          (let same : t ≡ u = λ i. ((sym r.1) i, (sym r.2) i) in subst (λ (v : S × T). ReaderPart P left by_gate s v phase a x (ops_by mine (take k lines))) same part))
+          subst (λ (ops : List Op). ReaderPart P left by_gate s u phase played a b ops) (sym (other-line mine lines k line within is other_is))
+          (subst (λ (y : ReaderActor). ReaderPart P left by_gate s u phase played a y (ops_by mine (take k lines))) (sym r.0)
+          (let same : t ≡ u = λ i. ((sym r.1) i, (sym r.2) i) in subst (λ (v : S × T). ReaderPart P left by_gate s v phase played a x (ops_by mine (take k lines))) same part))
 
 -- the same at a gate of which the shares are the same
 IsAtSnoop-shared : {S T U : Type 0} (P : snoopport.Ghosts S) (left : T → Option ℕ) (by_gate : T → ℕ) (other_left : U → Option ℕ) (by_other : U → ℕ)
@@ -236,16 +338,16 @@ pub record IsSameButLeft (b c : ReaderActor) : Type 0 where
   pub rows : c.rows.items ≡ b.rows.items
 
 pub ReaderPart-shared : {S T U : Type 0} (P : snoopport.Ghosts S) (left : T → Option ℕ) (by_gate : T → ℕ) (other_left : U → Option ℕ) (by_other : U → ℕ)
-    (p q : S) (g h : T) (k m : U) (phase : ℕ) (a b c : ReaderActor) (ops : List Op)
+    (p q : S) (g h : T) (k m : U) (phase played : ℕ) (a b c : ReaderActor) (ops : List Op)
     → left g ≡ other_left k → by_gate g ≡ by_other k → left h ≡ other_left m → by_gate h ≡ by_other m → IsSameButLeft b c
-    → ReaderPart P left by_gate (p, g) (q, h) phase a b ops → ReaderPart P other_left by_other (p, k) (q, m) phase a c ops
-ReaderPart-shared P left by_gate other_left by_other p q g h k m phase a b c ops left_before gate_before left_after gate_after same part =
+    → ReaderPart P left by_gate (p, g) (q, h) phase played a b ops → ReaderPart P other_left by_other (p, k) (q, m) phase played a c ops
+ReaderPart-shared P left by_gate other_left by_other p q g h k m phase played a b c ops left_before gate_before left_after gate_after same part =
     let same_reader : reader_of b ≡ reader_of c = λ i. record { own = Some ((sym same.reader) i); frames = frames_in ((sym same.frames) i) } in
     record {
       rows = part.rows;
       rows_are = same.rows ∙ part.rows_are;
-      part = λ first ring before at.
-          let done = part.part first ring before
+      part = λ most first ring before at.
+          let done = part.part most first ring before
           (IsAtSnoop-shared P other_left by_other left by_gate first ring p k g before (sym left_before) (sym gate_before) at) in
           subst (λ (own : Reader). HasDone P other_left by_other first ring (q, m) phase a.number before (reader_of a) ops own part.rows) same_reader (record {
             doing = done.doing;

@@ -3,6 +3,7 @@ pub mod ClientPart
 pub mod Countdown
 pub mod CountdownLaws
 pub mod FrameRuns
+pub mod Progress
 pub mod Raised
 pub mod ReaderLines
 pub mod ReaderPart

@@ -6,6 +6,7 @@ use Rattle.snoop_core.specs.declared.port.Frame.{Frame}
 use Rattle.snoop_core.specs.declared.port.SnoopPort as snoopport
 use Rattle.course.specs.AtSnoopPort.{TakesAtSnoop}
 use Rattle.dsnoop_client.specs.declared.plain.Plain.{Plain}
+use Rattle.dsnoop_client.specs.FewerReads.{most_read}
 use Rattle.dsnoop_client.specs.Reads.{through_all}
 use Rattle.dsnoop_client.specs.View.{CanUse}
 use Rattle.lab_script.specs.declared.line.Op.{Op}
@@ -15,6 +16,8 @@ use Rattle.lab_run.specs.ActorPart.{Doing}
 use Rattle.lab_run.specs.Reader.{call_of, frames_by}
 use Rattle.lab_run.specs.ReaderAtPort.{IsAtSnoop, IsReaderLine}
 use Rattle.lab_run.specs.Stretches.{got_by}
+use Rattle.lab_actor.specs.Progress.{Progress}
+use Rattle.lab_actor.specs.Room.{asked_by, wanted_by}
 
 -- a line of at most so many frames as a call takes
 abbrev pub IsFewRead : Op → Type 0
@@ -52,10 +55,14 @@ pub record HasCalled {S T : Type 0} (P : snoopport.Ghosts S) (G : gates.Ghosts T
   pub takes : TakesAtSnoop P G s (call_of r asked) t (after, answer)
   pub has_read : HasRead P s.0 t.0 r after before samples asked answer
 
--- an open reader was answered a line: whichever frames it had, it is its line as a run has it
+-- An open reader was answered a line, with room for so many frames: whichever frames it had, it is its line as a run has it, where there was room for
+-- those that the line may get. It made progress by the frames that it got, which are no more than the line asks for.
 pub record HasAnswered {S T : Type 0} (P : snoopport.Ghosts S) (left : T → Option ℕ) (by_gate : T → ℕ) (s t : S × T) (r after : Plain) (before samples : List ℤ)
-    (asked : Op) (answer : Answer) : Type 0 where
-  pub line : (phase number : ℕ) (frames : List ℕ) (first : S) (ring : Geometry) (doing : Doing) → IsAtSnoop P left by_gate first ring s doing
+    (asked : Op) (spare : ℕ) (answer : Answer) : Type 0 where
+  pub line : wanted_by (most_read r) asked ≤ spare → (phase number : ℕ) (frames : List ℕ) (first : S) (ring : Geometry) (doing : Doing)
+      → IsAtSnoop P left by_gate first ring s doing
       → IsReaderLine P left by_gate first ring t phase number doing (record { own = Some r; frames = frames })
       asked (record { own = Some after; frames = frames ++ frames_by asked answer after }) answer
   pub has_read : HasRead P s.0 t.0 r after before samples asked answer
+  pub progress : Progress (got_by asked answer) r after (P.view s.0) (P.view t.0)
+  pub few : got_by asked answer ≤ asked_by asked

@@ -1,20 +1,22 @@
 -- What the lines of an open reader did in a phase: its part of a run, its rows, and its frames with their samples.
-use Rattle.std.specs.Prelude.{◌≡◌, ℕ, ◌+◌, ◌*◌, ◌≤◌, ℤ, List, [], ◌∷◌, ◌++◌, length, Option, Some, sum_by}
+use Rattle.std.specs.Prelude.{◌≡◌, ℕ, ◌+◌, ◌*◌, ◌≤◌, ℤ, List, [], ◌∷◌, ◌++◌, length, Option, Some, sum_by, vec_capacity, vec_len}
 use Rattle.snd_base.specs.declared.geometry.Geometry.{Geometry}
 use Rattle.snoop_core.specs.declared.port.SnoopPort as snoopport
+use Rattle.snoop_core.specs.Port.{SnoopView}
 use Rattle.dsnoop_client.specs.FewerReads.{most_read}
 use Rattle.lab_script.specs.declared.line.Line.{Line}
 use Rattle.lab_script.specs.declared.line.Op.{Op}
 use Rattle.lab_report.specs.declared.row.Answer.{Answer}
 use Rattle.lab_report.specs.declared.row.Row.{Row}
 use Rattle.lab_run.specs.ActorPart.{ActorPart, Doing}
-use Rattle.lab_run.specs.Phases.{is_reader, ops_by}
+use Rattle.lab_run.specs.Phases.{is_reader, ops_by, played_in}
 use Rattle.lab_run.specs.Reader.{Reader, reader_kind, row_by}
 use Rattle.lab_run.specs.ReaderAtPort.{IsAtSnoop, IsReaderLine}
 use Rattle.lab_actor.specs.declared.reader.ReaderActor.{ReaderActor}
 use Rattle.lab_actor.specs.FrameRuns.{frames_in}
+use Rattle.lab_actor.specs.Progress.{Progress, SeesAtMost}
 use Rattle.lab_actor.specs.ReaderLines.{AreSamples, HasSameSetup}
-use Rattle.lab_actor.specs.Room.{GrowsBy, HasSpace, samples_wanted, wanted_by}
+use Rattle.lab_actor.specs.Room.{GrowsBy, HasSpace, asked_by, frames_wanted, most_wanted, spare_frames, wanted_by}
 
 -- the reader of an actor, as a run has it
 abbrev pub reader_of : ReaderActor → Reader
@@ -29,21 +31,33 @@ pub record IsSameActor (a b : ReaderActor) : Type 0 where
 abbrev pub channels_of : ReaderActor → ℕ
 channels_of a = length a.reader.setup.bindings
 
--- an actor has the room that lines want which ask for this: a row and a run each, and the samples of the frames that each may get
-pub record HasRoomFor (a : ReaderActor) (ops : List Op) : Type 0 where
-  pub rows : HasSpace (length ops) a.rows
-  pub runs : length ops ≤ a.frames.room
-  pub samples : HasSpace (sum_by (wanted_by (most_read a.reader)) ops * channels_of a) a.samples
+-- an actor has room for so many rows, and for as many runs
+pub record HasRowsFor (a : ReaderActor) (count : ℕ) : Type 0 where
+  pub rows : HasSpace count a.rows
+  pub runs : count ≤ a.frames.room
+
+-- An actor has the room that lines want which ask for this, at a ring of so many frames in a phase in which the card plays so many: a row and a run
+-- each, and the samples of all frames that they may get together.
+pub record HasRoomFor (a : ReaderActor) (ring played : ℕ) (ops : List Op) : Type 0 where
+  pub lines : HasRowsFor a (length ops)
+  pub samples : HasSpace (frames_wanted (most_wanted a.reader ring played) ops * channels_of a) a.samples
 
 -- it has the room for its lines of a phase
-abbrev pub HasRoom : ReaderActor → List Line → Type 0
-HasRoom a lines = HasRoomFor a (ops_by (is_reader a.number) lines)
+abbrev pub HasRoom : ℕ → ReaderActor → List Line → Type 0
+HasRoom ring a lines = HasRoomFor a ring (played_in lines) (ops_by (is_reader a.number) lines)
 
--- a line took no more room than it wants
-pub record TakesRoom (a b : ReaderActor) (asked : Op) : Type 0 where
+-- a line took no more than a row and a run
+pub record TakesRow (a b : ReaderActor) : Type 0 where
   pub rows : GrowsBy 1 a.rows b.rows
   pub runs : a.frames.room ≤ b.frames.room + 1
-  pub samples : GrowsBy (samples_wanted a.reader asked) a.samples b.samples
+
+-- lines got some frames, no more than they ask for, whose samples went into the room that there was
+pub record HasGot (v w : SnoopView) (a b : ReaderActor) (ops : List Op) : Type 0 where
+  pub count : ℕ
+  pub few : count ≤ sum_by asked_by ops
+  pub samples : vec_len b.samples ≡ vec_len a.samples + count * channels_of a
+  pub room : vec_capacity a.samples ≤ vec_capacity b.samples
+  pub progress : Progress count a.reader b.reader v w
 
 -- frames were appended to the runs of an actor, and their samples to its samples
 pub record Appends {S : Type 0} (P : snoopport.Ghosts S) (p q : S) (a b : ReaderActor) : Type 0 where
@@ -60,20 +74,23 @@ pub record HasDone {S T : Type 0} (P : snoopport.Ghosts S) (left : T → Option 
   pub done : ActorPart (reader_kind phase number) ring ((before.0, reader), before.1) ops ((doing.0, after), doing.1) rows
   pub at : IsAtSnoop P left by_gate first ring t doing
 
--- An actor did one line. Whichever state of the port is taken as the first: the line is a line of the reader, as a run has it.
+-- An actor did one line. Whichever state of the port is taken as the first: the line is a line of the reader, as a run has it, where there was room for
+-- the frames that it may get.
 pub record ReaderLine {S T : Type 0} (P : snoopport.Ghosts S) (left : T → Option ℕ) (by_gate : T → ℕ) (s t : S × T) (phase : ℕ) (a b : ReaderActor) (asked : Op) : Type 0 where
   pub answer : Answer
   pub rows_are : b.rows.items ≡ a.rows.items ++ row_by phase a.number asked (Some b.reader) answer ∷ []
-  pub line : (first : S) (ring : Geometry) (before : Doing) → IsAtSnoop P left by_gate first ring s before
+  pub line : wanted_by (most_read a.reader) asked ≤ spare_frames a.reader a.samples
+      → (first : S) (ring : Geometry) (before : Doing) → IsAtSnoop P left by_gate first ring s before
       → IsReaderLine P left by_gate first ring t phase a.number before (reader_of a) asked (reader_of b) answer
   pub appends : Appends P s.0 t.0 a b
   pub same : IsSameActor a b
 
--- an actor did some lines, likewise
-pub record ReaderPart {S T : Type 0} (P : snoopport.Ghosts S) (left : T → Option ℕ) (by_gate : T → ℕ) (s t : S × T) (phase : ℕ) (a b : ReaderActor) (ops : List Op) : Type 0 where
+-- an actor did some lines, likewise, where its port saw no more frames in them than the card plays
+pub record ReaderPart {S T : Type 0} (P : snoopport.Ghosts S) (left : T → Option ℕ) (by_gate : T → ℕ) (s t : S × T) (phase played : ℕ) (a b : ReaderActor) (ops : List Op)
+    : Type 0 where
   pub rows : List Row
   pub rows_are : b.rows.items ≡ a.rows.items ++ rows
-  pub part : (first : S) (ring : Geometry) (before : Doing) → IsAtSnoop P left by_gate first ring s before
+  pub part : SeesAtMost played (P.view s.0) (P.view t.0) → (first : S) (ring : Geometry) (before : Doing) → IsAtSnoop P left by_gate first ring s before
       → HasDone P left by_gate first ring t phase a.number before (reader_of a) ops (reader_of b) rows
   pub appends : Appends P s.0 t.0 a b
   pub same : IsSameActor a b

@@ -1,20 +1,20 @@
 //! An open reader of a script, and what its lines do in a phase.
-ghost use Rattle.std.specs.Prelude.{◌≡◌, ◌<◌, ◌∷◌, [], All, IfErr, OnOk, false, true, length};
+ghost use Rattle.std.specs.Prelude.{◌≡◌, ◌<◌, ◌≤◌, ◌∷◌, [], All, IfErr, OnOk, false, true, length, vec_capacity};
 ghost use Rattle.dsnoop_client.specs.View.{CanUse};
 ghost use Rattle.lab_script.specs.declared.line.Line.{Line};
-ghost use Rattle.lab_run.specs.Phases.{is_reader, ops_by};
+ghost use Rattle.lab_run.specs.Phases.{is_reader, ops_by, played_in};
 ghost use Rattle.lab_run.specs.Stretches.{got_by};
 ghost use Rattle.lab_actor.specs.ClientLines.{CanCall};
 ghost use Rattle.lab_actor.specs.ClientPart.{left_in, stops_in};
 ghost use Rattle.lab_actor.specs.Countdown.{IsSameGate, by_gate_of, left_of};
 ghost use Rattle.lab_actor.specs.ReaderLines.{HasAnswered, IsFewRead};
-ghost use Rattle.lab_actor.specs.ReaderPart.{HasRoom, HasRoomFor, ReaderLine, ReaderPart, TakesRoom};
-ghost use Rattle.lab_actor.specs.Room.{GrowsBy, HasSpace, samples_wanted};
+ghost use Rattle.lab_actor.specs.ReaderPart.{HasGot, HasRoom, HasRowsFor, ReaderLine, ReaderPart, TakesRow};
+ghost use Rattle.lab_actor.specs.Room.{spare_frames};
 
 use crate::countdown::Countdown;
 use crate::frame_runs::FrameRuns;
-use crate::reader_calls::{call, most_read};
-use crate::room::{frames_wanted, is_of, line_count, push_row};
+use crate::reader_calls::call_fitting;
+use crate::room::{frames_wanted, is_of, line_count, most_wanted, push_row};
 use dsnoop_client::Reader;
 use lab_report::{Answer, Row};
 use lab_run::{lines_without_calls, parts_grow, reader_lines_are_parts};
@@ -58,14 +58,14 @@ fn call_line<P: SnoopPort, G: Gate, L: Ledger>(
     requires few { IsFewRead asked }
     requires can { CanCall reader.old.status.stopped asked }
     requires usable { CanUse reader.old (P.view port.old) }
-    requires room { HasSpace (samples_wanted reader.old asked) samples.old }
     ensures answered { HasAnswered P.SnoopPort left_of (by_gate_of G.stops) (port.old, gate.old) (port.new, gate.new)
-        reader.old reader.new samples.old.items samples.new.items asked result }
+        reader.old reader.new samples.old.items samples.new.items
+        asked (spare_frames reader.old samples.old) result }
     ensures same_gate { IsSameGate gate.old gate.new }
-    ensures room { GrowsBy (samples_wanted reader.old asked) samples.old samples.new }
+    ensures room { vec_capacity samples.old ≤ vec_capacity samples.new }
 {
     reader_lines_are_parts::<P, Countdown<'_, G, L>>();
-    call(reader, port, gate, samples, asked)
+    call_fitting(reader, port, gate, samples, asked)
 }
 
 /// What a line of an open reader is answered: after a stop nothing is done any more, and a `die` lets so many asks pass.
@@ -78,11 +78,11 @@ fn answer_line<P: SnoopPort, G: Gate, L: Ledger>(
 ) -> Answer
     requires few { IsFewRead asked }
     requires usable { CanUse reader.old (P.view port.old) }
-    requires room { HasSpace (samples_wanted reader.old asked) samples.old }
     ensures answered { HasAnswered P.SnoopPort left_of (by_gate_of G.stops) (port.old, gate.old) (port.new, gate.new)
-        reader.old reader.new samples.old.items samples.new.items asked result }
+        reader.old reader.new samples.old.items samples.new.items
+        asked (spare_frames reader.old samples.old) result }
     ensures same_gate { IsSameGate gate.old gate.new }
-    ensures room { GrowsBy (samples_wanted reader.old asked) samples.old samples.new }
+    ensures room { vec_capacity samples.old ≤ vec_capacity samples.new }
 {
     lines_without_calls();
     if reader.is_stopped() {
@@ -96,12 +96,13 @@ fn answer_line<P: SnoopPort, G: Gate, L: Ledger>(
 }
 
 impl ReaderActor {
-    /// Takes the room that the lines of a phase want, so that `run_lines` takes no memory: a row and a run for each, and for
-    /// each read the samples of as many frames as it asks for, but of no more than a ring has or than start the reader: a
-    /// read of more gets no more of them. It refuses, with `Memory`, only where no memory is left, or where
+    /// Takes the room that the lines of a phase want, so that `run_lines` takes no memory: a row and a run for each, and the
+    /// samples of the frames that they may get, at a ring of so many frames. These are no more than the lines ask to read; and no
+    /// more than the ring has, than the card plays in the phase, and than the greatest start threshold (65,536) together, since
+    /// no frame comes twice. It refuses, with `Memory`, only where no memory is left, or where
     /// these are more samples than an address space has; then nothing but the room is changed.
-    pub fn take_room(&mut self, lines: &[Line]) -> Result<(), PcmError>
-        ensures room { OnOk result (HasRoom self.new lines.now) }
+    pub fn take_room(&mut self, lines: &[Line], ring: u32) -> Result<(), PcmError>
+        ensures room { OnOk result (HasRoom ring self.new lines.now) }
         ensures same_rows { self.new.rows.items ≡ self.old.rows.items }
         ensures same_frames { self.new.frames.runs ≡ self.old.frames.runs }
         ensures same_samples { self.new.samples.items ≡ self.old.samples.items }
@@ -111,7 +112,9 @@ impl ReaderActor {
     {
         let own = Actor::Reader(self.number);
         let count = line_count(lines, own);
-        let frames = frames_wanted(lines, own, most_read(&self.reader)).ok_or(PcmError::Memory)?;
+        let start = self.reader.params().start_threshold;
+        let most = most_wanted(lines, ring, start).ok_or(PcmError::Memory)?;
+        let frames = frames_wanted(lines, own, most) as usize;
         let samples = frames
             .checked_mul(self.reader.channels() as usize)
             .ok_or(PcmError::Memory)?;
@@ -131,12 +134,13 @@ impl ReaderActor {
     )
         requires few { IsFewRead asked }
         requires usable { CanUse self.old.reader (P.view port.old) }
-        requires room { HasRoomFor self.old (asked ∷ []) }
+        requires room { HasRowsFor self.old 1 }
         ensures line { ReaderLine P.SnoopPort left_of (by_gate_of G.stops) (port.old, gate.old) (port.new, gate.new)
             phase self.old self.new asked }
         ensures usable { CanUse self.new.reader (P.view port.new) }
         ensures same_gate { IsSameGate gate.old gate.new }
-        ensures room { TakesRoom self.old self.new asked }
+        ensures room { TakesRow self.old self.new }
+        ensures got { HasGot (P.view port.old) (P.view port.new) self.old self.new (asked ∷ []) }
     {
         let answer = answer_line(&mut self.reader, port, gate, &mut self.samples, asked);
         let count = frames_read(asked, answer);
@@ -162,7 +166,7 @@ impl ReaderActor {
     )
         requires few { IsFewRead line.now.op }
         requires usable { CanUse self.old.reader (P.view port.old) }
-        requires room { is_reader self.old.number line.now.actor ≡ true → HasRoomFor self.old (line.now.op ∷ []) }
+        requires room { is_reader self.old.number line.now.actor ≡ true → HasRowsFor self.old 1 }
         ensures own { is_reader self.old.number line.now.actor ≡ true
             → ReaderLine P.SnoopPort left_of (by_gate_of G.stops) (port.old, gate.old) (port.new, gate.new)
             phase self.old self.new line.now.op }
@@ -170,7 +174,9 @@ impl ReaderActor {
             → (self.new ≡ self.old) × (port.new ≡ port.old) × (gate.new ≡ gate.old) }
         ensures usable { CanUse self.new.reader (P.view port.new) }
         ensures same_gate { IsSameGate gate.old gate.new }
-        ensures room { is_reader self.old.number line.now.actor ≡ true → TakesRoom self.old self.new line.now.op }
+        ensures room { is_reader self.old.number line.now.actor ≡ true → TakesRow self.old self.new }
+        ensures got { is_reader self.old.number line.now.actor ≡ true
+            → HasGot (P.view port.old) (P.view port.new) self.old self.new (line.now.op ∷ []) }
     {
         if is_of(line, Actor::Reader(self.number)) {
             self.do_line(port, gate, phase, line.op);
@@ -187,13 +193,15 @@ impl ReaderActor {
     )
         requires few { All (λ (line : Line). IsFewRead line.op) lines.now }
         requires usable { CanUse self.old.reader (P.view port.old) }
-        requires room { HasRoom self.old lines.now }
+        requires room { HasRoom (P.view port.old).geometry.frames self.old lines.now }
         ensures part { ReaderPart P.SnoopPort left_of (by_gate_of G.stops) (port.old, gate.old) (port.new, gate.new)
-            phase self.old self.new (ops_by (is_reader self.old.number) lines.now) }
+            phase (played_in lines.now) self.old self.new (ops_by (is_reader self.old.number) lines.now) }
         ensures usable { CanUse self.new.reader (P.view port.new) }
         ensures same_gate { IsSameGate gate.old gate.new }
     {
         parts_grow();
+        // There is a channel at least, so that the room counts the frames.
+        let _channels = self.reader.channels();
         for index in 0..lines.len() {
             self.do_own(port, gate, phase, &lines[index]);
         }
@@ -213,10 +221,10 @@ impl ReaderActor {
         requires some { 0 < blank.parts }
         requires few { All (λ (line : Line). IsFewRead line.op) lines.now }
         requires usable { CanUse self.old.reader (P.view port.old) }
-        requires room { HasRoom self.old lines.now }
+        requires room { HasRoom (P.view port.old).geometry.frames self.old lines.now }
         ensures part { ReaderPart P.SnoopPort left_in stops_in
             (port.old, (self.old.left, G.stops gate.old)) (port.new, (self.new.left, G.stops gate.new))
-            phase self.old self.new (ops_by (is_reader self.old.number) lines.now) }
+            phase (played_in lines.now) self.old self.new (ops_by (is_reader self.old.number) lines.now) }
         ensures usable { CanUse self.new.reader (P.view port.new) }
     {
         let mut countdown: Countdown<'_, G, L> = Countdown::new(gate, self.left, blank);
@@ -232,7 +240,8 @@ impl ReaderActor {
     /// Each line makes one call of the stream and appends its row. A read appends the frames that it read, and their samples.
     /// A `die` lets the next asks
     /// pass, as many as it says, and the one after them stops the reader; a later `die` takes its place. After a stop, every
-    /// line is answered with `Stopped` and nothing is done. What the lines did is the reader's part of a run: `part` says so.
+    /// line is answered with `Stopped` and nothing is done. What the lines did is the reader's part of a run: `part` says so, where
+    /// the port saw no more frames meanwhile than the card plays in the phase.
     pub fn run_lines<P: SnoopPort, G: Gate>(
         &mut self,
         port: &mut P,
@@ -242,10 +251,10 @@ impl ReaderActor {
     )
         requires few { All (λ (line : Line). IsFewRead line.op) lines.now }
         requires usable { CanUse self.old.reader (P.view port.old) }
-        requires room { HasRoom self.old lines.now }
+        requires room { HasRoom (P.view port.old).geometry.frames self.old lines.now }
         ensures part { ReaderPart P.SnoopPort left_in stops_in
             (port.old, (self.old.left, G.stops gate.old)) (port.new, (self.new.left, G.stops gate.new))
-            phase self.old self.new (ops_by (is_reader self.old.number) lines.now) }
+            phase (played_in lines.now) self.old self.new (ops_by (is_reader self.old.number) lines.now) }
         ensures usable { CanUse self.new.reader (P.view port.new) }
     {
         self.run_at::<P, G, Brand>(port, gate, phase, lines, Blank::new(1));

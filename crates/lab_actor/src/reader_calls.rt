@@ -1,9 +1,9 @@
 //! The calls that the lines of an open reader name.
-ghost use Rattle.std.specs.Prelude.{◌≡◌, ◌≤◌, ◌++◌, min, pos, replicate};
+ghost use Rattle.std.specs.Prelude.{◌≡◌, ◌≤◌, ◌++◌, min, pos, replicate, vec_capacity};
 ghost use Rattle.dsnoop_client.specs.FewerReads.{most_read};
 ghost use Rattle.dsnoop_client.specs.View.{CanUse};
 ghost use Rattle.lab_actor.specs.ReaderLines.{HasCalled, IsFewRead};
-ghost use Rattle.lab_actor.specs.Room.{GrowsBy, HasSpace, samples_wanted};
+ghost use Rattle.lab_actor.specs.Room.{GrowsBy, HasSpace, fitting, samples_wanted, spare_frames};
 
 use crate::answer::{counted, done, moved};
 use dsnoop_client::Reader;
@@ -86,4 +86,46 @@ pub(crate) fn call<P: SnoopPort, G: Gate>(
         Op::Pause => done(reader.pause(true)),
         _ => Answer::Failed(PcmError::BadState),
     }
+}
+
+/// How many frames of a reader there is room for yet.
+fn spare_frames(reader: &Reader, samples: &Vec<i16>) -> u64
+    ensures { result ≡ spare_frames reader.now samples.now }
+{
+    let spare = samples.capacity() - samples.len();
+    (spare / reader.channels() as usize) as u64
+}
+
+/// What a line names, of no more frames than there is room for.
+fn fitting(reader: &Reader, samples: &Vec<i16>, asked: Op) -> Op
+    ensures { result ≡ fitting (spare_frames reader.now samples.now) asked }
+{
+    match asked {
+        Op::Read(frames) => {
+            let spare = spare_frames(reader, samples);
+            Op::Read((frames as u64).min(spare) as u32)
+        }
+        other => other,
+    }
+}
+
+/// The call that a line of an open reader names, where a read asks for no more frames than there is room for.
+///
+/// So it needs no room of its own: whether there is enough of it is what the caller shows of the lines of a phase.
+pub(crate) fn call_fitting<P: SnoopPort, G: Gate>(
+    reader: &mut Reader,
+    port: &mut P,
+    gate: &mut G,
+    samples: &mut Vec<i16>,
+    asked: Op,
+) -> Answer
+    requires few { IsFewRead asked }
+    requires usable { CanUse reader.old (P.view port.old) }
+    ensures called { HasCalled P.SnoopPort G.Gate (port.old, gate.old) (port.new, gate.new)
+        reader.old reader.new samples.old.items samples.new.items
+        (fitting (spare_frames reader.old samples.old) asked) result }
+    ensures room { vec_capacity samples.old ≤ vec_capacity samples.new }
+{
+    let asked = fitting(reader, samples, asked);
+    call(reader, port, gate, samples, asked)
 }

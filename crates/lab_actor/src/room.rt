@@ -1,9 +1,9 @@
 //! The room that the rows of an actor's lines want.
-ghost use Rattle.std.specs.Prelude.{◌≡◌, ◌<◌, ◌≤◌, ◌+◌, ◌++◌, ◌∷◌, [], ◌↔◌, All, IfSome, IsTrue, if◌then◌else◌, length, sum_by, vec_capacity, vec_len};
+ghost use Rattle.std.specs.Prelude.{◌≡◌, ◌<◌, ◌≤◌, ◌+◌, ◌++◌, ◌∷◌, [], ◌↔◌, All, IfSome, IsTrue, if◌then◌else◌, length, max, vec_capacity, vec_len};
 ghost use Rattle.lab_script.specs.declared.line.Line.{Line};
-ghost use Rattle.lab_run.specs.Phases.{ops_by};
+ghost use Rattle.lab_run.specs.Phases.{ops_by, played_at, played_in};
 ghost use Rattle.lab_actor.specs.ReaderLines.{IsFewRead};
-ghost use Rattle.lab_actor.specs.Room.{is_actor, line_count, wanted_by};
+ghost use Rattle.lab_actor.specs.Room.{asked_by, frames_wanted, is_actor, line_count};
 
 use lab_report::Row;
 use lab_script::{Actor, Line, Op};
@@ -31,19 +31,41 @@ pub fn line_count(lines: &[Line], actor: Actor) -> usize
     count
 }
 
-/// How many frames a line of a client or reader wants room for: as many as it asks to read, and no more than a read gets or
-/// starts by. A line of another actor wants none.
-fn frames_of(line: &Line, actor: Actor, most: u64) -> u64
-    ensures value { result ≡ (if is_actor actor line.now.actor then wanted_by most line.now.op else 0) }
-    ensures few { result < 4294967296 }
+/// The greatest start threshold that a script's reader has.
+const MOST_START: u64 = 65536;
+
+/// How many frames a line of a client or reader asks to read. A line of another actor asks for none.
+fn frames_of(line: &Line, actor: Actor) -> u32
+    ensures { result ≡ (if is_actor actor line.now.actor then asked_by line.now.op else 0) }
 {
     if !is_of(line, actor) {
         return 0;
     }
     match line.op {
-        Op::Read(frames) => (frames as u64).min(most),
+        Op::Read(frames) => frames,
         _ => 0,
     }
+}
+
+/// How many frames the card plays by a line.
+fn frames_played(line: &Line) -> u32
+    ensures { result ≡ played_at line.now }
+{
+    match (line.actor, line.op) {
+        (Actor::Card, Op::Play(frames)) => frames,
+        _ => 0,
+    }
+}
+
+/// How many frames the card plays in a phase, where that is a `u64`.
+fn phase_frames(lines: &[Line]) -> Option<u64>
+    ensures { IfSome result (λ frames. frames ≡ played_in lines.now) }
+{
+    let mut frames: u64 = 0;
+    for index in 0..lines.len() {
+        frames = frames.checked_add(frames_played(&lines[index]) as u64)?;
+    }
+    Some(frames)
 }
 
 /// Whether a line asks to read no more than 4,194,304 frames, as many as a call takes.
@@ -63,15 +85,24 @@ pub fn reads_are_few(lines: &[Line]) -> bool
     lines.iter().all(|line| is_few_read(line.op))
 }
 
-/// How many frames an actor's lines of a phase want room for, where that is a `usize`.
-pub(crate) fn frames_wanted(lines: &[Line], actor: Actor, most: u64) -> Option<usize>
-    ensures { IfSome result (λ frames. frames ≡ sum_by (wanted_by most) (ops_by (is_actor actor) lines.now)) }
+/// The most frames for which a reader with this start threshold gets room in a phase, at a ring of so many frames, where that
+/// is a `u64`.
+pub(crate) fn most_wanted(lines: &[Line], ring: u32, start: u64) -> Option<u64>
+    ensures { IfSome result (λ most. most ≡ ring + played_in lines.now + max start 65536) }
 {
-    let mut frames: usize = 0;
+    let held = phase_frames(lines)?.checked_add(ring as u64)?;
+    held.checked_add(start.max(MOST_START))
+}
+
+/// How many frames an actor's lines of a phase get room for: as many as they ask to read, and no more than `most`.
+pub(crate) fn frames_wanted(lines: &[Line], actor: Actor, most: u64) -> u64
+    ensures { result ≡ frames_wanted most (ops_by (is_actor actor) lines.now) }
+{
+    let mut frames: u64 = 0;
     for index in 0..lines.len() {
-        frames = frames.checked_add(frames_of(&lines[index], actor, most) as usize)?;
+        frames += (frames_of(&lines[index], actor) as u64).min(most - frames);
     }
-    Some(frames)
+    frames
 }
 
 /// Appends a row, for which there is room.

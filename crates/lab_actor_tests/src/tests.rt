@@ -82,7 +82,7 @@ fn run(
     phase: u32,
     lines: &[Line],
 ) -> Result<(), PcmError> {
-    actor.take_room(lines)?;
+    actor.take_room(lines, core.geometry().frames)?;
     let mut turn = core.turn();
     assert!(rt; actor.reader.can_use(&turn));
     assert!(rt; reads_are_few(lines));
@@ -142,7 +142,7 @@ fn a_reader_that_came_too_late_reads_on_behind_the_gap(rt: HostRuntime) -> Resul
 }
 
 #[test]
-fn a_read_takes_no_more_room_than_a_ring_has_frames(rt: HostRuntime) -> Result<(), Fail> {
+fn a_read_takes_no_more_room_than_for_frames_that_come(rt: HostRuntime) -> Result<(), Fail> {
     let mut core = SnoopCore::new(rt.alloc(), RING)?;
     let mut actor = opened(&rt, rt.alloc())?;
     run(&rt, &mut core, &mut actor, 1, &[line(Op::Start)])?;
@@ -155,6 +155,31 @@ fn a_read_takes_no_more_room_than_a_ring_has_frames(rt: HostRuntime) -> Result<(
     assert_eq!(rt; actor.rows.as_slice(), rows.as_slice());
     assert_eq!(rt; actor.frames.as_slice(), [(0, 64)].as_slice());
     assert!(rt; actor.samples.capacity() < 100_000);
+    Ok(())
+}
+
+#[test]
+fn many_reads_take_no_more_room_together_than_for_frames_that_come(
+    rt: HostRuntime,
+) -> Result<(), Fail> {
+    let mut actor = opened(&rt, rt.alloc())?;
+    let mut lines = Vec::new(rt.alloc());
+    lines.push(Line {
+        number: 1,
+        actor: Actor::Card,
+        op: Op::Play(64),
+    })?;
+    for _ in 0..200 {
+        lines.push(line(Op::Read(16384)))?;
+    }
+    actor.take_room(&lines, RING.frames)?;
+    assert!(rt; actor.samples.capacity() >= 65856);
+    assert!(rt; actor.samples.capacity() < 100_000);
+    let mut other = opened(&rt, rt.alloc())?;
+    let few = [line(Op::Read(16384)), line(Op::Sync), line(Op::Read(100))];
+    other.take_room(&few, RING.frames)?;
+    assert!(rt; other.samples.capacity() >= 16484);
+    assert!(rt; other.samples.capacity() < 30_000);
     Ok(())
 }
 

@@ -1,6 +1,7 @@
 use Rattle.std.proofs.Common.{refl, ◌∙◌}
 use Rattle.lab_actor.specs.Countdown.{IsSameGate, by_gate_of, left_of}
 use Rattle.lab_actor.specs.CountdownLaws.{CountsAsks-down}
+use Rattle.lab_actor.specs.Room.{spare_frames}
 use Rattle.lab_actor.proofs.ReaderAnswered.{answered-call}
 use Rattle.lab_actor.proofs.Gates.{TakesAtSnoop-gate, both}
 use Rattle.lab_actor.proofs.reader.call_line.Goals as goal
@@ -11,10 +12,11 @@ returns-clause-answered g c =
     let stops = g.G.Gate.stops in
     answered-call P g.met.P.SnoopPort.got_composes left_of (by_gate_of stops) _
     (λ first ring. c.reader_lines_are_parts.ensures left_of (by_gate_of stops) first ring (CountsAsks-down stops))
-    (both c.args.port.now c.args.gate.now) (both c.call.new.port c.call.new.gate) c.args.reader.now c.call.new.reader
-    c.args.samples.now.items c.call.new.samples.items c.args.asked c.call.result c.requires.can c.call.ensures.called
+    (both c.args.port.now c.args.gate.now) (both c.call_fitting.new.port c.call_fitting.new.gate) c.args.reader.now c.call_fitting.new.reader
+    c.args.samples.now.items c.call_fitting.new.samples.items c.args.asked (spare_frames c.args.reader.now c.args.samples.now) c.call_fitting.result c.requires.can
+    c.call_fitting.ensures.called
 
 pub returns-clause-same_gate : goal.returns-clause-same_gate
 returns-clause-same_gate g c =
     TakesAtSnoop-gate g.P.SnoopPort _ IsSameGate (λ h. refl) (λ h k m one two. two ∙ one) (λ h k kinds pass asks. asks.same_gate)
-    (both c.args.port.now c.args.gate.now) (both c.call.new.port c.call.new.gate) _ _ c.call.ensures.called.takes
+    (both c.args.port.now c.args.gate.now) (both c.call_fitting.new.port c.call_fitting.new.gate) _ _ c.call_fitting.ensures.called.takes

@@ -1,10 +1,11 @@
-use Rattle.std.proofs.Common.{◌≡◌, ◌<◌, ◌+◌, get_or, length, rules, sym, ◌∙◌}
+use Rattle.std.proofs.Common.{◌≡◌, ◌<◌, ◌+◌, arith, get_or, length, sym}
+use Rattle.std.specs.Prelude.{◌-◌, min}
 use Rattle.std.proofs.lemmas.List.{get_or_default}
 use Rattle.lab_script.specs.declared.line.Actor.TheVariants as actor
 use Rattle.lab_script.specs.declared.line.Line.{Line}
 use Rattle.lab_script.specs.declared.line.Op.TheVariants as op
 use Rattle.lab_actor.specs.Room.{is_actor}
-use Rattle.lab_actor.proofs.Parts.{wanted-next}
+use Rattle.lab_actor.proofs.Parts.{asked-next}
 use Rattle.lab_actor.proofs.room.frames_wanted.Goals as goal
 
 pub loop-index-preserved : goal.loop-index-preserved
@@ -14,6 +15,7 @@ loop-index-preserved c =
     let none : Line = record { number = 0; actor = actor.Card; op = op.Play 0 } in
     let line : Line = get_or lines index none in
     let within : index < length lines = c.loop-index-test.true in
-    let sum : c.in_ok-frames.frames ≡ c.loop-index.frames + c.frames_of.result = search rules in
-    sum ∙ (λ i. c.loop-index.invariant i + c.frames_of.ensures.value i)
-    ∙ wanted-next c.args.most (is_actor c.args.actor) lines index line within (sym (get_or_default lines index none line within))
+    let before = c.loop-index.invariant in
+    let asked = c.frames_of.ensures in
+    let next = asked-next (is_actor c.args.actor) lines index line within (sym (get_or_default lines index none line within)) in
+    omega (arith, before, asked, next, c.min-frames.ensures)

@@ -1,8 +1,7 @@
 use Rattle.std.proofs.Common.{◌≡◌, take}
-use Rattle.std.specs.Prelude.{sum_by}
 use Rattle.lab_run.specs.Phases.{ops_by}
-use Rattle.lab_actor.specs.Room.{is_actor, wanted_by}
+use Rattle.lab_actor.specs.Room.{frames_wanted, is_actor}
 use Rattle.lab_actor.proofs.room.frames_wanted.Given as goal
 
 abbrev pub invariant-loop-index : goal.invariant-loop-index
-invariant-loop-index l = l.frames ≡ sum_by (wanted_by l.most) (ops_by (is_actor l.actor) (take l.index l.lines))
+invariant-loop-index l = l.frames ≡ frames_wanted l.most (ops_by (is_actor l.actor) (take l.index l.lines))

@@ -5,11 +5,13 @@ use Rattle.lab_script.specs.declared.line.Actor.TheVariants as actor
 use Rattle.lab_report.specs.declared.row.Row.{Row}
 use Rattle.lab_run.specs.Reader.{frames_by}
 use Rattle.lab_run.specs.ReaderAtPort.{IsReaderLine}
+use Rattle.lab_actor.specs.declared.reader.ReaderActor.{ReaderActor}
 use Rattle.lab_actor.specs.FrameRuns.{frames_in}
 use Rattle.lab_actor.specs.ReaderPart.{reader_of}
 use Rattle.lab_actor.specs.Countdown.{by_gate_of, left_of}
 use Rattle.lab_actor.proofs.Gates.{both}
 use Rattle.lab_actor.proofs.Read.{frames_by-count}
+use Rattle.lab_actor.proofs.ReaderParts.{HasGot-line}
 use Rattle.lab_actor.proofs.reader.ReaderActor.do_line.Goals as goal
 
 pub returns : goal.returns
@@ -27,6 +29,7 @@ returns g c =
     c.push.ensures.frames
     ∙ ap (λ (frames : List ℕ). frames_in a.frames.runs ++ frames)
     ((λ i. range_with_len (c.next.ensures i - c.frames_read-count.ensures i) (c.frames_read-count.ensures i)) ∙ sym (frames_by-count asked answer d)) in
+    let after : ReaderActor = record a { reader = d; samples = c.answer_line-answer.new.samples; frames = c.push.new.self; rows = c.push_row.new.rows } in
     record {
       line = record {
         answer = answer;
@@ -38,9 +41,9 @@ returns g c =
           state = c.state.ensures i;
           seen = c.seen.ensures i;
         } in row) ∷ []);
-        line = λ first ring before at.
+        line = λ fits first ring before at.
             subst (λ (frames : List ℕ). IsReaderLine P left_of by_gate first ring t c.args.phase a.number before (reader_of a) asked (record { own = Some d; frames = frames }) answer)
-            (sym frames_are) (answered.line c.args.phase a.number (frames_in a.frames.runs) first ring before at);
+            (sym frames_are) (answered.line fits c.args.phase a.number (frames_in a.frames.runs) first ring before at);
         appends = record {
           numbers = frames_by asked answer d;
           numbers_are = frames_are;
@@ -55,6 +58,6 @@ returns g c =
       room = record {
         rows = record { few = (let one = c.push_row.ensures.one in omega (arith, one)); kept = c.push_row.ensures.room };
         runs = c.push.ensures.room;
-        samples = c.answer_line-answer.ensures.room;
       };
+      got = HasGot-line P left_of by_gate (both c.args.port.now c.args.gate.now) t a after asked answer answered c.answer_line-answer.ensures.room;
     }

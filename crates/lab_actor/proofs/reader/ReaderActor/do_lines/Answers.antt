@@ -1,21 +1,25 @@
-use Rattle.std.proofs.Common.{◌≡◌, ℕ, ◌+◌, ◌<◌, drop, get_or, length, refl, subst, sym, ◌∙◌}
+use Rattle.std.proofs.Common.{◌≡◌, ℕ, ◌+◌, ◌<◌, ◌≤◌, ap, arith, drop, get_or, length, refl, subst, sym, take, ◌∙◌}
 use Rattle.std.proofs.lemmas.List.{get_or_default}
 use Rattle.std.specs.Prelude.{true, false}
 use Rattle.lab_script.specs.declared.line.Actor.TheVariants as actor
 use Rattle.lab_script.specs.declared.line.Line.{Line}
 use Rattle.lab_script.specs.declared.line.Op.TheVariants as op
-use Rattle.lab_run.specs.Phases.{is_reader, ops_by}
+use Rattle.lab_run.specs.Phases.{is_reader, ops_by, played_in}
+use Rattle.pcm_stream.specs.declared.setup.Setup.{Setup}
 use Rattle.lab_actor.specs.Countdown.{by_gate_of, left_of}
 use Rattle.lab_actor.proofs.Gates.{both}
-use Rattle.lab_actor.proofs.ReaderParts.{ReaderPart-next, ReaderPart-none, room-first, room-next, room-own}
+use Rattle.lab_actor.specs.ReaderPart.{channels_of}
+use Rattle.lab_actor.proofs.Parts.{asked-within}
+use Rattle.lab_actor.proofs.ReaderParts.{HasGot-next, HasGot-none, ReaderPart-next, ReaderPart-none, line-fits, rows-next, rows-own}
 use Rattle.lab_actor.proofs.reader.ReaderActor.do_lines.Goals as goal
 
 pub loop-index-init : goal.loop-index-init
 loop-index-init g c = record {
-  part = ReaderPart-none g.P.SnoopPort g.met.P.SnoopPort.got_composes left_of (by_gate_of g.G.Gate.stops) (both c.args.port.now c.args.gate.now) c.args.phase c.args.self.now;
+  part = ReaderPart-none g.P.SnoopPort g.met.P.SnoopPort.got_composes left_of (by_gate_of g.G.Gate.stops) (both c.args.port.now c.args.gate.now) c.args.phase (played_in c.args.lines.now) c.args.self.now;
   usable = c.requires.usable;
   same_gate = refl;
-  room = c.requires.room;
+  room = c.requires.room.lines;
+  got = HasGot-none (g.P.SnoopPort.view c.args.port.now) c.args.self.now;
 }
 
 pub do_own-requires : goal.do_own-requires
@@ -31,9 +35,8 @@ do_own-requires g c =
     record {
       few = c.requires.few index none within;
       usable = before.usable;
-      room = λ own_is. room-first x line.op (ops_by mine (drop (index + 1) lines))
-          (room-own x mine lines index line within (sym (get_or_default lines index none line within))
-          (subst (λ (n : ℕ). is_reader n line.actor ≡ true) before.part.same.number own_is) before.room);
+      room = λ own_is. rows-own x mine lines index line within (sym (get_or_default lines index none line within))
+          (subst (λ (n : ℕ). is_reader n line.actor ≡ true) before.part.same.number own_is) before.room;
     }
 
 pub loop-index-preserved : goal.loop-index-preserved
@@ -53,12 +56,22 @@ loop-index-preserved g c =
     let own_is : mine line.actor ≡ true → is_reader x.number line.actor ≡ true = λ own. subst (λ (n : ℕ). is_reader n line.actor ≡ true) (sym same) own in
     let other_is : mine line.actor ≡ false → is_reader x.number line.actor ≡ false = λ other. subst (λ (n : ℕ). is_reader n line.actor ≡ false) (sym same) other in
     let others = λ (other : mine line.actor ≡ false). call.others (other_is other) in
+    let view = g.P.SnoopPort.view in
+    let got = λ (own : mine line.actor ≡ true). call.got (own_is own) in
+    let played = played_in lines in
+    let some : 1 ≤ channels_of x = (let first = c.channels-channels.ensures in
+    let same : channels_of x ≡ channels_of c.args.self.now = ap (λ (setup : Setup). length setup.bindings) before.part.same.setup.same_setup in
+    omega (arith, first.value, first.some, same)) in
     record {
       part = ReaderPart-next g.P.SnoopPort g.met.P.SnoopPort.got_composes left_of (by_gate_of g.G.Gate.stops) c.parts_grow.ensures.readers
-          (both c.args.port.now c.args.gate.now) (both c.loop-index.port c.loop-index.gate) (both c.do_own.new.port c.do_own.new.gate) c.args.phase c.args.self.now x b mine lines index line within is
+          (both c.args.port.now c.args.gate.now) (both c.loop-index.port c.loop-index.gate) (both c.do_own.new.port c.do_own.new.gate) c.args.phase played c.args.self.now x b mine lines index line within is
+          (λ own. (got own).progress.rising)
+          (λ own most. line-fits played (view c.args.port.now) (view c.loop-index.port) c.args.self.now x (ops_by mine lines) (ops_by mine (take index lines)) line.op some before.part.same
+          before.got (asked-within mine lines index line within is own) c.requires.room.samples most)
           before.part (λ own. call.own (own_is own)) others;
       usable = call.usable;
       same_gate = call.same_gate ∙ before.same_gate;
-      room = room-next x b mine lines index line within is before.room
-          (λ own. (call.room (own_is own), (call.own (own_is own)).same)) (λ other. (others other).0);
+      room = rows-next x b mine lines index line within is before.room (λ own. call.room (own_is own)) (λ other. (others other).0);
+      got = HasGot-next (view c.args.port.now) (view c.loop-index.port) (view c.do_own.new.port) c.args.self.now x b mine lines index line within is before.part.same before.got got
+          (λ other. ((others other).0, ap view (others other).1));
     }
