@@ -5,6 +5,7 @@ use Rattle.std.proofs.Math.Seq.{take-append-add, take-append_seam}
 use Rattle.std.proofs.lemmas.List.{append-nil, length-append, length-drop, length-map, length-replicate, length-take, take_at}
 use Rattle.std.proofs.lemmas.List.Elements.{All-contains_itself, All-nil}
 use Rattle.std.specs.Prelude.{◌-◌, ◌/◌, ◌%◌, ℤ, min, pos, replicate, slice_index_or, Contains, Option, Some, None, Result, Ok, Err}
+use Rattle.std.specs.Option.{option_to_list}
 use Rattle.std.specs.Result.{result_unwrap_or}
 use Rattle.std.specs.List.{range_with_len}
 use Rattle.snd_base.specs.declared.errors.PcmError.{PcmError}
@@ -36,7 +37,7 @@ use Rattle.lab_report.specs.declared.row.Answer.TheVariants.{Count, Failed}
 use Rattle.lab_run.specs.Client.{count_answer, done_answer}
 use Rattle.lab_run.specs.Reader.{answered, call_of, frames_by}
 use Rattle.lab_run.specs.Stretches.{got_by}
-use Rattle.lab_actor.specs.ReaderLines.{AreSamples, HasCalled, HasRead, HasSameSetup}
+use Rattle.lab_actor.specs.ReaderLines.{AreSamples, HasCalled, HasLoaded, HasRead, HasSameSetup}
 
 -- as many samples as frames times channels
 pub length-through : (bindings : List ℕ) (frames : List Frame) → length (through_all bindings frames) ≡ length frames * length bindings
@@ -128,6 +129,27 @@ HasRead-none P p q r d before asked answer got got_them usable same none no_fram
     samples_are = refl;
   };
 }
+
+-- no positions, and those of two states after each other
+pub HasLoaded-none : {S : Type 0} (P : snoopport.Ghosts S) → Composes P.loaded → (p : S) → HasLoaded P p p
+HasLoaded-none P loading p = record { loads = []; loaded_them = loading.none p }
+
+pub HasLoaded-joined : {S : Type 0} (P : snoopport.Ghosts S) → Composes P.loaded → (p q s : S) → HasLoaded P p q → HasLoaded P q s → HasLoaded P p s
+HasLoaded-joined P loading p q s one two = record {
+  loads = one.loads ++ two.loads;
+  loaded_them = loading.joined p q s one.loads two.loads one.loaded_them two.loaded_them;
+}
+
+-- each course loaded some positions, or none
+pub loaded-some : {S T X : Type 0} (P : snoopport.Ghosts S) (G : gates.Ghosts T) → Composes P.loaded → (s t : S × T) (m : Course X) (y : X) → TakesAtSnoop P G s m t y
+    → HasLoaded P s.0 t.0
+loaded-some {S = S} {T = T} P G loading s t m y takes =
+    Takes-keeps_getting (LoadsAtSnoop P G) (GetsAtSnoop P G) (λ (a b : S × T). HasLoaded P a.0 b.0)
+    (λ a. HasLoaded-none P loading a.0)
+    (λ a b c one two. HasLoaded-joined P loading a.0 b.0 c.0 one two)
+    (λ a b load step. record { loads = option_to_list load; loaded_them = step.loaded_it })
+    (λ a b number got step. record { loads = []; loaded_them = step.1.loaded_nothing })
+    s t m y takes
 
 module _ {S T : Type 0} (P : snoopport.Ghosts S) (G : gates.Ghosts T) (composes : Composes P.got) where
   -- each course got some frames, or none

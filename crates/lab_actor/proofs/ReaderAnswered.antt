@@ -30,7 +30,7 @@ use Rattle.lab_run.specs.Stretches.{got_by}
 use Rattle.lab_actor.specs.Progress.{Progress}
 use Rattle.lab_actor.specs.ReaderLines.{AreSamples, HasAnswered, HasCalled, HasRead}
 use Rattle.lab_actor.specs.Room.{asked_by, fitting, wanted_by}
-use Rattle.lab_actor.proofs.Read.{HasRead-none, frames-none, got-none}
+use Rattle.lab_actor.proofs.Read.{HasLoaded-none, HasRead-none, frames-none, got-none, loaded-some}
 use Rattle.lab_actor.proofs.ReaderProgress.{Progress-same, call-makes}
 
 -- a read of no more frames than there is room for counts as any read does
@@ -77,7 +77,7 @@ call-fitting P G s t r d (op.Read n) spare answer fits takes = by_order (nat_le 
         (read_course-fewer P G s parts.0 r n spare parts.1 (omega (arith, fits, many)) parts.2) parts.3
 call-fitting P G s t r d other spare answer fits takes = takes
 
-module _ {S T : Type 0} (P : snoopport.Ghosts S) (composes : Composes P.got) (left : T → Option ℕ) (by_gate : T → ℕ) where
+module _ {S T : Type 0} (P : snoopport.Ghosts S) (composes : Composes P.got) (loading : Composes P.loaded) (left : T → Option ℕ) (by_gate : T → ℕ) where
   pub answered-call : (G : gates.Ghosts T) → ((first : S) (ring : Geometry) → ReaderLinesAreParts P G left by_gate first ring)
       → (s t : S × T) (r d : Plain) (before samples : List ℤ) (asked : Op) (spare : ℕ) (answer : Answer) → CanCall r.status.stopped asked
       → HasCalled P G s t r d before samples (fitting spare asked) answer → HasAnswered P left by_gate s t r d before samples asked spare answer
@@ -91,6 +91,7 @@ module _ {S T : Type 0} (P : snoopport.Ghosts S) (composes : Composes P.got) (le
             parts first ring s t phase number doing (record { own = Some r; frames = frames }) r asked d answer
             (record { is_open = refl; goes = can.goes; asks = can.asks }) at (call-fitting P G s t r d asked spare answer fits called.takes);
         has_read = HasRead-fitting P s.0 t.0 r d before samples asked spare answer called.has_read;
+        loaded = loaded-some P G loading s t (call_of r (fitting spare asked)) (d, answer) called.takes;
         progress = subst (λ (n : ℕ). Progress n r d (P.view s.0) (P.view t.0)) got makes.progress;
         few = omega (arith, few, most, got);
       }
@@ -110,6 +111,7 @@ module _ {S T : Type 0} (P : snoopport.Ghosts S) (composes : Composes P.got) (le
         });
     has_read = HasRead-none P s.0 s.0 r r before asked (Failed Stopped) [] (composes.none s.0) usable (record { same_ring = refl; same_setup = refl })
         (got-none asked Stopped) (frames-none asked Stopped r);
+    loaded = HasLoaded-none P loading s.0;
     progress = subst (λ (n : ℕ). Progress n r r (P.view s.0) (P.view s.0)) (sym (got-none asked Stopped)) (Progress-same r (P.view s.0));
     few = (let none = got-none asked Stopped in omega (arith, none));
   }
@@ -136,6 +138,7 @@ module _ {S T : Type 0} (P : snoopport.Ghosts S) (composes : Composes P.got) (le
           };
         });
     has_read = HasRead-none P p p r r before (op.Die asks) Done [] (composes.none p) usable (record { same_ring = refl; same_setup = refl }) refl refl;
+    loaded = HasLoaded-none P loading p;
     progress = Progress-same r (P.view p);
     few = omega arith;
   }

@@ -36,7 +36,7 @@ use Rattle.lab_actor.specs.Progress.{Progress-joined, Progress-most, SeesAtMost}
 use Rattle.lab_actor.specs.ReaderPart.{Appends, HasDone, HasGot, HasRowsFor, IsSameActor, ReaderLine, ReaderPart, TakesRow, channels_of, reader_of}
 use Rattle.lab_actor.specs.Room.{HasSpace, asked_by, frames_wanted, most_wanted, spare_frames, wanted_by}
 use Rattle.lab_actor.proofs.Parts.{other-line, own-line}
-use Rattle.lab_actor.proofs.Read.{frames_by-count, length-through}
+use Rattle.lab_actor.proofs.Read.{HasLoaded-joined, HasLoaded-none, frames_by-count, length-through}
 use Rattle.lab_actor.proofs.ReaderProgress.{Progress-same}
 
 -- an actor is the same as itself, and after two lines
@@ -258,12 +258,13 @@ module _ {S : Type 0} (P : snoopport.Ghosts S) (composes : Composes P.got) where
     samples = AreSamples-joined p q s a.reader one.numbers two.numbers one.more two.more one.samples (AreSamples-same q s a.reader x.reader two.numbers two.more same.setup two.samples);
   }
 
-module _ {S T : Type 0} (P : snoopport.Ghosts S) (composes : Composes P.got) (left : T → Option ℕ) (by_gate : T → ℕ) where
+module _ {S T : Type 0} (P : snoopport.Ghosts S) (composes : Composes P.got) (loading : Composes P.loaded) (left : T → Option ℕ) (by_gate : T → ℕ) where
   pub ReaderPart-none : (s : S × T) (phase played : ℕ) (a : ReaderActor) → ReaderPart P left by_gate s s phase played a a []
   ReaderPart-none s phase played a = record {
     rows = [];
     rows_are = sym (append-nil a.rows.items);
     part = λ most first ring before at. record { doing = before; done = (refl, refl); at = at };
+    loaded = HasLoaded-none P loading s.0;
     appends = Appends-none P composes s.0 a;
     same = IsSameActor-none a;
   }
@@ -292,6 +293,7 @@ module _ {S T : Type 0} (P : snoopport.Ghosts S) (composes : Composes P.got) (le
                   ops one.rows asked line.answer p.done l.done;
               at = l.at;
             };
+        loaded = HasLoaded-joined P loading s.0 t.0 u.0 one.loaded line.loaded;
         appends = Appends-joined P composes s.0 t.0 u.0 a x b one.same one.appends line.appends;
         same = IsSameActor-joined a x b one.same line.same;
       }
@@ -354,6 +356,7 @@ ReaderPart-shared P left by_gate other_left by_other p q g h k m phase played a 
             done = done.done;
             at = IsAtSnoop-shared P left by_gate other_left by_other first ring q h m done.doing left_after gate_after done.at;
           });
+      loaded = part.loaded;
       appends = record {
         numbers = part.appends.numbers;
         numbers_are = ap frames_in same.frames ∙ part.appends.numbers_are;

@@ -2,6 +2,7 @@
 use Rattle.std.specs.Prelude.{◌≡◌, ℕ, ◌≤◌, ⊤, ℤ, All, Contains, List, ◌++◌, length, map, Option, Some}
 use Rattle.snd_base.specs.declared.geometry.Geometry.{Geometry}
 use Rattle.mix_core.specs.declared.gate.Gate as gates
+use Rattle.mix_core.specs.declared.port.Position.{Position}
 use Rattle.snoop_core.specs.declared.port.Frame.{Frame}
 use Rattle.snoop_core.specs.declared.port.SnoopPort as snoopport
 use Rattle.course.specs.AtSnoopPort.{TakesAtSnoop}
@@ -35,6 +36,11 @@ pub record AreSamples {S : Type 0} (P : snoopport.Ghosts S) (p q : S) (r : Plain
   pub whole : All (λ (frame : Frame). length frame.samples ≡ r.geometry.channels) frames
   pub samples_are : samples ≡ through_all r.setup.bindings frames
 
+-- a port loaded some positions
+pub record HasLoaded {S : Type 0} (P : snoopport.Ghosts S) (p q : S) : Type 0 where
+  pub loads : List Position
+  pub loaded_them : P.loaded p q loads
+
 -- a reader has the ring and the setup that it had
 pub record HasSameSetup (r after : Plain) : Type 0 where
   pub same_ring : after.geometry ≡ r.geometry
@@ -64,5 +70,6 @@ pub record HasAnswered {S T : Type 0} (P : snoopport.Ghosts S) (left : T → Opt
       → IsReaderLine P left by_gate first ring t phase number doing (record { own = Some r; frames = frames })
       asked (record { own = Some after; frames = frames ++ frames_by asked answer after }) answer
   pub has_read : HasRead P s.0 t.0 r after before samples asked answer
+  pub loaded : HasLoaded P s.0 t.0
   pub progress : Progress (got_by asked answer) r after (P.view s.0) (P.view t.0)
   pub few : got_by asked answer ≤ asked_by asked

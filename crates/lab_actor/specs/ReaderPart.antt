@@ -15,7 +15,7 @@ use Rattle.lab_run.specs.ReaderAtPort.{IsAtSnoop, IsReaderLine}
 use Rattle.lab_actor.specs.declared.reader.ReaderActor.{ReaderActor}
 use Rattle.lab_actor.specs.FrameRuns.{frames_in}
 use Rattle.lab_actor.specs.Progress.{Progress, SeesAtMost}
-use Rattle.lab_actor.specs.ReaderLines.{AreSamples, HasSameSetup}
+use Rattle.lab_actor.specs.ReaderLines.{AreSamples, HasLoaded, HasSameSetup}
 use Rattle.lab_actor.specs.Room.{GrowsBy, HasSpace, asked_by, frames_wanted, most_wanted, spare_frames, wanted_by}
 
 -- the reader of an actor, as a run has it
@@ -82,6 +82,7 @@ pub record ReaderLine {S T : Type 0} (P : snoopport.Ghosts S) (left : T → Opti
   pub line : wanted_by (most_read a.reader) asked ≤ spare_frames a.reader a.samples
       → (first : S) (ring : Geometry) (before : Doing) → IsAtSnoop P left by_gate first ring s before
       → IsReaderLine P left by_gate first ring t phase a.number before (reader_of a) asked (reader_of b) answer
+  pub loaded : HasLoaded P s.0 t.0
   pub appends : Appends P s.0 t.0 a b
   pub same : IsSameActor a b
 
@@ -92,5 +93,6 @@ pub record ReaderPart {S T : Type 0} (P : snoopport.Ghosts S) (left : T → Opti
   pub rows_are : b.rows.items ≡ a.rows.items ++ rows
   pub part : SeesAtMost played (P.view s.0) (P.view t.0) → (first : S) (ring : Geometry) (before : Doing) → IsAtSnoop P left by_gate first ring s before
       → HasDone P left by_gate first ring t phase a.number before (reader_of a) ops (reader_of b) rows
+  pub loaded : HasLoaded P s.0 t.0
   pub appends : Appends P s.0 t.0 a b
   pub same : IsSameActor a b

@@ -5,3 +5,4 @@ pub mod Readers
 pub mod Recorded
 pub mod RecordedLaws
 pub mod Runs
+pub mod Seen

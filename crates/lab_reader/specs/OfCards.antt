@@ -9,6 +9,7 @@ use Rattle.snoop_table.specs.Writers.{writer_geometry, writer_ring}
 use Rattle.card_sim.specs.declared.card.Card.{Card}
 use Rattle.card_sim.specs.Runs.{writer_of}
 use Rattle.lab_script.specs.declared.line.Line.{Line}
+use Rattle.lab_run.specs.Phases.{played_in}
 use Rattle.lab_run.specs.Rules.{AtPort}
 use Rattle.lab_card.specs.MeetLaws.{IsReaderOf-moved, IsReaderOf-same}
 use Rattle.lab_card.specs.Meets.{IsInformedReader, IsReaderOf, IsSameCard, IsSameReader}
@@ -76,7 +77,7 @@ IsOf-heard c d r s heard is = OnSeats-follow (IsReaderOf c) (IsReaderOf c) IsSam
 pub IsOf-ran : (c : Card) (phase stops after : ℕ) (lines : List Line) (r s : LabReader) → HasRun phase stops after lines r s → IsOf c r → IsOf c s
 IsOf-ran c phase stops after lines r s ran is = by_seats r.seat s.seat ran is
   where
-    by_seats : (p q : Option ReaderSeat) → HasRunAt phase stops after (ops_of r lines) r.actor s.actor p q → OnSeat p (IsReaderOf c) → OnSeat q (IsReaderOf c)
+    by_seats : (p q : Option ReaderSeat) → HasRunAt phase stops after (played_in lines) (ops_of r lines) r.actor s.actor p q → OnSeat p (IsReaderOf c) → OnSeat q (IsReaderOf c)
     by_seats None None has of = tt
     by_seats (Some t) (Some u) has of = of-ring c t u has.same_ring.0 has.same_ring.1 of
     by_seats None (Some u) has of = absurd has

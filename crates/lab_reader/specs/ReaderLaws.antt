@@ -11,11 +11,12 @@ use Rattle.dsnoop_client.specs.View.{CanUse}
 use Rattle.wav_io.specs.Sound.{Sound}
 use Rattle.card_sim.specs.declared.card.Card.{Card}
 use Rattle.lab_script.specs.declared.line.Line.{Line}
-use Rattle.lab_run.specs.Phases.{is_reader, ops_by}
+use Rattle.lab_run.specs.Phases.{is_reader, ops_by, played_in}
 use Rattle.lab_run.specs.Rules.{AtPort}
 use Rattle.lab_run.specs.Stage.{Setup, new_port, opened_reader}
 use Rattle.lab_actor.specs.declared.reader.ReaderActor.{ReaderActor}
 use Rattle.lab_actor.specs.FrameRuns.{frames_in}
+use Rattle.lab_actor.specs.ReaderPart.{HasRoomFor}
 use Rattle.lab_card.specs.Meets.{IsInformedReader}
 use Rattle.lab_reader.specs.declared.reader.LabReader.{LabReader}
 use Rattle.lab_reader.specs.Readers.{HasRoom, HasRoomAt, IsAt, IsOpenAt, IsSeatedAt, OnSeat, OnSeats, ops_of, reader_at, reader_in, stream_at}
@@ -97,11 +98,14 @@ IsRecorded-closed capture geometry bindings seat r s closed is = record {
 -- it has the room that it had
 pub HasRoom-informed : (card : Card) (r s : LabReader) (lines : List Line) → IsInformed card r s → HasRoom r lines → HasRoom s lines
 HasRoom-informed card r s lines informed room =
-    subst (λ (x : ReaderActor). HasRoomAt s.seat x (ops_by (is_reader x.number) lines)) (sym informed.actor) (by_seats r.seat s.seat informed.seats room)
+    subst (λ (x : ReaderActor). HasRoomAt s.seat x played (ops_by (is_reader x.number) lines)) (sym informed.actor) (by_seats r.seat s.seat informed.seats room)
   where
-    by_seats : (p q : Option ReaderSeat) → OnSeats p q (IsInformedReader card) → HasRoomAt p r.actor (ops_of r lines) → HasRoomAt q r.actor (ops_of r lines)
+    played : ℕ
+    played = played_in lines
+
+    by_seats : (p q : Option ReaderSeat) → OnSeats p q (IsInformedReader card) → HasRoomAt p r.actor played (ops_of r lines) → HasRoomAt q r.actor played (ops_of r lines)
     by_seats None None on has = has
-    by_seats (Some seat) (Some later) on has = has
+    by_seats (Some seat) (Some later) on has = subst (λ (g : Geometry). HasRoomFor r.actor g.frames played (ops_of r lines)) (sym on.geometry) has
     by_seats None (Some later) on has = absurd on
     by_seats (Some seat) None on has = absurd on
 

@@ -16,7 +16,7 @@ use Rattle.lab_script.specs.declared.line.Op.{Op}
 use Rattle.lab_report.specs.declared.row.Row.{Row}
 use Rattle.lab_run.specs.ActorPart.{ActorPart, AreOf, Findings, PartsAreRuns, nothing_found}
 use Rattle.lab_run.specs.Lines.{LinesMay}
-use Rattle.lab_run.specs.Phases.{is_reader, ops_by}
+use Rattle.lab_run.specs.Phases.{is_reader, ops_by, played_in}
 use Rattle.lab_run.specs.Reader.{Reader, reader_kind}
 use Rattle.lab_run.specs.ReaderAtPort.{IsAtSnoop}
 use Rattle.lab_run.specs.Rules.{AtPort, Rules}
@@ -36,6 +36,7 @@ use Rattle.lab_reader.specs.declared.reader.LabReader.{LabReader}
 use Rattle.lab_reader.specs.OfCards.{IsOver}
 use Rattle.lab_reader.specs.Readers.{CanRun, IsAt, IsOpenAt, IsSeatedAt, OnSeat, OnSeats, ops_of, reader_at, reader_in, rows_of, seat_port}
 use Rattle.lab_reader.specs.Runs.{HasRefused, HasRun, HasRunAt, HasRunOpen, IsHeard, IsInformed}
+use Rattle.lab_reader.specs.Seen.{SeesPlayed, sees-played}
 
 -- the steps of a reader in a phase, which its card begins at c and ends at d: it met a note, its lines were done behind a gate that stopped so often
 -- before them and after them, and the card met its note
@@ -109,9 +110,9 @@ module _ (ring : TableId) (geometry : Geometry) (c d : Card) (over : IsOver ring
       }
 
   -- of an open one
-  part-open : (ops : List Op) (x y : ReaderActor) (s t u v : ReaderSeat) → IsOpenAt ring geometry x s before → IsInformedReader c s t → HasRunOpen phase stops after ops x y t u
-      → IsSameReader u v → KnowsReader d v → SeatPart ring geometry c d phase base after ops before x (Some s) y (Some v)
-  part-open ops x y s t u v at informed ran same knows =
+  part-open : (played : ℕ) (ops : List Op) (x y : ReaderActor) (s t u v : ReaderSeat) → IsOpenAt ring geometry x s before → SeesPlayed c d played → IsInformedReader c s t
+      → HasRunOpen phase stops after played ops x y t u → IsSameReader u v → KnowsReader d v → SeatPart ring geometry c d phase base after ops before x (Some s) y (Some v)
+  part-open played ops x y s t u v at sees informed ran same knows =
       let seen = at.seen in
       let informed_seen = informed.seen in
       let start : IsAtSnoop seat_port left_in stops_in t geometry (t, (x.left, stops)) (raised base before, nothing_found) =
@@ -124,7 +125,8 @@ module _ (ring : TableId) (geometry : Geometry) (c d : Card) (over : IsOver ring
         late = refl;
         overtaken = tt;
       } in
-      let done = ran.part.part t geometry (raised base before, nothing_found) start in
+      let most = sees s t u v ran.part.loaded.loads informed ran.part.loaded.loaded_them same knows in
+      let done = ran.part.part most t geometry (raised base before, nothing_found) start in
       let found : Findings = done.doing.1 in
       let low =
       ActorPart-lowered (reader_kind phase x.number) geometry (reader_is_blind phase x.number) base ops before (reader_of x) nothing_found done.doing.0 (reader_of y) found ran.part.rows
@@ -162,33 +164,34 @@ module _ (ring : TableId) (geometry : Geometry) (c d : Card) (over : IsOver ring
         number = ran.part.same.number;
       }
 
-  part-seats : (ops : List Op) (x y : ReaderActor) (p q l m : Option ReaderSeat) → IsSeatedAt ring geometry x p before → OnSeats p q (IsInformedReader c)
-      → HasRunAt phase stops after ops x y q l → OnSeats l m IsSameReader → OnSeats l m (λ seat later. KnowsReader d later)
+  part-seats : (played : ℕ) (ops : List Op) (x y : ReaderActor) (p q l m : Option ReaderSeat) → IsSeatedAt ring geometry x p before → SeesPlayed c d played → OnSeats p q (IsInformedReader c)
+      → HasRunAt phase stops after played ops x y q l → OnSeats l m IsSameReader → OnSeats l m (λ seat later. KnowsReader d later)
       → SeatPart ring geometry c d phase base after ops before x p y m
-  part-seats ops x y None None None None at informed ran same knows = part-closed ops x y at ran
-  part-seats ops x y (Some s) (Some t) (Some u) (Some v) at informed ran same knows = part-open ops x y s t u v at informed ran same knows
-  part-seats ops x y None (Some t) l m at informed ran same knows = absurd informed
-  part-seats ops x y (Some s) None l m at informed ran same knows = absurd informed
-  part-seats ops x y None None (Some u) m at informed ran same knows = absurd ran
-  part-seats ops x y (Some s) (Some t) None m at informed ran same knows = absurd ran
-  part-seats ops x y None None None (Some v) at informed ran same knows = absurd same
-  part-seats ops x y (Some s) (Some t) (Some u) None at informed ran same knows = absurd same
+  part-seats played ops x y None None None None at sees informed ran same knows = part-closed ops x y at ran
+  part-seats played ops x y (Some s) (Some t) (Some u) (Some v) at sees informed ran same knows = part-open played ops x y s t u v at sees informed ran same knows
+  part-seats played ops x y None (Some t) l m at sees informed ran same knows = absurd informed
+  part-seats played ops x y (Some s) None l m at sees informed ran same knows = absurd informed
+  part-seats played ops x y None None (Some u) m at sees informed ran same knows = absurd ran
+  part-seats played ops x y (Some s) (Some t) None m at sees informed ran same knows = absurd ran
+  part-seats played ops x y None None None (Some v) at sees informed ran same knows = absurd same
+  part-seats played ops x y (Some s) (Some t) (Some u) None at sees informed ran same knows = absurd same
 
-  -- A reader that is at its port does a part of a run, and is at its port after it, whatever its card does in between.
-  pub reader-part : (lines : List Line) (r s t u : LabReader) → IsAt ring geometry r before → Steps c d phase stops after lines r s t u
+  -- A reader that is at its port does a part of a run, and is at its port after it, whatever its card does in between, of which seats see no more
+  -- frames than it plays.
+  pub reader-part : (lines : List Line) (r s t u : LabReader) → IsAt ring geometry r before → SeesPlayed c d (played_in lines) → Steps c d phase stops after lines r s t u
       → SeatPart ring geometry c d phase base after (ops_of r lines) before r.actor r.seat u.actor u.seat
-  reader-part lines r s t u at steps =
-      let ran : HasRunAt phase stops after (ops_of r lines) r.actor t.actor s.seat t.seat =
-      subst (λ (x : ReaderActor). HasRunAt phase stops after (ops_by (is_reader x.number) lines) x t.actor s.seat t.seat) steps.informed.actor steps.ran in
+  reader-part lines r s t u at sees steps =
+      let ran : HasRunAt phase stops after (played_in lines) (ops_of r lines) r.actor t.actor s.seat t.seat =
+      subst (λ (x : ReaderActor). HasRunAt phase stops after (played_in lines) (ops_by (is_reader x.number) lines) x t.actor s.seat t.seat) steps.informed.actor steps.ran in
       subst (λ (y : ReaderActor). SeatPart ring geometry c d phase base after (ops_of r lines) before r.actor r.seat y u.seat) (sym steps.heard.actor)
-      (part-seats (ops_of r lines) r.actor t.actor r.seat s.seat t.seat u.seat at steps.informed.seats ran steps.heard.seats steps.heard.knows)
+      (part-seats (played_in lines) (ops_of r lines) r.actor t.actor r.seat s.seat t.seat u.seat at sees steps.informed.seats ran steps.heard.seats steps.heard.knows)
 
   -- It does its lines of a phase as a run may have it, where its card, which stores what it captures, did its own.
   pub reader-may : {capture : Option Sound} (a b : CardActor) (lines : List Line) → CardPhase capture phase c a b d lines → records_of c ≡ true → (r s t u : LabReader)
       → PartsAreRuns (reader_kind phase r.actor.number) (rules_between c b.card lines) → IsAt ring geometry r before → Steps c d phase stops after lines r s t u
       → ReaderMay ring geometry (rules_between c b.card lines) phase base after lines before r u
   reader-may {capture = capture} a b lines is records r s t u runs at steps =
-      let did = reader-part lines r s t u at steps in
+      let did = reader-part lines r s t u at (sees-played c a b d lines is records) steps in
       let same : geometry ≡ geometry_of_card c = sym over.of_geometry ∙ sym c.in_step.geometry in
       let part =
       subst
@@ -205,10 +208,10 @@ module _ (ring : TableId) (geometry : Geometry) (c d : Card) (over : IsOver ring
       }
 
   -- It does nothing in a phase that has no line of it, also where the card is unplugged in it.
-  pub reader-idle : (rules : Rules) (lines : List Line) (r s t u : LabReader) → ops_of r lines ≡ [] → IsAt ring geometry r before → Steps c d phase stops after lines r s t u
+  pub reader-idle : (rules : Rules) (lines : List Line) (r s t u : LabReader) → ops_of r lines ≡ [] → IsAt ring geometry r before → SeesPlayed c d (played_in lines) → Steps c d phase stops after lines r s t u
       → ReaderMay ring geometry rules phase base after lines before r u
-  reader-idle rules lines r s t u none at steps =
-      let did = reader-part lines r s t u at steps in
+  reader-idle rules lines r s t u none at sees steps =
+      let did = reader-part lines r s t u at sees steps in
       let kind = reader_kind phase r.actor.number in
       let part =
       subst (λ (ops : List Op). ActorPart kind geometry ((before, reader_in r), nothing_found) ops ((did.end, reader_in u), did.found) did.rows) none did.part in

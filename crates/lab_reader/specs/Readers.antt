@@ -11,7 +11,7 @@ use Rattle.card_sim.specs.declared.card.Card.{Card}
 use Rattle.lab_script.specs.declared.line.Line.{Line}
 use Rattle.lab_script.specs.declared.line.Op.{Op}
 use Rattle.lab_report.specs.declared.row.Row.{Row}
-use Rattle.lab_run.specs.Phases.{is_reader, ops_by}
+use Rattle.lab_run.specs.Phases.{is_reader, ops_by, played_in}
 use Rattle.lab_run.specs.Reader.{Reader}
 use Rattle.lab_run.specs.Rules.{AtPort}
 use Rattle.lab_run.specs.Stage.{new_port}
@@ -91,10 +91,10 @@ IsSeatedAt ring geometry actor (Some seat) a = IsOpenAt ring geometry actor seat
 abbrev pub IsAt : TableId → Geometry → LabReader → AtPort → Type 0
 IsAt ring geometry r a = IsSeatedAt ring geometry r.actor r.seat a
 
--- it has the room that its lines of a phase want: a row each, and where it is open what they may read
-abbrev pub HasRoomAt : Option ReaderSeat → ReaderActor → List Op → Type 0
-HasRoomAt None actor ops = HasSpace (length ops) actor.rows
-HasRoomAt (Some seat) actor ops = actors.HasRoomFor actor ops
+-- it has the room that its lines want in a phase in which the card plays so many frames: a row each, and where it is open what they may read
+abbrev pub HasRoomAt : Option ReaderSeat → ReaderActor → ℕ → List Op → Type 0
+HasRoomAt None actor played ops = HasSpace (length ops) actor.rows
+HasRoomAt (Some seat) actor played ops = actors.HasRoomFor actor (geometry_of seat).frames played ops
 
 abbrev pub HasRoom : LabReader → List Line → Type 0
-HasRoom r lines = HasRoomAt r.seat r.actor (ops_of r lines)
+HasRoom r lines = HasRoomAt r.seat r.actor (played_in lines) (ops_of r lines)

@@ -28,7 +28,7 @@ use Rattle.card_sim.specs.Runs.{captured_if, records_of, writer_of}
 use Rattle.lab_script.specs.declared.line.Line.{Line}
 use Rattle.lab_script.specs.declared.line.Op.{Op}
 use Rattle.lab_script.specs.Script.{is_of_card}
-use Rattle.lab_run.specs.Phases.{is_reader, ops_by}
+use Rattle.lab_run.specs.Phases.{is_reader, ops_by, played_in}
 use Rattle.lab_actor.specs.declared.reader.ReaderActor.{ReaderActor}
 use Rattle.lab_actor.specs.FrameRuns.{frames_in}
 use Rattle.lab_card.specs.declared.card.CardActor.{CardActor}
@@ -187,9 +187,9 @@ module _ (capture : Option Sound) (ring : TableId) (geometry : Geometry) (d : Ca
       let second = at_second (view_of s).got got there.0 frame (elem-at got there.0 frame there.1 there.2) in
       knows.got second.0 frame (ap (λ (v : View). get_elem? v.got second.0) same ∙ (ap (λ (fs : List Frame). get_elem? fs second.0) got_them.got ∙ second.1))
 
-  recorded-open : (x y : ReaderActor) (s t u v : ReaderSeat) (phase stops after : ℕ) (ops : List Op) → IsRecordedAt capture geometry bindings x (Some s)
-      → HasRunOpen phase stops after ops x y t u → IsSameReader u v → KnowsReader d v → IsRecordedAt capture geometry bindings y (Some v)
-  recorded-open x y s t u v phase stops after ops before ran same knows =
+  recorded-open : (x y : ReaderActor) (s t u v : ReaderSeat) (phase stops after played : ℕ) (ops : List Op) → IsRecordedAt capture geometry bindings x (Some s)
+      → HasRunOpen phase stops after played ops x y t u → IsSameReader u v → KnowsReader d v → IsRecordedAt capture geometry bindings y (Some v)
+  recorded-open x y s t u v phase stops after played ops before ran same knows =
       let appends = ran.part.appends in
       let read = appends.samples in
       let first : ℕ = first_frame geometry in
@@ -220,24 +220,24 @@ module _ (capture : Option Sound) (ring : TableId) (geometry : Geometry) (d : Ca
     samples = ran.file.samples ∙ (before.samples ∙ ap (λ (runs : List (ℕ × ℕ)). recorded capture (first_frame geometry) bindings (frames_in runs)) (sym ran.file.frames));
   }
 
-  recorded-seats : (c : Card) (x y : ReaderActor) (p q l m : Option ReaderSeat) (phase stops after : ℕ) (ops : List Op) → IsRecordedAt capture geometry bindings x p
-      → OnSeats p q (IsInformedReader c) → HasRunAt phase stops after ops x y q l → OnSeats l m IsSameReader → OnSeats l m (λ seat later. KnowsReader d later)
+  recorded-seats : (c : Card) (x y : ReaderActor) (p q l m : Option ReaderSeat) (phase stops after played : ℕ) (ops : List Op) → IsRecordedAt capture geometry bindings x p
+      → OnSeats p q (IsInformedReader c) → HasRunAt phase stops after played ops x y q l → OnSeats l m IsSameReader → OnSeats l m (λ seat later. KnowsReader d later)
       → IsRecordedAt capture geometry bindings y m
-  recorded-seats c x y None None None None phase stops after ops before informed ran same knows = recorded-closed x y phase stops after ops before ran
-  recorded-seats c x y (Some s) (Some t) (Some u) (Some v) phase stops after ops before informed ran same knows =
-      recorded-open x y s t u v phase stops after ops before ran same knows
-  recorded-seats c x y None (Some t) l m phase stops after ops before informed ran same knows = absurd informed
-  recorded-seats c x y (Some s) None l m phase stops after ops before informed ran same knows = absurd informed
-  recorded-seats c x y None None (Some u) m phase stops after ops before informed ran same knows = absurd ran
-  recorded-seats c x y (Some s) (Some t) None m phase stops after ops before informed ran same knows = absurd ran
-  recorded-seats c x y None None None (Some v) phase stops after ops before informed ran same knows = absurd same
-  recorded-seats c x y (Some s) (Some t) (Some u) None phase stops after ops before informed ran same knows = absurd same
+  recorded-seats c x y None None None None phase stops after played ops before informed ran same knows = recorded-closed x y phase stops after ops before ran
+  recorded-seats c x y (Some s) (Some t) (Some u) (Some v) phase stops after played ops before informed ran same knows =
+      recorded-open x y s t u v phase stops after played ops before ran same knows
+  recorded-seats c x y None (Some t) l m phase stops after played ops before informed ran same knows = absurd informed
+  recorded-seats c x y (Some s) None l m phase stops after played ops before informed ran same knows = absurd informed
+  recorded-seats c x y None None (Some u) m phase stops after played ops before informed ran same knows = absurd ran
+  recorded-seats c x y (Some s) (Some t) None m phase stops after played ops before informed ran same knows = absurd ran
+  recorded-seats c x y None None None (Some v) phase stops after played ops before informed ran same knows = absurd same
+  recorded-seats c x y (Some s) (Some t) (Some u) None phase stops after played ops before informed ran same knows = absurd same
 
   -- What a reader recorded is what the capture file has, also after a phase, of a card that stored nothing else.
   pub IsRecorded-phase : (c : Card) (phase stops after : ℕ) (lines : List Line) (r s t u : LabReader) → IsRecorded capture geometry bindings r
       → Steps c d phase stops after lines r s t u → IsRecorded capture geometry bindings u
   IsRecorded-phase c phase stops after lines r s t u before steps =
-      let ran : HasRunAt phase stops after (ops_of r lines) r.actor t.actor s.seat t.seat =
-      subst (λ (x : ReaderActor). HasRunAt phase stops after (ops_by (is_reader x.number) lines) x t.actor s.seat t.seat) steps.informed.actor steps.ran in
+      let ran : HasRunAt phase stops after (played_in lines) (ops_of r lines) r.actor t.actor s.seat t.seat =
+      subst (λ (x : ReaderActor). HasRunAt phase stops after (played_in lines) (ops_by (is_reader x.number) lines) x t.actor s.seat t.seat) steps.informed.actor steps.ran in
       subst (λ (y : ReaderActor). IsRecordedAt capture geometry bindings y u.seat) (sym steps.heard.actor)
-      (recorded-seats c r.actor t.actor r.seat s.seat t.seat u.seat phase stops after (ops_of r lines) before steps.informed.seats ran steps.heard.seats steps.heard.knows)
+      (recorded-seats c r.actor t.actor r.seat s.seat t.seat u.seat phase stops after (played_in lines) (ops_of r lines) before steps.informed.seats ran steps.heard.seats steps.heard.knows)

@@ -158,8 +158,8 @@ impl<'r> LabReader<'r> {
         ensures rows { rows_of self.new ≡ rows_of self.old }
         ensures only { IfErr result (λ e. e ≡ PcmError.Memory) }
     {
-        if self.seat.is_some() {
-            return self.actor.take_room(lines);
+        if let Some(seat) = &self.seat {
+            return self.actor.take_room(lines, seat.geometry().frames);
         }
         let count = line_count(lines, Actor::Reader(self.actor.number));
         self.actor.rows.reserve(count)?;

@@ -10,7 +10,7 @@ use Rattle.lab_actor.proofs.reader.answer_line.Goals as goal
 
 pub returns-then-is_stopped-clause-answered : goal.returns-then-is_stopped-clause-answered
 returns-then-is_stopped-clause-answered g c =
-    answered-stopped g.P.SnoopPort g.met.P.SnoopPort.got_composes left_of (by_gate_of g.G.Gate.stops) c.lines_without_calls.ensures.readers
+    answered-stopped g.P.SnoopPort g.met.P.SnoopPort.got_composes g.met.P.SnoopPort.loaded_composes left_of (by_gate_of g.G.Gate.stops) c.lines_without_calls.ensures.readers
     (both c.args.port.now c.args.gate.now) c.args.reader.now c.args.samples.now.items c.args.asked (spare_frames c.args.reader.now c.args.samples.now)
     (sym c.is_stopped.ensures ∙ c.if-is_stopped.true) c.requires.usable
 
@@ -19,7 +19,7 @@ returns-in-Die-clause-answered g c =
     subst (λ (asked : Op). HasAnswered g.P.SnoopPort left_of (by_gate_of g.G.Gate.stops) (both c.args.port.now c.args.gate.now) (both c.args.port.now c.let_pass.new.self)
     c.args.reader.now c.args.reader.now c.args.samples.now.items c.args.samples.now.items asked (spare_frames c.args.reader.now c.args.samples.now) Done)
     (sym c.in-Die.is)
-    (answered-die g.P.SnoopPort g.met.P.SnoopPort.got_composes left_of (by_gate_of g.G.Gate.stops) c.lines_without_calls.ensures.readers
+    (answered-die g.P.SnoopPort g.met.P.SnoopPort.got_composes g.met.P.SnoopPort.loaded_composes left_of (by_gate_of g.G.Gate.stops) c.lines_without_calls.ensures.readers
     c.args.port.now c.args.gate.now c.let_pass.new.self c.args.reader.now c.args.samples.now.items _ (spare_frames c.args.reader.now c.args.samples.now)
     (sym c.is_stopped.ensures ∙ c.if-is_stopped.false)
     c.let_pass.ensures.left c.let_pass.ensures.by_gate c.requires.usable)

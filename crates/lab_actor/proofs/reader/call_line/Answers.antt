@@ -10,7 +10,7 @@ pub returns-clause-answered : goal.returns-clause-answered
 returns-clause-answered g c =
     let P = g.P.SnoopPort in
     let stops = g.G.Gate.stops in
-    answered-call P g.met.P.SnoopPort.got_composes left_of (by_gate_of stops) _
+    answered-call P g.met.P.SnoopPort.got_composes g.met.P.SnoopPort.loaded_composes left_of (by_gate_of stops) _
     (λ first ring. c.reader_lines_are_parts.ensures left_of (by_gate_of stops) first ring (CountsAsks-down stops))
     (both c.args.port.now c.args.gate.now) (both c.call_fitting.new.port c.call_fitting.new.gate) c.args.reader.now c.call_fitting.new.reader
     c.args.samples.now.items c.call_fitting.new.samples.items c.args.asked (spare_frames c.args.reader.now c.args.samples.now) c.call_fitting.result c.requires.can

@@ -44,6 +44,7 @@ returns g c =
         line = λ fits first ring before at.
             subst (λ (frames : List ℕ). IsReaderLine P left_of by_gate first ring t c.args.phase a.number before (reader_of a) asked (record { own = Some d; frames = frames }) answer)
             (sym frames_are) (answered.line fits c.args.phase a.number (frames_in a.frames.runs) first ring before at);
+        loaded = answered.loaded;
         appends = record {
           numbers = frames_by asked answer d;
           numbers_are = frames_are;

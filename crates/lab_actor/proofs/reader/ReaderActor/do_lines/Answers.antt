@@ -15,7 +15,7 @@ use Rattle.lab_actor.proofs.reader.ReaderActor.do_lines.Goals as goal
 
 pub loop-index-init : goal.loop-index-init
 loop-index-init g c = record {
-  part = ReaderPart-none g.P.SnoopPort g.met.P.SnoopPort.got_composes left_of (by_gate_of g.G.Gate.stops) (both c.args.port.now c.args.gate.now) c.args.phase (played_in c.args.lines.now) c.args.self.now;
+  part = ReaderPart-none g.P.SnoopPort g.met.P.SnoopPort.got_composes g.met.P.SnoopPort.loaded_composes left_of (by_gate_of g.G.Gate.stops) (both c.args.port.now c.args.gate.now) c.args.phase (played_in c.args.lines.now) c.args.self.now;
   usable = c.requires.usable;
   same_gate = refl;
   room = c.requires.room.lines;
@@ -63,7 +63,7 @@ loop-index-preserved g c =
     let same : channels_of x ≡ channels_of c.args.self.now = ap (λ (setup : Setup). length setup.bindings) before.part.same.setup.same_setup in
     omega (arith, first.value, first.some, same)) in
     record {
-      part = ReaderPart-next g.P.SnoopPort g.met.P.SnoopPort.got_composes left_of (by_gate_of g.G.Gate.stops) c.parts_grow.ensures.readers
+      part = ReaderPart-next g.P.SnoopPort g.met.P.SnoopPort.got_composes g.met.P.SnoopPort.loaded_composes left_of (by_gate_of g.G.Gate.stops) c.parts_grow.ensures.readers
           (both c.args.port.now c.args.gate.now) (both c.loop-index.port c.loop-index.gate) (both c.do_own.new.port c.do_own.new.gate) c.args.phase played c.args.self.now x b mine lines index line within is
           (λ own. (got own).progress.rising)
           (λ own most. line-fits played (view c.args.port.now) (view c.loop-index.port) c.args.self.now x (ops_by mine lines) (ops_by mine (take index lines)) line.op some before.part.same
