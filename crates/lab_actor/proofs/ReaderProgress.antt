@@ -54,9 +54,9 @@ Progress-none r d v w ring rising on = record { ring = ring; rising = rising; ne
     by_running true is = elim (on is) [
       | inl at ↦ omega (arith, at, low, rising)
       | inr before ↦
-        let own : least_next r v ≡ min r.next v.seen = ap (λ (running : Bool). if running then min r.next v.seen else v.seen) before.0 in
-        let same = before.1 in
-        omega (arith, own, same, rising)
+          let own : least_next r v ≡ min r.next v.seen = ap (λ (running : Bool). if running then min r.next v.seen else v.seen) before.0 in
+          let same = before.1 in
+          omega (arith, own, same, rising)
     ]
 
 pub Progress-same : (r : Plain) (v : SnoopView) → Progress 0 r r v v

@@ -195,7 +195,8 @@ impl ReaderActor {
         requires usable { CanUse self.old.reader (P.view port.old) }
         requires room { HasRoom (P.view port.old).geometry.frames self.old lines.now }
         ensures part { ReaderPart P.SnoopPort left_of (by_gate_of G.stops) (port.old, gate.old) (port.new, gate.new)
-            phase (played_in lines.now) self.old self.new (ops_by (is_reader self.old.number) lines.now) }
+            phase (played_in lines.now) self.old self.new
+            (ops_by (is_reader self.old.number) lines.now) }
         ensures usable { CanUse self.new.reader (P.view port.new) }
         ensures same_gate { IsSameGate gate.old gate.new }
     {
@@ -224,7 +225,8 @@ impl ReaderActor {
         requires room { HasRoom (P.view port.old).geometry.frames self.old lines.now }
         ensures part { ReaderPart P.SnoopPort left_in stops_in
             (port.old, (self.old.left, G.stops gate.old)) (port.new, (self.new.left, G.stops gate.new))
-            phase (played_in lines.now) self.old self.new (ops_by (is_reader self.old.number) lines.now) }
+            phase (played_in lines.now) self.old self.new
+            (ops_by (is_reader self.old.number) lines.now) }
         ensures usable { CanUse self.new.reader (P.view port.new) }
     {
         let mut countdown: Countdown<'_, G, L> = Countdown::new(gate, self.left, blank);
@@ -254,7 +256,8 @@ impl ReaderActor {
         requires room { HasRoom (P.view port.old).geometry.frames self.old lines.now }
         ensures part { ReaderPart P.SnoopPort left_in stops_in
             (port.old, (self.old.left, G.stops gate.old)) (port.new, (self.new.left, G.stops gate.new))
-            phase (played_in lines.now) self.old self.new (ops_by (is_reader self.old.number) lines.now) }
+            phase (played_in lines.now) self.old self.new
+            (ops_by (is_reader self.old.number) lines.now) }
         ensures usable { CanUse self.new.reader (P.view port.new) }
     {
         self.run_at::<P, G, Brand>(port, gate, phase, lines, Blank::new(1));
