@@ -1,8 +1,8 @@
 -- The progress that each call of a reader makes, by what it did at its port.
-use Rattle.std.proofs.Common.{◌≡◌, ℕ, ◌+◌, ◌<◌, ◌≤◌, suc, zero, refl, sym, ◌∙◌, ap, subst, arith, inl, inr}
+use Rattle.std.proofs.Common.{◌≡◌, ℕ, ◌+◌, ◌≤◌, suc, zero, refl, sym, ◌∙◌, ap, subst, arith, inl, inr}
 use Rattle.std.proofs.lemmas.Bool.{false≢true}
 use Rattle.std.proofs.lemmas.Bool.Decides.{nat_tests}
-use Rattle.std.specs.Prelude.{◌-◌, ◌⊎◌, ◌&&◌, Bool, true, false, nat_eq, nat_le, nat_lt, if◌then◌else◌, min, Option, Some, None, Result, Ok, Err, unwrap_or}
+use Rattle.std.specs.Prelude.{◌⊎◌, ◌&&◌, Bool, true, false, nat_eq, nat_le, nat_lt, if◌then◌else◌, min, Option, Some, None, Result, Ok, Err, unwrap_or}
 use Rattle.snd_base.specs.declared.errors.PcmError.{PcmError}
 use Rattle.snd_base.specs.declared.errors.PcmError.TheVariants.{Again}
 use Rattle.snd_base.specs.declared.geometry.Geometry.{Geometry}
@@ -17,14 +17,13 @@ use Rattle.course.specs.Course.{Course, ends}
 use Rattle.course.specs.CourseLaws.{Takes-parts}
 use Rattle.pcm_states.specs.declared.calls.Call.{Call}
 use Rattle.pcm_states.specs.declared.calls.Call.TheVariants as call
-use Rattle.pcm_states.specs.declared.calls.Outcome.{Outcome}
 use Rattle.pcm_states.specs.declared.states.State.{State}
 use Rattle.pcm_states.specs.declared.states.State.TheVariants as state
 use Rattle.pcm_states.specs.Table.{next_of}
 use Rattle.pcm_stream.specs.Status.{refusal_of}
 use Rattle.pcm_stream.specs.declared.direction.Direction.TheVariants.{Capture}
 use Rattle.dsnoop_client.specs.declared.plain.Plain.{Plain}
-use Rattle.dsnoop_client.specs.Calls.{Answered, found, in_state, over_of, read_after, read_to, seen_at, settled, started_at, taken_of, waits, with_avail}
+use Rattle.dsnoop_client.specs.Calls.{Answered, found, in_state, read_after, read_to, seen_at, settled, taken_of, waits, with_avail}
 use Rattle.dsnoop_client.specs.Course.{admitted_by, counts, gets_frames, one_more, read_course, reads_first, reads_on, starts, syncs, transfer_on, transfers}
 use Rattle.dsnoop_client.specs.Reads.{counted}
 use Rattle.dsnoop_client.specs.View.{avail_of, is_running}

@@ -1,7 +1,7 @@
 -- The room that reads take, and the room that there is.
-use Rattle.std.proofs.Common.{ℕ, ◌*◌, ◌≤◌, arith, length, zero-mul}
+use Rattle.std.proofs.Common.{ℕ, ◌≤◌, arith, length, zero-mul}
 use Rattle.std.proofs.Math.Nat.{div-mul-le_self, mul-le-mul_right}
-use Rattle.std.specs.Prelude.{◌-◌, ◌/◌, ℤ, min, vec_capacity, vec_len}
+use Rattle.std.specs.Prelude.{◌-◌, ℤ, min, vec_capacity, vec_len}
 use Rattle.std.specs.Global.{Vec}
 use Rattle.dsnoop_client.specs.declared.plain.Plain.{Plain}
 use Rattle.dsnoop_client.specs.FewerReads.{most_read}

@@ -1,5 +1,4 @@
-use Rattle.std.proofs.Common.{◌≡◌, ◌<◌, ◌+◌, arith, get_or, length, sym}
-use Rattle.std.specs.Prelude.{◌-◌, min}
+use Rattle.std.proofs.Common.{◌<◌, arith, get_or, length, sym}
 use Rattle.std.proofs.lemmas.List.{get_or_default}
 use Rattle.lab_script.specs.declared.line.Actor.TheVariants as actor
 use Rattle.lab_script.specs.declared.line.Line.{Line}
