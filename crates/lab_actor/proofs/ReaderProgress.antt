@@ -23,7 +23,7 @@ use Rattle.pcm_states.specs.Table.{next_of}
 use Rattle.pcm_stream.specs.Status.{refusal_of}
 use Rattle.pcm_stream.specs.declared.direction.Direction.TheVariants.{Capture}
 use Rattle.dsnoop_client.specs.declared.plain.Plain.{Plain}
-use Rattle.dsnoop_client.specs.Calls.{Answered, found, in_state, read_after, read_to, seen_at, settled, taken_of, waits, with_avail}
+use Rattle.dsnoop_client.specs.Calls.{Answered, found, in_state, read_after, read_to, seen_at, taken_of, waits, with_avail, with_outcome}
 use Rattle.dsnoop_client.specs.Course.{admitted_by, counts, gets_frames, one_more, read_course, reads_first, reads_on, starts, syncs, transfer_on, transfers}
 use Rattle.dsnoop_client.specs.Reads.{counted}
 use Rattle.dsnoop_client.specs.View.{avail_of, is_running}
@@ -292,7 +292,7 @@ module _ {S T : Type 0} (P : snoopport.Ghosts S) (G : gates.Ghosts T) where
       seen = ap (λ (v : SnoopView). v.seen) step.view_is
 
       by_gone : (gone : Bool)
-          → Starts s m r (settled (if gone then seen_at r position else record r { seen = Some position.frame; next = position.frame })
+          → Starts s m r (with_outcome (if gone then seen_at r position else record r { seen = Some position.frame; next = position.frame })
           (next_of r.status.state call.Transfer (found gone None None)))
       by_gone true = record {
         went = load-some s m r _ position step (λ is. inr (reads-gone_state r.status.state is, refl));
