@@ -1,5 +1,5 @@
 //! Where the words of a ring are.
-ghost use Rattle.std.specs.Prelude.{◌≡◌, ◌<◌, ◌≤◌, ◌↔◌, IsTrue, true};
+ghost use Rattle.std.specs.Prelude.{◌≡◌, ◌<◌, ◌≤◌, ◌↔◌, IsTrue, true, IfSome, IfNone};
 ghost use Rattle.snd_base.specs.Places.{lap};
 ghost use Rattle.ring_rule.specs.Spots.{IsLapStart, IsSpot};
 
@@ -31,11 +31,37 @@ impl LapStart {
         }
     }
 
+    /// The lap of a frame. There is none exactly where no word can have it: it is 4294967295 or a later one. It divides, and
+    /// is for a frame in another lap than the seat's.
+    #[inline(always)]
+    pub fn of_frame(geometry: &Geometry, frame: u64) -> Option<LapStart>
+        ensures some { IfSome result (λ s. IsLapStart geometry.now s × (lap geometry.now frame ≡ s.lap)) }
+        ensures none { IfNone result (4294967295 ≤ lap geometry.now frame) }
+    {
+        let lap = far_lap(geometry, frame);
+        if lap >= 4294967295 {
+            return None;
+        }
+        Some(LapStart {
+            lap,
+            frame: lap * geometry.frames as u64,
+        })
+    }
+
     /// Whether this is a lap that the words of such a ring can have, with its first frame, as the calls below ask.
     pub fn is_of(&self, geometry: &Geometry) -> bool
         ensures { IsTrue result ↔ IsLapStart geometry.now self.now }
     {
         self.lap < 4294967295 && self.frame == self.lap * geometry.frames as u64
+    }
+
+    /// Whether a frame is in this lap.
+    #[inline(always)]
+    pub fn has(&self, geometry: &Geometry, frame: u64) -> bool
+        requires { IsLapStart geometry.now self.now }
+        ensures { (result ≡ true) ↔ (lap geometry.now frame ≡ self.now.lap) }
+    {
+        frame.wrapping_sub(self.frame) < geometry.frames as u64
     }
 
     /// Where the word of a frame and channel is, in this lap or another one.
@@ -45,24 +71,25 @@ impl LapStart {
         requires channel { channel < geometry.now.channels }
         ensures { IsSpot geometry.now frame channel result }
     {
-        let slot = frame.wrapping_sub(self.frame);
-        if slot >= geometry.frames as u64 {
+        if !self.has(geometry, frame) {
             return far_spot(geometry, frame, channel);
         }
+        self.near_spot(geometry, frame, channel)
+    }
+
+    /// Where the word of a frame of this lap and a channel is. It tests nothing.
+    #[inline(always)]
+    pub fn near_spot(&self, geometry: &Geometry, frame: u64, channel: u8) -> Spot
+        requires start { IsLapStart geometry.now self.now }
+        requires channel { channel < geometry.now.channels }
+        requires in_lap { lap geometry.now frame ≡ self.now.lap }
+        ensures { IsSpot geometry.now frame channel result }
+    {
+        let slot = frame - self.frame;
         Spot {
             lap: self.lap,
             index: slot as usize * geometry.channels as usize + channel as usize + 1,
         }
-    }
-
-    /// Whether no word can have a frame's lap: 4294967295 or a later one.
-    #[inline(always)]
-    pub fn is_lap_end(&self, geometry: &Geometry, frame: u64) -> bool
-        requires { IsLapStart geometry.now self.now }
-        ensures { (result ≡ true) ↔ (4294967295 ≤ lap geometry.now frame) }
-    {
-        frame.wrapping_sub(self.frame) >= geometry.frames as u64
-            && far_lap(geometry, frame) >= 4294967295
     }
 
     /// Goes to the lap of a frame, where words can have it. It divides only where the frame is in another lap.
@@ -71,13 +98,11 @@ impl LapStart {
         requires { IsLapStart geometry.now self.old }
         ensures { IsLapStart geometry.now self.new }
     {
-        if frame.wrapping_sub(self.frame) < geometry.frames as u64 {
+        if self.has(geometry, frame) {
             return;
         }
-        let lap = far_lap(geometry, frame);
-        if lap < 4294967295 {
-            self.lap = lap;
-            self.frame = lap * geometry.frames as u64;
+        if let Some(start) = LapStart::of_frame(geometry, frame) {
+            *self = start;
         }
     }
 }
