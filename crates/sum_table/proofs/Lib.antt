@@ -17,4 +17,5 @@ pub mod Seated
 pub mod Spots
 pub mod Sums
 pub mod Takes
+pub mod Turned
 pub mod Views

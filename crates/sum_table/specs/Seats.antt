@@ -81,6 +81,17 @@ SeatEndsIn s es = EndsIn (standing (view_of s).laid) es
 abbrev pub CanAdd : MixSeat → Type 0
 CanAdd s = 0 < s.places
 
+-- a seat that went to the lap of a frame, and is the same but for this
+pub record IsTurned (s t : MixSeat) (frame : ℕ) : Type 0 where
+  pub in_lap : lap s.key.geometry frame ≡ t.start.lap
+  pub ring : ring_of t ≡ ring_of s
+  pub view : view_of t ≡ view_of s
+  pub key : t.key ≡ s.key
+  pub member : t.member ≡ s.member
+  pub places : t.places ≡ s.places
+  pub marks : t.reach.marks ≡ s.reach.marks
+  pub seen : t.seen ≡ s.seen
+
 -- what is plain of a seat
 abbrev pub seat_view : MixSeat → PortView
 seat_view s = record { geometry = s.key.geometry; member = s.member; can_add = nat_lt 0 s.places; marks = s.reach.marks; seen = s.seen }
@@ -304,7 +315,7 @@ SeatLaid-composes = record {
   };
 }
 
-or_false : (a : Bool) → a ≡ (a || false)
+pub or_false : (a : Bool) → a ≡ (a || false)
 or_false true = refl
 or_false false = refl
 

@@ -3,10 +3,12 @@ ghost use Rattle.std.specs.Prelude.{◌≡◌, ◌+◌, ◌<◌, ◌≤◌, ◌�
 ghost use Rattle.snd_base.specs.Places.{IsFrom, lap};
 ghost use Rattle.mix_core.specs.Laid.{an_add};
 ghost use Rattle.mix_core.specs.Port.{ended_of};
+ghost use Rattle.ring_rule.specs.Spots.{IsSpot};
 ghost use Rattle.sum_table.specs.Seats.{CanAdd, LaysCounted, MayLay, SeatLays, cursor_of_seat, entry_by, geometry_of, member_of, seen_of};
 
 use crate::seats::MixSeat;
 use mix_core::{Ended, Gate, Kind, Placed, StepKind, ask};
+use ring_rule::Spot;
 use snd_base::{PcmError, Steps};
 use std::sync::ledger::{Blank, Ledger};
 
@@ -36,10 +38,11 @@ impl MixSeat<'_> {
             → (self.new ≡ self.old) × (gate.new ≡ gate.old) × (steps.new ≡ steps.old) }
         ensures only { IfErr result (λ e. (e ≡ PcmError.LapEnd) ⊎ (e ≡ PcmError.Stopped)) }
     {
-        if self.is_lap_end(frame) {
+        if !self.turn_to_frame(frame) {
             return Err(PcmError::LapEnd);
         }
-        let ended = self.lay(gate, Kind::Added, frame, channel, sample, steps);
+        let spot = self.near_spot(frame, channel);
+        let ended = self.lay(gate, Kind::Added, spot, frame, channel, sample, steps);
         answer(ended)
     }
 
@@ -71,27 +74,28 @@ impl MixSeat<'_> {
         self.place_counted(gate, frame, channel, sample, &mut steps)
     }
 
-    // Lays an entry of a kind: looks at the word, and exchanges it until the entry is laid, or a word of a later lap was found,
+    // Lays an entry of a kind at its word's spot: looks at the word, and exchanges it until the entry is laid, or a word of a later lap was found,
     // or the gate stops a step. Each word that an exchange finds has a greater count than the one before.
     #[inline(always)]
     pub(crate) fn lay<G: Gate, L: Ledger>(
         &mut self,
         gate: &mut G,
         kind: Kind,
+        spot: Spot,
         frame: u64,
         channel: u8,
         sample: i16,
         steps: &mut Steps<L>,
     ) -> Ended
         requires may { MayLay kind self.old frame channel sample }
+        requires spot { IsSpot (geometry_of self.old) frame channel spot }
         ensures { LaysCounted G.stops G.asked self.old gate.old steps.old
             (entry_by self.old kind frame channel sample) result self.new gate.new steps.new }
     {
         let Ok(()) = ask(gate, StepKind::Look) else {
             return Ended::Stopped;
         };
-        let (found, spot) = self.look(frame, channel, steps);
-        let mut word = found;
+        let mut word = self.look(frame, channel, spot, steps);
         if lap_word::lap(word) as u64 != spot.lap {
             return Ended::Late { seen: word };
         }

@@ -28,7 +28,8 @@ impl MixSeat<'_> {
             (a_withdrawal (member_of self.old) frame channel sample) (ended_of result) self.new gate.new steps.new }
         ensures only_stopped { IfErr result (λ e. e ≡ PcmError.Stopped) }
     {
-        let ended = self.lay(gate, Kind::Withdrawn, frame, channel, sample, steps);
+        let spot = self.spot(frame, channel);
+        let ended = self.lay(gate, Kind::Withdrawn, spot, frame, channel, sample, steps);
         answer(ended)
     }
 

@@ -36,13 +36,13 @@ pub struct MixSeat<'a> {
 }
 
 impl MixSeat<'_> {
-    ghost use Rattle.std.specs.Prelude.{◌≡◌, ◌≢◌, ℕ, ◌+◌, ◌<◌, ◌≤◌, ◌↔◌, true, [], ◌∷◌, Option, Some, OnOk, IfErr, IfSome};
+    ghost use Rattle.std.specs.Prelude.{◌≡◌, ◌≢◌, ℕ, ◌+◌, ◌<◌, ◌≤◌, ◌↔◌, true, false, [], ◌∷◌, Option, Some, OnOk, IfErr, IfSome};
     ghost use Rattle.snd_base.specs.Places.{IsFrom, end_frame, lap};
     ghost use Rattle.lap_word.specs.Word.{lap_of};
     ghost use Rattle.mix_core.specs.Laid.{a_withdrawal, an_add};
     ghost use Rattle.sum_table.specs.Known.{free_from, last_frame};
     ghost use Rattle.mix_core.specs.Marks.{high_frame};
-    ghost use Rattle.sum_table.specs.Seats.{CanAdd, HasLaid, HasLocated, HasLost, HasNoted, MayLay, SeatEndsIn, cursor_of_seat, entry_by, geometry_of, history_of, last_of_seat, marks_of_seat, member_of, places_of_seat, seen_of, shown, view_of};
+    ghost use Rattle.sum_table.specs.Seats.{CanAdd, HasLaid, HasLocated, HasLost, HasNoted, IsTurned, MayLay, SeatEndsIn, cursor_of_seat, entry_by, geometry_of, history_of, last_of_seat, marks_of_seat, member_of, places_of_seat, seen_of, shown, view_of};
     ghost use Rattle.ring_rule.specs.Spots.{IsSpot};
     ghost use Rattle.sum_table.specs.Steps.{IsSumOf};
 
@@ -67,12 +67,43 @@ impl MixSeat<'_> {
         self.reach.last()
     }
 
-    // Whether no word can have a frame's lap.
+    // Goes to the lap of a frame. `false` comes exactly where no word can have it; nothing changes then.
     #[inline(always)]
-    pub(crate) fn is_lap_end(&self, frame: u64) -> bool
-        ensures { (result ≡ true) ↔ (4294967295 ≤ lap (geometry_of self.now) frame) }
+    pub(crate) fn turn_to_frame(&mut self, frame: u64) -> bool
+        ensures turned { result ≡ true → IsTurned self.old self.new frame }
+        ensures fits { (result ≡ true) ↔ (lap (geometry_of self.old) frame < 4294967295) }
+        ensures unchanged { result ≡ false → self.new ≡ self.old }
     {
-        self.start.is_lap_end(&self.key.geometry, frame)
+        let geometry = self.key.geometry;
+        if self.start.has(&geometry, frame) {
+            return true;
+        }
+        let Some(start) = LapStart::of_frame(&geometry, frame) else {
+            return false;
+        };
+        self.start = start;
+        true
+    }
+
+    // Where the word of a frame of the seat's lap and a channel is.
+    #[inline(always)]
+    pub(crate) fn near_spot(&self, frame: u64, channel: u8) -> Spot
+        requires channel { channel < (geometry_of self.now).channels }
+        requires in_lap { lap (geometry_of self.now) frame ≡ self.now.start.lap }
+        ensures { IsSpot (geometry_of self.now) frame channel result }
+    {
+        let geometry = self.key.geometry;
+        self.start.near_spot(&geometry, frame, channel)
+    }
+
+    // Where the word of a frame and channel is.
+    #[inline(always)]
+    pub(crate) fn spot(&self, frame: u64, channel: u8) -> Spot
+        requires channel { channel < (geometry_of self.now).channels }
+        ensures { IsSpot (geometry_of self.now) frame channel result }
+    {
+        let geometry = self.key.geometry;
+        self.start.spot(&geometry, frame, channel)
     }
 
     // Loads the position, in one step.
@@ -96,30 +127,27 @@ impl MixSeat<'_> {
         ensures sum { IsSumOf (geometry_of self.old) (history_of self.new) frame channel result }
         ensures ticks { steps.new ≡ steps.old + 1 }
     {
-        let (word, _) = self.look(frame, channel, steps);
-        word
+        let spot = self.spot(frame, channel);
+        self.look(frame, channel, spot, steps)
     }
 
-    // The same, with where the word is.
+    // The same, where the word is known to be.
     #[inline(always)]
     pub(crate) fn look<L: Ledger>(
         &mut self,
         frame: u64,
         channel: u8,
+        spot: Spot,
         steps: &mut Steps<L>,
-    ) -> (u64, Spot)
+    ) -> u64
         requires channel { channel < (geometry_of self.old).channels }
-        ensures noted { HasNoted self.old self.new frame channel result.0 }
-        ensures sum { IsSumOf (geometry_of self.old) (history_of self.new) frame channel result.0 }
+        requires spot { IsSpot (geometry_of self.old) frame channel spot }
+        ensures noted { HasNoted self.old self.new frame channel result }
+        ensures sum { IsSumOf (geometry_of self.old) (history_of self.new) frame channel result }
         ensures ticks { steps.new ≡ steps.old + 1 }
-        ensures spot { IsSpot (geometry_of self.old) frame channel result.1 }
     {
         steps.tick();
-        let geometry = self.key.geometry;
-        let spot = self.start.spot(&geometry, frame, channel);
-        self.start.turn_to_frame(&geometry, frame);
-        let word = self.ring.load::<Look>(&mut self.seat, spot.index);
-        (word, spot)
+        self.ring.load::<Look>(&mut self.seat, spot.index)
     }
 
     /// Adds a sample to the word `old`, which the seat noted at this frame and channel and which has the frame's lap, by
@@ -145,8 +173,7 @@ impl MixSeat<'_> {
         ensures err { IfErr result (λ n. HasLost self.old self.new frame channel old n) }
         ensures ticks { steps.new ≡ steps.old + 1 }
     {
-        let geometry = self.key.geometry;
-        let spot = self.start.spot(&geometry, frame, channel);
+        let spot = self.spot(frame, channel);
         self.exchange(Kind::Added, spot, frame, channel, old, sample, steps)
     }
 
@@ -170,8 +197,7 @@ impl MixSeat<'_> {
         ensures err { IfErr result (λ n. HasLost self.old self.new frame channel old n) }
         ensures ticks { steps.new ≡ steps.old + 1 }
     {
-        let geometry = self.key.geometry;
-        let spot = self.start.spot(&geometry, frame, channel);
+        let spot = self.spot(frame, channel);
         self.exchange(Kind::Withdrawn, spot, frame, channel, old, sample, steps)
     }
 

@@ -18,34 +18,34 @@ returns-in_default g c =
     stopped_lays g.G.Gate.stops g.G.Gate.asked s s c.args.gate.now c.ask.new.gate (entry_by s c.args.kind c.args.frame c.args.channel c.args.sample) [] 1 c.args.steps.now c.args.steps.now
     (found_none s c.args.frame c.args.channel) refl (omega arith) (λ _. refl) c.in_default.ensures.asked c.in_default.ensures.answer (omega arith) (omega arith)
 
-pub look-found-requires : goal.look-found-requires
-look-found-requires g c = record { channel = (at_lay c.args.self.now c.args.kind c.args.frame c.args.channel c.args.sample c.requires.may).channel }
+pub look-word-requires : goal.look-word-requires
+look-word-requires g c = record { channel = (at_lay c.args.self.now c.args.kind c.args.frame c.args.channel c.args.sample c.requires.may).channel; spot = c.requires.spot }
 
 pub returns-then-lap-spot : goal.returns-then-lap-spot
 returns-then-lap-spot g c =
     let s : MixSeat = c.args.self.now in
-    let other : lap_of c.look-found.result.0 ≢ lap s.key.geometry c.args.frame = λ same. c.if-lap-spot.true (c.lap.ensures.lap ∙ (same ∙ sym c.look-found.ensures.spot.lap_is)) in
-    late_lays g.G.Gate.stops g.G.Gate.asked s s c.look-found.new.self c.args.gate.now c.ask.new.gate c.args.kind c.args.frame c.args.channel c.args.sample [] c.look-found.result.0 1 c.args.steps.now c.look-found.new.steps
-    (found_none s c.args.frame c.args.channel) c.look-found.ensures.noted c.requires.may other refl (λ _. refl) c.in-Ok.ensures.asked c.in-Ok.ensures.answer c.look-found.ensures.ticks (omega arith)
+    let other : lap_of c.look-word.result ≢ lap s.key.geometry c.args.frame = λ same. c.if-lap-spot.true (c.lap.ensures.lap ∙ (same ∙ sym c.requires.spot.lap_is)) in
+    late_lays g.G.Gate.stops g.G.Gate.asked s s c.look-word.new.self c.args.gate.now c.ask.new.gate c.args.kind c.args.frame c.args.channel c.args.sample [] c.look-word.result 1 c.args.steps.now c.look-word.new.steps
+    (found_none s c.args.frame c.args.channel) c.look-word.ensures.noted c.requires.may other refl (λ _. refl) c.in-Ok.ensures.asked c.in-Ok.ensures.answer c.look-word.ensures.ticks (omega arith)
 
 pub returns-in_default-ask : goal.returns-in_default-ask
 returns-in_default-ask g c =
     let s : MixSeat = c.args.self.now in
-    let same : lap_of c.look-found.result.0 ≡ lap s.key.geometry c.args.frame = sym c.lap.ensures.lap ∙ (c.if-lap-spot.false ∙ c.look-found.ensures.spot.lap_is) in
-    let trying = first_trying s c.look-found.new.self c.args.frame c.args.channel c.look-found.result.0 c.args.steps.now c.look-found.new.steps c.look-found.ensures.noted
-    (at_lay s c.args.kind c.args.frame c.args.channel c.args.sample c.requires.may) same c.look-found.ensures.ticks in
-    stopped_lays g.G.Gate.stops g.G.Gate.asked s c.look-found.new.self c.args.gate.now c.ask-2.new.gate (entry_by s c.args.kind c.args.frame c.args.channel c.args.sample) trying.words 2 c.args.steps.now c.look-found.new.steps
+    let same : lap_of c.look-word.result ≡ lap s.key.geometry c.args.frame = sym c.lap.ensures.lap ∙ (c.if-lap-spot.false ∙ c.requires.spot.lap_is) in
+    let trying = first_trying s c.look-word.new.self c.args.frame c.args.channel c.look-word.result c.args.steps.now c.look-word.new.steps c.look-word.ensures.noted
+    (at_lay s c.args.kind c.args.frame c.args.channel c.args.sample c.requires.may) same c.look-word.ensures.ticks in
+    stopped_lays g.G.Gate.stops g.G.Gate.asked s c.look-word.new.self c.args.gate.now c.ask-2.new.gate (entry_by s c.args.kind c.args.frame c.args.channel c.args.sample) trying.words 2 c.args.steps.now c.look-word.new.steps
     trying.found trying.number (omega arith) (λ before. absurd (omega (arith, before, trying.not_before)))
-    (g.met.G.Gate.asked_composes.joined _ _ _ (Look ∷ []) (Exchange ∷ []) _ c.in-Ok.ensures.asked c.in_default-ask.ensures.asked) (c.in_default-ask.ensures.answer ∙ ap (λ n. n + 1) c.in-Ok.ensures.answer) c.look-found.ensures.ticks (omega arith)
+    (g.met.G.Gate.asked_composes.joined _ _ _ (Look ∷ []) (Exchange ∷ []) _ c.in-Ok.ensures.asked c.in_default-ask.ensures.asked) (c.in_default-ask.ensures.answer ∙ ap (λ n. n + 1) c.in-Ok.ensures.answer) c.look-word.ensures.ticks (omega arith)
 
 pub loop-found-init : goal.loop-found-init
 loop-found-init g c =
     let s : MixSeat = c.args.self.now in
-    let same : lap_of c.look-found.result.0 ≡ lap s.key.geometry c.args.frame = sym c.lap.ensures.lap ∙ (c.if-lap-spot.false ∙ c.look-found.ensures.spot.lap_is) in
+    let same : lap_of c.look-word.result ≡ lap s.key.geometry c.args.frame = sym c.lap.ensures.lap ∙ (c.if-lap-spot.false ∙ c.requires.spot.lap_is) in
     record {
       lost = 0;
-      trying = first_trying s c.look-found.new.self c.args.frame c.args.channel c.look-found.result.0 c.args.steps.now c.look-found.new.steps c.look-found.ensures.noted
-          (at_lay s c.args.kind c.args.frame c.args.channel c.args.sample c.requires.may) same c.look-found.ensures.ticks;
+      trying = first_trying s c.look-word.new.self c.args.frame c.args.channel c.look-word.result c.args.steps.now c.look-word.new.steps c.look-word.ensures.noted
+          (at_lay s c.args.kind c.args.frame c.args.channel c.args.sample c.requires.may) same c.look-word.ensures.ticks;
       unstopped = c.in-Ok-ask.ensures.answer ∙ c.in-Ok.ensures.answer;
       asked = g.met.G.Gate.asked_composes.joined _ _ _ (Look ∷ []) (Exchange ∷ []) _ c.in-Ok.ensures.asked c.in-Ok-ask.ensures.asked;
     }
@@ -62,7 +62,7 @@ pub returns-then-lap-spot-2 : goal.returns-then-lap-spot-2
 returns-then-lap-spot-2 g c =
     let s : MixSeat = c.args.self.now in
     let is = c.loop-found.invariant.trying in
-    let other : lap_of c.in-Err.found ≢ lap s.key.geometry c.args.frame = λ same. c.if-lap-spot-2.true (c.lap-in-loop-found.ensures.lap ∙ (same ∙ sym c.look-found.ensures.spot.lap_is)) in
+    let other : lap_of c.in-Err.found ≢ lap s.key.geometry c.args.frame = λ same. c.if-lap-spot-2.true (c.lap-in-loop-found.ensures.lap ∙ (same ∙ sym c.requires.spot.lap_is)) in
     late_lays g.G.Gate.stops g.G.Gate.asked s c.loop-found.self c.exchange.new.self c.args.gate.now c.loop-found.gate c.args.kind c.args.frame c.args.channel c.args.sample is.words c.in-Err.found (suc (suc c.loop-found.invariant.lost)) c.args.steps.now c.exchange.new.steps
     is.found c.in-Err.ensures.err.noted c.requires.may other (omega (arith, is.number)) (λ before. absurd (omega (arith, before, is.not_before))) c.loop-found.invariant.asked c.loop-found.invariant.unstopped
     (omega (arith, c.exchange.ensures.ticks, is.ticked)) (omega (arith, is.counted, is.room))
@@ -80,7 +80,7 @@ returns-in_default-ask-2 g c =
 pub loop-found-preserved : goal.loop-found-preserved
 loop-found-preserved g c =
     let s : MixSeat = c.args.self.now in
-    let same : lap_of c.in-Err.found ≡ lap s.key.geometry c.args.frame = sym c.lap-in-loop-found.ensures.lap ∙ (c.if-lap-spot-2.false ∙ c.look-found.ensures.spot.lap_is) in
+    let same : lap_of c.in-Err.found ≡ lap s.key.geometry c.args.frame = sym c.lap-in-loop-found.ensures.lap ∙ (c.if-lap-spot-2.false ∙ c.requires.spot.lap_is) in
     record {
       lost = c.loop-found.invariant.lost + 1;
       trying = trying_on s c.loop-found.self c.exchange.new.self c.args.frame c.args.channel c.loop-found.word c.in-Err.found c.loop-found.invariant.lost c.args.steps.now c.loop-found.steps c.exchange.new.steps c.loop-found.invariant.trying c.in-Err.ensures.err

@@ -8,27 +8,27 @@ use Rattle.sum_table.proofs.Spots.{spot_within}
 use Rattle.sum_table.proofs.Seated.{has_noted, known_looked, may_look}
 use Rattle.sum_table.proofs.seats.mix.MixSeat.look.Goals as goal
 
-pub load-word-requires : goal.load-word-requires
-load-word-requires g c =
+pub load-requires : goal.load-requires
+load-requires g c =
     let s : MixSeat = c.args.self.now in (
       s.same_ring.0,
-      spot_within s.key.geometry c.args.frame c.args.channel _ c.spot-spot.ensures c.requires.channel s.same_ring.3,
-      may_look s _ c.spot-spot.result.index c.args.frame c.args.channel c.requires.channel c.spot-spot.ensures.index_is,
+      spot_within s.key.geometry c.args.frame c.args.channel _ c.requires.spot c.requires.channel s.same_ring.3,
+      may_look s _ c.args.spot.index c.args.frame c.args.channel c.requires.channel c.requires.spot.index_is,
     )
 
 pub invariant_of-self : goal.invariant_of-self
 invariant_of-self g c =
     let s : MixSeat = c.args.self.now in
     record {
-      same_ring = (c.load-word.ensures.0 ∙ s.same_ring.0, s.same_ring.1, ap (λ (x : Rattle.atomic_table.specs.Table.Me _ _). x.1) c.load-word.ensures.2.1.1 ∙ s.same_ring.2, s.same_ring.3);
-      known = known_looked s.key s.places s.reach.marks s.seen s.reach.last s.ring.now.table_id.slots c.spot-spot.result.index c.load-word.result s.seat.me c.load-word.new.seat.me s.known c.load-word.ensures.2;
+      same_ring = (c.load.ensures.0 ∙ s.same_ring.0, s.same_ring.1, ap (λ (x : Rattle.atomic_table.specs.Table.Me _ _). x.1) c.load.ensures.2.1.1 ∙ s.same_ring.2, s.same_ring.3);
+      known = known_looked s.key s.places s.reach.marks s.seen s.reach.last s.ring.now.table_id.slots c.args.spot.index c.load.result s.seat.me c.load.new.seat.me s.known c.load.ensures.2;
       one_geometry = s.one_geometry;
-      lap_start = c.turn_to_frame.ensures;
+      lap_start = s.lap_start;
     }
 
 pub returns-clause-noted : goal.returns-clause-noted
 returns-clause-noted g c =
     let s : MixSeat = c.args.self.now in
-    let told : looked (step s.ring.now.table_id.slots (index_of s.key.geometry c.args.frame c.args.channel) 0 0 none) s.seat.me c.load-word.result c.load-word.new.seat.me =
-    subst (λ i. looked (step s.ring.now.table_id.slots i 0 0 none) s.seat.me c.load-word.result c.load-word.new.seat.me) c.spot-spot.ensures.index_is c.load-word.ensures.2 in
-    has_noted s _ c.args.frame c.args.channel c.load-word.result (record { ring = c.load-word.ensures.0; key = refl; member = refl; places = refl; seen = refl }) refl refl c.requires.channel told.0 told.1
+    let told : looked (step s.ring.now.table_id.slots (index_of s.key.geometry c.args.frame c.args.channel) 0 0 none) s.seat.me c.load.result c.load.new.seat.me =
+    subst (λ i. looked (step s.ring.now.table_id.slots i 0 0 none) s.seat.me c.load.result c.load.new.seat.me) c.requires.spot.index_is c.load.ensures.2 in
+    has_noted s _ c.args.frame c.args.channel c.load.result (record { ring = c.load.ensures.0; key = refl; member = refl; places = refl; seen = refl }) refl refl c.requires.channel told.0 told.1
