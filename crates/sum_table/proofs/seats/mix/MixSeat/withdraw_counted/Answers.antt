@@ -1,4 +1,3 @@
-use Rattle.std.proofs.Common.{subst, sym}
 use Rattle.std.proofs.lemmas.Int.{to_z-of_z}
 use mir.Syntax.{w16}
 use Rattle.mix_core.specs.declared.port.Kind.TheVariants.{Withdrawn}
@@ -7,7 +6,7 @@ use Rattle.sum_table.proofs.Seated.{lay_facts}
 use Rattle.sum_table.proofs.seats.mix.MixSeat.withdraw_counted.Goals as goal
 
 pub spot-spot-requires : goal.spot-spot-requires
-spot-spot-requires g c = (lay_facts c.args.self.now Withdrawn c.args.frame c.args.channel c.args.sample (c.requires.last, c.requires.from_floor)).channel
+spot-spot-requires g c = record { channel = (lay_facts c.args.self.now Withdrawn c.args.frame c.args.channel c.args.sample (c.requires.last, c.requires.from_floor)).channel }
 
 pub returns-clause-step : goal.returns-clause-step
 returns-clause-step g c =
