@@ -7,14 +7,24 @@ use Rattle.mix_core.specs.declared.marks.Marks.{Marks}
 use Rattle.mix_core.specs.declared.port.Ended.{Ended}
 use Rattle.mix_core.specs.declared.port.Entry.{Entry}
 use Rattle.mix_core.specs.declared.port.Kind.{Kind}
-use Rattle.mix_core.specs.Laid.{marks_after}
+use Rattle.mix_core.specs.declared.port.Kind.TheVariants.{Withdrawn}
+use Rattle.snd_base.specs.Places.{IsFrom}
+use Rattle.mix_core.specs.Laid.{EndsIn, an_add, marks_after, standing}
 use Rattle.mix_core.specs.Port.{IsAskNumber, OnLate, OnWhole, PortView, marks_if}
 use Rattle.sum_table.specs.declared.seats.mix.MixSeat.{MixSeat}
 use Rattle.sum_table.specs.declared.view.Key.{Key}
 use Rattle.sum_table.specs.declared.view.View.{View}
-use Rattle.sum_table.specs.Seats.{IsTurned, LaysCounted, MakesLate, NotesRise-same, SeatFinds, SeatLaid, SeatLaid-composes, SeatLays, SeatLoaded, SeatLoaded-composes, entry_by, or_false, pass_count, seat_view, view_of}
+use Rattle.sum_table.specs.Seats.{IsTurned, LaysCounted, MakesLate, MayLay, NotesRise-same, SeatFinds, SeatLaid, SeatLaid-composes, SeatLays, SeatLoaded, SeatLoaded-composes, entry_by, or_false, pass_count, seat_view, view_of}
 use Rattle.sum_table.specs.Steps.{IsStep, Makes, in_row, sighting}
 use Rattle.ring_rule.specs.Words.{index_of}
+
+-- it may withdraw what it could before
+pub turned_may : (s p : MixSeat) (f c : ℕ) (x : ℤ) → IsTurned s p f → MayLay Withdrawn s f c x → MayLay Withdrawn p f c x
+turned_may s p f c x is may = (
+  subst (λ m. EndsIn (standing (view_of p).laid) (an_add m f c x ∷ [])) (sym is.member)
+      (subst (λ (v : View). EndsIn (standing v.laid) (an_add s.member f c x ∷ [])) (sym is.view) may.0),
+  subst (λ (m : Marks). IsFrom m.floor f c) (sym is.marks) may.1,
+)
 
 turned_laid : (s p : MixSeat) (f : ℕ) → IsTurned s p f → SeatLaid s p []
 turned_laid s p f is = record {

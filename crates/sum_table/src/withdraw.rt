@@ -28,7 +28,10 @@ impl MixSeat<'_> {
             (a_withdrawal (member_of self.old) frame channel sample) (ended_of result) self.new gate.new steps.new }
         ensures only_stopped { IfErr result (λ e. e ≡ PcmError.Stopped) }
     {
-        let spot = self.spot(frame, channel);
+        if !self.turn_to_frame(frame) {
+            unreachable!()
+        }
+        let spot = self.near_spot(frame, channel);
         let ended = self.lay(gate, Kind::Withdrawn, spot, frame, channel, sample, steps);
         answer(ended)
     }

@@ -1,14 +1,42 @@
+use Rattle.std.proofs.Common.{◌≡◌, ◌<◌, true, sym, subst, ap, ◌∙◌}
 use Rattle.std.proofs.lemmas.Int.{to_z-of_z}
 use mir.Syntax.{w16}
 use Rattle.mix_core.specs.declared.port.Kind.TheVariants.{Withdrawn}
+use Rattle.snd_base.specs.Places.{lap}
+use Rattle.sum_table.specs.declared.seats.mix.MixSeat.{MixSeat}
+use Rattle.sum_table.specs.declared.view.Key.{Key}
+use Rattle.sum_table.specs.Seats.{IsTurned, MayLay}
 use Rattle.sum_table.proofs.Placing.{counted_as}
 use Rattle.sum_table.proofs.Seated.{lay_facts}
+use Rattle.sum_table.proofs.Turned.{turned_counted, turned_may}
 use Rattle.sum_table.proofs.seats.mix.MixSeat.withdraw_counted.Goals as goal
 
-pub spot-spot-requires : goal.spot-spot-requires
-spot-spot-requires g c = record { channel = (lay_facts c.args.self.now Withdrawn c.args.frame c.args.channel c.args.sample (c.requires.last, c.requires.from_floor)).channel }
+pub unreachable-requires : goal.unreachable-requires
+unreachable-requires g c =
+    let fits = (lay_facts c.args.self.now Withdrawn c.args.frame c.args.channel c.args.sample (c.requires.last, c.requires.from_floor)).fits in
+    let yes : c.turn_to_frame.result ≡ true = c.turn_to_frame.ensures.fits.1 fits in
+    cc
+
+pub near_spot-spot-requires : goal.near_spot-spot-requires
+near_spot-spot-requires g c =
+    let s : MixSeat = c.args.self.now in
+    let p : MixSeat = c.turn_to_frame.new.self in
+    let is : IsTurned s p c.args.frame = c.turn_to_frame.ensures.turned c.if-not-turn_to_frame.false in
+    let channel = (lay_facts s Withdrawn c.args.frame c.args.channel c.args.sample (c.requires.last, c.requires.from_floor)).channel in
+    record {
+      channel = subst (λ (k : Key). c.args.channel < k.geometry.channels) (sym is.key) channel;
+      in_lap = ap (λ (k : Key). lap k.geometry c.args.frame) is.key ∙ is.in_lap;
+    }
+
+pub lay-ended-requires-clause-may : goal.lay-ended-requires-clause-may
+lay-ended-requires-clause-may g c =
+    let p : MixSeat = c.turn_to_frame.new.self in
+    let is : IsTurned c.args.self.now p c.args.frame = c.turn_to_frame.ensures.turned c.if-not-turn_to_frame.false in
+    subst (MayLay Withdrawn p c.args.frame c.args.channel) (sym (to_z-of_z w16 c.args.sample c.ranges.sample))
+    (turned_may c.args.self.now p c.args.frame c.args.channel c.args.sample is (c.requires.last, c.requires.from_floor))
 
 pub returns-clause-step : goal.returns-clause-step
 returns-clause-step g c =
     counted_as g.G.Gate.stops g.G.Gate.asked c.args.self.now _ _ _ Withdrawn c.args.frame c.args.channel _ c.args.sample _ _ _ _
-    (to_z-of_z w16 c.args.sample c.ranges.sample) c.answer.ensures.ended c.lay-ended.ensures
+    (to_z-of_z w16 c.args.sample c.ranges.sample) c.answer.ensures.ended
+    (turned_counted g.G.Gate.stops g.G.Gate.asked c.args.self.now c.turn_to_frame.new.self _ c.args.frame _ _ Withdrawn c.args.channel _ _ _ _ (c.turn_to_frame.ensures.turned c.if-not-turn_to_frame.false) c.lay-ended.ensures)
