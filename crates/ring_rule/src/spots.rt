@@ -1,5 +1,5 @@
 //! Where the words of a ring are.
-ghost use Rattle.std.specs.Prelude.{◌≡◌, ◌<◌, ◌≤◌, ◌↔◌, IsTrue, true, IfSome, IfNone};
+ghost use Rattle.std.specs.Prelude.{◌≡◌, ◌/◌, ◌<◌, ◌≤◌, ◌↔◌, IsTrue, true, IfSome, IfNone};
 ghost use Rattle.snd_base.specs.Places.{lap};
 ghost use Rattle.ring_rule.specs.Spots.{IsLapStart, IsSpot};
 
@@ -38,7 +38,7 @@ impl LapStart {
         ensures some { IfSome result (λ s. IsLapStart geometry.now s × (lap geometry.now frame ≡ s.lap)) }
         ensures none { IfNone result (4294967295 ≤ lap geometry.now frame) }
     {
-        let lap = far_lap(geometry, frame);
+        let lap = far_lap(geometry.frames, frame);
         if lap >= 4294967295 {
             return None;
         }
@@ -91,29 +91,17 @@ impl LapStart {
             index: slot as usize * geometry.channels as usize + channel as usize + 1,
         }
     }
-
-    /// Goes to the lap of a frame, where words can have it. It divides only where the frame is in another lap.
-    #[inline(always)]
-    pub fn turn_to_frame(&mut self, geometry: &Geometry, frame: u64)
-        requires { IsLapStart geometry.now self.old }
-        ensures { IsLapStart geometry.now self.new }
-    {
-        if self.has(geometry, frame) {
-            return;
-        }
-        if let Some(start) = LapStart::of_frame(geometry, frame) {
-            *self = start;
-        }
-    }
 }
 
-/// The lap of a frame that is far: it is divided for here, so that the loops that place samples have no division in them.
+/// The lap of a far frame, in a ring of so many frames. It is divided for here, so that the loops that place and take samples have
+/// no division in them; it takes numbers, so that these loops have no geometry in memory.
 #[cold]
 #[inline(never)]
-fn far_lap(geometry: &Geometry, frame: u64) -> u64
-    ensures { result ≡ lap geometry.now frame }
+fn far_lap(frames: u32, frame: u64) -> u64
+    requires { 1 ≤ frames }
+    ensures { result ≡ frame / frames }
 {
-    geometry.lap(frame)
+    frame / frames as u64
 }
 
 /// Where the word of a far frame is.

@@ -20,10 +20,10 @@ use Rattle.sum_table.specs.declared.seats.player.PlayerSeat.{PlayerSeat}
 use Rattle.sum_table.specs.declared.view.Key.{Key}
 use Rattle.sum_table.specs.declared.view.Track.{Track}
 use Rattle.sum_table.specs.declared.view.View.{View}
-use Rattle.sum_table.specs.Exact.{Exact, next_at, position_at, the_track}
+use Rattle.sum_table.specs.Exact.{BeginsWith, Exact, next_at, position_at, the_track}
 use Rattle.sum_table.specs.Known.{IsPlayer}
 use Rattle.ring_rule.specs.Positions.{has_all}
-use Rattle.sum_table.specs.Players.{HasTaken, player_view, track_of}
+use Rattle.sum_table.specs.Players.{HasTaken, IsTurnedPlayer, player_view, track_of}
 use Rattle.sum_table.specs.Steps.{Makes, published, taken, taking, track_taken, unplugged, with_gone, with_published, with_taken}
 use Rattle.ring_rule.specs.Words.{index_of}
 use Rattle.ring_rule.specs.PositionLaws.{has_all-published, last_of-more}
@@ -206,3 +206,33 @@ has_taken p q slots i word n z ring key next position gone value told =
       gone = gone;
       event = made_here;
     }
+
+-- the next word's frame is in the same lap
+pub turned_lap : (p q : PlayerSeat) → IsTurnedPlayer p q → lap q.key.geometry q.next.frame ≡ lap p.key.geometry p.next.frame
+turned_lap p q is = ap (λ (k : Key). lap k.geometry q.next.frame) is.key ∙ ap (λ (y : Cursor). lap p.key.geometry y.frame) is.next
+
+-- where words can have it before, they can have it then
+pub turned_fits : (p q : PlayerSeat) → IsTurnedPlayer p q → lap p.key.geometry p.next.frame < 4294967295
+    → lap q.key.geometry q.next.frame ≢ 4294967295
+turned_fits p q is fits = λ e. omega (arith, fits, e, turned_lap p q is)
+
+-- a player that went to a lap, and then took a word there: this is what it took from the first
+pub turned_taken : (p q r : PlayerSeat) (x : Taken) → IsTurnedPlayer p q → HasTaken q r x → HasTaken p r x
+turned_taken p q r x is has = record {
+  goes = record {
+    ring = has.goes.ring ∙ is.ring;
+    key = has.goes.key ∙ is.key;
+    history = subst (λ (v : View). BeginsWith (player_view r).history v.history) is.view has.goes.history;
+  };
+  view = has.view ∙ ap (λ (v : View). with_taken v (player_view r).history (the_track v.track) x) is.view;
+  track = has.track ∙ ap (λ (v : View). track_taken (the_track v.track) x) is.view;
+  frame = has.frame ∙ ap (λ (y : Cursor). y.frame) is.next;
+  channel = has.channel ∙ ap (λ (y : Cursor). y.channel) is.next;
+  value = has.value;
+  next = has.next
+      ∙ (ap (λ (k : Key). behind k.geometry q.next.frame q.next.channel) is.key
+      ∙ ap (λ (y : Cursor). behind p.key.geometry y.frame y.channel) is.next);
+  position = has.position ∙ is.position;
+  gone = has.gone ∙ is.gone;
+  event = subst (λ (v : View). Makes v (player_view r) (λ _. (Take, Took x.frame x.channel x.value) ∷ [])) is.view has.event;
+}

@@ -3,7 +3,7 @@ use Rattle.std.specs.Prelude.{◌≡◌, ℕ, Bool, true, [], ◌∷◌}
 use Rattle.atomic_table.specs.Seated.{TableId}
 use Rattle.snd_base.specs.declared.geometry.Geometry.{Geometry}
 use Rattle.snd_base.specs.declared.places.Cursor.{Cursor}
-use Rattle.snd_base.specs.Places.{behind}
+use Rattle.snd_base.specs.Places.{behind, lap}
 use Rattle.lap_word.specs.Clamp.{clamp_of}
 use Rattle.mix_core.specs.declared.event.Event.TheVariants.{Take, Publish}
 use Rattle.mix_core.specs.declared.event.Reply.TheVariants.{Took, Published}
@@ -44,6 +44,16 @@ position_of_player p = p.position
 
 abbrev pub gone_of_player : PlayerSeat → Bool
 gone_of_player p = p.gone
+
+-- a player that went to the lap of its next word's frame, and is the same but for this
+pub record IsTurnedPlayer (p q : PlayerSeat) : Type 0 where
+  pub in_lap : lap p.key.geometry p.next.frame ≡ q.start.lap
+  pub ring : player_ring q ≡ player_ring p
+  pub view : player_view q ≡ player_view p
+  pub key : q.key ≡ p.key
+  pub next : q.next ≡ p.next
+  pub position : q.position ≡ p.position
+  pub gone : q.gone ≡ p.gone
 
 -- the player of one ring, later: it has seen no less of the ring's history
 pub record PlayerGoes (p q : PlayerSeat) : Type 0 where

@@ -28,10 +28,10 @@ pub struct PlayerSeat<'a> {
 }
 
 impl PlayerSeat<'_> {
-    ghost use Rattle.std.specs.Prelude.{◌≡◌, ◌<◌, ◌↔◌, IfOk, IfErr, OnErr, IsErrOf};
+    ghost use Rattle.std.specs.Prelude.{◌≡◌, ◌<◌, ◌↔◌, true, false, IfOk, IfErr, OnErr, IsErrOf};
     ghost use Rattle.snd_base.specs.Places.{IsWithin, lap};
     ghost use Rattle.sum_table.specs.Exact.{next_at, position_at};
-    ghost use Rattle.sum_table.specs.Players.{HasPublished, HasTaken, HasUnplugged, next_of_player, player_geometry, position_of_player, track_of};
+    ghost use Rattle.sum_table.specs.Players.{HasPublished, HasTaken, HasUnplugged, IsTurnedPlayer, next_of_player, player_geometry, position_of_player, track_of};
 
     /// The geometry of the ring.
     pub fn geometry(&self) -> Geometry
@@ -69,13 +69,12 @@ impl PlayerSeat<'_> {
         ensures lap_end { IsErrOf result PcmError.LapEnd ↔ (lap (player_geometry self.old) (next_of_player self.old).frame ≡ 4294967295) }
         ensures only { IfErr result (λ e. e ≡ PcmError.LapEnd) }
     {
-        let geometry = self.key.geometry;
-        let Cursor { frame, channel } = self.next;
-        let spot = self.start.spot(&geometry, frame, channel);
-        if spot.lap == 4294967295 {
+        if !self.turn_to_next() {
             return Err(PcmError::LapEnd);
         }
-        self.start.turn_to_frame(&geometry, frame);
+        let geometry = self.key.geometry;
+        let Cursor { frame, channel } = self.next;
+        let spot = self.start.near_spot(&geometry, frame, channel);
         let empty = lap_word::pack(spot.lap as u32 + 1, 0, 0);
         let found = self.ring.swap::<Take>(&mut self.seat, spot.index, empty);
         let next = Cursor::behind(&geometry, frame, channel);
@@ -86,6 +85,25 @@ impl PlayerSeat<'_> {
             channel,
             value: lap_word::clamp(lap_word::sum(found)),
         })
+    }
+
+    // Goes to the lap of the next word's frame. `false` comes exactly where no word can have it; nothing changes then.
+    #[inline(always)]
+    fn turn_to_next(&mut self) -> bool
+        ensures turned { result ≡ true → IsTurnedPlayer self.old self.new }
+        ensures fits { (result ≡ true) ↔ (lap (player_geometry self.old) (next_of_player self.old).frame < 4294967295) }
+        ensures unchanged { result ≡ false → self.new ≡ self.old }
+    {
+        let geometry = self.key.geometry;
+        let frame = self.next.frame;
+        if self.start.has(&geometry, frame) {
+            return true;
+        }
+        let Some(start) = LapStart::of_frame(&geometry, frame) else {
+            return false;
+        };
+        self.start = start;
+        true
     }
 
     /// Publishes the number of the first frame that is not wholly taken as the position, by one store.
