@@ -35,7 +35,8 @@ impl LapStart {
     /// is for a frame in another lap than the seat's.
     #[inline(always)]
     pub fn of_frame(geometry: &Geometry, frame: u64) -> Option<LapStart>
-        ensures some { IfSome result (λ s. IsLapStart geometry.now s × (lap geometry.now frame ≡ s.lap)) }
+        ensures some { IfSome result
+            (λ s. IsLapStart geometry.now s × (lap geometry.now frame ≡ s.lap)) }
         ensures none { IfNone result (4294967295 ≤ lap geometry.now frame) }
     {
         let lap = far_lap(geometry.frames, frame);

@@ -7,5 +7,8 @@ ghost use Rattle.mix_core.specs.History.{IsLegal, IsReply, Row, late_row};
 /// An add that is late changes nothing. So the history that a ring keeps leaves these adds out, and each of them can be
 /// put into it at its own step: the history is legal with it as well.
 pub fn late_adds_change_nothing()
-    ensures { (g : Geometry) (members : ℕ) (h later : List Row) (e : Entry) → IsLegal g members (h ++ later) → IsReply g members h (late_row e) → IsLegal g members (h ++ late_row e ∷ later) }
+    ensures { (g : Geometry) (members : ℕ) (h later : List Row) (e : Entry)
+        → IsLegal g members (h ++ later)
+        → IsReply g members h (late_row e)
+        → IsLegal g members (h ++ late_row e ∷ later) }
 {}

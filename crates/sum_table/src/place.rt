@@ -32,8 +32,10 @@ impl MixSeat<'_> {
         requires ahead { frame < seen_of self.old + (geometry_of self.old).frames }
         ensures step { lap (geometry_of self.old) frame < 4294967295
             → LaysCounted G.stops G.asked self.old gate.old steps.old
-            (an_add (member_of self.old) frame channel sample) (ended_of result) self.new gate.new steps.new }
-        ensures lap_end { IsErrOf result PcmError.LapEnd ↔ (4294967295 ≤ lap (geometry_of self.old) frame) }
+            (an_add (member_of self.old) frame channel sample)
+            (ended_of result) self.new gate.new steps.new }
+        ensures lap_end { IsErrOf result PcmError.LapEnd
+            ↔ (4294967295 ≤ lap (geometry_of self.old) frame) }
         ensures unchanged { IsErrOf result PcmError.LapEnd
             → (self.new ≡ self.old) × (gate.new ≡ gate.old) × (steps.new ≡ steps.old) }
         ensures only { IfErr result (λ e. (e ≡ PcmError.LapEnd) ⊎ (e ≡ PcmError.Stopped)) }
@@ -66,8 +68,10 @@ impl MixSeat<'_> {
         ensures step { lap (geometry_of self.old) frame < 4294967295
             → SeatLays G.stops G.asked self.old gate.old
             (an_add (member_of self.old) frame channel sample) (ended_of result) self.new gate.new }
-        ensures lap_end { IsErrOf result PcmError.LapEnd ↔ (4294967295 ≤ lap (geometry_of self.old) frame) }
-        ensures unchanged { IsErrOf result PcmError.LapEnd → (self.new ≡ self.old) × (gate.new ≡ gate.old) }
+        ensures lap_end { IsErrOf result PcmError.LapEnd
+            ↔ (4294967295 ≤ lap (geometry_of self.old) frame) }
+        ensures unchanged { IsErrOf result PcmError.LapEnd
+            → (self.new ≡ self.old) × (gate.new ≡ gate.old) }
         ensures only { IfErr result (λ e. (e ≡ PcmError.LapEnd) ⊎ (e ≡ PcmError.Stopped)) }
     {
         let mut steps: Steps<L> = Steps::open(blank);

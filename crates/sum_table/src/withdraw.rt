@@ -22,10 +22,12 @@ impl MixSeat<'_> {
         sample: i16,
         steps: &mut Steps<L>,
     ) -> Result<Placed, PcmError>
-        requires last { SeatEndsIn self.old (an_add (member_of self.old) frame channel sample ∷ []) }
+        requires last { SeatEndsIn self.old
+            (an_add (member_of self.old) frame channel sample ∷ []) }
         requires from_floor { IsFrom (marks_of_seat self.old).floor frame channel }
         ensures step { LaysCounted G.stops G.asked self.old gate.old steps.old
-            (a_withdrawal (member_of self.old) frame channel sample) (ended_of result) self.new gate.new steps.new }
+            (a_withdrawal (member_of self.old) frame channel sample)
+            (ended_of result) self.new gate.new steps.new }
         ensures only_stopped { IfErr result (λ e. e ≡ PcmError.Stopped) }
     {
         if !self.turn_to_frame(frame) {
@@ -48,10 +50,12 @@ impl MixSeat<'_> {
         requires name { blank.name ≡ L.name }
         requires parts { blank.parts ≡ L.parts }
         requires some { 0 < blank.parts }
-        requires last { SeatEndsIn self.old (an_add (member_of self.old) frame channel sample ∷ []) }
+        requires last { SeatEndsIn self.old
+            (an_add (member_of self.old) frame channel sample ∷ []) }
         requires from_floor { IsFrom (marks_of_seat self.old).floor frame channel }
         ensures step { SeatLays G.stops G.asked self.old gate.old
-            (a_withdrawal (member_of self.old) frame channel sample) (ended_of result) self.new gate.new }
+            (a_withdrawal (member_of self.old) frame channel sample)
+            (ended_of result) self.new gate.new }
         ensures only_stopped { IfErr result (λ e. e ≡ PcmError.Stopped) }
     {
         let mut steps: Steps<L> = Steps::open(blank);

@@ -116,7 +116,8 @@ impl<'a> MixSeat<'a> {
     /// this seat has all places (`has_all_places`) and that both seats are of one ring.
     pub fn close(self, player: PlayerSeat<'_>) -> Closed
         requires all_places { places_of_seat self ≡ (key_of self).places }
-        requires one_ring { OneRing (player_ring player) (player_key player) (ring_of self) (key_of self) }
+        requires one_ring { OneRing (player_ring player) (player_key player)
+            (ring_of self) (key_of self) }
         ensures { HasClosed self.entry player.entry result }
     {
         let MixSeat {
@@ -171,7 +172,8 @@ impl<'a> PlayerSeat<'a> {
 
     /// Meets a note, and learns that what it has seen is what this player did. The caller shows that both are of one ring.
     pub fn meet(&mut self, note: SeatNote<'_>)
-        requires { OneRing (note_ring note) (note_key note) (player_ring self.old) (player_key self.old) }
+        requires { OneRing (note_ring note) (note_key note)
+            (player_ring self.old) (player_key self.old) }
         ensures { HasHeard self.old self.new note.entry }
     {
         let SeatNote { seat: met } = note;

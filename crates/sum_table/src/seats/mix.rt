@@ -60,8 +60,10 @@ impl MixSeat<'_> {
         ensures value { result ≡ last_of_seat self.now }
         ensures of_view { result ≡ last_frame (view_of self.now).laid }
         ensures before_high { result ≡ high_frame (geometry_of self.now) (marks_of_seat self.now) }
-        ensures cursor_free { IsFrom (marks_of_seat self.now).cursor (free_from (geometry_of self.now) result) 0 }
-        ensures floor_free { IsFrom (marks_of_seat self.now).floor (free_from (geometry_of self.now) result) 0 }
+        ensures cursor_free { IsFrom (marks_of_seat self.now).cursor
+            (free_from (geometry_of self.now) result) 0 }
+        ensures floor_free { IsFrom (marks_of_seat self.now).floor
+            (free_from (geometry_of self.now) result) 0 }
         ensures before_end { IfSome result (λ frame. frame < end_frame (geometry_of self.now)) }
     {
         self.reach.last()
@@ -169,7 +171,8 @@ impl MixSeat<'_> {
         requires from_cursor { IsFrom (cursor_of_seat self.old) frame channel }
         requires ahead { frame < seen_of self.old + (geometry_of self.old).frames }
         requires lap_fits { lap (geometry_of self.old) frame < 4294967295 }
-        ensures ok { OnOk result (HasLaid self.old self.new (an_add (member_of self.old) frame channel sample)) }
+        ensures ok { OnOk result
+            (HasLaid self.old self.new (an_add (member_of self.old) frame channel sample)) }
         ensures err { IfErr result (λ n. HasLost self.old self.new frame channel old n) }
         ensures ticks { steps.new ≡ steps.old + 1 }
     {
@@ -189,11 +192,13 @@ impl MixSeat<'_> {
         sample: i16,
         steps: &mut Steps<L>,
     ) -> Result<(), u64>
-        requires last { SeatEndsIn self.old (an_add (member_of self.old) frame channel sample ∷ []) }
+        requires last { SeatEndsIn self.old
+            (an_add (member_of self.old) frame channel sample ∷ []) }
         requires noted { shown self.old frame channel ≡ Some old }
         requires of_lap { lap_of old ≡ lap (geometry_of self.old) frame }
         requires from_floor { IsFrom (marks_of_seat self.old).floor frame channel }
-        ensures ok { OnOk result (HasLaid self.old self.new (a_withdrawal (member_of self.old) frame channel sample)) }
+        ensures ok { OnOk result
+            (HasLaid self.old self.new (a_withdrawal (member_of self.old) frame channel sample)) }
         ensures err { IfErr result (λ n. HasLost self.old self.new frame channel old n) }
         ensures ticks { steps.new ≡ steps.old + 1 }
     {
@@ -217,7 +222,8 @@ impl MixSeat<'_> {
         requires noted { shown self.old frame channel ≡ Some old }
         requires of_lap { lap_of old ≡ lap (geometry_of self.old) frame }
         requires spot { IsSpot (geometry_of self.old) frame channel spot }
-        ensures ok { OnOk result (HasLaid self.old self.new (entry_by self.old kind frame channel sample)) }
+        ensures ok { OnOk result
+            (HasLaid self.old self.new (entry_by self.old kind frame channel sample)) }
         ensures err { IfErr result (λ n. HasLost self.old self.new frame channel old n) }
         ensures ticks { steps.new ≡ steps.old + 1 }
     {
@@ -247,7 +253,8 @@ fn changed(kind: Kind, word: u64, sample: i16) -> u64
     requires room { count_of word < 255 }
     requires low { negsuc 8388607 ≤ℤ (sum_of word +ℤ signed kind sample) }
     requires high { (sum_of word +ℤ signed kind sample) ≤ℤ pos 8388607 }
-    ensures { StandsFor result (lap_of word) (count_of word + 1) (sum_of word +ℤ signed kind sample) }
+    ensures { StandsFor result (lap_of word) (count_of word + 1)
+        (sum_of word +ℤ signed kind sample) }
 {
     let value = signed(kind, sample);
     word + (lap_word::pack(0, 1, value) - lap_word::pack(0, 0, 0))

@@ -43,7 +43,8 @@ impl PlayerSeat<'_> {
     /// The position that it published last, a frame number, or the number of the first frame.
     pub fn position(&self) -> u64
         ensures value { result ≡ position_of_player self.now }
-        ensures published_last { result ≡ position_at (player_geometry self.now) (track_of self.now) }
+        ensures published_last { result
+            ≡ position_at (player_geometry self.now) (track_of self.now) }
         ensures within { IsWithin (player_geometry self.now) result }
     {
         self.position
@@ -66,7 +67,8 @@ impl PlayerSeat<'_> {
     pub fn take_word(&mut self) -> Result<Taken, PcmError>
         ensures ok { IfOk result (λ taken. HasTaken self.old self.new taken) }
         ensures err { OnErr result (self.new ≡ self.old) }
-        ensures lap_end { IsErrOf result PcmError.LapEnd ↔ (lap (player_geometry self.old) (next_of_player self.old).frame ≡ 4294967295) }
+        ensures lap_end { IsErrOf result PcmError.LapEnd
+            ↔ (lap (player_geometry self.old) (next_of_player self.old).frame ≡ 4294967295) }
         ensures only { IfErr result (λ e. e ≡ PcmError.LapEnd) }
     {
         if !self.turn_to_next() {
@@ -91,7 +93,8 @@ impl PlayerSeat<'_> {
     #[inline(always)]
     fn turn_to_next(&mut self) -> bool
         ensures turned { result ≡ true → IsTurnedPlayer self.old self.new }
-        ensures fits { (result ≡ true) ↔ (lap (player_geometry self.old) (next_of_player self.old).frame < 4294967295) }
+        ensures fits { (result ≡ true)
+            ↔ (lap (player_geometry self.old) (next_of_player self.old).frame < 4294967295) }
         ensures unchanged { result ≡ false → self.new ≡ self.old }
     {
         let geometry = self.key.geometry;
