@@ -31,7 +31,8 @@ impl<'a> ReaderSeat<'a> {
 
     /// Takes over all that the other seat has seen, noted and got. The caller shows that both seats are of one ring.
     pub fn join(&mut self, other: ReaderSeat<'_>)
-        requires { OneRing (ring_of other) (geometry_of other) (ring_of self.old) (geometry_of self.old) }
+        requires { OneRing (ring_of other) (geometry_of other)
+            (ring_of self.old) (geometry_of self.old) }
         ensures { HasJoined self.old self.new other.entry }
     {
         let ReaderSeat {
@@ -56,7 +57,8 @@ impl<'a> ReaderSeat<'a> {
     /// of the note, and once the note has seen the card gone, every later position is gone. The caller shows that both are
     /// of one ring.
     pub fn meet(&mut self, note: SnoopNote<'_>)
-        requires { OneRing (note_ring note) (note_geometry note) (ring_of self.old) (geometry_of self.old) }
+        requires { OneRing (note_ring note) (note_geometry note)
+            (ring_of self.old) (geometry_of self.old) }
         ensures { HasMet self.old self.new note.entry }
     {
         let SnoopNote { seat } = note;
@@ -66,7 +68,8 @@ impl<'a> ReaderSeat<'a> {
     /// Ends this seat and the writer's, and answers the position that the writer published last, or the number of the first
     /// frame. The caller shows that both seats are of one ring.
     pub fn close(self, writer: WriterSeat<'_>) -> u64
-        requires { OneRing (writer_ring writer) (writer_geometry writer) (ring_of self) (geometry_of self) }
+        requires { OneRing (writer_ring writer) (writer_geometry writer)
+            (ring_of self) (geometry_of self) }
         ensures { HasClosed self.entry writer.entry result }
     {
         let ReaderSeat {
@@ -114,7 +117,8 @@ impl<'a> Desk<'a> {
 
     // Takes over what another seat has seen.
     fn hear(&mut self, other: ReaderSeat<'_>)
-        requires { OneRing (ring_of other) (geometry_of other) (desk_ring self.old) (desk_geometry self.old) }
+        requires { OneRing (ring_of other) (geometry_of other)
+            (desk_ring self.old) (desk_geometry self.old) }
         ensures { DeskHeard self.old self.new other.entry }
     {
         let ReaderSeat {
@@ -145,7 +149,8 @@ impl<'a> WriterSeat<'a> {
     /// Meets a note, and learns that what it has seen is what this writer did: each frame that it got is the one that this
     /// writer stored under its number. The caller shows that both are of one ring.
     pub fn meet(&mut self, note: SnoopNote<'_>)
-        requires { OneRing (note_ring note) (note_geometry note) (writer_ring self.old) (writer_geometry self.old) }
+        requires { OneRing (note_ring note) (note_geometry note)
+            (writer_ring self.old) (writer_geometry self.old) }
         ensures { HasHeard self.old self.new note.entry }
     {
         let SnoopNote { seat } = note;

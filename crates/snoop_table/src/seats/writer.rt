@@ -30,7 +30,8 @@ impl WriterSeat<'_> {
     /// The number of the frame that is stored next: the first one that is not stored.
     pub fn next(&self) -> u64
         ensures value { result ≡ next_frame self.now }
-        ensures behind_stored { result ≡ (next_of (writer_geometry self.now) (writer_track self.now)).frame }
+        ensures behind_stored { result
+            ≡ (next_of (writer_geometry self.now) (writer_track self.now)).frame }
     {
         self.desk.place.next.frame
     }
@@ -42,7 +43,8 @@ impl WriterSeat<'_> {
         requires { length frame.now ≡ (writer_geometry self.old).channels }
         ensures ok { OnOk result (HasStored (desk_of self.old) (desk_of self.new) frame.now) }
         ensures err { OnErr result (self.new ≡ self.old) }
-        ensures lap_end { IsErrOf result PcmError.LapEnd ↔ (lap (writer_geometry self.old) (next_frame self.old) ≡ 4294967295) }
+        ensures lap_end { IsErrOf result PcmError.LapEnd
+            ↔ (lap (writer_geometry self.old) (next_frame self.old) ≡ 4294967295) }
         ensures only { IfErr result (λ e. e ≡ PcmError.LapEnd) }
     {
         if self.desk.place.laps == 4294967296 {
