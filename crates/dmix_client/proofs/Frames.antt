@@ -16,7 +16,7 @@ use Rattle.bindings.specs.Bound.{AreBindings, rising}
 use Rattle.bindings.specs.RisingLaws.{rising-rises, rising-within}
 use Rattle.dmix_client.specs.declared.plain.Plain.{Plain}
 use Rattle.dmix_client.specs.RingLaws.{slot-behind}
-use Rattle.dmix_client.specs.View.{held, held_at}
+use Rattle.dmix_client.specs.View.{ring_sample, slot_sample}
 
 -- what holds of a late end and of a stop holds of each that isn't whole
 pub not-whole : (X : Ended → Type 0) (e : Ended) → (e ≡ Whole → ⊥) → ((word : ℕ) → X (Late word)) → X Stopped → X e
@@ -57,16 +57,16 @@ pub rising-single : (bindings : List ℕ) → AreBindings bindings → length bi
 rising-single bindings are single = omega (arith, rising-within bindings 0 are (omega (arith, single)), single)
 
 -- the entry of a sample that a client holds, by where its frame begins in the local ring
-pub entry-held : (E : ℕ → ℕ → ℤ → Entry) (plain : Plain) (ring : List ℤ) (number slot q member channel : ℕ) (x : ℤ) → member ≡ plain.identity.member → channel ≡ slice_index plain.setup.bindings q
+pub entry-ring_sample : (E : ℕ → ℕ → ℤ → Entry) (plain : Plain) (ring : List ℤ) (number slot q member channel : ℕ) (x : ℤ) → member ≡ plain.identity.member → channel ≡ slice_index plain.setup.bindings q
     → slot ≡ (plain.stretch.source + number) % plain.setup.config.buffer_size * length plain.setup.bindings → x ≡ slice_index_or ring (slot + q) (pos 0)
-    → E member channel x ≡ E plain.identity.member (slice_index plain.setup.bindings q) (held plain ring number q)
-entry-held E plain ring number slot q member channel x is_member is_channel is_slot is =
+    → E member channel x ≡ E plain.identity.member (slice_index plain.setup.bindings q) (ring_sample plain ring number q)
+entry-ring_sample E plain ring number slot q member channel x is_member is_channel is_slot is =
     ap (λ (m : ℕ). E m channel x) is_member ∙ ap (λ (k : ℕ). E plain.identity.member k x) is_channel
     ∙ ap (E plain.identity.member (slice_index plain.setup.bindings q)) (is ∙ ap (λ (i : ℕ). slice_index_or ring (i + q) (pos 0)) is_slot)
 
 -- the entry of a sample in a frame of the local ring, by the slot where the frame begins
 pub entry-bound : (E : ℕ → ℕ → ℤ → Entry) (bindings : List ℕ) (ring : List ℤ) (slot q m member channel : ℕ) (x : ℤ) → m ≡ member → channel ≡ slice_index bindings q
-    → x ≡ slice_index_or ring (slot + q) (pos 0) → E m channel x ≡ E member (slice_index bindings q) (held_at ring slot q)
+    → x ≡ slice_index_or ring (slot + q) (pos 0) → E m channel x ≡ E member (slice_index bindings q) (slot_sample ring slot q)
 entry-bound E bindings ring slot q m member channel x is_member is_channel is =
     ap (λ (n : ℕ). E n channel x) is_member ∙ ap (λ (k : ℕ). E member k x) is_channel ∙ ap (E member (slice_index bindings q)) is
 

@@ -13,7 +13,7 @@ use Rattle.dmix_client.specs.Calls.{window_end, Answered, accepted_if, taken_of}
 use Rattle.dmix_client.specs.Expansion.{run_entries, sample_at}
 use Rattle.dmix_client.specs.ExpansionLaws.{run_entries-append, run_entries-same}
 use Rattle.dmix_client.specs.Growth.{Follows, StandsFor, StandsUpTo, segment_entries}
-use Rattle.dmix_client.specs.View.{IsSound, held, hw_of}
+use Rattle.dmix_client.specs.View.{IsSound, hw_of, ring_sample}
 use Rattle.dmix_client.specs.Writes.{ring_with}
 use Rattle.dmix_client.specs.declared.commit.Commit.{Commit}
 use Rattle.dmix_client.specs.declared.plain.Plain.{Plain}
@@ -39,7 +39,7 @@ whole-at member bindings s card at n part none same = elim (cases_eq n 0) [
 
 -- what a commit laid of a local ring
 abbrev pub laid_at : Plain → Plain → List ℤ → Commit → List Entry
-laid_at c b ring x = run_entries c.identity.member c.setup.bindings (held c ring) b.stretch.card c.stretch.committed x.frames x.part
+laid_at c b ring x = run_entries c.identity.member c.setup.bindings (ring_sample c ring) b.stretch.card c.stretch.committed x.frames x.part
 
 -- the entries of the segment grow by that
 pub segment_entries-after : (c b : Plain) (ring samples : List ℤ) (x : Commit) (count upto : ℕ) (s : Status) (written fed : ℕ) → CommitsAs c b ring x count upto → AreBindings c.setup.bindings → StandsUpTo c ring samples upto
@@ -50,7 +50,7 @@ segment_entries-after c b ring samples x count upto s written fed y bound stands
     let within = used-below x.ended c.stretch.committed x.frames x.part count (length c.setup.bindings) upto y.commit_is (omega (arith, y.few, below)) y.low in
     let rest : run_entries c.identity.member c.setup.bindings sample b.stretch.card (0 + c.stretch.committed) x.frames x.part ≡ laid_at c b ring x =
     ap (λ (n : ℕ). run_entries c.identity.member c.setup.bindings sample b.stretch.card n x.frames x.part) (zero-add c.stretch.committed)
-    ∙ sym (run_entries-same c.identity.member c.setup.bindings (held c ring) sample b.stretch.card c.stretch.committed x.frames x.part bound
+    ∙ sym (run_entries-same c.identity.member c.setup.bindings (ring_sample c ring) sample b.stretch.card c.stretch.committed x.frames x.part bound
     (λ j q least most h. stands j q (low-at c.stretch.committed (hw_of c) j least) (omega (arith, most, within)) h)) in
     run_entries-append c.identity.member c.setup.bindings sample b.stretch.card 0 c.stretch.committed x.frames x.part
     ∙ ap (λ (es : List Entry). es ++ run_entries c.identity.member c.setup.bindings sample b.stretch.card (0 + c.stretch.committed) x.frames x.part)

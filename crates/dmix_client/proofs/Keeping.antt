@@ -47,7 +47,7 @@ use Rattle.dmix_client.specs.Growth.{AnySamples, Follows, Keeps, KeepsAccepted, 
 use Rattle.dmix_client.specs.GrowthLaws.{Grows-joined}
 use Rattle.dmix_client.specs.Port.{CanUse, CountsEnd, IsCommit, IsStep, Looked, TakesStep, entries_at, least_channel}
 use Rattle.dmix_client.specs.RingLaws.{stored-HasRoom}
-use Rattle.dmix_client.specs.View.{ClientView, IsConfigured, IsGoing, IsLaidPast, IsMoving, IsSound, avail_of, held, hw_of, queued_of}
+use Rattle.dmix_client.specs.View.{ClientView, IsConfigured, IsGoing, IsLaidPast, IsMoving, IsSound, avail_of, hw_of, queued_of, ring_sample}
 use Rattle.dmix_client.specs.Writes.{count_with, ring_with, taken_after}
 use Rattle.dmix_client.specs.declared.commit.Commit.{Commit}
 use Rattle.dmix_client.specs.declared.plain.Plain.{Plain}
@@ -344,7 +344,7 @@ module _ {S T : Type 0} (P : mixport.Ghosts S) (G : gates.Ghosts T) (laid_compos
     pub count : IfOk a.1 (λ taken. taken ≤ 16384)
 
   written-kept : (s t : S × T) (c : Plain) (ring offered : List ℤ) (n : ℕ) (x : Commit) → IsSound c ring → is_moving c.status.state ≡ true → c.status.stopped ≡ false → IsLaidPast c → n * length c.setup.bindings ≤ length offered → CanUse c (P.view s.0) → IsSamePort (P.view s.0) (P.view t.0)
-      → LaysFrames P G s t c.identity.member c.stretch.card c.setup.bindings (held c (ring_with c ring offered (taken_of c n))) (count_with c (taken_of c n)) c.stretch.committed x → Written s t c ring offered n (written_after c n x)
+      → LaysFrames P G s t c.identity.member c.stretch.card c.setup.bindings (ring_sample c (ring_with c ring offered (taken_of c n))) (count_with c (taken_of c n)) c.stretch.committed x → Written s t c ring offered n (written_after c n x)
   written-kept s t c ring offered n x sound moves going past held_all port same laid =
       let k = configured-moving c ring sound moves in
       let was = sound.moving moves going in
@@ -397,7 +397,7 @@ module _ {S T : Type 0} (P : mixport.Ghosts S) (G : gates.Ghosts T) (laid_compos
   takes_more-kept s t c ring offered n a sound moves going past held_all port takes =
       let stored = ring_with c ring offered (taken_of c n) in
       let parts = Takes-parts (LoadsAt P G) (LaysAt P G) NoGet s t (commits c stored (count_with c (taken_of c n))) (λ last. ends (written_after c n last)) a takes in
-      let laid = TakesAt-frames P G laid_composes loaded_composes c.identity.member c.stretch.card c.setup.bindings (held c stored) (count_with c (taken_of c n)) c.stretch.committed s parts.0 parts.1 (configured-moving c ring sound moves).bound parts.2 in
+      let laid = TakesAt-frames P G laid_composes loaded_composes c.identity.member c.stretch.card c.setup.bindings (ring_sample c stored) (count_with c (taken_of c n)) c.stretch.committed s parts.0 parts.1 (configured-moving c ring sound moves).bound parts.2 in
       subst (λ (u : S × T). Taken s u c ring offered n a) (sym parts.3.there) (subst (λ (b : Answered ℕ). Taken s parts.0 c ring offered n b) (sym parts.3.result) (record {
         kept = written-kept s parts.0 c ring offered n parts.1 sound moves going past held_all port (TakesAt-same P G s parts.0 (commits c stored (count_with c (taken_of c n))) parts.1 parts.2) laid;
         last = parts.1;

@@ -14,7 +14,7 @@ use Rattle.dmix_client.specs.declared.commit.Commit.{Commit}
 use Rattle.dmix_client.specs.declared.plain.Plain.{Plain}
 use Rattle.dmix_client.specs.Course.{go_on, lay_each, lay_frame, lay_frames, lay_on, nothing, one_frame_more, one_more}
 use Rattle.dmix_client.specs.CourseLaws.{entry_of}
-use Rattle.dmix_client.specs.View.{held, held_at}
+use Rattle.dmix_client.specs.View.{ring_sample, slot_sample}
 use Rattle.dmix_client.proofs.Frames.{not-whole}
 
 -- what the channels from here on come to is what all come to
@@ -69,14 +69,14 @@ module _ {S T : Type 0} (P : mixport.Ghosts S) (G : gates.Ghosts T) where
       (so_far now 0 Whole (rw (drop_all i qs is) (record { there = refl; result = refl })))
 
   -- a frame that was placed from a slot, as a frame of the client
-  pub TakesAt-held : (plain : Plain) (ring : List ℤ) (member frame slot number : ℕ) (s t : S × T) (done : ℕ × Ended) → member ≡ plain.identity.member → frame ≡ plain.stretch.card + number
+  pub TakesAt-ring_sample : (plain : Plain) (ring : List ℤ) (member frame slot number : ℕ) (s t : S × T) (done : ℕ × Ended) → member ≡ plain.identity.member → frame ≡ plain.stretch.card + number
       → slot ≡ (plain.stretch.source + number) % plain.setup.config.buffer_size * length plain.setup.bindings
-      → TakesAt P G s (lay_frame member frame plain.setup.bindings (held_at ring slot)) t done
-      → TakesAt P G s (lay_frame plain.identity.member (plain.stretch.card + number) plain.setup.bindings (held plain ring number)) t done
-  TakesAt-held plain ring member frame slot number s t done is_member is_frame is_slot takes =
-      subst (λ (m : ℕ). TakesAt P G s (lay_frame m (plain.stretch.card + number) plain.setup.bindings (held plain ring number)) t done) is_member
-      (subst (λ (f : ℕ). TakesAt P G s (lay_frame member f plain.setup.bindings (held plain ring number)) t done) is_frame
-      (subst (λ (n : ℕ). TakesAt P G s (lay_frame member frame plain.setup.bindings (held_at ring n)) t done) is_slot takes))
+      → TakesAt P G s (lay_frame member frame plain.setup.bindings (slot_sample ring slot)) t done
+      → TakesAt P G s (lay_frame plain.identity.member (plain.stretch.card + number) plain.setup.bindings (ring_sample plain ring number)) t done
+  TakesAt-ring_sample plain ring member frame slot number s t done is_member is_frame is_slot takes =
+      subst (λ (m : ℕ). TakesAt P G s (lay_frame m (plain.stretch.card + number) plain.setup.bindings (ring_sample plain ring number)) t done) is_member
+      (subst (λ (f : ℕ). TakesAt P G s (lay_frame member f plain.setup.bindings (ring_sample plain ring number)) t done) is_frame
+      (subst (λ (n : ℕ). TakesAt P G s (lay_frame member frame plain.setup.bindings (slot_sample ring n)) t done) is_slot takes))
 
   pub RestFrames-none : (member card : ℕ) (bindings : List ℕ) (samples : ℕ → ℕ → ℤ) (count first : ℕ) (s : S × T) → RestFrames P G member card bindings samples count first s s 0
   RestFrames-none member card bindings samples count first s t x takes =

@@ -44,7 +44,7 @@ use Rattle.dmix_client.specs.Growth.{AnySamples, Keeps, KeepsBack, Loses, Stands
 use Rattle.dmix_client.specs.Port.{CanUse, IsStep, least_channel}
 use Rattle.dmix_client.specs.Rewind.{back_of, checks, held_entries, last_channel, last_laid, rewind_on, rewindable_of, rewinds, rewound, take_frames, taken_back, takes_back, without}
 use Rattle.dmix_client.specs.RewindCauses.{ExplainsCheck, ExplainsRewind, IsKeptCause}
-use Rattle.dmix_client.specs.View.{ClientView, IsGoing, IsMoving, IsSound, held, hw_of, queued_of}
+use Rattle.dmix_client.specs.View.{ClientView, IsGoing, IsMoving, IsSound, hw_of, queued_of, ring_sample}
 use Rattle.dmix_client.specs.declared.commit.Commit.{Commit}
 use Rattle.dmix_client.specs.declared.plain.Plain.{Plain}
 
@@ -157,12 +157,12 @@ run_entries-split member bindings s card from at k m n part is sum =
 
 -- the frames that are withdrawn are the last of those that the local ring has
 pub held-last : (d : Plain) (ring : List ℤ) (floor : Cursor) (n : ℕ) → IsMoving d → IsBack d floor n
-    → held_entries d ring ≡ run_entries d.identity.member d.setup.bindings (held d ring) d.stretch.card (min d.stretch.committed (hw_of d)) (d.stretch.committed - back_of d n - min d.stretch.committed (hw_of d)) 0
-    ++ run_entries d.identity.member d.setup.bindings (held d ring) d.stretch.card (d.stretch.committed - back_of d n) (back_of d n) 0
+    → held_entries d ring ≡ run_entries d.identity.member d.setup.bindings (ring_sample d ring) d.stretch.card (min d.stretch.committed (hw_of d)) (d.stretch.committed - back_of d n - min d.stretch.committed (hw_of d)) 0
+    ++ run_entries d.identity.member d.setup.bindings (ring_sample d ring) d.stretch.card (d.stretch.committed - back_of d n) (back_of d n) 0
 held-last d ring floor n m is =
     let low = first-unplayed d floor n m is in
     let from : ℕ = min d.stretch.committed (hw_of d) in
-    run_entries-split d.identity.member d.setup.bindings (held d ring) d.stretch.card from (d.stretch.committed - back_of d n) (d.stretch.committed - back_of d n - from) (d.stretch.committed - from) (back_of d n) 0 (omega (arith, low)) (omega (arith, low, is.back))
+    run_entries-split d.identity.member d.setup.bindings (ring_sample d ring) d.stretch.card from (d.stretch.committed - back_of d n) (d.stretch.committed - back_of d n - from) (d.stretch.committed - from) (back_of d n) 0 (omega (arith, low)) (omega (arith, low, is.back))
 
 -- the client after it
 abbrev pub back_in : Plain → ℕ → Commit → State → Bool → Plain
@@ -270,16 +270,16 @@ module _ (d : Plain) (ring : List ℤ) (floor : Cursor) (n : ℕ) (sound : IsSou
 
   -- the frames of the ring are those of the samples
   ring-samples : (samples : List ℤ) (frames part : ℕ) → frames_used frames part ≤ back_of d n → StandsFor d ring samples
-      → run_entries d.identity.member d.setup.bindings (held d ring) d.stretch.card (d.stretch.committed - back_of d n) frames part
+      → run_entries d.identity.member d.setup.bindings (ring_sample d ring) d.stretch.card (d.stretch.committed - back_of d n) frames part
       ≡ run_entries d.identity.member d.setup.bindings (λ j. sample_at samples (length d.setup.bindings) (d.stretch.source + j)) d.stretch.card (d.stretch.committed - back_of d n) frames part
   ring-samples samples frames part used stands =
-      run_entries-same d.identity.member d.setup.bindings (held d ring) (λ j. sample_at samples (length d.setup.bindings) (d.stretch.source + j)) d.stretch.card (d.stretch.committed - back_of d n) frames part bound
+      run_entries-same d.identity.member d.setup.bindings (ring_sample d ring) (λ j. sample_at samples (length d.setup.bindings) (d.stretch.source + j)) d.stretch.card (d.stretch.committed - back_of d n) frames part bound
       (λ j q least most h. stands j q (omega (arith, least, first-unplayed d floor n m is)) (omega (arith, most, used, is.back, m.laid_most)) h)
 
   -- the segment, before and after, by what is before the frames that are withdrawn
   segment-before : (samples : List ℤ) → StandsFor d ring samples
       → segment_entries d samples ≡ run_entries d.identity.member d.setup.bindings (λ j. sample_at samples (length d.setup.bindings) (d.stretch.source + j)) d.stretch.card 0 (d.stretch.committed - back_of d n) 0
-      ++ run_entries d.identity.member d.setup.bindings (held d ring) d.stretch.card (d.stretch.committed - back_of d n) (back_of d n) 0
+      ++ run_entries d.identity.member d.setup.bindings (ring_sample d ring) d.stretch.card (d.stretch.committed - back_of d n) (back_of d n) 0
   segment-before samples stands =
       let s : ℕ → ℕ → ℤ = λ j. sample_at samples (length d.setup.bindings) (d.stretch.source + j) in
       let first : ℕ = d.stretch.committed - back_of d n in
@@ -289,7 +289,7 @@ module _ (d : Plain) (ring : List ℤ) (floor : Cursor) (n : ℕ) (sound : IsSou
 
   segment-after : (x : Commit) (t : State) (stopped : Bool) (samples : List ℤ) → frames_used x.frames x.part ≤ back_of d n → StandsFor d ring samples
       → segment_entries (back_in d n x t stopped) samples ≡ run_entries d.identity.member d.setup.bindings (λ j. sample_at samples (length d.setup.bindings) (d.stretch.source + j)) d.stretch.card 0 (d.stretch.committed - back_of d n) 0
-      ++ run_entries d.identity.member d.setup.bindings (held d ring) d.stretch.card (d.stretch.committed - back_of d n) x.frames x.part
+      ++ run_entries d.identity.member d.setup.bindings (ring_sample d ring) d.stretch.card (d.stretch.committed - back_of d n) x.frames x.part
   segment-after x t stopped samples used stands =
       let s : ℕ → ℕ → ℤ = λ j. sample_at samples (length d.setup.bindings) (d.stretch.source + j) in
       let first : ℕ = d.stretch.committed - back_of d n in
@@ -304,16 +304,16 @@ module _ (d : Plain) (ring : List ℤ) (floor : Cursor) (n : ℕ) (sound : IsSou
 
     -- what is known of the withdrawals
     abbrev Took : S × T → S × T → Commit → Type 0
-    Took s t x = TookFrames P G holds s t d.identity.member d.stretch.card d.setup.bindings (held d ring) (d.stretch.committed - back_of d n) (back_of d n) x
+    Took s t x = TookFrames P G holds s t d.identity.member d.stretch.card d.setup.bindings (ring_sample d ring) (d.stretch.committed - back_of d n) (back_of d n) x
 
     loses-back : (s t : S × T) (x : Commit) (st : State) (stopped : Bool) (samples : List ℤ) → frames_used x.frames x.part ≤ back_of d n
-        → TakesAway P.laid P.ends_in s.0 t.0 (run_entries d.identity.member d.setup.bindings (held d ring) d.stretch.card (d.stretch.committed - back_of d n) (back_of d n) 0) (run_entries d.identity.member d.setup.bindings (held d ring) d.stretch.card (d.stretch.committed - back_of d n) x.frames x.part)
+        → TakesAway P.laid P.ends_in s.0 t.0 (run_entries d.identity.member d.setup.bindings (ring_sample d ring) d.stretch.card (d.stretch.committed - back_of d n) (back_of d n) 0) (run_entries d.identity.member d.setup.bindings (ring_sample d ring) d.stretch.card (d.stretch.committed - back_of d n) x.frames x.part)
         → StandsFor d ring samples → Loses P.laid P.ends_in s.0 t.0 d (back_in d n x st stopped) samples
     loses-back s t x st stopped samples used away stands =
         let early = run_entries d.identity.member d.setup.bindings (λ j. sample_at samples (length d.setup.bindings) (d.stretch.source + j)) d.stretch.card 0 (d.stretch.committed - back_of d n) 0 in
         record {
           away = subst (λ (es : List Entry). TakesAway P.laid P.ends_in s.0 t.0 es (segment_entries (back_in d n x st stopped) samples)) (sym (segment-before samples stands))
-              (subst (λ (es : List Entry). TakesAway P.laid P.ends_in s.0 t.0 (early ++ run_entries d.identity.member d.setup.bindings (held d ring) d.stretch.card (d.stretch.committed - back_of d n) (back_of d n) 0) es) (sym (segment-after x st stopped samples used stands))
+              (subst (λ (es : List Entry). TakesAway P.laid P.ends_in s.0 t.0 (early ++ run_entries d.identity.member d.setup.bindings (ring_sample d ring) d.stretch.card (d.stretch.committed - back_of d n) (back_of d n) 0) es) (sym (segment-after x st stopped samples used stands))
               (TakesAway-behind P G holds s.0 t.0 early _ _ away));
           same_member = refl;
           same_bindings = refl;
@@ -364,16 +364,16 @@ module _ (d : Plain) (ring : List ℤ) (floor : Cursor) (n : ℕ) (sound : IsSou
 
     -- the withdrawals of a client's rewind
     took-of : (s t : S × T) (x : Commit) → (P.view s.0).marks.floor ≡ floor → CanUse d (P.view s.0)
-        → TakesAt P G s (take_frames d.identity.member d.stretch.card d.setup.bindings (held d ring) (d.stretch.committed - back_of d n) (back_of d n)) t x → Took s t x
+        → TakesAt P G s (take_frames d.identity.member d.stretch.card d.setup.bindings (ring_sample d ring) (d.stretch.committed - back_of d n) (back_of d n)) t x → Took s t x
     took-of s t x is_floor port takes =
-        TakesAt-back P G holds d.identity.member d.stretch.card d.setup.bindings (held d ring) (d.stretch.committed - back_of d n) (back_of d n) s t x bound port.same_member
+        TakesAt-back P G holds d.identity.member d.stretch.card d.setup.bindings (ring_sample d ring) (d.stretch.committed - back_of d n) (back_of d n) s t x bound port.same_member
         (λ some. subst (λ (c : Cursor). IsFrom c (d.stretch.card + (d.stretch.committed - back_of d n)) (least_channel d.setup.bindings)) (sym is_floor)
         (IsFrom-later floor (d.stretch.card + (d.stretch.committed - back_of d n)) 0 (least_channel d.setup.bindings) (omega arith) (omega (arith, is.from some)))) takes
 
     pub takes_back-kept : (s t : S × T) (a : Answered ℕ) → (P.view s.0).marks.floor ≡ floor → CanUse d (P.view s.0) → TakesAt P G s (takes_back d ring n) t a → TakenBack s t a
     unfolding takes_back
     takes_back-kept s t a is_floor port takes =
-        let parts = Takes-parts (LoadsAt P G) (LaysAt P G) NoGet s t (take_frames d.identity.member d.stretch.card d.setup.bindings (held d ring) (d.stretch.committed - back_of d n) (back_of d n)) (λ left. ends (rewound d n left)) a takes in
+        let parts = Takes-parts (LoadsAt P G) (LaysAt P G) NoGet s t (take_frames d.identity.member d.stretch.card d.setup.bindings (ring_sample d ring) (d.stretch.committed - back_of d n) (back_of d n)) (λ left. ends (rewound d n left)) a takes in
         let x = parts.1 in
         subst (λ (u : S × T). TakenBack s u a) (sym parts.3.there) (subst (λ (b : Answered ℕ). TakenBack s parts.0 b) (sym parts.3.result)
         (by_end s parts.0 x.frames x.part x.ended port (took-of s parts.0 x is_floor port parts.2)))
@@ -395,24 +395,24 @@ module _ (d : Plain) (ring : List ℤ) (floor : Cursor) (n : ℕ) (sound : IsSou
         → IsCaused {X = Unit {0}} P.view P.shows t.0 c u load (Ok tt) → IsKeptCause {X = ℕ} P.view P.shows t.0 c a.0 load a.1
     unfolding takes_back
     takes_back-why s t c u load a is_floor port takes why_ok =
-        let parts = Takes-parts (LoadsAt P G) (LaysAt P G) NoGet s t (take_frames d.identity.member d.stretch.card d.setup.bindings (held d ring) (d.stretch.committed - back_of d n) (back_of d n)) (λ left. ends (rewound d n left)) a takes in
+        let parts = Takes-parts (LoadsAt P G) (LaysAt P G) NoGet s t (take_frames d.identity.member d.stretch.card d.setup.bindings (ring_sample d ring) (d.stretch.committed - back_of d n) (back_of d n)) (λ left. ends (rewound d n left)) a takes in
         let x = parts.1 in
         let took = took-of s parts.0 x is_floor port parts.2 in
         subst (λ (b : Answered ℕ). IsKeptCause {X = ℕ} P.view P.shows t.0 c b.0 load b.1) (sym parts.3.result)
         (why_end t c u load x.frames x.part x.ended took.are_left
         (subst (λ (v : S × T). OnLate x.ended (λ word. IsPast P.view P.shows v.0 (d.stretch.card + (d.stretch.committed - back_of d n + last_frame x.frames x.part)) (slice_index d.setup.bindings (slice_index (rising d.setup.bindings) (last_place x.part (length d.setup.bindings)))) word)) (sym parts.3.there) took.late) why_ok)
 
-    pub takes_back-by : (s t : S × T) (b : ℕ) (x : Commit) (done : Answered ℕ) → b ≡ back_of d n → TakesAt P G s (take_frames d.identity.member d.stretch.card d.setup.bindings (held d ring) (d.stretch.committed - b) b) t x → rewound d n x ≡ done
+    pub takes_back-by : (s t : S × T) (b : ℕ) (x : Commit) (done : Answered ℕ) → b ≡ back_of d n → TakesAt P G s (take_frames d.identity.member d.stretch.card d.setup.bindings (ring_sample d ring) (d.stretch.committed - b) b) t x → rewound d n x ≡ done
         → TakesAt P G s (takes_back d ring n) t done
     unfolding takes_back
     takes_back-by s t b x done is_back takes is_done =
-        Takes-map (LoadsAt P G) (LaysAt P G) NoGet s t (take_frames d.identity.member d.stretch.card d.setup.bindings (held d ring) (d.stretch.committed - back_of d n) (back_of d n)) (λ left. rewound d n left) x done
-        (subst (λ (k : ℕ). TakesAt P G s (take_frames d.identity.member d.stretch.card d.setup.bindings (held d ring) (d.stretch.committed - k) k) t x) is_back takes) is_done
+        Takes-map (LoadsAt P G) (LaysAt P G) NoGet s t (take_frames d.identity.member d.stretch.card d.setup.bindings (ring_sample d ring) (d.stretch.committed - back_of d n) (back_of d n)) (λ left. rewound d n left) x done
+        (subst (λ (k : ℕ). TakesAt P G s (take_frames d.identity.member d.stretch.card d.setup.bindings (ring_sample d ring) (d.stretch.committed - k) k) t x) is_back takes) is_done
 
     pub take_frames-took : (s t : S × T) (b : ℕ) (x : Commit) → b ≡ back_of d n → (P.view s.0).marks.floor ≡ floor → CanUse d (P.view s.0)
-        → TakesAt P G s (take_frames d.identity.member d.stretch.card d.setup.bindings (held d ring) (d.stretch.committed - b) b) t x → AreLeft x.ended x.frames x.part (back_of d n) (length d.setup.bindings)
+        → TakesAt P G s (take_frames d.identity.member d.stretch.card d.setup.bindings (ring_sample d ring) (d.stretch.committed - b) b) t x → AreLeft x.ended x.frames x.part (back_of d n) (length d.setup.bindings)
     take_frames-took s t b x is_back is_floor port takes =
-        (took-of s t x is_floor port (subst (λ (k : ℕ). TakesAt P G s (take_frames d.identity.member d.stretch.card d.setup.bindings (held d ring) (d.stretch.committed - k) k) t x) is_back takes)).are_left
+        (took-of s t x is_floor port (subst (λ (k : ℕ). TakesAt P G s (take_frames d.identity.member d.stretch.card d.setup.bindings (ring_sample d ring) (d.stretch.committed - k) k) t x) is_back takes)).are_left
 
 -- ---- what a rewind keeps, and why it answered so, by its load and what followed it
 
@@ -520,9 +520,9 @@ module _ {S T : Type 0} (P : mixport.Ghosts S) (G : gates.Ghosts T) (holds : Hol
       let from : ℕ = min k (hw_of c) in
       let at : ℕ = min k (hw_of d) in
       let both = min-both k (hw_of c) (hw_of d) (subst (λ (e : Plain). from ≤ hw_of e) checked.same checked.later) in
-      let split = run_entries-split c.identity.member c.setup.bindings (held c ring) c.stretch.card from at (at - from) (k - from) (k - at) 0 (omega (arith, both.0)) (omega (arith, both.0, both.1)) in
+      let split = run_entries-split c.identity.member c.setup.bindings (ring_sample c ring) c.stretch.card from at (at - from) (k - from) (k - at) 0 (omega (arith, both.0)) (omega (arith, both.0, both.1)) in
       subst (λ (e : Plain). P.ends_in t.0 (held_entries e ring)) (sym checked.same)
-      (holds.nothing s.0 t.0 (held_entries d ring) checked.explains.laid_nothing (holds.part s.0 (run_entries c.identity.member c.setup.bindings (held c ring) c.stretch.card from (at - from) 0) _ (subst (P.ends_in s.0) split stand)))
+      (holds.nothing s.0 t.0 (held_entries d ring) checked.explains.laid_nothing (holds.part s.0 (run_entries c.identity.member c.setup.bindings (ring_sample c ring) c.stretch.card from (at - from) 0) _ (subst (P.ends_in s.0) split stand)))
 
   pub rewinds-by : (s m t : S × T) (c : Plain) (ring : List ℤ) (floor : Cursor) (n : ℕ) (middle : Answered (Unit {0})) (a : Answered ℕ) → TakesAt P G s (checks c) m middle
       → TakesAt P G m (rewind_on floor ring n middle) t a → TakesAt P G s (rewinds c ring floor n) t a

@@ -29,7 +29,7 @@ use Rattle.pcm_stream.specs.Status as status
 use Rattle.dmix_client.specs.declared.plain.Plain.{Plain}
 use Rattle.dmix_client.specs.declared.plain.Stretch.{Stretch}
 use Rattle.dmix_client.specs.Expansion.{run_entries}
-use Rattle.dmix_client.specs.View.{avail_of, held, queued_of}
+use Rattle.dmix_client.specs.View.{avail_of, queued_of, ring_sample}
 
 -- a client and the answer of a call
 abbrev pub Answered : Type 0 → Type 0
@@ -150,7 +150,7 @@ end_channel c commit =
 -- what a commit laid of the local ring
 abbrev pub commit_entries : Plain → List ℤ → Commit → List Entry
 commit_entries c ring commit =
-    run_entries c.identity.member c.setup.bindings (held c ring) c.stretch.card c.stretch.committed
+    run_entries c.identity.member c.setup.bindings (ring_sample c ring) c.stretch.card c.stretch.committed
     commit.frames commit.part
 
 abbrev pub is_stop : Ended → Bool

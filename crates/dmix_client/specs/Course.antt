@@ -18,7 +18,7 @@ use Rattle.dmix_client.specs.declared.plain.Plain.{Plain}
 use Rattle.pcm_stream.specs.Status.{is_moving, nothing_found, refusal_of}
 use Rattle.pcm_stream.specs.declared.direction.Direction.TheVariants.{Playback}
 use Rattle.dmix_client.specs.Calls.{Answered, accepted, accepted_if, draining, dropped, has_frames, is_running, paused, pending_of, rebased, resumed, with_outcome, start_count, after_start, started_in, sync_count, after_sync, taken_of, with_number, written_after}
-use Rattle.dmix_client.specs.View.{held}
+use Rattle.dmix_client.specs.View.{ring_sample}
 use Rattle.dmix_client.specs.Writes.{count_with, frames_in, ring_with, starts_with}
 
 -- the samples of a frame are laid one after the other, by client channels, up to the first that isn't: how many were, and how
@@ -62,7 +62,7 @@ lay_frames member card bindings samples (suc count) first =
 -- the commit of so many frames
 abbrev pub commits : Plain → List ℤ → ℕ → Course Commit
 commits c ring count =
-    lay_frames c.identity.member c.stretch.card c.setup.bindings (held c ring) count
+    lay_frames c.identity.member c.stretch.card c.setup.bindings (ring_sample c ring) count
     c.stretch.committed
 
 -- a commit behind a load, of a client as it is then

@@ -28,7 +28,7 @@ use Rattle.dmix_client.specs.Calls.{Answered, commit_entries}
 use Rattle.dmix_client.specs.Course.{commits, go_on, lay_each, lay_frame, lay_frames, looks, one_frame_more, one_more}
 use Rattle.dmix_client.specs.Expansion.{frame_entries, run_entries}
 use Rattle.dmix_client.specs.Port.{IsCommit, IsUpTo, Looked, TakesStep, least_channel}
-use Rattle.dmix_client.specs.View.{held}
+use Rattle.dmix_client.specs.View.{ring_sample}
 
 -- the entry of a client channel in a frame
 abbrev pub entry_of : ℕ → ℕ → List ℕ → (ℕ → ℤ) → ℕ → Entry
@@ -269,7 +269,7 @@ module _ {S T : Type 0} (P : mixport.Ghosts S) (G : gates.Ghosts T) (laid_compos
       let parts = Takes-parts (LoadsAt P G) (LaysAt P G) NoGet m t (commits (at position) ring (count position)) (λ x. ends (let found : Option Position × Commit = (Some position, x) in found)) (load, commit) rest in
       let c = at position in
       let x = parts.1 in
-      let laid = TakesAt-frames c.identity.member c.stretch.card c.setup.bindings (held c ring) (count position) c.stretch.committed m parts.0 x (subst AreBindings (sym (same position)) are) parts.2 in
+      let laid = TakesAt-frames c.identity.member c.stretch.card c.setup.bindings (ring_sample c ring) (count position) c.stretch.committed m parts.0 x (subst AreBindings (sym (same position)) are) parts.2 in
       subst (λ (u : S × T). Looked P G s u ring at count (length bindings) load commit) (sym parts.3.there)
       (subst (λ (r : Option Position × Commit). Looked P G s parts.0 ring at count (length bindings) r.0 r.1) (sym parts.3.result) (record {
         found = record {

@@ -13,7 +13,7 @@ use Rattle.dmix_client.specs.declared.commit.Commit.{Commit}
 use Rattle.dmix_client.specs.declared.plain.Plain.{Plain}
 use Rattle.dmix_client.specs.Calls.{commit_entries}
 use Rattle.dmix_client.specs.Expansion.{frame_entries, run_entries, sample_at}
-use Rattle.dmix_client.specs.View.{held}
+use Rattle.dmix_client.specs.View.{ring_sample}
 
 -- n numbers and then k more
 pub range_with_len-append : (a n k : ℕ) → range_with_len a (n + k) ≡ range_with_len a n
@@ -42,7 +42,7 @@ run_entries-append member bindings sample_of card first n k part =
 
 -- a list of accepted frames, of which those from one to before another stand in the local ring
 abbrev pub Holds : Plain → List ℤ → List ℤ → ℕ → ℕ → Type 0
-Holds c ring samples from to = (j q : ℕ) → from ≤ j → j < to → q < length c.setup.bindings → held c ring j q ≡ sample_at samples (length c.setup.bindings) j q
+Holds c ring samples from to = (j q : ℕ) → from ≤ j → j < to → q < length c.setup.bindings → ring_sample c ring j q ≡ sample_at samples (length c.setup.bindings) j q
 
 -- two functions that agree on a list's elements give one list
 pub map-same : {X : Type 0} (f g : ℕ → X) (xs : List ℕ)
@@ -108,7 +108,7 @@ pub commit_entries-accepted : (c : Plain) (ring samples : List ℤ) (commit : Co
     (sample_at samples (length c.setup.bindings)) c.stretch.card c.stretch.committed commit.frames
     commit.part
 commit_entries-accepted c ring samples commit to are holds within =
-    run_entries-same c.identity.member c.setup.bindings (held c ring) (sample_at samples (length c.setup.bindings)) c.stretch.card c.stretch.committed commit.frames commit.part are
+    run_entries-same c.identity.member c.setup.bindings (ring_sample c ring) (sample_at samples (length c.setup.bindings)) c.stretch.card c.stretch.committed commit.frames commit.part are
     (λ j q least most h. holds j q least (omega (arith, most, within)) h)
 
 -- the entries of a segment grow by exactly what a commit laid

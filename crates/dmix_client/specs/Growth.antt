@@ -10,14 +10,14 @@ use Rattle.dmix_client.specs.Calls.{segment_of}
 use Rattle.dmix_client.specs.Expansion.{expand, sample_at}
 use Rattle.course.specs.Stops.{CountsStop}
 use Rattle.dmix_client.specs.Port.{CanUse}
-use Rattle.dmix_client.specs.View.{ClientView, IsSound, held, hw_of}
+use Rattle.dmix_client.specs.View.{ClientView, IsSound, hw_of, ring_sample}
 
 -- of some samples, interleaved, the frames of a client before one that are not both laid and played stand in its local
 -- ring: frame j since the last prepare is frame `source + j` of the samples
 abbrev pub StandsUpTo : Plain → List ℤ → List ℤ → ℕ → Type 0
 StandsUpTo c ring samples to =
     (j q : ℕ) → min c.stretch.committed (hw_of c) ≤ j → j < to → q < length c.setup.bindings
-    → held c ring j q ≡ sample_at samples (length c.setup.bindings) (c.stretch.source + j) q
+    → ring_sample c ring j q ≡ sample_at samples (length c.setup.bindings) (c.stretch.source + j) q
 
 -- a client stands for some samples: its accepted frames are theirs, as far as it still needs them
 abbrev pub StandsFor : Plain → List ℤ → List ℤ → Type 0

@@ -16,7 +16,7 @@ use Rattle.dmix_client.specs.declared.plain.Plain.{Plain}
 use Rattle.dmix_client.specs.Calls.{Answered, found_at, is_running, is_stop, late_at, pending_of, with_outcome, stopped_in, after_sync, with_number}
 use Rattle.dmix_client.specs.Course.{nothing, numbered}
 use Rattle.dmix_client.specs.Expansion.{run_entries}
-use Rattle.dmix_client.specs.View.{held, hw_of}
+use Rattle.dmix_client.specs.View.{hw_of, ring_sample}
 
 -- how many frames a client can take back at a port that withdraws nothing before a floor: what is pending, and the committed
 -- frames that are at or past the position seen and whose channel 0 isn't before the floor
@@ -112,7 +112,7 @@ rewindable_course c floor = if is_running c.status.state
 -- the withdrawals of a rewind of n frames
 unfoldable pub takes_back : Plain → List ℤ → ℕ → Course (Answered ℕ)
 takes_back c ring n =
-    take_frames c.identity.member c.stretch.card c.setup.bindings (held c ring)
+    take_frames c.identity.member c.stretch.card c.setup.bindings (ring_sample c ring)
     (c.stretch.committed - back_of c n) (back_of c n) >>= λ left. ends (rewound c n left)
 
 abbrev pub rewind_on : Cursor → List ℤ → ℕ → Answered (Unit {0}) → Course (Answered ℕ)
@@ -129,5 +129,5 @@ rewind_course c ring floor n = if is_running c.status.state then rewinds c ring 
 -- the committed frames of a client that its local ring still has: those that aren't played, as far as it saw
 abbrev pub held_entries : Plain → List ℤ → List Entry
 held_entries c ring =
-    run_entries c.identity.member c.setup.bindings (held c ring) c.stretch.card
+    run_entries c.identity.member c.setup.bindings (ring_sample c ring) c.stretch.card
     (min c.stretch.committed (hw_of c)) (c.stretch.committed - min c.stretch.committed (hw_of c)) 0

@@ -20,7 +20,7 @@ use Rattle.dmix_client.specs.Growth.{IsBacked, Keeps, KeepsBack, segment_entries
 use Rattle.dmix_client.specs.GrowthLaws.{StandsFor-rebased}
 use Rattle.dmix_client.specs.Rewind.{held_entries}
 use Rattle.pcm_stream.specs.Status.{is_moving, is_set_up}
-use Rattle.dmix_client.specs.View.{ClientView, IsSound, held, hw_of}
+use Rattle.dmix_client.specs.View.{ClientView, IsSound, hw_of, ring_sample}
 
 -- a segment's entries are adds
 AreAdds-append : (es fs : List Entry) → AreAdds es → AreAdds fs → AreAdds (es ++ fs)
@@ -120,5 +120,5 @@ module _ {S T : Type 0} (P : mixport.Ghosts S) (G : gates.Ghosts T) where
       ∙ run_entries-append d.identity.member d.setup.bindings s d.stretch.card 0 from (d.stretch.committed - from) 0
       ∙ ap (λ (k : ℕ). run_entries d.identity.member d.setup.bindings s d.stretch.card 0 from 0 ++ run_entries d.identity.member d.setup.bindings s d.stretch.card k (d.stretch.committed - from) 0) (let e : 0 + from ≡ from = omega arith in e) in
       let same : held_entries d c.ring ≡ run_entries d.identity.member d.setup.bindings s d.stretch.card from (d.stretch.committed - from) 0 =
-      run_entries-same d.identity.member d.setup.bindings (held d c.ring) s d.stretch.card from (d.stretch.committed - from) 0 bound (λ j q least below h. is.stands j q least (omega (arith, below, most, m.laid_most)) h) in
+      run_entries-same d.identity.member d.setup.bindings (ring_sample d c.ring) s d.stretch.card from (d.stretch.committed - from) 0 bound (λ j q least below h. is.stands j q least (omega (arith, below, most, m.laid_most)) h) in
       subst (P.ends_in p) (sym same) (part p (run_entries d.identity.member d.setup.bindings s d.stretch.card 0 from 0) _ (subst (P.ends_in p) split is.segment))

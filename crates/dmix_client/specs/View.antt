@@ -108,11 +108,11 @@ pub record IsSound (c : Plain) (ring : List ℤ) : Type 0 where
   pub paused : c.status.state ≡ state.Paused → IsMoving c
 
 -- the sample of a client channel in the frame that begins at a slot of the local ring
-abbrev pub held_at : List ℤ → ℕ → ℕ → ℤ
-held_at ring slot channel = slice_index_or ring (slot + channel) (pos 0)
+abbrev pub slot_sample : List ℤ → ℕ → ℕ → ℤ
+slot_sample ring slot channel = slice_index_or ring (slot + channel) (pos 0)
 
 -- the sample of a frame and client channel in the local ring
-abbrev pub held : Plain → List ℤ → ℕ → ℕ → ℤ
-held c ring frame channel =
+abbrev pub ring_sample : Plain → List ℤ → ℕ → ℕ → ℤ
+ring_sample c ring frame channel =
     slice_index_or ring ((c.stretch.source + frame) % c.setup.config.buffer_size * channels_of
     c + channel) (pos 0)

@@ -8,7 +8,7 @@ ghost use Rattle.dmix_client.specs.Calls.{start_count, started_in, sync_count, w
 ghost use Rattle.dmix_client.specs.Course.{commits, lay_frame, lay_frames, looks};
 ghost use Rattle.dmix_client.specs.Port.{CanUse, IsFound, IsOnCard, least_channel};
 ghost use Rattle.pcm_stream.specs.Status.{is_moving};
-ghost use Rattle.dmix_client.specs.View.{IsSound, held, held_at};
+ghost use Rattle.dmix_client.specs.View.{IsSound, ring_sample, slot_sample};
 
 use crate::plain::Plain;
 use bindings::Bindings;
@@ -155,7 +155,7 @@ fn place_frame<P: MixPort, G: Gate>(
     requires ahead { frame < (P.view port.old).seen + (P.view port.old).geometry.frames }
     requires fits { frame < end_frame (P.view port.old).geometry }
     ensures { TakesAt P.MixPort G.Gate (port.old, gate.old)
-        (lay_frame (P.view port.old).member frame bindings.now (held_at ring.now slot))
+        (lay_frame (P.view port.old).member frame bindings.now (slot_sample ring.now slot))
         (port.new, gate.new) (result.placed, result.ended) }
 {
     for place in 0..channels {
@@ -246,7 +246,7 @@ fn lay_run<P: MixPort, G: Gate>(
     requires ahead { 0 < count → plain.now.stretch.card + (first + count)
         ≤ window_end (P.view port.old).geometry (P.view port.old).seen }
     ensures { TakesAt P.MixPort G.Gate (port.old, gate.old) (lay_frames plain.now.identity.member
-        plain.now.stretch.card plain.now.setup.bindings (held plain.now ring.now) count first)
+        plain.now.stretch.card plain.now.setup.bindings (ring_sample plain.now ring.now) count first)
         (port.new, gate.new) result }
 {
     match plain.setup.bindings.len() {
@@ -281,7 +281,7 @@ fn lay_run_of<P: MixPort, G: Gate>(
     requires ahead { 0 < count → plain.now.stretch.card + (first + count)
         ≤ window_end (P.view port.old).geometry (P.view port.old).seen }
     ensures { TakesAt P.MixPort G.Gate (port.old, gate.old) (lay_frames plain.now.identity.member
-        plain.now.stretch.card plain.now.setup.bindings (held plain.now ring.now) count first)
+        plain.now.stretch.card plain.now.setup.bindings (ring_sample plain.now ring.now) count first)
         (port.new, gate.new) result }
 {
     let bindings = plain.setup.bindings;

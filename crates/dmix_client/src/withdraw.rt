@@ -7,7 +7,7 @@ ghost use Rattle.course.specs.AtPort.{LaysAt, TakesAt};
 ghost use Rattle.dmix_client.specs.Expansion.{frame_entries, run_entries};
 ghost use Rattle.dmix_client.specs.Port.{IsOnCard, least_channel};
 ghost use Rattle.dmix_client.specs.Rewind.{left_of, take_each, take_frames};
-ghost use Rattle.dmix_client.specs.View.{held};
+ghost use Rattle.dmix_client.specs.View.{ring_sample};
 
 use crate::commit::{BoundSample, Commit, bound_sample, held_from};
 use crate::plain::Plain;
@@ -55,11 +55,11 @@ fn take_frame<P: MixPort, G: Gate>(
         (least_channel plain.now.setup.bindings) }
     requires held { P.ends_in port.old
         (frame_entries plain.now.identity.member plain.now.setup.bindings
-        (held plain.now ring.now number) (length plain.now.setup.bindings)
+        (ring_sample plain.now ring.now number) (length plain.now.setup.bindings)
         (plain.now.stretch.card + number)) }
     ensures { TakesAt P.MixPort G.Gate (port.old, gate.old)
         (take_each plain.now.identity.member (plain.now.stretch.card + number)
-        plain.now.setup.bindings (held plain.now ring.now number)
+        plain.now.setup.bindings (ring_sample plain.now ring.now number)
         (length plain.now.setup.bindings)) (port.new, gate.new) (result.channels, result.ended) }
 {
     let slot = held_from(plain, number);
@@ -120,11 +120,11 @@ pub(crate) fn take_frames<P: MixPort, G: Gate>(
         (plain.now.stretch.card + (plain.now.stretch.committed - count))
         (least_channel plain.now.setup.bindings) }
     requires held { P.ends_in port.old
-        (run_entries plain.now.identity.member plain.now.setup.bindings (held plain.now ring.now)
+        (run_entries plain.now.identity.member plain.now.setup.bindings (ring_sample plain.now ring.now)
         plain.now.stretch.card (plain.now.stretch.committed - count) count 0) }
     ensures { TakesAt P.MixPort G.Gate (port.old, gate.old)
         (take_frames plain.now.identity.member plain.now.stretch.card plain.now.setup.bindings
-        (held plain.now ring.now) (plain.now.stretch.committed - count) count) (port.new, gate.new)
+        (ring_sample plain.now ring.now) (plain.now.stretch.committed - count) count) (port.new, gate.new)
         result }
 {
     let channels = plain.setup.bindings.len();

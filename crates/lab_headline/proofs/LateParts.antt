@@ -25,7 +25,7 @@ use Rattle.dmix_client.specs.Calls.{Answered, accepted, accepted_if, avail_answe
 use Rattle.dmix_client.specs.Calls as calls
 use Rattle.dmix_client.specs.Course.{admitted, admitted_by, commits, drain_course, drain_on, drains, fills, commit_at, go_on, lay_each, lay_frame, lay_frames, lay_on, looks, nothing, number_course, numbered, one_frame_more, one_more, pause_course, resumes, start_course, starts, starts_taking, syncs, takes_more, write_on, writes_on}
 use Rattle.dmix_client.specs.Rewind.{back_of, checks, last_channel, last_laid, rewind_course, rewind_on, rewindable_course, rewindable_of, rewinds, rewound, take_frames, taken_back, takes_back}
-use Rattle.dmix_client.specs.View.{avail_of, held}
+use Rattle.dmix_client.specs.View.{avail_of, ring_sample}
 use Rattle.dmix_client.specs.Writes.{count_with, ring_with, starts_with}
 use Rattle.lab_script.specs.declared.line.Op.{Op}
 use Rattle.lab_script.specs.declared.line.Op.TheVariants as op
@@ -82,7 +82,7 @@ frames-short member card b samples (suc count) first =
 commits-short : (b : List ℕ) (c : Plain) (ring : List ℤ) (count : ℕ) → c.setup.bindings ≡ b → All (Short b) (commits c ring count)
 commits-short b c ring count is =
     subst (λ (l : List ℕ). All (Short l) (commits c ring count)) is
-    (frames-short c.identity.member c.stretch.card c.setup.bindings (held c ring) count c.stretch.committed)
+    (frames-short c.identity.member c.stretch.card c.setup.bindings (ring_sample c ring) count c.stretch.committed)
 
 looks-short : (b : List ℕ) (at : Position → Plain) (count : Position → ℕ) (ring : List ℤ) → ((p : Position) → (at p).setup.bindings ≡ b)
     → All (λ (x : Option Position × Commit). Short b x.1) (looks at count ring)
@@ -335,7 +335,7 @@ rewound-bound b c n left is = by_stop (is_stop left.ended)
 
 rewind_on-bound : (b : List ℕ) (floor : Cursor) (n : ℕ) (done : Answered (Unit {0})) → Kept b done → All (Bound b) (rewind_on floor [] n done)
 unfolding takes_back
-rewind_on-bound b floor n (c, Ok done) kept = All-after (Bound b) (take_frames c.identity.member c.stretch.card c.setup.bindings (held c [])
+rewind_on-bound b floor n (c, Ok done) kept = All-after (Bound b) (take_frames c.identity.member c.stretch.card c.setup.bindings (ring_sample c [])
     (c.stretch.committed - back_of c (min n (rewindable_of floor c))) (back_of c (min n (rewindable_of floor c))))
     (λ left. ends (rewound c (min n (rewindable_of floor c)) left)) (λ left. rewound-bound b c (min n (rewindable_of floor c)) left kept.0)
 rewind_on-bound b floor n (c, Err e) kept = kept.0

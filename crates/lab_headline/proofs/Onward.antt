@@ -32,7 +32,7 @@ use Rattle.dmix_client.specs.declared.plain.Plain.{Plain}
 use Rattle.dmix_client.specs.Calls.{Answered, committed_by, facts_of, found_at, going_on, going_on_by, is_prepared, is_stop, late_of, over_of, seen_at, with_outcome, start_count, start_frame, after_start, started_in, stopped_in, sync_count, after_sync}
 use Rattle.dmix_client.specs.Course.{commits, go_on, lay_each, lay_frame, lay_frames, looks, nothing, one_frame_more, one_more, starts, syncs}
 use Rattle.dmix_client.specs.Port.{IsStep}
-use Rattle.dmix_client.specs.View.{held}
+use Rattle.dmix_client.specs.View.{ring_sample}
 
 -- ---- marks
 
@@ -367,7 +367,7 @@ module _ (p : ℕ) (g : Geometry) (x y : ℕ) where
   pub commits-lead : (c : Plain) (ring : List ℤ) (count : ℕ) (m : Marks) → Channels c.setup.bindings → x ≤ c.stretch.card → Lies p x y c.stretch.card (end_of c) (end_of c) m
       → Leads p g (λ n commit. Lies p x y c.stretch.card (end_of c) (end_of (committed_by c commit)) n) m (commits c ring count)
   commits-lead c ring count m bound past lies =
-      frames-lead p g x y c.stretch.card (end_of c) past c.identity.member c.setup.bindings (held c ring) count c.stretch.committed m (channels-rise c.setup.bindings bound)
+      frames-lead p g x y c.stretch.card (end_of c) past c.identity.member c.setup.bindings (ring_sample c ring) count c.stretch.committed m (channels-rise c.setup.bindings bound)
       (omega (arith, begun-most c.stretch.part))
       (earlier-lies p x y c.stretch.card (end_of c) (end_of c) (c.stretch.card + c.stretch.committed) m (omega arith) lies)
 

@@ -23,7 +23,7 @@ use Rattle.dmix_client.specs.Calls.{Answered, committed_by, found_at, is_prepare
 use Rattle.dmix_client.specs.Course.{commits, looks, nothing, starts, syncs, admitted, admitted_by, drain_course, drain_on, drains, fills, number_course, numbered, pause_course, resumes, start_course, starts_taking, sync_course, takes_more, write_on, writes_on}
 use Rattle.dmix_client.specs.Port.{IsStep}
 use Rattle.dmix_client.specs.Rewind.{back_of, checks, last_channel, last_laid, rewind_course, rewind_on, rewindable_course, rewindable_of, rewinds, rewound, take_frames, taken_back, takes_back, without}
-use Rattle.dmix_client.specs.View.{avail_of, held}
+use Rattle.dmix_client.specs.View.{avail_of, ring_sample}
 use Rattle.dmix_client.specs.Writes.{count_with, ring_with, starts_with}
 use Rattle.lab_script.specs.declared.line.Op.{Op}
 use Rattle.lab_script.specs.declared.line.Op.TheVariants as op
@@ -277,8 +277,8 @@ module _ (p : ℕ) (g : Geometry) (x y : ℕ) where
   unfolding takes_back
   takes_back-goes c n m within is =
       Leads-then p g (λ k left. Lies p x y c.stretch.card 0 (end_of (taken_back c n left)) k) (Goes p x y) m
-      (take_frames c.identity.member c.stretch.card c.setup.bindings (held c []) (c.stretch.committed - back_of c n) (back_of c n)) (λ left. ends (rewound c n left))
-      (frames-back p g x y c.stretch.card is.past c.identity.member c.setup.bindings is.bound.whole is.bound.some (held c []) (c.stretch.committed - back_of c n) (back_of c n) m
+      (take_frames c.identity.member c.stretch.card c.setup.bindings (ring_sample c []) (c.stretch.committed - back_of c n) (back_of c n)) (λ left. ends (rewound c n left))
+      (frames-back p g x y c.stretch.card is.past c.identity.member c.setup.bindings is.bound.whole is.bound.some (ring_sample c []) (c.stretch.committed - back_of c n) (back_of c n) m
       (record {
         low = is.lies.low;
         top = is.lies.top;

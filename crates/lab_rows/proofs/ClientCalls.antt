@@ -22,7 +22,7 @@ use Rattle.dmix_client.specs.Calls.{Answered, accepted, accepted_if, avail_answe
 use Rattle.dmix_client.specs.Calls as calls
 use Rattle.dmix_client.specs.Course.{admitted, admitted_by, commits, drain_course, drain_on, drains, fills, looks, nothing, number_course, numbered, pause_course, resumes, start_course, starts, starts_taking, sync_course, syncs, takes_more, write_on, writes_on}
 use Rattle.dmix_client.specs.Rewind.{back_of, checks, last_channel, last_laid, rewind_course, rewind_on, rewindable_course, rewindable_of, rewinds, rewound, take_frames, taken_back, takes_back, without}
-use Rattle.dmix_client.specs.View.{avail_of, held}
+use Rattle.dmix_client.specs.View.{avail_of, ring_sample}
 use Rattle.dmix_client.specs.Writes.{count_with, ring_with, starts_with}
 use Rattle.lab_script.specs.declared.line.Op.{Op}
 use Rattle.lab_script.specs.declared.line.Op.TheVariants as op
@@ -204,7 +204,7 @@ unfolding takes_back
 rewind_on-reports floor n (c, Err e) reports = reports
 rewind_on-reports floor n (c, Ok done) reports =
     let m = min n (rewindable_of floor c) in
-    All-after Reports (take_frames c.identity.member c.stretch.card c.setup.bindings (held c []) (c.stretch.committed - back_of c m) (back_of c m))
+    All-after Reports (take_frames c.identity.member c.stretch.card c.setup.bindings (ring_sample c []) (c.stretch.committed - back_of c m) (back_of c m))
     (λ left. ends (rewound c m left)) (λ left. rewound-reports c m left reports.1)
 
 rewind-reports : (c : Plain) (floor : Cursor) (n : ℕ) → HasState c → All Reports (rewind_course c [] floor n)

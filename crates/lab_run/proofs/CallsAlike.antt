@@ -21,7 +21,7 @@ use Rattle.dmix_client.specs.Calls.{Answered, accepted, accepted_if, avail_answe
 use Rattle.dmix_client.specs.Course.{admitted, admitted_by, commit_at, commits, drain_course, drain_on, drains, fills, go_on, lay_each, lay_frame, lay_frames, lay_on, looks, nothing, number_course, numbered, one_frame_more, one_more, pause_call, pause_course, resumes, start_course, starts, starts_taking, sync_course, syncs, takes_more, write_on, writes_on}
 use Rattle.dmix_client.specs.Course as client_calls
 use Rattle.dmix_client.specs.Rewind.{back_of, back_on, checks, left_of, rewind_course, rewind_on, rewindable_course, rewindable_of, rewinds, rewound, take_each, take_frames, takes_back, without}
-use Rattle.dmix_client.specs.View.{held}
+use Rattle.dmix_client.specs.View.{ring_sample}
 use Rattle.dmix_client.specs.Writes.{count_with, frames_in, ring_with, starts_with}
 use Rattle.lab_report.specs.declared.row.Answer.{Answer}
 use Rattle.lab_run.specs.Alike.{Alike, CallsAreAlike, IsFromOn, SameButMember, SameFrom}
@@ -107,7 +107,7 @@ module _ (from member : ℕ) where
       (λ x y is. go_on-alike x y (lay_frames place card bindings f count (first + 1)) (lay_frames member card bindings g count (first + 1)) is (lay_frames-alike place card bindings f g count (first + 1)))
 
   commits-alike : (c : Plain) (ring other : List ℤ) (count : ℕ) → Alike from SameCommit (commits c ring count) (commits (other_of c) other count)
-  commits-alike c ring other count = lay_frames-alike c.identity.member c.stretch.card c.setup.bindings (held c ring) (held (other_of c) other) count c.stretch.committed
+  commits-alike c ring other count = lay_frames-alike c.identity.member c.stretch.card c.setup.bindings (ring_sample c ring) (ring_sample (other_of c) other) count c.stretch.committed
 
   looks-alike : (at at' : Position → Plain) (count count' : Position → ℕ) (ring other : List ℤ)
       → ((p : Position) → from ≤ p.frame → at' p ≡ other_of (at p)) → ((p : Position) → from ≤ p.frame → count' p ≡ count p)
@@ -303,9 +303,9 @@ module _ (from member : ℕ) where
   takes_back-alike : (c : Plain) (ring other : List ℤ) (n : ℕ) → Alike from (SameButMember member count_answer) (takes_back c ring n) (takes_back (other_of c) other n)
   unfolding takes_back
   takes_back-alike c ring other n =
-      Alike-then from SameCommit (SameButMember member count_answer) (take_frames c.identity.member c.stretch.card c.setup.bindings (held c ring) (c.stretch.committed - back_of c n) (back_of c n)) (take_frames member c.stretch.card c.setup.bindings (held (other_of c) other) (c.stretch.committed - back_of c n) (back_of c n))
+      Alike-then from SameCommit (SameButMember member count_answer) (take_frames c.identity.member c.stretch.card c.setup.bindings (ring_sample c ring) (c.stretch.committed - back_of c n) (back_of c n)) (take_frames member c.stretch.card c.setup.bindings (ring_sample (other_of c) other) (c.stretch.committed - back_of c n) (back_of c n))
       (λ left. ends (rewound c n left)) (λ left. ends (rewound (other_of c) n left))
-      (take_frames-alike c.identity.member c.stretch.card c.setup.bindings (held c ring) (held (other_of c) other) (c.stretch.committed - back_of c n) (back_of c n)) (λ x y is. rw is (rewound-word member c n x))
+      (take_frames-alike c.identity.member c.stretch.card c.setup.bindings (ring_sample c ring) (ring_sample (other_of c) other) (c.stretch.committed - back_of c n) (back_of c n)) (λ x y is. rw is (rewound-word member c n x))
 
   checks-alike : (c : Plain) → Alike from (SameLook from member) (checks c) (checks (other_of c))
   unfolding checks

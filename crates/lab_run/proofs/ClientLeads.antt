@@ -18,7 +18,7 @@ use Rattle.pcm_stream.specs.declared.direction.Direction.TheVariants.{Playback}
 use Rattle.pcm_stream.specs.Status.{is_moving, refusal_of}
 use Rattle.dmix_client.specs.Calls.{Answered, accepted_if, draining, has_frames, is_running, pending_of, rebased, resumed, start_count, after_start, started_in, sync_count, after_sync, taken_of, with_number, written_after}
 use Rattle.dmix_client.specs.Course.{admitted, admitted_by, commit_at, commits, drain_course, drain_on, drains, fills, go_on, lay_each, lay_frame, lay_frames, lay_on, looks, number_course, numbered, one_frame_more, one_more, pause_course, resumes, start_course, starts, starts_taking, sync_course, syncs, takes_more, write_on, writes_on}
-use Rattle.dmix_client.specs.View.{held}
+use Rattle.dmix_client.specs.View.{ring_sample}
 use Rattle.dmix_client.specs.Writes.{count_with, ring_with, starts_with}
 use Rattle.lab_run.specs.Client.{write_course}
 use Rattle.lab_run.proofs.Leads.{Anything, IsLed, Led, Led-if, Led-then, LoadsFirst, OkLed, first-of, first-then, is_loaded, on-ok}
@@ -49,7 +49,7 @@ lay_frames-led member card bindings samples (suc count) first =
     (λ l end is. go_on-led end l (lay_frames member card bindings samples count (first + 1)) is (lay_frames-led member card bindings samples count (first + 1)))
 
 commits-led : (c : Plain) (ring : List ℤ) (count : ℕ) → Led IsLed true (commits c ring count)
-commits-led c ring count = lay_frames-led c.identity.member c.stretch.card c.setup.bindings (held c ring) count c.stretch.committed
+commits-led c ring count = lay_frames-led c.identity.member c.stretch.card c.setup.bindings (ring_sample c ring) count c.stretch.committed
 
 -- a load and the commit behind it
 abbrev FoundLed : Bool → Option Position × Commit → Type 0

@@ -21,7 +21,7 @@ use Rattle.dmix_client.specs.declared.plain.Plain.{Plain}
 use Rattle.dmix_client.specs.Calls.{Answered, committed_by, facts_of, found_at, is_running, is_stop, late_at, over_of, seen_at, with_outcome, stopped_in, after_sync, with_number}
 use Rattle.dmix_client.specs.Course.{admitted, admitted_by, nothing}
 use Rattle.dmix_client.specs.Rewind.{back_of, back_on, checks, last_channel, last_laid, left_of, rewind_course, rewind_on, rewindable_of, rewinds, rewound, take_each, take_frames, take_on, taken_back, takes_back, without}
-use Rattle.dmix_client.specs.View.{held}
+use Rattle.dmix_client.specs.View.{ring_sample}
 use Rattle.lab_script.specs.declared.line.Op.{Op}
 use Rattle.lab_script.specs.declared.line.Op.TheVariants as op
 use Rattle.lab_report.specs.declared.row.Answer.{Answer}
@@ -120,9 +120,9 @@ unfolding takes_back
 rewind_on-kept floor n (c, Err e) late = late
 rewind_on-kept floor n (c, Ok done) late =
     let m = min n (rewindable_of floor c) in
-    All-then HasLeft Kept (take_frames c.identity.member c.stretch.card c.setup.bindings (held c []) (c.stretch.committed - back_of c m) (back_of c m))
+    All-then HasLeft Kept (take_frames c.identity.member c.stretch.card c.setup.bindings (ring_sample c []) (c.stretch.committed - back_of c m) (back_of c m))
     (λ left. ends (rewound c m left))
-    (frames-left c.identity.member c.stretch.card c.setup.bindings (held c []) (c.stretch.committed - back_of c m) (back_of c m))
+    (frames-left c.identity.member c.stretch.card c.setup.bindings (ring_sample c []) (c.stretch.committed - back_of c m) (back_of c m))
     (λ left some. rewound-kept c m left some)
 
 checks-kept : (c : Plain) → All Kept (checks c)

@@ -1,7 +1,7 @@
 use Rattle.std.proofs.Common.{◌≡◌, ℕ, ◌+◌, ◌-◌, ◌≤◌}
 use Rattle.snd_base.specs.Places.{IsFrom}
 use Rattle.dmix_client.specs.Port.{least_channel}
-use Rattle.dmix_client.specs.View.{held}
+use Rattle.dmix_client.specs.View.{ring_sample}
 use Rattle.dmix_client.proofs.Laying.{RestFrames}
 use Rattle.dmix_client.proofs.commit.lay_frames.Given as goal
 
@@ -10,7 +10,7 @@ invariant-loop-done g l = let port = g.P.MixPort in record {
   view_is : port.view l.port ≡ record (port.view l.fn.port) { marks = (port.view l.port).marks };
   few : l.done ≤ l.count;
   cursor : IsFrom (port.view l.port).marks.cursor (l.plain.stretch.card + (l.plain.stretch.committed + l.done)) (least_channel l.plain.setup.bindings);
-  takes : RestFrames g.P.MixPort g.G.Gate l.plain.identity.member l.plain.stretch.card l.plain.setup.bindings (held l.plain l.ring) l.count l.plain.stretch.committed (l.fn.port, l.fn.gate) (l.port, l.gate) l.done;
+  takes : RestFrames g.P.MixPort g.G.Gate l.plain.identity.member l.plain.stretch.card l.plain.setup.bindings (ring_sample l.plain l.ring) l.count l.plain.stretch.committed (l.fn.port, l.fn.gate) (l.port, l.gate) l.done;
 }
 
 -- each run has a frame

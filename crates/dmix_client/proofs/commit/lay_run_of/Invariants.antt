@@ -1,7 +1,7 @@
 use Rattle.std.proofs.Common.{◌≡◌, ◌+◌}
 use Rattle.snd_base.specs.Places.{IsFrom}
 use Rattle.dmix_client.specs.Port.{least_channel}
-use Rattle.dmix_client.specs.View.{held}
+use Rattle.dmix_client.specs.View.{ring_sample}
 use Rattle.dmix_client.proofs.Laying.{RestFrames}
 use Rattle.dmix_client.proofs.commit.lay_run_of.Given as goal
 
@@ -9,5 +9,5 @@ abbrev pub invariant-loop-frame : goal.invariant-loop-frame
 invariant-loop-frame g l = let port = g.P.MixPort in record {
   view_is : port.view l.port ≡ record (port.view l.fn.port) { marks = (port.view l.port).marks };
   cursor : IsFrom (port.view l.port).marks.cursor (l.plain.stretch.card + (l.first + l.frame)) (least_channel l.plain.setup.bindings);
-  takes : RestFrames g.P.MixPort g.G.Gate l.plain.identity.member l.plain.stretch.card l.plain.setup.bindings (held l.plain l.ring) l.count l.first (l.fn.port, l.fn.gate) (l.port, l.gate) l.frame;
+  takes : RestFrames g.P.MixPort g.G.Gate l.plain.identity.member l.plain.stretch.card l.plain.setup.bindings (ring_sample l.plain l.ring) l.count l.first (l.fn.port, l.fn.gate) (l.port, l.gate) l.frame;
 }

@@ -1,7 +1,7 @@
 use Rattle.std.proofs.Common.{rules, ◌-◌, ℕ, length, refl, subst, sym, arith}
 use Rattle.dmix_client.specs.Expansion.{run_entries}
 use Rattle.dmix_client.specs.Rewind.{back_of}
-use Rattle.dmix_client.specs.View.{IsMoving, held}
+use Rattle.dmix_client.specs.View.{IsMoving, ring_sample}
 use Rattle.dmix_client.proofs.Rewinding.{IsBack, IsBack-of, held-last, left-few, left-part, take_frames-took, takes_back-by}
 use Rattle.dmix_client.proofs.Withdrawing.{HoldsBy}
 use Rattle.dmix_client.proofs.rewind.take_back.Goals as goal
@@ -13,7 +13,7 @@ take_frames-left-requires-clause-held g c =
     let floor = (port.view c.args.port.now).marks.floor in
     let m : IsMoving d = c.requires.sound.moving (rw c.requires.running refl) c.requires.unstopped in
     let is : IsBack d floor c.args.frames = IsBack-of d floor c.args.frames m c.requires.few in
-    subst (λ (b : ℕ). port.ends_in c.args.port.now (run_entries d.identity.member d.setup.bindings (held d c.args.ring.now) d.stretch.card (d.stretch.committed - b) b 0)) (sym c.back.ensures)
+    subst (λ (b : ℕ). port.ends_in c.args.port.now (run_entries d.identity.member d.setup.bindings (ring_sample d c.args.ring.now) d.stretch.card (d.stretch.committed - b) b 0)) (sym c.back.ensures)
     (g.met.P.MixPort.ends_in_part c.args.port.now _ _ (subst (port.ends_in c.args.port.now) (held-last d c.args.ring.now floor c.args.frames m is) c.requires.standing))
 
 pub rewound-after-requires : goal.rewound-after-requires

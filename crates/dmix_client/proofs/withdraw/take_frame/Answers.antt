@@ -9,8 +9,8 @@ use Rattle.course.specs.AtPort.{LaysAt}
 use Rattle.bindings.specs.Bound.{rising}
 use Rattle.dmix_client.specs.Expansion.{frame_entries}
 use Rattle.dmix_client.specs.Port.{least_channel}
-use Rattle.dmix_client.specs.View.{held}
-use Rattle.dmix_client.proofs.Frames.{IsFrom-later, entry-held, rising-least}
+use Rattle.dmix_client.specs.View.{ring_sample}
+use Rattle.dmix_client.proofs.Frames.{IsFrom-later, entry-ring_sample, rising-least}
 use Rattle.dmix_client.proofs.Withdrawing.{Back-all, Back-ended, Back-next, stands-last}
 use Rattle.dmix_client.proofs.withdraw.take_frame.Goals as goal
 
@@ -22,9 +22,9 @@ take_sample-requires g c =
     let frame : ℕ = plain.stretch.card + c.args.number in
     let bound = c.bound_sample-bound.ensures in
     record {
-      last = g.met.P.MixPort.ends_in_part c.loop-place.port (frame_entries plain.identity.member plain.setup.bindings (held plain c.args.ring.now c.args.number) n frame) _
-          (stands-last g.P.MixPort.ends_in c.loop-place.port plain.identity.member frame plain.setup.bindings (held plain c.args.ring.now c.args.number) n c.loop-place.place _ before.bound (omega (arith, c.loop-place-test.true)) before.few
-          (entry-held (λ m k x. an_add m frame k x) plain c.args.ring.now c.args.number c.held_from-slot.result (slice_index (rising plain.setup.bindings) n) _ _ _ before.member bound.channel c.held_from-slot.ensures.value bound.sample) before.stand);
+      last = g.met.P.MixPort.ends_in_part c.loop-place.port (frame_entries plain.identity.member plain.setup.bindings (ring_sample plain c.args.ring.now c.args.number) n frame) _
+          (stands-last g.P.MixPort.ends_in c.loop-place.port plain.identity.member frame plain.setup.bindings (ring_sample plain c.args.ring.now c.args.number) n c.loop-place.place _ before.bound (omega (arith, c.loop-place-test.true)) before.few
+          (entry-ring_sample (λ m k x. an_add m frame k x) plain c.args.ring.now c.args.number c.held_from-slot.result (slice_index (rising plain.setup.bindings) n) _ _ _ before.member bound.channel c.held_from-slot.ensures.value bound.sample) before.stand);
       from_floor = subst (λ (k : ℕ). IsFrom (g.P.MixPort.view c.loop-place.port).marks.floor frame k) (sym bound.channel)
           (IsFrom-later (g.P.MixPort.view c.loop-place.port).marks.floor _ _ _ (rising-least plain.setup.bindings n before.bound (omega (arith, before.few, c.loop-place-test.true))) before.from_floor);
     }
@@ -36,7 +36,7 @@ loop-place-preserved g c =
     let before = c.loop-place.invariant in
     let n : ℕ = c.loop-place.place - 1 in
     let frame : ℕ = plain.stretch.card + c.args.number in
-    let samples = held plain c.args.ring.now c.args.number in
+    let samples = ring_sample plain c.args.ring.now c.args.number in
     let bound = c.bound_sample-bound.ensures in
     let one : c.loop-place.place ≡ n + 1 = omega (arith, c.loop-place-test.true) in
     let from_floor = subst (λ (k : ℕ). IsFrom (port.view c.loop-place.port).marks.floor frame k) (sym bound.channel)
@@ -49,9 +49,9 @@ loop-place-preserved g c =
       few = omega (arith, before.few);
       stand = g.met.P.MixPort.held_back c.loop-place.port c.take_sample.new.port (frame_entries plain.identity.member plain.setup.bindings samples n frame) frame _ _ from_floor step.laid_it
           (stands-last port.ends_in c.loop-place.port plain.identity.member frame plain.setup.bindings samples n c.loop-place.place _ before.bound one before.few
-          (entry-held (λ m k x. an_add m frame k x) plain c.args.ring.now c.args.number c.held_from-slot.result (slice_index (rising plain.setup.bindings) n) _ _ _ before.member bound.channel c.held_from-slot.ensures.value bound.sample) before.stand);
+          (entry-ring_sample (λ m k x. an_add m frame k x) plain c.args.ring.now c.args.number c.held_from-slot.result (slice_index (rising plain.setup.bindings) n) _ _ _ before.member bound.channel c.held_from-slot.ensures.value bound.sample) before.stand);
       takes = Back-next port g.G.Gate plain.identity.member frame plain.setup.bindings samples _ (c.args.port.now, c.args.gate.now) (c.loop-place.port, c.loop-place.gate) (c.take_sample.new.port, c.take_sample.new.gate) n c.loop-place.place _ one
-          (entry-held (λ m k x. a_withdrawal m frame k x) plain c.args.ring.now c.args.number c.held_from-slot.result (slice_index (rising plain.setup.bindings) n) _ _ _ before.member bound.channel c.held_from-slot.ensures.value bound.sample) before.takes step;
+          (entry-ring_sample (λ m k x. a_withdrawal m frame k x) plain c.args.ring.now c.args.number c.held_from-slot.result (slice_index (rising plain.setup.bindings) n) _ _ _ before.member bound.channel c.held_from-slot.ensures.value bound.sample) before.takes step;
     }
 
 pub returns-in_default : goal.returns-in_default
@@ -61,12 +61,12 @@ returns-in_default g c =
     let n : ℕ = c.loop-place.place - 1 in
     let frame : ℕ = plain.stretch.card + c.args.number in
     let bound = c.bound_sample-bound.ensures in
-    let ended = Back-ended g.P.MixPort g.G.Gate plain.identity.member frame plain.setup.bindings (held plain c.args.ring.now c.args.number) _ (c.args.port.now, c.args.gate.now) (c.loop-place.port, c.loop-place.gate) (c.take_sample.new.port, c.take_sample.new.gate) n c.loop-place.place _ c.take_sample.result (omega (arith, c.loop-place-test.true))
-    (entry-held (λ m k x. a_withdrawal m frame k x) plain c.args.ring.now c.args.number c.held_from-slot.result (slice_index (rising plain.setup.bindings) n) _ _ _ before.member bound.channel c.held_from-slot.ensures.value bound.sample) c.in_default.not-Whole before.takes c.take_sample.ensures in
+    let ended = Back-ended g.P.MixPort g.G.Gate plain.identity.member frame plain.setup.bindings (ring_sample plain c.args.ring.now c.args.number) _ (c.args.port.now, c.args.gate.now) (c.loop-place.port, c.loop-place.gate) (c.take_sample.new.port, c.take_sample.new.gate) n c.loop-place.place _ c.take_sample.result (omega (arith, c.loop-place-test.true))
+    (entry-ring_sample (λ m k x. a_withdrawal m frame k x) plain c.args.ring.now c.args.number c.held_from-slot.result (slice_index (rising plain.setup.bindings) n) _ _ _ before.member bound.channel c.held_from-slot.ensures.value bound.sample) c.in_default.not-Whole before.takes c.take_sample.ensures in
     rw (let one : n + 1 ≡ c.loop-place.place = omega (arith, c.loop-place-test.true) in one) ended
 
 pub returns : goal.returns
 returns g c =
     let plain = c.args.plain.now in
-    Back-all g.P.MixPort g.G.Gate plain.identity.member (plain.stretch.card + c.args.number) plain.setup.bindings (held plain c.args.ring.now c.args.number) _ (c.args.port.now, c.args.gate.now) (c.loop-place.port, c.loop-place.gate) c.loop-place.place
+    Back-all g.P.MixPort g.G.Gate plain.identity.member (plain.stretch.card + c.args.number) plain.setup.bindings (ring_sample plain c.args.ring.now c.args.number) _ (c.args.port.now, c.args.gate.now) (c.loop-place.port, c.loop-place.gate) c.loop-place.place
     (omega (arith, c.loop-place-test.false)) c.loop-place.invariant.takes

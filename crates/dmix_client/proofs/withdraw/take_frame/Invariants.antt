@@ -3,7 +3,7 @@ use Rattle.snd_base.specs.Places.{IsFrom}
 use Rattle.bindings.specs.Bound.{AreBindings}
 use Rattle.dmix_client.specs.Expansion.{frame_entries}
 use Rattle.dmix_client.specs.Port.{least_channel}
-use Rattle.dmix_client.specs.View.{held}
+use Rattle.dmix_client.specs.View.{ring_sample}
 use Rattle.dmix_client.proofs.Withdrawing.{Back}
 use Rattle.dmix_client.proofs.withdraw.take_frame.Given as goal
 
@@ -13,6 +13,6 @@ invariant-loop-place g l = let port = g.P.MixPort in let list = l.plain.setup.bi
   from_floor : IsFrom (port.view l.port).marks.floor frame (least_channel list);
   bound : AreBindings list;
   few : l.place ≤ length list;
-  stand : port.ends_in l.port (frame_entries l.plain.identity.member list (held l.plain l.ring l.number) l.place frame);
-  takes : Back port g.G.Gate l.plain.identity.member frame list (held l.plain l.ring l.number) (length list) (l.fn.port, l.fn.gate) (l.port, l.gate) l.place;
+  stand : port.ends_in l.port (frame_entries l.plain.identity.member list (ring_sample l.plain l.ring l.number) l.place frame);
+  takes : Back port g.G.Gate l.plain.identity.member frame list (ring_sample l.plain l.ring l.number) (length list) (l.fn.port, l.fn.gate) (l.port, l.gate) l.place;
 }

@@ -11,7 +11,7 @@ use Rattle.dmix_client.specs.declared.commit.Commit.{Commit}
 use Rattle.dmix_client.specs.Expansion.{frame_entries, run_entries}
 use Rattle.dmix_client.specs.Port.{IsOnCard, least_channel}
 use Rattle.dmix_client.specs.Rewind.{take_each, take_frames}
-use Rattle.dmix_client.specs.View.{held}
+use Rattle.dmix_client.specs.View.{ring_sample}
 use Rattle.dmix_client.proofs.Withdrawing.{BackFrames-all, BackFrames-ended, BackFrames-next, HoldsBy, TakesAt-took, stands-run}
 use Rattle.dmix_client.proofs.withdraw.take_frames.Goals as goal
 
@@ -20,8 +20,8 @@ take_frame-left-requires-clause-held g c =
     let plain = c.args.plain.now in
     let first : ℕ = plain.stretch.committed - c.args.count in
     let n : ℕ = c.loop-frame.frame - 1 in
-    g.met.P.MixPort.ends_in_part c.loop-frame.port (run_entries plain.identity.member plain.setup.bindings (held plain c.args.ring.now) plain.stretch.card first n 0) _
-    (stands-run g.P.MixPort.ends_in c.loop-frame.port plain.identity.member plain.setup.bindings (held plain c.args.ring.now) plain.stretch.card first n c.loop-frame.frame (omega (arith, c.loop-frame-test.true)) c.loop-frame.invariant.stand)
+    g.met.P.MixPort.ends_in_part c.loop-frame.port (run_entries plain.identity.member plain.setup.bindings (ring_sample plain c.args.ring.now) plain.stretch.card first n 0) _
+    (stands-run g.P.MixPort.ends_in c.loop-frame.port plain.identity.member plain.setup.bindings (ring_sample plain c.args.ring.now) plain.stretch.card first n c.loop-frame.frame (omega (arith, c.loop-frame-test.true)) c.loop-frame.invariant.stand)
 
 pub loop-frame-preserved : goal.loop-frame-preserved
 loop-frame-preserved g c =
@@ -31,7 +31,7 @@ loop-frame-preserved g c =
     let first : ℕ = plain.stretch.committed - c.args.count in
     let n : ℕ = c.loop-frame.frame - 1 in
     let counted : c.loop-frame.frame ≡ n + 1 = omega (arith, c.loop-frame-test.true) in
-    let samples = held plain c.args.ring.now in
+    let samples = ring_sample plain c.args.ring.now in
     let step : TakesAt port g.G.Gate (c.loop-frame.port, c.loop-frame.gate) (take_each plain.identity.member (plain.stretch.card + (first + n)) plain.setup.bindings (samples (first + n)) (length plain.setup.bindings)) (c.take_frame-left.new.port, c.take_frame-left.new.gate) (c.take_frame-left.result.channels, Whole) =
     subst (λ (e : Ended). TakesAt port g.G.Gate (c.loop-frame.port, c.loop-frame.gate) (take_each plain.identity.member (plain.stretch.card + (first + n)) plain.setup.bindings (samples (first + n)) (length plain.setup.bindings)) (c.take_frame-left.new.port, c.take_frame-left.new.gate) (c.take_frame-left.result.channels, e)) c.in-Whole.is c.take_frame-left.ensures in
     let holds : HoldsBy port = record { laid_composes = g.met.P.MixPort.laid_composes; loaded_composes = g.met.P.MixPort.loaded_composes; part = g.met.P.MixPort.ends_in_part; nothing = g.met.P.MixPort.held_nothing; back = g.met.P.MixPort.held_back } in
@@ -56,13 +56,13 @@ returns-in_default g c =
     let plain = c.args.plain.now in
     let first : ℕ = plain.stretch.committed - c.args.count in
     let n : ℕ = c.loop-frame.frame - 1 in
-    subst (λ (x : Commit). TakesAt port g.G.Gate (c.args.port.now, c.args.gate.now) (take_frames plain.identity.member plain.stretch.card plain.setup.bindings (held plain c.args.ring.now) first c.args.count) (c.take_frame-left.new.port, c.take_frame-left.new.gate) x)
+    subst (λ (x : Commit). TakesAt port g.G.Gate (c.args.port.now, c.args.gate.now) (take_frames plain.identity.member plain.stretch.card plain.setup.bindings (ring_sample plain c.args.ring.now) first c.args.count) (c.take_frame-left.new.port, c.take_frame-left.new.gate) x)
     (let e = c.left_of.ensures in let l = c.len-channels.ensures.value in cc)
-    (BackFrames-ended port g.G.Gate plain.identity.member plain.stretch.card plain.setup.bindings (held plain c.args.ring.now) first c.args.count (c.args.port.now, c.args.gate.now) (c.loop-frame.port, c.loop-frame.gate) (c.take_frame-left.new.port, c.take_frame-left.new.gate)
+    (BackFrames-ended port g.G.Gate plain.identity.member plain.stretch.card plain.setup.bindings (ring_sample plain c.args.ring.now) first c.args.count (c.args.port.now, c.args.gate.now) (c.loop-frame.port, c.loop-frame.gate) (c.take_frame-left.new.port, c.take_frame-left.new.gate)
     n c.loop-frame.frame c.take_frame-left.result.channels c.take_frame-left.result.ended (omega (arith, c.loop-frame-test.true)) c.in_default.not-Whole c.loop-frame.invariant.takes c.take_frame-left.ensures)
 
 pub returns : goal.returns
 returns g c =
     let plain = c.args.plain.now in
-    BackFrames-all g.P.MixPort g.G.Gate plain.identity.member plain.stretch.card plain.setup.bindings (held plain c.args.ring.now) (plain.stretch.committed - c.args.count) c.args.count (c.args.port.now, c.args.gate.now) (c.loop-frame.port, c.loop-frame.gate) c.loop-frame.frame
+    BackFrames-all g.P.MixPort g.G.Gate plain.identity.member plain.stretch.card plain.setup.bindings (ring_sample plain c.args.ring.now) (plain.stretch.committed - c.args.count) c.args.count (c.args.port.now, c.args.gate.now) (c.loop-frame.port, c.loop-frame.gate) c.loop-frame.frame
     (omega (arith, c.loop-frame-test.false)) c.loop-frame.invariant.takes

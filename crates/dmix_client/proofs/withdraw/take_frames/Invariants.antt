@@ -2,7 +2,7 @@ use Rattle.std.proofs.Common.{◌≡◌, ◌+◌, ◌-◌, ◌≤◌}
 use Rattle.snd_base.specs.Places.{IsFrom}
 use Rattle.dmix_client.specs.Expansion.{run_entries}
 use Rattle.dmix_client.specs.Port.{IsOnCard, least_channel}
-use Rattle.dmix_client.specs.View.{held}
+use Rattle.dmix_client.specs.View.{ring_sample}
 use Rattle.dmix_client.proofs.Withdrawing.{BackFrames}
 use Rattle.dmix_client.proofs.withdraw.take_frames.Given as goal
 
@@ -12,6 +12,6 @@ invariant-loop-frame g l = let port = g.P.MixPort in record {
   bound : IsOnCard l.plain.setup.bindings (port.view l.port).geometry;
   from_floor : 1 ≤ l.count → IsFrom (port.view l.port).marks.floor (l.plain.stretch.card + (l.plain.stretch.committed - l.count)) (least_channel l.plain.setup.bindings);
   few : l.frame ≤ l.count;
-  stand : port.ends_in l.port (run_entries l.plain.identity.member l.plain.setup.bindings (held l.plain l.ring) l.plain.stretch.card (l.plain.stretch.committed - l.count) l.frame 0);
-  takes : BackFrames port g.G.Gate l.plain.identity.member l.plain.stretch.card l.plain.setup.bindings (held l.plain l.ring) (l.plain.stretch.committed - l.count) l.count (l.fn.port, l.fn.gate) (l.port, l.gate) l.frame;
+  stand : port.ends_in l.port (run_entries l.plain.identity.member l.plain.setup.bindings (ring_sample l.plain l.ring) l.plain.stretch.card (l.plain.stretch.committed - l.count) l.frame 0);
+  takes : BackFrames port g.G.Gate l.plain.identity.member l.plain.stretch.card l.plain.setup.bindings (ring_sample l.plain l.ring) (l.plain.stretch.committed - l.count) l.count (l.fn.port, l.fn.gate) (l.port, l.gate) l.frame;
 }

@@ -2,7 +2,7 @@ use Rattle.std.proofs.Common.{subst, ℕ}
 use Rattle.course.specs.AtPort.{TakesAt}
 use Rattle.dmix_client.specs.Course.{commits}
 use Rattle.dmix_client.specs.CourseLaws.{TakesAt-frames}
-use Rattle.dmix_client.specs.View.{held}
+use Rattle.dmix_client.specs.View.{ring_sample}
 use Rattle.dmix_client.specs.Writes.{count_with}
 use Rattle.dmix_client.proofs.Sound.{configured-moving}
 use Rattle.dmix_client.proofs.write.commit_taken.Goals as goal
@@ -14,5 +14,5 @@ returns-clause-takes g c =
 pub returns-clause-commit : goal.returns-clause-commit
 returns-clause-commit g c =
     let plain = c.args.plain.now in
-    (TakesAt-frames g.P.MixPort g.G.Gate g.met.P.MixPort.laid_composes g.met.P.MixPort.loaded_composes plain.identity.member plain.stretch.card plain.setup.bindings (held plain c.args.ring.now) (count_with plain c.args.taken) plain.stretch.committed
+    (TakesAt-frames g.P.MixPort g.G.Gate g.met.P.MixPort.laid_composes g.met.P.MixPort.loaded_composes plain.identity.member plain.stretch.card plain.setup.bindings (ring_sample plain c.args.ring.now) (count_with plain c.args.taken) plain.stretch.committed
     (c.args.port.now, c.args.gate.now) (c.lay_frames.new.port, c.lay_frames.new.gate) c.lay_frames.result (configured-moving plain c.args.ring.now c.requires.sound c.requires.moving).bound (returns-clause-takes g c)).commit_is
