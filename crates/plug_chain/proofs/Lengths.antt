@@ -10,7 +10,7 @@ use Rattle.plug_chain.specs.Plugs.{known_of, plug_of}
 use Rattle.plug_chain.specs.Rates.{AreRates, RatePair, between, frame_at, known, output_count, output_frame, output_frames}
 use Rattle.plug_chain.specs.Tables.{IsTable}
 use Rattle.plug_chain.proofs.Places.{output_count-is}
-use Rattle.plug_chain.proofs.Stages.{frame_bytes-some, length-mixed}
+use Rattle.plug_chain.proofs.Stages.{frame_bytes-some, length-output_samples}
 
 -- ---- frames
 
@@ -30,7 +30,7 @@ length-frames_of c bytes = length-frames_in c (frame_count c bytes) bytes
 -- each frame has the table's outputs
 length-get_or-frames_in : (c : Conversion) (n i : ℕ) (bytes : List ℕ) → i < n → length (get_or (frames_in c n bytes) i []) ≡ c.table.outputs
 length-get_or-frames_in c zero i bytes low = absurd (omega arith)
-length-get_or-frames_in c (suc n) zero bytes low = length-mixed c.table (samples_in c.from c.table.inputs (take (frame_bytes c) bytes))
+length-get_or-frames_in c (suc n) zero bytes low = length-output_samples c.table (samples_in c.from c.table.inputs (take (frame_bytes c) bytes))
 length-get_or-frames_in c (suc n) (suc i) bytes low = length-get_or-frames_in c n i (drop (frame_bytes c) bytes) (omega arith)
 
 length-frame_at : (c : Conversion) (bytes : List ℕ) (i : ℕ) → 0 < frame_count c bytes → length (frame_at (frames_of c bytes) i) ≡ c.table.outputs

@@ -17,7 +17,7 @@ use Rattle.plug_chain.specs.Held.{part_of, samples_of}
 use Rattle.plug_chain.specs.Plugs.{Continues, HasTaken}
 use Rattle.plug_chain.specs.Rates.{IsAt, RatePair, known}
 use Rattle.plug_chain.specs.Samples.{bytes_of}
-use Rattle.plug_chain.specs.Tables.{ChannelTable, IsTable, mixed, output_channel}
+use Rattle.plug_chain.specs.Tables.{ChannelTable, IsTable, output_channel, output_samples}
 use Rattle.plug_chain.specs.Views.{conversion_of, stage_of}
 use Rattle.plug_chain.proofs.Courses.{IsAdvance-none, IsAdvance-trans}
 use Rattle.plug_chain.proofs.Cuts.{frames_of-append, frames_of-front, frames_of-short, rest_of-append, rest_of-front, rest_of-short}
@@ -51,9 +51,9 @@ pub length-samples_in : (from : Wide) (n : ℕ) (bytes : List ℕ) → length (s
 length-samples_in from zero bytes = refl
 length-samples_in from (suc n) bytes = ap suc (length-samples_in from n (drop (bytes_of from) bytes))
 
-pub length-mixed : (t : ChannelTable) (samples : List ℤ) → length (mixed t samples) ≡ t.outputs
-unfolding mixed
-length-mixed t samples = length-map-range_with_len (output_channel t samples) 0 t.outputs
+pub length-output_samples : (t : ChannelTable) (samples : List ℤ) → length (output_samples t samples) ≡ t.outputs
+unfolding output_samples
+length-output_samples t samples = length-map-range_with_len (output_channel t samples) 0 t.outputs
 
 -- ---- more frames
 

@@ -2,7 +2,7 @@
 use Rattle.std.specs.Prelude.{ℕ, zero, suc, ◌*◌, ◌/◌, List, [], ◌∷◌, length, take, drop, ℤ}
 use Rattle.plug_chain.specs.declared.wide.Wide.{Wide}
 use Rattle.plug_chain.specs.Samples.{bytes_of, wide_sample}
-use Rattle.plug_chain.specs.Tables.{ChannelTable, mixed}
+use Rattle.plug_chain.specs.Tables.{ChannelTable, output_samples}
 use Rattle.plug_chain.specs.Rates.{RatePair}
 
 -- how bytes are converted: the width of a sample, the table of channels, the rates
@@ -22,7 +22,7 @@ samples_in from (suc n) bytes = wide_sample from (take (bytes_of from) bytes) �
 
 -- the output channels of one frame's bytes
 abbrev pub frame_of : Conversion → List ℕ → List ℤ
-frame_of c bytes = mixed c.table (samples_in c.from c.table.inputs bytes)
+frame_of c bytes = output_samples c.table (samples_in c.from c.table.inputs bytes)
 
 -- the first n frames
 abbrev pub frames_in : Conversion → ℕ → List ℕ → List (List ℤ)

@@ -43,8 +43,8 @@ unfoldable pub output_channel : ChannelTable → List ℤ → ℕ → ℤ
 output_channel t samples output = saturate_signed w16 (int_div_euclid (weighted_sum (row t output) samples) (pos 65536))
 
 -- all output channels of a frame
-unfoldable pub mixed : ChannelTable → List ℤ → List ℤ
-mixed t samples = map (output_channel t samples) (range_with_len 0 t.outputs)
+unfoldable pub output_samples : ChannelTable → List ℤ → List ℤ
+output_samples t samples = map (output_channel t samples) (range_with_len 0 t.outputs)
 
 -- each channel to the channel of its number
 abbrev pub identity_weight : ℕ → ℕ → ℤ

@@ -1,7 +1,7 @@
 //! The table of weights by which input channels are made into output channels.
 ghost use Rattle.std.specs.Prelude.{◌≡◌, ◌<◌, ◌≤◌, ◌↔◌, All, IfErr, IsTrue, IfOk, length, ◌*◌, ◌*ℤ◌};
 ghost use Rattle.plug_chain.specs.Held.{samples_of};
-ghost use Rattle.plug_chain.specs.Tables.{IsSumOf, IsTable, IsWeight, mixed, output_channel, usual_table, usual_weight, weighted_sum};
+ghost use Rattle.plug_chain.specs.Tables.{IsSumOf, IsTable, IsWeight, output_channel, output_samples, usual_table, usual_weight, weighted_sum};
 
 use crate::frame::Frame;
 use snd_base::PcmError;
@@ -114,7 +114,7 @@ impl Table {
     pub(crate) fn mix(&self, samples: &[i16], frame: &mut Frame)
         requires samples { length samples.now ≡ self.now.inputs }
         requires channels { length (samples_of frame.old) ≡ self.now.outputs }
-        ensures { samples_of frame.new ≡ mixed self.now samples.now }
+        ensures { samples_of frame.new ≡ output_samples self.now samples.now }
     {
         for output in 0..self.outputs {
             frame.put(output, self.mix_channel(samples, output));

@@ -4,9 +4,9 @@ use Rattle.plug_chain.specs.Courses.{Advances}
 use Rattle.plug_chain.specs.Frames.{frame_of}
 use Rattle.plug_chain.specs.Held.{samples_of}
 use Rattle.plug_chain.specs.Rates.{IsCourse}
-use Rattle.plug_chain.specs.Tables.{mixed}
+use Rattle.plug_chain.specs.Tables.{output_samples}
 use Rattle.plug_chain.specs.Views.{conversion_of}
-use Rattle.plug_chain.proofs.Stages.{length-mixed, length-samples_in}
+use Rattle.plug_chain.proofs.Stages.{length-output_samples, length-samples_in}
 use Rattle.plug_chain.proofs.converter.Converter.take_frame.Goals as goal
 
 pub mix-requires-clause-samples : goal.mix-requires-clause-samples
@@ -15,16 +15,16 @@ mix-requires-clause-samples c = ap length (c.as_slice.ensures ∙ c.read.ensures
 pub advance-requires : goal.advance-requires
 advance-requires c =
     subst (λ (n : ℕ). IsCourse c.args.self.now.rates n (samples_of c.args.course.now.last) c.args.course.now.place)
-    (sym (ap length c.mix.ensures ∙ length-mixed c.args.self.now.table c.as_slice.result.now)) c.requires.course
+    (sym (ap length c.mix.ensures ∙ length-output_samples c.args.self.now.table c.as_slice.result.now)) c.requires.course
 
 pub returns-clause-course : goal.returns-clause-course
 returns-clause-course c =
     subst (λ (n : ℕ). OnOk c.advance.result (IsCourse c.args.self.now.rates n (samples_of c.advance.new.course.last) c.advance.new.course.place))
-    (ap length c.mix.ensures ∙ length-mixed c.args.self.now.table c.as_slice.result.now) c.advance.ensures.course
+    (ap length c.mix.ensures ∙ length-output_samples c.args.self.now.table c.as_slice.result.now) c.advance.ensures.course
 
 pub returns-clause-ok : goal.returns-clause-ok
 returns-clause-ok c =
-    let frame : samples_of c.mix.new.frame ≡ frame_of (conversion_of c.args.self.now) c.args.bytes.now = c.mix.ensures ∙ ap (mixed c.args.self.now.table) (c.as_slice.ensures ∙ c.read.ensures) in
+    let frame : samples_of c.mix.new.frame ≡ frame_of (conversion_of c.args.self.now) c.args.bytes.now = c.mix.ensures ∙ ap (output_samples c.args.self.now.table) (c.as_slice.ensures ∙ c.read.ensures) in
     subst (λ (xs : List ℤ). OnOk c.advance.result (Advances c.args.self.now.rates c.args.self.now.table.outputs (xs ∷ []) c.args.course.now c.advance.new.course c.args.out.now.items c.advance.new.out.items)) frame
     (subst (λ (n : ℕ). OnOk c.advance.result (Advances c.args.self.now.rates n (samples_of c.mix.new.frame ∷ []) c.args.course.now c.advance.new.course c.args.out.now.items c.advance.new.out.items))
-    (ap length c.mix.ensures ∙ length-mixed c.args.self.now.table c.as_slice.result.now) c.advance.ensures.ok)
+    (ap length c.mix.ensures ∙ length-output_samples c.args.self.now.table c.as_slice.result.now) c.advance.ensures.ok)
