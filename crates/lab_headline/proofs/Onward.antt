@@ -278,8 +278,8 @@ abbrev pub Onward : ℕ → ℕ → ℕ → Marks → Plain → Type 0
 Onward p x y m c = Begun p x y m c ⊎ Waits p x y m c
 
 -- it does after a call
-abbrev pub Goes : {T : Type 0} → ℕ → ℕ → ℕ → Marks → Plain × T → Type 0
-Goes p x y m (d, r) = Onward p x y m d
+abbrev pub OnwardAfter : {T : Type 0} → ℕ → ℕ → ℕ → Marks → Plain × T → Type 0
+OnwardAfter p x y m (d, r) = Onward p x y m d
 
 -- a client that moves frames began
 pub moving-begun : (p x y : ℕ) (m : Marks) (c : Plain) → is_moving c.status.state ≡ true → Onward p x y m c → Begun p x y m c

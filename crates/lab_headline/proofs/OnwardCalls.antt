@@ -30,7 +30,7 @@ use Rattle.lab_script.specs.declared.line.Op.TheVariants as op
 use Rattle.lab_report.specs.declared.row.Answer.{Answer}
 use Rattle.wav_io.specs.Sound.{Sound}
 use Rattle.lab_run.specs.Client.{answered, call_of, count_answer, done_answer, write_course}
-use Rattle.lab_headline.proofs.Onward.{Begun, Channels, Goes, Leads, Leads-if, Leads-map, Leads-then, Lies, Onward, Started, Waits, begun, commits-lead, earlier-lies, end_of, ended-lies, free_frame, high_end, looks-lead, moving-begun, moving-unprepared, start-commits, starts-go, after_sync-goes, syncs-go}
+use Rattle.lab_headline.proofs.Onward.{Begun, Channels, OnwardAfter, Leads, Leads-if, Leads-map, Leads-then, Lies, Onward, Started, Waits, begun, commits-lead, earlier-lies, end_of, ended-lies, free_frame, high_end, looks-lead, moving-begun, moving-unprepared, start-commits, starts-go, after_sync-goes, syncs-go}
 use Rattle.lab_headline.proofs.Withdrawn.{below-sum, frames-back}
 
 -- ---- the calls
@@ -80,38 +80,38 @@ module _ (p : ℕ) (g : Geometry) (x y : ℕ) where
   in-state state m c unprepared still (inr is) =
       inr (record { bound = is.bound; still = still; none = is.none; no_part = is.no_part; low = is.low; top = is.top; high = is.high })
 
-  pub number-goes : (number : Plain → ℕ) (m : Marks) (done : Answered (Unit {0})) → Goes p x y m done → Goes p x y m (with_number number done)
+  pub number-goes : (number : Plain → ℕ) (m : Marks) (done : Answered (Unit {0})) → OnwardAfter p x y m done → OnwardAfter p x y m (with_number number done)
   number-goes number m (c, Ok done) goes = goes
   number-goes number m (c, Err e) goes = goes
 
-  pub accepted-goes : (n : ℕ) (m : Marks) (done : Answered (Unit {0})) → Goes p x y m done → Goes p x y m (accepted_if n done)
+  pub accepted-goes : (n : ℕ) (m : Marks) (done : Answered (Unit {0})) → OnwardAfter p x y m done → OnwardAfter p x y m (accepted_if n done)
   accepted-goes n m (c, Ok done) goes = goes
   accepted-goes n m (c, Err e) goes = goes
 
-  pub numbered-goes : (number : Plain → ℕ) (m : Marks) (course : Course (Answered (Unit {0}))) → Leads p g (Goes p x y) m course → Leads p g (Goes p x y) m (numbered number course)
+  pub numbered-goes : (number : Plain → ℕ) (m : Marks) (course : Course (Answered (Unit {0}))) → Leads p g (OnwardAfter p x y) m course → Leads p g (OnwardAfter p x y) m (numbered number course)
   unfolding numbered
-  numbered-goes number m course leads = Leads-then p g (Goes p x y) (Goes p x y) m course (λ done. ends (with_number number done)) leads (number-goes number)
+  numbered-goes number m course leads = Leads-then p g (OnwardAfter p x y) (OnwardAfter p x y) m course (λ done. ends (with_number number done)) leads (number-goes number)
 
-  pub syncs-goes : (c : Plain) (asked : Call) (m : Marks) → IsStep c.status.state asked → Begun p x y m c → Leads p g (Goes p x y) m (syncs c asked [])
-  syncs-goes c asked m step is = Leads-map p g (λ n done. Begun p x y n done.0) (Goes p x y) m (syncs c asked []) (syncs-go p g x y c asked [] m step is) (λ n done begun. inl begun)
+  pub syncs-goes : (c : Plain) (asked : Call) (m : Marks) → IsStep c.status.state asked → Begun p x y m c → Leads p g (OnwardAfter p x y) m (syncs c asked [])
+  syncs-goes c asked m step is = Leads-map p g (λ n done. Begun p x y n done.0) (OnwardAfter p x y) m (syncs c asked []) (syncs-go p g x y c asked [] m step is) (λ n done begun. inl begun)
 
-  pub sync-goes : (c : Plain) (m : Marks) → Onward p x y m c → Leads p g (Goes p x y) m (sync_course c [])
+  pub sync-goes : (c : Plain) (m : Marks) → Onward p x y m c → Leads p g (OnwardAfter p x y) m (sync_course c [])
   sync-goes c m is = by_test (is_moving c.status.state) refl
     where
-      by_test : (moves : Bool) → is_moving c.status.state ≡ moves → Leads p g (Goes p x y) m (if moves then syncs c call.Sync [] else ends (c, Ok tt))
+      by_test : (moves : Bool) → is_moving c.status.state ≡ moves → Leads p g (OnwardAfter p x y) m (if moves then syncs c call.Sync [] else ends (c, Ok tt))
       by_test true moves = syncs-goes c call.Sync m (moving-syncs c.status.state moves) (moving-begun p x y m c moves is)
       by_test false moves = is
 
-  pub number_course-goes : (number : Plain → ℕ) (c : Plain) (m : Marks) → Onward p x y m c → Leads p g (Goes p x y) m (number_course number c [])
+  pub number_course-goes : (number : Plain → ℕ) (c : Plain) (m : Marks) → Onward p x y m c → Leads p g (OnwardAfter p x y) m (number_course number c [])
   number_course-goes number c m is = by_test (is_moving c.status.state) refl
     where
       by_test : (moves : Bool) → is_moving c.status.state ≡ moves
-          → Leads p g (Goes p x y) m (if moves then numbered number (syncs c call.Sync []) else ends (c, Ok (number c)))
+          → Leads p g (OnwardAfter p x y) m (if moves then numbered number (syncs c call.Sync []) else ends (c, Ok (number c)))
       by_test true moves = numbered-goes number m (syncs c call.Sync []) (syncs-goes c call.Sync m (moving-syncs c.status.state moves) (moving-begun p x y m c moves is))
       by_test false moves = is
 
-  pub start-goes : (c : Plain) (m : Marks) → is_prepared c.status.state ≡ true → Waits p x y m c → Leads p g (Goes p x y) m (start_course c [] m.cursor)
-  start-goes c m prepared waits = Leads-if p g (Goes p x y) m (nat_eq c.stretch.written 0) _ _ (inr (record {
+  pub start-goes : (c : Plain) (m : Marks) → is_prepared c.status.state ≡ true → Waits p x y m c → Leads p g (OnwardAfter p x y) m (start_course c [] m.cursor)
+  start-goes c m prepared waits = Leads-if p g (OnwardAfter p x y) m (nat_eq c.stretch.written 0) _ _ (inr (record {
     bound = waits.bound;
     still = empty-still c.status.state prepared;
     none = waits.none;
@@ -119,7 +119,7 @@ module _ (p : ℕ) (g : Geometry) (x y : ℕ) where
     low = waits.low;
     top = waits.top;
     high = waits.high;
-  })) (Leads-map p g (Started p g x y Running) (Goes p x y) m (starts c Running m.cursor c.stretch.written []) (starts-go p g x y c Running c.stretch.written [] m refl waits)
+  })) (Leads-map p g (Started p g x y Running) (OnwardAfter p x y) m (starts c Running m.cursor c.stretch.written []) (starts-go p g x y c Running c.stretch.written [] m refl waits)
       (λ n done started. started.0))
     where
       empty-still : (s : State) → is_prepared s ≡ true → is_moving (next_of s call.Start (record (nothing_found Playback) { queued = 0 })).state ≡ false
@@ -128,7 +128,7 @@ module _ (p : ℕ) (g : Geometry) (x y : ℕ) where
 
   -- a write
   pub written-begun : (c : Plain) (n : ℕ) (commit : Commit) (m : Marks) → Channels c.setup.bindings → c.stretch.started ≡ true → is_prepared c.status.state ≡ false
-      → x ≤ c.stretch.card → Lies p x y c.stretch.card (end_of c) (end_of (committed_by c commit)) m → Goes p x y m (written_after c n commit)
+      → x ≤ c.stretch.card → Lies p x y c.stretch.card (end_of c) (end_of (committed_by c commit)) m → OnwardAfter p x y m (written_after c n commit)
   written-begun c n commit m bound started unprepared past lies = by_test (nat_lt 0 n && nat_eq (avail_of c) 0) (is_stop commit.ended)
     where
       done : Plain
@@ -140,7 +140,7 @@ module _ (p : ℕ) (g : Geometry) (x y : ℕ) where
       f : Facts
       f = found_at (record { frame = 0; gone = false }) (late_of c commit)
 
-      by_test : (none stop : Bool) → Goes p x y m (if none then (c, Err error.Again) else (if stop then stopped_in done
+      by_test : (none stop : Bool) → OnwardAfter p x y m (if none then (c, Err error.Again) else (if stop then stopped_in done
           else accepted_if (taken_of c n) (with_outcome done (next_of Running call.Transfer f))))
       by_test true stop = inl (record {
         bound = bound;
@@ -153,45 +153,45 @@ module _ (p : ℕ) (g : Geometry) (x y : ℕ) where
       by_test false false = accepted-goes (taken_of c n) m (with_outcome done (next_of Running call.Transfer f))
           (inl (record { bound = bound; started = started; unprepared = moving-unprepared f; past = past; lies = there }))
 
-  pub write_on-goes : (n : ℕ) (m : Marks) (done : Answered (Unit {0})) → Begun p x y m done.0 → Leads p g (Goes p x y) m (write_on [] [] n done)
+  pub write_on-goes : (n : ℕ) (m : Marks) (done : Answered (Unit {0})) → Begun p x y m done.0 → Leads p g (OnwardAfter p x y) m (write_on [] [] n done)
   unfolding takes_more
   write_on-goes n m (c, Err e) is = inl is
   write_on-goes n m (c, Ok done) is =
-      Leads-then p g (λ k commit. Lies p x y c.stretch.card (end_of c) (end_of (committed_by c commit)) k) (Goes p x y) m
+      Leads-then p g (λ k commit. Lies p x y c.stretch.card (end_of c) (end_of (committed_by c commit)) k) (OnwardAfter p x y) m
       (commits c (ring_with c [] [] (taken_of c n)) (count_with c (taken_of c n))) (λ last. ends (written_after c n last))
       (commits-lead p g x y c (ring_with c [] [] (taken_of c n)) (count_with c (taken_of c n)) m is.bound is.past is.lies)
       (λ k commit lies. written-begun c n commit k is.bound is.started is.unprepared is.past lies)
 
-  pub write-goes : (c : Plain) (n : ℕ) (m : Marks) → refusal_of Playback c.status call.Transfer ≡ None → Onward p x y m c → Leads p g (Goes p x y) m (write_course c m.cursor n)
+  pub write-goes : (c : Plain) (n : ℕ) (m : Marks) → refusal_of Playback c.status call.Transfer ≡ None → Onward p x y m c → Leads p g (OnwardAfter p x y) m (write_course c m.cursor n)
   unfolding writes_on starts_taking
   write-goes c n m admits is = by_test (is_running c.status.state) refl
     where
-      starts-taken : Waits p x y m c → Leads p g (Goes p x y) m (starts_taking c (ring_with c [] [] (taken_of c n)) m.cursor (taken_of c n))
-      starts-taken waits = Leads-then p g (Started p g x y Running) (Goes p x y) m (starts c Running m.cursor (c.stretch.written + taken_of c n) (ring_with c [] [] (taken_of c n)))
+      starts-taken : Waits p x y m c → Leads p g (OnwardAfter p x y) m (starts_taking c (ring_with c [] [] (taken_of c n)) m.cursor (taken_of c n))
+      starts-taken waits = Leads-then p g (Started p g x y Running) (OnwardAfter p x y) m (starts c Running m.cursor (c.stretch.written + taken_of c n) (ring_with c [] [] (taken_of c n)))
           (λ done. ends (accepted_if (taken_of c n) done)) (starts-go p g x y c Running (c.stretch.written + taken_of c n) (ring_with c [] [] (taken_of c n)) m refl waits)
           (λ k done started. accepted-goes (taken_of c n) k done started.0)
 
-      by_test : (runs : Bool) → is_running c.status.state ≡ runs → Leads p g (Goes p x y) m (if runs then writes_on c [] [] n else fills c [] [] m.cursor n)
-      by_test true runs = Leads-then p g (λ k done. Begun p x y k done.0) (Goes p x y) m (syncs c call.Transfer []) (write_on [] [] n)
+      by_test : (runs : Bool) → is_running c.status.state ≡ runs → Leads p g (OnwardAfter p x y) m (if runs then writes_on c [] [] n else fills c [] [] m.cursor n)
+      by_test true runs = Leads-then p g (λ k done. Begun p x y k done.0) (OnwardAfter p x y) m (syncs c call.Transfer []) (write_on [] [] n)
           (syncs-go p g x y c call.Transfer [] m (running-transfers c.status.state runs) (moving-begun p x y m c (running-moves c.status.state runs) is)) (write_on-goes n)
-      by_test false runs = Leads-if p g (Goes p x y) m (starts_with c n) _ _
+      by_test false runs = Leads-if p g (OnwardAfter p x y) m (starts_with c n) _ _
           (starts-taken (prepared-waits m c (transfers-prepared c.status admits runs) is)) is
 
   -- a drain
-  pub drain_on-goes : (m : Marks) (done : Answered (Unit {0})) → Started p g x y Draining m done → Leads p g (Goes p x y) m (drain_on [] done)
+  pub drain_on-goes : (m : Marks) (done : Answered (Unit {0})) → Started p g x y Draining m done → Leads p g (OnwardAfter p x y) m (drain_on [] done)
   drain_on-goes m (c, Err e) (is, drains) = is
   drain_on-goes m (c, Ok done) (is, drains) = syncs-goes c call.Drain m (subst (λ s. IsStep s call.Drain) (sym drains) tt)
       (moving-begun p x y m c (subst (λ s. is_moving s ≡ true) (sym drains) refl) is)
 
-  pub drain-goes : (c : Plain) (m : Marks) → Onward p x y m c → Leads p g (Goes p x y) m (drain_course c [] m.cursor)
+  pub drain-goes : (c : Plain) (m : Marks) → Onward p x y m c → Leads p g (OnwardAfter p x y) m (drain_course c [] m.cursor)
   unfolding drains
   drain-goes c m is = by_test (is_moving c.status.state) refl
     where
-      drains-go : Waits p x y m c → Leads p g (Goes p x y) m (drains c [] m.cursor)
-      drains-go waits = Leads-then p g (Started p g x y Draining) (Goes p x y) m (starts c Draining m.cursor c.stretch.written []) (drain_on [])
+      drains-go : Waits p x y m c → Leads p g (OnwardAfter p x y) m (drains c [] m.cursor)
+      drains-go waits = Leads-then p g (Started p g x y Draining) (OnwardAfter p x y) m (starts c Draining m.cursor c.stretch.written []) (drain_on [])
           (starts-go p g x y c Draining c.stretch.written [] m refl waits) drain_on-goes
 
-      by_frames : (prepared some : Bool) → is_prepared c.status.state ≡ prepared → Leads p g (Goes p x y) m (if prepared && some then drains c [] m.cursor else ends (dropped c, Ok tt))
+      by_frames : (prepared some : Bool) → is_prepared c.status.state ≡ prepared → Leads p g (OnwardAfter p x y) m (if prepared && some then drains c [] m.cursor else ends (dropped c, Ok tt))
       by_frames true true is_so = drains-go (prepared-waits m c is_so is)
       by_frames true false is_so = in-state Setup m c refl refl is
       by_frames false some is_so = in-state Setup m c refl refl is
@@ -199,7 +199,7 @@ module _ (p : ℕ) (g : Geometry) (x y : ℕ) where
       draining-begun : Begun p x y m c → Begun p x y m (draining c)
       draining-begun begun = record { bound = begun.bound; started = begun.started; unprepared = refl; past = begun.past; lies = begun.lies }
 
-      by_test : (moves : Bool) → is_moving c.status.state ≡ moves → Leads p g (Goes p x y) m (if moves then syncs (draining c) call.Drain []
+      by_test : (moves : Bool) → is_moving c.status.state ≡ moves → Leads p g (OnwardAfter p x y) m (if moves then syncs (draining c) call.Drain []
           else (if has_frames c then drains c [] m.cursor else ends (dropped c, Ok tt)))
       by_test true moves = syncs-goes (draining c) call.Drain m tt (draining-begun (moving-begun p x y m c moves is))
       by_test false moves = by_frames (is_prepared c.status.state) (nat_lt 0 c.stretch.written) refl
@@ -210,7 +210,7 @@ module _ (p : ℕ) (g : Geometry) (x y : ℕ) where
   based-waits m c bound low top high = record { bound = bound; still = refl; none = refl; no_part = refl; low = low; top = top; high = high }
 
   pub resumes-go : (Q : Marks → Answered (Unit {0}) → Type 0) (c : Plain) (m : Marks) → Waits p x y m (rebased c) → Q m (stopped_in c)
-      → ((n : Marks) (done : Answered (Unit {0})) → Goes p x y n done → Q n done) → Leads p g Q m (resumes c m.cursor [])
+      → ((n : Marks) (done : Answered (Unit {0})) → OnwardAfter p x y n done → Q n done) → Leads p g Q m (resumes c m.cursor [])
   unfolding resumes
   resumes-go Q c m waits stop on = Leads-then p g (λ n found. Q n (resumed c m.cursor found.0 found.1)) Q m
       (looks (λ position. started_in (rebased c) Running position m.cursor) (λ position. start_count (rebased c) m.cursor position (pending_of c)) [])
@@ -224,7 +224,7 @@ module _ (p : ℕ) (g : Geometry) (x y : ℕ) where
       (λ n found is. is)
 
   pub resume-leads : (Q : Marks → Answered (Unit {0}) → Type 0) (c : Plain) (m : Marks) → Waits p x y m (rebased c) → Q m (stopped_in c)
-      → ((n : Marks) (done : Answered (Unit {0})) → Goes p x y n done → Q n done) → Leads p g Q m (pause_course false c [] m.cursor)
+      → ((n : Marks) (done : Answered (Unit {0})) → OnwardAfter p x y n done → Q n done) → Leads p g Q m (pause_course false c [] m.cursor)
   resume-leads Q c m waits stop on = Leads-if p g Q m (nat_eq (pending_of c) 0) (ends (rebased c, Ok tt)) (resumes c m.cursor []) (on m (rebased c, Ok tt) (inr waits))
       (resumes-go Q c m waits stop on)
 
@@ -232,9 +232,9 @@ module _ (p : ℕ) (g : Geometry) (x y : ℕ) where
   reached m c (inl is) = (is.lies.low, is.lies.top, is.lies.high, is.bound)
   reached m c (inr is) = (is.low, is.top, is.high, is.bound)
 
-  pub resume-goes : (c : Plain) (m : Marks) → Onward p x y m c → Leads p g (Goes p x y) m (pause_course false c [] m.cursor)
+  pub resume-goes : (c : Plain) (m : Marks) → Onward p x y m c → Leads p g (OnwardAfter p x y) m (pause_course false c [] m.cursor)
   resume-goes c m is =
-      let at = reached m c is in resume-leads (Goes p x y) c m (based-waits m c at.3 at.0 at.1 at.2) is (λ n done goes. goes)
+      let at = reached m c is in resume-leads (OnwardAfter p x y) c m (based-waits m c at.3 at.0 at.1 at.2) is (λ n done goes. goes)
 
   -- ---- a rewind
 
@@ -246,17 +246,17 @@ module _ (p : ℕ) (g : Geometry) (x y : ℕ) where
         (earlier-lies p x y c.stretch.card (end_of c) (end_of c) (end_of (committed_by c nothing)) m (omega arith) is.lies),
   )
 
-  pub rewindable-goes : (floor : Cursor) (c : Plain) (m : Marks) → Onward p x y m c → Leads p g (Goes p x y) m (rewindable_course c floor)
+  pub rewindable-goes : (floor : Cursor) (c : Plain) (m : Marks) → Onward p x y m c → Leads p g (OnwardAfter p x y) m (rewindable_course c floor)
   rewindable-goes floor c m is = by_test (is_running c.status.state) refl
     where
       by_test : (runs : Bool) → is_running c.status.state ≡ runs
-          → Leads p g (Goes p x y) m (if runs then numbered (rewindable_of floor) (checks c) else ends (c, Ok c.stretch.written))
-      by_test true runs = numbered-goes (rewindable_of floor) m (checks c) (Leads-map p g (λ n done. Begun p x y n done.0) (Goes p x y) m (checks c)
+          → Leads p g (OnwardAfter p x y) m (if runs then numbered (rewindable_of floor) (checks c) else ends (c, Ok c.stretch.written))
+      by_test true runs = numbered-goes (rewindable_of floor) m (checks c) (Leads-map p g (λ n done. Begun p x y n done.0) (OnwardAfter p x y) m (checks c)
           (checks-go c m runs (moving-begun p x y m c (running-moves c.status.state runs) is)) (λ n done begun. inl begun))
       by_test false runs = is
 
   pub rewound-goes : (c : Plain) (n : ℕ) (left : Commit) (m : Marks) → Channels c.setup.bindings → c.stretch.started ≡ true → is_prepared c.status.state ≡ false → x ≤ c.stretch.card
-      → Lies p x y c.stretch.card 0 (end_of (taken_back c n left)) m → Goes p x y m (rewound c n left)
+      → Lies p x y c.stretch.card 0 (end_of (taken_back c n left)) m → OnwardAfter p x y m (rewound c n left)
   rewound-goes c n left m bound started unprepared past lies = by_stop (is_stop left.ended)
     where
       done : Plain
@@ -268,15 +268,15 @@ module _ (p : ℕ) (g : Geometry) (x y : ℕ) where
       there : Lies p x y c.stretch.card (end_of done) (end_of done) m
       there = ended-lies p x y c.stretch.card 0 (end_of done) m lies
 
-      by_stop : (stop : Bool) → Goes p x y m (if stop then stopped_in done else with_number (λ (d : Plain). n) (with_outcome done (next_of Running call.Transfer f)))
+      by_stop : (stop : Bool) → OnwardAfter p x y m (if stop then stopped_in done else with_number (λ (d : Plain). n) (with_outcome done (next_of Running call.Transfer f)))
       by_stop true = inl (record { bound = bound; started = started; unprepared = unprepared; past = past; lies = there })
       by_stop false = number-goes (λ (d : Plain). n) m (with_outcome done (next_of Running call.Transfer f))
           (inl (record { bound = bound; started = started; unprepared = moving-unprepared f; past = past; lies = there }))
 
-  pub takes_back-goes : (c : Plain) (n : ℕ) (m : Marks) → back_of c n ≤ c.stretch.committed → Begun p x y m c → Leads p g (Goes p x y) m (takes_back c [] n)
+  pub takes_back-goes : (c : Plain) (n : ℕ) (m : Marks) → back_of c n ≤ c.stretch.committed → Begun p x y m c → Leads p g (OnwardAfter p x y) m (takes_back c [] n)
   unfolding takes_back
   takes_back-goes c n m within is =
-      Leads-then p g (λ k left. Lies p x y c.stretch.card 0 (end_of (taken_back c n left)) k) (Goes p x y) m
+      Leads-then p g (λ k left. Lies p x y c.stretch.card 0 (end_of (taken_back c n left)) k) (OnwardAfter p x y) m
       (take_frames c.identity.member c.stretch.card c.setup.bindings (ring_sample c []) (c.stretch.committed - back_of c n) (back_of c n)) (λ left. ends (rewound c n left))
       (frames-back p g x y c.stretch.card is.past c.identity.member c.setup.bindings is.bound.whole is.bound.some (ring_sample c []) (c.stretch.committed - back_of c n) (back_of c n) m
       (record {
@@ -295,37 +295,37 @@ module _ (p : ℕ) (g : Geometry) (x y : ℕ) where
               → c.stretch.card + (c.stretch.committed - back + back) ≤ most
           by_number part back few is = omega (arith, few, is)
 
-  pub rewind_on-goes : (floor : Cursor) (n : ℕ) (m : Marks) (done : Answered (Unit {0})) → Begun p x y m done.0 → Leads p g (Goes p x y) m (rewind_on floor [] n done)
+  pub rewind_on-goes : (floor : Cursor) (n : ℕ) (m : Marks) (done : Answered (Unit {0})) → Begun p x y m done.0 → Leads p g (OnwardAfter p x y) m (rewind_on floor [] n done)
   rewind_on-goes floor n m (c, Err e) is = inl is
   rewind_on-goes floor n m (c, Ok done) is = takes_back-goes c (min n (rewindable_of floor c)) m (below-sum n (pending_of c) c.stretch.committed _) is
 
-  pub rewind-goes : (floor : Cursor) (c : Plain) (n : ℕ) (m : Marks) → Onward p x y m c → Leads p g (Goes p x y) m (rewind_course c [] floor n)
+  pub rewind-goes : (floor : Cursor) (c : Plain) (n : ℕ) (m : Marks) → Onward p x y m c → Leads p g (OnwardAfter p x y) m (rewind_course c [] floor n)
   unfolding rewinds
   rewind-goes floor c n m is = by_test (is_running c.status.state) refl
     where
-      rewinds-go : Begun p x y m c → is_running c.status.state ≡ true → Leads p g (Goes p x y) m (rewinds c [] floor n)
-      rewinds-go begun runs = Leads-then p g (λ k done. Begun p x y k done.0) (Goes p x y) m (checks c) (rewind_on floor [] n) (checks-go c m runs begun) (rewind_on-goes floor n)
+      rewinds-go : Begun p x y m c → is_running c.status.state ≡ true → Leads p g (OnwardAfter p x y) m (rewinds c [] floor n)
+      rewinds-go begun runs = Leads-then p g (λ k done. Begun p x y k done.0) (OnwardAfter p x y) m (checks c) (rewind_on floor [] n) (checks-go c m runs begun) (rewind_on-goes floor n)
 
-      by_test : (runs : Bool) → is_running c.status.state ≡ runs → Leads p g (Goes p x y) m (if runs then rewinds c [] floor n
+      by_test : (runs : Bool) → is_running c.status.state ≡ runs → Leads p g (OnwardAfter p x y) m (if runs then rewinds c [] floor n
           else ends (without c (min n c.stretch.written), Ok (min n c.stretch.written)))
       by_test true runs = rewinds-go (moving-begun p x y m c (running-moves c.status.state runs) is) runs
       by_test false runs = is
 
   -- ---- the lines
 
-  pub answered-goes : {T : Type 0} (answer : Result T PcmError → Answer) (m : Marks) (course : Course (Answered T)) → Leads p g (Goes p x y) m course
-      → Leads p g (Goes p x y) m (answered answer course)
-  answered-goes answer m course leads = Leads-then p g (Goes p x y) (Goes p x y) m course (λ done. ends (done.0, answer done.1)) leads (λ n done goes. goes)
+  pub answered-goes : {T : Type 0} (answer : Result T PcmError → Answer) (m : Marks) (course : Course (Answered T)) → Leads p g (OnwardAfter p x y) m course
+      → Leads p g (OnwardAfter p x y) m (answered answer course)
+  answered-goes answer m course leads = Leads-then p g (OnwardAfter p x y) (OnwardAfter p x y) m course (λ done. ends (done.0, answer done.1)) leads (λ n done goes. goes)
 
   pub admitted-goes : {T : Type 0} (c : Plain) (asked : Call) (course : Course (Answered T)) (m : Marks) → Onward p x y m c
-      → (refusal_of Playback c.status asked ≡ None → Leads p g (Goes p x y) m course) → Leads p g (Goes p x y) m (admitted c asked course)
+      → (refusal_of Playback c.status asked ≡ None → Leads p g (OnwardAfter p x y) m course) → Leads p g (OnwardAfter p x y) m (admitted c asked course)
   admitted-goes {T = T} c asked course m is leads = by_refusal (refusal_of Playback c.status asked) refl
     where
-      by_refusal : (refusal : Option PcmError) → refusal_of Playback c.status asked ≡ refusal → Leads p g (Goes p x y) m (admitted_by refusal c course)
+      by_refusal : (refusal : Option PcmError) → refusal_of Playback c.status asked ≡ refusal → Leads p g (OnwardAfter p x y) m (admitted_by refusal c course)
       by_refusal None admits = leads admits
       by_refusal (Some e) admits = is
 
-  pub call-goes : (wav : Sound) (c : Plain) (asked : Op) (m : Marks) → Onward p x y m c → Leads p g (Goes p x y) m (call_of wav m c asked)
+  pub call-goes : (wav : Sound) (c : Plain) (asked : Op) (m : Marks) → Onward p x y m c → Leads p g (OnwardAfter p x y) m (call_of wav m c asked)
   call-goes wav c (op.Write n) m is = answered-goes count_answer m _ (admitted-goes c call.Transfer _ m is (λ admits. write-goes c _ m admits is))
   call-goes wav c op.Start m is = answered-goes done_answer m _
       (admitted-goes c call.Start _ m is (λ admits. let prepared = starts-prepared c.status admits in start-goes c m prepared (prepared-waits m c prepared is)))

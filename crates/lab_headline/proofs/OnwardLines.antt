@@ -25,7 +25,7 @@ use Rattle.lab_run.specs.Client.{Client, after_call, answered, begins, call_of, 
 use Rattle.lab_run.specs.Lines.{LineMay}
 use Rattle.snoop_core.specs.declared.port.Got.TheVariants as got
 use Rattle.lab_run.specs.Rules.{AtPort, May, Rules, lets_pass, with_asks, with_stop, with_stop_by}
-use Rattle.lab_headline.proofs.Onward.{Begun, Channels, Goes, Leads, Leads-then, Onward, Waits, begun, end_of, free_frame, high_end, max-least}
+use Rattle.lab_headline.proofs.Onward.{Begun, Channels, OnwardAfter, Leads, Leads-then, Onward, Waits, begun, end_of, free_frame, high_end, max-least}
 use Rattle.lab_headline.proofs.OnwardCalls.{based-waits, call-goes, reached, resume-leads}
 
 -- ---- what a line ends
@@ -82,7 +82,7 @@ module _ (p : ℕ) (g : Geometry) (x y : ℕ) where
   -- a line whose call ends no stretch
   pub call-after : (wav : Sound) (client : Client) (c : Plain) (asked : Op) (m : Marks) → ((answer : Answer) (d : Plain) → ended_by asked answer c d ≡ []) → Onward p x y m c
       → Leads p g (λ n (done : Client × Answer). After p x y client c n done.0) m (call_of wav m c asked >>= λ done. ends (after_call client c asked done))
-  call-after wav client c asked m none is = Leads-then p g (Goes p x y) (λ n (done : Client × Answer). After p x y client c n done.0) m (call_of wav m c asked)
+  call-after wav client c asked m none is = Leads-then p g (OnwardAfter p x y) (λ n (done : Client × Answer). After p x y client c n done.0) m (call_of wav m c asked)
       (λ done. ends (after_call client c asked done)) (call-goes p g x y wav c asked m is)
       (λ n done goes. (goes, inl (append-none client.ended (ended_by asked done.1 c done.0) (none done.1 done.0))))
 
@@ -163,9 +163,9 @@ module _ (p : ℕ) (g : Geometry) (x y : ℕ) where
       by_test false none false is = call-after p g x y wav client c op.Resume m (λ answer d. unpaused-ends answer c d is) (inl begun)
       by_test false none true is =
           let end : end_of c ≤ free_frame m = ends-reached p x y m c begun none in
-          Leads-then p g (λ n (done : Plain × Answer). Goes p x y n done × (is_paused done.0.status.state ≡ false → Onward p (end_of c) (end_of c) n done.0))
+          Leads-then p g (λ n (done : Plain × Answer). OnwardAfter p x y n done × (is_paused done.0.status.state ≡ false → Onward p (end_of c) (end_of c) n done.0))
           (λ n (done : Client × Answer). After p x y client c n done.0) m (call_of wav m c op.Resume) (λ done. ends (after_call client c op.Resume done))
-          (Leads-both p g (Goes p x y) (λ n (done : Plain × Answer). is_paused done.0.status.state ≡ false → Onward p (end_of c) (end_of c) n done.0) m (call_of wav m c op.Resume)
+          (Leads-both p g (OnwardAfter p x y) (λ n (done : Plain × Answer). is_paused done.0.status.state ≡ false → Onward p (end_of c) (end_of c) n done.0) m (call_of wav m c op.Resume)
           (call-goes p g x y wav c op.Resume m (inl begun))
           (resume-past p g (end_of c) (end_of c) wav c m begun.bound is (max-least (end_of c) (free_frame m) p end) begun.lies.top (omega (arith, end, begun.lies.top))))
           (λ n done both. by_state n done.0 (is_paused done.0.status.state) refl none is both.0 both.1)
