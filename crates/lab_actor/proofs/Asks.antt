@@ -7,7 +7,7 @@ use Rattle.mix_core.specs.declared.gate.Pass.TheVariants.{Go, Stop}
 use Rattle.mix_core.specs.declared.gate.StepKind.{StepKind}
 use Rattle.mix_core.specs.declared.gate.StepKind.TheVariants.{Again, Exchange, Look, Position}
 use Rattle.mix_core.specs.Gate.{stops_after}
-use Rattle.lab_run.specs.PortSteps.{IsAnswered, ask_count, is_counted, stop_at}
+use Rattle.lab_run.specs.PortSteps.{IsAnswered, ask_count, kind_count, stop_at}
 use Rattle.lab_run.specs.Rules.{AtPort, left_after, lets_pass, with_asks, with_gate_stop, with_stop, with_stop_by}
 use Rattle.lab_actor.specs.declared.countdown.Countdown.{Countdown}
 use Rattle.lab_actor.specs.Countdown.{CountsAsks, IsSameGate, by_gate_of, left_of}
@@ -29,7 +29,7 @@ same-at a left other n m one two = λ i. at_gate a (one i) (two i)
 no-asks : (a : AtPort) (left : Option ℕ) (n : ℕ) → with_asks 0 (at_gate a left n) ≡ at_gate a left n
 no-asks a left n = same-at a (left_after 0 left) left n n (left_after-none left) refl
 
-stop-counted : (step : StepKind) (a : AtPort) → is_counted step ≡ 1 → stop_at step a ≡ with_stop a
+stop-counted : (step : StepKind) (a : AtPort) → kind_count step ≡ 1 → stop_at step a ≡ with_stop a
 stop-counted Again a is = absurd (omega (arith, is))
 stop-counted Position a is = refl
 stop-counted Look a is = refl
@@ -40,9 +40,9 @@ nothing-left : (left : Option ℕ) → lets_pass 1 left ≡ false → left_after
 nothing-left None ends = absurd (cc)
 nothing-left (Some left) ends = ap Some (let e : left - 1 ≡ left = grind (arith, nat_tests, ends) in e)
 
-died : (step : StepKind) (a : AtPort) (left after : Option ℕ) (n m : ℕ) → is_counted step ≡ 1 → lets_pass 1 left ≡ false → after ≡ left_after 1 left → m ≡ n
+IsAnswered-die : (step : StepKind) (a : AtPort) (left after : Option ℕ) (n m : ℕ) → kind_count step ≡ 1 → lets_pass 1 left ≡ false → after ≡ left_after 1 left → m ≡ n
     → IsAnswered (step ∷ []) Stop (at_gate a left n) (at_gate a after m)
-died step a left after n m is ends after_is same = (
+IsAnswered-die step a left after n m is ends after_is same = (
   none-passes left,
   same-at a after left m n (after_is ∙ nothing-left left ends) same
       ∙ sym (stop-counted step (with_asks 0 (at_gate a left n)) is
@@ -50,14 +50,14 @@ died step a left after n m is ends after_is same = (
       ∙ ap (λ (test : Bool). with_stop_by test (at_gate a left n)) ends),
 )
 
-passed : (step : StepKind) (pass : Pass) (a : AtPort) (left after : Option ℕ) (n m : ℕ) → is_counted step ≡ 1 → lets_pass 1 left ≡ true → after ≡ left_after 1 left → m ≡ stops_after pass n
+IsAnswered-pass : (step : StepKind) (pass : Pass) (a : AtPort) (left after : Option ℕ) (n m : ℕ) → kind_count step ≡ 1 → lets_pass 1 left ≡ true → after ≡ left_after 1 left → m ≡ stops_after pass n
     → IsAnswered (step ∷ []) pass (at_gate a left n) (at_gate a after m)
-passed step Go a left after n m is lets after_is stops =
+IsAnswered-pass step Go a left after n m is lets after_is stops =
     let one : ask_count (step ∷ []) ≡ 1 = omega (arith, is) in (
       subst (λ (k : ℕ). lets_pass k left ≡ true) (sym one) lets,
       same-at a after (left_after 1 left) m n after_is stops ∙ ap (λ (k : ℕ). with_asks k (at_gate a left n)) (sym one),
     )
-passed step Stop a left after n m is lets after_is stops = (
+IsAnswered-pass step Stop a left after n m is lets after_is stops = (
   none-passes left,
   same-at a after (left_after 1 left) m (n + 1) after_is stops
       ∙ sym (stop-counted step (with_asks 0 (at_gate a left n)) is
@@ -70,18 +70,18 @@ again Go a left n m stops = (none-passes left, same-at a left (left_after 0 left
 again Stop a left n m stops = (none-passes left, same-at a left left m (n + 1) refl stops ∙ ap with_gate_stop (sym (no-asks a left n)))
 
 module _ {G L : Type 0} (stops : G → ℕ) (c d : Countdown G L) (same : IsSameGate c d) where
-  pub asks-died : (step : StepKind) → is_counted step ≡ 1 → lets_pass 1 (left_of c) ≡ false → left_of d ≡ left_after 1 (left_of c) → by_gate_of stops d ≡ by_gate_of stops c
+  pub asks-died : (step : StepKind) → kind_count step ≡ 1 → lets_pass 1 (left_of c) ≡ false → left_of d ≡ left_after 1 (left_of c) → by_gate_of stops d ≡ by_gate_of stops c
       → CountsAsks stops c d (step ∷ []) Stop
   asks-died step is ends left same_gate = record {
     same_gate = same;
-    answers = λ a. died step a (left_of c) (left_of d) (by_gate_of stops c) (by_gate_of stops d) is ends left same_gate;
+    answers = λ a. IsAnswered-die step a (left_of c) (left_of d) (by_gate_of stops c) (by_gate_of stops d) is ends left same_gate;
   }
 
-  pub asks-passed : (step : StepKind) (pass : Pass) → is_counted step ≡ 1 → lets_pass 1 (left_of c) ≡ true → left_of d ≡ left_after 1 (left_of c) → by_gate_of stops d ≡ stops_after pass (by_gate_of stops c)
+  pub asks-passed : (step : StepKind) (pass : Pass) → kind_count step ≡ 1 → lets_pass 1 (left_of c) ≡ true → left_of d ≡ left_after 1 (left_of c) → by_gate_of stops d ≡ stops_after pass (by_gate_of stops c)
       → CountsAsks stops c d (step ∷ []) pass
   asks-passed step pass is lets left gate = record {
     same_gate = same;
-    answers = λ a. passed step pass a (left_of c) (left_of d) (by_gate_of stops c) (by_gate_of stops d) is lets left gate;
+    answers = λ a. IsAnswered-pass step pass a (left_of c) (left_of d) (by_gate_of stops c) (by_gate_of stops d) is lets left gate;
   }
 
   pub asks-again : (pass : Pass) → left_of d ≡ left_of c → by_gate_of stops d ≡ stops_after pass (by_gate_of stops c) → CountsAsks stops c d (Again ∷ []) pass

@@ -35,7 +35,7 @@ fn count_down(left: &mut Option<u32>) -> bool
 impl<'g, G: Gate, L: Ledger> Countdown<'g, G, L> {
     ghost use Rattle.std.specs.Prelude.{◌≡◌, ◌<◌, ◌∷◌, [], Some};
     ghost use Rattle.mix_core.specs.Gate.{stops_after};
-    ghost use Rattle.lab_run.specs.PortSteps.{is_counted};
+    ghost use Rattle.lab_run.specs.PortSteps.{kind_count};
     ghost use Rattle.lab_actor.specs.Countdown.{CountsAsks, IsSameGate, all_stops, by_gate_of, left_of};
 
     /// The gate of an actor, of which a `die` before let `left` asks pass yet. The blank is that of a ledger, which has at
@@ -66,7 +66,7 @@ impl<'g, G: Gate, L: Ledger> Countdown<'g, G, L> {
 
     /// An ask that a `die` counts.
     fn pass_counted(&mut self, step: StepKind) -> Pass
-        requires { is_counted step ≡ 1 }
+        requires { kind_count step ≡ 1 }
         ensures answer { all_stops G.stops self.new ≡ stops_after result (all_stops G.stops self.old) }
         ensures asked { CountsAsks G.stops self.old self.new (step ∷ []) result }
     {

@@ -18,13 +18,13 @@ use Rattle.lab_run.specs.Places.{last_of}
 use Rattle.lab_run.specs.Rules.{AtPort, lets_pass, with_asks, with_gate_stop, with_stop}
 
 -- how many of some asks a `die` counts: all but those of kind Again
-abbrev pub is_counted : StepKind → ℕ
-is_counted Again = 0
-is_counted other = 1
+abbrev pub kind_count : StepKind → ℕ
+kind_count Again = 0
+kind_count other = 1
 
 abbrev pub ask_count : List StepKind → ℕ
 ask_count [] = 0
-ask_count (kind ∷ kinds) = is_counted kind + ask_count kinds
+ask_count (kind ∷ kinds) = kind_count kind + ask_count kinds
 
 -- the kind of the last of some asks
 abbrev pub last_kind : List StepKind → StepKind
