@@ -10,86 +10,86 @@ use Rattle.lab_shelf.specs.Files.{Files, bytes_under, with_file, changed, overwr
 use Rattle.lab_shelf.specs.Changes.{Changes, Changes-nothing, Changes-then, Changes-with_file, Changes-part}
 use Rattle.lab_output.specs.declared.file.OutputFile.{OutputFile}
 use Rattle.lab_output.specs.Files.{AreApart, begun, stored, nothing, open_head_of, head_of, open_file, finished_file, IsFormOf, MayHold}
-use Rattle.lab_output.specs.Going.{opened, OpenedInPart, closed, ClosedInPart, HaveHeadRoom, AreLonger, IsPartOf, IsGoingOn}
+use Rattle.lab_output.specs.Going.{opened_files, OpenedInPart, closed_files, ClosedInPart, HaveHeadRoom, AreLonger, IsPartOf, IsGoingOn}
 use Rattle.lab_output.specs.GoingLaws.{AreLonger-forms, IsGoingOn-Changes, Into, open_file-more, with_outputs-Changes, written-Changes}
 use Rattle.lab_output.proofs.Shelves.{changed-first, changed-output, bytes_under-with_outputs}
 use Rattle.lab_output.proofs.Forms.{length-open_head, AllForms-open, AllForms-finished, IsFormOf-head, IsFormOf-opened, IsFormOf-closing, IsFormOf-finished, MayHold-at, open_file-nothing, finished_file-made}
 use Rattle.lab_output.proofs.Longer.{longer-at, longer-before, longer-form, longer-length}
 
 -- outputs that were begun have an open head and no sample
-opened-begun : (outputs : List OutputFile) (m : Files) → opened outputs m ≡ begun outputs (nothing outputs) m
-opened-begun [] m = refl
-opened-begun (output ∷ outputs) m =
-    opened-begun outputs (with_file m output.name (open_head_of output))
+opened_files-begun : (outputs : List OutputFile) (m : Files) → opened_files outputs m ≡ begun outputs (nothing outputs) m
+opened_files-begun [] m = refl
+opened_files-begun (output ∷ outputs) m =
+    opened_files-begun outputs (with_file m output.name (open_head_of output))
     ∙ ap (λ (bytes : List ℕ). begun outputs (nothing outputs) (with_file m output.name bytes)) (sym (open_file-nothing output))
 
 -- the same of files that may not be told
-pub opened_where-begun : (outputs : List OutputFile) (before after : Option Files) → after ≡ option_map (opened outputs) before
+pub opened_where-begun : (outputs : List OutputFile) (before after : Option Files) → after ≡ option_map (opened_files outputs) before
     → after ≡ option_map (begun outputs (nothing outputs)) before
 opened_where-begun outputs None after is = is
-opened_where-begun outputs (Some m) after is = is ∙ ap Some (opened-begun outputs m)
+opened_where-begun outputs (Some m) after is = is ∙ ap Some (opened_files-begun outputs m)
 
 -- outputs of which some were begun have changed so
-opened-Changes : (may_hold : List ℕ → List ℕ → Type 0) (outputs : List OutputFile) (before after : Option Files)
+opened_files-Changes : (may_hold : List ℕ → List ℕ → Type 0) (outputs : List OutputFile) (before after : Option Files)
     → Into outputs (nothing outputs) may_hold → OpenedInPart outputs before after → Changes may_hold before after
-opened-Changes may_hold [] before after into is =
+opened_files-Changes may_hold [] before after into is =
     subst (λ (a : Option Files). Changes may_hold before a) (sym is) (Changes-nothing may_hold before)
-opened-Changes may_hold (output ∷ outputs) before after into (inl part) =
+opened_files-Changes may_hold (output ∷ outputs) before after into (inl part) =
     Changes-part may_hold before after output.name (open_head_of output)
     (λ k. into output.name (take k (open_head_of output)) (inl (refl, IsFormOf-head output k))) part
-opened-Changes may_hold (output ∷ outputs) before after into (inr rest) =
+opened_files-Changes may_hold (output ∷ outputs) before after into (inr rest) =
     Changes-then may_hold before (option_map (λ files. with_file files output.name (open_head_of output)) before) after
     (Changes-with_file may_hold before output.name (open_head_of output)
     (into output.name (open_head_of output) (inl (refl, IsFormOf-opened output))))
-    (opened-Changes may_hold outputs (option_map (λ files. with_file files output.name (open_head_of output)) before) after
+    (opened_files-Changes may_hold outputs (option_map (λ files. with_file files output.name (open_head_of output)) before) after
     (λ name bytes may. into name bytes (inr may)) rest)
 
 -- what begins that fail leave
 pub OpenedInPart-Changes : (outputs : List OutputFile) (before after : Option Files) → OpenedInPart outputs before after
     → Changes (MayHold outputs (nothing outputs)) before after
 OpenedInPart-Changes outputs before after part =
-    opened-Changes (MayHold outputs (nothing outputs)) outputs before after (λ name bytes may. may) part
+    opened_files-Changes (MayHold outputs (nothing outputs)) outputs before after (λ name bytes may. may) part
 
 -- outputs with true heads are finished
-closed-stored : (outputs : List OutputFile) (sounds : List (List ℤ)) (m : Files) → AreApart outputs
-    → closed outputs (map length sounds) (begun outputs sounds m) ≡ stored outputs sounds m
-closed-stored [] sounds m apart = refl
-closed-stored (output ∷ outputs) [] m apart = refl
-closed-stored (output ∷ outputs) (samples ∷ sounds) m apart =
-    ap (closed outputs (map length sounds))
+closed_files-stored : (outputs : List OutputFile) (sounds : List (List ℤ)) (m : Files) → AreApart outputs
+    → closed_files outputs (map length sounds) (begun outputs sounds m) ≡ stored outputs sounds m
+closed_files-stored [] sounds m apart = refl
+closed_files-stored (output ∷ outputs) [] m apart = refl
+closed_files-stored (output ∷ outputs) (samples ∷ sounds) m apart =
+    ap (closed_files outputs (map length sounds))
     (changed-first open_file (overwritten (head_of output (length samples))) output outputs samples sounds m apart
     ∙ ap (λ (bytes : List ℕ). begun outputs sounds (with_file m output.name bytes)) (finished_file-made output samples))
-    ∙ closed-stored outputs sounds (with_file m output.name (finished_file output samples)) apart.1
+    ∙ closed_files-stored outputs sounds (with_file m output.name (finished_file output samples)) apart.1
 
 -- the same of files that may not be told
 closed_where-stored : (outputs : List OutputFile) (sounds : List (List ℤ)) (before : Option Files) → AreApart outputs
-    → option_map (closed outputs (map length sounds)) (option_map (begun outputs sounds) before) ≡ option_map (stored outputs sounds) before
+    → option_map (closed_files outputs (map length sounds)) (option_map (begun outputs sounds) before) ≡ option_map (stored outputs sounds) before
 closed_where-stored outputs sounds None apart = refl
-closed_where-stored outputs sounds (Some m) apart = ap Some (closed-stored outputs sounds m apart)
+closed_where-stored outputs sounds (Some m) apart = ap Some (closed_files-stored outputs sounds m apart)
 
 -- a run's files are finished
 pub IsGoingOn-stored : (outputs : List OutputFile) (counts : List ℕ) (sounds : List (List ℤ)) (before now after : Option Files)
-    → AreApart outputs → IsGoingOn outputs counts sounds before now → after ≡ option_map (closed outputs counts) now
+    → AreApart outputs → IsGoingOn outputs counts sounds before now → after ≡ option_map (closed_files outputs counts) now
     → after ≡ option_map (stored outputs sounds) before
 IsGoingOn-stored outputs counts sounds before now after apart going is =
     is
-    ∙ ap (option_map (closed outputs counts)) going.files
-    ∙ ap (λ (ns : List ℕ). option_map (closed outputs ns) (option_map (begun outputs sounds) before)) (sym going.counted)
+    ∙ ap (option_map (closed_files outputs counts)) going.files
+    ∙ ap (λ (ns : List ℕ). option_map (closed_files outputs ns) (option_map (begun outputs sounds) before)) (sym going.counted)
     ∙ closed_where-stored outputs sounds before apart
 
 -- outputs of which some have true heads have changed so
-closed-Changes : (may_hold : List ℕ → List ℕ → Type 0) (outputs : List OutputFile) (sounds : List (List ℤ)) (m : Files) (after : Option Files)
+closed_files-Changes : (may_hold : List ℕ → List ℕ → Type 0) (outputs : List OutputFile) (sounds : List (List ℤ)) (m : Files) (after : Option Files)
     → AreApart outputs → Into outputs sounds may_hold → ClosedInPart outputs (map length sounds) (Some (begun outputs sounds m)) after
     → Changes may_hold (Some m) after
-closed-Changes may_hold [] sounds m after apart into is =
+closed_files-Changes may_hold [] sounds m after apart into is =
     subst (λ (a : Option Files). Changes may_hold (Some m) a) (sym is) (Changes-nothing may_hold (Some m))
-closed-Changes may_hold (output ∷ outputs) [] m after apart into is =
+closed_files-Changes may_hold (output ∷ outputs) [] m after apart into is =
     subst (λ (a : Option Files). Changes may_hold (Some m) a) (sym is) (Changes-nothing may_hold (Some m))
-closed-Changes may_hold (output ∷ outputs) (samples ∷ sounds) m after apart into (inl (inl same)) =
+closed_files-Changes may_hold (output ∷ outputs) (samples ∷ sounds) m after apart into (inl (inl same)) =
     subst (λ (a : Option Files). Changes may_hold (Some m) a) (sym same)
     (with_outputs-Changes may_hold open_file (output ∷ outputs) (samples ∷ sounds) (samples ∷ sounds) m
     (AllForms-open (output ∷ outputs) (samples ∷ sounds)) into)
-closed-Changes may_hold (output ∷ outputs) (samples ∷ sounds) m after apart into (inl (inr part)) =
+closed_files-Changes may_hold (output ∷ outputs) (samples ∷ sounds) m after apart into (inl (inr part)) =
     let head : List ℕ = take part.0 (head_of output (length samples)) in
     let bytes : List ℕ = overwritten head (open_file output samples) in
     let is : after ≡ Some (begun outputs sounds (with_file m output.name bytes)) =
@@ -100,7 +100,7 @@ closed-Changes may_hold (output ∷ outputs) (samples ∷ sounds) m after apart 
     (into output.name bytes (inl (refl, IsFormOf-closing output samples part.0 part.1))))
     (with_outputs-Changes may_hold open_file outputs sounds sounds (with_file m output.name bytes) (AllForms-open outputs sounds)
     (λ name b may. into name b (inr may))))
-closed-Changes may_hold (output ∷ outputs) (samples ∷ sounds) m after apart into (inr rest) =
+closed_files-Changes may_hold (output ∷ outputs) (samples ∷ sounds) m after apart into (inr rest) =
     let bytes : List ℕ = finished_file output samples in
     let is : changed (overwritten (head_of output (length samples))) (begun (output ∷ outputs) (samples ∷ sounds) m) output.name
     ≡ begun outputs sounds (with_file m output.name bytes) =
@@ -108,20 +108,20 @@ closed-Changes may_hold (output ∷ outputs) (samples ∷ sounds) m after apart 
     ∙ ap (λ (b : List ℕ). begun outputs sounds (with_file m output.name b)) (finished_file-made output samples) in
     Changes-then may_hold (Some m) (Some (with_file m output.name bytes)) after
     (Changes-with_file may_hold (Some m) output.name bytes (into output.name bytes (inl (refl, IsFormOf-finished output samples))))
-    (closed-Changes may_hold outputs sounds (with_file m output.name bytes) after apart.1 (λ name b may. into name b (inr may))
+    (closed_files-Changes may_hold outputs sounds (with_file m output.name bytes) after apart.1 (λ name b may. into name b (inr may))
     (subst (λ (f : Files). ClosedInPart outputs (map length sounds) (Some f) after) is rest))
 
 -- no file is told
-closed-untold : (may_hold : List ℕ → List ℕ → Type 0) (after : Option Files) → Changes may_hold None after
-closed-untold may_hold after m is = cc
+closed_files-untold : (may_hold : List ℕ → List ℕ → Type 0) (after : Option Files) → Changes may_hold None after
+closed_files-untold may_hold after m is = cc
 
 -- what finishes that fail leave
 pub IsGoingOn-closing : (outputs : List OutputFile) (counts : List ℕ) (sounds : List (List ℤ)) (before now after : Option Files)
     → AreApart outputs → IsGoingOn outputs counts sounds before now → ClosedInPart outputs counts now after
     → Changes (MayHold outputs sounds) before after
-IsGoingOn-closing outputs counts sounds None now after apart going part = closed-untold (MayHold outputs sounds) after
+IsGoingOn-closing outputs counts sounds None now after apart going part = closed_files-untold (MayHold outputs sounds) after
 IsGoingOn-closing outputs counts sounds (Some m) now after apart going part =
-    closed-Changes (MayHold outputs sounds) outputs sounds m after apart (λ name bytes may. may)
+    closed_files-Changes (MayHold outputs sounds) outputs sounds m after apart (λ name bytes may. may)
     (subst (λ (ns : List ℕ). ClosedInPart outputs ns (Some (begun outputs sounds m)) after) (sym going.counted)
     (subst (λ (f : Option Files). ClosedInPart outputs counts f after) going.files part))
 
@@ -204,7 +204,7 @@ pub IsGoingOn-part : (outputs : List OutputFile) (counts : List ℕ) (sounds tar
     → IsPartAppended now after output.name (flat_map sample_bytes (drop k samples))
     → Changes (MayHold outputs targets) before after
 IsGoingOn-part outputs counts sounds targets None now after n output samples k apart going within is first longer part =
-    closed-untold (MayHold outputs targets) after
+    closed_files-untold (MayHold outputs targets) after
 IsGoingOn-part outputs counts sounds targets (Some m) now after n output samples k apart going within is first longer part =
     part-Changes outputs sounds targets m after n output samples k apart going.number within is first longer
     (subst (λ (f : Option Files). IsPartAppended f after output.name (flat_map sample_bytes (drop k samples))) going.files part)
@@ -233,7 +233,7 @@ length-nothing (output ∷ outputs) = ap suc (length-nothing outputs)
 
 -- a run begins
 pub IsGoingOn-begun : (outputs : List OutputFile) (counts : List ℕ) (before after : Option Files) → length counts ≡ length outputs
-    → All (λ (n : ℕ). n ≡ 0) counts → after ≡ option_map (opened outputs) before
+    → All (λ (n : ℕ). n ≡ 0) counts → after ≡ option_map (opened_files outputs) before
     → IsGoingOn outputs counts (nothing outputs) before after
 IsGoingOn-begun outputs counts before after even zeros is = record {
   counted = counted-nothing outputs counts even (λ k d within. zeros k d within);
@@ -242,7 +242,7 @@ IsGoingOn-begun outputs counts before after even zeros is = record {
 }
 
 -- a run that has begun has changed its files so
-pub opened_all-Changes : (outputs : List OutputFile) (before after : Option Files) → after ≡ option_map (opened outputs) before
+pub opened_all-Changes : (outputs : List OutputFile) (before after : Option Files) → after ≡ option_map (opened_files outputs) before
     → Changes (MayHold outputs (nothing outputs)) before after
 opened_all-Changes outputs before after is =
     subst (λ (f : Option Files). Changes (MayHold outputs (nothing outputs)) before f) (sym (opened_where-begun outputs before after is))
@@ -279,37 +279,37 @@ IsGoingOn-rooms outputs counts sounds (Some m) now apart going =
 -- a run begins, where all files were begun
 pub begin-going_on : {T E : Type 0} (result : Result T E) (files outputs : List OutputFile) (counts : List ℕ) (before after : Option Files)
     → files ≡ outputs → length counts ≡ length outputs → All (λ (n : ℕ). n ≡ 0) counts
-    → OnOk result (after ≡ option_map (opened files) before)
+    → OnOk result (after ≡ option_map (opened_files files) before)
     → OnOk result (IsGoingOn outputs counts (nothing outputs) before after)
 begin-going_on (Ok x) files outputs counts before after same even zeros is =
     IsGoingOn-begun outputs counts before after even zeros
-    (subst (λ (os : List OutputFile). after ≡ option_map (opened os) before) same is)
+    (subst (λ (os : List OutputFile). after ≡ option_map (opened_files os) before) same is)
 begin-going_on (Err e) files outputs counts before after same even zeros is = tt
 
 -- what begins leave, whatever they answer
 pub begin-Changes : {T E : Type 0} (result : Result T E) (files outputs : List OutputFile) (before after : Option Files)
-    → files ≡ outputs → OnOk result (after ≡ option_map (opened files) before) → OnErr result (OpenedInPart files before after)
+    → files ≡ outputs → OnOk result (after ≡ option_map (opened_files files) before) → OnErr result (OpenedInPart files before after)
     → Changes (MayHold outputs (nothing outputs)) before after
 begin-Changes (Ok x) files outputs before after same is part =
-    opened_all-Changes outputs before after (subst (λ (os : List OutputFile). after ≡ option_map (opened os) before) same is)
+    opened_all-Changes outputs before after (subst (λ (os : List OutputFile). after ≡ option_map (opened_files os) before) same is)
 begin-Changes (Err e) files outputs before after same is part =
     OpenedInPart-Changes outputs before after (subst (λ (os : List OutputFile). OpenedInPart os before after) same part)
 
 -- a run's files are finished, where all finishes worked
 pub finish-stored : {T E : Type 0} (result : Result T E) (files outputs : List OutputFile) (numbers counts : List ℕ) (sounds : List (List ℤ))
     (before now after : Option Files) → files ≡ outputs → numbers ≡ counts → AreApart outputs → IsGoingOn outputs counts sounds before now
-    → OnOk result (after ≡ option_map (closed files numbers) now)
+    → OnOk result (after ≡ option_map (closed_files files numbers) now)
     → OnOk result (after ≡ option_map (stored outputs sounds) before)
 finish-stored (Ok x) files outputs numbers counts sounds before now after same counted apart going is =
     IsGoingOn-stored outputs counts sounds before now after apart going
-    (subst (λ (ns : List ℕ). after ≡ option_map (closed outputs ns) now) counted
-    (subst (λ (os : List OutputFile). after ≡ option_map (closed os numbers) now) same is))
+    (subst (λ (ns : List ℕ). after ≡ option_map (closed_files outputs ns) now) counted
+    (subst (λ (os : List OutputFile). after ≡ option_map (closed_files os numbers) now) same is))
 finish-stored (Err e) files outputs numbers counts sounds before now after same counted apart going is = tt
 
 -- what finishes leave, whatever they answer
 pub finish-Changes : {T E : Type 0} (result : Result T E) (files outputs : List OutputFile) (numbers counts : List ℕ) (sounds : List (List ℤ))
     (before now after : Option Files) → files ≡ outputs → numbers ≡ counts → AreApart outputs → IsGoingOn outputs counts sounds before now
-    → OnOk result (after ≡ option_map (closed files numbers) now) → OnErr result (ClosedInPart files numbers now after)
+    → OnOk result (after ≡ option_map (closed_files files numbers) now) → OnErr result (ClosedInPart files numbers now after)
     → Changes (MayHold outputs sounds) before after
 finish-Changes (Ok x) files outputs numbers counts sounds before now after same counted apart going is part =
     stored-Changes outputs sounds before after

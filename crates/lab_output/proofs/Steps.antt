@@ -10,13 +10,13 @@ use Rattle.std.specs.Option.{option_map_or}
 use Rattle.lab_shelf.specs.Files.{Files, bytes_under, with_file, changed, overwritten, IsPartWritten, IsPartFinished}
 use Rattle.lab_output.specs.declared.file.OutputFile.{OutputFile}
 use Rattle.lab_output.specs.Files.{open_head_of, head_of}
-use Rattle.lab_output.specs.Going.{opened, OpenedInPart, closed, ClosedInPart, HasHeadRoom, HaveFiles, HaveHeadRoom}
+use Rattle.lab_output.specs.Going.{opened_files, OpenedInPart, closed_files, ClosedInPart, HasHeadRoom, HaveFiles, HaveHeadRoom}
 use Rattle.lab_output.proofs.Held.{changed-files}
 
 -- the first files are begun, and what is left to do does all
 pub record Opening (before now : Option Files) (outputs : List OutputFile) (n : ℕ) (fetches fetches_now writes writes_now : ℕ)
     (steady steady_now : Type 0) : Type 0 where
-  pub rest : option_map (opened (drop n outputs)) now ≡ option_map (opened outputs) before
+  pub rest : option_map (opened_files (drop n outputs)) now ≡ option_map (opened_files outputs) before
   pub part : (after : Option Files) → OpenedInPart (drop n outputs) now after → OpenedInPart outputs before after
   pub fetch_faults : fetches_now ≡ fetches
   pub write_faults : writes_now ≡ writes
@@ -31,16 +31,16 @@ left outputs n output within is =
     ∙ ap (λ (k : ℕ). output ∷ drop k outputs) (sym (add-one n))
 
 -- a file is begun, and then those behind it
-opened-joined : (output : OutputFile) (outputs : List OutputFile) (now : Option Files)
-    → option_map (opened outputs) (option_map (λ files. with_file files output.name (open_head_of output)) now)
-    ≡ option_map (opened (output ∷ outputs)) now
-opened-joined output outputs None = refl
-opened-joined output outputs (Some m) = refl
+opened_files-joined : (output : OutputFile) (outputs : List OutputFile) (now : Option Files)
+    → option_map (opened_files outputs) (option_map (λ files. with_file files output.name (open_head_of output)) now)
+    ≡ option_map (opened_files (output ∷ outputs)) now
+opened_files-joined output outputs None = refl
+opened_files-joined output outputs (Some m) = refl
 
 -- no file is left to begin
-opened-none : (now : Option Files) → option_map (opened []) now ≡ now
-opened-none None = refl
-opened-none (Some m) = refl
+opened_files-none : (now : Option Files) → option_map (opened_files []) now ≡ now
+opened_files-none None = refl
+opened_files-none (Some m) = refl
 
 -- the next file is begun
 pub Opening-next : (before now then : Option Files) (outputs : List OutputFile) (n : ℕ) (output : OutputFile)
@@ -52,9 +52,9 @@ pub Opening-next : (before now then : Option Files) (outputs : List OutputFile) 
     → Opening before then outputs (n + 1) fetches fetches_then writes writes_then reliable reliable_then
 Opening-next before now then outputs n output fetches fetches_now fetches_then writes writes_now writes_then reliable reliable_now reliable_then so_far within is begun same_fetches same_writes stays = record {
   rest =
-      ap (option_map (opened (drop (n + 1) outputs))) begun
-      ∙ opened-joined output (drop (n + 1) outputs) now
-      ∙ ap (λ (os : List OutputFile). option_map (opened os) now) (sym (left outputs n output within is))
+      ap (option_map (opened_files (drop (n + 1) outputs))) begun
+      ∙ opened_files-joined output (drop (n + 1) outputs) now
+      ∙ ap (λ (os : List OutputFile). option_map (opened_files os) now) (sym (left outputs n output within is))
       ∙ so_far.rest;
   part = λ after part. so_far.part after
       (subst (λ (os : List OutputFile). OpenedInPart os now after) (sym (left outputs n output within is))
@@ -78,16 +78,16 @@ Opening-stop before now after outputs n output fetches fetches_now writes writes
 pub Opening-all : (before now : Option Files) (outputs : List OutputFile) (n : ℕ)
     (fetches fetches_now writes writes_now : ℕ) (reliable reliable_now : Type 0)
     → Opening before now outputs n fetches fetches_now writes writes_now reliable reliable_now
-    → length outputs ≤ n → now ≡ option_map (opened outputs) before
+    → length outputs ≤ n → now ≡ option_map (opened_files outputs) before
 Opening-all before now outputs n fetches fetches_now writes writes_now reliable reliable_now so_far all =
-    sym (opened-none now)
-    ∙ ap (λ (os : List OutputFile). option_map (opened os) now) (sym (drop_of_length-le outputs all))
+    sym (opened_files-none now)
+    ∙ ap (λ (os : List OutputFile). option_map (opened_files os) now) (sym (drop_of_length-le outputs all))
     ∙ so_far.rest
 
 -- the first files have their true heads, what is left to do does all, there is room for each head, and each file stays there
 pub record Closing (before now : Option Files) (outputs : List OutputFile) (counts : List ℕ) (n : ℕ)
     (fetches fetches_now writes writes_now : ℕ) (steady steady_now : Type 0) : Type 0 where
-  pub rest : option_map (closed (drop n outputs) (drop n counts)) now ≡ option_map (closed outputs counts) before
+  pub rest : option_map (closed_files (drop n outputs) (drop n counts)) now ≡ option_map (closed_files outputs counts) before
   pub part : (after : Option Files) → ClosedInPart (drop n outputs) (drop n counts) now after → ClosedInPart outputs counts before after
   pub rooms : HaveHeadRoom now outputs
   pub there : HaveFiles before outputs → HaveFiles now outputs
@@ -103,16 +103,16 @@ left_counts counts n count within is =
     ∙ ap (λ (k : ℕ). count ∷ drop k counts) (sym (add-one n))
 
 -- a file gets its true head, and then those behind it
-closed-joined : (output : OutputFile) (outputs : List OutputFile) (count : ℕ) (counts : List ℕ) (now : Option Files)
-    → option_map (closed outputs counts) (option_map (λ files. changed (overwritten (head_of output count)) files output.name) now)
-    ≡ option_map (closed (output ∷ outputs) (count ∷ counts)) now
-closed-joined output outputs count counts None = refl
-closed-joined output outputs count counts (Some m) = refl
+closed_files-joined : (output : OutputFile) (outputs : List OutputFile) (count : ℕ) (counts : List ℕ) (now : Option Files)
+    → option_map (closed_files outputs counts) (option_map (λ files. changed (overwritten (head_of output count)) files output.name) now)
+    ≡ option_map (closed_files (output ∷ outputs) (count ∷ counts)) now
+closed_files-joined output outputs count counts None = refl
+closed_files-joined output outputs count counts (Some m) = refl
 
 -- no file is left to finish
-closed-none : (counts : List ℕ) (now : Option Files) → option_map (closed [] counts) now ≡ now
-closed-none counts None = refl
-closed-none counts (Some m) = refl
+closed_files-none : (counts : List ℕ) (now : Option Files) → option_map (closed_files [] counts) now ≡ now
+closed_files-none counts None = refl
+closed_files-none counts (Some m) = refl
 
 -- a head in the place of the first bytes leaves room
 overwritten-room : (head content : List ℕ) → 44 ≤ length content → 44 ≤ length (overwritten head content)
@@ -174,10 +174,10 @@ Closing-next before now then outputs counts n output count fetches fetches_now f
     let count_here : drop n counts ≡ count ∷ drop (n + 1) counts = left_counts counts n count (omega (arith, even, within)) counted in
     record {
       rest =
-          ap (option_map (closed (drop (n + 1) outputs) (drop (n + 1) counts))) closes
-          ∙ closed-joined output (drop (n + 1) outputs) count (drop (n + 1) counts) now
-          ∙ ap (λ (os : List OutputFile). option_map (closed os (count ∷ drop (n + 1) counts)) now) (sym here)
-          ∙ ap (λ (cs : List ℕ). option_map (closed (drop n outputs) cs) now) (sym count_here)
+          ap (option_map (closed_files (drop (n + 1) outputs) (drop (n + 1) counts))) closes
+          ∙ closed_files-joined output (drop (n + 1) outputs) count (drop (n + 1) counts) now
+          ∙ ap (λ (os : List OutputFile). option_map (closed_files os (count ∷ drop (n + 1) counts)) now) (sym here)
+          ∙ ap (λ (cs : List ℕ). option_map (closed_files (drop n outputs) cs) now) (sym count_here)
           ∙ so_far.rest;
       part = λ after part. so_far.part after
           (subst (λ (os : List OutputFile). ClosedInPart os (drop n counts) now after) (sym here)
@@ -208,8 +208,8 @@ Closing-stop before now after outputs counts n output count fetches fetches_now 
 pub Closing-all : (before now : Option Files) (outputs : List OutputFile) (counts : List ℕ) (n : ℕ)
     (fetches fetches_now writes writes_now : ℕ) (reliable reliable_now : Type 0)
     → Closing before now outputs counts n fetches fetches_now writes writes_now reliable reliable_now
-    → length outputs ≤ n → now ≡ option_map (closed outputs counts) before
+    → length outputs ≤ n → now ≡ option_map (closed_files outputs counts) before
 Closing-all before now outputs counts n fetches fetches_now writes writes_now reliable reliable_now so_far all =
-    sym (closed-none (drop n counts) now)
-    ∙ ap (λ (os : List OutputFile). option_map (closed os (drop n counts)) now) (sym (drop_of_length-le outputs all))
+    sym (closed_files-none (drop n counts) now)
+    ∙ ap (λ (os : List OutputFile). option_map (closed_files os (drop n counts)) now) (sym (drop_of_length-le outputs all))
     ∙ so_far.rest

@@ -9,9 +9,9 @@ use Rattle.lab_output.specs.declared.outputs.Outputs.{Outputs}
 use Rattle.lab_output.specs.Files.{IsOutputFile, AreApart, output_files, open_head_of, head_of, begun}
 
 -- the files, with each output begun
-abbrev pub opened : List OutputFile → Files → Files
-opened [] files = files
-opened (output ∷ outputs) files = opened outputs (with_file files output.name (open_head_of output))
+abbrev pub opened_files : List OutputFile → Files → Files
+opened_files [] files = files
+opened_files (output ∷ outputs) files = opened_files outputs (with_file files output.name (open_head_of output))
 
 -- some of the outputs were begun, and one of them maybe in part
 abbrev pub OpenedInPart : List OutputFile → Option Files → Option Files → Type 0
@@ -21,11 +21,11 @@ OpenedInPart (output ∷ outputs) before after =
     ⊎ OpenedInPart outputs (option_map (λ files. with_file files output.name (open_head_of output)) before) after
 
 -- the files, with the true head of so many samples in each output
-abbrev pub closed : List OutputFile → List ℕ → Files → Files
-closed [] counts files = files
-closed (output ∷ outputs) [] files = files
-closed (output ∷ outputs) (samples ∷ counts) files =
-    closed outputs counts (changed (overwritten (head_of output samples)) files output.name)
+abbrev pub closed_files : List OutputFile → List ℕ → Files → Files
+closed_files [] counts files = files
+closed_files (output ∷ outputs) [] files = files
+closed_files (output ∷ outputs) (samples ∷ counts) files =
+    closed_files outputs counts (changed (overwritten (head_of output samples)) files output.name)
 
 -- some of the outputs have their true heads, and one of them maybe in part
 abbrev pub ClosedInPart : List OutputFile → List ℕ → Option Files → Option Files → Type 0

@@ -3,7 +3,7 @@ ghost use Rattle.std.specs.Prelude.{◌≡◌, ◌≢◌, All, Err, IfErr, OnErr
 ghost use Rattle.std.specs.Option.{option_map};
 ghost use Rattle.lab_shelf.specs.Files.{IsPartWritten, with_file};
 ghost use Rattle.lab_output.specs.Files.{IsOutputFile, open_head_of};
-ghost use Rattle.lab_output.specs.Going.{OpenedInPart, opened};
+ghost use Rattle.lab_output.specs.Going.{OpenedInPart, opened_files};
 ghost use Rattle.lab_stop.specs.Stops.{IsWriteStop, WriteFaults};
 ghost use Rattle.lab_stop.specs.declared.stop.Stop.TheVariants as stops;
 
@@ -37,7 +37,7 @@ fn begin_file<S: Shelf>(shelf: &mut S, file: &OutputFile) -> Result<(), Stop>
 pub fn begin_files<S: Shelf>(shelf: &mut S, files: &[OutputFile]) -> Result<(), Stop>
     requires { All IsOutputFile files.now }
     ensures opened { OnOk result
-        (S.files shelf.new ≡ option_map (opened files.now) (S.files shelf.old)) }
+        (S.files shelf.new ≡ option_map (opened_files files.now) (S.files shelf.old)) }
     ensures part { OnErr result
         (OpenedInPart files.now (S.files shelf.old) (S.files shelf.new)) }
     ensures only { IfErr result IsWriteStop }

@@ -3,7 +3,7 @@ ghost use Rattle.std.specs.Prelude.{◌≡◌, ◌≢◌, All, Err, IfErr, OnErr
 ghost use Rattle.std.specs.Option.{option_map};
 ghost use Rattle.lab_shelf.specs.Files.{IsPartFinished, changed, overwritten};
 ghost use Rattle.lab_output.specs.Files.{IsOutputFile, head_of};
-ghost use Rattle.lab_output.specs.Going.{ClosedInPart, HasFile, HasHeadRoom, HaveFiles, HaveHeadRoom, IsFew, closed};
+ghost use Rattle.lab_output.specs.Going.{ClosedInPart, HasFile, HasHeadRoom, HaveFiles, HaveHeadRoom, IsFew, closed_files};
 ghost use Rattle.lab_stop.specs.Stops.{IsWriteStop, WriteFaults};
 ghost use Rattle.lab_stop.specs.declared.stop.Stop.TheVariants as stops;
 
@@ -49,7 +49,7 @@ pub fn finish_files<S: Shelf>(
     requires number { length samples.now ≡ length files.now }
     requires room { HaveHeadRoom (S.files shelf.old) files.now }
     ensures closed { OnOk result
-        (S.files shelf.new ≡ option_map (closed files.now samples.now) (S.files shelf.old)) }
+        (S.files shelf.new ≡ option_map (closed_files files.now samples.now) (S.files shelf.old)) }
     ensures part { OnErr result
         (ClosedInPart files.now samples.now (S.files shelf.old) (S.files shelf.new)) }
     ensures only { IfErr result IsWriteStop }
