@@ -43,9 +43,9 @@ short : (text : List ℕ) (script : Script) → script_of text ≡ Ok script →
 short text script is = short_if (nat_lt 1048576 (length text)) (length text) _ _ script refl is
 
 -- a text that is held and spells a script is read as that script
-script-held : (files : Files) (name text : List ℕ) (script : Script) → bytes_under files name ≡ Some text → script_of text ≡ Ok script → script_in files name ≡ Ok script
+script_in-spelled : (files : Files) (name text : List ℕ) (script : Script) → bytes_under files name ≡ Some text → script_of text ≡ Ok script → script_in files name ≡ Ok script
 unfolding script_in
-script-held files name text script is spelled =
+script_in-spelled files name text script is spelled =
     let few = short text script spelled in
     let whole : take 1048577 text ≡ text = take_all 1048577 text (omega (arith, few)) in
     ap (λ (content : Option (List ℕ)). found name (option_map (λ (c : List ℕ). take 1048577 (drop 0 c)) content) >>= λ (t : List ℕ). as_script (script_of t)) is
@@ -125,10 +125,10 @@ pub record IsReadable (files : Files) (name : List ℕ) (sound : Sound) : Type 0
   pub size : length (canonical sound) ≡ 16428
 
 -- the sound in it, where the files before it leave room
-sound-held : (files : Files) (total : ℕ) (name : List ℕ) (sound : Sound) → IsReadable files name sound → total + 16428 ≤ most_of_run
+sound_in-readable : (files : Files) (total : ℕ) (name : List ℕ) (sound : Sound) → IsReadable files name sound → total + 16428 ≤ most_of_run
     → sound_in files total None name ≡ Ok (sound, total + 16428)
 unfolding sound_in wav_in
-sound-held files total name sound is room =
+sound_in-readable files total name sound is room =
     let test : nat_le (total + 16428) most_of_run ≡ true = grind (arith, nat_tests, room) in
     let content : content_in files name ≡ Ok (canonical sound) = ap (found name) is.is_held in
     let read : (content_in files name >>= λ (bytes : List ℕ). weighed name None (length bytes) (sound_file None bytes)) ≡ Ok (sound, 16428) =
@@ -139,21 +139,21 @@ sound-held files total name sound is room =
     ∙ ap (λ (fits : Bool). counted name (total + 16428) (if fits then Ok sound else Err TooLong)) test
 
 -- the sounds of all clients' files
-sounds-held : (files : Files) (card : CardLine) (seed first count total : ℕ)
+sounds_in-readable : (files : Files) (card : CardLine) (seed first count total : ℕ)
     → ((j : ℕ) → j < count → IsReadable files (file_name (first + j)) (made_sound seed (first + j))) → total + count * 16428 ≤ most_of_run
     → sounds_in files total card (map made_client (range_with_len first count)) ≡ Ok (map (made_sound seed) (range_with_len first count))
 unfolding sounds_in
-sounds-held files card seed first zero total are room = refl
-sounds-held files card seed first (suc count) total are room =
+sounds_in-readable files card seed first zero total are room = refl
+sounds_in-readable files card seed first (suc count) total are room =
     let own : IsReadable files (file_name first) (made_sound seed first) =
     subst (λ (k : ℕ). IsReadable files (file_name k) (made_sound seed k)) (omega arith) (are 0 (omega arith)) in
     let next : (j : ℕ) → j < count → IsReadable files (file_name (first + 1 + j)) (made_sound seed (first + 1 + j)) =
     λ j inside. subst (λ (k : ℕ). IsReadable files (file_name k) (made_sound seed k)) (omega arith) (are (suc j) (omega (arith, inside))) in
     ap
     (λ (r : Result (Sound × ℕ) Cause). r >>= λ (read : Sound × ℕ). sounds_in files read.1 card (map made_client (range_with_len (first + 1) count)) >>= λ (sounds : List Sound). Ok (read.0 ∷ sounds))
-    (sound-held files total (file_name first) (made_sound seed first) own (omega (arith, room)))
+    (sound_in-readable files total (file_name first) (made_sound seed first) own (omega (arith, room)))
     ∙ ap (λ (r : Result (List Sound) Cause). r >>= λ (sounds : List Sound). Ok (made_sound seed first ∷ sounds))
-    (sounds-held files card seed (first + 1) count (total + 16428) next (omega (arith, room)))
+    (sounds_in-readable files card seed (first + 1) count (total + 16428) next (omega (arith, room)))
 
 -- a member of a list that is made number by number
 index-made : (f : ℕ → Sound) (a n j : ℕ) (d : Sound) → j < n → slice_index_or (map f (range_with_len a n)) j d ≡ f (a + j)
@@ -186,7 +186,7 @@ input-made w is spelled made back files =
     } in
     ap
     (λ (r : Result Script Cause). r >>= λ (s : Script). capture_in all s.card.capture >>= λ (capture : Option Sound × ℕ). sounds_in all capture.1 s.card s.clients >>= λ (sounds : List Sound). Ok (run_input s capture.0 sounds))
-    (script-held all script_name (made_text w.clients w.phases) script
+    (script_in-spelled all script_name (made_text w.clients w.phases) script
     (bytes_under-with_file_same (with_files (sound_files 0 (made_sounds w.seed w.clients)) files) script_name (made_text w.clients w.phases)) spelled)
     ∙ ap (λ (r : Result (List Sound) Cause). r >>= λ (sounds : List Sound). Ok (run_input script None sounds))
-    (sounds-held all script.card w.seed 0 w.clients 0 readable (let few = is.few_clients in omega (arith, few)))
+    (sounds_in-readable all script.card w.seed 0 w.clients 0 readable (let few = is.few_clients in omega (arith, few)))
