@@ -1,14 +1,11 @@
 -- The first defect of a list, or none.
-use Rattle.std.proofs.Common.{eq-eqb, ◌≡◌, ℕ, ◌+◌, ◌<◌, ◌≤◌, suc, zero, List, [], ◌∙◌, ap, refl, subst, arith, length, get_or, take}
+use Rattle.std.proofs.Common.{◌≡◌, ℕ, ◌+◌, ◌<◌, ◌≤◌, suc, zero, List, [], ◌∙◌, ap, refl, subst, arith, length}
 use Rattle.std.proofs.lemmas.Bool.Decides.{nat_tests}
-use Rattle.std.proofs.lemmas.List.{get_or-take, get_or_default, length-take}
-use Rattle.std.proofs.lemmas.List.Folds.{list_any-from_Any}
-use Rattle.std.specs.Prelude.{◌==◌, Bool, true, false, nat_le, nat_lt, if◌then◌else◌, All, Option, Some, None, Result, Ok, Err}
-use Rattle.std.specs.List.{cons_option, filter_map, list_any, range_with_len}
+use Rattle.std.specs.Prelude.{◌==◌, Bool, true, false, nat_lt, if◌then◌else◌, Option, Some, None, Result, Ok, Err}
+use Rattle.std.specs.List.{cons_option, filter_map, range_with_len}
 use Rattle.snd_base.specs.declared.errors.Why.{Why}
-use Rattle.snd_base.specs.declared.errors.Why.TheVariants.{BindingsEmpty, BindingsTooMany, BindingRange, BindingTwice}
+use Rattle.snd_base.specs.declared.errors.Why.TheVariants.{BindingsEmpty, BindingsTooMany}
 use Rattle.bindings.specs.Answers.{answer_of, entry_defect, entry_defects, or_first}
-use Rattle.bindings.specs.Bound.{AreBindings}
 
 filter_map-none : (f : ℕ → Option Why) (a n : ℕ) → ((k : ℕ) → k < n → f (a + k) ≡ None) → filter_map f (range_with_len a n) ≡ []
 filter_map-none f a zero none = refl
@@ -47,36 +44,3 @@ answer_of-entries list card_channels some few = answer_of_cases list (length lis
     answer_of_cases list true many entries no_empty no_many = absurd (cc)
     answer_of_cases list false true entries no_empty no_many = absurd (cc)
     answer_of_cases list false false entries no_empty no_many = refl
-
--- an entry without a defect is below the card's channels, and did not stand earlier
-pub entry_defect-None : (list : List ℕ) (card_channels k : ℕ) → entry_defect list card_channels k ≡ None
-    → (get_or list k 0 < card_channels) × (list_any (λ bound. bound == get_or list k 0) (take k list) ≡ false)
-entry_defect-None list card_channels k none = cases (nat_le card_channels (get_or list k 0)) (list_any (λ bound. bound == get_or list k 0) (take k list)) refl refl none
-  where
-    cases : (out twice : Bool) → nat_le card_channels (get_or list k 0) ≡ out → list_any (λ bound. bound == get_or list k 0) (take k list) ≡ twice
-        → (if out then Some (BindingRange (get_or list k 0)) else (if twice then Some (BindingTwice (get_or list k 0)) else None)) ≡ None
-        → (get_or list k 0 < card_channels) × (list_any (λ bound. bound == get_or list k 0) (take k list) ≡ false)
-    cases true twice is_out is_twice none = absurd (cc)
-    cases false true is_out is_twice none = absurd (cc)
-    cases false false is_out is_twice none = (grind (arith, nat_tests), is_twice)
-
--- entries without a defect are bindings
-pub AreBindings-none : (list : List ℕ) (card_channels : ℕ) → (length list == 0) ≡ false → length list ≤ 8 → card_channels ≤ 256
-    → ((k : ℕ) → k < length list → entry_defect list card_channels k ≡ None) → AreBindings list
-AreBindings-none list card_channels some few low none = record {
-  some = grind (arith, nat_tests);
-  most = few;
-  below = λ k d within. subst (λ x. x < 256) (get_or_default list k 0 d within) (omega (arith, (entry_defect-None list card_channels k (none k within)).0));
-  distinct = λ i j before within same.
-      let at : list_any (λ bound. bound == get_or list j 0) (take j list) ≡ false = (entry_defect-None list card_channels j (none j within)).1 in
-      let here : i < length (take j list) = omega (arith, length-take j list) in
-      let is : get_or (take j list) i 0 ≡ get_or list i 0 = get_or-take j list i 0 before in
-      let twice : list_any (λ bound. bound == get_or list j 0) (take j list) ≡ true =
-      list_any-from_Any (λ bound. bound == get_or list j 0) (take j list)
-      (i, get_or (take j list) i 0, here, get_or_default (take j list) i (get_or (take j list) i 0) 0 here, eq-eqb (get_or (take j list) i 0) (get_or list j 0) (is ∙ same)) in
-      absurd (cc (twice, at));
-}
-
--- and all are below the card's channels
-pub All-below : (list : List ℕ) (card_channels : ℕ) → ((k : ℕ) → k < length list → entry_defect list card_channels k ≡ None) → All (λ channel. channel < card_channels) list
-All-below list card_channels none = λ k d within. subst (λ x. x < card_channels) (get_or_default list k 0 d within) ((entry_defect-None list card_channels k (none k within)).0)

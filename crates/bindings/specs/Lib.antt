@@ -1,3 +1,4 @@
 pub mod Answers
+pub mod AnswerLaws
 pub mod Bound
 pub mod RisingLaws

@@ -2,7 +2,8 @@ use Rattle.std.proofs.Common.{◌≡◌, ℕ, ◌<◌, ◌∙◌, ap, sym, subst
 use Rattle.std.specs.Prelude.{All, Ok}
 use Rattle.bindings.specs.Bound.{AreBindings}
 use Rattle.bindings.proofs.Places.{padded-take, take-all}
-use Rattle.bindings.proofs.Defects.{AreBindings-none, All-below, answer_of-entries, or_first-none, or_first-some}
+use Rattle.bindings.specs.AnswerLaws.{AreBindings-none, All-below}
+use Rattle.bindings.proofs.Defects.{answer_of-entries, or_first-none, or_first-some}
 use Rattle.bindings.proofs.channels.Bindings.read.Goals as goal
 
 pub returns-in-Some-clause-answer : goal.returns-in-Some-clause-answer
