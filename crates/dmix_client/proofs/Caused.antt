@@ -17,7 +17,7 @@ use Rattle.bindings.specs.Bound.{rising}
 use Rattle.dmix_client.specs.declared.commit.Commit.{Commit}
 use Rattle.mix_core.specs.declared.port.Ended.{Ended}
 use Rattle.mix_core.specs.declared.port.Ended.TheVariants as ended
-use Rattle.dmix_client.specs.declared.plain.Plain.{Plain}
+use Rattle.dmix_client.specs.declared.stream.PlaybackStream.{PlaybackStream}
 use Rattle.dmix_client.specs.Calls.{Answered, accepted, accepted_if, commit_count, committed_by, end_channel, end_of_commit, is_running, is_stop, late_at, late_of, over_of, seen_at, with_outcome, after_start, started_in, sync_count, after_sync, taken_of, with_number, written_on}
 use Rattle.dmix_client.specs.Causes.{IsCaused, IsGone, IsOfSteps, Reaches}
 use Rattle.mix_core.specs.Port.{IsPast, OnLate, PortView}
@@ -57,7 +57,7 @@ pub other-again : {X : Type 0} → IsOther {X = X} (Err Again)
 other-again = record { here = λ h. cc; below = λ a f h. cc; in_time = λ f c word h. cc; never = λ h. cc; of_steps = tt }
 
 -- a position was loaded, and nothing about it is against the call
-pub record IsFree (c : Plain) (load : Option Position) : Type 0 where
+pub record IsFree (c : PlaybackStream) (load : Option Position) : Type 0 where
   pub loaded : IfNone load ⊥
   pub here : IsGone load → ⊥
   pub below : (a f : ℕ) → Reaches c load a f → ⊥
@@ -70,7 +70,7 @@ late-found ended.Stopped frame channel w P is late = absurd (cc)
 
 module _ {S : Type 0} (view : S → PortView) (shows : S → ℕ → ℕ → Option ℕ) (q : S) where
   -- the gate stopped the load
-  pub caused-none : (c d : Plain) → IsCaused {X = Unit {0}} view shows q c d None (Err Stopped)
+  pub caused-none : (c d : PlaybackStream) → IsCaused {X = Unit {0}} view shows q c d None (Err Stopped)
   caused-none c d = record {
     unless_stopped = refl;
     of_steps = tt;
@@ -81,7 +81,7 @@ module _ {S : Type 0} (view : S → PortView) (shows : S → ℕ → ℕ → Opt
   }
 
   -- the card is gone
-  caused-gone : (c d : Plain) (position : Position) → position.gone ≡ true → IsCaused {X = Unit {0}} view shows q c d (Some position) (Err NoDevice)
+  caused-gone : (c d : PlaybackStream) (position : Position) → position.gone ≡ true → IsCaused {X = Unit {0}} view shows q c d (Some position) (Err NoDevice)
   caused-gone c d position gone = record {
     unless_stopped = tt;
     of_steps = tt;
@@ -92,7 +92,7 @@ module _ {S : Type 0} (view : S → PortView) (shows : S → ℕ → ℕ → Opt
   }
 
   -- the stop threshold is reached
-  caused-over : (c d : Plain) (position : Position) (x y : ℕ) → Reaches c (Some position) x y → IsCaused {X = Unit {0}} view shows q c d (Some position) (Err (Xrun (Avail x y)))
+  caused-over : (c d : PlaybackStream) (position : Position) (x y : ℕ) → Reaches c (Some position) x y → IsCaused {X = Unit {0}} view shows q c d (Some position) (Err (Xrun (Avail x y)))
   caused-over c d position x y reaches = record {
     unless_stopped = tt;
     of_steps = tt;
@@ -106,7 +106,7 @@ module _ {S : Type 0} (view : S → PortView) (shows : S → ℕ → ℕ → Opt
   }
 
   -- any other answer
-  pub caused-other : {X : Type 0} (c d : Plain) (load : Option Position) (answer : Result X PcmError) → IsFree c load → IsOther answer → IsCaused view shows q c d load answer
+  pub caused-other : {X : Type 0} (c d : PlaybackStream) (load : Option Position) (answer : Result X PcmError) → IsFree c load → IsOther answer → IsCaused view shows q c d load answer
   caused-other c d load answer free other = record {
     unless_stopped = if-none load (λ h. absurd h) free.loaded;
     of_steps = other.of_steps;
@@ -117,7 +117,7 @@ module _ {S : Type 0} (view : S → PortView) (shows : S → ℕ → ℕ → Opt
   }
 
   -- a late one, where the commit ended in the client that it left
-  caused-late : {X : Type 0} (c at d : Plain) (load : Option Position) (x : Commit) (w : XrunWhy) → IsFree c load → end_of_commit at x ≡ d.stretch.card + d.stretch.committed
+  caused-late : {X : Type 0} (c at d : PlaybackStream) (load : Option Position) (x : Commit) (w : XrunWhy) → IsFree c load → end_of_commit at x ≡ d.stretch.card + d.stretch.committed
       → end_channel at x ≡ slice_index d.setup.bindings (slice_index (rising d.setup.bindings) d.stretch.part) → late_of at x ≡ Some w
       → OnLate x.ended (λ word. IsPast view shows q (end_of_commit at x) (end_channel at x) word) → IsCaused {X = X} view shows q c d load (Err (Xrun w))
   caused-late {X = X} c at d load x w free is_frame is_channel is shown =
@@ -140,7 +140,7 @@ module _ {S : Type 0} (view : S → PortView) (shows : S → ℕ → ℕ → Opt
       })
 
   -- behind a load that went well
-  pub free-by : (c u : Plain) (load : Option Position) → IsCaused {X = Unit {0}} view shows q c u load (Ok tt) → IsFree c load
+  pub free-by : (c u : PlaybackStream) (load : Option Position) → IsCaused {X = Unit {0}} view shows q c u load (Ok tt) → IsFree c load
   free-by c u load why = record {
     loaded = if-none load (λ h. cc) why.unless_stopped;
     here = λ h. let x = why.no_device.1 h in cc;
@@ -148,7 +148,7 @@ module _ {S : Type 0} (view : S → PortView) (shows : S → ℕ → ℕ → Opt
   }
 
   -- an error has the same causes whatever the call would answer
-  caused-error : {Y : Type 0} (load : Option Position) (c d : Plain) (e : PcmError) → IsCaused {X = Unit {0}} view shows q c d load (Err e) → IsCaused {X = Y} view shows q c d load (Err e)
+  caused-error : {Y : Type 0} (load : Option Position) (c d : PlaybackStream) (e : PcmError) → IsCaused {X = Unit {0}} view shows q c d load (Err e) → IsCaused {X = Y} view shows q c d load (Err e)
   caused-error {Y = Y} load c d e why = record {
     unless_stopped = if-none load (same-error {X = Unit {0}} {Y = Y} e Stopped) why.unless_stopped;
     of_steps = why.of_steps;
@@ -159,12 +159,12 @@ module _ {S : Type 0} (view : S → PortView) (shows : S → ℕ → ℕ → Opt
   }
 
   -- so has an answer with a number, and that of a write that starts a stream
-  pub caused-number : (load : Option Position) (c : Plain) (number : Plain → ℕ) (a : Answered (Unit {0})) → IsCaused {X = Unit {0}} view shows q c a.0 load a.1
+  pub caused-number : (load : Option Position) (c : PlaybackStream) (number : PlaybackStream → ℕ) (a : Answered (Unit {0})) → IsCaused {X = Unit {0}} view shows q c a.0 load a.1
       → IsCaused {X = ℕ} view shows q c (with_number number a).0 load (with_number number a).1
   caused-number load c number (d, Ok done) why = caused-other c d load (Ok (number d)) (free-by c d load why) (other-ok (number d))
   caused-number load c number (d, Err e) why = caused-error load c d e why
 
-  pub caused-accepted : (load : Option Position) (c : Plain) (m : ℕ) (a : Answered (Unit {0})) → IsCaused {X = Unit {0}} view shows q c a.0 load a.1
+  pub caused-accepted : (load : Option Position) (c : PlaybackStream) (m : ℕ) (a : Answered (Unit {0})) → IsCaused {X = Unit {0}} view shows q c a.0 load a.1
       → IsCaused {X = ℕ} view shows q c (accepted_if m a).0 load (accepted_if m a).1
   caused-accepted load c m (d, Ok done) why = caused-other c (accepted d m) load (Ok m) (free-by c d load why) (other-ok m)
   caused-accepted load c m (d, Err e) why = caused-error load c d e why
@@ -181,7 +181,7 @@ last-true true b n is = refl
 last-true false true n is = refl
 last-true false false n is = absurd (cc)
 
-IsPlain-after_sync : (c : Plain) (position : Position) (x : Commit) → IsCommit x.ended x.frames x.part (sync_count c position) (length c.setup.bindings)
+IsPlain-after_sync : (c : PlaybackStream) (position : Position) (x : Commit) → IsCommit x.ended x.frames x.part (sync_count c position) (length c.setup.bindings)
     → IsPlain position.gone (over_of (seen_at c position) position) x.ended
 IsPlain-after_sync c position x is =
     let over = over_of (seen_at c position) position in
@@ -208,7 +208,7 @@ both-true s t n is = by_test (is_running s) is
     by_test true e = (refl, grind (arith, nat_tests))
     by_test false e = absurd (cc)
 
-some-of : (c : Plain) (position : Position) (a f : ℕ) → c.status.state ≡ Running → c.setup.params.stop_threshold ≤ a → a ≡ avail_of (seen_at c position) → f ≡ position.frame
+some-of : (c : PlaybackStream) (position : Position) (a f : ℕ) → c.status.state ≡ Running → c.setup.params.stop_threshold ≤ a → a ≡ avail_of (seen_at c position) → f ≡ position.frame
     → over_of (seen_at c position) position ≡ Some (a, f)
 some-of c position a f running low is_avail is_frame =
     let reached : (is_running c.status.state && nat_le c.setup.params.stop_threshold (avail_of (seen_at c position))) ≡ true =
@@ -221,13 +221,13 @@ some-of c position a f running low is_avail is_frame =
     at_threshold t a n low is = grind (arith, nat_tests)
 
 -- what the threshold reached says
-reaches-of : (c : Plain) (position : Position) (a f : ℕ) → position.gone ≡ false → over_of (seen_at c position) position ≡ Some (a, f) → Reaches c (Some position) a f
+reaches-of : (c : PlaybackStream) (position : Position) (a f : ℕ) → position.gone ≡ false → over_of (seen_at c position) position ≡ Some (a, f) → Reaches c (Some position) a f
 reaches-of c position a f here is =
     let found = if-some (is_running c.status.state && nat_le c.setup.params.stop_threshold (avail_of (seen_at c position))) (avail_of (seen_at c position)) position.frame a f is in
     let both = both-true c.status.state c.setup.params.stop_threshold (avail_of (seen_at c position)) found.0 in
     (here, running-is c.status.state both.0, omega (arith, both.1, found.1), found.1, found.2)
 
-free-at : (c : Plain) (position : Position) → position.gone ≡ false → (c.status.state ≡ Running → over_of (seen_at c position) position ≡ None) → IsFree c (Some position)
+free-at : (c : PlaybackStream) (position : Position) → position.gone ≡ false → (c.status.state ≡ Running → over_of (seen_at c position) position ≡ None) → IsFree c (Some position)
 free-at c position here none = record {
   loaded = tt;
   here = λ gone. let is : position.gone ≡ true = gone in cc;
@@ -235,12 +235,12 @@ free-at c position here none = record {
 }
 
 module _ {S : Type 0} (view : S → PortView) (shows : S → ℕ → ℕ → Option ℕ) (q : S) where
-  pub IsCaused-plain : (c : Plain) (call : Call) (load : Option Position) (x : Commit) → IsStep c.status.state call → IfSome load (λ position. IsPlain position.gone (over_of (seen_at c position) position) x.ended)
+  pub IsCaused-plain : (c : PlaybackStream) (call : Call) (load : Option Position) (x : Commit) → IsStep c.status.state call → IfSome load (λ position. IsPlain position.gone (over_of (seen_at c position) position) x.ended)
       → IfSome load (λ position. OnLate x.ended (λ word. IsPast view shows q (end_of_commit c x) (end_channel c x) word))
       → IsCaused {X = Unit {0}} view shows q c (after_sync c call load x).0 load (after_sync c call load x).1
   IsCaused-plain c call None x step plain shown = caused-none view shows q c (record c { status = record c.status { stopped = true } })
   IsCaused-plain c call (Some position) x step plain shown =
-      let done : Plain = committed_by (seen_at c position) x in
+      let done : PlaybackStream = committed_by (seen_at c position) x in
       by-test (λ (a : Answered (Unit {0})). IsCaused {X = Unit {0}} view shows q c a.0 (Some position) a.1) (is_stop x.ended) _ _
       (λ stop. caused-other view shows q c _ (Some position) (Err Stopped) (record {
         loaded = tt;
@@ -256,7 +256,7 @@ module _ {S : Type 0} (view : S → PortView) (shows : S → ℕ → ℕ → Opt
       (λ here drains in_time same. caused-other view shows q c _ (Some position) _ (free-at c position here (λ runs. absurd (cc))) (other-ok tt))
       (λ here drains in_time same. caused-other view shows q c _ (Some position) _ (free-at c position here (λ runs. absurd (cc))) other-again))
 
-  pub IsCaused-after_sync : (c : Plain) (call : Call) (load : Option Position) (x : Commit) → IsStep c.status.state call → IsFound load x (λ position. c) (sync_count c) (length c.setup.bindings)
+  pub IsCaused-after_sync : (c : PlaybackStream) (call : Call) (load : Option Position) (x : Commit) → IsStep c.status.state call → IsFound load x (λ position. c) (sync_count c) (length c.setup.bindings)
       → IfSome load (λ position. OnLate x.ended (λ word. IsPast view shows q (end_of_commit c x) (end_channel c x) word))
       → IsCaused {X = Unit {0}} view shows q c (after_sync c call load x).0 load (after_sync c call load x).1
   IsCaused-after_sync c call load x step found shown = IsCaused-plain c call load x step (plain-found load found.commit_is) shown
@@ -268,7 +268,7 @@ module _ {S : Type 0} (view : S → PortView) (shows : S → ℕ → ℕ → Opt
 
   -- ---- a start
 
-  pub IsCaused-after_start : (c : Plain) (state : State) (cursor : Cursor) (load : Option Position) (x : Commit) → c.status.state ≡ Prepared
+  pub IsCaused-after_start : (c : PlaybackStream) (state : State) (cursor : Cursor) (load : Option Position) (x : Commit) → c.status.state ≡ Prepared
       → IfSome load (λ (position : Position). OnLate x.ended (λ word. IsPast view shows q (end_of_commit (started_in c Running position cursor) x) (end_channel (started_in c Running position cursor) x) word))
       → IsCaused {X = Unit {0}} view shows q c (after_start c state cursor load x).0 load (after_start c state cursor load x).1
   IsCaused-after_start c state cursor None x waits shown = caused-none view shows q c (record c { status = record c.status { stopped = true } })
@@ -281,7 +281,7 @@ module _ {S : Type 0} (view : S → PortView) (shows : S → ℕ → ℕ → Opt
 
   -- ---- a write behind its sync
 
-  pub caused-on : (load : Option Position) (c : Plain) (a : Answered (Unit {0})) (n : ℕ) (last : Commit) → IsCaused {X = Unit {0}} view shows q c a.0 load a.1
+  pub caused-on : (load : Option Position) (c : PlaybackStream) (a : Answered (Unit {0})) (n : ℕ) (last : Commit) → IsCaused {X = Unit {0}} view shows q c a.0 load a.1
       → OnLate last.ended (λ word. IsPast view shows q (end_of_commit a.0 last) (end_channel a.0 last) word)
       → IsCaused {X = ℕ} view shows q c (written_on a n last).0 load (written_on a n last).1
   caused-on load c (u, Ok done) n last first shown =
@@ -294,7 +294,7 @@ module _ {S : Type 0} (view : S → PortView) (shows : S → ℕ → ℕ → Opt
   caused-on load c (u, Err e) n last first shown = caused-error view shows q load c u e first
 
 -- what was found of a sync that went well holds at later states of the port too
-pub caused-moved : {S : Type 0} (view : S → PortView) (shows : S → ℕ → ℕ → Option ℕ) (q r : S) (load : Option Position) (c : Plain) (a : Answered (Unit {0}))
+pub caused-moved : {S : Type 0} (view : S → PortView) (shows : S → ℕ → ℕ → Option ℕ) (q r : S) (load : Option Position) (c : PlaybackStream) (a : Answered (Unit {0}))
     → IsCaused {X = Unit {0}} view shows q c a.0 load a.1 → ((e : PcmError) → a.1 ≡ Err e → r ≡ q) → IsCaused {X = Unit {0}} view shows r c a.0 load a.1
 caused-moved view shows q r load c (d, Err e) first same = subst (λ s. IsCaused {X = Unit {0}} view shows s c d load (Err e)) (sym (same e refl)) first
 caused-moved view shows q r load c (d, Ok done) first same = record {
@@ -308,7 +308,7 @@ caused-moved view shows q r load c (d, Ok done) first same = record {
 
 -- ---- when a write is to be made again
 
-pub after_sync-not_again : (c : Plain) (load : Option Position) (x : Commit) → c.status.state ≡ Running → (after_sync c call.Transfer load x).1 ≡ Err Again → ⊥
+pub after_sync-not_again : (c : PlaybackStream) (load : Option Position) (x : Commit) → c.status.state ≡ Running → (after_sync c call.Transfer load x).1 ≡ Err Again → ⊥
 after_sync-not_again c None x running = λ is. cc
 after_sync-not_again c (Some position) x running =
     by-test (λ (a : Answered (Unit {0})). a.1 ≡ Err Again → ⊥) (is_stop x.ended) _ _ (λ stop is. cc)

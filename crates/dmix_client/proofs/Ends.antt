@@ -19,7 +19,7 @@ use Rattle.dmix_client.specs.Growth.{KeepsAccepted}
 use Rattle.dmix_client.specs.Port.{IsStep}
 use Rattle.dmix_client.specs.View.{avail_of}
 use Rattle.dmix_client.specs.declared.commit.Commit.{Commit}
-use Rattle.dmix_client.specs.declared.plain.Plain.{Plain}
+use Rattle.dmix_client.specs.declared.stream.PlaybackStream.{PlaybackStream}
 
 -- whatever holds of a choice's two ways holds of the choice
 pub by-test : {A : Type 0} (X : A → Type 0) (b : Bool) (x y : A) → (b ≡ true → X x) → (b ≡ false → X y) → X (if b then x else y)
@@ -81,14 +81,14 @@ start-ends X false None at_gone at_late begins = begins refl refl
 -- ---- by the call
 
 -- a start that loaded a position
-pub after_start-ends : (X : Answered (Unit {0}) → Type 0) (c : Plain) (state : State) (cursor : Cursor) (position : Position) (x : Commit)
+pub after_start-ends : (X : Answered (Unit {0}) → Type 0) (c : PlaybackStream) (state : State) (cursor : Cursor) (position : Position) (x : Commit)
     → (position.gone ≡ true → X (in_state (seen_at c position) Disconnected, Err error.NoDevice))
     → (position.gone ≡ false → is_stop x.ended ≡ true → X (stopped_in (committed_by (started_in c state position cursor) x)))
     → ((w : XrunWhy) → position.gone ≡ false → is_stop x.ended ≡ false → late_of (started_in c state position cursor) x ≡ Some w → X (in_state (committed_by (started_in c state position cursor) x) Xrun, Err (error.Xrun w)))
     → (position.gone ≡ false → is_stop x.ended ≡ false → late_of (started_in c state position cursor) x ≡ None → X (in_state (committed_by (started_in c state position cursor) x) state, Ok tt))
     → X (after_start c state cursor (Some position) x)
 after_start-ends X c state cursor position x at_gone at_stop at_late begins =
-    let done : Plain = committed_by (started_in c state position cursor) x in
+    let done : PlaybackStream = committed_by (started_in c state position cursor) x in
     let late : Option XrunWhy = late_of (started_in c state position cursor) x in
     by-test X position.gone _ _
     (λ gone. start-ends (λ o. X (going_on (seen_at c position) state o)) position.gone None (λ is. at_gone is) (λ w here is. absurd (cc)) (λ here is. absurd (cc)))
@@ -96,7 +96,7 @@ after_start-ends X c state cursor position x at_gone at_stop at_late begins =
     (λ going. start-ends (λ o. X (going_on done state o)) position.gone late (λ gone. absurd (cc)) (λ w is_here is. at_late w here going is) (λ is_here is. begins here going is)))
 
 -- the commit of a write
-accepted-ends : (X : Answered ℕ → Type 0) (d : Plain) (m : ℕ) (late : Option XrunWhy) → ((w : XrunWhy) → late ≡ Some w → X (in_state d Xrun, Err (error.Xrun w)))
+accepted-ends : (X : Answered ℕ → Type 0) (d : PlaybackStream) (m : ℕ) (late : Option XrunWhy) → ((w : XrunWhy) → late ≡ Some w → X (in_state d Xrun, Err (error.Xrun w)))
     → (late ≡ None → X (accepted (in_state d Running) m, Ok m))
     → X (accepted_if m (with_outcome d (next_of Running call.Transfer (found_at (record { frame = 0; gone = false }) late))))
 accepted-ends X d m (Some w) at_late goes = at_late w refl
@@ -109,7 +109,7 @@ not_full : (n a : ℕ) → (nat_lt 0 n && nat_eq a 0) ≡ false → 0 < n → a 
 not_full n a is some none = grind (arith, nat_tests)
 
 -- a write behind its sync: nothing can be taken, the gate stopped the commit, it was late, or frames are taken
-pub written-ends : (X : Answered ℕ → Type 0) (c : Plain) (n : ℕ) (x : Commit)
+pub written-ends : (X : Answered ℕ → Type 0) (c : PlaybackStream) (n : ℕ) (x : Commit)
     → (0 < n → avail_of c ≡ 0 → X (c, Err error.Again))
     → ((0 < n → avail_of c ≡ 0 → ⊥) → is_stop x.ended ≡ true → X (stopped_in (committed_by c x)))
     → ((w : XrunWhy) → (0 < n → avail_of c ≡ 0 → ⊥) → is_stop x.ended ≡ false → late_of c x ≡ Some w → X (in_state (committed_by c x) Xrun, Err (error.Xrun w)))
@@ -123,12 +123,12 @@ written-ends X c n x again at_stop at_late goes =
 -- ---- what is left of a client, in some status
 
 -- a sync that loaded a position leaves the client behind its commit
-pub after_sync-leaves : (X : Plain → Type 0) (c : Plain) (call : Call) (position : Position) (x : Commit) → ((s : Status) → X (record (committed_by (seen_at c position) x) { status = s }))
+pub after_sync-leaves : (X : PlaybackStream → Type 0) (c : PlaybackStream) (call : Call) (position : Position) (x : Commit) → ((s : Status) → X (record (committed_by (seen_at c position) x) { status = s }))
     → X (after_sync c call (Some position) x).0
 after_sync-leaves X c call position x all = by-test (λ (a : Answered (Unit {0})). X a.0) (is_stop x.ended) _ _ (λ stop. all _) (λ going. all _)
 
 -- what was accepted stays so over a start
-pub KeepsAccepted-after_start : (c : Plain) (state : State) (cursor : Cursor) (load : Option Position) (x : Commit) → KeepsAccepted c (after_start c state cursor load x).0
+pub KeepsAccepted-after_start : (c : PlaybackStream) (state : State) (cursor : Cursor) (load : Option Position) (x : Commit) → KeepsAccepted c (after_start c state cursor load x).0
 KeepsAccepted-after_start c state cursor None x = record { written = refl; fed = refl; bindings = refl }
 KeepsAccepted-after_start c state cursor (Some position) x =
     after_start-ends (λ (a : Answered (Unit {0})). KeepsAccepted c a.0) c state cursor position x (λ gone. record { written = refl; fed = refl; bindings = refl }) (λ here stop. record { written = refl; fed = refl; bindings = refl })

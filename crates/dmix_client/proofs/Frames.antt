@@ -14,7 +14,7 @@ use Rattle.mix_core.specs.declared.port.Entry.{Entry}
 use Rattle.mix_core.specs.Port.{PortView}
 use Rattle.bindings.specs.Bound.{AreBindings, rising}
 use Rattle.bindings.specs.RisingLaws.{rising-rises, rising-within}
-use Rattle.dmix_client.specs.declared.plain.Plain.{Plain}
+use Rattle.dmix_client.specs.declared.stream.PlaybackStream.{PlaybackStream}
 use Rattle.dmix_client.specs.RingLaws.{slot-behind}
 use Rattle.dmix_client.specs.View.{ring_sample, slot_sample}
 
@@ -57,12 +57,12 @@ pub rising-single : (bindings : List ℕ) → AreBindings bindings → length bi
 rising-single bindings are single = omega (arith, rising-within bindings 0 are (omega (arith, single)), single)
 
 -- the entry of a sample that a client holds, by where its frame begins in the local ring
-pub entry-ring_sample : (E : ℕ → ℕ → ℤ → Entry) (plain : Plain) (ring : List ℤ) (number slot q member channel : ℕ) (x : ℤ) → member ≡ plain.identity.member → channel ≡ slice_index plain.setup.bindings q
-    → slot ≡ (plain.stretch.source + number) % plain.setup.config.buffer_size * length plain.setup.bindings → x ≡ slice_index_or ring (slot + q) (pos 0)
-    → E member channel x ≡ E plain.identity.member (slice_index plain.setup.bindings q) (ring_sample plain ring number q)
-entry-ring_sample E plain ring number slot q member channel x is_member is_channel is_slot is =
-    ap (λ (m : ℕ). E m channel x) is_member ∙ ap (λ (k : ℕ). E plain.identity.member k x) is_channel
-    ∙ ap (E plain.identity.member (slice_index plain.setup.bindings q)) (is ∙ ap (λ (i : ℕ). slice_index_or ring (i + q) (pos 0)) is_slot)
+pub entry-ring_sample : (E : ℕ → ℕ → ℤ → Entry) (stream : PlaybackStream) (ring : List ℤ) (number slot q member channel : ℕ) (x : ℤ) → member ≡ stream.identity.member → channel ≡ slice_index stream.setup.bindings q
+    → slot ≡ (stream.stretch.source + number) % stream.setup.config.buffer_size * length stream.setup.bindings → x ≡ slice_index_or ring (slot + q) (pos 0)
+    → E member channel x ≡ E stream.identity.member (slice_index stream.setup.bindings q) (ring_sample stream ring number q)
+entry-ring_sample E stream ring number slot q member channel x is_member is_channel is_slot is =
+    ap (λ (m : ℕ). E m channel x) is_member ∙ ap (λ (k : ℕ). E stream.identity.member k x) is_channel
+    ∙ ap (E stream.identity.member (slice_index stream.setup.bindings q)) (is ∙ ap (λ (i : ℕ). slice_index_or ring (i + q) (pos 0)) is_slot)
 
 -- the entry of a sample in a frame of the local ring, by the slot where the frame begins
 pub entry-bound : (E : ℕ → ℕ → ℤ → Entry) (bindings : List ℕ) (ring : List ℤ) (slot q m member channel : ℕ) (x : ℤ) → m ≡ member → channel ≡ slice_index bindings q

@@ -24,7 +24,7 @@ use Rattle.dmix_client.specs.Calls.{Answered, accepted_if, committed_by, is_stop
 use Rattle.dmix_client.specs.Port.{CountsEnd, IsStep}
 use Rattle.dmix_client.specs.View.{queued_of}
 use Rattle.dmix_client.specs.declared.commit.Commit.{Commit}
-use Rattle.dmix_client.specs.declared.plain.Plain.{Plain}
+use Rattle.dmix_client.specs.declared.stream.PlaybackStream.{PlaybackStream}
 
 -- the gate stopped exactly where the commit ended so
 pub told-stop : (e : Ended) (before after : ℕ) → is_stop e ≡ true → CountsEnd e before after → after ≡ before + 1
@@ -57,11 +57,11 @@ go-by true r is = absurd (cc)
 go-by false (Ok done) is = refl
 go-by false (Err e) is = go-in e
 
-pub refused-go : (c : Plain) (call : Call) → c.status.stopped ≡ false → pass_by (refused_by (refusal_of Playback c.status call)) ≡ Go
+pub refused-go : (c : PlaybackStream) (call : Call) → c.status.stopped ≡ false → pass_by (refused_by (refusal_of Playback c.status call)) ≡ Go
 refused-go c call unstopped = go-by c.status.stopped (next_of c.status.state call (nothing_found Playback)).answer unstopped
 
 -- a stream that runs still runs after a sync for a write that went well
-pub after_sync-runs : (c : Plain) (load : Option Position) (x : Commit) → c.status.state ≡ Running → OnOk (after_sync c call.Transfer load x).1 ((after_sync c call.Transfer load x).0.status.state ≡ Running)
+pub after_sync-runs : (c : PlaybackStream) (load : Option Position) (x : Commit) → c.status.state ≡ Running → OnOk (after_sync c call.Transfer load x).1 ((after_sync c call.Transfer load x).0.status.state ≡ Running)
 after_sync-runs c None x runs = tt
 after_sync-runs c (Some position) x runs =
     by-test (λ (a : Answered (Unit {0})). OnOk a.1 (a.0.status.state ≡ Running)) (is_stop x.ended) _ _ (λ stop. tt)
@@ -78,21 +78,21 @@ OnOk-of (Err e) Y is y = absurd (cc)
 abbrev pub IsStill : Answered (Unit {0}) → Type 0
 IsStill a = (a.1 ≡ Err Again) ↔ ((a.0.status.state ≡ Draining) × (a.0.status.stopped ≡ false))
 
-stopped-still : (c : Plain) → IsStill (stopped_in c)
+stopped-still : (c : PlaybackStream) → IsStill (stopped_in c)
 stopped-still c = (λ h. cc, λ h. let x = h.1 in cc)
 
 -- the sync of a stream that drains
-pub after_sync-still : (c : Plain) (load : Option Position) (x : Commit) → c.status.state ≡ Draining → c.status.stopped ≡ false → IsStill (after_sync c call.Drain load x)
+pub after_sync-still : (c : PlaybackStream) (load : Option Position) (x : Commit) → c.status.state ≡ Draining → c.status.stopped ≡ false → IsStill (after_sync c call.Drain load x)
 after_sync-still c None x drains going = stopped-still c
 after_sync-still c (Some position) x drains going =
-    let done : Plain = committed_by (seen_at c position) x in
+    let done : PlaybackStream = committed_by (seen_at c position) x in
     by-test IsStill (is_stop x.ended) _ _ (λ stop. stopped-still done)
     (λ goes. next-ends (λ (o : Outcome). IsStill (with_outcome done o)) c.status.state call.Drain (queued_of done) position.gone (over_of (seen_at c position) position) (late_of (seen_at c position) x)
     (subst (λ (s : State). IsStep s call.Drain) (sym drains) tt) (λ gone. (λ h. cc, λ h. let y = h.0 in cc)) (λ a f here runs is. absurd (cc)) (λ w here none is. (λ h. cc, λ h. let y = h.0 in cc))
     (λ here runs none in_time. absurd (cc)) (λ here same in_time. (λ h. cc, λ h. let y = h.0 in cc)) (λ here same in_time is. absurd (cc)) (λ here same in_time is. (λ h. (refl, going), λ h. refl)))
 
 -- a start that leads to draining, and is refused
-pub after_start-still : (c : Plain) (cursor : Cursor) (load : Option Position) (x : Commit) (e : PcmError) → (after_start c Draining cursor load x).1 ≡ Err e → IsStill (after_start c Draining cursor load x)
+pub after_start-still : (c : PlaybackStream) (cursor : Cursor) (load : Option Position) (x : Commit) (e : PcmError) → (after_start c Draining cursor load x).1 ≡ Err e → IsStill (after_start c Draining cursor load x)
 after_start-still c cursor None x e = λ is. stopped-still c
 after_start-still c cursor (Some position) x e =
     after_start-ends (λ (a : Answered (Unit {0})). a.1 ≡ Err e → IsStill a) c Draining cursor position x (λ gone is. (λ h. cc, λ h. let y = h.0 in cc)) (λ here stop is. stopped-still (committed_by (started_in c Draining position cursor) x))
@@ -103,5 +103,5 @@ unstopped-by : (stopped : Bool) (o : Option PcmError) → (if stopped then Some 
 unstopped-by true o is = absurd (cc)
 unstopped-by false o is = refl
 
-pub refusal_of-unstopped : (c : Plain) → refusal_of Playback c.status call.Drain ≡ None → c.status.stopped ≡ false
+pub refusal_of-unstopped : (c : PlaybackStream) → refusal_of Playback c.status call.Drain ≡ None → c.status.stopped ≡ false
 refusal_of-unstopped c admitted = unstopped-by c.status.stopped (refusal_in (next_of c.status.state call.Drain (nothing_found Playback)).answer) admitted

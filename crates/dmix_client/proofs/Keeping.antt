@@ -50,17 +50,17 @@ use Rattle.dmix_client.specs.RingLaws.{stored-HasRoom}
 use Rattle.dmix_client.specs.View.{ClientView, IsConfigured, IsGoing, IsLaidPast, IsMoving, IsSound, avail_of, hw_of, queued_of, ring_sample}
 use Rattle.dmix_client.specs.Writes.{count_with, ring_with, taken_after}
 use Rattle.dmix_client.specs.declared.commit.Commit.{Commit}
-use Rattle.dmix_client.specs.declared.plain.Plain.{Plain}
+use Rattle.dmix_client.specs.declared.stream.PlaybackStream.{PlaybackStream}
 
 -- a client and its ring
-abbrev pub client : Plain → List ℤ → ClientView
-client c ring = record { plain = c; ring = ring }
+abbrev pub client : PlaybackStream → List ℤ → ClientView
+client c ring = record { stream = c; ring = ring }
 
 start-free : (cursor : Cursor) (position lead k c : ℕ) → k ≡ 0 → first_free cursor c ≤ max (position + lead) (first_free cursor 0) + k
 start-free cursor position lead k c none = grind (arith, nat_tests)
 
 -- a position that was loaded, of a port that a client uses
-pub loaded-of : (c : Plain) (v : PortView) (position : Position) → is_moving c.status.state ≡ true → c.status.stopped ≡ false → CanUse c v → v.seen ≤ position.frame → IsInRing v.geometry position.frame → IsLoaded c position
+pub loaded-of : (c : PlaybackStream) (v : PortView) (position : Position) → is_moving c.status.state ≡ true → c.status.stopped ≡ false → CanUse c v → v.seen ≤ position.frame → IsInRing v.geometry position.frame → IsLoaded c position
 loaded-of c v position moves going port newer within =
     record { newer = omega (arith, port.newer moves going, newer); most = subst (λ (g : Geometry). position.frame ≤ end_frame g) port.same_geometry within.most }
 
@@ -68,7 +68,7 @@ pub IsSamePort-refl : (v : PortView) → IsSamePort v v
 IsSamePort-refl v = record { same_geometry = refl; same_member = refl; same_can_add = refl }
 
 -- the counts of a client whose ring took frames
-pub IsSound-stored : (c : Plain) (ring samples : List ℤ) (m : ℕ) → IsSound c ring → IsConfigured c ring → m * length c.setup.bindings ≤ length samples → IsSound c (ring_with c ring samples m)
+pub IsSound-stored : (c : PlaybackStream) (ring samples : List ℤ) (m : ℕ) → IsSound c ring → IsConfigured c ring → m * length c.setup.bindings ≤ length samples → IsSound c (ring_with c ring samples m)
 IsSound-stored c ring samples m sound k held_all =
     let has = stored-HasRoom c.setup.config.buffer_size (length c.setup.bindings) ring (c.stretch.source + c.stretch.written) samples m (record { some = k.buffer_least; room = k.room }) held_all in
     record {
@@ -87,10 +87,10 @@ IsSound-stored c ring samples m sound k held_all =
 taken-room : (n b w : ℕ) → w ≤ b → w + min n (min (b + 0 - w) b) ≤ b
 taken-room n b w fits = grind (arith, nat_tests)
 
-taken-waiting : (c : Plain) (n : ℕ) → c.stretch.started ≡ false → taken_of c n ≡ min n (min (c.setup.config.buffer_size + 0 - c.stretch.written) c.setup.config.buffer_size)
+taken-waiting : (c : PlaybackStream) (n : ℕ) → c.stretch.started ≡ false → taken_of c n ≡ min n (min (c.setup.config.buffer_size + 0 - c.stretch.written) c.setup.config.buffer_size)
 taken-waiting c n waits = ap (λ (b : Bool). min n (min (c.setup.config.buffer_size + (if b then unwrap_or c.seen 0 - c.stretch.card else 0) - c.stretch.written) c.setup.config.buffer_size)) waits
 
-IsSound-filled : (c : Plain) (ring : List ℤ) (m : ℕ) → IsSound c ring → c.status.state ≡ Prepared → c.stretch.written + m ≤ c.setup.config.buffer_size → IsSound (accepted c m) ring
+IsSound-filled : (c : PlaybackStream) (ring : List ℤ) (m : ℕ) → IsSound c ring → c.status.state ≡ Prepared → c.stretch.written + m ≤ c.setup.config.buffer_size → IsSound (accepted c m) ring
 IsSound-filled c ring m sound waits fits = record {
   lead = sound.lead;
   seen = sound.seen;
@@ -104,7 +104,7 @@ IsSound-filled c ring m sound waits fits = record {
   paused = λ is. absurd (cc);
 }
 
-filled-stands : (c : Plain) (ring stored samples all : List ℤ) (n m : ℕ) → m ≡ taken_of c n → stored ≡ ring_with c ring samples m → IsSound c ring → c.status.state ≡ Prepared
+filled-stands : (c : PlaybackStream) (ring stored samples all : List ℤ) (n m : ℕ) → m ≡ taken_of c n → stored ≡ ring_with c ring samples m → IsSound c ring → c.status.state ≡ Prepared
     → n * length c.setup.bindings ≤ length samples → StandsFor c ring all → Follows c all samples n → StandsUpTo c stored all (c.stretch.written + m)
 filled-stands c ring stored samples all n m is is_stored sound waits held_all stands follows =
     subst (λ (new : List ℤ). StandsUpTo c new all (c.stretch.written + m)) (sym is_stored)
@@ -125,19 +125,19 @@ accepted-count m (c, Ok done) = refl
 accepted-count m (c, Err e) = tt
 
 module _ {S T : Type 0} (P : mixport.Ghosts S) (G : gates.Ghosts T) (laid_composes : Composes P.laid) (loaded_composes : Composes P.loaded) where
-  pub syncs-step : (s t : S × T) (c : Plain) (ring : List ℤ) (call : Call) (a : Answered (Unit {0})) → AreBindings c.setup.bindings → TakesAt P G s (syncs c call ring) t a
+  pub syncs-step : (s t : S × T) (c : PlaybackStream) (ring : List ℤ) (call : Call) (a : Answered (Unit {0})) → AreBindings c.setup.bindings → TakesAt P G s (syncs c call ring) t a
       → TakesStep P G s t ring (λ position. c) (sync_count c) (length c.setup.bindings) (after_sync c call) a
   unfolding syncs
   syncs-step s t c ring call a bound takes = TakesAt-step P G laid_composes loaded_composes (λ position. c) (sync_count c) ring c.setup.bindings (after_sync c call) s t a bound (λ position. refl) takes
 
-  pub starts-step : (s t : S × T) (c : Plain) (ring : List ℤ) (state : State) (cursor : Cursor) (upto : ℕ) (a : Answered (Unit {0})) → AreBindings c.setup.bindings → TakesAt P G s (starts c state cursor upto ring) t a
+  pub starts-step : (s t : S × T) (c : PlaybackStream) (ring : List ℤ) (state : State) (cursor : Cursor) (upto : ℕ) (a : Answered (Unit {0})) → AreBindings c.setup.bindings → TakesAt P G s (starts c state cursor upto ring) t a
       → TakesStep P G s t ring (λ position. started_in c Running position cursor) (λ position. start_count c cursor position upto) (length c.setup.bindings) (after_start c state cursor) a
   unfolding starts
   starts-step s t c ring state cursor upto a bound takes =
       TakesAt-step P G laid_composes loaded_composes (λ position. started_in c Running position cursor) (λ position. start_count c cursor position upto) ring c.setup.bindings (after_start c state cursor) s t a bound (λ position. refl) takes
 
   -- what a call keeps that laid nothing and left the segment as it was
-  pub Keeps-still : {X : Type 0} (s t : S × T) (c d : Plain) (ring new : List ℤ) (answer : Result X PcmError) (For : List ℤ → Type 0) → IsSound d new → CanUse d (P.view t.0) → P.laid s.0 t.0 []
+  pub Keeps-still : {X : Type 0} (s t : S × T) (c d : PlaybackStream) (ring new : List ℤ) (answer : Result X PcmError) (For : List ℤ → Type 0) → IsSound d new → CanUse d (P.view t.0) → P.laid s.0 t.0 []
       → (c.status.stopped ≡ false → CountsStop answer (G.stops s.1) (G.stops t.1)) → ((samples : List ℤ) → StandsFor c ring samples → segment_entries d samples ≡ segment_entries c samples) → d.identity.member ≡ c.identity.member → d.setup.bindings ≡ c.setup.bindings
       → ((samples : List ℤ) → StandsFor c ring samples → For samples → StandsFor d new samples) → Keeps P G s t (client c ring) (client d new) answer For
   Keeps-still s t c d ring new answer For sound port laid_nothing told same same_member same_bindings stands = record {
@@ -149,7 +149,7 @@ module _ {S T : Type 0} (P : mixport.Ghosts S) (G : gates.Ghosts T) (laid_compos
   }
 
   -- what a call keeps that laid a commit
-  pub Keeps-after : {X : Type 0} (s t : S × T) (c b : Plain) (ring new : List ℤ) (x : Commit) (count upto : ℕ) (For : List ℤ → Type 0) → CommitsAs c b new x count upto → CanUse c (P.view s.0) → IsSamePort (P.view s.0) (P.view t.0) → unwrap_or b.seen 0 ≤ (P.view t.0).seen
+  pub Keeps-after : {X : Type 0} (s t : S × T) (c b : PlaybackStream) (ring new : List ℤ) (x : Commit) (count upto : ℕ) (For : List ℤ → Type 0) → CommitsAs c b new x count upto → CanUse c (P.view s.0) → IsSamePort (P.view s.0) (P.view t.0) → unwrap_or b.seen 0 ≤ (P.view t.0).seen
       → P.laid s.0 t.0 (laid_at c b new x) → ((samples : List ℤ) → StandsFor c ring samples → For samples → StandsUpTo c new samples upto) → (st : Status) (written fed : ℕ) (answer : Result X PcmError) → written ≤ upto → written + c.stretch.source ≡ fed → (st.state ≡ Prepared → ⊥)
       → (st.state ≡ Paused → ⊥) → CountsStop answer (G.stops s.1) (G.stops t.1) → (is_moving st.state ≡ true → st.stopped ≡ false → IsMoving (after c b x st written fed) × IsFrom (P.view t.0).marks.cursor (b.stretch.card + (c.stretch.committed + x.frames)) (least_channel c.setup.bindings))
       → Keeps P G s t (client c ring) (client (after c b x st written fed) new) answer For
@@ -174,7 +174,7 @@ module _ {S T : Type 0} (P : mixport.Ghosts S) (G : gates.Ghosts T) (laid_compos
   }
 
   -- what a sync leaves, of which something more is known where it moves frames
-  pub record Synced (s t : S × T) (c : Plain) (ring : List ℤ) (Past : Plain → Type 0) (a : Answered (Unit {0})) : Type 0 where
+  pub record Synced (s t : S × T) (c : PlaybackStream) (ring : List ℤ) (Past : PlaybackStream → Type 0) (a : Answered (Unit {0})) : Type 0 where
     pub keeps : Keeps P G s t (client c ring) (client a.0 ring) a.1 AnySamples
     pub goes : OnOk a.1 (IsGoing a.0)
     pub past : is_moving a.0.status.state ≡ true → a.0.status.stopped ≡ false → Past a.0
@@ -182,7 +182,7 @@ module _ {S T : Type 0} (P : mixport.Ghosts S) (G : gates.Ghosts T) (laid_compos
     pub follows : (samples offered : List ℤ) (n : ℕ) → Follows c samples offered n → Follows a.0 samples offered n
 
   -- where it was stopped before it loaded a position
-  pub unloaded-kept : (s t : S × T) (c : Plain) (ring : List ℤ) (Past : Plain → Type 0) → IsSound c ring → CanUse c (P.view s.0) → IsSamePort (P.view s.0) (P.view t.0) → P.laid s.0 t.0 [] → G.stops t.1 ≡ G.stops s.1 + 1 → Synced s t c ring Past (stopped_in c)
+  pub unloaded-kept : (s t : S × T) (c : PlaybackStream) (ring : List ℤ) (Past : PlaybackStream → Type 0) → IsSound c ring → CanUse c (P.view s.0) → IsSamePort (P.view s.0) (P.view t.0) → P.laid s.0 t.0 [] → G.stops t.1 ≡ G.stops s.1 + 1 → Synced s t c ring Past (stopped_in c)
   unloaded-kept s t c ring Past sound port same laid_nothing told = record {
     keeps = Keeps-still s t c (stopped_in {T = Unit {0}} c).0 ring ring (Err error.Stopped) AnySamples (IsSound-stopped c ring sound) (CanUse-still c _ _ _ port same refl (λ moves going. cc)) laid_nothing (λ unstopped. told) (λ samples stands. refl) refl refl (λ samples stands any. stands);
     goes = tt;
@@ -192,14 +192,14 @@ module _ {S T : Type 0} (P : mixport.Ghosts S) (G : gates.Ghosts T) (laid_compos
   }
 
   -- where it loaded one, of a client that moves on in each state in which it goes on
-  pub loaded-kept : (s t : S × T) (c : Plain) (ring : List ℤ) (call : Call) (position : Position) (x : Commit) (count : ℕ) (Past : Plain → Type 0) → is_moving c.status.state ≡ true → c.status.stopped ≡ false → IsStep c.status.state call
+  pub loaded-kept : (s t : S × T) (c : PlaybackStream) (ring : List ℤ) (call : Call) (position : Position) (x : Commit) (count : ℕ) (Past : PlaybackStream → Type 0) → is_moving c.status.state ≡ true → c.status.stopped ≡ false → IsStep c.status.state call
       → CommitsAs c (seen_at c position) ring x count c.stretch.written → CanUse c (P.view s.0) → IsSamePort (P.view s.0) (P.view t.0) → (P.view t.0).seen ≡ position.frame → P.laid s.0 t.0 (laid_at c (seen_at c position) ring x) → CountsEnd x.ended (G.stops s.1) (G.stops t.1)
       → ((st : State) → is_stop x.ended ≡ false → position.gone ≡ false → late_of (seen_at c position) x ≡ None → (c.status.state ≡ Running → over_of (seen_at c position) position ≡ None)
       → IsMoving (after c (seen_at c position) x (record c.status { state = st }) c.stretch.written c.fed) × IsFrom (P.view t.0).marks.cursor (end_of_commit c x) (least_channel c.setup.bindings) × Past (after c (seen_at c position) x (record c.status { state = st }) c.stretch.written c.fed))
       → Synced s t c ring Past (after_sync c call (Some position) x)
   loaded-kept s t c ring call position x count Past moves going step y port same saw laid_it told still =
-      let b : Plain = seen_at c position in
-      let done : Plain = committed_by b x in
+      let b : PlaybackStream = seen_at c position in
+      let done : PlaybackStream = committed_by b x in
       let o : Outcome = next_of c.status.state call (facts_of done position (over_of b position) (late_of b x)) in
       let goes = next-GoesOn c.status.state call (queued_of done) position.gone (over_of b position) (late_of b x) step in
       let keeps = Keeps-after {X = Unit {0}} s t c b ring ring x count c.stretch.written AnySamples y port same (omega (arith, saw)) laid_it (λ samples stands any. stands) in
@@ -221,11 +221,11 @@ module _ {S T : Type 0} (P : mixport.Ghosts S) (G : gates.Ghosts T) (laid_compos
       })
 
   -- a sync of a client that moves frames
-  looked-kept : (s t : S × T) (c : Plain) (ring : List ℤ) (call : Call) (load : Option Position) (x : Commit) → IsSound c ring → is_moving c.status.state ≡ true → c.status.stopped ≡ false → IsStep c.status.state call → CanUse c (P.view s.0)
+  looked-kept : (s t : S × T) (c : PlaybackStream) (ring : List ℤ) (call : Call) (load : Option Position) (x : Commit) → IsSound c ring → is_moving c.status.state ≡ true → c.status.stopped ≡ false → IsStep c.status.state call → CanUse c (P.view s.0)
       → IsSamePort (P.view s.0) (P.view t.0) → Looked P G s t ring (λ position. c) (sync_count c) (length c.setup.bindings) load x → Synced s t c ring IsLaidPast (after_sync c call load x)
   looked-kept s t c ring call None x sound moves going step port same l = unloaded-kept s t c ring IsLaidPast sound port same l.laid_them l.stopped
   looked-kept s t c ring call (Some position) x sound moves going step port same l =
-      let b : Plain = seen_at c position in
+      let b : PlaybackStream = seen_at c position in
       let m = sound.moving moves going in
       let loaded = loaded-of c (P.view s.0) position moves going port l.near.0 l.near.1 in
       let y = CommitsAs-seen c ring position x (sync_count c position) sound moves going loaded (if-le (position.gone || is_some (over_of b position)) (commit_count c position.frame c.stretch.written)) l.found.commit_is in
@@ -239,18 +239,18 @@ module _ {S T : Type 0} (P : mixport.Ghosts S) (G : gates.Ghosts T) (laid_compos
             (whole_least c.stretch.written c.stretch.committed c.stretch.card x.frames position.frame _ (window_end-above position.frame c.identity.geometry.frames (end_frame c.identity.geometry) loaded.most) whole),
       ))
 
-  pub syncs-kept : (s t : S × T) (c : Plain) (ring : List ℤ) (call : Call) (a : Answered (Unit {0})) → IsSound c ring → is_moving c.status.state ≡ true → c.status.stopped ≡ false → IsStep c.status.state call
+  pub syncs-kept : (s t : S × T) (c : PlaybackStream) (ring : List ℤ) (call : Call) (a : Answered (Unit {0})) → IsSound c ring → is_moving c.status.state ≡ true → c.status.stopped ≡ false → IsStep c.status.state call
       → CanUse c (P.view s.0) → TakesAt P G s (syncs c call ring) t a → Synced s t c ring IsLaidPast a
   syncs-kept s t c ring call a sound moves going step port takes =
       let st = syncs-step s t c ring call a (configured-moving c ring sound moves).bound takes in
       subst (Synced s t c ring IsLaidPast) st.outcome (looked-kept s t c ring call st.load st.commit sound moves going step port (TakesAt-same P G s t (syncs c call ring) a takes) st.looked)
 
   -- what a start of the frames before `written + m` leaves, of which m are accepted where it goes well
-  pub record Begun (s t : S × T) (c : Plain) (ring : List ℤ) (state : State) (m : ℕ) (a : Answered (Unit {0})) : Type 0 where
+  pub record Begun (s t : S × T) (c : PlaybackStream) (ring : List ℤ) (state : State) (m : ℕ) (a : Answered (Unit {0})) : Type 0 where
     pub keeps : Keeps P G s t (client c ring) (client (accepted_if m a).0 ring) (accepted_if m a).1 (λ samples. StandsUpTo c ring samples (c.stretch.written + m))
     pub goes : OnOk a.1 (a.0.status.state ≡ state × a.0.status.stopped ≡ c.status.stopped)
 
-  begun-kept : (s t : S × T) (c : Plain) (ring : List ℤ) (state : State) (m : ℕ) (load : Option Position) (x : Commit) → IsSound c ring → c.status.state ≡ Prepared → is_moving state ≡ true → c.stretch.written + m ≤ c.setup.config.buffer_size
+  begun-kept : (s t : S × T) (c : PlaybackStream) (ring : List ℤ) (state : State) (m : ℕ) (load : Option Position) (x : Commit) → IsSound c ring → c.status.state ≡ Prepared → is_moving state ≡ true → c.stretch.written + m ≤ c.setup.config.buffer_size
       → (P.view s.0).marks.cursor.frame ≤ end_frame c.identity.geometry → CanUse c (P.view s.0) → IsSamePort (P.view s.0) (P.view t.0)
       → Looked P G s t ring (λ position. started_in c Running position (P.view s.0).marks.cursor) (λ position. start_count c (P.view s.0).marks.cursor position (c.stretch.written + m)) (length c.setup.bindings) load x
       → Begun s t c ring state m (after_start c state (P.view s.0).marks.cursor load x)
@@ -262,7 +262,7 @@ module _ {S T : Type 0} (P : mixport.Ghosts S) (G : gates.Ghosts T) (laid_compos
       let cursor = (P.view s.0).marks.cursor in
       let upto : ℕ = c.stretch.written + m in
       let count : ℕ = start_count c cursor position upto in
-      let b : Plain = started_in c state position cursor in
+      let b : PlaybackStream = started_in c state position cursor in
       let p = sound.prepared waits in
       let most : position.frame ≤ end_frame c.identity.geometry = subst (λ (g : Geometry). position.frame ≤ end_frame g) port.same_geometry l.near.1.most in
       let y = CommitsAs-started c ring state position cursor x upto sound waits near most l.found.commit_is in
@@ -270,7 +270,7 @@ module _ {S T : Type 0} (P : mixport.Ghosts S) (G : gates.Ghosts T) (laid_compos
       after_start-ends (Begun s t c ring state m) c state cursor position x
       (λ gone.
       let none = none-of x.ended x.frames x.part (length c.setup.bindings) (subst (λ (n : ℕ). IsCommit x.ended x.frames x.part n (length c.setup.bindings)) (ap (λ (g : Bool). if g then 0 else commit_count b position.frame upto) gone) l.found.commit_is) in
-      let d : Plain = record c { status = record c.status { state = Disconnected }; seen = Some position.frame } in
+      let d : PlaybackStream = record c { status = record c.status { state = Disconnected }; seen = Some position.frame } in
       record {
         keeps = Keeps-still s t c d ring ring (Err error.NoDevice) _ (IsSound-status c d.status d.seen ring sound most (λ is. absurd (cc)) (λ is. absurd (cc)) (λ moves going. absurd (cc)) (λ is. absurd (cc)))
             (CanUse-still c d _ _ port same refl (λ moves going. cc)) (subst (P.laid s.0 t.0) (laid_at-none c b ring x none.0 none.1) l.laid_them) (λ unstopped. subst (λ (e : Ended). CountsEnd e (G.stops s.1) (G.stops t.1)) none.2 l.stopped)
@@ -290,7 +290,7 @@ module _ {S T : Type 0} (P : mixport.Ghosts S) (G : gates.Ghosts T) (laid_compos
       })
 
   -- a start of a client that is prepared
-  pub starts-kept : (s t : S × T) (c : Plain) (ring : List ℤ) (state : State) (m : ℕ) (a : Answered (Unit {0})) → IsSound c ring → c.status.state ≡ Prepared → is_moving state ≡ true
+  pub starts-kept : (s t : S × T) (c : PlaybackStream) (ring : List ℤ) (state : State) (m : ℕ) (a : Answered (Unit {0})) → IsSound c ring → c.status.state ≡ Prepared → is_moving state ≡ true
       → c.stretch.written + m ≤ c.setup.config.buffer_size → (P.view s.0).marks.cursor.frame ≤ end_frame c.identity.geometry → CanUse c (P.view s.0)
       → TakesAt P G s (starts c state (P.view s.0).marks.cursor (c.stretch.written + m) ring) t a → Begun s t c ring state m a
   starts-kept s t c ring state m a sound waits leads fits near port takes =
@@ -298,14 +298,14 @@ module _ {S T : Type 0} (P : mixport.Ghosts S) (G : gates.Ghosts T) (laid_compos
       subst (Begun s t c ring state m) st.outcome (begun-kept s t c ring state m st.load st.commit sound waits leads fits near port (TakesAt-same P G s t (starts c state (P.view s.0).marks.cursor (c.stretch.written + m) ring) a takes) st.looked)
 
   -- of all that is written
-  pub start-kept : (s t : S × T) (c : Plain) (ring : List ℤ) (state : State) (a : Answered (Unit {0})) → IsSound c ring → c.status.state ≡ Prepared → is_moving state ≡ true
+  pub start-kept : (s t : S × T) (c : PlaybackStream) (ring : List ℤ) (state : State) (a : Answered (Unit {0})) → IsSound c ring → c.status.state ≡ Prepared → is_moving state ≡ true
       → (P.view s.0).marks.cursor.frame ≤ end_frame c.identity.geometry → CanUse c (P.view s.0) → TakesAt P G s (starts c state (P.view s.0).marks.cursor c.stretch.written ring) t a
       → Keeps P G s t (client c ring) (client a.0 ring) a.1 AnySamples × OnOk a.1 (a.0.status.state ≡ state × a.0.status.stopped ≡ c.status.stopped)
   start-kept s t c ring state a sound waits leads near port takes =
       let all : c.stretch.written + 0 ≡ c.stretch.written = add-zero c.stretch.written in
       let begun = starts-kept s t c ring state 0 a sound waits leads (omega (arith, (sound.prepared waits).fits)) near port (subst (λ (n : ℕ). TakesAt P G s (starts c state (P.view s.0).marks.cursor n ring) t a) (sym all) takes) in
       let k = begun.keeps in (
-        subst (λ (d : Plain). Keeps P G s t (client c ring) (client d ring) a.1 AnySamples) (accepted-none a) (record {
+        subst (λ (d : PlaybackStream). Keeps P G s t (client c ring) (client d ring) a.1 AnySamples) (accepted-none a) (record {
           sound = k.sound;
           port = k.port;
           told = λ unstopped. accepted_if-told 0 a (G.stops s.1) (G.stops t.1) (k.told unstopped);
@@ -316,34 +316,34 @@ module _ {S T : Type 0} (P : mixport.Ghosts S) (G : gates.Ghosts T) (laid_compos
       )
 
   -- nothing was done
-  pub Keeps-none : {X : Type 0} (s : S × T) (c : ClientView) (answer : Result X PcmError) (For : List ℤ → Type 0) → IsSound c.plain c.ring → CanUse c.plain (P.view s.0)
-      → (c.plain.status.stopped ≡ false → pass_by answer ≡ Go) → Keeps P G s s c c answer For
+  pub Keeps-none : {X : Type 0} (s : S × T) (c : ClientView) (answer : Result X PcmError) (For : List ℤ → Type 0) → IsSound c.stream c.ring → CanUse c.stream (P.view s.0)
+      → (c.stream.status.stopped ≡ false → pass_by answer ≡ Go) → Keeps P G s s c c answer For
   Keeps-none s c answer For sound port told =
-      Keeps-still s s c.plain c.plain c.ring c.ring answer For sound port (laid_composes.none s.0) (λ unstopped. ap (λ pass. stops_after pass (G.stops s.1)) (sym (told unstopped))) (λ samples stands. refl) refl refl (λ samples stands any. stands)
+      Keeps-still s s c.stream c.stream c.ring c.ring answer For sound port (laid_composes.none s.0) (λ unstopped. ap (λ pass. stops_after pass (G.stops s.1)) (sym (told unstopped))) (λ samples stands. refl) refl refl (λ samples stands any. stands)
 
   -- the answer is a number
-  pub Keeps-numbered : (s t : S × T) (c : ClientView) (number : Plain → ℕ) (a : Answered (Unit {0})) (ring : List ℤ) → Keeps P G s t c (client a.0 ring) a.1 AnySamples → Keeps P G s t c (client (with_number number a).0 ring) (with_number number a).1 AnySamples
+  pub Keeps-numbered : (s t : S × T) (c : ClientView) (number : PlaybackStream → ℕ) (a : Answered (Unit {0})) (ring : List ℤ) → Keeps P G s t c (client a.0 ring) a.1 AnySamples → Keeps P G s t c (client (with_number number a).0 ring) (with_number number a).1 AnySamples
   Keeps-numbered s t c number (d, Ok done) ring k = record { sound = k.sound; port = k.port; told = k.told; grows = k.grows; stands = k.stands }
   Keeps-numbered s t c number (d, Err e) ring k = record { sound = k.sound; port = k.port; told = k.told; grows = k.grows; stands = k.stands }
 
   -- one part after another
   pub Keeps-then : {X Y : Type 0} (s m t : S × T) (c d e : ClientView) (first : Result X PcmError) (answer : Result Y PcmError) (For More : List ℤ → Type 0)
-      → pass_by first ≡ Go → d.plain.status.stopped ≡ false → ((samples : List ℤ) → For samples → More samples)
+      → pass_by first ≡ Go → d.stream.status.stopped ≡ false → ((samples : List ℤ) → For samples → More samples)
       → Keeps P G s m c d first For → Keeps P G m t d e answer More → Keeps P G s t c e answer For
   Keeps-then s m t c d e first answer For More went going more one two = record {
     sound = two.sound;
     port = two.port;
     told = λ unstopped. two.told going ∙ ap (stops_after (pass_by answer)) (one.told unstopped ∙ ap (λ pass. stops_after pass (G.stops s.1)) went);
-    grows = λ samples stands for. Grows-joined P.laid laid_composes s.0 m.0 t.0 c.plain d.plain e.plain samples (one.grows samples stands for) (two.grows samples (one.stands samples stands for) (more samples for));
+    grows = λ samples stands for. Grows-joined P.laid laid_composes s.0 m.0 t.0 c.stream d.stream e.stream samples (one.grows samples stands for) (two.grows samples (one.stands samples stands for) (more samples for));
     stands = λ samples stands for. two.stands samples (one.stands samples stands for) (more samples for);
   }
 
   -- a write behind its sync
-  pub record Written (s t : S × T) (c : Plain) (ring offered : List ℤ) (n : ℕ) (a : Answered ℕ) : Type 0 where
+  pub record Written (s t : S × T) (c : PlaybackStream) (ring offered : List ℤ) (n : ℕ) (a : Answered ℕ) : Type 0 where
     pub keeps : Keeps P G s t (client c ring) (client a.0 (ring_with c ring offered (taken_of c n))) a.1 (λ all. Follows c all offered n)
     pub count : IfOk a.1 (λ taken. taken ≤ 16384)
 
-  written-kept : (s t : S × T) (c : Plain) (ring offered : List ℤ) (n : ℕ) (x : Commit) → IsSound c ring → is_moving c.status.state ≡ true → c.status.stopped ≡ false → IsLaidPast c → n * length c.setup.bindings ≤ length offered → CanUse c (P.view s.0) → IsSamePort (P.view s.0) (P.view t.0)
+  written-kept : (s t : S × T) (c : PlaybackStream) (ring offered : List ℤ) (n : ℕ) (x : Commit) → IsSound c ring → is_moving c.status.state ≡ true → c.status.stopped ≡ false → IsLaidPast c → n * length c.setup.bindings ≤ length offered → CanUse c (P.view s.0) → IsSamePort (P.view s.0) (P.view t.0)
       → LaysFrames P G s t c.identity.member c.stretch.card c.setup.bindings (ring_sample c (ring_with c ring offered (taken_of c n))) (count_with c (taken_of c n)) c.stretch.committed x → Written s t c ring offered n (written_after c n x)
   written-kept s t c ring offered n x sound moves going past held_all port same laid =
       let k = configured-moving c ring sound moves in
@@ -385,13 +385,13 @@ module _ {S T : Type 0} (P : mixport.Ghosts S) (G : gates.Ghosts T) (laid_compos
         count = omega (arith, (taken_fits c.stretch.written (hw_of c) c.setup.config.buffer_size n m was.fits refl).1, k.buffer_most);
       })
 
-  pub record Taken (s t : S × T) (c : Plain) (ring offered : List ℤ) (n : ℕ) (a : Answered ℕ) : Type 0 where
+  pub record Taken (s t : S × T) (c : PlaybackStream) (ring offered : List ℤ) (n : ℕ) (a : Answered ℕ) : Type 0 where
     pub kept : Written s t c ring offered n a
     pub last : Commit
     pub outcome : written_after c n last ≡ a
     pub late : OnLate last.ended (λ word. IsPast P.view P.shows t.0 (end_of_commit c last) (end_channel c last) word)
 
-  pub takes_more-kept : (s t : S × T) (c : Plain) (ring offered : List ℤ) (n : ℕ) (a : Answered ℕ) → IsSound c ring → is_moving c.status.state ≡ true → c.status.stopped ≡ false → IsLaidPast c
+  pub takes_more-kept : (s t : S × T) (c : PlaybackStream) (ring offered : List ℤ) (n : ℕ) (a : Answered ℕ) → IsSound c ring → is_moving c.status.state ≡ true → c.status.stopped ≡ false → IsLaidPast c
       → n * length c.setup.bindings ≤ length offered → CanUse c (P.view s.0) → TakesAt P G s (takes_more c ring offered n) t a → Taken s t c ring offered n a
   unfolding takes_more
   takes_more-kept s t c ring offered n a sound moves going past held_all port takes =
@@ -406,7 +406,7 @@ module _ {S T : Type 0} (P : mixport.Ghosts S) (G : gates.Ghosts T) (laid_compos
       }))
 
   -- why a sync and a start answered so
-  pub syncs-explained : (s t : S × T) (c : Plain) (ring : List ℤ) (call : Call) (a : Answered (Unit {0})) → AreBindings c.setup.bindings → IsStep c.status.state call
+  pub syncs-explained : (s t : S × T) (c : PlaybackStream) (ring : List ℤ) (call : Call) (a : Answered (Unit {0})) → AreBindings c.setup.bindings → IsStep c.status.state call
       → TakesAt P G s (syncs c call ring) t a → Explains P G s t (client c ring) (λ position. c) (sync_count c) (after_sync c call) a
   syncs-explained s t c ring call a bound step takes =
       let st = syncs-step s t c ring call a bound takes in
@@ -415,7 +415,7 @@ module _ {S T : Type 0} (P : mixport.Ghosts S) (G : gates.Ghosts T) (laid_compos
         why = subst (λ (d : Answered (Unit {0})). IsCaused P.view P.shows t.0 c d.0 st.load d.1) st.outcome (IsCaused-after_sync P.view P.shows t.0 c call st.load st.commit step st.looked.found st.looked.shown);
       }
 
-  pub starts-explained : (s t : S × T) (c : Plain) (ring : List ℤ) (state : State) (cursor : Cursor) (upto : ℕ) (a : Answered (Unit {0})) → AreBindings c.setup.bindings → c.status.state ≡ Prepared
+  pub starts-explained : (s t : S × T) (c : PlaybackStream) (ring : List ℤ) (state : State) (cursor : Cursor) (upto : ℕ) (a : Answered (Unit {0})) → AreBindings c.setup.bindings → c.status.state ≡ Prepared
       → TakesAt P G s (starts c state cursor upto ring) t a
       → Explains P G s t (client c ring) (λ position. started_in c Running position cursor) (λ position. start_count c cursor position upto) (after_start c state cursor) a
   starts-explained s t c ring state cursor upto a bound waits takes =
@@ -426,27 +426,27 @@ module _ {S T : Type 0} (P : mixport.Ghosts S) (G : gates.Ghosts T) (laid_compos
       }
 
   -- with a number in its answer
-  Explains-by : (f : Answered (Unit {0}) → Answered ℕ) (s t : S × T) (c : ClientView) (at : Position → Plain) (count : Position → ℕ) (call : Option Position → Commit → Answered (Unit {0})) (a : Answered (Unit {0})) (b : Answered ℕ)
-      → ((load : Option Position) → IsCaused {X = Unit {0}} P.view P.shows t.0 c.plain a.0 load a.1 → IsCaused {X = ℕ} P.view P.shows t.0 c.plain (f a).0 load (f a).1) → f a ≡ b → Explains P G s t c at count call a → Explains P G s t c at count (λ load commit. f (call load commit)) b
+  Explains-by : (f : Answered (Unit {0}) → Answered ℕ) (s t : S × T) (c : ClientView) (at : Position → PlaybackStream) (count : Position → ℕ) (call : Option Position → Commit → Answered (Unit {0})) (a : Answered (Unit {0})) (b : Answered ℕ)
+      → ((load : Option Position) → IsCaused {X = Unit {0}} P.view P.shows t.0 c.stream a.0 load a.1 → IsCaused {X = ℕ} P.view P.shows t.0 c.stream (f a).0 load (f a).1) → f a ≡ b → Explains P G s t c at count call a → Explains P G s t c at count (λ load commit. f (call load commit)) b
   Explains-by f s t c at count call a b caused is one =
       subst (λ (d : Answered ℕ). Explains P G s t c at count (λ load commit. f (call load commit)) d) is (record {
         step = record { load = one.step.load; commit = one.step.commit; looked = one.step.looked; outcome = ap f one.step.outcome };
         why = caused one.step.load one.why;
       })
 
-  pub Explains-number : (s t : S × T) (c : ClientView) (at : Position → Plain) (count : Position → ℕ) (call : Option Position → Commit → Answered (Unit {0})) (number : Plain → ℕ) (a : Answered (Unit {0})) (b : Answered ℕ)
+  pub Explains-number : (s t : S × T) (c : ClientView) (at : Position → PlaybackStream) (count : Position → ℕ) (call : Option Position → Commit → Answered (Unit {0})) (number : PlaybackStream → ℕ) (a : Answered (Unit {0})) (b : Answered ℕ)
       → with_number number a ≡ b → Explains P G s t c at count call a → Explains P G s t c at count (λ load commit. with_number number (call load commit)) b
-  Explains-number s t c at count call number a b is one = Explains-by (with_number number) s t c at count call a b (λ load why. caused-number P.view P.shows t.0 load c.plain number a why) is one
+  Explains-number s t c at count call number a b is one = Explains-by (with_number number) s t c at count call a b (λ load why. caused-number P.view P.shows t.0 load c.stream number a why) is one
 
   -- a drain of a stream that moves frames is to be made again exactly where it still drains
-  pub syncs-still : (s t : S × T) (c : Plain) (ring : List ℤ) (a : Answered (Unit {0})) → AreBindings c.setup.bindings → c.status.state ≡ Draining → c.status.stopped ≡ false
+  pub syncs-still : (s t : S × T) (c : PlaybackStream) (ring : List ℤ) (a : Answered (Unit {0})) → AreBindings c.setup.bindings → c.status.state ≡ Draining → c.status.stopped ≡ false
       → TakesAt P G s (syncs c call.Drain ring) t a → IsStill a
   syncs-still s t c ring a bound drains going takes =
       let st = syncs-step s t c ring call.Drain a bound takes in
       subst IsStill st.outcome (after_sync-still c st.load st.commit drains going)
 
   -- a write into a stream that runs, by its two parts
-  pub writes-explained : (s m t : S × T) (c : Plain) (ring new_ring offered : List ℤ) (n : ℕ) (middle : Answered (Unit {0})) (a : Answered ℕ) → AreBindings c.setup.bindings → c.status.state ≡ Running
+  pub writes-explained : (s m t : S × T) (c : PlaybackStream) (ring new_ring offered : List ℤ) (n : ℕ) (middle : Answered (Unit {0})) (a : Answered ℕ) → AreBindings c.setup.bindings → c.status.state ≡ Running
       → TakesAt P G s (syncs c call.Transfer ring) m middle → TakesAt P G m (write_on ring offered n middle) t a → new_ring ≡ ring_with middle.0 ring offered (taken_after middle n)
       → (last : Commit) → written_on middle n last ≡ a → OnLate last.ended (λ word. IsPast P.view P.shows t.0 (end_of_commit middle.0 last) (end_channel middle.0 last) word)
       → ((e : PcmError) → middle.1 ≡ Err e → t ≡ m)
@@ -468,21 +468,21 @@ module _ {S T : Type 0} (P : mixport.Ghosts S) (G : gates.Ghosts T) (laid_compos
       }
 
   -- a stream that runs still runs after a sync for a write that went well
-  pub syncs-runs : (s t : S × T) (c : Plain) (ring : List ℤ) (a : Answered (Unit {0})) → AreBindings c.setup.bindings → c.status.state ≡ Running → a.1 ≡ Ok tt
+  pub syncs-runs : (s t : S × T) (c : PlaybackStream) (ring : List ℤ) (a : Answered (Unit {0})) → AreBindings c.setup.bindings → c.status.state ≡ Running → a.1 ≡ Ok tt
       → TakesAt P G s (syncs c call.Transfer ring) t a → a.0.status.state ≡ Running
   syncs-runs s t c ring a bound runs ok takes =
       let st = syncs-step s t c ring call.Transfer a bound takes in
       OnOk-of a.1 (a.0.status.state ≡ Running) ok (subst (λ (b : Answered (Unit {0})). OnOk b.1 (b.0.status.state ≡ Running)) st.outcome (after_sync-runs c st.load st.commit runs))
 
   -- the start of a drain, where it didn't go well
-  pub drains-ill : (s m : S × T) (c : Plain) (ring : List ℤ) (cursor : Cursor) (a : Answered (Unit {0})) (e : PcmError) → AreBindings c.setup.bindings → a.1 ≡ Err e
+  pub drains-ill : (s m : S × T) (c : PlaybackStream) (ring : List ℤ) (cursor : Cursor) (a : Answered (Unit {0})) (e : PcmError) → AreBindings c.setup.bindings → a.1 ≡ Err e
       → TakesAt P G s (starts c Draining cursor c.stretch.written ring) m a → IsStill a
   drains-ill s m c ring cursor a e bound is takes =
       let st = starts-step s m c ring Draining cursor c.stretch.written a bound takes in
       subst (λ (b : Answered (Unit {0})). b.1 ≡ Err e → IsStill b) st.outcome (after_start-still c cursor st.load st.commit e) is
 
   -- a write into a prepared stream that doesn't start it
-  pub stored-kept : (s : S × T) (c : Plain) (ring stored samples : List ℤ) (n m : ℕ) → m ≡ taken_of c n → stored ≡ ring_with c ring samples m → IsSound c ring → IsSound c stored → c.status.state ≡ Prepared
+  pub stored-kept : (s : S × T) (c : PlaybackStream) (ring stored samples : List ℤ) (n m : ℕ) → m ≡ taken_of c n → stored ≡ ring_with c ring samples m → IsSound c ring → IsSound c stored → c.status.state ≡ Prepared
       → n * length c.setup.bindings ≤ length samples → CanUse c (P.view s.0)
       → Keeps P G s s (client c ring) (client (accepted c m) stored) (let r : Result ℕ PcmError = Ok m in r) (λ all. Follows c all samples n)
   stored-kept s c ring stored samples n m is is_stored sound sound_stored waits held_all port =
@@ -492,13 +492,13 @@ module _ {S T : Type 0} (P : mixport.Ghosts S) (G : gates.Ghosts T) (laid_compos
       (λ all stands for. filled-stands c ring stored samples all n m is is_stored sound waits held_all stands for)
 
   -- a write into a prepared stream that starts it
-  pub record Filled (s t : S × T) (c : Plain) (ring stored samples : List ℤ) (n m : ℕ) (a : Answered ℕ) : Type 0 where
+  pub record Filled (s t : S × T) (c : PlaybackStream) (ring stored samples : List ℤ) (n m : ℕ) (a : Answered ℕ) : Type 0 where
     pub keeps : Keeps P G s t (client c ring) (client a.0 stored) a.1 (λ all. Follows c all samples n)
     pub count : IfOk a.1 (λ k. k ≡ m)
     pub explains : Explains P G s t (client c stored) (λ position. started_in c Running position (P.view s.0).marks.cursor) (λ position. start_count c (P.view s.0).marks.cursor position (c.stretch.written + m))
         (λ load commit. accepted_if m (after_start c Running (P.view s.0).marks.cursor load commit)) a
 
-  pub filled-kept : (s t : S × T) (c : Plain) (ring stored samples : List ℤ) (n m : ℕ) (a : Answered ℕ) → m ≡ taken_of c n → stored ≡ ring_with c ring samples m → IsSound c ring → IsSound c stored → c.status.state ≡ Prepared
+  pub filled-kept : (s t : S × T) (c : PlaybackStream) (ring stored samples : List ℤ) (n m : ℕ) (a : Answered ℕ) → m ≡ taken_of c n → stored ≡ ring_with c ring samples m → IsSound c ring → IsSound c stored → c.status.state ≡ Prepared
       → n * length c.setup.bindings ≤ length samples → (P.view s.0).marks.cursor.frame ≤ end_frame c.identity.geometry → CanUse c (P.view s.0)
       → TakesAt P G s (starts_taking c stored (P.view s.0).marks.cursor m) t a → Filled s t c ring stored samples n m a
   unfolding starts_taking
@@ -519,12 +519,12 @@ module _ {S T : Type 0} (P : mixport.Ghosts S) (G : gates.Ghosts T) (laid_compos
       }))
 
   -- a write into a stream that runs, whose sync went well
-  pub record Wrote (s t : S × T) (c : Plain) (ring new offered : List ℤ) (n : ℕ) (a : Answered ℕ) : Type 0 where
+  pub record Wrote (s t : S × T) (c : PlaybackStream) (ring new offered : List ℤ) (n : ℕ) (a : Answered ℕ) : Type 0 where
     pub keeps : Keeps P G s t (client c ring) (client a.0 new) a.1 (λ all. Follows c all offered n)
     pub count : IfOk a.1 (λ taken. taken ≤ 16384)
     pub explains : ExplainsWrite P G s t c ring new offered n a
 
-  pub writes-kept : (s m t : S × T) (c d : Plain) (ring new offered : List ℤ) (n : ℕ) (a : Answered ℕ) → new ≡ ring_with d ring offered (taken_of d n) → IsSound c ring → c.status.state ≡ Running → c.status.stopped ≡ false
+  pub writes-kept : (s m t : S × T) (c d : PlaybackStream) (ring new offered : List ℤ) (n : ℕ) (a : Answered ℕ) → new ≡ ring_with d ring offered (taken_of d n) → IsSound c ring → c.status.state ≡ Running → c.status.stopped ≡ false
       → n * length c.setup.bindings ≤ length offered → CanUse c (P.view s.0) → TakesAt P G s (syncs c call.Transfer ring) m (d, Ok tt) → TakesAt P G m (takes_more d ring offered n) t a
       → Wrote s t c ring new offered n a
   writes-kept s m t c d ring new offered n a is_new sound runs unstopped held_all port one two =
@@ -542,14 +542,14 @@ module _ {S T : Type 0} (P : mixport.Ghosts S) (G : gates.Ghosts T) (laid_compos
       })
 
   -- a client whose state is left, with nothing done
-  left-kept : (s : S × T) (c : Plain) (ring : List ℤ) (state : State) → IsSound (record c { status = record c.status { state = state } }) ring → CanUse c (P.view s.0) → is_moving state ≡ false
+  left-kept : (s : S × T) (c : PlaybackStream) (ring : List ℤ) (state : State) → IsSound (record c { status = record c.status { state = state } }) ring → CanUse c (P.view s.0) → is_moving state ≡ false
       → Keeps P G s s (client c ring) (client (record c { status = record c.status { state = state } }) ring) (let r : Result (Unit {0}) PcmError = Ok tt in r) AnySamples
   left-kept s c ring state sound port rests =
       Keeps-still s s c (record c { status = record c.status { state = state } }) ring ring (Ok tt) AnySamples sound
       (CanUse-still c (record c { status = record c.status { state = state } }) (P.view s.0) (P.view s.0) port (IsSamePort-refl (P.view s.0)) refl (λ moves going. cc)) (laid_composes.none s.0) (λ unstopped. refl) (λ samples stands. refl) refl refl (λ samples stands any. stands)
 
   -- a drain with nothing to play
-  pub dropped-kept : (s : S × T) (c : Plain) (ring : List ℤ) → IsSound c ring → refusal_of Playback c.status call.Drain ≡ None → CanUse c (P.view s.0)
+  pub dropped-kept : (s : S × T) (c : PlaybackStream) (ring : List ℤ) → IsSound c ring → refusal_of Playback c.status call.Drain ≡ None → CanUse c (P.view s.0)
       → Keeps P G s s (client c ring) (client (dropped c) ring) (let r : Result (Unit {0}) PcmError = Ok tt in r) AnySamples
   dropped-kept s c ring sound admitted port =
       left-kept s c ring Setup (IsSound-status c (record c.status { state = Setup }) c.seen ring sound sound.seen (λ is. sound.set_up (drain-set_up c.status.stopped c.status.state admitted)) (λ is. absurd (cc)) (λ moves going. absurd (cc)) (λ is. absurd (cc))) port refl
@@ -568,24 +568,24 @@ resume-paused false Paused is = refl
 resume-paused false s is = absurd (cc)
 
 -- with which counts a call begins
-stays-based : (a b : Bool) (c d : Plain) → (a ≡ true → b ≡ true) → (if a && not b then d else c) ≡ c
+stays-based : (a b : Bool) (c d : PlaybackStream) → (a ≡ true → b ≡ true) → (if a && not b then d else c) ≡ c
 stays-based false b c d is = refl
 stays-based true true c d is = refl
 stays-based true false c d is = absurd (let no = is refl in cc)
 
-pub base-kept : (c d : Plain) → (is_paused c.status.state ≡ true → is_paused d.status.state ≡ true) → base_of c d ≡ c
+pub base-kept : (c d : PlaybackStream) → (is_paused c.status.state ≡ true → is_paused d.status.state ≡ true) → base_of c d ≡ c
 base-kept c d is = stays-based (is_paused c.status.state) (is_paused d.status.state) c (rebased c) is
 
-anew-based : (a b : Bool) (c d : Plain) → a ≡ true → b ≡ false → (if a && not b then d else c) ≡ d
+anew-based : (a b : Bool) (c d : PlaybackStream) → a ≡ true → b ≡ false → (if a && not b then d else c) ≡ d
 anew-based false b c d is_paused is = absurd (cc)
 anew-based true true c d is_paused is = absurd (cc)
 anew-based true false c d is_paused is = refl
 
-pub base-anew : (c d : Plain) → c.status.state ≡ Paused → is_paused d.status.state ≡ false → base_of c d ≡ rebased c
+pub base-anew : (c d : PlaybackStream) → c.status.state ≡ Paused → is_paused d.status.state ≡ false → base_of c d ≡ rebased c
 base-anew c d is goes = anew-based (is_paused c.status.state) (is_paused d.status.state) c (rebased c) (ap is_paused is) goes
 
 -- the counts of a paused client, based anew, are those of a prepared one
-pub IsSound-rebased : (c : Plain) (ring : List ℤ) → IsSound c ring → c.status.state ≡ Paused → IsSound (rebased c) ring
+pub IsSound-rebased : (c : PlaybackStream) (ring : List ℤ) → IsSound c ring → c.status.state ≡ Paused → IsSound (rebased c) ring
 IsSound-rebased c ring sound is =
     let m = sound.paused is in
     record {
@@ -602,54 +602,54 @@ IsSound-rebased c ring sound is =
     }
 
 -- a client that is paused
-IsSound-paused : (c : Plain) (ring : List ℤ) → IsSound c ring → c.status.state ≡ Running → c.status.stopped ≡ false → IsSound (paused c) ring
+IsSound-paused : (c : PlaybackStream) (ring : List ℤ) → IsSound c ring → c.status.state ≡ Running → c.status.stopped ≡ false → IsSound (paused c) ring
 IsSound-paused c ring sound runs going =
     IsSound-status c (record c.status { state = Paused }) c.seen ring sound sound.seen (λ set. sound.set_up (ap is_set_up runs)) (λ waits. absurd (cc)) (λ moves still. absurd (cc)) (λ still. sound.moving (ap is_moving runs) going)
 
 -- a start that loaded the position isn't paused
-not_paused-after_start : (c : Plain) (cursor : Cursor) (position : Position) (commit : Commit) → is_paused (after_start c Running cursor (Some position) commit).0.status.state ≡ false
+not_paused-after_start : (c : PlaybackStream) (cursor : Cursor) (position : Position) (commit : Commit) → is_paused (after_start c Running cursor (Some position) commit).0.status.state ≡ false
 not_paused-after_start c cursor position commit =
     after_start-ends (λ (a : Answered (Unit {0})). is_paused a.0.status.state ≡ false) c Running cursor position commit (λ gone. refl) (λ here stop. refl) (λ w here going late. refl) (λ here going in_time. refl)
 
 module _ {S T : Type 0} (P : mixport.Ghosts S) (G : gates.Ghosts T) (laid_composes : Composes P.laid) (loaded_composes : Composes P.loaded) where
   -- a pause
-  pub paused-kept : (s : S × T) (c : Plain) (ring : List ℤ) → IsSound c ring → refusal_of Playback c.status call.Pause ≡ None → CanUse c (P.view s.0)
+  pub paused-kept : (s : S × T) (c : PlaybackStream) (ring : List ℤ) → IsSound c ring → refusal_of Playback c.status call.Pause ≡ None → CanUse c (P.view s.0)
       → Keeps P G s s (client (base_of c (paused c)) ring) (client (paused c) ring) (let r : Result (Unit {0}) PcmError = Ok tt in r) AnySamples
   paused-kept s c ring sound admitted port =
       let is = pause-runs c.status.stopped c.status.state admitted in
-      subst (λ (b : Plain). Keeps P G s s (client b ring) (client (paused c) ring) (let r : Result (Unit {0}) PcmError = Ok tt in r) AnySamples) (sym (base-kept c (paused c) (λ is. refl)))
+      subst (λ (b : PlaybackStream). Keeps P G s s (client b ring) (client (paused c) ring) (let r : Result (Unit {0}) PcmError = Ok tt in r) AnySamples) (sym (base-kept c (paused c) (λ is. refl)))
       (left-kept P G laid_composes loaded_composes s c ring Paused (IsSound-paused c ring sound is.0 is.1) port refl)
 
-  CanUse-rebased : (c : Plain) (v : PortView) → CanUse c v → CanUse (rebased c) v
+  CanUse-rebased : (c : PlaybackStream) (v : PortView) → CanUse c v → CanUse (rebased c) v
   CanUse-rebased c v port = CanUse-still c (rebased c) v v port (IsSamePort-refl v) refl (λ moves going. cc)
 
   -- a resume without pending frames
-  pub rebased-kept : (s : S × T) (c : Plain) (ring : List ℤ) → IsSound c ring → refusal_of Playback c.status call.Resume ≡ None → CanUse c (P.view s.0)
+  pub rebased-kept : (s : S × T) (c : PlaybackStream) (ring : List ℤ) → IsSound c ring → refusal_of Playback c.status call.Resume ≡ None → CanUse c (P.view s.0)
       → Keeps P G s s (client (base_of c (rebased c)) ring) (client (rebased c) ring) (let r : Result (Unit {0}) PcmError = Ok tt in r) AnySamples
   rebased-kept s c ring sound admitted port =
       let is = resume-paused c.status.stopped c.status.state admitted in
-      subst (λ (b : Plain). Keeps P G s s (client b ring) (client (rebased c) ring) (let r : Result (Unit {0}) PcmError = Ok tt in r) AnySamples) (sym (base-anew c (rebased c) is refl))
+      subst (λ (b : PlaybackStream). Keeps P G s s (client b ring) (client (rebased c) ring) (let r : Result (Unit {0}) PcmError = Ok tt in r) AnySamples) (sym (base-anew c (rebased c) is refl))
       (Keeps-none P G laid_composes loaded_composes s (client (rebased c) ring) (Ok tt) AnySamples (IsSound-rebased c ring sound is) (CanUse-rebased c (P.view s.0) port) (λ unstopped. refl))
 
   -- a resume with pending frames
-  resumed-by : (s t : S × T) (c : Plain) (ring : List ℤ) (cursor : Cursor) (load : Option Position) (commit : Commit) → IsSound c ring → c.status.state ≡ Paused → CanUse c (P.view s.0) → IsSamePort (P.view s.0) (P.view t.0)
+  resumed-by : (s t : S × T) (c : PlaybackStream) (ring : List ℤ) (cursor : Cursor) (load : Option Position) (commit : Commit) → IsSound c ring → c.status.state ≡ Paused → CanUse c (P.view s.0) → IsSamePort (P.view s.0) (P.view t.0)
       → P.laid s.0 t.0 (entries_at load (λ position. started_in (rebased c) Running position cursor) ring commit)
       → Keeps P G s t (client (rebased c) ring) (client (after_start (rebased c) Running cursor load commit).0 ring) (after_start (rebased c) Running cursor load commit).1 AnySamples
       → Keeps P G s t (client (base_of c (resumed c cursor load commit).0) ring) (client (resumed c cursor load commit).0 ring) (resumed c cursor load commit).1 AnySamples
   resumed-by s t c ring cursor None commit sound is port same laid_nothing keeps =
-      let d : Plain = record c { status = record c.status { stopped = true } } in
-      subst (λ (b : Plain). Keeps P G s t (client b ring) (client d ring) (let r : Result (Unit {0}) PcmError = Err error.Stopped in r) AnySamples) (sym (base-kept c d (λ is. is)))
+      let d : PlaybackStream = record c { status = record c.status { stopped = true } } in
+      subst (λ (b : PlaybackStream). Keeps P G s t (client b ring) (client d ring) (let r : Result (Unit {0}) PcmError = Err error.Stopped in r) AnySamples) (sym (base-kept c d (λ is. is)))
       (Keeps-still P G laid_composes loaded_composes s t c d ring ring (Err error.Stopped) AnySamples (IsSound-stopped c ring sound) (CanUse-still c d (P.view s.0) (P.view t.0) port same refl (λ moves going. cc)) laid_nothing keeps.told (λ samples stands. refl) refl refl (λ samples stands any. stands))
   resumed-by s t c ring cursor (Some position) commit sound is port same laid_nothing keeps =
-      subst (λ (b : Plain). Keeps P G s t (client b ring) (client (after_start (rebased c) Running cursor (Some position) commit).0 ring) (after_start (rebased c) Running cursor (Some position) commit).1 AnySamples)
+      subst (λ (b : PlaybackStream). Keeps P G s t (client b ring) (client (after_start (rebased c) Running cursor (Some position) commit).0 ring) (after_start (rebased c) Running cursor (Some position) commit).1 AnySamples)
       (sym (base-anew c (after_start (rebased c) Running cursor (Some position) commit).0 is (not_paused-after_start (rebased c) cursor position commit))) keeps
 
-  pub resumes-kept : (s t : S × T) (c : Plain) (ring : List ℤ) (a : Answered (Unit {0})) → IsSound c ring → c.status.state ≡ Paused → (P.view s.0).marks.cursor.frame ≤ end_frame c.identity.geometry → CanUse c (P.view s.0)
+  pub resumes-kept : (s t : S × T) (c : PlaybackStream) (ring : List ℤ) (a : Answered (Unit {0})) → IsSound c ring → c.status.state ≡ Paused → (P.view s.0).marks.cursor.frame ≤ end_frame c.identity.geometry → CanUse c (P.view s.0)
       → TakesAt P G s (resumes c (P.view s.0).marks.cursor ring) t a → Keeps P G s t (client (base_of c a.0) ring) (client a.0 ring) a.1 AnySamples
   unfolding resumes
   resumes-kept s t c ring a sound is near port takes =
       let cursor = (P.view s.0).marks.cursor in
-      let at : Position → Plain = λ position. started_in (rebased c) Running position cursor in
+      let at : Position → PlaybackStream = λ position. started_in (rebased c) Running position cursor in
       let count : Position → ℕ = λ position. start_count (rebased c) cursor position (pending_of c) in
       let bound = (sound.configured (sound.set_up (ap is_set_up is))).bound in
       let parts = Takes-parts (LoadsAt P G) (LaysAt P G) NoGet s t (looks at count ring) (λ found. ends (resumed c cursor found.0 found.1)) a takes in
@@ -661,13 +661,13 @@ module _ {S T : Type 0} (P : mixport.Ghosts S) (G : gates.Ghosts T) (laid_compos
       (subst (λ (b : Answered (Unit {0})). Keeps P G s parts.0 (client (base_of c b.0) ring) (client b.0 ring) b.1 AnySamples) (sym parts.3.result)
       (resumed-by s parts.0 c ring cursor parts.1.0 parts.1.1 sound is port (TakesAt-same P G s parts.0 (looks at count ring) parts.1 parts.2) looked.laid_them keeps))
 
-  why-resumed : (t : S × T) (c : Plain) (cursor : Cursor) (load : Option Position) (commit : Commit)
+  why-resumed : (t : S × T) (c : PlaybackStream) (cursor : Cursor) (load : Option Position) (commit : Commit)
       → IfSome load (λ position. OnLate commit.ended (λ word. IsPast P.view P.shows t.0 (end_of_commit (started_in (rebased c) Running position cursor) commit) (end_channel (started_in (rebased c) Running position cursor) commit) word))
       → IsCaused {X = Unit {0}} P.view P.shows t.0 (rebased c) (resumed c cursor load commit).0 load (resumed c cursor load commit).1
   why-resumed t c cursor None commit shown = caused-none P.view P.shows t.0 (rebased c) (record c { status = record c.status { stopped = true } })
   why-resumed t c cursor (Some position) commit shown = IsCaused-after_start P.view P.shows t.0 (rebased c) Running cursor (Some position) commit refl shown
 
-  pub resumes-explained : (s t : S × T) (c : Plain) (ring : List ℤ) (cursor : Cursor) (a : Answered (Unit {0})) → IsSound c ring → c.status.state ≡ Paused → TakesAt P G s (resumes c cursor ring) t a
+  pub resumes-explained : (s t : S × T) (c : PlaybackStream) (ring : List ℤ) (cursor : Cursor) (a : Answered (Unit {0})) → IsSound c ring → c.status.state ≡ Paused → TakesAt P G s (resumes c cursor ring) t a
       → Explains P G s t (client (rebased c) ring) (λ position. started_in (rebased c) Running position cursor) (λ position. start_count (rebased c) cursor position (pending_of c)) (resumed c cursor) a
   unfolding resumes
   resumes-explained s t c ring cursor a sound is takes =

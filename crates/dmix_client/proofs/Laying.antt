@@ -11,7 +11,7 @@ use Rattle.course.specs.AtPort.{LaysAt, LoadsAt, NoGet, TakesAt}
 use Rattle.course.specs.Course.{◌>>=◌, ends}
 use Rattle.course.specs.CourseLaws.{Takes-map, Takes-parts, Takes-then}
 use Rattle.dmix_client.specs.declared.commit.Commit.{Commit}
-use Rattle.dmix_client.specs.declared.plain.Plain.{Plain}
+use Rattle.dmix_client.specs.declared.stream.PlaybackStream.{PlaybackStream}
 use Rattle.dmix_client.specs.Course.{go_on, lay_each, lay_frame, lay_frames, lay_on, nothing, one_frame_more, one_more}
 use Rattle.dmix_client.specs.CourseLaws.{entry_of}
 use Rattle.dmix_client.specs.View.{ring_sample, slot_sample}
@@ -69,14 +69,14 @@ module _ {S T : Type 0} (P : mixport.Ghosts S) (G : gates.Ghosts T) where
       (so_far now 0 Whole (rw (drop_all i qs is) (record { there = refl; result = refl })))
 
   -- a frame that was placed from a slot, as a frame of the client
-  pub TakesAt-ring_sample : (plain : Plain) (ring : List ℤ) (member frame slot number : ℕ) (s t : S × T) (done : ℕ × Ended) → member ≡ plain.identity.member → frame ≡ plain.stretch.card + number
-      → slot ≡ (plain.stretch.source + number) % plain.setup.config.buffer_size * length plain.setup.bindings
-      → TakesAt P G s (lay_frame member frame plain.setup.bindings (slot_sample ring slot)) t done
-      → TakesAt P G s (lay_frame plain.identity.member (plain.stretch.card + number) plain.setup.bindings (ring_sample plain ring number)) t done
-  TakesAt-ring_sample plain ring member frame slot number s t done is_member is_frame is_slot takes =
-      subst (λ (m : ℕ). TakesAt P G s (lay_frame m (plain.stretch.card + number) plain.setup.bindings (ring_sample plain ring number)) t done) is_member
-      (subst (λ (f : ℕ). TakesAt P G s (lay_frame member f plain.setup.bindings (ring_sample plain ring number)) t done) is_frame
-      (subst (λ (n : ℕ). TakesAt P G s (lay_frame member frame plain.setup.bindings (slot_sample ring n)) t done) is_slot takes))
+  pub TakesAt-ring_sample : (stream : PlaybackStream) (ring : List ℤ) (member frame slot number : ℕ) (s t : S × T) (done : ℕ × Ended) → member ≡ stream.identity.member → frame ≡ stream.stretch.card + number
+      → slot ≡ (stream.stretch.source + number) % stream.setup.config.buffer_size * length stream.setup.bindings
+      → TakesAt P G s (lay_frame member frame stream.setup.bindings (slot_sample ring slot)) t done
+      → TakesAt P G s (lay_frame stream.identity.member (stream.stretch.card + number) stream.setup.bindings (ring_sample stream ring number)) t done
+  TakesAt-ring_sample stream ring member frame slot number s t done is_member is_frame is_slot takes =
+      subst (λ (m : ℕ). TakesAt P G s (lay_frame m (stream.stretch.card + number) stream.setup.bindings (ring_sample stream ring number)) t done) is_member
+      (subst (λ (f : ℕ). TakesAt P G s (lay_frame member f stream.setup.bindings (ring_sample stream ring number)) t done) is_frame
+      (subst (λ (n : ℕ). TakesAt P G s (lay_frame member frame stream.setup.bindings (slot_sample ring n)) t done) is_slot takes))
 
   pub RestFrames-none : (member card : ℕ) (bindings : List ℕ) (samples : ℕ → ℕ → ℤ) (count first : ℕ) (s : S × T) → RestFrames P G member card bindings samples count first s s 0
   RestFrames-none member card bindings samples count first s t x takes =

@@ -46,10 +46,10 @@ use Rattle.dmix_client.specs.Rewind.{back_of, checks, held_entries, last_channel
 use Rattle.dmix_client.specs.RewindCauses.{ExplainsCheck, ExplainsRewind, IsKeptCause}
 use Rattle.dmix_client.specs.View.{ClientView, IsGoing, IsMoving, IsSound, hw_of, queued_of, ring_sample}
 use Rattle.dmix_client.specs.declared.commit.Commit.{Commit}
-use Rattle.dmix_client.specs.declared.plain.Plain.{Plain}
+use Rattle.dmix_client.specs.declared.stream.PlaybackStream.{PlaybackStream}
 
 -- what it leaves: the client but for its status and the position that it saw
-pub record Checked {S T : Type 0} (P : mixport.Ghosts S) (G : gates.Ghosts T) (s t : S × T) (c : Plain) (ring : List ℤ) (a : Answered (Unit {0})) : Type 0 where
+pub record Checked {S T : Type 0} (P : mixport.Ghosts S) (G : gates.Ghosts T) (s t : S × T) (c : PlaybackStream) (ring : List ℤ) (a : Answered (Unit {0})) : Type 0 where
   pub keeps : Keeps P G s t (client c ring) (client a.0 ring) a.1 AnySamples
   pub goes : OnOk a.1 (IsGoing a.0)
   pub runs : OnOk a.1 (a.0.status.state ≡ Running)
@@ -63,15 +63,15 @@ any-of : (load : Option Position) (X : Position → Type 0) → ((position : Pos
 any-of None X is = tt
 any-of (Some position) X is = is position
 
-same-of : (c : Plain) (load : Option Position) → c.stretch.part ≡ 0 → (let a = after_sync c call.Transfer load nothing in a.0 ≡ record c { status = a.0.status; seen = a.0.seen })
+same-of : (c : PlaybackStream) (load : Option Position) → c.stretch.part ≡ 0 → (let a = after_sync c call.Transfer load nothing in a.0 ≡ record c { status = a.0.status; seen = a.0.seen })
 same-of c None whole = refl
 same-of c (Some position) whole =
-    after_sync-leaves (λ (d : Plain). d ≡ record c { status = d.status; seen = d.seen }) c call.Transfer position nothing
+    after_sync-leaves (λ (d : PlaybackStream). d ≡ record c { status = d.status; seen = d.seen }) c call.Transfer position nothing
     (λ s. ap (λ (k : ℕ). record c { status = s; seen = Some position.frame; stretch = record c.stretch { committed = k; part = 0 } }) (add-zero c.stretch.committed)
     ∙ ap (λ (k : ℕ). record c { status = s; seen = Some position.frame; stretch = record c.stretch { part = k } }) (sym whole))
 
 -- nothing that it answers is late
-after_sync-timely : (c : Plain) (load : Option Position) (frame channel word : ℕ) → c.status.state ≡ Running → (after_sync c call.Transfer load nothing).1 ≡ Err (error.Xrun (why.Late frame channel word)) → ⊥
+after_sync-timely : (c : PlaybackStream) (load : Option Position) (frame channel word : ℕ) → c.status.state ≡ Running → (after_sync c call.Transfer load nothing).1 ≡ Err (error.Xrun (why.Late frame channel word)) → ⊥
 after_sync-timely c None frame channel word runs = λ is. cc
 after_sync-timely c (Some position) frame channel word runs =
     next-ends (λ (o : Outcome). o.answer ≡ Err (error.Xrun (why.Late frame channel word)) → ⊥) c.status.state call.Transfer (queued_of (committed_by (seen_at c position) nothing)) position.gone (over_of (seen_at c position) position) None
@@ -79,7 +79,7 @@ after_sync-timely c (Some position) frame channel word runs =
 
 module _ {S T : Type 0} (P : mixport.Ghosts S) (G : gates.Ghosts T) (laid_composes : Composes P.laid) (loaded_composes : Composes P.loaded) where
   -- by what was loaded: what is kept, and that the frames played don't fall
-  checked-by : (s t : S × T) (c : Plain) (ring : List ℤ) (load : Option Position) → IsSound c ring → c.status.state ≡ Running → c.status.stopped ≡ false → CanUse c (P.view s.0) → IsSamePort (P.view s.0) (P.view t.0) → LoadsAt P G s load t
+  checked-by : (s t : S × T) (c : PlaybackStream) (ring : List ℤ) (load : Option Position) → IsSound c ring → c.status.state ≡ Running → c.status.stopped ≡ false → CanUse c (P.view s.0) → IsSamePort (P.view s.0) (P.view t.0) → LoadsAt P G s load t
       → Synced P G laid_composes loaded_composes s t c ring (λ d. Unit {0}) (after_sync c call.Transfer load nothing) × (min c.stretch.committed (hw_of c) ≤ hw_of (after_sync c call.Transfer load nothing).0)
   checked-by s t c ring None sound runs going port same step =
       (unloaded-kept P G laid_composes loaded_composes s t c ring (λ d. Unit {0}) sound port same step.laid_nothing step.stopped, min-newer c.stretch.committed (hw_of c) (hw_of c) (omega arith))
@@ -93,10 +93,10 @@ module _ {S T : Type 0} (P : mixport.Ghosts S) (G : gates.Ghosts T) (laid_compos
       subst (λ (v : PortView). IsFrom v.marks.cursor (c.stretch.card + (c.stretch.committed + 0)) (least_channel c.setup.bindings)) (sym step.view_is) (omega (arith, port.behind moves going)) in (
         loaded-kept P G laid_composes loaded_composes s t c ring call.Transfer position nothing 0 (λ d. Unit {0}) moves going callable y port same (ap (λ (v : PortView). v.seen) step.view_is) step.laid_nothing step.stopped
             (λ st on gone in_time none. (record { started = m.started; whole = refl; laid_most = omega (arith, m.laid_most); fits = m.fits; pending = omega (arith, m.pending) }, here, tt)),
-        after_sync-leaves (λ (d : Plain). min c.stretch.committed (hw_of c) ≤ hw_of d) c call.Transfer position nothing (λ st. y.later),
+        after_sync-leaves (λ (d : PlaybackStream). min c.stretch.committed (hw_of c) ≤ hw_of d) c call.Transfer position nothing (λ st. y.later),
       )
 
-  pub checks-kept : (s t : S × T) (c : Plain) (ring : List ℤ) (a : Answered (Unit {0})) → IsSound c ring → c.status.state ≡ Running → c.status.stopped ≡ false → CanUse c (P.view s.0)
+  pub checks-kept : (s t : S × T) (c : PlaybackStream) (ring : List ℤ) (a : Answered (Unit {0})) → IsSound c ring → c.status.state ≡ Running → c.status.stopped ≡ false → CanUse c (P.view s.0)
       → TakesAt P G s (checks c) t a → Checked P G s t c ring a
   unfolding checks
   checks-kept s t c ring a sound runs going port (load, m, step, rest) =
@@ -119,14 +119,14 @@ module _ {S T : Type 0} (P : mixport.Ghosts S) (G : gates.Ghosts T) (laid_compos
         timely = λ frame channel word is. after_sync-timely c load frame channel word runs is;
       }))
 
-  pub checks-by : (s t : S × T) (c : Plain) (load : Option Position) (done : Answered (Unit {0})) → LoadsAt P G s load t → after_sync c call.Transfer load nothing ≡ done → TakesAt P G s (checks c) t done
+  pub checks-by : (s t : S × T) (c : PlaybackStream) (load : Option Position) (done : Answered (Unit {0})) → LoadsAt P G s load t → after_sync c call.Transfer load nothing ≡ done → TakesAt P G s (checks c) t done
   unfolding checks
   checks-by s t c load done step is = (load, t, step, record { there = refl; result = sym is })
 
 -- ---- what a rewind leaves of a client that runs, by what its withdrawals left
 
 -- so many frames can be taken back: they are accepted, and the committed ones among them aren't played, nor before the floor
-pub record IsBack (d : Plain) (floor : Cursor) (n : ℕ) : Type 0 where
+pub record IsBack (d : PlaybackStream) (floor : Cursor) (n : ℕ) : Type 0 where
   pub few : n ≤ d.stretch.written
   pub back : back_of d n ≤ d.stretch.committed
   pub from : 0 < back_of d n → max (unwrap_or d.seen 0) (first_free floor 0) ≤ d.stretch.card + (d.stretch.committed - back_of d n)
@@ -136,7 +136,7 @@ back-is : (n w k top card : ℕ) → n ≤ w - k + (k - (top - card)) → k ≤ 
     → (n ≤ w) × (n - (w - k) ≤ k) × (0 < n - (w - k) → top ≤ card + (k - (n - (w - k)))) × (0 < n - (w - k) → w - n ≡ k - (n - (w - k)))
 back-is n w k top card few most = (omega (arith, few, most), omega (arith, few), λ some. omega (arith, few, some), λ some. omega (arith, most, some))
 
-pub IsBack-of : (d : Plain) (floor : Cursor) (n : ℕ) → IsMoving d → n ≤ rewindable_of floor d → IsBack d floor n
+pub IsBack-of : (d : PlaybackStream) (floor : Cursor) (n : ℕ) → IsMoving d → n ≤ rewindable_of floor d → IsBack d floor n
 IsBack-of d floor n m few =
     let is = back-is n d.stretch.written d.stretch.committed (max (unwrap_or d.seen 0) (first_free floor 0)) d.stretch.card few m.laid_most in
     record { few = is.0; back = is.1; from = is.2; whole = is.3 }
@@ -145,7 +145,7 @@ IsBack-of d floor n m few =
 unplayed : (k b seen top card h : ℕ) → h ≡ seen - card → b ≤ k → (0 < b → max seen top ≤ card + (k - b)) → min k h ≤ k - b
 unplayed k b seen top card h is most from = grind (arith, nat_tests, from)
 
-pub first-unplayed : (d : Plain) (floor : Cursor) (n : ℕ) → IsMoving d → IsBack d floor n → min d.stretch.committed (hw_of d) ≤ d.stretch.committed - back_of d n
+pub first-unplayed : (d : PlaybackStream) (floor : Cursor) (n : ℕ) → IsMoving d → IsBack d floor n → min d.stretch.committed (hw_of d) ≤ d.stretch.committed - back_of d n
 first-unplayed d floor n m is = unplayed d.stretch.committed (back_of d n) (unwrap_or d.seen 0) (first_free floor 0) d.stretch.card (hw_of d) (hw-started d m.started) is.back is.from
 
 -- the frames of a run up to one, and those from it on
@@ -156,7 +156,7 @@ run_entries-split member bindings s card from at k m n part is sum =
     ∙ ap (λ (j : ℕ). run_entries member bindings s card from k 0 ++ run_entries member bindings s card j n part) is
 
 -- the frames that are withdrawn are the last of those that the local ring has
-pub held-last : (d : Plain) (ring : List ℤ) (floor : Cursor) (n : ℕ) → IsMoving d → IsBack d floor n
+pub held-last : (d : PlaybackStream) (ring : List ℤ) (floor : Cursor) (n : ℕ) → IsMoving d → IsBack d floor n
     → held_entries d ring ≡ run_entries d.identity.member d.setup.bindings (ring_sample d ring) d.stretch.card (min d.stretch.committed (hw_of d)) (d.stretch.committed - back_of d n - min d.stretch.committed (hw_of d)) 0
     ++ run_entries d.identity.member d.setup.bindings (ring_sample d ring) d.stretch.card (d.stretch.committed - back_of d n) (back_of d n) 0
 held-last d ring floor n m is =
@@ -165,7 +165,7 @@ held-last d ring floor n m is =
     run_entries-split d.identity.member d.setup.bindings (ring_sample d ring) d.stretch.card from (d.stretch.committed - back_of d n) (d.stretch.committed - back_of d n - from) (d.stretch.committed - from) (back_of d n) 0 (omega (arith, low)) (omega (arith, low, is.back))
 
 -- the client after it
-abbrev pub back_in : Plain → ℕ → Commit → State → Bool → Plain
+abbrev pub back_in : PlaybackStream → ℕ → Commit → State → Bool → PlaybackStream
 back_in d n x s stopped = record (taken_back d n x) { status = record { state = s; stopped = stopped } }
 
 pub left-few : (e : Ended) (frames part count channels : ℕ) → AreLeft e frames part count channels → (frames ≤ count) × (frames_used frames part ≤ count)
@@ -190,7 +190,7 @@ here-from at f c is = subst (λ (x : Cursor). first_free x c ≤ f) (sym is) (gr
 -- the answers of a rewind
 module _ {S : Type 0} (view : S → PortView) (shows : S → ℕ → ℕ → Option ℕ) (q : S) where
   -- one that isn't late has the causes of any other call's
-  kept-of : {X : Type 0} (load : Option Position) (c d : Plain) (answer : Result X PcmError) → IsCaused view shows q c d load answer → ((frame channel word : ℕ) → answer ≡ Err (error.Xrun (why.Late frame channel word)) → ⊥)
+  kept-of : {X : Type 0} (load : Option Position) (c d : PlaybackStream) (answer : Result X PcmError) → IsCaused view shows q c d load answer → ((frame channel word : ℕ) → answer ≡ Err (error.Xrun (why.Late frame channel word)) → ⊥)
       → IsKeptCause view shows q c d load answer
   kept-of load c d answer why timely = record {
     unless_stopped = why.unless_stopped;
@@ -202,10 +202,10 @@ module _ {S : Type 0} (view : S → PortView) (shows : S → ℕ → ℕ → Opt
   }
 
   -- behind a load that went well
-  kept-other : (load : Option Position) (c u d : Plain) (answer : Result ℕ PcmError) → IsCaused {X = Unit {0}} view shows q c u load (Ok tt) → IsOther answer → IsKeptCause view shows q c d load answer
+  kept-other : (load : Option Position) (c u d : PlaybackStream) (answer : Result ℕ PcmError) → IsCaused {X = Unit {0}} view shows q c u load (Ok tt) → IsOther answer → IsKeptCause view shows q c d load answer
   kept-other load c u d answer first other = kept-of load c d answer (caused-other view shows q c d load answer (free-by view shows q c u load first) other) other.in_time
 
-  kept-late : (load : Option Position) (c u d : Plain) (word : ℕ) → IsCaused {X = Unit {0}} view shows q c u load (Ok tt) → IsPast view shows q (last_laid d) (last_channel d) word
+  kept-late : (load : Option Position) (c u d : PlaybackStream) (word : ℕ) → IsCaused {X = Unit {0}} view shows q c u load (Ok tt) → IsPast view shows q (last_laid d) (last_channel d) word
       → IsKeptCause {X = ℕ} view shows q c d load (Err (error.Xrun (why.Late (last_laid d) (last_channel d) word)))
   kept-late load c u d word first past =
       let free = free-by view shows q c u load first in
@@ -227,13 +227,13 @@ module _ {S : Type 0} (view : S → PortView) (shows : S → ℕ → ℕ → Opt
       }
 
   -- an answer of the load itself
-  pub kept-err : (load : Option Position) (c d : Plain) (e : PcmError) → IsCaused {X = Unit {0}} view shows q c d load (Err e)
+  pub kept-err : (load : Option Position) (c d : PlaybackStream) (e : PcmError) → IsCaused {X = Unit {0}} view shows q c d load (Err e)
       → ((frame channel word : ℕ) → (let r : Result (Unit {0}) PcmError = Err e in r) ≡ Err (error.Xrun (why.Late frame channel word)) → ⊥) → IsKeptCause {X = ℕ} view shows q c d load (Err e)
   kept-err load c d e first timely =
       kept-of load c d (Err e) (caused-number view shows q load c (λ x. 0) (d, Err e) first)
       (λ frame channel word h. timely frame channel word (let is : e ≡ error.Xrun (why.Late frame channel word) = cc in ap (λ (x : PcmError). let r : Result (Unit {0}) PcmError = Err x in r) is))
 
-module _ (d : Plain) (ring : List ℤ) (floor : Cursor) (n : ℕ) (sound : IsSound d ring) (runs : d.status.state ≡ Running) (going : d.status.stopped ≡ false) (is : IsBack d floor n) where
+module _ (d : PlaybackStream) (ring : List ℤ) (floor : Cursor) (n : ℕ) (sound : IsSound d ring) (runs : d.status.state ≡ Running) (going : d.status.stopped ≡ false) (is : IsBack d floor n) where
   m : IsMoving d
   m = sound.moving (ap is_moving runs) going
 
@@ -379,7 +379,7 @@ module _ (d : Plain) (ring : List ℤ) (floor : Cursor) (n : ℕ) (sound : IsSou
         (by_end s parts.0 x.frames x.part x.ended port (took-of s parts.0 x is_floor port parts.2)))
 
     -- why it answered so, behind a load that went well
-    why_end : (t : S × T) (c u : Plain) (load : Option Position) (frames part : ℕ) (e : Ended) → AreLeft e frames part (back_of d n) (length d.setup.bindings)
+    why_end : (t : S × T) (c u : PlaybackStream) (load : Option Position) (frames part : ℕ) (e : Ended) → AreLeft e frames part (back_of d n) (length d.setup.bindings)
         → OnLate e (λ word. IsPast P.view P.shows t.0 (d.stretch.card + (d.stretch.committed - back_of d n + last_frame frames part)) (slice_index d.setup.bindings (slice_index (rising d.setup.bindings) (last_place part (length d.setup.bindings)))) word)
         → IsCaused {X = Unit {0}} P.view P.shows t.0 c u load (Ok tt)
         → (let a : Answered ℕ = rewound d n (record { frames = frames; part = part; ended = e }) in IsKeptCause {X = ℕ} P.view P.shows t.0 c a.0 load a.1)
@@ -391,7 +391,7 @@ module _ (d : Plain) (ring : List ℤ) (floor : Cursor) (n : ℕ) (sound : IsSou
         kept-late P.view P.shows t.0 load c u (back_in d n (record { frames = frames; part = part; ended = Late word }) Xrun d.status.stopped) word why_ok
         (subst (λ (k : ℕ). IsPast P.view P.shows t.0 k (slice_index d.setup.bindings (slice_index (rising d.setup.bindings) (last_place part (length d.setup.bindings)))) word) there late)
 
-    pub takes_back-why : (s t : S × T) (c u : Plain) (load : Option Position) (a : Answered ℕ) → (P.view s.0).marks.floor ≡ floor → CanUse d (P.view s.0) → TakesAt P G s (takes_back d ring n) t a
+    pub takes_back-why : (s t : S × T) (c u : PlaybackStream) (load : Option Position) (a : Answered ℕ) → (P.view s.0).marks.floor ≡ floor → CanUse d (P.view s.0) → TakesAt P G s (takes_back d ring n) t a
         → IsCaused {X = Unit {0}} P.view P.shows t.0 c u load (Ok tt) → IsKeptCause {X = ℕ} P.view P.shows t.0 c a.0 load a.1
     unfolding takes_back
     takes_back-why s t c u load a is_floor port takes why_ok =
@@ -423,7 +423,7 @@ pub few-of : (n r : ℕ) → min n r ≤ r
 few-of n r = grind (arith, nat_tests)
 
 -- why a call went well is told alike later
-caused-later : {S : Type 0} (view : S → PortView) (shows : S → ℕ → ℕ → Option ℕ) (q r : S) (load : Option Position) (c d : Plain) → IsCaused {X = Unit {0}} view shows q c d load (Ok tt) → IsCaused {X = Unit {0}} view shows r c d load (Ok tt)
+caused-later : {S : Type 0} (view : S → PortView) (shows : S → ℕ → ℕ → Option ℕ) (q r : S) (load : Option Position) (c d : PlaybackStream) → IsCaused {X = Unit {0}} view shows q c d load (Ok tt) → IsCaused {X = Unit {0}} view shows r c d load (Ok tt)
 caused-later view shows q r load c d first = record {
   unless_stopped = first.unless_stopped;
   of_steps = tt;
@@ -435,17 +435,17 @@ caused-later view shows q r load c d first = record {
 
 module _ {S T : Type 0} (P : mixport.Ghosts S) (G : gates.Ghosts T) (holds : HoldsBy P) where
   -- a rewind of a stream that runs
-  pub record Rewound (s t : S × T) (c : Plain) (ring : List ℤ) (n : ℕ) (a : Answered ℕ) : Type 0 where
+  pub record Rewound (s t : S × T) (c : PlaybackStream) (ring : List ℤ) (n : ℕ) (a : Answered ℕ) : Type 0 where
     pub keeps : KeepsBack P G s t (client c ring) (client a.0 ring) a.1
     pub explains : ExplainsRewind P G s t c ring (P.view s.0).marks.floor n a
 
   -- the load alone
-  loses-checked : (s t : S × T) (c : Plain) (ring : List ℤ) (a : Answered (Unit {0})) (samples : List ℤ) → Checked P G s t c ring a
+  loses-checked : (s t : S × T) (c : PlaybackStream) (ring : List ℤ) (a : Answered (Unit {0})) (samples : List ℤ) → Checked P G s t c ring a
       → TakesAway P.laid P.ends_in s.0 t.0 (segment_entries c samples) (segment_entries a.0 samples)
   loses-checked s t c ring a samples checked =
-      subst (λ (d : Plain). TakesAway P.laid P.ends_in s.0 t.0 (segment_entries c samples) (segment_entries d samples)) (sym checked.same) (TakesAway-none P G holds s.0 t.0 (segment_entries c samples) checked.explains.laid_nothing)
+      subst (λ (d : PlaybackStream). TakesAway P.laid P.ends_in s.0 t.0 (segment_entries c samples) (segment_entries d samples)) (sym checked.same) (TakesAway-none P G holds s.0 t.0 (segment_entries c samples) checked.explains.laid_nothing)
 
-  rewound-ill : (s m t : S × T) (c d : Plain) (ring : List ℤ) (n : ℕ) (e : PcmError) (a : Answered ℕ) → Checked P G s m c ring (d, Err e) → TakesAt P G m (rewind_on (P.view s.0).marks.floor ring n (d, Err e)) t a
+  rewound-ill : (s m t : S × T) (c d : PlaybackStream) (ring : List ℤ) (n : ℕ) (e : PcmError) (a : Answered ℕ) → Checked P G s m c ring (d, Err e) → TakesAt P G m (rewind_on (P.view s.0).marks.floor ring n (d, Err e)) t a
       → Rewound s t c ring n a
   rewound-ill s m t c d ring n e a checked takes =
       subst (λ (u : S × T). Rewound s u c ring n a) (sym takes.there) (subst (λ (b : Answered ℕ). Rewound s m c ring n b) (sym takes.result) (record {
@@ -453,7 +453,7 @@ module _ {S T : Type 0} (P : mixport.Ghosts S) (G : gates.Ghosts T) (holds : Hol
           sound = checked.keeps.sound;
           port = checked.keeps.port;
           told = checked.keeps.told;
-          loses = λ samples stands. record { away = loses-checked s m c ring (d, Err e) samples checked; same_member = ap (λ (x : Plain). x.identity.member) checked.same; same_bindings = ap (λ (x : Plain). x.setup.bindings) checked.same };
+          loses = λ samples stands. record { away = loses-checked s m c ring (d, Err e) samples checked; same_member = ap (λ (x : PlaybackStream). x.identity.member) checked.same; same_bindings = ap (λ (x : PlaybackStream). x.setup.bindings) checked.same };
           stands = λ samples stands. checked.keeps.stands samples stands tt;
         };
         explains = record {
@@ -466,7 +466,7 @@ module _ {S T : Type 0} (P : mixport.Ghosts S) (G : gates.Ghosts T) (holds : Hol
         };
       }))
 
-  rewound-well : (s m t : S × T) (c d : Plain) (ring : List ℤ) (n : ℕ) (a : Answered ℕ) → Checked P G s m c ring (d, Ok tt) → TakesAt P G m (rewind_on (P.view s.0).marks.floor ring n (d, Ok tt)) t a
+  rewound-well : (s m t : S × T) (c d : PlaybackStream) (ring : List ℤ) (n : ℕ) (a : Answered ℕ) → Checked P G s m c ring (d, Ok tt) → TakesAt P G m (rewind_on (P.view s.0).marks.floor ring n (d, Ok tt)) t a
       → Rewound s t c ring n a
   rewound-well s m t c d ring n a checked takes =
       let floor = (P.view s.0).marks.floor in
@@ -484,8 +484,8 @@ module _ {S T : Type 0} (P : mixport.Ghosts S) (G : gates.Ghosts T) (holds : Hol
               let later = back.keeps.loses samples (checked.keeps.stands samples stands tt) in
               record {
                 away = TakesAway-joined P G holds s.0 m.0 t.0 _ _ _ (loses-checked s m c ring (d, Ok tt) samples checked) later.away;
-                same_member = later.same_member ∙ ap (λ (x : Plain). x.identity.member) checked.same;
-                same_bindings = later.same_bindings ∙ ap (λ (x : Plain). x.setup.bindings) checked.same;
+                same_member = later.same_member ∙ ap (λ (x : PlaybackStream). x.identity.member) checked.same;
+                same_bindings = later.same_bindings ∙ ap (λ (x : PlaybackStream). x.setup.bindings) checked.same;
               };
           stands = λ samples stands. back.keeps.stands samples (checked.keeps.stands samples stands tt);
         };
@@ -500,12 +500,12 @@ module _ {S T : Type 0} (P : mixport.Ghosts S) (G : gates.Ghosts T) (holds : Hol
         };
       }
 
-  rewound-by : (s m t : S × T) (c : Plain) (ring : List ℤ) (n : ℕ) (middle : Answered (Unit {0})) (a : Answered ℕ) → Checked P G s m c ring middle → TakesAt P G m (rewind_on (P.view s.0).marks.floor ring n middle) t a
+  rewound-by : (s m t : S × T) (c : PlaybackStream) (ring : List ℤ) (n : ℕ) (middle : Answered (Unit {0})) (a : Answered ℕ) → Checked P G s m c ring middle → TakesAt P G m (rewind_on (P.view s.0).marks.floor ring n middle) t a
       → Rewound s t c ring n a
   rewound-by s m t c ring n (d, Ok done) a checked takes = rewound-well s m t c d ring n a checked takes
   rewound-by s m t c ring n (d, Err e) a checked takes = rewound-ill s m t c d ring n e a checked takes
 
-  pub rewinds-kept : (s t : S × T) (c : Plain) (ring : List ℤ) (n : ℕ) (a : Answered ℕ) → IsSound c ring → c.status.state ≡ Running → c.status.stopped ≡ false → CanUse c (P.view s.0)
+  pub rewinds-kept : (s t : S × T) (c : PlaybackStream) (ring : List ℤ) (n : ℕ) (a : Answered ℕ) → IsSound c ring → c.status.state ≡ Running → c.status.stopped ≡ false → CanUse c (P.view s.0)
       → TakesAt P G s (rewinds c ring (P.view s.0).marks.floor n) t a → Rewound s t c ring n a
   unfolding rewinds
   rewinds-kept s t c ring n a sound runs going port takes =
@@ -513,32 +513,32 @@ module _ {S T : Type 0} (P : mixport.Ghosts S) (G : gates.Ghosts T) (holds : Hol
       rewound-by s parts.0 t c ring n parts.1 a (checks-kept P G holds.laid_composes holds.loaded_composes s parts.0 c ring parts.1 sound runs going port parts.2) parts.3
 
   -- a port whose standing adds ended in the frames that the client's ring has still ends in those that it has behind the load
-  pub standing-checked : (s t : S × T) (c : Plain) (ring : List ℤ) (a : Answered (Unit {0})) → Checked P G s t c ring a → P.ends_in s.0 (held_entries c ring) → P.ends_in t.0 (held_entries a.0 ring)
+  pub standing-checked : (s t : S × T) (c : PlaybackStream) (ring : List ℤ) (a : Answered (Unit {0})) → Checked P G s t c ring a → P.ends_in s.0 (held_entries c ring) → P.ends_in t.0 (held_entries a.0 ring)
   standing-checked s t c ring a checked stand =
-      let d : Plain = record c { status = a.0.status; seen = a.0.seen } in
+      let d : PlaybackStream = record c { status = a.0.status; seen = a.0.seen } in
       let k : ℕ = c.stretch.committed in
       let from : ℕ = min k (hw_of c) in
       let at : ℕ = min k (hw_of d) in
-      let both = min-both k (hw_of c) (hw_of d) (subst (λ (e : Plain). from ≤ hw_of e) checked.same checked.later) in
+      let both = min-both k (hw_of c) (hw_of d) (subst (λ (e : PlaybackStream). from ≤ hw_of e) checked.same checked.later) in
       let split = run_entries-split c.identity.member c.setup.bindings (ring_sample c ring) c.stretch.card from at (at - from) (k - from) (k - at) 0 (omega (arith, both.0)) (omega (arith, both.0, both.1)) in
-      subst (λ (e : Plain). P.ends_in t.0 (held_entries e ring)) (sym checked.same)
+      subst (λ (e : PlaybackStream). P.ends_in t.0 (held_entries e ring)) (sym checked.same)
       (holds.nothing s.0 t.0 (held_entries d ring) checked.explains.laid_nothing (holds.part s.0 (run_entries c.identity.member c.setup.bindings (ring_sample c ring) c.stretch.card from (at - from) 0) _ (subst (P.ends_in s.0) split stand)))
 
-  pub rewinds-by : (s m t : S × T) (c : Plain) (ring : List ℤ) (floor : Cursor) (n : ℕ) (middle : Answered (Unit {0})) (a : Answered ℕ) → TakesAt P G s (checks c) m middle
+  pub rewinds-by : (s m t : S × T) (c : PlaybackStream) (ring : List ℤ) (floor : Cursor) (n : ℕ) (middle : Answered (Unit {0})) (a : Answered ℕ) → TakesAt P G s (checks c) m middle
       → TakesAt P G m (rewind_on floor ring n middle) t a → TakesAt P G s (rewinds c ring floor n) t a
   unfolding rewinds
   rewinds-by s m t c ring floor n middle a one two = Takes-then (LoadsAt P G) (LaysAt P G) NoGet s m t (checks c) (rewind_on floor ring n) middle a one two
 
-  pub numbered-by : (s t : S × T) (c : Plain) (number : Plain → ℕ) (a : Answered (Unit {0})) (b : Answered ℕ) → TakesAt P G s (checks c) t a → with_number number a ≡ b → TakesAt P G s (numbered number (checks c)) t b
+  pub numbered-by : (s t : S × T) (c : PlaybackStream) (number : PlaybackStream → ℕ) (a : Answered (Unit {0})) (b : Answered ℕ) → TakesAt P G s (checks c) t a → with_number number a ≡ b → TakesAt P G s (numbered number (checks c)) t b
   unfolding numbered
   numbered-by s t c number a b takes is = Takes-map (LoadsAt P G) (LaysAt P G) NoGet s t (checks c) (λ done. with_number number done) a b takes is
 
   -- a call that does no more than the load, and answers a number
-  pub record Numbered (s t : S × T) (c : Plain) (ring : List ℤ) (number : Plain → ℕ) (b : Answered ℕ) : Type 0 where
+  pub record Numbered (s t : S × T) (c : PlaybackStream) (ring : List ℤ) (number : PlaybackStream → ℕ) (b : Answered ℕ) : Type 0 where
     pub keeps : Keeps P G s t (client c ring) (client b.0 ring) b.1 AnySamples
     pub explains : ExplainsCheck P G s t c (λ load. with_number number (after_sync c call.Transfer load nothing)) b
 
-  pub numbered-kept : (s t : S × T) (c : Plain) (ring : List ℤ) (number : Plain → ℕ) (b : Answered ℕ) → IsSound c ring → c.status.state ≡ Running → c.status.stopped ≡ false → CanUse c (P.view s.0)
+  pub numbered-kept : (s t : S × T) (c : PlaybackStream) (ring : List ℤ) (number : PlaybackStream → ℕ) (b : Answered ℕ) → IsSound c ring → c.status.state ≡ Running → c.status.stopped ≡ false → CanUse c (P.view s.0)
       → TakesAt P G s (numbered number (checks c)) t b → Numbered s t c ring number b
   unfolding numbered
   numbered-kept s t c ring number b sound runs going port takes =
@@ -563,11 +563,11 @@ module _ {S T : Type 0} (P : mixport.Ghosts S) (G : gates.Ghosts T) (holds : Hol
     sound = keeps.sound;
     port = keeps.port;
     told = keeps.told;
-    loses = λ samples stands. record { away = TakesAway-none P G holds s.0 s.0 (segment_entries c.plain samples) (holds.laid_composes.none s.0); same_member = refl; same_bindings = refl };
+    loses = λ samples stands. record { away = TakesAway-none P G holds s.0 s.0 (segment_entries c.stream samples) (holds.laid_composes.none s.0); same_member = refl; same_bindings = refl };
     stands = λ samples stands. stands;
   }
 
-  pub without-kept : (s : S × T) (c : Plain) (ring : List ℤ) (n : ℕ) → IsSound c ring → c.status.state ≡ Prepared → n ≤ c.stretch.written → CanUse c (P.view s.0)
+  pub without-kept : (s : S × T) (c : PlaybackStream) (ring : List ℤ) (n : ℕ) → IsSound c ring → c.status.state ≡ Prepared → n ≤ c.stretch.written → CanUse c (P.view s.0)
       → KeepsBack P G s s (client c ring) (client (without c n) ring) (let r : Result ℕ PcmError = Ok n in r)
   without-kept s c ring n sound waits few port =
       let p = sound.prepared waits in

@@ -25,7 +25,7 @@ use Rattle.dmix_client.specs.Port.{CanUse, IsCommit, IsStep}
 use Rattle.dmix_client.specs.View.{IsConfigured, IsMoving, IsPrepared, IsSound, hw_of}
 use Rattle.dmix_client.specs.Writes.{count_with}
 use Rattle.dmix_client.specs.declared.commit.Commit.{Commit}
-use Rattle.dmix_client.specs.declared.plain.Plain.{Plain}
+use Rattle.dmix_client.specs.declared.stream.PlaybackStream.{PlaybackStream}
 
 -- a step of a stream that moves frames: where it still does so nothing was against it, and it goes well only there or at its end
 pub record GoesOn (state : State) (o : Outcome) (gone : Bool) (over : Option (ℕ × ℕ)) (late : Option XrunWhy) : Type 0 where
@@ -59,19 +59,19 @@ set_up-moving Running is = refl
 set_up-moving Draining is = refl
 set_up-moving s is = absurd (cc)
 
-pub configured-moving : (c : Plain) (ring : List ℤ) → IsSound c ring → is_moving c.status.state ≡ true → IsConfigured c ring
+pub configured-moving : (c : PlaybackStream) (ring : List ℤ) → IsSound c ring → is_moving c.status.state ≡ true → IsConfigured c ring
 configured-moving c ring sound moves = sound.configured (sound.set_up (set_up-moving c.status.state moves))
 
-pub configured-prepared : (c : Plain) (ring : List ℤ) → IsSound c ring → c.status.state ≡ Prepared → IsConfigured c ring
+pub configured-prepared : (c : PlaybackStream) (ring : List ℤ) → IsSound c ring → c.status.state ≡ Prepared → IsConfigured c ring
 configured-prepared c ring sound waits = sound.configured (sound.set_up (ap is_set_up waits))
 
-pub hw-started : (c : Plain) → c.stretch.started ≡ true → hw_of c ≡ unwrap_or c.seen 0 - c.stretch.card
+pub hw-started : (c : PlaybackStream) → c.stretch.started ≡ true → hw_of c ≡ unwrap_or c.seen 0 - c.stretch.card
 hw-started c is = ap (λ (b : Bool). if b then unwrap_or c.seen 0 - c.stretch.card else 0) is
 
 -- ---- of a client whose counts stay
 
 -- a client in another status that has seen another position, where its counts are as that status asks
-pub IsSound-status : (c : Plain) (s : Status) (seen : Option ℕ) (ring : List ℤ) → IsSound c ring → unwrap_or seen 0 ≤ end_frame c.identity.geometry → (is_set_up s.state ≡ true → c.setup.configured ≡ true) → (s.state ≡ Prepared → IsPrepared c)
+pub IsSound-status : (c : PlaybackStream) (s : Status) (seen : Option ℕ) (ring : List ℤ) → IsSound c ring → unwrap_or seen 0 ≤ end_frame c.identity.geometry → (is_set_up s.state ≡ true → c.setup.configured ≡ true) → (s.state ≡ Prepared → IsPrepared c)
     → (is_moving s.state ≡ true → s.stopped ≡ false → IsMoving (record c { seen = seen })) → (s.state ≡ Paused → IsMoving (record c { seen = seen })) → IsSound (record c { status = s; seen = seen }) ring
 IsSound-status c s seen ring sound near is_set waits moves rests = record {
   lead = sound.lead;
@@ -87,11 +87,11 @@ IsSound-status c s seen ring sound near is_set waits moves rests = record {
 }
 
 -- a client that was stopped before it took a step
-pub IsSound-stopped : (c : Plain) (ring : List ℤ) → IsSound c ring → IsSound (record c { status = record c.status { stopped = true } }) ring
+pub IsSound-stopped : (c : PlaybackStream) (ring : List ℤ) → IsSound c ring → IsSound (record c { status = record c.status { stopped = true } }) ring
 IsSound-stopped c ring sound = IsSound-status c (record c.status { stopped = true }) c.seen ring sound sound.seen sound.set_up sound.prepared (λ moves going. absurd (cc)) sound.paused
 
 -- a port can be used by a client that doesn't move frames, or is stopped
-pub CanUse-still : (c d : Plain) (v w : PortView) → CanUse c v → IsSamePort v w → d.identity ≡ c.identity → (is_moving d.status.state ≡ true → d.status.stopped ≡ false → ⊥) → CanUse d w
+pub CanUse-still : (c d : PlaybackStream) (v w : PortView) → CanUse c v → IsSamePort v w → d.identity ≡ c.identity → (is_moving d.status.state ≡ true → d.status.stopped ≡ false → ⊥) → CanUse d w
 CanUse-still c d v w port same is still = record {
   same_geometry = same.same_geometry ∙ port.same_geometry ∙ sym (ap (λ i. i.geometry) is);
   same_member = same.same_member ∙ port.same_member ∙ sym (ap (λ i. i.member) is);
@@ -153,7 +153,7 @@ whole-of (ended.Late word) frames part count channels frame channel X is going i
 whole-of ended.Stopped frames part count channels frame channel X is going in_time at = absurd (cc)
 
 -- a client behind a commit which it made as `b`, in any status, with other counts of what was accepted
-abbrev pub after : Plain → Plain → Commit → Status → ℕ → ℕ → Plain
+abbrev pub after : PlaybackStream → PlaybackStream → Commit → Status → ℕ → ℕ → PlaybackStream
 after c b x s written fed =
     record c {
       status = s;
@@ -163,11 +163,11 @@ after c b x s written fed =
     }
 
 -- how many frames before one are to be laid, at the position that `b` saw
-abbrev pub count_at : Plain → Plain → ℕ → ℕ
+abbrev pub count_at : PlaybackStream → PlaybackStream → ℕ → ℕ
 count_at c b upto = min upto (window_end c.identity.geometry (unwrap_or b.seen 0) - b.stretch.card) - c.stretch.committed
 
 -- a client makes a commit of some frames, of those before one, as `b`: it has started, at a position that is no older
-pub record CommitsAs (c b : Plain) (ring : List ℤ) (x : Commit) (count upto : ℕ) : Type 0 where
+pub record CommitsAs (c b : PlaybackStream) (ring : List ℤ) (x : Commit) (count upto : ℕ) : Type 0 where
   pub sound : IsSound c ring
   pub set : c.setup.configured ≡ true
   pub whole : c.stretch.part ≡ 0
@@ -182,7 +182,7 @@ pub record CommitsAs (c b : Plain) (ring : List ℤ) (x : Commit) (count upto : 
   pub commit_is : IsCommit x.ended x.frames x.part count (length c.setup.bindings)
 
 -- it moves on, where all was laid
-pub IsMoving-after : (c b : Plain) (ring : List ℤ) (x : Commit) (count upto : ℕ) (s : Status) (fed : ℕ) → CommitsAs c b ring x count upto → upto ≤ hw_of b + c.setup.config.buffer_size → x.frames ≡ count_at c b upto → x.part ≡ 0
+pub IsMoving-after : (c b : PlaybackStream) (ring : List ℤ) (x : Commit) (count upto : ℕ) (s : Status) (fed : ℕ) → CommitsAs c b ring x count upto → upto ≤ hw_of b + c.setup.config.buffer_size → x.frames ≡ count_at c b upto → x.part ≡ 0
     → IsMoving (after c b x s upto fed)
 IsMoving-after c b ring x count upto s fed y fits all none =
     let h : ℕ = unwrap_or b.seen 0 in
@@ -198,7 +198,7 @@ IsMoving-after c b ring x count upto s fed y fits all none =
     }
 
 -- its counts are in order, in a status in which it isn't prepared nor paused
-pub IsSound-after : (c b : Plain) (ring : List ℤ) (x : Commit) (count upto : ℕ) (s : Status) (written fed : ℕ) → CommitsAs c b ring x count upto → written + c.stretch.source ≡ fed → (s.state ≡ Prepared → ⊥) → (s.state ≡ Paused → ⊥)
+pub IsSound-after : (c b : PlaybackStream) (ring : List ℤ) (x : Commit) (count upto : ℕ) (s : Status) (written fed : ℕ) → CommitsAs c b ring x count upto → written + c.stretch.source ≡ fed → (s.state ≡ Prepared → ⊥) → (s.state ≡ Paused → ⊥)
     → (is_moving s.state ≡ true → s.stopped ≡ false → IsMoving (after c b x s written fed)) → IsSound (after c b x s written fed) ring
 IsSound-after c b ring x count upto s written fed y sums not_prepared not_paused moves = record {
   lead = y.sound.lead;
@@ -216,18 +216,18 @@ IsSound-after c b ring x count upto s written fed y sums not_prepared not_paused
 
 -- ---- what stands about a load
 
-pub record IsLoaded (c : Plain) (position : Position) : Type 0 where
+pub record IsLoaded (c : PlaybackStream) (position : Position) : Type 0 where
   pub newer : unwrap_or c.seen 0 ≤ position.frame
   pub most : position.frame ≤ end_frame c.identity.geometry
 
-pub IsMoving-seen : (c : Plain) (position : Position) → IsMoving c → IsLoaded c position → IsMoving (seen_at c position)
+pub IsMoving-seen : (c : PlaybackStream) (position : Position) → IsMoving c → IsLoaded c position → IsMoving (seen_at c position)
 IsMoving-seen c position m loaded =
     let hw : hw_of c ≡ unwrap_or c.seen 0 - c.stretch.card = hw-started c m.started in
     let later : hw_of (seen_at c position) ≡ position.frame - c.stretch.card = hw-started (seen_at c position) m.started in
     record { started = m.started; whole = m.whole; laid_most = m.laid_most; fits = omega (arith, later, hw, m.fits, loaded.newer); pending = m.pending }
 
 -- a client that moves frames makes a commit at a position that it loaded
-pub CommitsAs-seen : (c : Plain) (ring : List ℤ) (position : Position) (x : Commit) (count : ℕ) → IsSound c ring → is_moving c.status.state ≡ true → c.status.stopped ≡ false → IsLoaded c position
+pub CommitsAs-seen : (c : PlaybackStream) (ring : List ℤ) (position : Position) (x : Commit) (count : ℕ) → IsSound c ring → is_moving c.status.state ≡ true → c.status.stopped ≡ false → IsLoaded c position
     → count ≤ commit_count c position.frame c.stretch.written → IsCommit x.ended x.frames x.part count (length c.setup.bindings) → CommitsAs c (seen_at c position) ring x count c.stretch.written
 CommitsAs-seen c ring position x count sound moves going loaded few commit_is =
     let m = sound.moving moves going in
@@ -259,7 +259,7 @@ both-false true b n x y = absurd (cc)
 both-false false true n x y = absurd (cc)
 
 -- a sync that found nothing against it is to commit all
-pub count-whole : (c : Plain) (position : Position) → is_moving c.status.state ≡ true → position.gone ≡ false → (c.status.state ≡ Running → over_of (seen_at c position) position ≡ None)
+pub count-whole : (c : PlaybackStream) (position : Position) → is_moving c.status.state ≡ true → position.gone ≡ false → (c.status.state ≡ Running → over_of (seen_at c position) position ≡ None)
     → sync_count c position ≡ commit_count c position.frame c.stretch.written
 count-whole c position moves here none =
     both-false position.gone (is_some (over_of (seen_at c position) position)) _ here (ap (λ (o : Option (ℕ × ℕ)). is_some o) (over-None c.status.state _ _ moves none))
@@ -275,7 +275,7 @@ first_free-near cursor stop low = grind (arith, nat_tests)
 pub min-none : (k h n : ℕ) → k ≡ 0 → min k h ≤ n
 min-none k h n none = grind (arith, nat_tests)
 
-pub CommitsAs-started : (c : Plain) (ring : List ℤ) (state : State) (position : Position) (cursor : Cursor) (x : Commit) (upto : ℕ) → IsSound c ring → c.status.state ≡ Prepared → cursor.frame ≤ end_frame c.identity.geometry
+pub CommitsAs-started : (c : PlaybackStream) (ring : List ℤ) (state : State) (position : Position) (cursor : Cursor) (x : Commit) (upto : ℕ) → IsSound c ring → c.status.state ≡ Prepared → cursor.frame ≤ end_frame c.identity.geometry
     → position.frame ≤ end_frame c.identity.geometry → IsCommit x.ended x.frames x.part (start_count c cursor position upto) (length c.setup.bindings) → CommitsAs c (started_in c state position cursor) ring x (start_count c cursor position upto) upto
 CommitsAs-started c ring state position cursor x upto sound waits low near commit_is =
     let p = sound.prepared waits in
@@ -297,7 +297,7 @@ CommitsAs-started c ring state position cursor x upto sound waits low near commi
 
 -- ---- a write
 
-pub CommitsAs-written : (c : Plain) (ring : List ℤ) (x : Commit) (m : ℕ) → IsSound c ring → is_moving c.status.state ≡ true → c.status.stopped ≡ false
+pub CommitsAs-written : (c : PlaybackStream) (ring : List ℤ) (x : Commit) (m : ℕ) → IsSound c ring → is_moving c.status.state ≡ true → c.status.stopped ≡ false
     → IsCommit x.ended x.frames x.part (count_with c m) (length c.setup.bindings) → CommitsAs c c ring x (count_with c m) (c.stretch.written + m)
 CommitsAs-written c ring x m sound moves going commit_is =
     let was = sound.moving moves going in
@@ -323,7 +323,7 @@ count-some : (m n k : ℕ) → 0 < m → n ≡ (if nat_eq m 0 then 0 else k) →
 count-some m n k some is = grind (arith, nat_tests)
 
 -- it moves on, where all was laid
-pub IsMoving-written : (c : Plain) (ring : List ℤ) (x : Commit) (n m : ℕ) (s : Status) (fed : ℕ) → m ≡ taken_of c n → IsMoving c → CommitsAs c c ring x (count_with c m) (c.stretch.written + m) → x.frames ≡ count_with c m → x.part ≡ 0
+pub IsMoving-written : (c : PlaybackStream) (ring : List ℤ) (x : Commit) (n m : ℕ) (s : Status) (fed : ℕ) → m ≡ taken_of c n → IsMoving c → CommitsAs c c ring x (count_with c m) (c.stretch.written + m) → x.frames ≡ count_with c m → x.part ≡ 0
     → IsMoving (after c c x s (c.stretch.written + m) fed)
 IsMoving-written c ring x n zero s fed is was y all none =
     record { started = was.started; whole = none; laid_most = omega (arith, was.laid_most, all); fits = omega (arith, was.fits); pending = omega (arith, was.pending) }

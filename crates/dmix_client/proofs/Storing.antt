@@ -5,7 +5,7 @@ use Rattle.std.proofs.Math.Seq.{take-append_seam}
 use Rattle.std.proofs.lemmas.Bool.{cases_lt}
 use Rattle.std.proofs.lemmas.Bool.Decides.{nat_tests}
 use Rattle.std.specs.Prelude.{ℤ, pos, ◌-◌, min}
-use Rattle.dmix_client.specs.declared.plain.Plain.{Plain}
+use Rattle.dmix_client.specs.declared.stream.PlaybackStream.{PlaybackStream}
 use Rattle.dmix_client.specs.Calls.{taken_of}
 use Rattle.dmix_client.specs.Expansion.{sample_at}
 use Rattle.dmix_client.specs.Growth.{Follows, StandsFor, StandsUpTo}
@@ -15,7 +15,7 @@ use Rattle.dmix_client.specs.Writes.{ring_with}
 use Rattle.dmix_client.proofs.Sound.{taken_fits}
 
 -- a client stands for its samples up to the frames that were stored behind those it has, where these are samples too
-pub StandsUpTo-stored : (c : Plain) (ring samples offered : List ℤ) (n m : ℕ) → IsConfigured c ring → m * length c.setup.bindings ≤ length offered → m ≤ n → m ≤ c.setup.config.buffer_size
+pub StandsUpTo-stored : (c : PlaybackStream) (ring samples offered : List ℤ) (n m : ℕ) → IsConfigured c ring → m * length c.setup.bindings ≤ length offered → m ≤ n → m ≤ c.setup.config.buffer_size
     → c.stretch.written + m ≤ min c.stretch.committed (hw_of c) + c.setup.config.buffer_size → StandsFor c ring samples → Follows c samples offered n
     → StandsUpTo c (ring_with c ring offered m) samples (c.stretch.written + m)
 StandsUpTo-stored c ring samples offered n m set held_all few fits near stands follows j q low high in_range = elim (cases_lt j c.stretch.written) [
@@ -40,7 +40,7 @@ taken-near : (n b w k h m : ℕ) → m ≡ min n (min (b + h - w) b) → w ≤ h
 taken-near n b w k h m is fits low = grind (arith, nat_tests)
 
 -- so it does after a write, up to the frames that this took
-pub StandsUpTo-written : (c : Plain) (ring samples offered : List ℤ) (n : ℕ) → IsConfigured c ring → n * length c.setup.bindings ≤ length offered → c.stretch.written ≤ hw_of c + c.setup.config.buffer_size
+pub StandsUpTo-written : (c : PlaybackStream) (ring samples offered : List ℤ) (n : ℕ) → IsConfigured c ring → n * length c.setup.bindings ≤ length offered → c.stretch.written ≤ hw_of c + c.setup.config.buffer_size
     → min c.stretch.written (hw_of c) ≤ c.stretch.committed → StandsFor c ring samples → Follows c samples offered n
     → StandsUpTo c (ring_with c ring offered (taken_of c n)) samples (c.stretch.written + taken_of c n)
 StandsUpTo-written c ring samples offered n set held_all fits low stands follows =

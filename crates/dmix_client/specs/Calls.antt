@@ -26,25 +26,25 @@ use Rattle.mix_core.specs.declared.port.Ended.{Ended}
 use Rattle.mix_core.specs.declared.port.Ended.TheVariants as ended
 use Rattle.pcm_stream.specs.Setup as setup
 use Rattle.pcm_stream.specs.Status as status
-use Rattle.dmix_client.specs.declared.plain.Plain.{Plain}
-use Rattle.dmix_client.specs.declared.plain.Stretch.{Stretch}
+use Rattle.dmix_client.specs.declared.stream.PlaybackStream.{PlaybackStream}
+use Rattle.dmix_client.specs.declared.stream.Stretch.{Stretch}
 use Rattle.dmix_client.specs.Expansion.{run_entries}
 use Rattle.dmix_client.specs.View.{avail_of, queued_of, ring_sample}
 
 -- a client and the answer of a call
 abbrev pub Answered : Type 0 → Type 0
-Answered T = Plain × Result T PcmError
+Answered T = PlaybackStream × Result T PcmError
 
 -- the client in another state
-abbrev pub in_state : Plain → State → Plain
+abbrev pub in_state : PlaybackStream → State → PlaybackStream
 in_state c state = record c { status = status.in_state c.status state }
 
 -- the gate stopped the call
-abbrev pub stopped_in : {T : Type 0} → Plain → Answered T
+abbrev pub stopped_in : {T : Type 0} → PlaybackStream → Answered T
 stopped_in c = (record c { status = status.stopped_in c.status }, Err Stopped)
 
 -- the call ends with an outcome of the state table
-abbrev pub with_outcome : Plain → Outcome → Answered (Unit {0})
+abbrev pub with_outcome : PlaybackStream → Outcome → Answered (Unit {0})
 with_outcome c outcome = (in_state c outcome.state, outcome.answer)
 
 -- the calls that take no step
@@ -62,7 +62,7 @@ waiting written source =
     }
 
 -- a client that is opened
-abbrev pub new_client : Geometry → ℕ → ℕ → Plain
+abbrev pub new_client : Geometry → ℕ → ℕ → PlaybackStream
 new_client g member lead = record {
   identity = record { geometry = g; member = member; lead = lead };
   setup = setup.no_setup;
@@ -73,27 +73,27 @@ new_client g member lead = record {
 }
 
 -- nothing is written, and nothing is laid since now
-abbrev pub prepared : Plain → Plain
+abbrev pub prepared : PlaybackStream → PlaybackStream
 prepared c = record (in_state c Prepared) { stretch = waiting 0 c.fed }
 
 -- the client runs with a configuration, with the default thresholds
-abbrev pub configured_with : Plain → Config → List ℕ → Plain
+abbrev pub configured_with : PlaybackStream → Config → List ℕ → PlaybackStream
 configured_with c config bindings = prepared (record c { setup = setup.setup_with config bindings })
 
 -- the client gives its configuration up
-abbrev pub freed : Plain → Plain
+abbrev pub freed : PlaybackStream → PlaybackStream
 freed c = in_state (record c { setup = setup.freed c.setup }) Open
 
 -- the client has other software parameters
-abbrev pub with_params : Plain → SwParams → Plain
+abbrev pub with_params : PlaybackStream → SwParams → PlaybackStream
 with_params c params = record c { setup = setup.with_params c.setup params }
 
 -- what is pending is given up
-abbrev pub dropped : Plain → Plain
+abbrev pub dropped : PlaybackStream → PlaybackStream
 dropped c = in_state c Setup
 
 -- the segment since the last prepare
-abbrev pub segment_of : Plain → Segment
+abbrev pub segment_of : PlaybackStream → Segment
 segment_of c =
     record {
       source = c.stretch.source;
@@ -105,15 +105,15 @@ segment_of c =
 -- the parts of the calls that take steps
 
 -- a position was loaded
-abbrev pub seen_at : Plain → Position → Plain
+abbrev pub seen_at : PlaybackStream → Position → PlaybackStream
 seen_at c position = record c { seen = Some position.frame }
 
 -- where a start begins: past the position by the lead, and not before the port's cursor
-abbrev pub start_frame : Plain → ℕ → Cursor → ℕ
+abbrev pub start_frame : PlaybackStream → ℕ → Cursor → ℕ
 start_frame c position cursor = max (position + c.identity.lead) (first_free cursor 0)
 
 -- the stream starts, and is in a state
-abbrev pub started_in : Plain → State → Position → Cursor → Plain
+abbrev pub started_in : PlaybackStream → State → Position → Cursor → PlaybackStream
 started_in c state position cursor =
     record (in_state c state) {
       stretch = record c.stretch { card = start_frame c position.frame cursor; started = true };
@@ -125,12 +125,12 @@ abbrev pub window_end : Geometry → ℕ → ℕ
 window_end g position = min (position + g.frames) (end_frame g)
 
 -- how many frames a commit at a position is to lay, of those before one
-abbrev pub commit_count : Plain → ℕ → ℕ → ℕ
+abbrev pub commit_count : PlaybackStream → ℕ → ℕ → ℕ
 commit_count c position upto =
     min upto (window_end c.identity.geometry position - c.stretch.card) - c.stretch.committed
 
 -- the client after a commit
-abbrev pub committed_by : Plain → Commit → Plain
+abbrev pub committed_by : PlaybackStream → Commit → PlaybackStream
 committed_by c commit =
     record c {
       stretch = record c.stretch {
@@ -140,15 +140,15 @@ committed_by c commit =
     }
 
 -- the frame at which a commit ended, and the card channel
-abbrev pub end_of_commit : Plain → Commit → ℕ
+abbrev pub end_of_commit : PlaybackStream → Commit → ℕ
 end_of_commit c commit = c.stretch.card + (c.stretch.committed + commit.frames)
 
-abbrev pub end_channel : Plain → Commit → ℕ
+abbrev pub end_channel : PlaybackStream → Commit → ℕ
 end_channel c commit =
     slice_index c.setup.bindings (slice_index (rising c.setup.bindings) commit.part)
 
 -- what a commit laid of the local ring
-abbrev pub commit_entries : Plain → List ℤ → Commit → List Entry
+abbrev pub commit_entries : PlaybackStream → List ℤ → Commit → List Entry
 commit_entries c ring commit =
     run_entries c.identity.member c.setup.bindings (ring_sample c ring) c.stretch.card c.stretch.committed
     commit.frames commit.part
@@ -164,7 +164,7 @@ late_at ended.Whole frame channel = None
 late_at (ended.Late word) frame channel = Some (why.Late frame channel word)
 late_at ended.Stopped frame channel = None
 
-abbrev pub late_of : Plain → Commit → Option XrunWhy
+abbrev pub late_of : PlaybackStream → Commit → Option XrunWhy
 late_of c commit = late_at commit.ended (end_of_commit c commit) (end_channel c commit)
 
 abbrev pub is_prepared : State → Bool
@@ -176,13 +176,13 @@ is_running Running = true
 is_running other = false
 
 -- the stop threshold was reached in RUNNING, at a position: the frames available
-abbrev pub over_of : Plain → Position → Option (ℕ × ℕ)
+abbrev pub over_of : PlaybackStream → Position → Option (ℕ × ℕ)
 over_of c position =
     if is_running c.status.state && nat_le c.setup.params.stop_threshold (avail_of c)
     then Some (avail_of c, position.frame) else None
 
 -- the facts for the state table: of a client after its commit, with what stood at the load
-abbrev pub facts_of : Plain → Position → Option (ℕ × ℕ) → Option XrunWhy → Facts
+abbrev pub facts_of : PlaybackStream → Position → Option (ℕ × ℕ) → Option XrunWhy → Facts
 facts_of c position over late =
     record {
       capture = false;
@@ -194,13 +194,13 @@ facts_of c position over late =
     }
 
 -- how many frames the sync at a position is to commit
-abbrev pub sync_count : Plain → Position → ℕ
+abbrev pub sync_count : PlaybackStream → Position → ℕ
 sync_count c position =
     if position.gone || is_some (over_of (seen_at c position) position) then 0
     else commit_count c position.frame c.stretch.written
 
 -- the sync of a client that moves frames: the load, the stop threshold, the commit
-abbrev pub after_sync : Plain → Call → Option Position → Commit → Answered (Unit {0})
+abbrev pub after_sync : PlaybackStream → Call → Option Position → Commit → Answered (Unit {0})
 after_sync c call None commit = stopped_in c
 after_sync c call (Some position) commit =
     let loaded = seen_at c position in
@@ -223,22 +223,22 @@ found_at position late =
     }
 
 -- how many frames a start at a position is to commit, of those before one
-abbrev pub start_count : Plain → Cursor → Position → ℕ → ℕ
+abbrev pub start_count : PlaybackStream → Cursor → Position → ℕ → ℕ
 start_count c cursor position upto =
     if position.gone then 0 else commit_count (started_in c Running position cursor) position.frame
     upto
 
 -- an answer leads to a state, or a refusal to another
-abbrev pub going_on_by : Result (Unit {0}) PcmError → Plain → State → State → Answered (Unit {0})
+abbrev pub going_on_by : Result (Unit {0}) PcmError → PlaybackStream → State → State → Answered (Unit {0})
 going_on_by (Ok done) c state refused = (in_state c state, Ok tt)
 going_on_by (Err e) c state refused = (in_state c refused, Err e)
 
 -- the call goes on in a state, unless the table refuses it
-abbrev pub going_on : Plain → State → Outcome → Answered (Unit {0})
+abbrev pub going_on : PlaybackStream → State → Outcome → Answered (Unit {0})
 going_on c state outcome = going_on_by outcome.answer c state outcome.state
 
 -- the start of a client that is prepared and has frames, which leads to a state: the load, and the commit
-abbrev pub after_start : Plain → State → Cursor → Option Position → Commit → Answered (Unit {0})
+abbrev pub after_start : PlaybackStream → State → Cursor → Option Position → Commit → Answered (Unit {0})
 after_start c state cursor None commit = stopped_in c
 after_start c state cursor (Some position) commit =
     if position.gone
@@ -252,7 +252,7 @@ after_start c state cursor (Some position) commit =
     )
 
 -- a running stream is paused
-abbrev pub paused : Plain → Plain
+abbrev pub paused : PlaybackStream → PlaybackStream
 paused c = in_state c Paused
 
 abbrev pub is_paused : State → Bool
@@ -260,59 +260,59 @@ is_paused Paused = true
 is_paused other = false
 
 -- the frames that are pending: accepted, and not committed
-abbrev pub pending_of : Plain → ℕ
+abbrev pub pending_of : PlaybackStream → ℕ
 pending_of c = c.stretch.written - c.stretch.committed
 
 -- the counts based anew: what is pending is all that is written, and nothing is laid since now
-abbrev pub rebased : Plain → Plain
+abbrev pub rebased : PlaybackStream → PlaybackStream
 rebased c = record (in_state c Prepared) { stretch = waiting (pending_of c) (c.fed - pending_of c) }
 
 -- a client that a call found as the first of these and left as the second begins with its counts based anew where it is no
 -- longer paused
-abbrev pub base_of : Plain → Plain → Plain
+abbrev pub base_of : PlaybackStream → PlaybackStream → PlaybackStream
 base_of c d = if is_paused c.status.state && not (is_paused d.status.state) then rebased c else c
 
 -- the resume of a client with pending frames: a start of these, once the position was loaded
-abbrev pub resumed : Plain → Cursor → Option Position → Commit → Answered (Unit {0})
+abbrev pub resumed : PlaybackStream → Cursor → Option Position → Commit → Answered (Unit {0})
 resumed c cursor None commit = stopped_in c
 resumed c cursor (Some position) commit = after_start (rebased c) Running cursor (Some position) commit
 
 -- an answer's number, where there is one
-abbrev pub with_number : (Plain → ℕ) → Answered (Unit {0}) → Answered ℕ
+abbrev pub with_number : (PlaybackStream → ℕ) → Answered (Unit {0}) → Answered ℕ
 with_number number (c, Ok done) = (c, Ok (number c))
 with_number number (c, Err e) = (c, Err e)
 
 -- the frames that `avail_update` answers, in the state after its sync
-abbrev pub avail_in : State → Plain → ℕ
+abbrev pub avail_in : State → PlaybackStream → ℕ
 avail_in Setup c = c.setup.config.buffer_size
 avail_in other c = avail_of c
 
-abbrev pub avail_answer : Plain → ℕ
+abbrev pub avail_answer : PlaybackStream → ℕ
 avail_answer c = avail_in c.status.state c
 
 -- the frames that `delay` answers: from the position seen to the end of what is written
-abbrev pub delay_in : State → Plain → ℕ
+abbrev pub delay_in : State → PlaybackStream → ℕ
 delay_in Setup c = 0
 delay_in Prepared c = c.stretch.written
 delay_in other c = c.stretch.card + c.stretch.written - unwrap_or c.seen 0
 
-abbrev pub delay_answer : Plain → ℕ
+abbrev pub delay_answer : PlaybackStream → ℕ
 delay_answer c = delay_in c.status.state c
 
 -- the stream drains
-abbrev pub draining : Plain → Plain
+abbrev pub draining : PlaybackStream → PlaybackStream
 draining c = in_state c Draining
 
 -- a prepared stream has frames to play
-abbrev pub has_frames : Plain → Bool
+abbrev pub has_frames : PlaybackStream → Bool
 has_frames c = is_prepared c.status.state && nat_lt 0 c.stretch.written
 
 -- how many frames a write of n takes
-abbrev pub taken_of : Plain → ℕ → ℕ
+abbrev pub taken_of : PlaybackStream → ℕ → ℕ
 taken_of c n = min n (min (avail_of c) c.setup.config.buffer_size)
 
 -- frames were accepted
-abbrev pub accepted : Plain → ℕ → Plain
+abbrev pub accepted : PlaybackStream → ℕ → PlaybackStream
 accepted c n =
     record c { stretch = record c.stretch { written = c.stretch.written + n }; fed = c.fed + n }
 
@@ -322,7 +322,7 @@ accepted_if n (c, Ok done) = (accepted c n, Ok n)
 accepted_if n (c, Err e) = (c, Err e)
 
 -- a write into a stream that runs, after its sync: nothing can be taken, or some frames are taken and committed
-abbrev pub written_after : Plain → ℕ → Commit → Answered ℕ
+abbrev pub written_after : PlaybackStream → ℕ → Commit → Answered ℕ
 written_after c n commit =
     if nat_lt 0 n && nat_eq (avail_of c) 0
     then (c, Err Again)

@@ -13,7 +13,7 @@ use Rattle.mix_core.specs.Port.{IsPast, PortView}
 use Rattle.bindings.specs.Bound.{rising}
 use Rattle.pcm_states.specs.declared.states.State.TheVariants.{Running}
 use Rattle.pcm_states.specs.declared.calls.Call.TheVariants as call
-use Rattle.dmix_client.specs.declared.plain.Plain.{Plain}
+use Rattle.dmix_client.specs.declared.stream.PlaybackStream.{PlaybackStream}
 use Rattle.dmix_client.specs.Calls.{Answered, seen_at, after_sync}
 use Rattle.dmix_client.specs.View.{ClientView, avail_of}
 use Rattle.dmix_client.specs.Course.{write_on}
@@ -26,7 +26,7 @@ IsGone None = ⊥
 IsGone (Some position) = position.gone ≡ true
 
 -- a stream in RUNNING had so many frames available at the position loaded, a frame number, and its stop threshold says no more
-abbrev pub Reaches : Plain → Option Position → ℕ → ℕ → Type 0
+abbrev pub Reaches : PlaybackStream → Option Position → ℕ → ℕ → Type 0
 Reaches c None avail frame = ⊥
 Reaches c (Some position) avail frame =
     (position.gone ≡ false) × (c.status.state ≡ Running) × (c.setup.params.stop_threshold ≤ avail)
@@ -34,7 +34,7 @@ Reaches c (Some position) avail frame =
 
 -- a frame and channel are the first of a client's segment in which nothing is laid, and the port shows that they were taken
 pub record IsMissed {S : Type 0} (view : S → PortView) (shows : S → ℕ → ℕ → Option ℕ) (q : S)
-    (d : Plain) (frame channel word : ℕ) : Type 0 where
+    (d : PlaybackStream) (frame channel word : ℕ) : Type 0 where
   pub frame_is : frame ≡ d.stretch.card + d.stretch.committed
   pub channel_is : channel ≡ slice_index d.setup.bindings
       (slice_index (rising d.setup.bindings) d.stretch.part)
@@ -51,7 +51,7 @@ IsOfSteps other = ⊥
 
 -- why a call of a client `c`, which loaded a position unless the gate stopped it before and left the client as `d`, answered so
 pub record IsCaused {S X : Type 0} (view : S → PortView) (shows : S → ℕ → ℕ → Option ℕ) (q : S)
-    (c d : Plain) (load : Option Position) (answer : Result X PcmError) : Type 0 where
+    (c d : PlaybackStream) (load : Option Position) (answer : Result X PcmError) : Type 0 where
   pub unless_stopped : IfNone load (answer ≡ Err Stopped)
   pub of_steps : IfErr answer IsOfSteps
   pub no_device : (answer ≡ Err NoDevice) ↔ IsGone load
@@ -63,15 +63,15 @@ pub record IsCaused {S X : Type 0} (view : S → PortView) (shows : S → ℕ �
 
 -- what the step of a call did, and why it answered so by the position that this step loaded
 pub record Explains {S T X : Type 0} (P : mixport.Ghosts S) (G : gates.Ghosts T) (s t : S × T)
-    (c : ClientView) (at : Position → Plain) (count : Position → ℕ)
+    (c : ClientView) (at : Position → PlaybackStream) (count : Position → ℕ)
     (call : Option Position → Commit → Answered X) (done : Answered X) : Type 0 where
-  pub step : TakesStep P G s t c.ring at count (length c.plain.setup.bindings) call done
-  pub why : IsCaused P.view P.shows t.0 c.plain done.0 step.load done.1
+  pub step : TakesStep P G s t c.ring at count (length c.stream.setup.bindings) call done
+  pub why : IsCaused P.view P.shows t.0 c.stream done.0 step.load done.1
 
 -- a write of n frames into a stream that runs: its sync, and what followed it; why it answered so by the position that the sync
 -- loaded; and that it is to be made again exactly where the sync went well, there are frames to write, and none can be taken
 pub record ExplainsWrite {S T : Type 0} (P : mixport.Ghosts S) (G : gates.Ghosts T) (s t : S × T)
-    (c : Plain) (ring new_ring samples : List ℤ) (n : ℕ) (done : Answered ℕ) : Type 0 where
+    (c : PlaybackStream) (ring new_ring samples : List ℤ) (n : ℕ) (done : Answered ℕ) : Type 0 where
   pub between : S × T
   pub middle : Answered (Unit {0})
   pub first : TakesStep P G s between ring (λ position. c) (sync_count c) (length c.setup.bindings)

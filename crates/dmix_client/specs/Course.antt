@@ -14,7 +14,7 @@ use Rattle.pcm_states.specs.Table.{next_of}
 use Rattle.pcm_states.specs.declared.calls.Call.{Call}
 use Rattle.pcm_states.specs.declared.calls.Call.TheVariants as call
 use Rattle.dmix_client.specs.declared.commit.Commit.{Commit}
-use Rattle.dmix_client.specs.declared.plain.Plain.{Plain}
+use Rattle.dmix_client.specs.declared.stream.PlaybackStream.{PlaybackStream}
 use Rattle.pcm_stream.specs.Status.{is_moving, nothing_found, refusal_of}
 use Rattle.pcm_stream.specs.declared.direction.Direction.TheVariants.{Playback}
 use Rattle.dmix_client.specs.Calls.{Answered, accepted, accepted_if, draining, dropped, has_frames, is_running, paused, pending_of, rebased, resumed, with_outcome, start_count, after_start, started_in, sync_count, after_sync, taken_of, with_number, written_after}
@@ -60,29 +60,29 @@ lay_frames member card bindings samples (suc count) first =
     >>= λ end. go_on end (lay_frames member card bindings samples count (first + 1))
 
 -- the commit of so many frames
-abbrev pub commits : Plain → List ℤ → ℕ → Course Commit
+abbrev pub commits : PlaybackStream → List ℤ → ℕ → Course Commit
 commits c ring count =
     lay_frames c.identity.member c.stretch.card c.setup.bindings (ring_sample c ring) count
     c.stretch.committed
 
 -- a commit behind a load, of a client as it is then
-abbrev pub commit_at : (Position → Plain) → (Position → ℕ) → List ℤ → Option Position
+abbrev pub commit_at : (Position → PlaybackStream) → (Position → ℕ) → List ℤ → Option Position
     → Course Commit
 commit_at at count ring None = ends nothing
 commit_at at count ring (Some position) = commits (at position) ring (count position)
 
 -- a load, and the commit behind it
-unfoldable pub looks : (Position → Plain) → (Position → ℕ) → List ℤ
+unfoldable pub looks : (Position → PlaybackStream) → (Position → ℕ) → List ℤ
     → Course (Option Position × Commit)
 looks at count ring = loads (λ load. commit_at at count ring load >>= λ commit. ends (load, commit))
 
 -- the sync of a client that moves frames: the load, and the commit
-unfoldable pub syncs : Plain → Call → List ℤ → Course (Answered (Unit {0}))
+unfoldable pub syncs : PlaybackStream → Call → List ℤ → Course (Answered (Unit {0}))
 syncs c call ring = looks (λ position. c) (sync_count c) ring
     >>= λ found. ends (after_sync c call found.0 found.1)
 
 -- the start of a client that has frames: the load, and the commit of those before one
-unfoldable pub starts : Plain → State → Cursor → ℕ → List ℤ → Course (Answered (Unit {0}))
+unfoldable pub starts : PlaybackStream → State → Cursor → ℕ → List ℤ → Course (Answered (Unit {0}))
 starts c state cursor upto ring =
     looks (λ position. started_in c Running position cursor)
     (λ position. start_count c cursor position upto) ring
@@ -90,10 +90,10 @@ starts c state cursor upto ring =
 
 -- the calls, each of a client that isn't refused before
 
-abbrev pub sync_course : Plain → List ℤ → Course (Answered (Unit {0}))
+abbrev pub sync_course : PlaybackStream → List ℤ → Course (Answered (Unit {0}))
 sync_course c ring = if is_moving c.status.state then syncs c call.Sync ring else ends (c, Ok tt)
 
-abbrev pub start_course : Plain → List ℤ → Cursor → Course (Answered (Unit {0}))
+abbrev pub start_course : PlaybackStream → List ℤ → Cursor → Course (Answered (Unit {0}))
 start_course c ring cursor = if nat_eq c.stretch.written 0
     then ends
     (with_outcome c (next_of c.status.state call.Start (record (nothing_found Playback) { queued = 0 })))
@@ -104,22 +104,22 @@ drain_on ring (c, Ok done) = syncs c call.Drain ring
 drain_on ring (c, Err e) = ends (c, Err e)
 
 -- the start of a drain, and its sync
-unfoldable pub drains : Plain → List ℤ → Cursor → Course (Answered (Unit {0}))
+unfoldable pub drains : PlaybackStream → List ℤ → Cursor → Course (Answered (Unit {0}))
 drains c ring cursor = starts c Draining cursor c.stretch.written ring >>= drain_on ring
 
-abbrev pub drain_course : Plain → List ℤ → Cursor → Course (Answered (Unit {0}))
+abbrev pub drain_course : PlaybackStream → List ℤ → Cursor → Course (Answered (Unit {0}))
 drain_course c ring cursor =
     if is_moving c.status.state then syncs (draining c) call.Drain ring else
     (if has_frames c then drains c ring cursor else ends (dropped c, Ok tt))
 
 -- the resume of a client with pending frames: the load, and the commit of these from where the stream starts
-unfoldable pub resumes : Plain → Cursor → List ℤ → Course (Answered (Unit {0}))
+unfoldable pub resumes : PlaybackStream → Cursor → List ℤ → Course (Answered (Unit {0}))
 resumes c cursor ring =
     looks (λ position. started_in (rebased c) Running position cursor)
     (λ position. start_count (rebased c) cursor position (pending_of c)) ring
     >>= λ found. ends (resumed c cursor found.0 found.1)
 
-abbrev pub pause_course : Bool → Plain → List ℤ → Cursor → Course (Answered (Unit {0}))
+abbrev pub pause_course : Bool → PlaybackStream → List ℤ → Cursor → Course (Answered (Unit {0}))
 pause_course on c ring cursor = if on then ends (paused c, Ok tt) else
     (if nat_eq (pending_of c) 0 then ends (rebased c, Ok tt) else resumes c cursor ring)
 
@@ -127,24 +127,24 @@ abbrev pub pause_call : Bool → Call
 pause_call on = if on then call.Pause else call.Resume
 
 -- a call, unless it is refused before it does anything
-abbrev pub admitted_by : {X : Type 0} → Option PcmError → Plain → Course (Answered X)
+abbrev pub admitted_by : {X : Type 0} → Option PcmError → PlaybackStream → Course (Answered X)
     → Course (Answered X)
 admitted_by None c course = course
 admitted_by (Some e) c course = ends (c, Err e)
 
-abbrev pub admitted : {X : Type 0} → Plain → Call → Course (Answered X) → Course (Answered X)
+abbrev pub admitted : {X : Type 0} → PlaybackStream → Call → Course (Answered X) → Course (Answered X)
 admitted c call course = admitted_by (refusal_of Playback c.status call) c course
 
 -- a call's answer with a number
-unfoldable pub numbered : (Plain → ℕ) → Course (Answered (Unit {0})) → Course (Answered ℕ)
+unfoldable pub numbered : (PlaybackStream → ℕ) → Course (Answered (Unit {0})) → Course (Answered ℕ)
 numbered number course = course >>= λ done. ends (with_number number done)
 
-abbrev pub number_course : (Plain → ℕ) → Plain → List ℤ → Course (Answered ℕ)
+abbrev pub number_course : (PlaybackStream → ℕ) → PlaybackStream → List ℤ → Course (Answered ℕ)
 number_course number c ring = if is_moving c.status.state
     then numbered number (syncs c call.Sync ring) else ends (c, Ok (number c))
 
 -- a write behind its sync: frames are taken, stored and committed
-unfoldable pub takes_more : Plain → List ℤ → List ℤ → ℕ → Course (Answered ℕ)
+unfoldable pub takes_more : PlaybackStream → List ℤ → List ℤ → ℕ → Course (Answered ℕ)
 takes_more c ring samples n =
     commits c (ring_with c ring samples (taken_of c n)) (count_with c (taken_of c n))
     >>= λ last. ends (written_after c n last)
@@ -153,20 +153,20 @@ abbrev pub write_on : List ℤ → List ℤ → ℕ → Answered (Unit {0}) → 
 write_on ring samples n (c, Ok done) = takes_more c ring samples n
 write_on ring samples n (c, Err e) = ends (c, Err e)
 
-unfoldable pub writes_on : Plain → List ℤ → List ℤ → ℕ → Course (Answered ℕ)
+unfoldable pub writes_on : PlaybackStream → List ℤ → List ℤ → ℕ → Course (Answered ℕ)
 writes_on c ring samples n = syncs c call.Transfer ring >>= write_on ring samples n
 
 -- a write that starts the stream with frames that are stored
-unfoldable pub starts_taking : Plain → List ℤ → Cursor → ℕ → Course (Answered ℕ)
+unfoldable pub starts_taking : PlaybackStream → List ℤ → Cursor → ℕ → Course (Answered ℕ)
 starts_taking c ring cursor taken = starts c Running cursor (c.stretch.written + taken) ring
     >>= λ done. ends (accepted_if taken done)
 
-abbrev pub fills : Plain → List ℤ → List ℤ → Cursor → ℕ → Course (Answered ℕ)
+abbrev pub fills : PlaybackStream → List ℤ → List ℤ → Cursor → ℕ → Course (Answered ℕ)
 fills c ring samples cursor n = if starts_with c n
     then starts_taking c (ring_with c ring samples (taken_of c n)) cursor (taken_of c n)
     else ends (accepted c (taken_of c n), Ok (taken_of c n))
 
-abbrev pub write_course : Plain → List ℤ → List ℤ → Cursor → Course (Answered ℕ)
+abbrev pub write_course : PlaybackStream → List ℤ → List ℤ → Cursor → Course (Answered ℕ)
 write_course c ring samples cursor =
     if is_running c.status.state then writes_on c ring samples (frames_in c samples)
     else fills c ring samples cursor (frames_in c samples)

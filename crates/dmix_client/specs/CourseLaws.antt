@@ -23,7 +23,7 @@ use Rattle.course.specs.CourseLaws.{Takes-parts}
 use Rattle.bindings.specs.Bound.{AreBindings, rising}
 use Rattle.bindings.specs.RisingLaws.{length-rising}
 use Rattle.dmix_client.specs.declared.commit.Commit.{Commit}
-use Rattle.dmix_client.specs.declared.plain.Plain.{Plain}
+use Rattle.dmix_client.specs.declared.stream.PlaybackStream.{PlaybackStream}
 use Rattle.dmix_client.specs.Calls.{Answered, commit_entries}
 use Rattle.dmix_client.specs.Course.{commits, go_on, lay_each, lay_frame, lay_frames, looks, one_frame_more, one_more}
 use Rattle.dmix_client.specs.Expansion.{frame_entries, run_entries}
@@ -248,7 +248,7 @@ module _ {S T : Type 0} (P : mixport.Ghosts S) (G : gates.Ghosts T) (laid_compos
       (λ u y more. TakesAt-frames member card bindings samples count (first + 1) parts.0 u y are more) parts.3
 
   -- a load, and the commit behind it
-  pub TakesAt-looks : (at : Position → Plain) (count : Position → ℕ) (ring : List ℤ)
+  pub TakesAt-looks : (at : Position → PlaybackStream) (count : Position → ℕ) (ring : List ℤ)
       (bindings : List ℕ) (s t : S × T) (load : Option Position) (commit : Commit)
       → AreBindings bindings → ((position : Position) → (at position).setup.bindings ≡ bindings)
       → TakesAt P G s (looks at count ring) t (load, commit)
@@ -286,7 +286,7 @@ module _ {S T : Type 0} (P : mixport.Ghosts S) (G : gates.Ghosts T) (laid_compos
       }))
 
   -- and the call by what they found
-  pub TakesAt-step : {X : Type 0} (at : Position → Plain) (count : Position → ℕ) (ring : List ℤ)
+  pub TakesAt-step : {X : Type 0} (at : Position → PlaybackStream) (count : Position → ℕ) (ring : List ℤ)
       (bindings : List ℕ) (call : Option Position → Commit → Answered X) (s t : S × T)
       (done : Answered X)
       → AreBindings bindings → ((position : Position) → (at position).setup.bindings ≡ bindings)

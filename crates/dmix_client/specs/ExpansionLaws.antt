@@ -10,7 +10,7 @@ use Rattle.mix_core.specs.declared.port.Entry.{Entry}
 use Rattle.bindings.specs.Bound.{AreBindings, rising}
 use Rattle.bindings.specs.RisingLaws.{length-rising, rising-within}
 use Rattle.dmix_client.specs.declared.commit.Commit.{Commit}
-use Rattle.dmix_client.specs.declared.plain.Plain.{Plain}
+use Rattle.dmix_client.specs.declared.stream.PlaybackStream.{PlaybackStream}
 use Rattle.dmix_client.specs.Calls.{commit_entries}
 use Rattle.dmix_client.specs.Expansion.{frame_entries, run_entries, sample_at}
 use Rattle.dmix_client.specs.View.{ring_sample}
@@ -41,7 +41,7 @@ run_entries-append member bindings sample_of card first n k part =
     ∙ ap (λ (es : List Entry). es ++ (flat_map frame (range_with_len (first + n) k) ++ rest (first + n + k))) (sym (append-nil (flat_map frame (range_with_len first n))))
 
 -- a list of accepted frames, of which those from one to before another stand in the local ring
-abbrev pub Holds : Plain → List ℤ → List ℤ → ℕ → ℕ → Type 0
+abbrev pub Holds : PlaybackStream → List ℤ → List ℤ → ℕ → ℕ → Type 0
 Holds c ring samples from to = (j q : ℕ) → from ≤ j → j < to → q < length c.setup.bindings → ring_sample c ring j q ≡ sample_at samples (length c.setup.bindings) j q
 
 -- two functions that agree on a list's elements give one list
@@ -101,7 +101,7 @@ run_entries-same member bindings s t card first whole part are same =
     ∙ ap (λ (es : List Entry). flat_map (λ j. frame_entries member bindings (t j) (length bindings) (card + j)) (range_with_len first whole) ++ es) last
 
 -- what a commit laid of the local ring is what it laid of the accepted frames
-pub commit_entries-accepted : (c : Plain) (ring samples : List ℤ) (commit : Commit) (to : ℕ)
+pub commit_entries-accepted : (c : PlaybackStream) (ring samples : List ℤ) (commit : Commit) (to : ℕ)
     → AreBindings c.setup.bindings → Holds c ring samples c.stretch.committed to
     → c.stretch.committed + frames_used commit.frames commit.part ≤ to
     → commit_entries c ring commit ≡ run_entries c.identity.member c.setup.bindings
@@ -112,7 +112,7 @@ commit_entries-accepted c ring samples commit to are holds within =
     (λ j q least most h. holds j q least (omega (arith, most, within)) h)
 
 -- the entries of a segment grow by exactly what a commit laid
-pub expand-grows : (c : Plain) (ring samples : List ℤ) (commit : Commit) (to : ℕ)
+pub expand-grows : (c : PlaybackStream) (ring samples : List ℤ) (commit : Commit) (to : ℕ)
     → AreBindings c.setup.bindings → Holds c ring samples c.stretch.committed to
     → c.stretch.committed + frames_used commit.frames commit.part ≤ to → c.stretch.part ≡ 0
     → run_entries c.identity.member c.setup.bindings (sample_at samples (length c.setup.bindings))

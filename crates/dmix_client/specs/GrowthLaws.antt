@@ -4,7 +4,7 @@ use Rattle.std.proofs.Common.{arith, ap, sym, ◌∙◌, append_assoc, get_or}
 use Rattle.std.proofs.lemmas.Bool.Decides.{nat_tests}
 use Rattle.snd_base.specs.Relations.{Composes}
 use Rattle.mix_core.specs.declared.port.Entry.{Entry}
-use Rattle.dmix_client.specs.declared.plain.Plain.{Plain}
+use Rattle.dmix_client.specs.declared.stream.PlaybackStream.{PlaybackStream}
 use Rattle.pcm_states.specs.declared.states.State.TheVariants.{Paused}
 use Rattle.dmix_client.specs.Calls.{rebased}
 use Rattle.dmix_client.specs.Expansion.{sample_at}
@@ -12,12 +12,12 @@ use Rattle.dmix_client.specs.Growth.{Grows, StandsFor, segment_entries}
 use Rattle.dmix_client.specs.View.{IsSound}
 
 -- a client with nothing written, as after `hw_params` and `prepare`, stands for all samples
-pub StandsFor-nothing : (c : Plain) (ring samples : List ℤ) → c.stretch.written ≡ 0
+pub StandsFor-nothing : (c : PlaybackStream) (ring samples : List ℤ) → c.stretch.written ≡ 0
     → StandsFor c ring samples
 StandsFor-nothing c ring samples none j q low high in_range = absurd (omega (arith, high, none))
 
 -- a paused client that stands for some samples does so with its counts based anew
-pub StandsFor-rebased : (c : Plain) (ring samples : List ℤ) → IsSound c ring
+pub StandsFor-rebased : (c : PlaybackStream) (ring samples : List ℤ) → IsSound c ring
     → c.status.state ≡ Paused → StandsFor c ring samples → StandsFor (rebased c) ring samples
 StandsFor-rebased c ring samples sound is stands j q low high in_range =
     let most = (sound.paused is).laid_most in
@@ -28,7 +28,7 @@ StandsFor-rebased c ring samples sound is stands j q low high in_range =
 
 -- the growths of two calls, one after the other, are one
 pub Grows-joined : {S : Type 0} (laid : S → S → List Entry → Type 0) (composes : Composes laid)
-    (p q r : S) (c d e : Plain) (samples : List ℤ)
+    (p q r : S) (c d e : PlaybackStream) (samples : List ℤ)
     → Grows laid p q c d samples → Grows laid q r d e samples → Grows laid p r c e samples
 Grows-joined laid composes p q r c d e samples first later = record {
   entries = first.entries ++ later.entries;

@@ -20,7 +20,7 @@ use Rattle.pcm_states.specs.declared.states.State.TheVariants.{Running, Draining
 use Rattle.pcm_states.specs.declared.calls.Call.{Call}
 use Rattle.pcm_states.specs.declared.calls.Call.TheVariants.{Sync, Transfer, Drain}
 use Rattle.dmix_client.specs.declared.commit.Commit.{Commit}
-use Rattle.dmix_client.specs.declared.plain.Plain.{Plain}
+use Rattle.dmix_client.specs.declared.stream.PlaybackStream.{PlaybackStream}
 use Rattle.dmix_client.specs.Calls.{Answered, commit_entries, end_channel, end_of_commit}
 use Rattle.pcm_stream.specs.Status.{is_moving}
 
@@ -59,7 +59,7 @@ IsStep state call = ⊥
 
 -- a port that a client can use: it is the client's, it can add, and where the client moves frames nobody else has used
 -- it since the start
-pub record CanUse (c : Plain) (v : PortView) : Type 0 where
+pub record CanUse (c : PlaybackStream) (v : PortView) : Type 0 where
   pub same_geometry : v.geometry ≡ c.identity.geometry
   pub same_member : v.member ≡ c.identity.member
   pub can : v.can_add ≡ true
@@ -70,7 +70,7 @@ pub record CanUse (c : Plain) (v : PortView) : Type 0 where
       → unwrap_or c.seen 0 ≤ v.seen
 
 -- what a load and the commit behind it laid, by the client at the commit
-abbrev pub entries_at : Option Position → (Position → Plain) → List ℤ → Commit → List Entry
+abbrev pub entries_at : Option Position → (Position → PlaybackStream) → List ℤ → Commit → List Entry
 entries_at None at ring commit = []
 entries_at (Some position) at ring commit = commit_entries (at position) ring commit
 
@@ -83,7 +83,7 @@ abbrev pub CountsFound : Option Position → Ended → ℕ → ℕ → Type 0
 CountsFound load ended before after = after ≡ stops_after (pass_of_found load ended) before
 
 -- a load and the commit behind it: the client `at` the commit had `count` frames to lay
-pub record IsFound (load : Option Position) (commit : Commit) (at : Position → Plain)
+pub record IsFound (load : Option Position) (commit : Commit) (at : Position → PlaybackStream)
     (count : Position → ℕ) (channels : ℕ) : Type 0 where
   pub nothing : IfNone load (commit ≡ record { frames = 0; part = 0; ended = Whole })
   pub commit_is : IfSome load
@@ -94,7 +94,7 @@ pub record IsFound (load : Option Position) (commit : Commit) (at : Position →
 
 -- what one load and the commit behind it did at a port and its gate
 pub record Looked {S T : Type 0} (P : mixport.Ghosts S) (G : gates.Ghosts T) (s t : S × T)
-    (ring : List ℤ) (at : Position → Plain) (count : Position → ℕ) (channels : ℕ)
+    (ring : List ℤ) (at : Position → PlaybackStream) (count : Position → ℕ) (channels : ℕ)
     (load : Option Position) (commit : Commit) : Type 0 where
   pub found : IsFound load commit at count channels
   pub loaded_them : P.loaded s.0 t.0 (option_to_list load)
@@ -113,7 +113,7 @@ pub record Looked {S T : Type 0} (P : mixport.Ghosts S) (G : gates.Ghosts T) (s 
 
 -- a call made one load and the commit behind it, and came to this by what they found
 pub record TakesStep {S T X : Type 0} (P : mixport.Ghosts S) (G : gates.Ghosts T) (s t : S × T)
-    (ring : List ℤ) (at : Position → Plain) (count : Position → ℕ) (channels : ℕ)
+    (ring : List ℤ) (at : Position → PlaybackStream) (count : Position → ℕ) (channels : ℕ)
     (call : Option Position → Commit → Answered X) (done : Answered X) : Type 0 where
   pub load : Option Position
   pub commit : Commit

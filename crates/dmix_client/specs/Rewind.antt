@@ -12,7 +12,7 @@ use Rattle.pcm_states.specs.declared.calls.Call.TheVariants as call
 use Rattle.pcm_states.specs.declared.states.State.TheVariants.{Running}
 use Rattle.pcm_states.specs.Table.{next_of}
 use Rattle.dmix_client.specs.declared.commit.Commit.{Commit}
-use Rattle.dmix_client.specs.declared.plain.Plain.{Plain}
+use Rattle.dmix_client.specs.declared.stream.PlaybackStream.{PlaybackStream}
 use Rattle.dmix_client.specs.Calls.{Answered, found_at, is_running, is_stop, late_at, pending_of, with_outcome, stopped_in, after_sync, with_number}
 use Rattle.dmix_client.specs.Course.{nothing, numbered}
 use Rattle.dmix_client.specs.Expansion.{run_entries}
@@ -20,22 +20,22 @@ use Rattle.dmix_client.specs.View.{hw_of, ring_sample}
 
 -- how many frames a client can take back at a port that withdraws nothing before a floor: what is pending, and the committed
 -- frames that are at or past the position seen and whose channel 0 isn't before the floor
-abbrev pub rewindable_of : Cursor → Plain → ℕ
+abbrev pub rewindable_of : Cursor → PlaybackStream → ℕ
 rewindable_of floor c =
     pending_of
     c + (c.stretch.committed - (max (unwrap_or c.seen 0) (first_free floor 0) - c.stretch.card))
 
 -- how many of the last n frames are committed
-abbrev pub back_of : Plain → ℕ → ℕ
+abbrev pub back_of : PlaybackStream → ℕ → ℕ
 back_of c n = n - pending_of c
 
 -- a client without its last n frames, which were pending
-abbrev pub without : Plain → ℕ → Plain
+abbrev pub without : PlaybackStream → ℕ → PlaybackStream
 without c n =
     record c { stretch = record c.stretch { written = c.stretch.written - n }; fed = c.fed - n }
 
 -- a client of whose last n frames the pending ones were taken back, and of the committed ones all but what is left
-abbrev pub taken_back : Plain → ℕ → Commit → Plain
+abbrev pub taken_back : PlaybackStream → ℕ → Commit → PlaybackStream
 taken_back c n left =
     record c {
       stretch = record c.stretch {
@@ -47,19 +47,19 @@ taken_back c n left =
     }
 
 -- the last sample that a client has in the card's ring: its frame, and its card channel
-abbrev pub last_laid : Plain → ℕ
+abbrev pub last_laid : PlaybackStream → ℕ
 last_laid c =
     c.stretch.card + (if nat_eq c.stretch.part 0 then c.stretch.committed - 1
     else c.stretch.committed)
 
-abbrev pub last_channel : Plain → ℕ
+abbrev pub last_channel : PlaybackStream → ℕ
 last_channel c =
     slice_index c.setup.bindings
     (slice_index (rising c.setup.bindings)
     ((if nat_eq c.stretch.part 0 then length c.setup.bindings else c.stretch.part) - 1))
 
 -- a rewind of n frames, by what is left of the committed ones
-abbrev pub rewound : Plain → ℕ → Commit → Answered ℕ
+abbrev pub rewound : PlaybackStream → ℕ → Commit → Answered ℕ
 rewound c n left =
     let done = taken_back c n left in
     if is_stop left.ended
@@ -102,15 +102,15 @@ take_frames member card bindings samples first (suc n) =
     >>= λ end. back_on end n (length bindings) (take_frames member card bindings samples first n)
 
 -- the load of a client that runs, behind which nothing is committed
-unfoldable pub checks : Plain → Course (Answered (Unit {0}))
+unfoldable pub checks : PlaybackStream → Course (Answered (Unit {0}))
 checks c = loads (λ load. ends (after_sync c call.Transfer load nothing))
 
-abbrev pub rewindable_course : Plain → Cursor → Course (Answered ℕ)
+abbrev pub rewindable_course : PlaybackStream → Cursor → Course (Answered ℕ)
 rewindable_course c floor = if is_running c.status.state
     then numbered (rewindable_of floor) (checks c) else ends (c, Ok c.stretch.written)
 
 -- the withdrawals of a rewind of n frames
-unfoldable pub takes_back : Plain → List ℤ → ℕ → Course (Answered ℕ)
+unfoldable pub takes_back : PlaybackStream → List ℤ → ℕ → Course (Answered ℕ)
 takes_back c ring n =
     take_frames c.identity.member c.stretch.card c.setup.bindings (ring_sample c ring)
     (c.stretch.committed - back_of c n) (back_of c n) >>= λ left. ends (rewound c n left)
@@ -119,15 +119,15 @@ abbrev pub rewind_on : Cursor → List ℤ → ℕ → Answered (Unit {0}) → C
 rewind_on floor ring n (c, Ok done) = takes_back c ring (min n (rewindable_of floor c))
 rewind_on floor ring n (c, Err e) = ends (c, Err e)
 
-unfoldable pub rewinds : Plain → List ℤ → Cursor → ℕ → Course (Answered ℕ)
+unfoldable pub rewinds : PlaybackStream → List ℤ → Cursor → ℕ → Course (Answered ℕ)
 rewinds c ring floor n = checks c >>= rewind_on floor ring n
 
-abbrev pub rewind_course : Plain → List ℤ → Cursor → ℕ → Course (Answered ℕ)
+abbrev pub rewind_course : PlaybackStream → List ℤ → Cursor → ℕ → Course (Answered ℕ)
 rewind_course c ring floor n = if is_running c.status.state then rewinds c ring floor n
     else ends (without c (min n c.stretch.written), Ok (min n c.stretch.written))
 
 -- the committed frames of a client that its local ring still has: those that aren't played, as far as it saw
-abbrev pub held_entries : Plain → List ℤ → List Entry
+abbrev pub held_entries : PlaybackStream → List ℤ → List Entry
 held_entries c ring =
     run_entries c.identity.member c.setup.bindings (ring_sample c ring) c.stretch.card
     (min c.stretch.committed (hw_of c)) (c.stretch.committed - min c.stretch.committed (hw_of c)) 0

@@ -11,7 +11,7 @@ use Rattle.mix_core.specs.declared.port.Position.{Position}
 use Rattle.mix_core.specs.Port.{IsPast, PortView}
 use Rattle.course.specs.AtPort.{TakesAt}
 use Rattle.pcm_states.specs.declared.calls.Call.TheVariants as call
-use Rattle.dmix_client.specs.declared.plain.Plain.{Plain}
+use Rattle.dmix_client.specs.declared.stream.PlaybackStream.{PlaybackStream}
 use Rattle.dmix_client.specs.Calls.{Answered, after_sync}
 use Rattle.dmix_client.specs.Causes.{IsCaused, IsGone, IsOfSteps, Reaches}
 use Rattle.dmix_client.specs.Course.{nothing}
@@ -19,14 +19,14 @@ use Rattle.dmix_client.specs.Rewind.{last_channel, last_laid, rewind_on}
 
 -- a frame and channel are the last of a client's segment in which it has a sample, and the port shows that they were taken
 pub record IsKept {S : Type 0} (view : S → PortView) (shows : S → ℕ → ℕ → Option ℕ) (q : S)
-    (d : Plain) (frame channel word : ℕ) : Type 0 where
+    (d : PlaybackStream) (frame channel word : ℕ) : Type 0 where
   pub frame_is : frame ≡ last_laid d
   pub channel_is : channel ≡ last_channel d
   pub past : IsPast view shows q frame channel word
 
 -- why a rewind of a client `c`, which loaded a position unless the gate stopped it before and left the client as `d`, answered so
 pub record IsKeptCause {S X : Type 0} (view : S → PortView) (shows : S → ℕ → ℕ → Option ℕ) (q : S)
-    (c d : Plain) (load : Option Position) (answer : Result X PcmError) : Type 0 where
+    (c d : PlaybackStream) (load : Option Position) (answer : Result X PcmError) : Type 0 where
   pub unless_stopped : IfNone load (answer ≡ Err Stopped)
   pub of_steps : IfErr answer IsOfSteps
   pub no_device : (answer ≡ Err NoDevice) ↔ IsGone load
@@ -38,7 +38,7 @@ pub record IsKeptCause {S X : Type 0} (view : S → PortView) (shows : S → ℕ
 
 -- what a load did behind which nothing is committed, and why the call answered so by its position
 pub record ExplainsCheck {S T X : Type 0} (P : mixport.Ghosts S) (G : gates.Ghosts T) (s t : S × T)
-    (c : Plain) (call : Option Position → Answered X) (done : Answered X) : Type 0 where
+    (c : PlaybackStream) (call : Option Position → Answered X) (done : Answered X) : Type 0 where
   pub load : Option Position
   pub loaded_it : P.loaded s.0 t.0 (option_to_list load)
   pub laid_nothing : P.laid s.0 t.0 []
@@ -47,7 +47,7 @@ pub record ExplainsCheck {S T X : Type 0} (P : mixport.Ghosts S) (G : gates.Ghos
 
 -- a rewind of n frames of a stream that runs: its load, what followed it, and why it answered so by the position that was loaded
 pub record ExplainsRewind {S T : Type 0} (P : mixport.Ghosts S) (G : gates.Ghosts T) (s t : S × T)
-    (c : Plain) (ring : List ℤ) (floor : Cursor) (n : ℕ) (done : Answered ℕ) : Type 0 where
+    (c : PlaybackStream) (ring : List ℤ) (floor : Cursor) (n : ℕ) (done : Answered ℕ) : Type 0 where
   pub between : S × T
   pub middle : Answered (Unit {0})
   pub first : ExplainsCheck P G s between c (λ load. after_sync c call.Transfer load nothing) middle

@@ -12,7 +12,7 @@ use Rattle.mix_core.specs.declared.port.MixPort as mixport
 use Rattle.mix_core.specs.Laid.{AreAdds}
 use Rattle.bindings.specs.Bound.{rising}
 use Rattle.pcm_states.specs.declared.states.State.TheVariants.{Paused, Running}
-use Rattle.dmix_client.specs.declared.plain.Plain.{Plain}
+use Rattle.dmix_client.specs.declared.stream.PlaybackStream.{PlaybackStream}
 use Rattle.dmix_client.specs.Calls.{rebased}
 use Rattle.dmix_client.specs.Expansion.{frame_entries, run_entries, sample_at}
 use Rattle.dmix_client.specs.ExpansionLaws.{run_entries-append, run_entries-same}
@@ -45,7 +45,7 @@ AreAdds-frames : (frame : ℕ → List Entry) → ((j : ℕ) → AreAdds (frame 
 AreAdds-frames frame adds a zero = tt
 AreAdds-frames frame adds a (suc n) = AreAdds-append (frame a) (flat_map frame (range_with_len (a + 1) n)) (adds a) (AreAdds-frames frame adds (a + 1) n)
 
-AreAdds-segment : (c : Plain) (samples : List ℤ) → AreAdds (segment_entries c samples)
+AreAdds-segment : (c : PlaybackStream) (samples : List ℤ) → AreAdds (segment_entries c samples)
 AreAdds-segment c samples =
     AreAdds-append _ _
     (AreAdds-frames _ (λ j. AreAdds-frame c.identity.member c.setup.bindings (λ q. sample_at samples (length c.setup.bindings) (c.stretch.source + j) q) (length c.setup.bindings) (c.stretch.card + j)) 0 c.stretch.committed)
@@ -53,14 +53,14 @@ AreAdds-segment c samples =
 
 module _ {S T : Type 0} (P : mixport.Ghosts S) (G : gates.Ghosts T) where
   -- a client that laid nothing and has nothing written, at a port whose standing adds end in nothing
-  pub IsBacked-new : (p : S) (c : ClientView) (samples : List ℤ) → c.plain.stretch.written ≡ 0
-      → c.plain.stretch.committed ≡ 0 → c.plain.stretch.part ≡ 0 → P.ends_in p []
+  pub IsBacked-new : (p : S) (c : ClientView) (samples : List ℤ) → c.stream.stretch.written ≡ 0
+      → c.stream.stretch.committed ≡ 0 → c.stream.stretch.part ≡ 0 → P.ends_in p []
       → IsBacked P.ends_in p c samples
   IsBacked-new p c samples none no_frame no_part stand = record {
     stands = λ j q low high in_range. absurd (omega (arith, high, none));
     segment = subst (P.ends_in p) (sym (
-        ap (λ (k : ℕ). run_entries c.plain.identity.member c.plain.setup.bindings (λ j. sample_at samples (length c.plain.setup.bindings) (c.plain.stretch.source + j)) c.plain.stretch.card 0 k c.plain.stretch.part) no_frame
-        ∙ ap (λ (k : ℕ). run_entries c.plain.identity.member c.plain.setup.bindings (λ j. sample_at samples (length c.plain.setup.bindings) (c.plain.stretch.source + j)) c.plain.stretch.card 0 0 k) no_part
+        ap (λ (k : ℕ). run_entries c.stream.identity.member c.stream.setup.bindings (λ j. sample_at samples (length c.stream.setup.bindings) (c.stream.stretch.source + j)) c.stream.stretch.card 0 k c.stream.stretch.part) no_frame
+        ∙ ap (λ (k : ℕ). run_entries c.stream.identity.member c.stream.setup.bindings (λ j. sample_at samples (length c.stream.setup.bindings) (c.stream.stretch.source + j)) c.stream.stretch.card 0 0 k) no_part
         )) stand;
   }
 
@@ -73,10 +73,10 @@ module _ {S T : Type 0} (P : mixport.Ghosts S) (G : gates.Ghosts T) where
       → IsBacked P.ends_in t.0 d samples
   IsBacked-grows s t c d answer For samples held_laid keeps for is =
       let w = keeps.grows samples is.stands for in
-      let adds : AreAdds w.entries = AreAdds-end (segment_entries c.plain samples) w.entries (subst AreAdds w.grown (AreAdds-segment d.plain samples)) in
+      let adds : AreAdds w.entries = AreAdds-end (segment_entries c.stream samples) w.entries (subst AreAdds w.grown (AreAdds-segment d.stream samples)) in
       record {
         stands = keeps.stands samples is.stands for;
-        segment = subst (P.ends_in t.0) (sym w.grown) (held_laid s.0 t.0 (segment_entries c.plain samples) w.entries adds w.laid_them is.segment);
+        segment = subst (P.ends_in t.0) (sym w.grown) (held_laid s.0 t.0 (segment_entries c.stream samples) w.entries adds w.laid_them is.segment);
       }
 
   -- after a rewind
@@ -89,11 +89,11 @@ module _ {S T : Type 0} (P : mixport.Ghosts S) (G : gates.Ghosts T) where
   }
 
   -- with its counts based anew
-  pub IsBacked-rebased : (p : S) (c : Plain) (ring samples : List ℤ)
+  pub IsBacked-rebased : (p : S) (c : PlaybackStream) (ring samples : List ℤ)
       → ((q : S) (xs ys : List Entry) → P.ends_in q (xs ++ ys) → P.ends_in q ys) → IsSound c ring
       → c.status.state ≡ Paused
-      → IsBacked P.ends_in p (record { plain = c; ring = ring }) samples
-      → IsBacked P.ends_in p (record { plain = rebased c; ring = ring }) samples
+      → IsBacked P.ends_in p (record { stream = c; ring = ring }) samples
+      → IsBacked P.ends_in p (record { stream = rebased c; ring = ring }) samples
   IsBacked-rebased p c ring samples part sound pauses is = record {
     stands = StandsFor-rebased c ring samples sound pauses is.stands;
     segment = part p (segment_entries c samples) [] (subst (P.ends_in p) (sym (append-nil (segment_entries c samples))) is.segment);
@@ -105,10 +105,10 @@ module _ {S T : Type 0} (P : mixport.Ghosts S) (G : gates.Ghosts T) where
   -- what a rewind asks
   pub IsBacked-held : (p : S) (c : ClientView) (samples : List ℤ)
       → ((q : S) (xs ys : List Entry) → P.ends_in q (xs ++ ys) → P.ends_in q ys)
-      → IsSound c.plain c.ring → c.plain.status.state ≡ Running → c.plain.status.stopped ≡ false
-      → IsBacked P.ends_in p c samples → P.ends_in p (held_entries c.plain c.ring)
+      → IsSound c.stream c.ring → c.stream.status.state ≡ Running → c.stream.status.stopped ≡ false
+      → IsBacked P.ends_in p c samples → P.ends_in p (held_entries c.stream c.ring)
   IsBacked-held p c samples part sound runs going is =
-      let d = c.plain in
+      let d = c.stream in
       let m = sound.moving (ap is_moving runs) going in
       let bound = (sound.configured (sound.set_up (ap is_set_up runs))).bound in
       let s : ℕ → ℕ → ℤ = λ j. sample_at samples (length d.setup.bindings) (d.stretch.source + j) in

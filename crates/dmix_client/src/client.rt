@@ -8,7 +8,7 @@ ghost use Rattle.dmix_client.specs.Calls.{configured_with, dropped, freed, new_c
 ghost use Rattle.dmix_client.specs.View.{ClientView, IsSound};
 ghost use Rattle.sw_limits.specs.Boundary.{IsBoundary};
 
-use crate::plain::Plain;
+use crate::stream::PlaybackStream;
 use bindings::Bindings;
 use hw_space::Config;
 use pcm_states::{Call, State};
@@ -30,7 +30,7 @@ use sw_limits::SwParams;
 /// (`stands`). The frames that `writei` is offered are in the list right after those that were accepted, whatever it answers.
 #[derive(Drop)]
 pub struct Client {
-    pub(crate) plain: Plain,
+    pub(crate) stream: PlaybackStream,
     pub(crate) ring: Vec<i16>,
 }
 
@@ -41,9 +41,9 @@ impl Model for Client {
 
     ghost use Rattle.dmix_client.specs.View.{IsSound};
 
-    ghost view = { λ c. record { plain = c.plain; ring = c.ring.items } };
+    ghost view = { λ c. record { stream = c.stream; ring = c.ring.items } };
 
-    ghost invariant = { λ c. IsSound c.plain c.ring.items };
+    ghost invariant = { λ c. IsSound c.stream c.ring.items };
 }
 
 impl Client {
@@ -51,61 +51,61 @@ impl Client {
     /// ring's length, past the card's position.
     pub fn new(alloc: Global, geometry: Geometry, member: u32, lead: u32) -> Client
         requires { lead < geometry.frames }
-        ensures { result ≡ record { plain = new_client geometry member lead; ring = [] } }
+        ensures { result ≡ record { stream = new_client geometry member lead; ring = [] } }
     {
         Client {
-            plain: Plain::new(geometry, member, lead),
+            stream: PlaybackStream::new(geometry, member, lead),
             ring: Vec::new(alloc),
         }
     }
 
     /// What every client keeps: how its counts and its local ring fit each other. A fact for contracts; it does nothing.
     pub fn counts_are_sound(&self)
-        ensures { IsSound self.now.plain self.now.ring }
+        ensures { IsSound self.now.stream self.now.ring }
     {
-        let _ = &self.plain;
+        let _ = &self.stream;
     }
 
     /// The state of the stream (`snd_pcm_state`).
     pub fn state(&self) -> State
-        ensures { result ≡ self.now.plain.status.state }
+        ensures { result ≡ self.now.stream.status.state }
     {
-        self.plain.status.state
+        self.stream.status.state
     }
 
     /// Whether the gate has stopped the client. Every later call is then refused with `Stopped`.
     pub fn is_stopped(&self) -> bool
-        ensures { result ≡ self.now.plain.status.stopped }
+        ensures { result ≡ self.now.stream.status.stopped }
     {
-        self.plain.status.stopped
+        self.stream.status.stopped
     }
 
     /// The configuration that `hw_params` set, until `hw_free` (`snd_pcm_hw_params_current`).
     pub fn config(&self) -> Option<Config>
-        ensures { result ≡ config_of self.now.plain.setup }
+        ensures { result ≡ config_of self.now.stream.setup }
     {
-        self.plain.setup.config()
+        self.stream.setup.config()
     }
 
     /// The position of the card, a frame number, that this client loaded last.
     pub fn seen(&self) -> Option<u64>
-        ensures { result ≡ self.now.plain.seen }
+        ensures { result ≡ self.now.stream.seen }
     {
-        self.plain.seen
+        self.stream.seen
     }
 
     /// How many frames its `writei` calls have accepted since `new`.
     pub fn fed(&self) -> u64
-        ensures { result ≡ self.now.plain.fed }
+        ensures { result ≡ self.now.stream.fed }
     {
-        self.plain.fed
+        self.stream.fed
     }
 
     /// What the client has laid into the card's ring since the last `prepare`, or the last resume that based its counts anew.
     pub fn segment(&self) -> Segment
-        ensures { result ≡ segment_of self.now.plain }
+        ensures { result ≡ segment_of self.now.stream }
     {
-        self.plain.segment()
+        self.stream.segment()
     }
 
     /// Sets the configuration and the bindings, takes the local ring's memory, sets the default software parameters and
@@ -121,43 +121,43 @@ impl Client {
         bindings: Bindings,
     ) -> Result<(), PcmError>
         requires channels { length bindings ≡ config.channels }
-        requires on_card { All (λ channel. channel < self.old.plain.identity.geometry.channels)
+        requires on_card { All (λ channel. channel < self.old.stream.identity.geometry.channels)
             bindings }
         requires buffer_least { 1 ≤ config.buffer_size }
         requires buffer_most { config.buffer_size ≤ 16384 }
         ensures refused { (e : PcmError) →
-            refusal_of Direction.Playback self.old.plain.status call.HwParams ≡ Some e →
+            refusal_of Direction.Playback self.old.stream.status call.HwParams ≡ Some e →
             result ≡ Err e }
         ensures ok { OnOk result (self.new
             ≡ record {
-              plain = configured_with self.old.plain config bindings;
+              stream = configured_with self.old.stream config bindings;
               ring = replicate (config.buffer_size * length bindings) (pos 0);
             }) }
         ensures err { OnErr result (self.new ≡ self.old) }
         ensures only { IfErr result
-            (λ e. (refusal_of Direction.Playback self.old.plain.status call.HwParams ≡ Some e)
+            (λ e. (refusal_of Direction.Playback self.old.stream.status call.HwParams ≡ Some e)
             ⊎ (e ≡ PcmError.Memory)) }
     {
-        self.plain
+        self.stream
             .status
             .admit(Direction::Playback, Call::HwParams)?;
         let room = config.buffer_size as usize * bindings.len() as usize;
         let ring = vec![in alloc; 0i16; room]?;
         self.ring = ring;
-        self.plain = self.plain.configured_with(config, bindings);
+        self.stream = self.stream.configured_with(config, bindings);
         Ok(())
     }
 
     /// Gives the configuration up (`snd_pcm_hw_free`): OPEN, from SETUP or PREPARED. A refused call changes nothing.
     pub fn hw_free(&mut self) -> Result<(), PcmError>
         ensures refused { (e : PcmError) →
-            refusal_of Direction.Playback self.old.plain.status call.HwFree ≡ Some e →
+            refusal_of Direction.Playback self.old.stream.status call.HwFree ≡ Some e →
             (result ≡ Err e) × (self.new ≡ self.old) }
-        ensures freed { refusal_of Direction.Playback self.old.plain.status call.HwFree ≡ None →
-            (result ≡ Ok tt) × (self.new ≡ record { plain = freed self.old.plain; ring = [] }) }
+        ensures freed { refusal_of Direction.Playback self.old.stream.status call.HwFree ≡ None →
+            (result ≡ Ok tt) × (self.new ≡ record { stream = freed self.old.stream; ring = [] }) }
     {
-        self.plain.status.admit(Direction::Playback, Call::HwFree)?;
-        self.plain = self.plain.freed();
+        self.stream.status.admit(Direction::Playback, Call::HwFree)?;
+        self.stream = self.stream.freed();
         self.ring.clear();
         Ok(())
     }
@@ -166,33 +166,33 @@ impl Client {
     /// exactly where they have a defect, with the first one. A refused call changes nothing.
     pub fn sw_params(&mut self, params: SwParams) -> Result<(), PcmError>
         ensures refused { (e : PcmError) →
-            refusal_of Direction.Playback self.old.plain.status call.SwParams ≡ Some e →
+            refusal_of Direction.Playback self.old.stream.status call.SwParams ≡ Some e →
             (result ≡ Err e) × (self.new ≡ self.old) }
-        ensures checked { refusal_of Direction.Playback self.old.plain.status call.SwParams ≡ None →
-            (b : ℕ) × IsBoundary self.old.plain.setup.config.buffer_size b
+        ensures checked { refusal_of Direction.Playback self.old.stream.status call.SwParams ≡ None →
+            (b : ℕ) × IsBoundary self.old.stream.setup.config.buffer_size b
             × Checks result params b }
         ensures ok { OnOk result (self.new
-            ≡ record { plain = with_params self.old.plain params; ring = self.old.ring }) }
+            ≡ record { stream = with_params self.old.stream params; ring = self.old.ring }) }
         ensures err { OnErr result (self.new ≡ self.old) }
     {
-        self.plain
+        self.stream
             .status
             .admit(Direction::Playback, Call::SwParams)?;
-        self.plain.setup.set_params(params)
+        self.stream.setup.set_params(params)
     }
 
     /// Prepares the stream (`snd_pcm_prepare`): what is pending is discarded, and nothing is written or laid since now.
     /// PREPARED, from SETUP, PREPARED or XRUN. A refused call changes nothing.
     pub fn prepare(&mut self) -> Result<(), PcmError>
         ensures refused { (e : PcmError) →
-            refusal_of Direction.Playback self.old.plain.status call.Prepare ≡ Some e →
+            refusal_of Direction.Playback self.old.stream.status call.Prepare ≡ Some e →
             (result ≡ Err e) × (self.new ≡ self.old) }
-        ensures prepared { refusal_of Direction.Playback self.old.plain.status call.Prepare ≡ None →
+        ensures prepared { refusal_of Direction.Playback self.old.stream.status call.Prepare ≡ None →
             (result ≡ Ok tt)
-            × (self.new ≡ record { plain = prepared self.old.plain; ring = self.old.ring }) }
+            × (self.new ≡ record { stream = prepared self.old.stream; ring = self.old.ring }) }
     {
-        self.plain.status.admit(Direction::Playback, Call::Prepare)?;
-        self.plain = self.plain.prepared();
+        self.stream.status.admit(Direction::Playback, Call::Prepare)?;
+        self.stream = self.stream.prepared();
         Ok(())
     }
 
@@ -201,14 +201,14 @@ impl Client {
     /// nothing.
     pub fn drop_pending(&mut self) -> Result<(), PcmError>
         ensures refused { (e : PcmError) →
-            refusal_of Direction.Playback self.old.plain.status call.Drop ≡ Some e →
+            refusal_of Direction.Playback self.old.stream.status call.Drop ≡ Some e →
             (result ≡ Err e) × (self.new ≡ self.old) }
-        ensures dropped { refusal_of Direction.Playback self.old.plain.status call.Drop ≡ None →
+        ensures dropped { refusal_of Direction.Playback self.old.stream.status call.Drop ≡ None →
             (result ≡ Ok tt)
-            × (self.new ≡ record { plain = dropped self.old.plain; ring = self.old.ring }) }
+            × (self.new ≡ record { stream = dropped self.old.stream; ring = self.old.ring }) }
     {
-        self.plain.status.admit(Direction::Playback, Call::Drop)?;
-        self.plain = self.plain.dropped();
+        self.stream.status.admit(Direction::Playback, Call::Drop)?;
+        self.stream = self.stream.dropped();
         Ok(())
     }
 }

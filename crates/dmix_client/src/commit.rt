@@ -10,7 +10,7 @@ ghost use Rattle.dmix_client.specs.Port.{CanUse, IsFound, IsOnCard, least_channe
 ghost use Rattle.pcm_stream.specs.Status.{is_moving};
 ghost use Rattle.dmix_client.specs.View.{IsSound, ring_sample, slot_sample};
 
-use crate::plain::Plain;
+use crate::stream::PlaybackStream;
 use bindings::Bindings;
 use mix_core::{Ended, Gate, MixPort, Position};
 use pcm_states::State;
@@ -74,15 +74,15 @@ pub(crate) fn slot_of(from: u64, frame: u64, buffer_size: u32) -> u64
 }
 
 /// Where the samples of a client's frame begin in its local ring.
-pub(crate) fn held_from(plain: &Plain, number: u64) -> usize
-    requires { 1 ≤ plain.now.setup.config.buffer_size }
-    ensures value { result ≡ (plain.now.stretch.source + number)
-        % plain.now.setup.config.buffer_size * length plain.now.setup.bindings }
-    ensures within { result + length plain.now.setup.bindings
-        ≤ plain.now.setup.config.buffer_size * length plain.now.setup.bindings }
+pub(crate) fn held_from(stream: &PlaybackStream, number: u64) -> usize
+    requires { 1 ≤ stream.now.setup.config.buffer_size }
+    ensures value { result ≡ (stream.now.stretch.source + number)
+        % stream.now.setup.config.buffer_size * length stream.now.setup.bindings }
+    ensures within { result + length stream.now.setup.bindings
+        ≤ stream.now.setup.config.buffer_size * length stream.now.setup.bindings }
 {
-    let slot = slot_of(plain.stretch.source, number, plain.setup.config.buffer_size);
-    slot as usize * plain.setup.bindings.len() as usize
+    let slot = slot_of(stream.stretch.source, number, stream.setup.config.buffer_size);
+    slot as usize * stream.setup.bindings.len() as usize
 }
 
 /// The sample at a place of the frame that begins at `slot` of a local ring of so many channels, counted by rising card
@@ -179,30 +179,30 @@ fn place_frame<P: MixPort, G: Gate>(
 pub(crate) fn lay_frames<P: MixPort, G: Gate>(
     port: &mut P,
     gate: &mut G,
-    plain: &Plain,
+    stream: &PlaybackStream,
     ring: &[i16],
     count: u64,
 ) -> Commit
     requires can_add { (P.view port.old).can_add ≡ true }
-    requires member { (P.view port.old).member ≡ plain.now.identity.member }
-    requires bound { IsOnCard plain.now.setup.bindings (P.view port.old).geometry }
-    requires buffer { 1 ≤ plain.now.setup.config.buffer_size }
-    requires room { length ring.now ≡ plain.now.setup.config.buffer_size * length
-        plain.now.setup.bindings }
+    requires member { (P.view port.old).member ≡ stream.now.identity.member }
+    requires bound { IsOnCard stream.now.setup.bindings (P.view port.old).geometry }
+    requires buffer { 1 ≤ stream.now.setup.config.buffer_size }
+    requires room { length ring.now ≡ stream.now.setup.config.buffer_size * length
+        stream.now.setup.bindings }
     requires from_cursor { IsFrom (P.view port.old).marks.cursor
-        (plain.now.stretch.card + plain.now.stretch.committed)
-        (least_channel plain.now.setup.bindings) }
-    requires ahead { 0 < count → plain.now.stretch.card + (plain.now.stretch.committed + count)
+        (stream.now.stretch.card + stream.now.stretch.committed)
+        (least_channel stream.now.setup.bindings) }
+    requires ahead { 0 < count → stream.now.stretch.card + (stream.now.stretch.committed + count)
         ≤ window_end (P.view port.old).geometry (P.view port.old).seen }
-    ensures { TakesAt P.MixPort G.Gate (port.old, gate.old) (commits plain.now ring.now count)
+    ensures { TakesAt P.MixPort G.Gate (port.old, gate.old) (commits stream.now ring.now count)
         (port.new, gate.new) result }
 {
     let mut done: u64 = 0;
     while done < count {
-        let first = plain.stretch.committed + done;
-        let slot = slot_of(plain.stretch.source, first, plain.setup.config.buffer_size);
-        let run = (plain.setup.config.buffer_size as u64 - slot).min(count - done);
-        let laid = lay_run(port, gate, plain, ring, first, run);
+        let first = stream.stretch.committed + done;
+        let slot = slot_of(stream.stretch.source, first, stream.setup.config.buffer_size);
+        let run = (stream.setup.config.buffer_size as u64 - slot).min(count - done);
+        let laid = lay_run(port, gate, stream, ring, first, run);
         match laid.ended {
             Ended::Whole => {}
             ended => {
@@ -228,31 +228,31 @@ pub(crate) fn lay_frames<P: MixPort, G: Gate>(
 fn lay_run<P: MixPort, G: Gate>(
     port: &mut P,
     gate: &mut G,
-    plain: &Plain,
+    stream: &PlaybackStream,
     ring: &[i16],
     first: u64,
     count: u64,
 ) -> Commit
     requires can_add { (P.view port.old).can_add ≡ true }
-    requires member { (P.view port.old).member ≡ plain.now.identity.member }
-    requires bound { IsOnCard plain.now.setup.bindings (P.view port.old).geometry }
-    requires buffer { 1 ≤ plain.now.setup.config.buffer_size }
-    requires room { length ring.now ≡ plain.now.setup.config.buffer_size * length
-        plain.now.setup.bindings }
-    requires run { (plain.now.stretch.source + first) % plain.now.setup.config.buffer_size + count
-        ≤ plain.now.setup.config.buffer_size }
-    requires from_cursor { IsFrom (P.view port.old).marks.cursor (plain.now.stretch.card + first)
-        (least_channel plain.now.setup.bindings) }
-    requires ahead { 0 < count → plain.now.stretch.card + (first + count)
+    requires member { (P.view port.old).member ≡ stream.now.identity.member }
+    requires bound { IsOnCard stream.now.setup.bindings (P.view port.old).geometry }
+    requires buffer { 1 ≤ stream.now.setup.config.buffer_size }
+    requires room { length ring.now ≡ stream.now.setup.config.buffer_size * length
+        stream.now.setup.bindings }
+    requires run { (stream.now.stretch.source + first) % stream.now.setup.config.buffer_size + count
+        ≤ stream.now.setup.config.buffer_size }
+    requires from_cursor { IsFrom (P.view port.old).marks.cursor (stream.now.stretch.card + first)
+        (least_channel stream.now.setup.bindings) }
+    requires ahead { 0 < count → stream.now.stretch.card + (first + count)
         ≤ window_end (P.view port.old).geometry (P.view port.old).seen }
-    ensures { TakesAt P.MixPort G.Gate (port.old, gate.old) (lay_frames plain.now.identity.member
-        plain.now.stretch.card plain.now.setup.bindings (ring_sample plain.now ring.now) count first)
+    ensures { TakesAt P.MixPort G.Gate (port.old, gate.old) (lay_frames stream.now.identity.member
+        stream.now.stretch.card stream.now.setup.bindings (ring_sample stream.now ring.now) count first)
         (port.new, gate.new) result }
 {
-    match plain.setup.bindings.len() {
-        1 => lay_run_of(port, gate, plain, ring, first, count, 1),
-        2 => lay_run_of(port, gate, plain, ring, first, count, 2),
-        channels => lay_run_of(port, gate, plain, ring, first, count, channels),
+    match stream.setup.bindings.len() {
+        1 => lay_run_of(port, gate, stream, ring, first, count, 1),
+        2 => lay_run_of(port, gate, stream, ring, first, count, 2),
+        channels => lay_run_of(port, gate, stream, ring, first, count, channels),
     }
 }
 
@@ -261,32 +261,32 @@ fn lay_run<P: MixPort, G: Gate>(
 fn lay_run_of<P: MixPort, G: Gate>(
     port: &mut P,
     gate: &mut G,
-    plain: &Plain,
+    stream: &PlaybackStream,
     ring: &[i16],
     first: u64,
     count: u64,
     channels: u8,
 ) -> Commit
-    requires channels { channels ≡ length plain.now.setup.bindings }
+    requires channels { channels ≡ length stream.now.setup.bindings }
     requires can_add { (P.view port.old).can_add ≡ true }
-    requires member { (P.view port.old).member ≡ plain.now.identity.member }
-    requires bound { IsOnCard plain.now.setup.bindings (P.view port.old).geometry }
-    requires buffer { 1 ≤ plain.now.setup.config.buffer_size }
-    requires room { length ring.now ≡ plain.now.setup.config.buffer_size * length
-        plain.now.setup.bindings }
-    requires run { (plain.now.stretch.source + first) % plain.now.setup.config.buffer_size + count
-        ≤ plain.now.setup.config.buffer_size }
-    requires from_cursor { IsFrom (P.view port.old).marks.cursor (plain.now.stretch.card + first)
-        (least_channel plain.now.setup.bindings) }
-    requires ahead { 0 < count → plain.now.stretch.card + (first + count)
+    requires member { (P.view port.old).member ≡ stream.now.identity.member }
+    requires bound { IsOnCard stream.now.setup.bindings (P.view port.old).geometry }
+    requires buffer { 1 ≤ stream.now.setup.config.buffer_size }
+    requires room { length ring.now ≡ stream.now.setup.config.buffer_size * length
+        stream.now.setup.bindings }
+    requires run { (stream.now.stretch.source + first) % stream.now.setup.config.buffer_size + count
+        ≤ stream.now.setup.config.buffer_size }
+    requires from_cursor { IsFrom (P.view port.old).marks.cursor (stream.now.stretch.card + first)
+        (least_channel stream.now.setup.bindings) }
+    requires ahead { 0 < count → stream.now.stretch.card + (first + count)
         ≤ window_end (P.view port.old).geometry (P.view port.old).seen }
-    ensures { TakesAt P.MixPort G.Gate (port.old, gate.old) (lay_frames plain.now.identity.member
-        plain.now.stretch.card plain.now.setup.bindings (ring_sample plain.now ring.now) count first)
+    ensures { TakesAt P.MixPort G.Gate (port.old, gate.old) (lay_frames stream.now.identity.member
+        stream.now.stretch.card stream.now.setup.bindings (ring_sample stream.now ring.now) count first)
         (port.new, gate.new) result }
 {
-    let bindings = plain.setup.bindings;
-    let from = held_from(plain, first);
-    let card = plain.stretch.card;
+    let bindings = stream.setup.bindings;
+    let from = held_from(stream, first);
+    let card = stream.stretch.card;
     for frame in 0..count {
         let slot = from + frame as usize * channels as usize;
         let number = card + (first + frame);
@@ -311,28 +311,28 @@ fn lay_run_of<P: MixPort, G: Gate>(
 
 /// Loads the position, for a client that moves frames, and commits what is pending.
 pub(crate) fn look_and_commit<P: MixPort, G: Gate>(
-    plain: &Plain,
+    stream: &PlaybackStream,
     ring: &[i16],
     port: &mut P,
     gate: &mut G,
 ) -> Found
-    requires sound { IsSound plain.now ring.now }
-    requires moving { is_moving plain.now.status.state ≡ true }
-    requires unstopped { plain.now.status.stopped ≡ false }
-    requires port { CanUse plain.now (P.view port.old) }
+    requires sound { IsSound stream.now ring.now }
+    requires moving { is_moving stream.now.status.state ≡ true }
+    requires unstopped { stream.now.status.stopped ≡ false }
+    requires port { CanUse stream.now (P.view port.old) }
     ensures takes { TakesAt P.MixPort G.Gate (port.old, gate.old)
-        (looks (λ position. plain.now) (sync_count plain.now) ring.now) (port.new, gate.new)
+        (looks (λ position. stream.now) (sync_count stream.now) ring.now) (port.new, gate.new)
         (result.load, result.commit) }
-    ensures found { IsFound result.load result.commit (λ position. plain.now) (sync_count plain.now)
-        (length plain.now.setup.bindings) }
-    ensures near { IfSome result.load (λ position. (unwrap_or plain.now.seen 0 ≤ position.frame)
-        × (position.frame ≤ end_frame plain.now.identity.geometry)) }
+    ensures found { IsFound result.load result.commit (λ position. stream.now) (sync_count stream.now)
+        (length stream.now.setup.bindings) }
+    ensures near { IfSome result.load (λ position. (unwrap_or stream.now.seen 0 ≤ position.frame)
+        × (position.frame ≤ end_frame stream.now.identity.geometry)) }
 {
     let Ok(position) = port.position(gate) else {
         return Found::NOTHING;
     };
-    let count = plain.sync_count(position);
-    let commit = lay_frames(port, gate, plain, ring, count);
+    let count = stream.sync_count(position);
+    let commit = lay_frames(port, gate, stream, ring, count);
     Found {
         load: Some(position),
         commit,
@@ -341,7 +341,7 @@ pub(crate) fn look_and_commit<P: MixPort, G: Gate>(
 
 /// Loads the position, for a client that is prepared, and commits its frames before `upto` from where it starts.
 pub(crate) fn look_and_start<P: MixPort, G: Gate>(
-    plain: &Plain,
+    stream: &PlaybackStream,
     ring: &[i16],
     port: &mut P,
     gate: &mut G,
@@ -349,25 +349,25 @@ pub(crate) fn look_and_start<P: MixPort, G: Gate>(
     upto: u64,
 ) -> Found
     requires cursor { cursor ≡ (P.view port.old).marks.cursor }
-    requires cursor_most { cursor.frame ≤ end_frame plain.now.identity.geometry }
-    requires sound { IsSound plain.now ring.now }
-    requires prepared { plain.now.status.state ≡ State.Prepared }
-    requires port { CanUse plain.now (P.view port.old) }
+    requires cursor_most { cursor.frame ≤ end_frame stream.now.identity.geometry }
+    requires sound { IsSound stream.now ring.now }
+    requires prepared { stream.now.status.state ≡ State.Prepared }
+    requires port { CanUse stream.now (P.view port.old) }
     ensures takes { TakesAt P.MixPort G.Gate (port.old, gate.old)
-        (looks (λ position. started_in plain.now State.Running position cursor)
-        (λ position. start_count plain.now cursor position upto) ring.now) (port.new, gate.new)
+        (looks (λ position. started_in stream.now State.Running position cursor)
+        (λ position. start_count stream.now cursor position upto) ring.now) (port.new, gate.new)
         (result.load, result.commit) }
     ensures found { IsFound result.load result.commit
-        (λ position. started_in plain.now State.Running position cursor)
-        (λ position. start_count plain.now cursor position upto) (length plain.now.setup.bindings) }
+        (λ position. started_in stream.now State.Running position cursor)
+        (λ position. start_count stream.now cursor position upto) (length stream.now.setup.bindings) }
     ensures near { IfSome result.load
-        (λ position. position.frame ≤ end_frame plain.now.identity.geometry) }
+        (λ position. position.frame ≤ end_frame stream.now.identity.geometry) }
 {
     let Ok(position) = port.position(gate) else {
         return Found::NOTHING;
     };
-    let count = plain.start_count(cursor, position, upto);
-    let from = plain.started_in(State::Running, position, cursor);
+    let count = stream.start_count(cursor, position, upto);
+    let from = stream.started_in(State::Running, position, cursor);
     let commit = lay_frames(port, gate, &from, ring, count);
     Found {
         load: Some(position),

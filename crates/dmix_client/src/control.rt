@@ -14,7 +14,7 @@ ghost use Rattle.dmix_client.specs.View.{IsSound};
 
 use crate::client::Client;
 use crate::commit::look_and_start;
-use crate::plain::Plain;
+use crate::stream::PlaybackStream;
 use crate::status::sync_call;
 use crate::steps::after_start;
 use mix_core::{Gate, MixPort};
@@ -24,87 +24,87 @@ use snd_base::{Cursor, PcmError, XrunWhy};
 
 /// The start, to `state`, of a client that is prepared and has frames, those before `upto`, from the port's cursor on.
 pub(crate) fn begin<P: MixPort, G: Gate>(
-    plain: &Plain,
+    stream: &PlaybackStream,
     ring: &[i16],
     port: &mut P,
     gate: &mut G,
     state: State,
     upto: u64,
-) -> (Plain, Result<(), PcmError>)
-    requires sound { IsSound plain.now ring.now }
-    requires prepared { plain.now.status.state ≡ State.Prepared }
-    requires fits { upto ≤ plain.now.setup.config.buffer_size }
-    requires port { CanUse plain.now (P.view port.old) }
+) -> (PlaybackStream, Result<(), PcmError>)
+    requires sound { IsSound stream.now ring.now }
+    requires prepared { stream.now.status.state ≡ State.Prepared }
+    requires fits { upto ≤ stream.now.setup.config.buffer_size }
+    requires port { CanUse stream.now (P.view port.old) }
     ensures takes { TakesAt P.MixPort G.Gate (port.old, gate.old)
-        (starts plain.now state (P.view port.old).marks.cursor upto ring.now) (port.new, gate.new)
+        (starts stream.now state (P.view port.old).marks.cursor upto ring.now) (port.new, gate.new)
         result }
-    ensures near { (P.view port.old).marks.cursor.frame ≤ end_frame plain.now.identity.geometry }
-    ensures same { KeepsAccepted plain.now result.0 }
+    ensures near { (P.view port.old).marks.cursor.frame ≤ end_frame stream.now.identity.geometry }
+    ensures same { KeepsAccepted stream.now result.0 }
 {
     let cursor = port.cursor();
-    let found = look_and_start(plain, ring, port, gate, cursor, upto);
-    after_start(*plain, state, cursor, found.load, found.commit)
+    let found = look_and_start(stream, ring, port, gate, cursor, upto);
+    after_start(*stream, state, cursor, found.load, found.commit)
 }
 
 /// The start, to `state`, of a client that is prepared and has frames.
 fn start_all<P: MixPort, G: Gate>(
-    plain: &mut Plain,
+    stream: &mut PlaybackStream,
     ring: &[i16],
     port: &mut P,
     gate: &mut G,
     state: State,
 ) -> Result<(), PcmError>
-    requires sound { IsSound plain.old ring.now }
-    requires prepared { plain.old.status.state ≡ State.Prepared }
+    requires sound { IsSound stream.old ring.now }
+    requires prepared { stream.old.status.state ≡ State.Prepared }
     requires leads { is_moving state ≡ true }
-    requires port { CanUse plain.old (P.view port.old) }
+    requires port { CanUse stream.old (P.view port.old) }
     ensures takes { TakesAt P.MixPort G.Gate (port.old, gate.old)
-        (starts plain.old state (P.view port.old).marks.cursor plain.old.stretch.written ring.now)
-        (port.new, gate.new) (plain.new, result) }
+        (starts stream.old state (P.view port.old).marks.cursor stream.old.stretch.written ring.now)
+        (port.new, gate.new) (stream.new, result) }
     ensures keeps { Keeps P.MixPort G.Gate (port.old, gate.old) (port.new, gate.new)
-        (record { plain = plain.old; ring = ring.now })
-        (record { plain = plain.new; ring = ring.now }) result AnySamples }
-    ensures goes { OnOk result ((plain.new.status.state ≡ state)
-        × (plain.new.status.stopped ≡ plain.old.status.stopped)) }
+        (record { stream = stream.old; ring = ring.now })
+        (record { stream = stream.new; ring = ring.now }) result AnySamples }
+    ensures goes { OnOk result ((stream.new.status.state ≡ state)
+        × (stream.new.status.stopped ≡ stream.old.status.stopped)) }
     ensures explains { Explains P.MixPort G.Gate (port.old, gate.old) (port.new, gate.new)
-        (record { plain = plain.old; ring = ring.now })
-        (λ position. started_in plain.old State.Running position (P.view port.old).marks.cursor)
-        (λ position. start_count plain.old (P.view port.old).marks.cursor position
-        plain.old.stretch.written) (after_start plain.old state (P.view port.old).marks.cursor)
-        (plain.new, result) }
+        (record { stream = stream.old; ring = ring.now })
+        (λ position. started_in stream.old State.Running position (P.view port.old).marks.cursor)
+        (λ position. start_count stream.old (P.view port.old).marks.cursor position
+        stream.old.stretch.written) (after_start stream.old state (P.view port.old).marks.cursor)
+        (stream.new, result) }
 {
-    let upto = plain.stretch.written;
-    let (begun, answer) = begin(plain, ring, port, gate, state, upto);
-    *plain = begun;
+    let upto = stream.stretch.written;
+    let (begun, answer) = begin(stream, ring, port, gate, state, upto);
+    *stream = begun;
     answer
 }
 
 /// The start of a client that is prepared and has frames, and, where it went well, the sync of its drain.
 pub(crate) fn start_and_drain<P: MixPort, G: Gate>(
-    plain: &mut Plain,
+    stream: &mut PlaybackStream,
     ring: &[i16],
     port: &mut P,
     gate: &mut G,
 ) -> Result<(), PcmError>
-    requires sound { IsSound plain.old ring.now }
-    requires prepared { plain.old.status.state ≡ State.Prepared }
-    requires unstopped { plain.old.status.stopped ≡ false }
-    requires port { CanUse plain.old (P.view port.old) }
+    requires sound { IsSound stream.old ring.now }
+    requires prepared { stream.old.status.state ≡ State.Prepared }
+    requires unstopped { stream.old.status.stopped ≡ false }
+    requires port { CanUse stream.old (P.view port.old) }
     ensures takes { TakesAt P.MixPort G.Gate (port.old, gate.old)
-        (drains plain.old ring.now (P.view port.old).marks.cursor) (port.new, gate.new)
-        (plain.new, result) }
-    ensures sound { IsSound plain.new ring.now }
+        (drains stream.old ring.now (P.view port.old).marks.cursor) (port.new, gate.new)
+        (stream.new, result) }
+    ensures sound { IsSound stream.new ring.now }
     ensures keeps { Keeps P.MixPort G.Gate (port.old, gate.old) (port.new, gate.new)
-        (record { plain = plain.old; ring = ring.now })
-        (record { plain = plain.new; ring = ring.now }) result AnySamples }
+        (record { stream = stream.old; ring = ring.now })
+        (record { stream = stream.new; ring = ring.now }) result AnySamples }
     ensures again { (result ≡ Err PcmError.Again)
-        ↔ ((plain.new.status.state ≡ State.Draining) × (plain.new.status.stopped ≡ false)) }
+        ↔ ((stream.new.status.state ≡ State.Draining) × (stream.new.status.stopped ≡ false)) }
 {
-    let begun = start_all(plain, ring, port, gate, State::Draining);
+    let begun = start_all(stream, ring, port, gate, State::Draining);
     if let Err(error) = begun {
         return Err(error);
     }
-    sync_call(plain, ring, port, gate, Call::Drain)
+    sync_call(stream, ring, port, gate, Call::Drain)
 }
 
 impl Client {
@@ -116,34 +116,34 @@ impl Client {
     /// the state stays. A card that is gone and a frame that is late lead to the states that `sync` tells, and `Stopped`
     /// comes as there. In every other state it is refused with `BadState`, in DISCONNECTED with `NoDevice`.
     pub fn start<P: MixPort, G: Gate>(&mut self, port: &mut P, gate: &mut G) -> Result<(), PcmError>
-        requires { CanUse self.old.plain (P.view port.old) }
+        requires { CanUse self.old.stream (P.view port.old) }
         ensures takes { TakesAt P.MixPort G.Gate (port.old, gate.old)
-            (admitted self.old.plain call.Start
-            (start_course self.old.plain self.old.ring (P.view port.old).marks.cursor))
-            (port.new, gate.new) (self.new.plain, result) }
+            (admitted self.old.stream call.Start
+            (start_course self.old.stream self.old.ring (P.view port.old).marks.cursor))
+            (port.new, gate.new) (self.new.stream, result) }
         ensures refused { (e : PcmError) →
-            refusal_of Direction.Playback self.old.plain.status call.Start ≡ Some e →
+            refusal_of Direction.Playback self.old.stream.status call.Start ≡ Some e →
             (result ≡ Err e) × (self.new ≡ self.old) × (port.new ≡ port.old)
             × (gate.new ≡ gate.old) }
         ensures ring { self.new.ring ≡ self.old.ring }
         ensures keeps { Keeps P.MixPort G.Gate (port.old, gate.old) (port.new, gate.new) self.old
             self.new result AnySamples }
-        ensures causes { refusal_of Direction.Playback self.old.plain.status call.Start ≡ None →
-            0 < self.old.plain.stretch.written →
+        ensures causes { refusal_of Direction.Playback self.old.stream.status call.Start ≡ None →
+            0 < self.old.stream.stretch.written →
             Explains P.MixPort G.Gate (port.old, gate.old) (port.new, gate.new) self.old
-            (λ position. started_in self.old.plain State.Running position
+            (λ position. started_in self.old.stream State.Running position
             (P.view port.old).marks.cursor)
-            (λ position. start_count self.old.plain (P.view port.old).marks.cursor position
-            self.old.plain.stretch.written)
-            (after_start self.old.plain State.Running (P.view port.old).marks.cursor)
-            (self.new.plain, result) }
+            (λ position. start_count self.old.stream (P.view port.old).marks.cursor position
+            self.old.stream.stretch.written)
+            (after_start self.old.stream State.Running (P.view port.old).marks.cursor)
+            (self.new.stream, result) }
     {
-        self.plain.status.admit(Direction::Playback, Call::Start)?;
-        if self.plain.stretch.written == 0 {
+        self.stream.status.admit(Direction::Playback, Call::Start)?;
+        if self.stream.stretch.written == 0 {
             return Err(PcmError::Xrun(XrunWhy::Empty));
         }
         let ring = self.ring.as_slice();
-        start_all(&mut self.plain, ring, port, gate, State::Running)
+        start_all(&mut self.stream, ring, port, gate, State::Running)
     }
 
     /// Plays what is written, and then stops the stream (`snd_pcm_drain` of a stream that doesn't wait).
@@ -153,39 +153,39 @@ impl Client {
     /// played and the state is SETUP, `Again` that it is still DRAINING. In SETUP, XRUN and PREPARED without frames it is
     /// `Ok` and leads to SETUP without a load. In OPEN it is refused with `BadState`, in DISCONNECTED with `NoDevice`.
     pub fn drain<P: MixPort, G: Gate>(&mut self, port: &mut P, gate: &mut G) -> Result<(), PcmError>
-        requires { CanUse self.old.plain (P.view port.old) }
+        requires { CanUse self.old.stream (P.view port.old) }
         ensures takes { TakesAt P.MixPort G.Gate (port.old, gate.old)
-            (admitted self.old.plain call.Drain
-            (drain_course self.old.plain self.old.ring (P.view port.old).marks.cursor))
-            (port.new, gate.new) (self.new.plain, result) }
+            (admitted self.old.stream call.Drain
+            (drain_course self.old.stream self.old.ring (P.view port.old).marks.cursor))
+            (port.new, gate.new) (self.new.stream, result) }
         ensures refused { (e : PcmError) →
-            refusal_of Direction.Playback self.old.plain.status call.Drain ≡ Some e →
+            refusal_of Direction.Playback self.old.stream.status call.Drain ≡ Some e →
             (result ≡ Err e) × (self.new ≡ self.old) × (port.new ≡ port.old)
             × (gate.new ≡ gate.old) }
         ensures ring { self.new.ring ≡ self.old.ring }
         ensures keeps { Keeps P.MixPort G.Gate (port.old, gate.old) (port.new, gate.new) self.old
             self.new result AnySamples }
-        ensures again { refusal_of Direction.Playback self.old.plain.status call.Drain ≡ None →
+        ensures again { refusal_of Direction.Playback self.old.stream.status call.Drain ≡ None →
             (result ≡ Err PcmError.Again)
-            ↔ ((self.new.plain.status.state ≡ State.Draining)
-            × (self.new.plain.status.stopped ≡ false)) }
-        ensures causes { refusal_of Direction.Playback self.old.plain.status call.Drain ≡ None →
-            is_moving self.old.plain.status.state ≡ true →
+            ↔ ((self.new.stream.status.state ≡ State.Draining)
+            × (self.new.stream.status.stopped ≡ false)) }
+        ensures causes { refusal_of Direction.Playback self.old.stream.status call.Drain ≡ None →
+            is_moving self.old.stream.status.state ≡ true →
             Explains P.MixPort G.Gate (port.old, gate.old) (port.new, gate.new)
-            (record { plain = draining self.old.plain; ring = self.old.ring })
-            (λ position. draining self.old.plain) (sync_count (draining self.old.plain))
-            (after_sync (draining self.old.plain) call.Drain) (self.new.plain, result) }
+            (record { stream = draining self.old.stream; ring = self.old.ring })
+            (λ position. draining self.old.stream) (sync_count (draining self.old.stream))
+            (after_sync (draining self.old.stream) call.Drain) (self.new.stream, result) }
     {
-        self.plain.status.admit(Direction::Playback, Call::Drain)?;
+        self.stream.status.admit(Direction::Playback, Call::Drain)?;
         let ring = self.ring.as_slice();
-        if self.plain.status.is_moving() {
-            self.plain = self.plain.draining();
-            return sync_call(&mut self.plain, ring, port, gate, Call::Drain);
+        if self.stream.status.is_moving() {
+            self.stream = self.stream.draining();
+            return sync_call(&mut self.stream, ring, port, gate, Call::Drain);
         }
-        if !self.plain.has_frames() {
-            self.plain = self.plain.dropped();
+        if !self.stream.has_frames() {
+            self.stream = self.stream.dropped();
             return Ok(());
         }
-        start_and_drain(&mut self.plain, ring, port, gate)
+        start_and_drain(&mut self.stream, ring, port, gate)
     }
 }

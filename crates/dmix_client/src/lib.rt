@@ -5,7 +5,7 @@ mod client;
 mod commit;
 mod control;
 mod pause;
-mod plain;
+mod stream;
 mod rewind;
 mod rewound;
 mod ring;
@@ -17,4 +17,4 @@ mod write;
 
 pub use client::Client;
 pub use commit::Commit;
-pub use plain::Plain;
+pub use stream::PlaybackStream;

@@ -13,7 +13,7 @@ ghost use Rattle.dmix_client.specs.View.{IsSound};
 
 use crate::client::Client;
 use crate::commit::look_and_start;
-use crate::plain::Plain;
+use crate::stream::PlaybackStream;
 use crate::steps::resumed;
 use mix_core::{Gate, MixPort};
 use pcm_states::{Call, State};
@@ -22,33 +22,33 @@ use snd_base::PcmError;
 
 /// The resume of a client that has pending frames.
 fn resume<P: MixPort, G: Gate>(
-    plain: &mut Plain,
+    stream: &mut PlaybackStream,
     ring: &[i16],
     port: &mut P,
     gate: &mut G,
 ) -> Result<(), PcmError>
-    requires sound { IsSound plain.old ring.now }
-    requires paused { plain.old.status.state ≡ State.Paused }
-    requires port { CanUse plain.old (P.view port.old) }
+    requires sound { IsSound stream.old ring.now }
+    requires paused { stream.old.status.state ≡ State.Paused }
+    requires port { CanUse stream.old (P.view port.old) }
     ensures takes { TakesAt P.MixPort G.Gate (port.old, gate.old)
-        (resumes plain.old (P.view port.old).marks.cursor ring.now) (port.new, gate.new)
-        (plain.new, result) }
+        (resumes stream.old (P.view port.old).marks.cursor ring.now) (port.new, gate.new)
+        (stream.new, result) }
     ensures keeps { Keeps P.MixPort G.Gate (port.old, gate.old) (port.new, gate.new)
-        (record { plain = base_of plain.old plain.new; ring = ring.now })
-        (record { plain = plain.new; ring = ring.now }) result AnySamples }
+        (record { stream = base_of stream.old stream.new; ring = ring.now })
+        (record { stream = stream.new; ring = ring.now }) result AnySamples }
     ensures explains { Explains P.MixPort G.Gate (port.old, gate.old) (port.new, gate.new)
-        (record { plain = rebased plain.old; ring = ring.now })
-        (λ position. started_in (rebased plain.old) State.Running position
+        (record { stream = rebased stream.old; ring = ring.now })
+        (λ position. started_in (rebased stream.old) State.Running position
         (P.view port.old).marks.cursor)
-        (λ position. start_count (rebased plain.old) (P.view port.old).marks.cursor position
-        (pending_of plain.old)) (resumed plain.old (P.view port.old).marks.cursor)
-        (plain.new, result) }
+        (λ position. start_count (rebased stream.old) (P.view port.old).marks.cursor position
+        (pending_of stream.old)) (resumed stream.old (P.view port.old).marks.cursor)
+        (stream.new, result) }
 {
     let cursor = port.cursor();
-    let from = plain.rebased();
+    let from = stream.rebased();
     let found = look_and_start(&from, ring, port, gate, cursor, from.stretch.written);
-    let (after, answer) = resumed(*plain, cursor, found.load, found.commit);
-    *plain = after;
+    let (after, answer) = resumed(*stream, cursor, found.load, found.commit);
+    *stream = after;
     answer
 }
 
@@ -72,44 +72,44 @@ impl Client {
         gate: &mut G,
         on: bool,
     ) -> Result<(), PcmError>
-        requires { CanUse self.old.plain (P.view port.old) }
+        requires { CanUse self.old.stream (P.view port.old) }
         ensures takes { TakesAt P.MixPort G.Gate (port.old, gate.old)
-            (admitted self.old.plain (pause_call on)
-            (pause_course on self.old.plain self.old.ring (P.view port.old).marks.cursor))
-            (port.new, gate.new) (self.new.plain, result) }
+            (admitted self.old.stream (pause_call on)
+            (pause_course on self.old.stream self.old.ring (P.view port.old).marks.cursor))
+            (port.new, gate.new) (self.new.stream, result) }
         ensures refused { (e : PcmError) →
-            refusal_of Direction.Playback self.old.plain.status (pause_call on) ≡ Some e →
+            refusal_of Direction.Playback self.old.stream.status (pause_call on) ≡ Some e →
             (result ≡ Err e) × (self.new ≡ self.old) × (port.new ≡ port.old)
             × (gate.new ≡ gate.old) }
-        ensures pauses { on ≡ true → refusal_of Direction.Playback self.old.plain.status call.Pause
+        ensures pauses { on ≡ true → refusal_of Direction.Playback self.old.stream.status call.Pause
             ≡ None → (result ≡ Ok tt)
-            × (self.new ≡ record { plain = paused self.old.plain; ring = self.old.ring })
+            × (self.new ≡ record { stream = paused self.old.stream; ring = self.old.ring })
             × (port.new ≡ port.old) × (gate.new ≡ gate.old) }
         ensures ring { self.new.ring ≡ self.old.ring }
         ensures keeps { Keeps P.MixPort G.Gate (port.old, gate.old) (port.new, gate.new)
-            (record { plain = base_of self.old.plain self.new.plain; ring = self.old.ring })
+            (record { stream = base_of self.old.stream self.new.stream; ring = self.old.ring })
             self.new result AnySamples }
-        ensures causes { refusal_of Direction.Playback self.old.plain.status (pause_call on)
-            ≡ None → on ≡ false → 0 < pending_of self.old.plain →
+        ensures causes { refusal_of Direction.Playback self.old.stream.status (pause_call on)
+            ≡ None → on ≡ false → 0 < pending_of self.old.stream →
             Explains P.MixPort G.Gate (port.old, gate.old) (port.new, gate.new)
-            (record { plain = rebased self.old.plain; ring = self.old.ring })
-            (λ position. started_in (rebased self.old.plain) State.Running position
+            (record { stream = rebased self.old.stream; ring = self.old.ring })
+            (λ position. started_in (rebased self.old.stream) State.Running position
             (P.view port.old).marks.cursor)
-            (λ position. start_count (rebased self.old.plain) (P.view port.old).marks.cursor
-            position (pending_of self.old.plain))
-            (resumed self.old.plain (P.view port.old).marks.cursor) (self.new.plain, result) }
+            (λ position. start_count (rebased self.old.stream) (P.view port.old).marks.cursor
+            position (pending_of self.old.stream))
+            (resumed self.old.stream (P.view port.old).marks.cursor) (self.new.stream, result) }
     {
         if on {
-            self.plain.status.admit(Direction::Playback, Call::Pause)?;
-            self.plain = self.plain.paused();
+            self.stream.status.admit(Direction::Playback, Call::Pause)?;
+            self.stream = self.stream.paused();
             return Ok(());
         }
-        self.plain.status.admit(Direction::Playback, Call::Resume)?;
-        if self.plain.pending() == 0 {
-            self.plain = self.plain.rebased();
+        self.stream.status.admit(Direction::Playback, Call::Resume)?;
+        if self.stream.pending() == 0 {
+            self.stream = self.stream.rebased();
             return Ok(());
         }
         let ring = self.ring.as_slice();
-        resume(&mut self.plain, ring, port, gate)
+        resume(&mut self.stream, ring, port, gate)
     }
 }

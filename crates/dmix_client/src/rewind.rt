@@ -15,7 +15,7 @@ ghost use Rattle.dmix_client.specs.View.{IsSound};
 
 use crate::client::Client;
 use crate::commit::Commit;
-use crate::plain::Plain;
+use crate::stream::PlaybackStream;
 use crate::rewound::{rewound, with_rewindable};
 use crate::steps::after_sync;
 use crate::withdraw::take_frames;
@@ -35,98 +35,98 @@ fn load<P: MixPort, G: Gate>(port: &mut P, gate: &mut G) -> Option<Position>
 }
 
 /// Loads the position for a client that runs, as a sync does, and commits nothing.
-fn check<P: MixPort, G: Gate>(plain: &mut Plain, port: &mut P, gate: &mut G) -> Result<(), PcmError>
-    requires sound { (ring : List ℤ) × IsSound plain.old ring }
-    requires running { plain.old.status.state ≡ State.Running }
-    requires unstopped { plain.old.status.stopped ≡ false }
-    requires port { CanUse plain.old (P.view port.old) }
-    ensures { TakesAt P.MixPort G.Gate (port.old, gate.old) (checks plain.old) (port.new, gate.new)
-        (plain.new, result) }
+fn check<P: MixPort, G: Gate>(stream: &mut PlaybackStream, port: &mut P, gate: &mut G) -> Result<(), PcmError>
+    requires sound { (ring : List ℤ) × IsSound stream.old ring }
+    requires running { stream.old.status.state ≡ State.Running }
+    requires unstopped { stream.old.status.stopped ≡ false }
+    requires port { CanUse stream.old (P.view port.old) }
+    ensures { TakesAt P.MixPort G.Gate (port.old, gate.old) (checks stream.old) (port.new, gate.new)
+        (stream.new, result) }
 {
     let found = load(port, gate);
-    let (after, answer) = after_sync(*plain, Call::Transfer, found, Commit::NOTHING);
-    *plain = after;
+    let (after, answer) = after_sync(*stream, Call::Transfer, found, Commit::NOTHING);
+    *stream = after;
     answer
 }
 
 /// Takes back `frames` frames of a client that runs, pending ones first, and then the last committed ones.
 fn take_back<P: MixPort, G: Gate>(
-    plain: &mut Plain,
+    stream: &mut PlaybackStream,
     ring: &[i16],
     port: &mut P,
     gate: &mut G,
     frames: u64,
 ) -> Result<u64, PcmError>
-    requires sound { IsSound plain.old ring.now }
-    requires running { plain.old.status.state ≡ State.Running }
-    requires unstopped { plain.old.status.stopped ≡ false }
-    requires port { CanUse plain.old (P.view port.old) }
-    requires few { frames ≤ rewindable_of (P.view port.old).marks.floor plain.old }
-    requires standing { P.ends_in port.old (held_entries plain.old ring.now) }
-    ensures { TakesAt P.MixPort G.Gate (port.old, gate.old) (takes_back plain.old ring.now frames)
-        (port.new, gate.new) (plain.new, result) }
+    requires sound { IsSound stream.old ring.now }
+    requires running { stream.old.status.state ≡ State.Running }
+    requires unstopped { stream.old.status.stopped ≡ false }
+    requires port { CanUse stream.old (P.view port.old) }
+    requires few { frames ≤ rewindable_of (P.view port.old).marks.floor stream.old }
+    requires standing { P.ends_in port.old (held_entries stream.old ring.now) }
+    ensures { TakesAt P.MixPort G.Gate (port.old, gate.old) (takes_back stream.old ring.now frames)
+        (port.new, gate.new) (stream.new, result) }
 {
-    let left = take_frames(port, gate, plain, ring, plain.back(frames));
-    let (after, answer) = rewound(*plain, frames, left);
-    *plain = after;
+    let left = take_frames(port, gate, stream, ring, stream.back(frames));
+    let (after, answer) = rewound(*stream, frames, left);
+    *stream = after;
     answer
 }
 
 /// The frames that a client which runs can take back, behind its load.
 fn rewindable_running<P: MixPort, G: Gate>(
-    plain: &mut Plain,
+    stream: &mut PlaybackStream,
     port: &mut P,
     gate: &mut G,
 ) -> Result<u64, PcmError>
-    requires sound { (ring : List ℤ) × IsSound plain.old ring }
-    requires running { plain.old.status.state ≡ State.Running }
-    requires unstopped { plain.old.status.stopped ≡ false }
-    requires port { CanUse plain.old (P.view port.old) }
+    requires sound { (ring : List ℤ) × IsSound stream.old ring }
+    requires running { stream.old.status.state ≡ State.Running }
+    requires unstopped { stream.old.status.stopped ≡ false }
+    requires port { CanUse stream.old (P.view port.old) }
     ensures takes { TakesAt P.MixPort G.Gate (port.old, gate.old)
-        (numbered (rewindable_of (P.view port.old).marks.floor) (checks plain.old))
-        (port.new, gate.new) (plain.new, result) }
-    ensures keeps { (ring : List ℤ) → IsSound plain.old ring →
+        (numbered (rewindable_of (P.view port.old).marks.floor) (checks stream.old))
+        (port.new, gate.new) (stream.new, result) }
+    ensures keeps { (ring : List ℤ) → IsSound stream.old ring →
         Keeps P.MixPort G.Gate (port.old, gate.old) (port.new, gate.new)
-        (record { plain = plain.old; ring = ring }) (record { plain = plain.new; ring = ring })
+        (record { stream = stream.old; ring = ring }) (record { stream = stream.new; ring = ring })
         result AnySamples }
     ensures explains { ExplainsCheck P.MixPort G.Gate (port.old, gate.old) (port.new, gate.new)
-        plain.old (λ load. with_number (rewindable_of (P.view port.old).marks.floor)
-        (after_sync plain.old call.Transfer load nothing)) (plain.new, result) }
+        stream.old (λ load. with_number (rewindable_of (P.view port.old).marks.floor)
+        (after_sync stream.old call.Transfer load nothing)) (stream.new, result) }
 {
     let floor = port.floor();
-    let checked = check(plain, port, gate);
-    with_rewindable(plain, floor, checked)
+    let checked = check(stream, port, gate);
+    with_rewindable(stream, floor, checked)
 }
 
 /// A rewind of a client that runs.
 fn rewind_running<P: MixPort, G: Gate>(
-    plain: &mut Plain,
+    stream: &mut PlaybackStream,
     ring: &[i16],
     port: &mut P,
     gate: &mut G,
     frames: u64,
 ) -> Result<u64, PcmError>
-    requires sound { IsSound plain.old ring.now }
-    requires running { plain.old.status.state ≡ State.Running }
-    requires unstopped { plain.old.status.stopped ≡ false }
-    requires port { CanUse plain.old (P.view port.old) }
-    requires standing { P.ends_in port.old (held_entries plain.old ring.now) }
+    requires sound { IsSound stream.old ring.now }
+    requires running { stream.old.status.state ≡ State.Running }
+    requires unstopped { stream.old.status.stopped ≡ false }
+    requires port { CanUse stream.old (P.view port.old) }
+    requires standing { P.ends_in port.old (held_entries stream.old ring.now) }
     ensures takes { TakesAt P.MixPort G.Gate (port.old, gate.old)
-        (rewinds plain.old ring.now (P.view port.old).marks.floor frames) (port.new, gate.new)
-        (plain.new, result) }
+        (rewinds stream.old ring.now (P.view port.old).marks.floor frames) (port.new, gate.new)
+        (stream.new, result) }
     ensures keeps { KeepsBack P.MixPort G.Gate (port.old, gate.old) (port.new, gate.new)
-        (record { plain = plain.old; ring = ring.now })
-        (record { plain = plain.new; ring = ring.now }) result }
+        (record { stream = stream.old; ring = ring.now })
+        (record { stream = stream.new; ring = ring.now }) result }
     ensures explains { ExplainsRewind P.MixPort G.Gate (port.old, gate.old) (port.new, gate.new)
-        plain.old ring.now (P.view port.old).marks.floor frames (plain.new, result) }
+        stream.old ring.now (P.view port.old).marks.floor frames (stream.new, result) }
 {
     let floor = port.floor();
-    let checked = check(plain, port, gate);
+    let checked = check(stream, port, gate);
     if let Err(error) = checked {
         return Err(error);
     }
-    let rewindable = plain.rewindable(floor);
-    take_back(plain, ring, port, gate, frames.min(rewindable))
+    let rewindable = stream.rewindable(floor);
+    take_back(stream, ring, port, gate, frames.min(rewindable))
 }
 
 impl Client {
@@ -143,31 +143,31 @@ impl Client {
         port: &mut P,
         gate: &mut G,
     ) -> Result<u64, PcmError>
-        requires { CanUse self.old.plain (P.view port.old) }
+        requires { CanUse self.old.stream (P.view port.old) }
         ensures takes { TakesAt P.MixPort G.Gate (port.old, gate.old)
-            (admitted self.old.plain call.Transfer
-            (rewindable_course self.old.plain (P.view port.old).marks.floor)) (port.new, gate.new)
-            (self.new.plain, result) }
+            (admitted self.old.stream call.Transfer
+            (rewindable_course self.old.stream (P.view port.old).marks.floor)) (port.new, gate.new)
+            (self.new.stream, result) }
         ensures refused { (e : PcmError) →
-            refusal_of Direction.Playback self.old.plain.status call.Transfer ≡ Some e →
+            refusal_of Direction.Playback self.old.stream.status call.Transfer ≡ Some e →
             (result ≡ Err e) × (self.new ≡ self.old) × (port.new ≡ port.old)
             × (gate.new ≡ gate.old) }
         ensures ring { self.new.ring ≡ self.old.ring }
         ensures keeps { Keeps P.MixPort G.Gate (port.old, gate.old) (port.new, gate.new) self.old
             self.new result AnySamples }
-        ensures causes { refusal_of Direction.Playback self.old.plain.status call.Transfer ≡ None →
-            self.old.plain.status.state ≡ State.Running →
-            ExplainsCheck P.MixPort G.Gate (port.old, gate.old) (port.new, gate.new) self.old.plain
+        ensures causes { refusal_of Direction.Playback self.old.stream.status call.Transfer ≡ None →
+            self.old.stream.status.state ≡ State.Running →
+            ExplainsCheck P.MixPort G.Gate (port.old, gate.old) (port.new, gate.new) self.old.stream
             (λ load. with_number (rewindable_of (P.view port.old).marks.floor)
-            (after_sync self.old.plain call.Transfer load nothing)) (self.new.plain, result) }
+            (after_sync self.old.stream call.Transfer load nothing)) (self.new.stream, result) }
     {
-        self.plain
+        self.stream
             .status
             .admit(Direction::Playback, Call::Transfer)?;
-        if self.plain.status.state == State::Running {
-            return rewindable_running(&mut self.plain, port, gate);
+        if self.stream.status.state == State::Running {
+            return rewindable_running(&mut self.stream, port, gate);
         }
-        Ok(self.plain.stretch.written)
+        Ok(self.stream.stretch.written)
     }
 
     /// Takes back the last `frames` frames, or as many as `rewindable` says, and answers how many (`snd_pcm_rewind`).
@@ -189,35 +189,35 @@ impl Client {
         gate: &mut G,
         frames: u64,
     ) -> Result<u64, PcmError>
-        requires port { CanUse self.old.plain (P.view port.old) }
-        requires standing { self.old.plain.status.state ≡ State.Running →
-            self.old.plain.status.stopped ≡ false →
-            P.ends_in port.old (held_entries self.old.plain self.old.ring) }
+        requires port { CanUse self.old.stream (P.view port.old) }
+        requires standing { self.old.stream.status.state ≡ State.Running →
+            self.old.stream.status.stopped ≡ false →
+            P.ends_in port.old (held_entries self.old.stream self.old.ring) }
         ensures takes { TakesAt P.MixPort G.Gate (port.old, gate.old)
-            (admitted self.old.plain call.Transfer
-            (rewind_course self.old.plain self.old.ring (P.view port.old).marks.floor frames))
-            (port.new, gate.new) (self.new.plain, result) }
+            (admitted self.old.stream call.Transfer
+            (rewind_course self.old.stream self.old.ring (P.view port.old).marks.floor frames))
+            (port.new, gate.new) (self.new.stream, result) }
         ensures refused { (e : PcmError) →
-            refusal_of Direction.Playback self.old.plain.status call.Transfer ≡ Some e →
+            refusal_of Direction.Playback self.old.stream.status call.Transfer ≡ Some e →
             (result ≡ Err e) × (self.new ≡ self.old) × (port.new ≡ port.old)
             × (gate.new ≡ gate.old) }
         ensures ring { self.new.ring ≡ self.old.ring }
         ensures keeps { KeepsBack P.MixPort G.Gate (port.old, gate.old) (port.new, gate.new)
             self.old self.new result }
-        ensures causes { refusal_of Direction.Playback self.old.plain.status call.Transfer ≡ None →
-            self.old.plain.status.state ≡ State.Running →
-            ExplainsRewind P.MixPort G.Gate (port.old, gate.old) (port.new, gate.new) self.old.plain
-            self.old.ring (P.view port.old).marks.floor frames (self.new.plain, result) }
+        ensures causes { refusal_of Direction.Playback self.old.stream.status call.Transfer ≡ None →
+            self.old.stream.status.state ≡ State.Running →
+            ExplainsRewind P.MixPort G.Gate (port.old, gate.old) (port.new, gate.new) self.old.stream
+            self.old.ring (P.view port.old).marks.floor frames (self.new.stream, result) }
     {
-        self.plain
+        self.stream
             .status
             .admit(Direction::Playback, Call::Transfer)?;
-        if self.plain.status.state == State::Running {
+        if self.stream.status.state == State::Running {
             let ring = self.ring.as_slice();
-            return rewind_running(&mut self.plain, ring, port, gate, frames);
+            return rewind_running(&mut self.stream, ring, port, gate, frames);
         }
-        let taken = frames.min(self.plain.stretch.written);
-        self.plain = self.plain.without(taken);
+        let taken = frames.min(self.stream.stretch.written);
+        self.stream = self.stream.without(taken);
         Ok(taken)
     }
 }

@@ -5,13 +5,13 @@ ghost use Rattle.dmix_client.specs.Calls.{late_at, with_number};
 ghost use Rattle.dmix_client.specs.Rewind.{back_of, last_channel, last_laid, rewindable_of, rewound, taken_back, without};
 
 use crate::commit::Commit;
-use crate::plain::{Plain, Stretch};
+use crate::stream::{PlaybackStream, Stretch};
 use crate::steps::{Answered, found_at, is_stop, stopped_in, with_outcome};
 use mix_core::{Ended, Position};
 use pcm_states::{Call, State, next};
 use snd_base::{Cursor, PcmError, XrunWhy};
 
-impl Plain {
+impl PlaybackStream {
     /// How many frames can be taken back at a port with this floor.
     pub(crate) fn rewindable(&self, floor: Cursor) -> u64
         requires { floor.frame < 2 ^ 63 }
@@ -35,10 +35,10 @@ impl Plain {
     }
 
     /// The last `frames` frames, which were pending, are taken back.
-    pub(crate) fn without(&self, frames: u64) -> Plain
+    pub(crate) fn without(&self, frames: u64) -> PlaybackStream
         ensures { result ≡ without self.now frames }
     {
-        Plain {
+        PlaybackStream {
             stretch: Stretch {
                 written: self.stretch.written.saturating_sub(frames),
                 ..self.stretch
@@ -49,7 +49,7 @@ impl Plain {
     }
 
     /// Of the last `frames` frames the pending ones are taken back, and of the committed ones all but what is left.
-    pub(crate) fn taken_back(&self, frames: u64, left: Commit) -> Plain
+    pub(crate) fn taken_back(&self, frames: u64, left: Commit) -> PlaybackStream
         requires few { left.frames ≤ frames }
         requires fits { frames ≤ self.now.stretch.written }
         requires fed { self.now.stretch.written ≤ self.now.fed }
@@ -57,7 +57,7 @@ impl Plain {
         requires back { back_of self.now frames ≤ self.now.stretch.committed }
         ensures { result ≡ taken_back self.now frames left }
     {
-        Plain {
+        PlaybackStream {
             stretch: Stretch {
                 written: self.stretch.written - (frames - left.frames),
                 committed: self.stretch.committed - (self.back(frames) - left.frames),
@@ -114,17 +114,17 @@ impl Plain {
 }
 
 /// A rewind of `frames` frames, by what is left of the committed ones.
-pub(crate) fn rewound(plain: Plain, frames: u64, left: Commit) -> Answered<u64>
+pub(crate) fn rewound(stream: PlaybackStream, frames: u64, left: Commit) -> Answered<u64>
     requires few { left.frames ≤ frames }
-    requires written { frames ≤ plain.stretch.written }
-    requires fed { plain.stretch.written ≤ plain.fed }
-    requires committed { left.frames ≤ back_of plain frames }
-    requires back { back_of plain frames ≤ plain.stretch.committed }
-    requires fits { plain.stretch.card + plain.stretch.committed < 2 ^ 64 }
-    requires part { OnLate left.ended (λ _. left.part < length plain.setup.bindings) }
-    ensures { result ≡ rewound plain frames left }
+    requires written { frames ≤ stream.stretch.written }
+    requires fed { stream.stretch.written ≤ stream.fed }
+    requires committed { left.frames ≤ back_of stream frames }
+    requires back { back_of stream frames ≤ stream.stretch.committed }
+    requires fits { stream.stretch.card + stream.stretch.committed < 2 ^ 64 }
+    requires part { OnLate left.ended (λ _. left.part < length stream.setup.bindings) }
+    ensures { result ≡ rewound stream frames left }
 {
-    let done = plain.taken_back(frames, left);
+    let done = stream.taken_back(frames, left);
     if is_stop(left.ended) {
         return stopped_in(done);
     }
@@ -143,24 +143,24 @@ pub(crate) fn rewound(plain: Plain, frames: u64, left: Commit) -> Answered<u64>
 fn with_count(frames: u64, answered: Answered<()>) -> Answered<u64>
     ensures { result ≡ with_number (λ d. frames) answered }
 {
-    let (plain, answer) = answered;
+    let (stream, answer) = answered;
     match answer {
-        Ok(()) => (plain, Ok(frames)),
-        Err(error) => (plain, Err(error)),
+        Ok(()) => (stream, Ok(frames)),
+        Err(error) => (stream, Err(error)),
     }
 }
 
 /// The frames that can be taken back, where the load before went well.
 pub(crate) fn with_rewindable(
-    plain: &Plain,
+    stream: &PlaybackStream,
     floor: Cursor,
     answer: Result<(), PcmError>,
 ) -> Result<u64, PcmError>
     requires { floor.frame < 2 ^ 63 }
-    ensures { with_number (rewindable_of floor) (plain.now, answer) ≡ (plain.now, result) }
+    ensures { with_number (rewindable_of floor) (stream.now, answer) ≡ (stream.now, result) }
 {
     match answer {
-        Ok(()) => Ok(plain.rewindable(floor)),
+        Ok(()) => Ok(stream.rewindable(floor)),
         Err(error) => Err(error),
     }
 }

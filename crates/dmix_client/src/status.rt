@@ -14,7 +14,7 @@ ghost use Rattle.dmix_client.specs.View.{IsGoing, IsSound};
 
 use crate::client::Client;
 use crate::commit::look_and_commit;
-use crate::plain::Plain;
+use crate::stream::PlaybackStream;
 use crate::steps::{after_sync, with_number};
 use mix_core::{Gate, MixPort};
 use pcm_states::Call;
@@ -32,33 +32,33 @@ pub(crate) enum Asked {
 
 /// The sync of a client that moves frames.
 pub(crate) fn sync_call<P: MixPort, G: Gate>(
-    plain: &mut Plain,
+    stream: &mut PlaybackStream,
     ring: &[i16],
     port: &mut P,
     gate: &mut G,
     call: Call,
 ) -> Result<(), PcmError>
-    requires sound { IsSound plain.old ring.now }
-    requires moving { is_moving plain.old.status.state ≡ true }
-    requires unstopped { plain.old.status.stopped ≡ false }
-    requires step { IsStep plain.old.status.state call }
-    requires port { CanUse plain.old (P.view port.old) }
-    ensures takes { TakesAt P.MixPort G.Gate (port.old, gate.old) (syncs plain.old call ring.now)
-        (port.new, gate.new) (plain.new, result) }
+    requires sound { IsSound stream.old ring.now }
+    requires moving { is_moving stream.old.status.state ≡ true }
+    requires unstopped { stream.old.status.stopped ≡ false }
+    requires step { IsStep stream.old.status.state call }
+    requires port { CanUse stream.old (P.view port.old) }
+    ensures takes { TakesAt P.MixPort G.Gate (port.old, gate.old) (syncs stream.old call ring.now)
+        (port.new, gate.new) (stream.new, result) }
     ensures keeps { Keeps P.MixPort G.Gate (port.old, gate.old) (port.new, gate.new)
-        (record { plain = plain.old; ring = ring.now })
-        (record { plain = plain.new; ring = ring.now }) result AnySamples }
-    ensures sound { IsSound plain.new ring.now }
-    ensures port { CanUse plain.new (P.view port.new) }
-    ensures goes { OnOk result (IsGoing plain.new) }
-    ensures same { KeepsAccepted plain.old plain.new }
+        (record { stream = stream.old; ring = ring.now })
+        (record { stream = stream.new; ring = ring.now }) result AnySamples }
+    ensures sound { IsSound stream.new ring.now }
+    ensures port { CanUse stream.new (P.view port.new) }
+    ensures goes { OnOk result (IsGoing stream.new) }
+    ensures same { KeepsAccepted stream.old stream.new }
     ensures explains { Explains P.MixPort G.Gate (port.old, gate.old) (port.new, gate.new)
-        (record { plain = plain.old; ring = ring.now }) (λ position. plain.old)
-        (sync_count plain.old) (after_sync plain.old call) (plain.new, result) }
+        (record { stream = stream.old; ring = ring.now }) (λ position. stream.old)
+        (sync_count stream.old) (after_sync stream.old call) (stream.new, result) }
 {
-    let found = look_and_commit(plain, ring, port, gate);
-    let (after, answer) = after_sync(*plain, call, found.load, found.commit);
-    *plain = after;
+    let found = look_and_commit(stream, ring, port, gate);
+    let (after, answer) = after_sync(*stream, call, found.load, found.commit);
+    *stream = after;
     answer
 }
 
@@ -74,29 +74,29 @@ impl Client {
     /// SETUP with `BadState`. `Stopped` comes exactly where the client was stopped before, or the gate's count of stops
     /// rose in this call; what was laid stays.
     pub fn sync<P: MixPort, G: Gate>(&mut self, port: &mut P, gate: &mut G) -> Result<(), PcmError>
-        requires { CanUse self.old.plain (P.view port.old) }
+        requires { CanUse self.old.stream (P.view port.old) }
         ensures takes { TakesAt P.MixPort G.Gate (port.old, gate.old)
-            (admitted self.old.plain call.Sync (sync_course self.old.plain self.old.ring))
-            (port.new, gate.new) (self.new.plain, result) }
+            (admitted self.old.stream call.Sync (sync_course self.old.stream self.old.ring))
+            (port.new, gate.new) (self.new.stream, result) }
         ensures refused { (e : PcmError) →
-            refusal_of Direction.Playback self.old.plain.status call.Sync ≡ Some e →
+            refusal_of Direction.Playback self.old.stream.status call.Sync ≡ Some e →
             (result ≡ Err e) × (self.new ≡ self.old) × (port.new ≡ port.old)
             × (gate.new ≡ gate.old) }
         ensures ring { self.new.ring ≡ self.old.ring }
         ensures keeps { Keeps P.MixPort G.Gate (port.old, gate.old) (port.new, gate.new) self.old
             self.new result AnySamples }
-        ensures causes { refusal_of Direction.Playback self.old.plain.status call.Sync ≡ None →
-            is_moving self.old.plain.status.state ≡ true →
+        ensures causes { refusal_of Direction.Playback self.old.stream.status call.Sync ≡ None →
+            is_moving self.old.stream.status.state ≡ true →
             Explains P.MixPort G.Gate (port.old, gate.old) (port.new, gate.new) self.old
-            (λ position. self.old.plain) (sync_count self.old.plain)
-            (after_sync self.old.plain call.Sync) (self.new.plain, result) }
+            (λ position. self.old.stream) (sync_count self.old.stream)
+            (after_sync self.old.stream call.Sync) (self.new.stream, result) }
     {
-        self.plain.status.admit(Direction::Playback, Call::Sync)?;
-        if !self.plain.status.is_moving() {
+        self.stream.status.admit(Direction::Playback, Call::Sync)?;
+        if !self.stream.status.is_moving() {
             return Ok(());
         }
         let ring = self.ring.as_slice();
-        sync_call(&mut self.plain, ring, port, gate, Call::Sync)
+        sync_call(&mut self.stream, ring, port, gate, Call::Sync)
     }
 
     /// Makes a `sync` and answers a number. It is refused as `sync` is.
@@ -106,33 +106,33 @@ impl Client {
         gate: &mut G,
         asked: Asked,
     ) -> Result<u64, PcmError>
-        requires { CanUse self.old.plain (P.view port.old) }
+        requires { CanUse self.old.stream (P.view port.old) }
         ensures takes { TakesAt P.MixPort G.Gate (port.old, gate.old)
-            (admitted self.old.plain call.Sync
-            (number_course (number_of asked) self.old.plain self.old.ring)) (port.new, gate.new)
-            (self.new.plain, result) }
+            (admitted self.old.stream call.Sync
+            (number_course (number_of asked) self.old.stream self.old.ring)) (port.new, gate.new)
+            (self.new.stream, result) }
         ensures refused { (e : PcmError) →
-            refusal_of Direction.Playback self.old.plain.status call.Sync ≡ Some e →
+            refusal_of Direction.Playback self.old.stream.status call.Sync ≡ Some e →
             (result ≡ Err e) × (self.new ≡ self.old) × (port.new ≡ port.old)
             × (gate.new ≡ gate.old) }
         ensures ring { self.new.ring ≡ self.old.ring }
         ensures keeps { Keeps P.MixPort G.Gate (port.old, gate.old) (port.new, gate.new) self.old
             self.new result AnySamples }
-        ensures causes { refusal_of Direction.Playback self.old.plain.status call.Sync ≡ None →
-            is_moving self.old.plain.status.state ≡ true →
+        ensures causes { refusal_of Direction.Playback self.old.stream.status call.Sync ≡ None →
+            is_moving self.old.stream.status.state ≡ true →
             Explains P.MixPort G.Gate (port.old, gate.old) (port.new, gate.new) self.old
-            (λ position. self.old.plain) (sync_count self.old.plain)
+            (λ position. self.old.stream) (sync_count self.old.stream)
             (λ load commit.
-            with_number (number_of asked) (after_sync self.old.plain call.Sync load commit))
-            (self.new.plain, result) }
+            with_number (number_of asked) (after_sync self.old.stream call.Sync load commit))
+            (self.new.stream, result) }
     {
-        self.plain.status.admit(Direction::Playback, Call::Sync)?;
-        if !self.plain.status.is_moving() {
-            return Ok(self.plain.number(asked));
+        self.stream.status.admit(Direction::Playback, Call::Sync)?;
+        if !self.stream.status.is_moving() {
+            return Ok(self.stream.number(asked));
         }
         let ring = self.ring.as_slice();
-        let answer = sync_call(&mut self.plain, ring, port, gate, Call::Sync);
-        with_number(&self.plain, asked, answer)
+        let answer = sync_call(&mut self.stream, ring, port, gate, Call::Sync);
+        with_number(&self.stream, asked, answer)
     }
 
     /// Makes a `sync` and answers the frames that a write can take (`snd_pcm_avail`, which syncs as this does, and not
@@ -143,25 +143,25 @@ impl Client {
         port: &mut P,
         gate: &mut G,
     ) -> Result<u64, PcmError>
-        requires { CanUse self.old.plain (P.view port.old) }
+        requires { CanUse self.old.stream (P.view port.old) }
         ensures takes { TakesAt P.MixPort G.Gate (port.old, gate.old)
-            (admitted self.old.plain call.Sync
-            (number_course avail_answer self.old.plain self.old.ring)) (port.new, gate.new)
-            (self.new.plain, result) }
+            (admitted self.old.stream call.Sync
+            (number_course avail_answer self.old.stream self.old.ring)) (port.new, gate.new)
+            (self.new.stream, result) }
         ensures refused { (e : PcmError) →
-            refusal_of Direction.Playback self.old.plain.status call.Sync ≡ Some e →
+            refusal_of Direction.Playback self.old.stream.status call.Sync ≡ Some e →
             (result ≡ Err e) × (self.new ≡ self.old) × (port.new ≡ port.old)
             × (gate.new ≡ gate.old) }
         ensures ring { self.new.ring ≡ self.old.ring }
         ensures keeps { Keeps P.MixPort G.Gate (port.old, gate.old) (port.new, gate.new) self.old
             self.new result AnySamples }
-        ensures causes { refusal_of Direction.Playback self.old.plain.status call.Sync ≡ None →
-            is_moving self.old.plain.status.state ≡ true →
+        ensures causes { refusal_of Direction.Playback self.old.stream.status call.Sync ≡ None →
+            is_moving self.old.stream.status.state ≡ true →
             Explains P.MixPort G.Gate (port.old, gate.old) (port.new, gate.new) self.old
-            (λ position. self.old.plain) (sync_count self.old.plain)
+            (λ position. self.old.stream) (sync_count self.old.stream)
             (λ load commit.
-            with_number avail_answer (after_sync self.old.plain call.Sync load commit))
-            (self.new.plain, result) }
+            with_number avail_answer (after_sync self.old.stream call.Sync load commit))
+            (self.new.stream, result) }
     {
         self.ask(port, gate, Asked::Avail)
     }
@@ -174,25 +174,25 @@ impl Client {
         port: &mut P,
         gate: &mut G,
     ) -> Result<u64, PcmError>
-        requires { CanUse self.old.plain (P.view port.old) }
+        requires { CanUse self.old.stream (P.view port.old) }
         ensures takes { TakesAt P.MixPort G.Gate (port.old, gate.old)
-            (admitted self.old.plain call.Sync
-            (number_course delay_answer self.old.plain self.old.ring)) (port.new, gate.new)
-            (self.new.plain, result) }
+            (admitted self.old.stream call.Sync
+            (number_course delay_answer self.old.stream self.old.ring)) (port.new, gate.new)
+            (self.new.stream, result) }
         ensures refused { (e : PcmError) →
-            refusal_of Direction.Playback self.old.plain.status call.Sync ≡ Some e →
+            refusal_of Direction.Playback self.old.stream.status call.Sync ≡ Some e →
             (result ≡ Err e) × (self.new ≡ self.old) × (port.new ≡ port.old)
             × (gate.new ≡ gate.old) }
         ensures ring { self.new.ring ≡ self.old.ring }
         ensures keeps { Keeps P.MixPort G.Gate (port.old, gate.old) (port.new, gate.new) self.old
             self.new result AnySamples }
-        ensures causes { refusal_of Direction.Playback self.old.plain.status call.Sync ≡ None →
-            is_moving self.old.plain.status.state ≡ true →
+        ensures causes { refusal_of Direction.Playback self.old.stream.status call.Sync ≡ None →
+            is_moving self.old.stream.status.state ≡ true →
             Explains P.MixPort G.Gate (port.old, gate.old) (port.new, gate.new) self.old
-            (λ position. self.old.plain) (sync_count self.old.plain)
+            (λ position. self.old.stream) (sync_count self.old.stream)
             (λ load commit.
-            with_number delay_answer (after_sync self.old.plain call.Sync load commit))
-            (self.new.plain, result) }
+            with_number delay_answer (after_sync self.old.stream call.Sync load commit))
+            (self.new.stream, result) }
     {
         self.ask(port, gate, Asked::Delay)
     }

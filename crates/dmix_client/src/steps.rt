@@ -7,7 +7,7 @@ ghost use Rattle.dmix_client.specs.Writes.{count_with};
 ghost use Rattle.dmix_client.specs.View.{IsReady, IsReadyAt, avail_of, hw_of, queued_of};
 
 use crate::commit::Commit;
-use crate::plain::{Identity, Plain, Stretch};
+use crate::stream::{Identity, PlaybackStream, Stretch};
 use crate::status::Asked;
 use bindings::Bindings;
 use hw_space::Config;
@@ -19,7 +19,7 @@ use snd_base::{Cursor, Geometry, PcmError, Segment, XrunWhy};
 use sw_limits::boundary;
 
 /// A client after a part of a call, and the call's answer so far.
-pub(crate) type Answered<T> = (Plain, Result<T, PcmError>);
+pub(crate) type Answered<T> = (PlaybackStream, Result<T, PcmError>);
 
 impl Stretch {
     /// A stretch that waits for its start: `written` frames are written, the first of them after `source` others, and none is
@@ -38,12 +38,12 @@ impl Stretch {
     }
 }
 
-impl Plain {
+impl PlaybackStream {
     /// The client in another state.
-    fn in_state(&self, state: State) -> Plain
+    fn in_state(&self, state: State) -> PlaybackStream
         ensures { result ≡ in_state self.now state }
     {
-        Plain {
+        PlaybackStream {
             status: self.status.in_state(state),
             ..*self
         }
@@ -85,21 +85,21 @@ impl Plain {
     }
 
     /// A position was loaded.
-    pub(crate) fn seen_at(&self, position: Position) -> Plain
+    pub(crate) fn seen_at(&self, position: Position) -> PlaybackStream
         ensures { result ≡ seen_at self.now position }
     {
-        Plain {
+        PlaybackStream {
             seen: Some(position.frame),
             ..*self
         }
     }
 
     /// A commit laid frames.
-    pub(crate) fn committed_by(&self, commit: Commit) -> Plain
+    pub(crate) fn committed_by(&self, commit: Commit) -> PlaybackStream
         requires { self.now.stretch.committed + commit.frames < 2 ^ 64 }
         ensures { result ≡ committed_by self.now commit }
     {
-        Plain {
+        PlaybackStream {
             stretch: Stretch {
                 committed: self.stretch.committed + commit.frames,
                 part: commit.part,
@@ -168,10 +168,10 @@ impl Plain {
     }
 
     /// The client is prepared: nothing is written, and nothing is laid since now.
-    pub(crate) fn prepared(&self) -> Plain
+    pub(crate) fn prepared(&self) -> PlaybackStream
         ensures { result ≡ prepared self.now }
     {
-        Plain {
+        PlaybackStream {
             stretch: Stretch::waiting(0, self.fed),
             ..self.in_state(State::Prepared)
         }
@@ -201,39 +201,39 @@ pub(crate) fn is_stop(ended: Ended) -> bool
 }
 
 /// The gate stopped the call.
-pub(crate) fn stopped_in<T>(plain: Plain) -> Answered<T>
-    ensures { result ≡ stopped_in plain }
+pub(crate) fn stopped_in<T>(stream: PlaybackStream) -> Answered<T>
+    ensures { result ≡ stopped_in stream }
 {
-    let stopped = Plain {
-        status: plain.status.stop(),
-        ..plain
+    let stopped = PlaybackStream {
+        status: stream.status.stop(),
+        ..stream
     };
     (stopped, Err(PcmError::Stopped))
 }
 
 /// The call ends with an outcome of the state table.
-pub(crate) fn with_outcome(plain: Plain, outcome: Outcome) -> Answered<()>
-    ensures { result ≡ with_outcome plain outcome }
+pub(crate) fn with_outcome(stream: PlaybackStream, outcome: Outcome) -> Answered<()>
+    ensures { result ≡ with_outcome stream outcome }
 {
-    (plain.in_state(outcome.state), outcome.answer)
+    (stream.in_state(outcome.state), outcome.answer)
 }
 
 /// The sync of a client that moves frames, by what its load and its commit found.
 pub(crate) fn after_sync(
-    plain: Plain,
+    stream: PlaybackStream,
     call: Call,
     load: Option<Position>,
     commit: Commit,
 ) -> Answered<()>
-    requires ready { IsReadyAt plain load }
-    requires fits { plain.stretch.card + (plain.stretch.committed + commit.frames) < 2 ^ 64 }
-    requires part { OnLate commit.ended (λ _. commit.part < length plain.setup.bindings) }
-    ensures { result ≡ after_sync plain call load commit }
+    requires ready { IsReadyAt stream load }
+    requires fits { stream.stretch.card + (stream.stretch.committed + commit.frames) < 2 ^ 64 }
+    requires part { OnLate commit.ended (λ _. commit.part < length stream.setup.bindings) }
+    ensures { result ≡ after_sync stream call load commit }
 {
     let Some(position) = load else {
-        return stopped_in(plain);
+        return stopped_in(stream);
     };
-    let loaded = plain.seen_at(position);
+    let loaded = stream.seen_at(position);
     let done = loaded.committed_by(commit);
     if is_stop(commit.ended) {
         return stopped_in(done);
@@ -246,16 +246,16 @@ pub(crate) fn after_sync(
         over: loaded.over(position),
         late: loaded.late(commit),
     };
-    with_outcome(done, next(plain.status.state, call, facts))
+    with_outcome(done, next(stream.status.state, call, facts))
 }
 
 /// The call goes on in `state`, unless the table refuses it.
-fn going_on(plain: Plain, state: State, outcome: Outcome) -> Answered<()>
-    ensures { result ≡ going_on plain state outcome }
+fn going_on(stream: PlaybackStream, state: State, outcome: Outcome) -> Answered<()>
+    ensures { result ≡ going_on stream state outcome }
 {
     match outcome.answer {
-        Ok(()) => (plain.in_state(state), Ok(())),
-        Err(error) => (plain.in_state(outcome.state), Err(error)),
+        Ok(()) => (stream.in_state(state), Ok(())),
+        Err(error) => (stream.in_state(outcome.state), Err(error)),
     }
 }
 
@@ -273,7 +273,7 @@ pub(crate) fn found_at(position: Position, late: Option<XrunWhy>) -> Facts
     }
 }
 
-impl Plain {
+impl PlaybackStream {
     /// Where a start begins: past the position by the lead, and not before the port's cursor.
     pub(crate) fn start_frame(&self, position: u64, cursor: Cursor) -> u64
         requires position { position < 2 ^ 63 }
@@ -284,12 +284,12 @@ impl Plain {
     }
 
     /// The stream starts, and is in `state`.
-    pub(crate) fn started_in(&self, state: State, position: Position, cursor: Cursor) -> Plain
+    pub(crate) fn started_in(&self, state: State, position: Position, cursor: Cursor) -> PlaybackStream
         requires position { position.frame < 2 ^ 63 }
         requires cursor { cursor.frame < 2 ^ 63 }
         ensures { result ≡ started_in self.now state position cursor }
     {
-        Plain {
+        PlaybackStream {
             stretch: Stretch {
                 card: self.start_frame(position.frame, cursor),
                 started: true,
@@ -323,12 +323,12 @@ impl Plain {
     }
 
     /// Frames were accepted.
-    pub(crate) fn accepted(&self, frames: u64) -> Plain
+    pub(crate) fn accepted(&self, frames: u64) -> PlaybackStream
         requires written { self.now.stretch.written + frames < 2 ^ 64 }
         requires fed { self.now.fed + frames < 2 ^ 64 }
         ensures { result ≡ accepted self.now frames }
     {
-        Plain {
+        PlaybackStream {
             stretch: Stretch {
                 written: self.stretch.written + frames,
                 ..self.stretch
@@ -365,7 +365,7 @@ impl Plain {
 
 /// The start of a client that is prepared and has frames, which leads to `state`.
 pub(crate) fn after_start(
-    plain: Plain,
+    stream: PlaybackStream,
     state: State,
     cursor: Cursor,
     load: Option<Position>,
@@ -373,22 +373,22 @@ pub(crate) fn after_start(
 ) -> Answered<()>
     requires position { IfSome load (λ position. position.frame < 2 ^ 63) }
     requires cursor { cursor.frame < 2 ^ 63 }
-    requires fits { plain.stretch.committed + commit.frames < 2 ^ 62 }
-    requires part { OnLate commit.ended (λ _. commit.part < length plain.setup.bindings) }
-    ensures { result ≡ after_start plain state cursor load commit }
+    requires fits { stream.stretch.committed + commit.frames < 2 ^ 62 }
+    requires part { OnLate commit.ended (λ _. commit.part < length stream.setup.bindings) }
+    ensures { result ≡ after_start stream state cursor load commit }
 {
     let Some(position) = load else {
-        return stopped_in(plain);
+        return stopped_in(stream);
     };
     if position.gone {
         let facts = found_at(position, None);
         return going_on(
-            plain.seen_at(position),
+            stream.seen_at(position),
             state,
             next(State::Prepared, Call::Start, facts),
         );
     }
-    let from = plain.started_in(state, position, cursor);
+    let from = stream.started_in(state, position, cursor);
     let done = from.committed_by(commit);
     if is_stop(commit.ended) {
         return stopped_in(done);
@@ -397,9 +397,9 @@ pub(crate) fn after_start(
     going_on(done, state, next(State::Prepared, Call::Start, facts))
 }
 
-impl Plain {
+impl PlaybackStream {
     /// The stream is paused.
-    pub(crate) fn paused(&self) -> Plain
+    pub(crate) fn paused(&self) -> PlaybackStream
         ensures { result ≡ paused self.now }
     {
         self.in_state(State::Paused)
@@ -413,11 +413,11 @@ impl Plain {
     }
 
     /// What is pending is all that is written, and nothing is laid since now.
-    pub(crate) fn rebased(&self) -> Plain
+    pub(crate) fn rebased(&self) -> PlaybackStream
         ensures { result ≡ rebased self.now }
     {
         let pending = self.pending();
-        Plain {
+        PlaybackStream {
             stretch: Stretch::waiting(pending, self.fed.saturating_sub(pending)),
             ..self.in_state(State::Prepared)
         }
@@ -426,7 +426,7 @@ impl Plain {
 
 /// The resume of a client that has pending frames.
 pub(crate) fn resumed(
-    plain: Plain,
+    stream: PlaybackStream,
     cursor: Cursor,
     load: Option<Position>,
     commit: Commit,
@@ -434,13 +434,13 @@ pub(crate) fn resumed(
     requires position { IfSome load (λ position. position.frame < 2 ^ 63) }
     requires cursor { cursor.frame < 2 ^ 63 }
     requires fits { commit.frames < 2 ^ 62 }
-    requires part { OnLate commit.ended (λ _. commit.part < length plain.setup.bindings) }
-    ensures { result ≡ resumed plain cursor load commit }
+    requires part { OnLate commit.ended (λ _. commit.part < length stream.setup.bindings) }
+    ensures { result ≡ resumed stream cursor load commit }
 {
     match load {
-        None => stopped_in(plain),
+        None => stopped_in(stream),
         Some(position) => after_start(
-            plain.rebased(),
+            stream.rebased(),
             State::Running,
             cursor,
             Some(position),
@@ -455,26 +455,26 @@ pub(crate) fn accepted_if(frames: u64, answered: Answered<()>) -> Answered<u64>
     requires fed { answered.0.fed + frames < 2 ^ 64 }
     ensures { result ≡ accepted_if frames answered }
 {
-    let (plain, answer) = answered;
+    let (stream, answer) = answered;
     match answer {
-        Ok(()) => (plain.accepted(frames), Ok(frames)),
-        Err(error) => (plain, Err(error)),
+        Ok(()) => (stream.accepted(frames), Ok(frames)),
+        Err(error) => (stream, Err(error)),
     }
 }
 
 /// A write of `frames` into a stream that runs, after its sync.
-pub(crate) fn written_after(plain: Plain, frames: u64, commit: Commit) -> Answered<u64>
-    requires ready { IsReady plain }
-    requires fits { plain.stretch.card + (plain.stretch.committed + commit.frames) < 2 ^ 64 }
-    requires part { OnLate commit.ended (λ _. commit.part < length plain.setup.bindings) }
-    requires written { plain.stretch.written + frames < 2 ^ 64 }
-    requires fed { plain.fed + frames < 2 ^ 64 }
-    ensures { result ≡ written_after plain frames commit }
+pub(crate) fn written_after(stream: PlaybackStream, frames: u64, commit: Commit) -> Answered<u64>
+    requires ready { IsReady stream }
+    requires fits { stream.stretch.card + (stream.stretch.committed + commit.frames) < 2 ^ 64 }
+    requires part { OnLate commit.ended (λ _. commit.part < length stream.setup.bindings) }
+    requires written { stream.stretch.written + frames < 2 ^ 64 }
+    requires fed { stream.fed + frames < 2 ^ 64 }
+    ensures { result ≡ written_after stream frames commit }
 {
-    if frames > 0 && plain.avail() == 0 {
-        return (plain, Err(PcmError::Again));
+    if frames > 0 && stream.avail() == 0 {
+        return (stream, Err(PcmError::Again));
     }
-    let done = plain.committed_by(commit);
+    let done = stream.committed_by(commit);
     if is_stop(commit.ended) {
         return stopped_in(done);
     }
@@ -482,19 +482,19 @@ pub(crate) fn written_after(plain: Plain, frames: u64, commit: Commit) -> Answer
         frame: 0,
         gone: false,
     };
-    let facts = found_at(here, plain.late(commit));
+    let facts = found_at(here, stream.late(commit));
     accepted_if(
-        plain.taken(frames),
+        stream.taken(frames),
         with_outcome(done, next(State::Running, Call::Transfer, facts)),
     )
 }
 
-impl Plain {
+impl PlaybackStream {
     /// A client that is opened.
-    pub(crate) fn new(geometry: Geometry, member: u32, lead: u32) -> Plain
+    pub(crate) fn new(geometry: Geometry, member: u32, lead: u32) -> PlaybackStream
         ensures { result ≡ new_client geometry member lead }
     {
-        Plain {
+        PlaybackStream {
             identity: Identity {
                 geometry,
                 member,
@@ -509,34 +509,34 @@ impl Plain {
     }
 
     /// The client runs with a configuration, with the default thresholds.
-    pub(crate) fn configured_with(&self, config: Config, bindings: Bindings) -> Plain
+    pub(crate) fn configured_with(&self, config: Config, bindings: Bindings) -> PlaybackStream
         ensures { result ≡ configured_with self.now config bindings }
     {
-        Plain {
+        PlaybackStream {
             setup: Setup::with(config, bindings),
             ..self.prepared()
         }
     }
 
     /// The client gives its configuration up.
-    pub(crate) fn freed(&self) -> Plain
+    pub(crate) fn freed(&self) -> PlaybackStream
         ensures { result ≡ freed self.now }
     {
-        Plain {
+        PlaybackStream {
             setup: self.setup.freed(),
             ..self.in_state(State::Open)
         }
     }
 
     /// What is pending is given up.
-    pub(crate) fn dropped(&self) -> Plain
+    pub(crate) fn dropped(&self) -> PlaybackStream
         ensures { result ≡ dropped self.now }
     {
         self.in_state(State::Setup)
     }
 }
 
-impl Plain {
+impl PlaybackStream {
     /// The number that a call answers after its sync.
     pub(crate) fn number(&self, asked: Asked) -> u64
         requires ready { (self.now.status.state ≡ State.Setup → ⊥) → IsReady self.now }
@@ -553,25 +553,25 @@ impl Plain {
 
 /// The number that was asked for, after a sync that went well.
 pub(crate) fn with_number(
-    plain: &Plain,
+    stream: &PlaybackStream,
     asked: Asked,
     answer: Result<(), PcmError>,
 ) -> Result<u64, PcmError>
-    requires ready { OnOk answer ((plain.now.status.state ≡ State.Setup → ⊥) →
-        IsReady plain.now) }
-    requires fits { OnOk answer ((plain.now.status.state ≡ State.Setup → ⊥) →
-        plain.now.stretch.card + plain.now.stretch.written < 2 ^ 64) }
-    ensures { with_number (number_of asked) (plain.now, answer) ≡ (plain.now, result) }
+    requires ready { OnOk answer ((stream.now.status.state ≡ State.Setup → ⊥) →
+        IsReady stream.now) }
+    requires fits { OnOk answer ((stream.now.status.state ≡ State.Setup → ⊥) →
+        stream.now.stretch.card + stream.now.stretch.written < 2 ^ 64) }
+    ensures { with_number (number_of asked) (stream.now, answer) ≡ (stream.now, result) }
 {
     match answer {
-        Ok(()) => Ok(plain.number(asked)),
+        Ok(()) => Ok(stream.number(asked)),
         Err(error) => Err(error),
     }
 }
 
-impl Plain {
+impl PlaybackStream {
     /// The stream drains.
-    pub(crate) fn draining(&self) -> Plain
+    pub(crate) fn draining(&self) -> PlaybackStream
         ensures { result ≡ draining self.now }
     {
         self.in_state(State::Draining)
@@ -585,7 +585,7 @@ impl Plain {
     }
 }
 
-impl Plain {
+impl PlaybackStream {
     /// How many frames are to be committed where a write took some, at the position that was seen.
     pub(crate) fn count_with(&self, taken: u64) -> u64
         requires written { self.now.stretch.written + taken < 2 ^ 64 }

@@ -5,46 +5,46 @@ ghost use Rattle.dmix_client.specs.Port.{CanUse, least_channel};
 ghost use Rattle.dmix_client.specs.Writes.{IsOffer};
 
 use crate::client::Client;
-use crate::plain::Plain;
+use crate::stream::PlaybackStream;
 use mix_core::MixPort;
 use pcm_stream::is_same_ring;
 
 /// Whether a port has the geometry and the member of a client.
-fn is_own<P: MixPort>(plain: &Plain, port: &P) -> bool
-    ensures { IsTrue result ↔ ((P.view port.now).geometry ≡ plain.now.identity.geometry)
-        × ((P.view port.now).member ≡ plain.now.identity.member) }
+fn is_own<P: MixPort>(stream: &PlaybackStream, port: &P) -> bool
+    ensures { IsTrue result ↔ ((P.view port.now).geometry ≡ stream.now.identity.geometry)
+        × ((P.view port.now).member ≡ stream.now.identity.member) }
 {
-    is_same_ring(&port.geometry(), &plain.identity.geometry)
-        && port.member() == plain.identity.member
+    is_same_ring(&port.geometry(), &stream.identity.geometry)
+        && port.member() == stream.identity.member
 }
 
 /// Whether the port's cursor and its position are where a client that moves frames left them.
 fn is_behind<P: MixPort>(client: &Client, port: &P) -> bool
     ensures { IsTrue result ↔ IsFrom (P.view port.now).marks.cursor
-        (client.now.plain.stretch.card + client.now.plain.stretch.committed)
-        (least_channel client.now.plain.setup.bindings)
-        × unwrap_or client.now.plain.seen 0 ≤ (P.view port.now).seen }
+        (client.now.stream.stretch.card + client.now.stream.stretch.committed)
+        (least_channel client.now.stream.setup.bindings)
+        × unwrap_or client.now.stream.seen 0 ≤ (P.view port.now).seen }
 {
-    let plain = &client.plain;
-    let _channels = plain.setup.bindings.len();
-    let least = plain
+    let stream = &client.stream;
+    let _channels = stream.setup.bindings.len();
+    let least = stream
         .setup
         .bindings
-        .card_channel(plain.setup.bindings.rising(0));
+        .card_channel(stream.setup.bindings.rising(0));
     let free = port.cursor().first_free(least);
-    free <= plain.stretch.card + plain.stretch.committed && plain.seen.unwrap_or(0) <= port.seen()
+    free <= stream.stretch.card + stream.stretch.committed && stream.seen.unwrap_or(0) <= port.seen()
 }
 
 impl Client {
     /// Whether its calls may be made with this port: the port is one of the client's ring, of its member, and can add; and
     /// where the client moves frames nobody else has used the port since the start.
     pub fn can_use<P: MixPort>(&self, port: &P) -> bool
-        ensures { IsTrue result ↔ CanUse self.now.plain (P.view port.now) }
+        ensures { IsTrue result ↔ CanUse self.now.stream (P.view port.now) }
     {
-        if !port.can_add() || !is_own(&self.plain, port) {
+        if !port.can_add() || !is_own(&self.stream, port) {
             return false;
         }
-        if self.plain.status.is_moving() && !self.plain.status.stopped {
+        if self.stream.status.is_moving() && !self.stream.status.stopped {
             return is_behind(self, port);
         }
         true
@@ -53,11 +53,11 @@ impl Client {
     /// Whether these samples, interleaved, may be written: whole frames, at most 4,194,304 of them, and less than 2 to the
     /// power 63 were accepted so far.
     pub fn can_offer(&self, samples: &[i16]) -> bool
-        ensures { IsTrue result ↔ IsOffer self.now.plain samples.now }
+        ensures { IsTrue result ↔ IsOffer self.now.stream samples.now }
     {
-        let channels = self.plain.setup.bindings.len() as usize;
+        let channels = self.stream.setup.bindings.len() as usize;
         samples.len() % channels == 0
             && samples.len() / channels <= 4194304
-            && self.plain.fed < 9223372036854775808
+            && self.stream.fed < 9223372036854775808
     }
 }

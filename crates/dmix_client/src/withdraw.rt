@@ -10,7 +10,7 @@ ghost use Rattle.dmix_client.specs.Rewind.{left_of, take_each, take_frames};
 ghost use Rattle.dmix_client.specs.View.{ring_sample};
 
 use crate::commit::{BoundSample, Commit, bound_sample, held_from};
-use crate::plain::Plain;
+use crate::stream::PlaybackStream;
 use mix_core::{Ended, Gate, MixPort};
 
 /// How many channels of a frame are left, by rising card channel, and why no more were withdrawn.
@@ -41,32 +41,32 @@ fn take_sample<P: MixPort, G: Gate>(
 fn take_frame<P: MixPort, G: Gate>(
     port: &mut P,
     gate: &mut G,
-    plain: &Plain,
+    stream: &PlaybackStream,
     ring: &[i16],
     number: u64,
 ) -> Left
-    requires member { (P.view port.old).member ≡ plain.now.identity.member }
-    requires bound { AreBindings plain.now.setup.bindings }
-    requires buffer { 1 ≤ plain.now.setup.config.buffer_size }
-    requires room { length ring.now ≡ plain.now.setup.config.buffer_size * length
-        plain.now.setup.bindings }
-    requires fits { plain.now.stretch.card + number < 2 ^ 64 }
-    requires from_floor { IsFrom (P.view port.old).marks.floor (plain.now.stretch.card + number)
-        (least_channel plain.now.setup.bindings) }
+    requires member { (P.view port.old).member ≡ stream.now.identity.member }
+    requires bound { AreBindings stream.now.setup.bindings }
+    requires buffer { 1 ≤ stream.now.setup.config.buffer_size }
+    requires room { length ring.now ≡ stream.now.setup.config.buffer_size * length
+        stream.now.setup.bindings }
+    requires fits { stream.now.stretch.card + number < 2 ^ 64 }
+    requires from_floor { IsFrom (P.view port.old).marks.floor (stream.now.stretch.card + number)
+        (least_channel stream.now.setup.bindings) }
     requires held { P.ends_in port.old
-        (frame_entries plain.now.identity.member plain.now.setup.bindings
-        (ring_sample plain.now ring.now number) (length plain.now.setup.bindings)
-        (plain.now.stretch.card + number)) }
+        (frame_entries stream.now.identity.member stream.now.setup.bindings
+        (ring_sample stream.now ring.now number) (length stream.now.setup.bindings)
+        (stream.now.stretch.card + number)) }
     ensures { TakesAt P.MixPort G.Gate (port.old, gate.old)
-        (take_each plain.now.identity.member (plain.now.stretch.card + number)
-        plain.now.setup.bindings (ring_sample plain.now ring.now number)
-        (length plain.now.setup.bindings)) (port.new, gate.new) (result.channels, result.ended) }
+        (take_each stream.now.identity.member (stream.now.stretch.card + number)
+        stream.now.setup.bindings (ring_sample stream.now ring.now number)
+        (length stream.now.setup.bindings)) (port.new, gate.new) (result.channels, result.ended) }
 {
-    let slot = held_from(plain, number);
-    for place in (0..plain.setup.bindings.len()).rev() {
-        let channels = plain.setup.bindings.len();
-        let bound = bound_sample(&plain.setup.bindings, ring, slot, place, channels);
-        match take_sample(port, gate, plain.stretch.card + number, bound) {
+    let slot = held_from(stream, number);
+    for place in (0..stream.setup.bindings.len()).rev() {
+        let channels = stream.setup.bindings.len();
+        let bound = bound_sample(&stream.setup.bindings, ring, slot, place, channels);
+        match take_sample(port, gate, stream.stretch.card + number, bound) {
             Ended::Whole => {}
             ended => return Left {
                 channels: place + 1,
@@ -104,33 +104,33 @@ fn left_of(frames: u64, left: u8, channels: u8, ended: Ended) -> Commit
 pub(crate) fn take_frames<P: MixPort, G: Gate>(
     port: &mut P,
     gate: &mut G,
-    plain: &Plain,
+    stream: &PlaybackStream,
     ring: &[i16],
     count: u64,
 ) -> Commit
-    requires member { (P.view port.old).member ≡ plain.now.identity.member }
-    requires bound { IsOnCard plain.now.setup.bindings (P.view port.old).geometry }
-    requires buffer { 1 ≤ plain.now.setup.config.buffer_size }
-    requires room { length ring.now ≡ plain.now.setup.config.buffer_size * length
-        plain.now.setup.bindings }
-    requires few { count ≤ plain.now.stretch.committed }
-    requires fits { plain.now.stretch.card + plain.now.stretch.committed < 2 ^ 64 }
+    requires member { (P.view port.old).member ≡ stream.now.identity.member }
+    requires bound { IsOnCard stream.now.setup.bindings (P.view port.old).geometry }
+    requires buffer { 1 ≤ stream.now.setup.config.buffer_size }
+    requires room { length ring.now ≡ stream.now.setup.config.buffer_size * length
+        stream.now.setup.bindings }
+    requires few { count ≤ stream.now.stretch.committed }
+    requires fits { stream.now.stretch.card + stream.now.stretch.committed < 2 ^ 64 }
     requires from_floor { 0 < count →
         IsFrom (P.view port.old).marks.floor
-        (plain.now.stretch.card + (plain.now.stretch.committed - count))
-        (least_channel plain.now.setup.bindings) }
+        (stream.now.stretch.card + (stream.now.stretch.committed - count))
+        (least_channel stream.now.setup.bindings) }
     requires held { P.ends_in port.old
-        (run_entries plain.now.identity.member plain.now.setup.bindings (ring_sample plain.now ring.now)
-        plain.now.stretch.card (plain.now.stretch.committed - count) count 0) }
+        (run_entries stream.now.identity.member stream.now.setup.bindings (ring_sample stream.now ring.now)
+        stream.now.stretch.card (stream.now.stretch.committed - count) count 0) }
     ensures { TakesAt P.MixPort G.Gate (port.old, gate.old)
-        (take_frames plain.now.identity.member plain.now.stretch.card plain.now.setup.bindings
-        (ring_sample plain.now ring.now) (plain.now.stretch.committed - count) count) (port.new, gate.new)
+        (take_frames stream.now.identity.member stream.now.stretch.card stream.now.setup.bindings
+        (ring_sample stream.now ring.now) (stream.now.stretch.committed - count) count) (port.new, gate.new)
         result }
 {
-    let channels = plain.setup.bindings.len();
-    let first = plain.stretch.committed - count;
+    let channels = stream.setup.bindings.len();
+    let first = stream.stretch.committed - count;
     for frame in (0..count).rev() {
-        let left = take_frame(port, gate, plain, ring, first + frame);
+        let left = take_frame(port, gate, stream, ring, first + frame);
         match left.ended {
             Ended::Whole => {}
             ended => return left_of(frame, left.channels, channels, ended),

@@ -16,7 +16,7 @@ ghost use Rattle.dmix_client.specs.Writes.{IsOffer, count_with, frames_in, ring_
 use crate::client::Client;
 use crate::commit::{Commit, lay_frames};
 use crate::control::begin;
-use crate::plain::Plain;
+use crate::stream::PlaybackStream;
 use crate::ring::store;
 use crate::status::sync_call;
 use crate::steps::{accepted_if, written_after};
@@ -28,68 +28,68 @@ use snd_base::PcmError;
 /// Commits, of a client that moves frames, what it has with `taken` frames behind what is written, at the position that it
 /// has seen.
 fn commit_taken<P: MixPort, G: Gate>(
-    plain: &Plain,
+    stream: &PlaybackStream,
     ring: &[i16],
     port: &mut P,
     gate: &mut G,
     taken: u64,
 ) -> Commit
-    requires sound { IsSound plain.now ring.now }
-    requires moving { is_moving plain.now.status.state ≡ true }
-    requires unstopped { plain.now.status.stopped ≡ false }
+    requires sound { IsSound stream.now ring.now }
+    requires moving { is_moving stream.now.status.state ≡ true }
+    requires unstopped { stream.now.status.stopped ≡ false }
     requires few { taken ≤ 16384 }
-    requires port { CanUse plain.now (P.view port.old) }
+    requires port { CanUse stream.now (P.view port.old) }
     ensures takes { TakesAt P.MixPort G.Gate (port.old, gate.old)
-        (commits plain.now ring.now (count_with plain.now taken)) (port.new, gate.new) result }
-    ensures commit { IsCommit result.ended result.frames result.part (count_with plain.now taken)
-        (length plain.now.setup.bindings) }
+        (commits stream.now ring.now (count_with stream.now taken)) (port.new, gate.new) result }
+    ensures commit { IsCommit result.ended result.frames result.part (count_with stream.now taken)
+        (length stream.now.setup.bindings) }
 {
-    let count = plain.count_with(taken);
-    lay_frames(port, gate, plain, ring, count)
+    let count = stream.count_with(taken);
+    lay_frames(port, gate, stream, ring, count)
 }
 
 /// A write of `frames` frames into a stream that runs, after its sync.
 fn write_taken<P: MixPort, G: Gate>(
-    plain: &mut Plain,
+    stream: &mut PlaybackStream,
     ring: &mut [i16],
     port: &mut P,
     gate: &mut G,
     samples: &[i16],
     frames: u64,
 ) -> Result<u64, PcmError>
-    requires sound { IsSound plain.old ring.old }
-    requires moving { is_moving plain.old.status.state ≡ true }
-    requires unstopped { plain.old.status.stopped ≡ false }
-    requires held { frames * length plain.old.setup.bindings ≤ length samples.now }
+    requires sound { IsSound stream.old ring.old }
+    requires moving { is_moving stream.old.status.state ≡ true }
+    requires unstopped { stream.old.status.stopped ≡ false }
+    requires held { frames * length stream.old.setup.bindings ≤ length samples.now }
     requires few { frames ≤ 4194304 }
-    requires fed { plain.old.fed < 2 ^ 63 }
-    requires port { CanUse plain.old (P.view port.old) }
+    requires fed { stream.old.fed < 2 ^ 63 }
+    requires port { CanUse stream.old (P.view port.old) }
     ensures takes { TakesAt P.MixPort G.Gate (port.old, gate.old)
-        (takes_more plain.old ring.old samples.now frames) (port.new, gate.new)
-        (plain.new, result) }
-    ensures ring { ring.new ≡ ring_with plain.old ring.old samples.now (taken_of plain.old frames) }
+        (takes_more stream.old ring.old samples.now frames) (port.new, gate.new)
+        (stream.new, result) }
+    ensures ring { ring.new ≡ ring_with stream.old ring.old samples.now (taken_of stream.old frames) }
 {
-    let taken = plain.taken(frames);
-    store_taken(plain, ring, samples, taken);
-    let last = commit_taken(plain, ring, port, gate, taken);
-    let (after, answer) = written_after(*plain, frames, last);
-    *plain = after;
+    let taken = stream.taken(frames);
+    store_taken(stream, ring, samples, taken);
+    let last = commit_taken(stream, ring, port, gate, taken);
+    let (after, answer) = written_after(*stream, frames, last);
+    *stream = after;
     answer
 }
 
 /// Stores the first `taken` frames of some samples behind what is written.
-fn store_taken(plain: &Plain, ring: &mut [i16], samples: &[i16], taken: u64)
-    requires sound { IsSound plain.now ring.old }
-    requires configured { plain.now.setup.configured ≡ true }
-    requires held { taken * length plain.now.setup.bindings ≤ length samples.now }
-    ensures ring { ring.new ≡ ring_with plain.now ring.old samples.now taken }
-    ensures sound { IsSound plain.now ring.new }
+fn store_taken(stream: &PlaybackStream, ring: &mut [i16], samples: &[i16], taken: u64)
+    requires sound { IsSound stream.now ring.old }
+    requires configured { stream.now.setup.configured ≡ true }
+    requires held { taken * length stream.now.setup.bindings ≤ length samples.now }
+    ensures ring { ring.new ≡ ring_with stream.now ring.old samples.now taken }
+    ensures sound { IsSound stream.now ring.new }
 {
     store(
         ring,
-        plain.setup.config.buffer_size,
-        plain.setup.bindings.len(),
-        plain.fed,
+        stream.setup.config.buffer_size,
+        stream.setup.bindings.len(),
+        stream.fed,
         samples,
         taken,
     );
@@ -97,105 +97,105 @@ fn store_taken(plain: &Plain, ring: &mut [i16], samples: &[i16], taken: u64)
 
 /// A write of `frames` frames into a stream that runs.
 fn write_running<P: MixPort, G: Gate>(
-    plain: &mut Plain,
+    stream: &mut PlaybackStream,
     ring: &mut [i16],
     port: &mut P,
     gate: &mut G,
     samples: &[i16],
     frames: u64,
 ) -> Result<u64, PcmError>
-    requires sound { IsSound plain.old ring.old }
-    requires running { plain.old.status.state ≡ State.Running }
-    requires unstopped { plain.old.status.stopped ≡ false }
-    requires held { frames * length plain.old.setup.bindings ≤ length samples.now }
+    requires sound { IsSound stream.old ring.old }
+    requires running { stream.old.status.state ≡ State.Running }
+    requires unstopped { stream.old.status.stopped ≡ false }
+    requires held { frames * length stream.old.setup.bindings ≤ length samples.now }
     requires few { frames ≤ 4194304 }
-    requires fed { plain.old.fed < 2 ^ 63 }
-    requires port { CanUse plain.old (P.view port.old) }
+    requires fed { stream.old.fed < 2 ^ 63 }
+    requires port { CanUse stream.old (P.view port.old) }
     ensures takes { TakesAt P.MixPort G.Gate (port.old, gate.old)
-        (writes_on plain.old ring.old samples.now frames) (port.new, gate.new) (plain.new, result) }
-    ensures sound { IsSound plain.new ring.new }
+        (writes_on stream.old ring.old samples.now frames) (port.new, gate.new) (stream.new, result) }
+    ensures sound { IsSound stream.new ring.new }
     ensures count { IfOk result (λ n. n ≤ 16384) }
     ensures keeps { Keeps P.MixPort G.Gate (port.old, gate.old) (port.new, gate.new)
-        (record { plain = plain.old; ring = ring.old })
-        (record { plain = plain.new; ring = ring.new }) result
-        (λ all. Follows plain.old all samples.now frames) }
+        (record { stream = stream.old; ring = ring.old })
+        (record { stream = stream.new; ring = ring.new }) result
+        (λ all. Follows stream.old all samples.now frames) }
     ensures explains { ExplainsWrite P.MixPort G.Gate (port.old, gate.old) (port.new, gate.new)
-        plain.old ring.old ring.new samples.now frames (plain.new, result) }
+        stream.old ring.old ring.new samples.now frames (stream.new, result) }
 {
-    let synced = sync_call(plain, ring, port, gate, Call::Transfer);
+    let synced = sync_call(stream, ring, port, gate, Call::Transfer);
     if let Err(error) = synced {
         return Err(error);
     }
-    write_taken(plain, ring, port, gate, samples, frames)
+    write_taken(stream, ring, port, gate, samples, frames)
 }
 
 /// The start of a prepared client in whose ring a write stored `taken` frames.
 fn start_write<P: MixPort, G: Gate>(
-    plain: &mut Plain,
+    stream: &mut PlaybackStream,
     ring: &[i16],
     port: &mut P,
     gate: &mut G,
     taken: u64,
 ) -> Result<u64, PcmError>
-    requires sound { IsSound plain.old ring.now }
-    requires prepared { plain.old.status.state ≡ State.Prepared }
-    requires fits { plain.old.stretch.written + taken ≤ plain.old.setup.config.buffer_size }
-    requires fed { plain.old.fed < 2 ^ 63 }
-    requires port { CanUse plain.old (P.view port.old) }
+    requires sound { IsSound stream.old ring.now }
+    requires prepared { stream.old.status.state ≡ State.Prepared }
+    requires fits { stream.old.stretch.written + taken ≤ stream.old.setup.config.buffer_size }
+    requires fed { stream.old.fed < 2 ^ 63 }
+    requires port { CanUse stream.old (P.view port.old) }
     ensures takes { TakesAt P.MixPort G.Gate (port.old, gate.old)
-        (starts_taking plain.old ring.now (P.view port.old).marks.cursor taken) (port.new, gate.new)
-        (plain.new, result) }
-    ensures near { (P.view port.old).marks.cursor.frame ≤ end_frame plain.old.identity.geometry }
+        (starts_taking stream.old ring.now (P.view port.old).marks.cursor taken) (port.new, gate.new)
+        (stream.new, result) }
+    ensures near { (P.view port.old).marks.cursor.frame ≤ end_frame stream.old.identity.geometry }
 {
-    let upto = plain.stretch.written + taken;
-    let begun = begin(plain, ring, port, gate, State::Running, upto);
+    let upto = stream.stretch.written + taken;
+    let begun = begin(stream, ring, port, gate, State::Running, upto);
     let (after, answer) = accepted_if(taken, begun);
-    *plain = after;
+    *stream = after;
     answer
 }
 
 /// A write of `frames` frames into a prepared stream.
 fn write_prepared<P: MixPort, G: Gate>(
-    plain: &mut Plain,
+    stream: &mut PlaybackStream,
     ring: &mut [i16],
     port: &mut P,
     gate: &mut G,
     samples: &[i16],
     frames: u64,
 ) -> Result<u64, PcmError>
-    requires sound { IsSound plain.old ring.old }
-    requires prepared { plain.old.status.state ≡ State.Prepared }
-    requires held { frames * length plain.old.setup.bindings ≤ length samples.now }
+    requires sound { IsSound stream.old ring.old }
+    requires prepared { stream.old.status.state ≡ State.Prepared }
+    requires held { frames * length stream.old.setup.bindings ≤ length samples.now }
     requires few { frames ≤ 4194304 }
-    requires fed { plain.old.fed < 2 ^ 63 }
-    requires port { CanUse plain.old (P.view port.old) }
+    requires fed { stream.old.fed < 2 ^ 63 }
+    requires port { CanUse stream.old (P.view port.old) }
     ensures takes { TakesAt P.MixPort G.Gate (port.old, gate.old)
-        (fills plain.old ring.old samples.now (P.view port.old).marks.cursor frames)
-        (port.new, gate.new) (plain.new, result) }
-    ensures ring { ring.new ≡ ring_with plain.old ring.old samples.now (taken_of plain.old frames) }
-    ensures sound { IsSound plain.new ring.new }
+        (fills stream.old ring.old samples.now (P.view port.old).marks.cursor frames)
+        (port.new, gate.new) (stream.new, result) }
+    ensures ring { ring.new ≡ ring_with stream.old ring.old samples.now (taken_of stream.old frames) }
+    ensures sound { IsSound stream.new ring.new }
     ensures count { IfOk result (λ n. n ≤ 16384) }
     ensures keeps { Keeps P.MixPort G.Gate (port.old, gate.old) (port.new, gate.new)
-        (record { plain = plain.old; ring = ring.old })
-        (record { plain = plain.new; ring = ring.new }) result
-        (λ all. Follows plain.old all samples.now frames) }
-    ensures explains { starts_with plain.old frames ≡ true →
+        (record { stream = stream.old; ring = ring.old })
+        (record { stream = stream.new; ring = ring.new }) result
+        (λ all. Follows stream.old all samples.now frames) }
+    ensures explains { starts_with stream.old frames ≡ true →
         Explains P.MixPort G.Gate (port.old, gate.old) (port.new, gate.new)
-        (record { plain = plain.old; ring = ring.new })
-        (λ position. started_in plain.old State.Running position (P.view port.old).marks.cursor)
-        (λ position. start_count plain.old (P.view port.old).marks.cursor position
-        (plain.old.stretch.written + taken_of plain.old frames))
-        (λ load commit. accepted_if (taken_of plain.old frames)
-        (after_start plain.old State.Running (P.view port.old).marks.cursor load commit))
-        (plain.new, result) }
+        (record { stream = stream.old; ring = ring.new })
+        (λ position. started_in stream.old State.Running position (P.view port.old).marks.cursor)
+        (λ position. start_count stream.old (P.view port.old).marks.cursor position
+        (stream.old.stretch.written + taken_of stream.old frames))
+        (λ load commit. accepted_if (taken_of stream.old frames)
+        (after_start stream.old State.Running (P.view port.old).marks.cursor load commit))
+        (stream.new, result) }
 {
-    let taken = plain.taken(frames);
-    store_taken(plain, ring, samples, taken);
-    if plain.setup.params.start_threshold > plain.stretch.written + taken {
-        *plain = plain.accepted(taken);
+    let taken = stream.taken(frames);
+    store_taken(stream, ring, samples, taken);
+    if stream.setup.params.start_threshold > stream.stretch.written + taken {
+        *stream = stream.accepted(taken);
         return Ok(taken);
     }
-    start_write(plain, ring, port, gate, taken)
+    start_write(stream, ring, port, gate, taken)
 }
 
 /// A number of frames of at most a buffer.
@@ -210,11 +210,11 @@ fn few_frames(answer: Result<u64, PcmError>) -> Result<u32, PcmError>
 }
 
 /// How many whole frames of a client there are in some samples.
-fn whole_frames(plain: &Plain, samples: &[i16]) -> u64
-    ensures value { result ≡ frames_in plain.now samples.now }
-    ensures held { result * length plain.now.setup.bindings ≤ length samples.now }
+fn whole_frames(stream: &PlaybackStream, samples: &[i16]) -> u64
+    ensures value { result ≡ frames_in stream.now samples.now }
+    ensures held { result * length stream.now.setup.bindings ≤ length samples.now }
 {
-    let channels = plain.setup.bindings.len() as usize;
+    let channels = stream.setup.bindings.len() as usize;
     (samples.len() / channels) as u64
 }
 
@@ -238,54 +238,54 @@ impl Client {
         gate: &mut G,
         samples: &[i16],
     ) -> Result<u32, PcmError>
-        requires offer { self.old.plain.setup.configured ≡ true →
-            IsOffer self.old.plain samples.now }
-        requires port { CanUse self.old.plain (P.view port.old) }
+        requires offer { self.old.stream.setup.configured ≡ true →
+            IsOffer self.old.stream samples.now }
+        requires port { CanUse self.old.stream (P.view port.old) }
         ensures takes { TakesAt P.MixPort G.Gate (port.old, gate.old)
-            (admitted self.old.plain call.Transfer
-            (write_course self.old.plain self.old.ring samples.now (P.view port.old).marks.cursor))
-            (port.new, gate.new) (self.new.plain, result) }
+            (admitted self.old.stream call.Transfer
+            (write_course self.old.stream self.old.ring samples.now (P.view port.old).marks.cursor))
+            (port.new, gate.new) (self.new.stream, result) }
         ensures refused { (e : PcmError) →
-            refusal_of Direction.Playback self.old.plain.status call.Transfer ≡ Some e →
+            refusal_of Direction.Playback self.old.stream.status call.Transfer ≡ Some e →
             (result ≡ Err e) × (self.new ≡ self.old) × (port.new ≡ port.old)
             × (gate.new ≡ gate.old) }
         ensures keeps { Keeps P.MixPort G.Gate (port.old, gate.old) (port.new, gate.new) self.old
-            self.new result (λ all. Follows self.old.plain all samples.now
-            (frames_in self.old.plain samples.now)) }
-        ensures stores { refusal_of Direction.Playback self.old.plain.status call.Transfer ≡ None →
-            self.old.plain.status.state ≡ State.Prepared →
-            self.new.ring ≡ ring_with self.old.plain self.old.ring samples.now
-            (taken_of self.old.plain (frames_in self.old.plain samples.now)) }
-        ensures starts { refusal_of Direction.Playback self.old.plain.status call.Transfer ≡ None →
-            self.old.plain.status.state ≡ State.Prepared →
-            starts_with self.old.plain (frames_in self.old.plain samples.now) ≡ true →
+            self.new result (λ all. Follows self.old.stream all samples.now
+            (frames_in self.old.stream samples.now)) }
+        ensures stores { refusal_of Direction.Playback self.old.stream.status call.Transfer ≡ None →
+            self.old.stream.status.state ≡ State.Prepared →
+            self.new.ring ≡ ring_with self.old.stream self.old.ring samples.now
+            (taken_of self.old.stream (frames_in self.old.stream samples.now)) }
+        ensures starts { refusal_of Direction.Playback self.old.stream.status call.Transfer ≡ None →
+            self.old.stream.status.state ≡ State.Prepared →
+            starts_with self.old.stream (frames_in self.old.stream samples.now) ≡ true →
             Explains P.MixPort G.Gate (port.old, gate.old) (port.new, gate.new)
-            (record { plain = self.old.plain; ring = self.new.ring })
-            (λ position. started_in self.old.plain State.Running position
+            (record { stream = self.old.stream; ring = self.new.ring })
+            (λ position. started_in self.old.stream State.Running position
             (P.view port.old).marks.cursor)
-            (λ position. start_count self.old.plain (P.view port.old).marks.cursor position
-            (self.old.plain.stretch.written + taken_of self.old.plain
-            (frames_in self.old.plain samples.now)))
+            (λ position. start_count self.old.stream (P.view port.old).marks.cursor position
+            (self.old.stream.stretch.written + taken_of self.old.stream
+            (frames_in self.old.stream samples.now)))
             (λ load commit. accepted_if
-            (taken_of self.old.plain (frames_in self.old.plain samples.now))
-            (after_start self.old.plain State.Running (P.view port.old).marks.cursor load commit))
-            (self.new.plain, result) }
-        ensures again { refusal_of Direction.Playback self.old.plain.status call.Transfer ≡ None →
-            self.old.plain.status.state ≡ State.Running →
-            ExplainsWrite P.MixPort G.Gate (port.old, gate.old) (port.new, gate.new) self.old.plain
-            self.old.ring self.new.ring samples.now (frames_in self.old.plain samples.now)
-            (self.new.plain, result) }
+            (taken_of self.old.stream (frames_in self.old.stream samples.now))
+            (after_start self.old.stream State.Running (P.view port.old).marks.cursor load commit))
+            (self.new.stream, result) }
+        ensures again { refusal_of Direction.Playback self.old.stream.status call.Transfer ≡ None →
+            self.old.stream.status.state ≡ State.Running →
+            ExplainsWrite P.MixPort G.Gate (port.old, gate.old) (port.new, gate.new) self.old.stream
+            self.old.ring self.new.ring samples.now (frames_in self.old.stream samples.now)
+            (self.new.stream, result) }
     {
-        self.plain
+        self.stream
             .status
             .admit(Direction::Playback, Call::Transfer)?;
-        let frames = whole_frames(&self.plain, samples);
+        let frames = whole_frames(&self.stream, samples);
         let ring = self.ring.as_mut_slice();
-        if self.plain.status.state == State::Running {
-            let answer = write_running(&mut self.plain, ring, port, gate, samples, frames);
+        if self.stream.status.state == State::Running {
+            let answer = write_running(&mut self.stream, ring, port, gate, samples, frames);
             return few_frames(answer);
         }
-        let answer = write_prepared(&mut self.plain, ring, port, gate, samples, frames);
+        let answer = write_prepared(&mut self.stream, ring, port, gate, samples, frames);
         few_frames(answer)
     }
 }

@@ -445,9 +445,9 @@ struct TakenBack {
 /// At a port without standing adds these end in the segment of a client that wrote nothing. A fact for contracts.
 fn backs_nothing<P: MixPort, G: Gate>(_port: &P, _gate: &G, _client: &Client, _samples: &[i16])
     requires nothing { P.ends_in _port.now [] }
-    requires written { _client.now.plain.stretch.written ≡ 0 }
-    requires committed { _client.now.plain.stretch.committed ≡ 0 }
-    requires part { _client.now.plain.stretch.part ≡ 0 }
+    requires written { _client.now.stream.stretch.written ≡ 0 }
+    requires committed { _client.now.stream.stretch.committed ≡ 0 }
+    requires part { _client.now.stream.stretch.part ≡ 0 }
     ensures { IsBacked P.ends_in _port.now _client.now _samples.now }
 {}
 

@@ -22,7 +22,7 @@ use Rattle.snoop_core.specs.declared.port.Got.TheVariants.{Whole, Overtaken, Sto
 use Rattle.snoop_core.specs.declared.port.SnoopPort as snoopport
 use Rattle.snoop_core.specs.Port.{IsPast, SnoopView, pass_of_got}
 use Rattle.course.specs.Stops.{pass_by}
-use Rattle.dsnoop_client.specs.declared.plain.Plain.{Plain}
+use Rattle.dsnoop_client.specs.declared.stream.CaptureStream.{CaptureStream}
 use Rattle.dsnoop_client.specs.Calls.{in_state, read_after, read_to, taken_of}
 use Rattle.dsnoop_client.specs.Causes.{FindsNone, IsMissed}
 use Rattle.dsnoop_client.specs.Port.{Asks, IsLookNumber}
@@ -33,11 +33,11 @@ use Rattle.dsnoop_client.proofs.Told.{Told, Went, told-some, told-went}
 
 -- ---- what it gives
 
-module _ {S : Type 0} (P : snoopport.Ghosts S) (p q : S) (c : Plain) (before after : List ℤ) (same : (P.view p).geometry ≡ c.geometry) where
+module _ {S : Type 0} (P : snoopport.Ghosts S) (p q : S) (c : CaptureStream) (before after : List ℤ) (same : (P.view p).geometry ≡ c.geometry) where
   are-frames : (done : ℕ) (ended : Got) (fills : Fills P p q c.setup.bindings c.next done ended before after) → AreFrames fills.frames c.next c.geometry.channels
   are-frames done ended fills = subst (λ (g : Geometry). AreFrames fills.frames c.next g.channels) same fills.are
 
-  reads-error : (done : ℕ) (ended : Got) (d : Plain) (e : PcmError) → d.next ≡ c.next → Fills P p q c.setup.bindings c.next done ended before after → Reads P p q c d before after (Err e)
+  reads-error : (done : ℕ) (ended : Got) (d : CaptureStream) (e : PcmError) → d.next ≡ c.next → Fills P p q c.setup.bindings c.next done ended before after → Reads P p q c d before after (Err e)
   reads-error done ended d e stays fills = record {
     first = c.next;
     begins = λ runs. refl;
@@ -72,7 +72,7 @@ module _ {S : Type 0} (P : snoopport.Ghosts S) (p q : S) (c : Plain) (before aft
 -- ---- why it answers so
 
 -- what a read came to that loaded the position
-pub record ReadTold {S T : Type 0} (P : snoopport.Ghosts S) (G : gates.Ghosts T) (s t : S × T) (c d : Plain) (n : ℕ) (answer : Result ℕ PcmError) : Type 0 where
+pub record ReadTold {S T : Type 0} (P : snoopport.Ghosts S) (G : gates.Ghosts T) (s t : S × T) (c d : CaptureStream) (n : ℕ) (answer : Result ℕ PcmError) : Type 0 where
   pub told : Told P G s t c d answer
   pub again : (answer ≡ Err Again) ↔ ((0 < n) × FindsNone c told.why.load)
   pub asks : Asks G s.1 t.1 d n answer
@@ -81,7 +81,7 @@ runs-or : (s : State) → (s ≡ state.Running) ⊎ (s ≡ state.Running → ⊥
 runs-or state.Running = inl refl
 runs-or other = inr (λ h. cc)
 
-module _ {S T : Type 0} (P : snoopport.Ghosts S) (G : gates.Ghosts T) (composes : Composes P.loaded) (asks : AsksCompose G.asked) (s m t : S × T) (c u : Plain) (position : Position)
+module _ {S T : Type 0} (P : snoopport.Ghosts S) (G : gates.Ghosts T) (composes : Composes P.loaded) (asks : AsksCompose G.asked) (s m t : S × T) (c u : CaptureStream) (position : Position)
     (went : Went P G s m c u position Go) (asked : G.asked s.1 m.1 (kind.Position ∷ []) Go) where
   went-frames : (count first done : ℕ) (ended : Got) → CameTo P G m t count first done ended → Went P G s t c u position (pass_of_got ended)
   went-frames count first done ended came = record {
@@ -115,7 +115,7 @@ module _ {S T : Type 0} (P : snoopport.Ghosts S) (G : gates.Ghosts T) (composes 
     | inr stands ↦ let next : u.next ≡ position.frame = went.begins stands in omega (arith, saw-at, next)
   ]
 
-  asks-frames : (d : Plain) (n looks : ℕ) (pass : Pass) (answer : Result ℕ PcmError) → IsLookNumber answer d.next d.geometry.channels n looks → pass_by answer ≡ pass
+  asks-frames : (d : CaptureStream) (n looks : ℕ) (pass : Pass) (answer : Result ℕ PcmError) → IsLookNumber answer d.next d.geometry.channels n looks → pass_by answer ≡ pass
       → G.asked m.1 t.1 (replicate looks kind.Look) pass → Asks G s.1 t.1 d n answer
   asks-frames d n looks pass answer number is_pass later = record {
     looks = looks;

@@ -24,7 +24,7 @@ use Rattle.snoop_core.specs.declared.port.SnoopPort as snoopport
 use Rattle.snoop_core.specs.Port.{SnoopView}
 use Rattle.course.specs.AtSnoopPort.{LoadsAtSnoop}
 use Rattle.course.specs.Stops.{pass_by}
-use Rattle.dsnoop_client.specs.declared.plain.Plain.{Plain}
+use Rattle.dsnoop_client.specs.declared.stream.CaptureStream.{CaptureStream}
 use Rattle.dsnoop_client.specs.Calls.{Answered, found, in_state, over_of, seen_at, with_outcome, after_start, after_sync, with_avail}
 use Rattle.dsnoop_client.specs.Causes.{Explains, FindsNone, IsMissed, IsOfSteps, Reaches}
 use Rattle.dsnoop_client.specs.Port.{Keeps}
@@ -54,7 +54,7 @@ syncs-outcome s call.Transfer false None is sync = rw is refl
 syncs-outcome s call.Transfer false (Some (avail, seen)) is sync = rw is refl
 syncs-outcome s other gone over is sync = absurd sync
 
-abbrev at_start : Plain → Position → Plain
+abbrev at_start : CaptureStream → Position → CaptureStream
 at_start c position = record c { seen = Some position.frame; next = position.frame }
 
 -- an error that no frame caused
@@ -64,12 +64,12 @@ NeverOvertaken other = ⊤
 
 -- ---- what is kept, and why
 
-pub record Told {S T X : Type 0} (P : snoopport.Ghosts S) (G : gates.Ghosts T) (s t : S × T) (c d : Plain) (answer : Result X PcmError) : Type 0 where
+pub record Told {S T X : Type 0} (P : snoopport.Ghosts S) (G : gates.Ghosts T) (s t : S × T) (c d : CaptureStream) (answer : Result X PcmError) : Type 0 where
   pub keeps : Keeps P G s t c d answer
   pub why : Explains P s.0 t.0 c d answer
 
 -- a reader goes on from a position that it loaded: the card is there, and its stop threshold isn't reached
-pub record Went {S T : Type 0} (P : snoopport.Ghosts S) (G : gates.Ghosts T) (s t : S × T) (c u : Plain) (position : Position) (pass : Pass) : Type 0 where
+pub record Went {S T : Type 0} (P : snoopport.Ghosts S) (G : gates.Ghosts T) (s t : S × T) (c u : CaptureStream) (position : Position) (pass : Pass) : Type 0 where
   pub here : position.gone ≡ false
   pub below : (avail frame : ℕ) → Reaches c (Some position) avail frame → ⊥
   pub can_use : CanUse c (P.view s.0)
@@ -86,7 +86,7 @@ pub record Went {S T : Type 0} (P : snoopport.Ghosts S) (G : gates.Ghosts T) (s 
   pub begins : (c.status.state ≡ state.Running → ⊥) → u.next ≡ position.frame
 
 -- a reader is sound in another state, with another position seen and another next frame
-pub sound-at : (c : Plain) (f n : ℕ) (st : State) → IsSound c → f ≤ end_frame c.geometry → is_of_capture st ≡ true → (is_set_up st ≡ true → c.setup.configured ≡ true)
+pub sound-at : (c : CaptureStream) (f n : ℕ) (st : State) → IsSound c → f ≤ end_frame c.geometry → is_of_capture st ≡ true → (is_set_up st ≡ true → c.setup.configured ≡ true)
     → (st ≡ state.Running → (first_frame c.geometry ≤ n) × (n ≤ f)) → IsSound (in_state (record c { seen = Some f; next = n }) st)
 sound-at c f n st sound most captures set_up reading = record {
   captures = captures;
@@ -96,7 +96,7 @@ sound-at c f n st sound most captures set_up reading = record {
   reading = λ is. record { least = (reading is).0; most = (reading is).1 };
 }
 
-pub use-newer : (c d : Plain) (v w : SnoopView) (f : ℕ) → CanUse c v → w ≡ record v { seen = f } → d.geometry ≡ c.geometry → d.seen ≡ Some f → CanUse d w
+pub use-newer : (c d : CaptureStream) (v w : SnoopView) (f : ℕ) → CanUse c v → w ≡ record v { seen = f } → d.geometry ≡ c.geometry → d.seen ≡ Some f → CanUse d w
 use-newer c d v w f can is same saw =
     subst (λ (x : SnoopView). CanUse d x) (sym is) (record {
       same_geometry = can.same_geometry ∙ sym same;
@@ -115,7 +115,7 @@ at-least threshold a reached least none = grind (arith, nat_tests)
 
 module _ {S T : Type 0} (P : snoopport.Ghosts S) (G : gates.Ghosts T) where
   -- a call that loaded a position
-  unfoldable pub told-some : {X : Type 0} (s t : S × T) (c d : Plain) (position : Position) (answer : Result X PcmError) → CanUse c (P.view s.0)
+  unfoldable pub told-some : {X : Type 0} (s t : S × T) (c d : CaptureStream) (position : Position) (answer : Result X PcmError) → CanUse c (P.view s.0)
       → P.view t.0 ≡ record (P.view s.0) { seen = position.frame } → P.loaded s.0 t.0 (position ∷ []) → G.stops t.1 ≡ stops_after (pass_by answer) (G.stops s.1)
       → d.geometry ≡ c.geometry → d.setup ≡ c.setup → d.seen ≡ Some position.frame → IsSound d
       → ((answer ≡ Err Stopped) ↔ (d.status.stopped ≡ true)) → IfErr answer IsOfSteps → ((answer ≡ Err NoDevice) ↔ (position.gone ≡ true))
@@ -144,7 +144,7 @@ module _ {S T : Type 0} (P : snoopport.Ghosts S) (G : gates.Ghosts T) where
   }
 
   -- the gate stopped the load
-  pub told-none : {X : Type 0} (s t : S × T) (c : Plain) → IsSound c → CanUse c (P.view s.0) → LoadsAtSnoop P G s None t
+  pub told-none : {X : Type 0} (s t : S × T) (c : CaptureStream) → IsSound c → CanUse c (P.view s.0) → LoadsAtSnoop P G s None t
       → Told {X = X} P G s t c (record c { status = record c.status { stopped = true } }) (Err Stopped)
   told-none s t c sound can step = record {
     keeps = record {
@@ -168,7 +168,7 @@ module _ {S T : Type 0} (P : snoopport.Ghosts S) (G : gates.Ghosts T) where
   }
 
   -- the card was gone at the position
-  pub told-gone : {X : Type 0} (s t : S × T) (c : Plain) (position : Position) → IsSound c → c.status.stopped ≡ false → CanUse c (P.view s.0) → LoadsAtSnoop P G s (Some position) t
+  pub told-gone : {X : Type 0} (s t : S × T) (c : CaptureStream) (position : Position) → IsSound c → c.status.stopped ≡ false → CanUse c (P.view s.0) → LoadsAtSnoop P G s (Some position) t
       → position.gone ≡ true → Told {X = X} P G s t c (in_state (seen_at c position) state.Disconnected) (Err NoDevice)
   told-gone s t c position sound unstopped can step gone =
       told-some s t c (in_state (seen_at c position) state.Disconnected) position (Err NoDevice) can step.view_is step.loaded_it step.stopped refl refl refl
@@ -177,7 +177,7 @@ module _ {S T : Type 0} (P : snoopport.Ghosts S) (G : gates.Ghosts T) where
       (λ avail frame. (λ h. cc, λ h. let here = h.0 in cc)) (λ frame channel word h. cc)
 
   -- the stop threshold was reached at the position
-  pub told-over : {X : Type 0} (s t : S × T) (c : Plain) (position : Position) → IsSound c → c.status.stopped ≡ false → c.status.state ≡ state.Running → CanUse c (P.view s.0)
+  pub told-over : {X : Type 0} (s t : S × T) (c : CaptureStream) (position : Position) → IsSound c → c.status.stopped ≡ false → c.status.state ≡ state.Running → CanUse c (P.view s.0)
       → LoadsAtSnoop P G s (Some position) t → position.gone ≡ false → c.setup.params.stop_threshold ≤ position.frame - c.next
       → Told {X = X} P G s t c (in_state (seen_at c position) state.Xrun) (Err (Xrun (Avail (position.frame - c.next) position.frame)))
   told-over s t c position sound unstopped running can step here over =
@@ -193,14 +193,14 @@ module _ {S T : Type 0} (P : snoopport.Ghosts S) (G : gates.Ghosts T) where
       )) (λ frame channel word h. cc)
 
   -- what a load made of a reader: it goes on, or it ended, not for want of a frame
-  pub record After (s t : S × T) (c : Plain) (done : Answered (Unit {0})) : Type 0 where
+  pub record After (s t : S × T) (c : CaptureStream) (done : Answered (Unit {0})) : Type 0 where
     pub told : Told P G s t c done.0 done.1
     pub went : OnOk done.1 ((position : Position) × Went P G s t c done.0 position Go)
     pub ended : IfErr done.1 (λ e. (FindsNone c told.why.load → ⊥) × (e ≡ Again → ⊥) × NeverOvertaken e)
     pub asked : G.asked s.1 t.1 (kind.Position ∷ []) (pass_by done.1)
 
   -- a call that went well from a position
-  unfoldable pub told-went : {X : Type 0} (s t : S × T) (c u d : Plain) (position : Position) (pass : Pass) (answer : Result X PcmError) → Went P G s t c u position pass → pass_by answer ≡ pass
+  unfoldable pub told-went : {X : Type 0} (s t : S × T) (c u d : CaptureStream) (position : Position) (pass : Pass) (answer : Result X PcmError) → Went P G s t c u position pass → pass_by answer ≡ pass
       → d.geometry ≡ u.geometry → d.setup ≡ u.setup → d.seen ≡ u.seen → IsSound d → ((answer ≡ Err Stopped) ↔ (d.status.stopped ≡ true)) → IfErr answer IsOfSteps
       → (answer ≡ Err NoDevice → ⊥) → ((avail frame : ℕ) → answer ≡ Err (Xrun (Avail avail frame)) → ⊥)
       → ((frame channel word : ℕ) → answer ≡ Err (Xrun (Overtaken frame channel word)) → IsMissed P t.0 d frame channel word)
@@ -211,7 +211,7 @@ module _ {S T : Type 0} (P : snoopport.Ghosts S) (G : gates.Ghosts T) where
       (λ avail frame. (λ h. absurd (never_over avail frame h), λ h. absurd (went.below avail frame h))) overtaken
 
   -- a reader that is to go on
-  went-on : (s t : S × T) (c u : Plain) (position : Position) → Went P G s t c u position Go → G.asked s.1 t.1 (kind.Position ∷ []) Go → After s t c (u, Ok tt)
+  went-on : (s t : S × T) (c u : CaptureStream) (position : Position) → Went P G s t c u position Go → G.asked s.1 t.1 (kind.Position ∷ []) Go → After s t c (u, Ok tt)
   went-on s t c u position went asked = record {
     told = told-went s t c u u position Go (Ok tt) went refl refl refl refl went.sound (λ h. cc, λ h. let runs = went.unstopped in cc) tt (λ h. cc) (λ avail frame h. cc) (λ frame channel word h. cc);
     went = (position, went);
@@ -220,7 +220,7 @@ module _ {S T : Type 0} (P : snoopport.Ghosts S) (G : gates.Ghosts T) where
   }
 
   -- a start, by what its load gave
-  pub start-after : (s t : S × T) (c : Plain) (k : Call) (load : Option Position) (done : Answered (Unit {0})) → IsSound c → c.status.state ≡ state.Prepared → c.status.stopped ≡ false → IsStart k
+  pub start-after : (s t : S × T) (c : CaptureStream) (k : Call) (load : Option Position) (done : Answered (Unit {0})) → IsSound c → c.status.state ≡ state.Prepared → c.status.stopped ≡ false → IsStart k
       → CanUse c (P.view s.0) → LoadsAtSnoop P G s load t → done ≡ after_start c k load → After s t c done
   unfolding told-none told-gone told-some
   start-after s t c k None done sound waits unstopped start can step is =
@@ -255,7 +255,7 @@ module _ {S T : Type 0} (P : snoopport.Ghosts S) (G : gates.Ghosts T) where
           }) step.asked_it)
 
   -- a sync, by what its load gave
-  pub sync-after : (s t : S × T) (c : Plain) (k : Call) (load : Option Position) (done : Answered (Unit {0})) → IsSound c → c.status.state ≡ state.Running → c.status.stopped ≡ false → IsSync k
+  pub sync-after : (s t : S × T) (c : CaptureStream) (k : Call) (load : Option Position) (done : Answered (Unit {0})) → IsSound c → c.status.state ≡ state.Running → c.status.stopped ≡ false → IsSync k
       → CanUse c (P.view s.0) → LoadsAtSnoop P G s load t → done ≡ after_sync c k load → After s t c done
   unfolding told-none told-over told-some told-gone
   sync-after s t c k None done sound runs unstopped sync can step is =
@@ -310,7 +310,7 @@ pub if-none : {X : Type 0} (o : Option X) {A B : Type 0} → (A → B) → IfNon
 if-none None follows told = follows told
 if-none (Some x) follows told = tt
 
-unfoldable pub why-error : {S X Y : Type 0} (P : snoopport.Ghosts S) (p q : S) (c d : Plain) (e : PcmError) → Explains {X = X} P p q c d (Err e) → Explains {X = Y} P p q c d (Err e)
+unfoldable pub why-error : {S X Y : Type 0} (P : snoopport.Ghosts S) (p q : S) (c d : CaptureStream) (e : PcmError) → Explains {X = X} P p q c d (Err e) → Explains {X = Y} P p q c d (Err e)
 why-error {X = X} {Y = Y} P p q c d e why = record {
   load = why.load;
   loaded_it = why.loaded_it;
@@ -323,7 +323,7 @@ why-error {X = X} {Y = Y} P p q c d e why = record {
 }
 
 -- a good answer with a number
-why-ok : {S : Type 0} (P : snoopport.Ghosts S) (p q : S) (c d : Plain) (n : ℕ) → Explains {X = Unit {0}} P p q c d (Ok tt) → Explains {X = ℕ} P p q c d (Ok n)
+why-ok : {S : Type 0} (P : snoopport.Ghosts S) (p q : S) (c d : CaptureStream) (n : ℕ) → Explains {X = Unit {0}} P p q c d (Ok tt) → Explains {X = ℕ} P p q c d (Ok n)
 why-ok P p q c d n why = record {
   load = why.load;
   loaded_it = why.loaded_it;
@@ -335,11 +335,11 @@ why-ok P p q c d n why = record {
   overtaken = λ f ch w h. cc;
 }
 
-pub why-avail : {S : Type 0} (P : snoopport.Ghosts S) (p q : S) (c d : Plain) (answer : Result (Unit {0}) PcmError) (x : Result ℕ PcmError) → with_avail (d, answer) ≡ (d, x) → Explains P p q c d answer → Explains P p q c d x
+pub why-avail : {S : Type 0} (P : snoopport.Ghosts S) (p q : S) (c d : CaptureStream) (answer : Result (Unit {0}) PcmError) (x : Result ℕ PcmError) → with_avail (d, answer) ≡ (d, x) → Explains P p q c d answer → Explains P p q c d x
 why-avail P p q c d (Ok done) x is why = subst (λ (a : Answered ℕ). Explains P p q c d a.1) is (why-ok P p q c d (avail_of d) why)
 why-avail P p q c d (Err e) x is why = subst (λ (a : Answered ℕ). Explains P p q c d a.1) is (why-error P p q c d e why)
 
-unfoldable pub told-error : {S T X Y : Type 0} (P : snoopport.Ghosts S) (G : gates.Ghosts T) (s t : S × T) (c d : Plain) (e : PcmError) → Told {X = X} P G s t c d (Err e) → Told {X = Y} P G s t c d (Err e)
+unfoldable pub told-error : {S T X Y : Type 0} (P : snoopport.Ghosts S) (G : gates.Ghosts T) (s t : S × T) (c d : CaptureStream) (e : PcmError) → Told {X = X} P G s t c d (Err e) → Told {X = Y} P G s t c d (Err e)
 told-error {X = X} {Y = Y} P G s t c d e told = record {
   keeps = record {
     sound = told.keeps.sound;

@@ -18,17 +18,17 @@ use Rattle.snoop_core.specs.Port.{SnoopView}
 use Rattle.course.specs.AtSnoopPort.{GetsAtSnoop, LoadsAtSnoop, NoLay, TakesAtSnoop, TakesAtSnoop-same}
 use Rattle.course.specs.Course.{ends}
 use Rattle.course.specs.CourseLaws.{Takes-parts, Takes-then}
-use Rattle.dsnoop_client.specs.declared.plain.Plain.{Plain}
+use Rattle.dsnoop_client.specs.declared.stream.CaptureStream.{CaptureStream}
 use Rattle.dsnoop_client.specs.Calls.{Answered, read_after, read_to, seen_at, taken_of, waits}
 use Rattle.dsnoop_client.specs.Course.{admitted, admitted_by, gets_frames, read_course, reads_first, reads_on, starts, syncs, transfer_on, transfers}
 use Rattle.dsnoop_client.specs.View.{avail_of, is_running}
 
 -- as many frames as a ring has at most, or as start a reader
-abbrev pub most_read : Plain → ℕ
+abbrev pub most_read : CaptureStream → ℕ
 most_read c = max c.setup.params.start_threshold 16384
 
 -- a read of some frames and one of none wait for no other reason
-read_after-more : (c : Plain) (k n done : ℕ) (ended : Got) → 1 ≤ k → k ≤ n → read_after c k done ended ≡ read_after c n done ended
+read_after-more : (c : CaptureStream) (k n done : ℕ) (ended : Got) → 1 ≤ k → k ≤ n → read_after c k done ended ≡ read_after c n done ended
 read_after-more c k n done ended some more =
     let one : nat_lt 0 k ≡ true = grind (arith, nat_tests) in
     let other : nat_lt 0 n ≡ true = grind (arith, nat_tests) in
@@ -45,7 +45,7 @@ module _ {S T : Type 0} (P : snoopport.Ghosts S) (G : gates.Ghosts T) where
   gets-at-once s t first i j y early (Stopped, m, step, rest) = (Stopped, m, step, rest)
 
   -- so is it where more frames are wanted than the ring has
-  gets-more : (s t : S × T) (c : Plain) (k n : ℕ) (y : ℕ × Got) → 1 ≤ k → k ≤ n → (P.view s.0).geometry.frames ≤ k → (P.view s.0).seen ≡ unwrap_or c.seen 0
+  gets-more : (s t : S × T) (c : CaptureStream) (k n : ℕ) (y : ℕ × Got) → 1 ≤ k → k ≤ n → (P.view s.0).geometry.frames ≤ k → (P.view s.0).seen ≡ unwrap_or c.seen 0
       → TakesAtSnoop P G s (gets_frames (taken_of c k) c.next) t y → TakesAtSnoop P G s (gets_frames (taken_of c n) c.next) t y
   gets-more s t c k n y some more ring saw takes = by_order (nat_le (avail_of c) k) refl
     where
@@ -63,7 +63,7 @@ module _ {S T : Type 0} (P : snoopport.Ghosts S) (G : gates.Ghosts T) where
           (subst (λ (j : ℕ). TakesAtSnoop P G s (gets_frames j c.next) t y) one takes))
 
   -- the frames of a read, after its load of the position
-  transfers-more : (s t : S × T) (c : Plain) (k n : ℕ) (y : Answered ℕ) → 1 ≤ k → k ≤ n → (P.view s.0).geometry.frames ≤ k → (P.view s.0).seen ≡ unwrap_or c.seen 0
+  transfers-more : (s t : S × T) (c : CaptureStream) (k n : ℕ) (y : Answered ℕ) → 1 ≤ k → k ≤ n → (P.view s.0).geometry.frames ≤ k → (P.view s.0).seen ≡ unwrap_or c.seen 0
       → TakesAtSnoop P G s (transfers c k) t y → TakesAtSnoop P G s (transfers c n) t y
   unfolding transfers
   transfers-more s t c k n y some more ring saw takes =
@@ -73,14 +73,14 @@ module _ {S T : Type 0} (P : snoopport.Ghosts S) (G : gates.Ghosts T) where
       (record { there = parts.3.there; result = parts.3.result ∙ read_after-more c k n parts.1.0 parts.1.1 some more })
 
   -- a start and a sync that went well saw the position
-  syncs-saw : (s t : S × T) (c d : Plain) (done : Unit {0}) → TakesAtSnoop P G s (syncs c call.Transfer) t (d, Ok done) → (P.view t.0).seen ≡ unwrap_or d.seen 0
+  syncs-saw : (s t : S × T) (c d : CaptureStream) (done : Unit {0}) → TakesAtSnoop P G s (syncs c call.Transfer) t (d, Ok done) → (P.view t.0).seen ≡ unwrap_or d.seen 0
   unfolding syncs
   syncs-saw s t c d done (None, m, step, rest) = absurd (let wrong = ap (λ (x : Answered (Unit {0})). x.1) rest.result in cc)
   syncs-saw s t c d done (Some position, m, step, rest) =
       ap (λ (u : S × T). (P.view u.0).seen) rest.there ∙ ap (λ (v : SnoopView). v.seen) step.view_is
       ∙ sym (ap (λ (x : Answered (Unit {0})). unwrap_or x.0.seen 0) rest.result)
 
-  starts-saw : (s t : S × T) (c d : Plain) (done : Unit {0}) → TakesAtSnoop P G s (starts c call.Transfer) t (d, Ok done) → (P.view t.0).seen ≡ unwrap_or d.seen 0
+  starts-saw : (s t : S × T) (c d : CaptureStream) (done : Unit {0}) → TakesAtSnoop P G s (starts c call.Transfer) t (d, Ok done) → (P.view t.0).seen ≡ unwrap_or d.seen 0
   unfolding starts
   starts-saw s t c d done (None, m, step, rest) = absurd (let wrong = ap (λ (x : Answered (Unit {0})). x.1) rest.result in cc)
   starts-saw s t c d done (Some position, m, step, rest) =
@@ -93,12 +93,12 @@ module _ {S T : Type 0} (P : snoopport.Ghosts S) (G : gates.Ghosts T) where
 
   -- after either, the frames
   transfer_on-more : (s t : S × T) (x : Answered (Unit {0})) (k n : ℕ) (y : Answered ℕ) → 1 ≤ k → k ≤ n → (P.view s.0).geometry.frames ≤ k
-      → ((d : Plain) (done : Unit {0}) → x ≡ (d, Ok done) → (P.view s.0).seen ≡ unwrap_or d.seen 0)
+      → ((d : CaptureStream) (done : Unit {0}) → x ≡ (d, Ok done) → (P.view s.0).seen ≡ unwrap_or d.seen 0)
       → TakesAtSnoop P G s (transfer_on k x) t y → TakesAtSnoop P G s (transfer_on n x) t y
   transfer_on-more s t (d, Ok done) k n y some more ring saw takes = transfers-more s t d k n y some more ring (saw d done refl) takes
   transfer_on-more s t (d, Err e) k n y some more ring saw takes = takes
 
-  reads_on-more : (s t : S × T) (c : Plain) (k n : ℕ) (y : Answered ℕ) → 1 ≤ k → k ≤ n → (P.view s.0).geometry.frames ≤ k
+  reads_on-more : (s t : S × T) (c : CaptureStream) (k n : ℕ) (y : Answered ℕ) → 1 ≤ k → k ≤ n → (P.view s.0).geometry.frames ≤ k
       → TakesAtSnoop P G s (reads_on c k) t y → TakesAtSnoop P G s (reads_on c n) t y
   unfolding reads_on
   reads_on-more s t c k n y some more ring takes =
@@ -108,7 +108,7 @@ module _ {S T : Type 0} (P : snoopport.Ghosts S) (G : gates.Ghosts T) where
       (transfer_on-more parts.0 t parts.1 k n y some more (subst (λ (g : Geometry). g.frames ≤ k) (sym same) ring)
       (λ d done is. syncs-saw s parts.0 c d done (subst (λ (x : Answered (Unit {0})). TakesAtSnoop P G s (syncs c call.Transfer) parts.0 x) is parts.2)) parts.3)
 
-  reads_first-more : (s t : S × T) (c : Plain) (k n : ℕ) (y : Answered ℕ) → 1 ≤ k → k ≤ n → (P.view s.0).geometry.frames ≤ k
+  reads_first-more : (s t : S × T) (c : CaptureStream) (k n : ℕ) (y : Answered ℕ) → 1 ≤ k → k ≤ n → (P.view s.0).geometry.frames ≤ k
       → TakesAtSnoop P G s (reads_first c k) t y → TakesAtSnoop P G s (reads_first c n) t y
   unfolding reads_first
   reads_first-more s t c k n y some more ring takes =
@@ -118,7 +118,7 @@ module _ {S T : Type 0} (P : snoopport.Ghosts S) (G : gates.Ghosts T) where
       (transfer_on-more parts.0 t parts.1 k n y some more (subst (λ (g : Geometry). g.frames ≤ k) (sym same) ring)
       (λ d done is. starts-saw s parts.0 c d done (subst (λ (x : Answered (Unit {0})). TakesAtSnoop P G s (starts c call.Transfer) parts.0 x) is parts.2)) parts.3)
 
-  read-more : (s t : S × T) (c : Plain) (k n : ℕ) (y : Answered ℕ) → 1 ≤ k → k ≤ n → (P.view s.0).geometry.frames ≤ k → c.setup.params.start_threshold ≤ k
+  read-more : (s t : S × T) (c : CaptureStream) (k n : ℕ) (y : Answered ℕ) → 1 ≤ k → k ≤ n → (P.view s.0).geometry.frames ≤ k → c.setup.params.start_threshold ≤ k
       → TakesAtSnoop P G s (read_course c k) t y → TakesAtSnoop P G s (read_course c n) t y
   read-more s t c k n y some more ring start takes = by_running (is_running c.status.state) takes
     where
@@ -138,7 +138,7 @@ module _ {S T : Type 0} (P : snoopport.Ghosts S) (G : gates.Ghosts T) where
           (subst (λ (b : Bool). TakesAtSnoop P G s (if b then reads_first c k else ends (c, waits k)) t y) enough takes))
 
   -- a read of n frames does what one of no more than `most_read` does
-  pub read_course-fewer : (s t : S × T) (c : Plain) (n k : ℕ) (y : Answered ℕ) → most_read c ≤ k
+  pub read_course-fewer : (s t : S × T) (c : CaptureStream) (n k : ℕ) (y : Answered ℕ) → most_read c ≤ k
       → TakesAtSnoop P G s (admitted c call.Transfer (read_course c (min n k))) t y → TakesAtSnoop P G s (admitted c call.Transfer (read_course c n)) t y
   read_course-fewer s t c n k y most takes = by_refusal (refusal_of Capture c.status call.Transfer) takes
     where

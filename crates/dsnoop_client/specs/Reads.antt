@@ -7,7 +7,7 @@ use Rattle.snoop_core.specs.declared.port.Frame.{Frame}
 use Rattle.snoop_core.specs.declared.port.Got.{Got}
 use Rattle.snoop_core.specs.declared.port.SnoopPort as snoopport
 use Rattle.snoop_core.specs.Port.{OnGot}
-use Rattle.dsnoop_client.specs.declared.plain.Plain.{Plain}
+use Rattle.dsnoop_client.specs.declared.stream.CaptureStream.{CaptureStream}
 
 -- a frame through bindings: for each of the reader's channels the sample of the card channel that it is bound to
 abbrev pub through : List ℕ → List ℤ → List ℤ
@@ -38,7 +38,7 @@ counted (Err e) = 0
 -- what a read answers: the frames that its port got, one after the other from a first one on, are the samples that it gives, through
 -- the bindings, and the rest of the room is as it was; only a read that is Ok counts frames, and the reader's next frame is behind
 -- those; the first is the next frame of a reader that runs
-pub record Reads {S : Type 0} (P : snoopport.Ghosts S) (p q : S) (c d : Plain) (before after : List ℤ) (answer : Result ℕ PcmError) : Type 0 where
+pub record Reads {S : Type 0} (P : snoopport.Ghosts S) (p q : S) (c d : CaptureStream) (before after : List ℤ) (answer : Result ℕ PcmError) : Type 0 where
   pub first : ℕ
   pub begins : c.status.state ≡ Running → first ≡ c.next
   pub next_is : d.next ≡ first + counted answer

@@ -10,10 +10,10 @@ use Rattle.pcm_states.specs.declared.calls.Call.TheVariants as call
 use Rattle.pcm_stream.specs.Setup.{IsConfigured}
 use Rattle.pcm_stream.specs.Status.{is_set_up}
 use Rattle.snoop_core.specs.Port.{SnoopView}
-use Rattle.dsnoop_client.specs.declared.plain.Plain.{Plain}
+use Rattle.dsnoop_client.specs.declared.stream.CaptureStream.{CaptureStream}
 
 -- the frames that were captured and not read, as far as the reader saw
-abbrev pub avail_of : Plain → ℕ
+abbrev pub avail_of : CaptureStream → ℕ
 avail_of c = unwrap_or c.seen 0 - c.next
 
 -- the states of a capture stream: it never drains, and isn't paused or suspended
@@ -32,19 +32,19 @@ is_running Running = true
 is_running other = false
 
 -- the counts are near each other, so that the frames available are told by pointers that wrap
-pub record IsReady (c : Plain) : Type 0 where
+pub record IsReady (c : CaptureStream) : Type 0 where
   pub buffer_least : 1 ≤ c.setup.config.buffer_size
   pub buffer_most : c.setup.config.buffer_size ≤ 16384
   pub captured : c.next ≤ unwrap_or c.seen 0
   pub near : unwrap_or c.seen 0 < 2 ^ 47
 
 -- a reader that runs: its next frame is one of the ring's, and not past the position that it saw
-pub record IsReading (c : Plain) : Type 0 where
+pub record IsReading (c : CaptureStream) : Type 0 where
   pub least : first_frame c.geometry ≤ c.next
   pub most : c.next ≤ unwrap_or c.seen 0
 
 -- what every reader keeps
-pub record IsSound (c : Plain) : Type 0 where
+pub record IsSound (c : CaptureStream) : Type 0 where
   pub captures : is_of_capture c.status.state ≡ true
   pub seen : unwrap_or c.seen 0 ≤ end_frame c.geometry
   pub set_up : is_set_up c.status.state ≡ true → c.setup.configured ≡ true
@@ -52,44 +52,44 @@ pub record IsSound (c : Plain) : Type 0 where
   pub reading : c.status.state ≡ Running → IsReading c
 
 -- a port that a reader can use: it is one of the reader's ring, and has seen what the reader saw
-pub record CanUse (c : Plain) (v : SnoopView) : Type 0 where
+pub record CanUse (c : CaptureStream) (v : SnoopView) : Type 0 where
   pub same_geometry : v.geometry ≡ c.geometry
   pub newer : unwrap_or c.seen 0 ≤ v.seen
 
 -- the whole frames that some interleaved samples have room for
-abbrev pub frames_in : Plain → List ℤ → ℕ
+abbrev pub frames_in : CaptureStream → List ℤ → ℕ
 frames_in c samples = length samples / length c.setup.bindings
 
 -- room for whole frames, and not too many, where the reader is configured
-pub record IsRoom (c : Plain) (samples : List ℤ) : Type 0 where
+pub record IsRoom (c : CaptureStream) (samples : List ℤ) : Type 0 where
   pub whole : length samples % length c.setup.bindings ≡ 0
   pub few : frames_in c samples ≤ 4194304
 
-abbrev pub CanRead : Plain → List ℤ → Type 0
+abbrev pub CanRead : CaptureStream → List ℤ → Type 0
 CanRead c samples = c.setup.configured ≡ true → IsRoom c samples
 
 -- the counts of a reader are near each other where a position was loaded, and after a call that went well
-abbrev pub IsReadyAt : Plain → Option Position → Type 0
+abbrev pub IsReadyAt : CaptureStream → Option Position → Type 0
 IsReadyAt c None = ⊤
 IsReadyAt c (Some position) = IsReady (record c { seen = Some position.frame })
 
-abbrev pub IsReadyIf : {X : Type 0} → Plain → Result X PcmError → Type 0
+abbrev pub IsReadyIf : {X : Type 0} → CaptureStream → Result X PcmError → Type 0
 IsReadyIf c (Ok x) = IsReady c
 IsReadyIf c (Err e) = ⊤
 
 -- the room of a reader that is configured holds one frame of the card
-abbrev pub HasRoom : Plain → List ℤ → Type 0
+abbrev pub HasRoom : CaptureStream → List ℤ → Type 0
 HasRoom c room = c.setup.configured ≡ true → length room ≡ c.geometry.channels
 
 -- a reader that runs, at a port that has loaded the position which the reader saw
-pub record IsGoing (c : Plain) (v : SnoopView) : Type 0 where
+pub record IsGoing (c : CaptureStream) (v : SnoopView) : Type 0 where
   pub running : c.status.state ≡ Running
   pub unstopped : c.status.stopped ≡ false
   pub same_geometry : v.geometry ≡ c.geometry
   pub saw : v.seen ≡ unwrap_or c.seen 0
 
 -- a read of n frames loads the position: of a reader that runs, or where the start threshold is reached
-abbrev pub LoadsFor : Plain → ℕ → Type 0
+abbrev pub LoadsFor : CaptureStream → ℕ → Type 0
 LoadsFor c n = (is_running c.status.state ≡ true) ⊎ (c.setup.params.start_threshold ≤ n)
 
 -- the calls that start a prepared reader, and those that sync one that runs

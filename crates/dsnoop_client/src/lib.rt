@@ -3,11 +3,11 @@
 
 mod frames;
 mod parts;
-mod plain;
+mod stream;
 mod positions;
 mod read;
 mod reader;
 mod usable;
 
-pub use plain::Plain;
+pub use stream::CaptureStream;
 pub use reader::Reader;

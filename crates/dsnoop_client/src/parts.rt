@@ -3,7 +3,7 @@ ghost use Rattle.std.specs.Prelude.{◌≡◌, ◌+◌, ◌^◌, ◌<◌};
 ghost use Rattle.dsnoop_client.specs.Calls.{configured_with, found, freed, in_state, numbered, new_reader, over_of, read_after, read_to, seen_at, with_outcome, after_start, started_at, stopped_in, after_sync, taken_of, waits, with_avail};
 ghost use Rattle.dsnoop_client.specs.View.{IsReady, IsReadyAt, IsReadyIf, avail_of, is_running};
 
-use crate::plain::Plain;
+use crate::stream::CaptureStream;
 use bindings::Bindings;
 use hw_space::Config;
 use mix_core::Position;
@@ -15,14 +15,14 @@ use snoop_core::Got;
 use sw_limits::boundary;
 
 /// A reader after a part of a call, and the call's answer so far.
-pub(crate) type Answered<T> = (Plain, Result<T, PcmError>);
+pub(crate) type Answered<T> = (CaptureStream, Result<T, PcmError>);
 
-impl Plain {
+impl CaptureStream {
     /// A reader that is opened.
-    pub(crate) fn new(geometry: Geometry) -> Plain
+    pub(crate) fn new(geometry: Geometry) -> CaptureStream
         ensures { result ≡ new_reader geometry }
     {
-        Plain {
+        CaptureStream {
             geometry,
             setup: Setup::none(),
             status: Status::at_open(),
@@ -32,30 +32,30 @@ impl Plain {
     }
 
     /// The reader in another state.
-    pub(crate) fn in_state(&self, state: State) -> Plain
+    pub(crate) fn in_state(&self, state: State) -> CaptureStream
         ensures { result ≡ in_state self.now state }
     {
-        Plain {
+        CaptureStream {
             status: self.status.in_state(state),
             ..*self
         }
     }
 
     /// The reader is prepared with a configuration, with the default thresholds.
-    pub(crate) fn configured_with(&self, config: Config, bindings: Bindings) -> Plain
+    pub(crate) fn configured_with(&self, config: Config, bindings: Bindings) -> CaptureStream
         ensures { result ≡ configured_with self.now config bindings }
     {
-        Plain {
+        CaptureStream {
             setup: Setup::with(config, bindings),
             ..self.in_state(State::Prepared)
         }
     }
 
     /// The reader gives its configuration up.
-    pub(crate) fn freed(&self) -> Plain
+    pub(crate) fn freed(&self) -> CaptureStream
         ensures { result ≡ freed self.now }
     {
-        Plain {
+        CaptureStream {
             setup: self.setup.freed(),
             ..self.in_state(State::Open)
         }
@@ -104,24 +104,24 @@ impl Plain {
     }
 
     /// A position was loaded.
-    fn seen_at(&self, position: Position) -> Plain
+    fn seen_at(&self, position: Position) -> CaptureStream
         ensures { result ≡ seen_at self.now position }
     {
-        Plain {
+        CaptureStream {
             seen: Some(position.frame),
             ..*self
         }
     }
 
     /// The position that a start loaded is the next frame, unless the card is gone.
-    fn started_at(&self, position: Position) -> Plain
+    fn started_at(&self, position: Position) -> CaptureStream
         ensures { result ≡ started_at self.now position }
     {
         let seen = self.seen_at(position);
         if position.gone {
             return seen;
         }
-        Plain {
+        CaptureStream {
             next: position.frame,
             ..seen
         }
@@ -143,57 +143,57 @@ fn found(gone: bool, over: Option<(u64, u64)>, late: Option<XrunWhy>) -> Facts
 }
 
 /// The gate stopped the call.
-fn stopped_in<T>(plain: Plain) -> Answered<T>
-    ensures { result ≡ stopped_in plain }
+fn stopped_in<T>(stream: CaptureStream) -> Answered<T>
+    ensures { result ≡ stopped_in stream }
 {
-    let stopped = Plain {
-        status: plain.status.stop(),
-        ..plain
+    let stopped = CaptureStream {
+        status: stream.status.stop(),
+        ..stream
     };
     (stopped, Err(PcmError::Stopped))
 }
 
 /// The call ends with an outcome of the state table.
-fn with_outcome(plain: Plain, outcome: Outcome) -> Answered<()>
-    ensures { result ≡ with_outcome plain outcome }
+fn with_outcome(stream: CaptureStream, outcome: Outcome) -> Answered<()>
+    ensures { result ≡ with_outcome stream outcome }
 {
-    (plain.in_state(outcome.state), outcome.answer)
+    (stream.in_state(outcome.state), outcome.answer)
 }
 
 /// A start, by the position that it loaded.
-pub(crate) fn after_start(plain: Plain, call: Call, load: Option<Position>) -> Answered<()>
-    ensures { result ≡ after_start plain call load }
+pub(crate) fn after_start(stream: CaptureStream, call: Call, load: Option<Position>) -> Answered<()>
+    ensures { result ≡ after_start stream call load }
 {
     let Some(position) = load else {
-        return stopped_in(plain);
+        return stopped_in(stream);
     };
     let facts = found(position.gone, None, None);
     with_outcome(
-        plain.started_at(position),
-        next(plain.status.state, call, facts),
+        stream.started_at(position),
+        next(stream.status.state, call, facts),
     )
 }
 
 /// The sync of a reader that runs, by the position that it loaded.
-pub(crate) fn after_sync(plain: Plain, call: Call, load: Option<Position>) -> Answered<()>
-    requires { IsReadyAt plain load }
-    ensures { result ≡ after_sync plain call load }
+pub(crate) fn after_sync(stream: CaptureStream, call: Call, load: Option<Position>) -> Answered<()>
+    requires { IsReadyAt stream load }
+    ensures { result ≡ after_sync stream call load }
 {
     let Some(position) = load else {
-        return stopped_in(plain);
+        return stopped_in(stream);
     };
-    let loaded = plain.seen_at(position);
+    let loaded = stream.seen_at(position);
     let facts = found(position.gone, loaded.over(), None);
-    with_outcome(loaded, next(plain.status.state, call, facts))
+    with_outcome(loaded, next(stream.status.state, call, facts))
 }
 
 /// The frames available after a sync that went well.
-pub(crate) fn with_avail(plain: &Plain, answer: Result<(), PcmError>) -> Result<u64, PcmError>
-    requires { IsReadyIf plain.now answer }
-    ensures { with_avail (plain.now, answer) ≡ (plain.now, result) }
+pub(crate) fn with_avail(stream: &CaptureStream, answer: Result<(), PcmError>) -> Result<u64, PcmError>
+    requires { IsReadyIf stream.now answer }
+    ensures { with_avail (stream.now, answer) ≡ (stream.now, result) }
 {
     match answer {
-        Ok(()) => Ok(plain.avail()),
+        Ok(()) => Ok(stream.avail()),
         Err(error) => Err(error),
     }
 }
@@ -213,50 +213,50 @@ pub(crate) fn waits(frames: u64) -> Result<u64, PcmError>
 fn numbered(number: u64, answered: Answered<()>) -> Answered<u64>
     ensures { result ≡ numbered number answered }
 {
-    let (plain, answer) = answered;
+    let (stream, answer) = answered;
     match answer {
-        Ok(()) => (plain, Ok(number)),
-        Err(error) => (plain, Err(error)),
+        Ok(()) => (stream, Ok(number)),
+        Err(error) => (stream, Err(error)),
     }
 }
 
 /// A read that loaded `loaded` frames, and how the last load ended: only where all were loaded do they count.
-fn read_to(plain: Plain, loaded: u64, ended: Got) -> Answered<u64>
-    requires { plain.next + loaded < 2 ^ 64 }
-    ensures { result ≡ read_to plain loaded ended }
+fn read_to(stream: CaptureStream, loaded: u64, ended: Got) -> Answered<u64>
+    requires { stream.next + loaded < 2 ^ 64 }
+    ensures { result ≡ read_to stream loaded ended }
 {
     match ended {
         Got::Whole => {
-            let after = Plain {
-                next: plain.next + loaded,
-                ..plain
+            let after = CaptureStream {
+                next: stream.next + loaded,
+                ..stream
             };
             (after, Ok(loaded))
         }
         Got::Overtaken { channel, seen } => {
             let why = XrunWhy::Overtaken {
-                frame: plain.next + loaded,
+                frame: stream.next + loaded,
                 channel,
                 seen,
             };
             let facts = found(false, None, Some(why));
             numbered(
                 0,
-                with_outcome(plain, next(State::Running, Call::Transfer, facts)),
+                with_outcome(stream, next(State::Running, Call::Transfer, facts)),
             )
         }
-        Got::Stopped => stopped_in(plain),
+        Got::Stopped => stopped_in(stream),
     }
 }
 
 /// A read of `frames` frames after its load of the position, by how many it loaded, and how the last load ended.
-pub(crate) fn read_after(plain: Plain, frames: u64, loaded: u64, ended: Got) -> Answered<u64>
-    requires ready { IsReady plain }
-    requires fits { plain.next + loaded < 2 ^ 64 }
-    ensures { result ≡ read_after plain frames loaded ended }
+pub(crate) fn read_after(stream: CaptureStream, frames: u64, loaded: u64, ended: Got) -> Answered<u64>
+    requires ready { IsReady stream }
+    requires fits { stream.next + loaded < 2 ^ 64 }
+    ensures { result ≡ read_after stream frames loaded ended }
 {
-    if frames > 0 && plain.avail() == 0 {
-        return (plain, Err(PcmError::Again));
+    if frames > 0 && stream.avail() == 0 {
+        return (stream, Err(PcmError::Again));
     }
-    read_to(plain, loaded, ended)
+    read_to(stream, loaded, ended)
 }

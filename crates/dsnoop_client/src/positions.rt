@@ -11,7 +11,7 @@ ghost use Rattle.dsnoop_client.specs.Port.{Keeps};
 ghost use Rattle.dsnoop_client.specs.View.{CanUse, IsGoing, IsReadyIf, IsSound, IsStart, IsSync, is_running};
 
 use crate::parts::{after_start, after_sync, with_avail};
-use crate::plain::Plain;
+use crate::stream::CaptureStream;
 use crate::reader::Reader;
 use mix_core::{Gate, Position};
 use pcm_states::{Call, State};
@@ -31,55 +31,55 @@ fn load<P: SnoopPort, G: Gate>(port: &mut P, gate: &mut G) -> Option<Position>
 
 /// The start of a reader that is prepared.
 pub(crate) fn start_call<P: SnoopPort, G: Gate>(
-    plain: &mut Plain,
+    stream: &mut CaptureStream,
     port: &mut P,
     gate: &mut G,
     call: Call,
 ) -> Result<(), PcmError>
-    requires sound { IsSound plain.old }
-    requires prepared { plain.old.status.state ≡ State.Prepared }
-    requires unstopped { plain.old.status.stopped ≡ false }
+    requires sound { IsSound stream.old }
+    requires prepared { stream.old.status.state ≡ State.Prepared }
+    requires unstopped { stream.old.status.stopped ≡ false }
     requires start { IsStart call }
-    requires port { CanUse plain.old (P.view port.old) }
+    requires port { CanUse stream.old (P.view port.old) }
     ensures takes { TakesAtSnoop P.SnoopPort G.Gate (port.old, gate.old)
-        (starts plain.old call) (port.new, gate.new) (plain.new, result) }
+        (starts stream.old call) (port.new, gate.new) (stream.new, result) }
     ensures keeps { Keeps P.SnoopPort G.Gate (port.old, gate.old) (port.new, gate.new)
-        plain.old plain.new result }
-    ensures causes { Explains P.SnoopPort port.old port.new plain.old plain.new result }
-    ensures going { OnOk result (IsGoing plain.new (P.view port.new)) }
+        stream.old stream.new result }
+    ensures causes { Explains P.SnoopPort port.old port.new stream.old stream.new result }
+    ensures going { OnOk result (IsGoing stream.new (P.view port.new)) }
     ensures got_nothing { P.got port.old port.new [] }
 {
     let position = load(port, gate);
-    let (after, answer) = after_start(*plain, call, position);
-    *plain = after;
+    let (after, answer) = after_start(*stream, call, position);
+    *stream = after;
     answer
 }
 
 /// The sync of a reader that runs.
 pub(crate) fn sync_call<P: SnoopPort, G: Gate>(
-    plain: &mut Plain,
+    stream: &mut CaptureStream,
     port: &mut P,
     gate: &mut G,
     call: Call,
 ) -> Result<(), PcmError>
-    requires sound { IsSound plain.old }
-    requires running { plain.old.status.state ≡ State.Running }
-    requires unstopped { plain.old.status.stopped ≡ false }
+    requires sound { IsSound stream.old }
+    requires running { stream.old.status.state ≡ State.Running }
+    requires unstopped { stream.old.status.stopped ≡ false }
     requires sync { IsSync call }
-    requires port { CanUse plain.old (P.view port.old) }
+    requires port { CanUse stream.old (P.view port.old) }
     ensures takes { TakesAtSnoop P.SnoopPort G.Gate (port.old, gate.old)
-        (syncs plain.old call) (port.new, gate.new) (plain.new, result) }
+        (syncs stream.old call) (port.new, gate.new) (stream.new, result) }
     ensures keeps { Keeps P.SnoopPort G.Gate (port.old, gate.old) (port.new, gate.new)
-        plain.old plain.new result }
-    ensures causes { Explains P.SnoopPort port.old port.new plain.old plain.new result }
-    ensures going { OnOk result (IsGoing plain.new (P.view port.new)) }
+        stream.old stream.new result }
+    ensures causes { Explains P.SnoopPort port.old port.new stream.old stream.new result }
+    ensures going { OnOk result (IsGoing stream.new (P.view port.new)) }
     ensures got_nothing { P.got port.old port.new [] }
-    ensures stays { plain.new.next ≡ plain.old.next }
-    ensures ready { IsReadyIf plain.new result }
+    ensures stays { stream.new.next ≡ stream.old.next }
+    ensures ready { IsReadyIf stream.new result }
 {
     let position = load(port, gate);
-    let (after, answer) = after_sync(*plain, call, position);
-    *plain = after;
+    let (after, answer) = after_sync(*stream, call, position);
+    *stream = after;
     answer
 }
 
@@ -105,8 +105,8 @@ impl Reader {
         ensures causes { refusal_of Direction.Capture self.old.status call.Start ≡ None
             → Explains P.SnoopPort port.old port.new self.old self.new result }
     {
-        self.plain.status.admit(Direction::Capture, Call::Start)?;
-        start_call(&mut self.plain, port, gate, Call::Start)
+        self.stream.status.admit(Direction::Capture, Call::Start)?;
+        start_call(&mut self.stream, port, gate, Call::Start)
     }
 
     /// Loads the card's position (`snd_pcm_hwsync`), in RUNNING.
@@ -130,11 +130,11 @@ impl Reader {
         ensures causes { refusal_of Direction.Capture self.old.status call.Sync ≡ None
             → is_running self.old.status.state ≡ true → Explains P.SnoopPort port.old port.new self.old self.new result }
     {
-        self.plain.status.admit(Direction::Capture, Call::Sync)?;
-        if !self.plain.is_running() {
+        self.stream.status.admit(Direction::Capture, Call::Sync)?;
+        if !self.stream.is_running() {
             return Ok(());
         }
-        sync_call(&mut self.plain, port, gate, Call::Sync)
+        sync_call(&mut self.stream, port, gate, Call::Sync)
     }
 
     /// Makes a `sync` and answers how many frames can be read: those from the next frame of a read to the position
@@ -154,11 +154,11 @@ impl Reader {
         ensures causes { refusal_of Direction.Capture self.old.status call.Sync ≡ None
             → is_running self.old.status.state ≡ true → Explains P.SnoopPort port.old port.new self.old self.new result }
     {
-        self.plain.status.admit(Direction::Capture, Call::Sync)?;
-        if !self.plain.is_running() {
+        self.stream.status.admit(Direction::Capture, Call::Sync)?;
+        if !self.stream.is_running() {
             return Ok(0);
         }
-        let answer = sync_call(&mut self.plain, port, gate, Call::Sync);
-        with_avail(&self.plain, answer)
+        let answer = sync_call(&mut self.stream, port, gate, Call::Sync);
+        with_avail(&self.stream, answer)
     }
 }

@@ -13,7 +13,7 @@ ghost use Rattle.dsnoop_client.specs.View.{CanRead, CanUse, HasRoom, IsGoing, Is
 
 use crate::frames::load_frames;
 use crate::parts::{read_after, waits};
-use crate::plain::Plain;
+use crate::stream::CaptureStream;
 use crate::positions::{start_call, sync_call};
 use crate::reader::Reader;
 use mix_core::Gate;
@@ -24,80 +24,80 @@ use snoop_core::SnoopPort;
 
 /// Loads the frames of a read of `frames` frames, of a reader that runs and has loaded the position.
 fn transfer<P: SnoopPort, G: Gate>(
-    plain: &mut Plain,
+    stream: &mut CaptureStream,
     frame: &mut [i16],
     port: &mut P,
     gate: &mut G,
     out: &mut [i16],
     frames: u64,
 ) -> Result<u64, PcmError>
-    requires sound { IsSound plain.old }
-    requires going { IsGoing plain.old (P.view port.old) }
-    requires room { HasRoom plain.old frame.old }
-    requires fits { frames * length plain.old.setup.bindings ≤ length out.old }
+    requires sound { IsSound stream.old }
+    requires going { IsGoing stream.old (P.view port.old) }
+    requires room { HasRoom stream.old frame.old }
+    requires fits { frames * length stream.old.setup.bindings ≤ length out.old }
     ensures takes { TakesAtSnoop P.SnoopPort G.Gate (port.old, gate.old)
-        (transfers plain.old frames) (port.new, gate.new) (plain.new, result) }
-    ensures reads { Reads P.SnoopPort port.old port.new plain.old plain.new out.old out.new result }
+        (transfers stream.old frames) (port.new, gate.new) (stream.new, result) }
+    ensures reads { Reads P.SnoopPort port.old port.new stream.old stream.new out.old out.new result }
     ensures few { IfOk result (λ n. n ≤ frames) }
 {
-    let count = plain.taken(frames);
-    let bindings = plain.setup.bindings;
-    let loads = load_frames(port, gate, &bindings, plain.next, count, frame, out);
-    let (after, answer) = read_after(*plain, frames, loads.frames, loads.ended);
-    *plain = after;
+    let count = stream.taken(frames);
+    let bindings = stream.setup.bindings;
+    let loads = load_frames(port, gate, &bindings, stream.next, count, frame, out);
+    let (after, answer) = read_after(*stream, frames, loads.frames, loads.ended);
+    *stream = after;
     answer
 }
 
 /// A read of `frames` frames, of a reader that runs.
 fn read_running<P: SnoopPort, G: Gate>(
-    plain: &mut Plain,
+    stream: &mut CaptureStream,
     frame: &mut [i16],
     port: &mut P,
     gate: &mut G,
     out: &mut [i16],
     frames: u64,
 ) -> Result<u64, PcmError>
-    requires sound { IsSound plain.old }
-    requires running { plain.old.status.state ≡ State.Running }
-    requires unstopped { plain.old.status.stopped ≡ false }
-    requires port { CanUse plain.old (P.view port.old) }
-    requires room { HasRoom plain.old frame.old }
-    requires fits { frames * length plain.old.setup.bindings ≤ length out.old }
+    requires sound { IsSound stream.old }
+    requires running { stream.old.status.state ≡ State.Running }
+    requires unstopped { stream.old.status.stopped ≡ false }
+    requires port { CanUse stream.old (P.view port.old) }
+    requires room { HasRoom stream.old frame.old }
+    requires fits { frames * length stream.old.setup.bindings ≤ length out.old }
     ensures takes { TakesAtSnoop P.SnoopPort G.Gate (port.old, gate.old)
-        (reads_on plain.old frames) (port.new, gate.new) (plain.new, result) }
-    ensures reads { Reads P.SnoopPort port.old port.new plain.old plain.new out.old out.new result }
+        (reads_on stream.old frames) (port.new, gate.new) (stream.new, result) }
+    ensures reads { Reads P.SnoopPort port.old port.new stream.old stream.new out.old out.new result }
     ensures few { IfOk result (λ n. n ≤ frames) }
 {
-    if let Err(error) = sync_call(plain, port, gate, Call::Transfer) {
+    if let Err(error) = sync_call(stream, port, gate, Call::Transfer) {
         return Err(error);
     }
-    transfer(plain, frame, port, gate, out, frames)
+    transfer(stream, frame, port, gate, out, frames)
 }
 
 /// A read of `frames` frames, of a prepared reader that it starts.
 fn read_starting<P: SnoopPort, G: Gate>(
-    plain: &mut Plain,
+    stream: &mut CaptureStream,
     frame: &mut [i16],
     port: &mut P,
     gate: &mut G,
     out: &mut [i16],
     frames: u64,
 ) -> Result<u64, PcmError>
-    requires sound { IsSound plain.old }
-    requires prepared { plain.old.status.state ≡ State.Prepared }
-    requires unstopped { plain.old.status.stopped ≡ false }
-    requires port { CanUse plain.old (P.view port.old) }
-    requires room { HasRoom plain.old frame.old }
-    requires fits { frames * length plain.old.setup.bindings ≤ length out.old }
+    requires sound { IsSound stream.old }
+    requires prepared { stream.old.status.state ≡ State.Prepared }
+    requires unstopped { stream.old.status.stopped ≡ false }
+    requires port { CanUse stream.old (P.view port.old) }
+    requires room { HasRoom stream.old frame.old }
+    requires fits { frames * length stream.old.setup.bindings ≤ length out.old }
     ensures takes { TakesAtSnoop P.SnoopPort G.Gate (port.old, gate.old)
-        (reads_first plain.old frames) (port.new, gate.new) (plain.new, result) }
-    ensures reads { Reads P.SnoopPort port.old port.new plain.old plain.new out.old out.new result }
+        (reads_first stream.old frames) (port.new, gate.new) (stream.new, result) }
+    ensures reads { Reads P.SnoopPort port.old port.new stream.old stream.new out.old out.new result }
     ensures few { IfOk result (λ n. n ≤ frames) }
 {
-    if let Err(error) = start_call(plain, port, gate, Call::Transfer) {
+    if let Err(error) = start_call(stream, port, gate, Call::Transfer) {
         return Err(error);
     }
-    transfer(plain, frame, port, gate, out, frames)
+    transfer(stream, frame, port, gate, out, frames)
 }
 
 /// How many whole frames of so many channels some samples have room for.
@@ -111,38 +111,38 @@ fn whole_frames(samples: &[i16], channels: u8) -> u64
 
 /// A read that was admitted.
 fn read_admitted<P: SnoopPort, G: Gate>(
-    plain: &mut Plain,
+    stream: &mut CaptureStream,
     frame: &mut [i16],
     port: &mut P,
     gate: &mut G,
     out: &mut [i16],
 ) -> Result<u64, PcmError>
-    requires sound { IsSound plain.old }
-    requires admitted { refusal_of Direction.Capture plain.old.status call.Transfer ≡ None }
-    requires port { CanUse plain.old (P.view port.old) }
-    requires room { HasRoom plain.old frame.old }
+    requires sound { IsSound stream.old }
+    requires admitted { refusal_of Direction.Capture stream.old.status call.Transfer ≡ None }
+    requires port { CanUse stream.old (P.view port.old) }
+    requires room { HasRoom stream.old frame.old }
     ensures takes { TakesAtSnoop P.SnoopPort G.Gate (port.old, gate.old)
-        (read_course plain.old (frames_in plain.old out.old)) (port.new, gate.new) (plain.new, result) }
-    ensures reads { Reads P.SnoopPort port.old port.new plain.old plain.new out.old out.new result }
+        (read_course stream.old (frames_in stream.old out.old)) (port.new, gate.new) (stream.new, result) }
+    ensures reads { Reads P.SnoopPort port.old port.new stream.old stream.new out.old out.new result }
     ensures keeps { Keeps P.SnoopPort G.Gate (port.old, gate.old) (port.new, gate.new)
-        plain.old plain.new result }
-    ensures waits { (LoadsFor plain.old (frames_in plain.old out.old) → ⊥)
-        → (result ≡ waits (frames_in plain.old out.old)) × (plain.new ≡ plain.old)
+        stream.old stream.new result }
+    ensures waits { (LoadsFor stream.old (frames_in stream.old out.old) → ⊥)
+        → (result ≡ waits (frames_in stream.old out.old)) × (stream.new ≡ stream.old)
         × (port.new ≡ port.old) × (gate.new ≡ gate.old) × (out.new ≡ out.old) × (frame.new ≡ frame.old) }
-    ensures causes { LoadsFor plain.old (frames_in plain.old out.old)
-        → ExplainsRead P.SnoopPort port.old port.new plain.old plain.new (frames_in plain.old out.old) result }
-    ensures asks { LoadsFor plain.old (frames_in plain.old out.old)
-        → Asks G.Gate gate.old gate.new plain.new (frames_in plain.old out.old) result }
-    ensures few { IfOk result (λ n. n ≤ frames_in plain.old out.old) }
+    ensures causes { LoadsFor stream.old (frames_in stream.old out.old)
+        → ExplainsRead P.SnoopPort port.old port.new stream.old stream.new (frames_in stream.old out.old) result }
+    ensures asks { LoadsFor stream.old (frames_in stream.old out.old)
+        → Asks G.Gate gate.old gate.new stream.new (frames_in stream.old out.old) result }
+    ensures few { IfOk result (λ n. n ≤ frames_in stream.old out.old) }
 {
-    let frames = whole_frames(out, plain.setup.bindings.len());
-    if plain.is_running() {
-        return read_running(plain, frame, port, gate, out, frames);
+    let frames = whole_frames(out, stream.setup.bindings.len());
+    if stream.is_running() {
+        return read_running(stream, frame, port, gate, out, frames);
     }
-    if frames < plain.setup.params.start_threshold {
+    if frames < stream.setup.params.start_threshold {
         return waits(frames);
     }
-    read_starting(plain, frame, port, gate, out, frames)
+    read_starting(stream, frame, port, gate, out, frames)
 }
 
 /// A number of frames that was asked for, at most 4,194,304.
@@ -200,9 +200,9 @@ impl Reader {
             → LoadsFor self.old (frames_in self.old out.old)
             → Asks G.Gate gate.old gate.new self.new (frames_in self.old out.old) result }
     {
-        self.plain.status.admit(Direction::Capture, Call::Transfer)?;
+        self.stream.status.admit(Direction::Capture, Call::Transfer)?;
         let frame = self.frame.as_mut_slice();
-        let answer = read_admitted(&mut self.plain, frame, port, gate, out);
+        let answer = read_admitted(&mut self.stream, frame, port, gate, out);
         few_frames(answer)
     }
 }

@@ -8,7 +8,7 @@ ghost use Rattle.sw_limits.specs.Boundary.{IsBoundary};
 ghost use Rattle.dsnoop_client.specs.Calls.{configured_with, freed, in_state, new_reader, with_params};
 ghost use Rattle.dsnoop_client.specs.View.{IsSound};
 
-use crate::plain::Plain;
+use crate::stream::CaptureStream;
 use bindings::Bindings;
 use hw_space::Config;
 use pcm_states::{Call, State};
@@ -26,19 +26,19 @@ use sw_limits::SwParams;
 /// stored over is an xrun.
 #[derive(Drop)]
 pub struct Reader {
-    pub(crate) plain: Plain,
+    pub(crate) stream: CaptureStream,
     pub(crate) frame: Vec<i16>,
 }
 
 impl Model for Reader {
-    ghost use Rattle.dsnoop_client.specs.declared.plain.Plain.{Plain};
+    ghost use Rattle.dsnoop_client.specs.declared.stream.CaptureStream.{CaptureStream};
     ghost use Rattle.dsnoop_client.specs.View.{HasRoom, IsSound};
 
-    ghost Value = { Plain };
+    ghost Value = { CaptureStream };
 
-    ghost view = { λ r. r.plain };
+    ghost view = { λ r. r.stream };
 
-    ghost invariant = { λ r. IsSound r.plain × HasRoom r.plain r.frame.items };
+    ghost invariant = { λ r. IsSound r.stream × HasRoom r.stream r.frame.items };
 }
 
 impl Reader {
@@ -47,7 +47,7 @@ impl Reader {
         ensures { result ≡ new_reader geometry }
     {
         Reader {
-            plain: Plain::new(geometry),
+            stream: CaptureStream::new(geometry),
             frame: Vec::new(alloc),
         }
     }
@@ -57,35 +57,35 @@ impl Reader {
     pub fn counts_are_sound(&self)
         ensures { IsSound self.now }
     {
-        let _ = &self.plain;
+        let _ = &self.stream;
     }
 
     /// The state of the stream (`snd_pcm_state`).
     pub fn state(&self) -> State
         ensures { result ≡ self.now.status.state }
     {
-        self.plain.status.state
+        self.stream.status.state
     }
 
     /// Whether the gate has stopped the reader. Every later call but `pause` is then refused with `Stopped`.
     pub fn is_stopped(&self) -> bool
         ensures { result ≡ self.now.status.stopped }
     {
-        self.plain.status.stopped
+        self.stream.status.stopped
     }
 
     /// The configuration that `hw_params` set, until `hw_free` (`snd_pcm_hw_params_current`).
     pub fn config(&self) -> Option<Config>
         ensures { result ≡ config_of self.now.setup }
     {
-        self.plain.setup.config()
+        self.stream.setup.config()
     }
 
     /// The position of the card, a frame number, that this reader loaded last.
     pub fn seen(&self) -> Option<u64>
         ensures { result ≡ self.now.seen }
     {
-        self.plain.seen
+        self.stream.seen
     }
 
     /// The frame that the next read begins with, a frame number: once the stream was started, the one behind those that it
@@ -93,7 +93,7 @@ impl Reader {
     pub fn next(&self) -> u64
         ensures { result ≡ self.now.next }
     {
-        self.plain.next
+        self.stream.next
     }
 
     /// How many channels the stream has: as many as its bindings, and one before there are any.
@@ -101,7 +101,7 @@ impl Reader {
         ensures value { result ≡ length self.now.setup.bindings }
         ensures some { 1 ≤ result }
     {
-        self.plain.setup.bindings.len()
+        self.stream.setup.bindings.len()
     }
 
     /// Sets the configuration and the bindings, takes the memory for one frame of the card, sets the default software
@@ -123,10 +123,10 @@ impl Reader {
         ensures only { IfErr result
             (λ e. (refusal_of Direction.Capture self.old.status call.HwParams ≡ Some e) ⊎ (e ≡ PcmError.Memory)) }
     {
-        self.plain.status.admit(Direction::Capture, Call::HwParams)?;
-        let frame = vec![in alloc; 0i16; self.plain.geometry.channels as usize]?;
+        self.stream.status.admit(Direction::Capture, Call::HwParams)?;
+        let frame = vec![in alloc; 0i16; self.stream.geometry.channels as usize]?;
         self.frame = frame;
-        self.plain = self.plain.configured_with(config, bindings);
+        self.stream = self.stream.configured_with(config, bindings);
         Ok(())
     }
 
@@ -137,8 +137,8 @@ impl Reader {
         ensures freed { refusal_of Direction.Capture self.old.status call.HwFree ≡ None
             → (result ≡ Ok tt) × (self.new ≡ freed self.old) }
     {
-        self.plain.status.admit(Direction::Capture, Call::HwFree)?;
-        self.plain = self.plain.freed();
+        self.stream.status.admit(Direction::Capture, Call::HwFree)?;
+        self.stream = self.stream.freed();
         self.frame.clear();
         Ok(())
     }
@@ -153,8 +153,8 @@ impl Reader {
         ensures ok { OnOk result (self.new ≡ with_params self.old params) }
         ensures err { OnErr result (self.new ≡ self.old) }
     {
-        self.plain.status.admit(Direction::Capture, Call::SwParams)?;
-        self.plain.setup.set_params(params)
+        self.stream.status.admit(Direction::Capture, Call::SwParams)?;
+        self.stream.setup.set_params(params)
     }
 
     /// The software parameters (`snd_pcm_sw_params_current`): the default ones until others are set, and of no use before
@@ -162,7 +162,7 @@ impl Reader {
     pub fn params(&self) -> SwParams
         ensures { result ≡ self.now.setup.params }
     {
-        self.plain.setup.params
+        self.stream.setup.params
     }
 
     /// Prepares the stream (`snd_pcm_prepare`): PREPARED, from SETUP, PREPARED or XRUN. A refused call changes nothing.
@@ -172,8 +172,8 @@ impl Reader {
         ensures prepared { refusal_of Direction.Capture self.old.status call.Prepare ≡ None
             → (result ≡ Ok tt) × (self.new ≡ in_state self.old State.Prepared) }
     {
-        self.plain.status.admit(Direction::Capture, Call::Prepare)?;
-        self.plain = self.plain.in_state(State::Prepared);
+        self.stream.status.admit(Direction::Capture, Call::Prepare)?;
+        self.stream = self.stream.in_state(State::Prepared);
         Ok(())
     }
 
@@ -185,8 +185,8 @@ impl Reader {
         ensures dropped { refusal_of Direction.Capture self.old.status call.Drop ≡ None
             → (result ≡ Ok tt) × (self.new ≡ in_state self.old State.Setup) }
     {
-        self.plain.status.admit(Direction::Capture, Call::Drop)?;
-        self.plain = self.plain.in_state(State::Setup);
+        self.stream.status.admit(Direction::Capture, Call::Drop)?;
+        self.stream = self.stream.in_state(State::Setup);
         Ok(())
     }
 

@@ -15,7 +15,7 @@ impl Reader {
     pub fn can_run_with(&self, config: &Config, bindings: &Bindings) -> bool
         ensures { IsTrue result ↔ CanRunWith self.now.geometry config.now bindings.now }
     {
-        can_run_with(&self.plain.geometry, config, bindings)
+        can_run_with(&self.stream.geometry, config, bindings)
     }
 
     /// Whether its calls may be made with this port: the port is one of the reader's ring, and has seen a position that is
@@ -23,8 +23,8 @@ impl Reader {
     pub fn can_use<P: SnoopPort>(&self, port: &P) -> bool
         ensures { IsTrue result ↔ CanUse self.now (P.view port.now) }
     {
-        is_same_ring(&port.geometry(), &self.plain.geometry)
-            && self.plain.seen.unwrap_or(0) <= port.seen()
+        is_same_ring(&port.geometry(), &self.stream.geometry)
+            && self.stream.seen.unwrap_or(0) <= port.seen()
     }
 
     /// Whether it may read into these samples, once it is configured: they have room for whole frames, at most 4,194,304
@@ -32,8 +32,8 @@ impl Reader {
     pub fn can_read(&self, out: &[i16]) -> bool
         ensures { IsTrue result ↔ CanRead self.now out.now }
     {
-        let channels = self.plain.setup.bindings.len() as usize;
-        !self.plain.setup.configured
+        let channels = self.stream.setup.bindings.len() as usize;
+        !self.stream.setup.configured
             || (out.len() % channels == 0 && out.len() / channels <= 4194304)
     }
 }

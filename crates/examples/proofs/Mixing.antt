@@ -14,8 +14,8 @@ use Rattle.mix_core.specs.HistoryLaws.{laid_of-append_published, laid_of-append_
 use Rattle.mix_core.specs.Stands.{Stands}
 use Rattle.mix_core.specs.Turn.{TurnLaid, core_of}
 use Rattle.mix_core.specs.View.{View}
-use Rattle.dmix_client.specs.declared.plain.Plain.{Plain}
-use Rattle.dmix_client.specs.declared.plain.Stretch.{Stretch}
+use Rattle.dmix_client.specs.declared.stream.PlaybackStream.{PlaybackStream}
+use Rattle.dmix_client.specs.declared.stream.Stretch.{Stretch}
 use Rattle.dmix_client.specs.Calls.{segment_of}
 use Rattle.dmix_client.specs.Expansion.{expand, sample_at}
 use Rattle.dmix_client.specs.Growth.{Follows, Grows, StandsFor, segment_entries}
@@ -66,18 +66,18 @@ HasMixed-sums v g placed taken same mixed =
     }
 
 -- a client that has written nothing has placed nothing
-entries_of-fresh : (g : Geometry) (m : ℕ) (c : Plain) (samples : List ℤ) → IsFresh c g m → entries_of g m (segment_of c) samples ≡ []
+entries_of-fresh : (g : Geometry) (m : ℕ) (c : PlaybackStream) (samples : List ℤ) → IsFresh c g m → entries_of g m (segment_of c) samples ≡ []
 entries_of-fresh g m c samples fresh =
     ap (λ (s : Stretch). entries_of g m (record { source = s.source; card = s.card; whole = s.committed; part = s.part }) samples) fresh.stretch
 
 -- a refused offer places nothing
-pub HasMixed-unwritten : (v : View) (g : Geometry) (m : ℕ) (c : Plain) (samples : List ℤ) (placed : List Entry) (taken : List Taken) → IsFresh c g m
+pub HasMixed-unwritten : (v : View) (g : Geometry) (m : ℕ) (c : PlaybackStream) (samples : List ℤ) (placed : List Entry) (taken : List Taken) → IsFresh c g m
     → HasMixed v placed taken → HasMixed v (placed ++ entries_of g m (segment_of c) samples) taken
 HasMixed-unwritten v g m c samples placed taken fresh mixed =
     subst (λ (es : List Entry). HasMixed v es taken) (sym (ap (λ (es : List Entry). placed ++ es) (entries_of-fresh g m c samples fresh) ∙ append-nil placed)) mixed
 
 -- its samples are those that it is offered
-Follows-fresh : (g : Geometry) (m : ℕ) (c : Plain) (samples : List ℤ) (n : ℕ) → IsFresh c g m → Follows c samples samples n
+Follows-fresh : (g : Geometry) (m : ℕ) (c : PlaybackStream) (samples : List ℤ) (n : ℕ) → IsFresh c g m → Follows c samples samples n
 Follows-fresh g m c samples n fresh k q below within =
     let source : c.stretch.source ≡ 0 = ap (λ (s : Stretch). s.source) fresh.stretch in
     let written : c.stretch.written ≡ 0 = ap (λ (s : Stretch). s.written) fresh.stretch in
@@ -85,13 +85,13 @@ Follows-fresh g m c samples n fresh k q below within =
     ap (λ (j : ℕ). sample_at samples (length c.setup.bindings) j q) at
 
 -- the first write of a client: its segment grows from nothing by what its turn placed
-pub Grows-fresh : (t u : Turn) (g : Geometry) (m : ℕ) (c d : Plain) (ring samples : List ℤ) (n : ℕ) → IsFresh c g m
+pub Grows-fresh : (t u : Turn) (g : Geometry) (m : ℕ) (c d : PlaybackStream) (ring samples : List ℤ) (n : ℕ) → IsFresh c g m
     → ((all : List ℤ) → StandsFor c ring all → Follows c all samples n → Grows TurnLaid t u c d all) → Grows TurnLaid t u c d samples
 Grows-fresh t u g m c d ring samples n fresh keeps =
     keeps samples (StandsFor-nothing c ring samples (ap (λ (s : Stretch). s.written) fresh.stretch)) (Follows-fresh g m c samples n fresh)
 
 -- what it placed is its segment
-entries_of-written : (t u : Turn) (g : Geometry) (m : ℕ) (c d : Plain) (samples : List ℤ) → IsFresh c g m → (grows : Grows TurnLaid t u c d samples)
+entries_of-written : (t u : Turn) (g : Geometry) (m : ℕ) (c d : PlaybackStream) (samples : List ℤ) → IsFresh c g m → (grows : Grows TurnLaid t u c d samples)
     → grows.entries ≡ entries_of g m (segment_of d) samples
 entries_of-written t u g m c d samples fresh grows =
     let before : segment_entries c samples ≡ [] =
@@ -104,7 +104,7 @@ entries_of-written t u g m c d samples fresh grows =
     ap (λ (es : List Entry). es ++ grows.entries) (sym before) ∙ sym grows.grown ∙ after
 
 -- the core has it at its end
-pub HasMixed-written : (t u : Turn) (g : Geometry) (m : ℕ) (c d : Plain) (samples : List ℤ) (placed : List Entry) (taken : List Taken) → IsFresh c g m
+pub HasMixed-written : (t u : Turn) (g : Geometry) (m : ℕ) (c d : PlaybackStream) (samples : List ℤ) (placed : List Entry) (taken : List Taken) → IsFresh c g m
     → Grows TurnLaid t u c d samples → HasMixed (core_of t) placed taken → HasMixed (core_of u) (placed ++ entries_of g m (segment_of d) samples) taken
 HasMixed-written t u g m c d samples placed taken fresh grows mixed =
     let laid : TurnLaid t u (entries_of g m (segment_of d) samples) = subst (TurnLaid t u) (entries_of-written t u g m c d samples fresh grows) grows.laid_them in

@@ -9,7 +9,7 @@ use Rattle.mix_core.specs.History.{AreExact, AreInOrder, Row, laid_of, taken_of}
 use Rattle.mix_core.specs.Stands.{Stands}
 use Rattle.mix_core.specs.View.{View}
 use Rattle.pcm_states.specs.declared.states.State.TheVariants.{Prepared}
-use Rattle.dmix_client.specs.declared.plain.Plain.{Plain}
+use Rattle.dmix_client.specs.declared.stream.PlaybackStream.{PlaybackStream}
 use Rattle.dmix_client.specs.Calls.{waiting}
 use Rattle.dmix_client.specs.Expansion.{expand}
 
@@ -31,7 +31,7 @@ pub record AreSums (g : Geometry) (placed : List Entry) (taken : List Taken) : T
   pub exact : AreExact placed taken
 
 -- a client of a ring's member that is set up and prepared, and has written nothing yet
-pub record IsFresh (c : Plain) (g : Geometry) (member : ℕ) : Type 0 where
+pub record IsFresh (c : PlaybackStream) (g : Geometry) (member : ℕ) : Type 0 where
   pub geometry : c.identity.geometry ≡ g
   pub member_is : c.identity.member ≡ member
   pub bindings : c.setup.bindings ≡ identity g.channels

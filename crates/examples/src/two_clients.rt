@@ -56,7 +56,7 @@ pub fn mix_two(
 
 /// A client of a ring's member, set up and prepared, which plays each of its channels in the card's of the same number.
 fn open(alloc: Global, geometry: Geometry, config: Config, member: u32) -> Result<Client, PcmError>
-    ensures { IfOk result (λ client. IsFresh client.plain geometry member) }
+    ensures { IfOk result (λ client. IsFresh client.stream geometry member) }
 {
     let bindings = Bindings::identity(geometry.channels);
     if !can_run_with(&geometry, &config, &bindings) {
@@ -75,10 +75,10 @@ fn write(
     samples: &[i16],
 ) -> Result<u32, PcmError>
     requires member { member < length core.old.marks }
-    requires fresh { IsFresh client.old.plain core.old.geometry member }
+    requires fresh { IsFresh client.old.stream core.old.geometry member }
     ensures mixed { (placed : List Entry) → HasMixed core.old placed [] →
         HasMixed core.new (placed ++ entries_of core.old.geometry member
-        (segment_of client.new.plain) samples.now) [] }
+        (segment_of client.new.stream) samples.now) [] }
     ensures geometry { core.new.geometry ≡ core.old.geometry }
     ensures members { length core.new.marks ≡ length core.old.marks }
 {

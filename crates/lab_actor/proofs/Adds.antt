@@ -6,7 +6,7 @@ use Rattle.bindings.specs.Bound.{rising}
 use Rattle.mix_core.specs.declared.port.Entry.{Entry}
 use Rattle.mix_core.specs.declared.port.Kind.TheVariants.{Added}
 use Rattle.mix_core.specs.Laid.{AreAdds}
-use Rattle.dmix_client.specs.declared.plain.Plain.{Plain}
+use Rattle.dmix_client.specs.declared.stream.PlaybackStream.{PlaybackStream}
 use Rattle.dmix_client.specs.Expansion.{frame_entries}
 use Rattle.dmix_client.specs.Growth.{segment_entries}
 
@@ -30,7 +30,7 @@ flat-adds : (f : ℕ → List Entry) (js : List ℕ) → ((j : ℕ) → AreAdds 
 flat-adds f [] adds = tt
 flat-adds f (j ∷ js) adds = AreAdds-append (f j) (flat_map f js) (adds j) (flat-adds f js adds)
 
-pub segment-adds : (c : Plain) (samples : List ℤ) → AreAdds (segment_entries c samples)
+pub segment-adds : (c : PlaybackStream) (samples : List ℤ) → AreAdds (segment_entries c samples)
 segment-adds c samples = AreAdds-append _ _
     (flat-adds _ (range_with_len 0 c.stretch.committed) (λ j. frame-adds c.identity.member c.setup.bindings _ (length c.setup.bindings) _))
     (frame-adds c.identity.member c.setup.bindings _ c.stretch.part _)

@@ -14,7 +14,7 @@ use Rattle.mix_core.specs.declared.port.MixPort as mixport
 use Rattle.mix_core.specs.HistoryLaws.{total-append}
 use Rattle.mix_core.specs.Laid.{AreAdds, stand_after, total}
 use Rattle.mix_core.specs.PortLaws.{standing-adds}
-use Rattle.dmix_client.specs.declared.plain.Plain.{Plain}
+use Rattle.dmix_client.specs.declared.stream.PlaybackStream.{PlaybackStream}
 use Rattle.dmix_client.specs.Calls.{segment_of}
 use Rattle.dmix_client.specs.Expansion.{run_entries, sample_at}
 use Rattle.dmix_client.specs.Growth.{Grows, Loses, segment_entries}
@@ -23,13 +23,13 @@ use Rattle.lab_actor.specs.ClientLines.{Extends, entries_by, stretches_entries}
 use Rattle.lab_actor.proofs.Adds.{AreAdds-suffix, segment-adds}
 
 -- a stretch in which nothing was laid has no entries
-none-laid : (c : Plain) (samples : List ℤ) → c.stretch.committed ≡ 0 → c.stretch.part ≡ 0 → segment_entries c samples ≡ []
+none-laid : (c : PlaybackStream) (samples : List ℤ) → c.stretch.committed ≡ 0 → c.stretch.part ≡ 0 → segment_entries c samples ≡ []
 none-laid c samples no_frame no_part =
     ap (λ (k : ℕ). run_entries c.identity.member c.setup.bindings (λ j. sample_at samples (length c.setup.bindings) (c.stretch.source + j)) c.stretch.card 0 k c.stretch.part) no_frame
     ∙ ap (λ (k : ℕ). run_entries c.identity.member c.setup.bindings (λ j. sample_at samples (length c.setup.bindings) (c.stretch.source + j)) c.stretch.card 0 0 k) no_part
 
 -- the entries of a stretch are those of its segment, where it has one
-pub stretch-entries : (c : Plain) (samples : List ℤ) → flat_map (entries_by c samples) (stretch_of c) ≡ segment_entries c samples
+pub stretch-entries : (c : PlaybackStream) (samples : List ℤ) → flat_map (entries_by c samples) (stretch_of c) ≡ segment_entries c samples
 stretch-entries c samples = by_test (nat_eq c.stretch.committed 0 && nat_eq c.stretch.part 0) refl
   where
     by_test : (test : Bool) → (nat_eq c.stretch.committed 0 && nat_eq c.stretch.part 0) ≡ test
@@ -38,7 +38,7 @@ stretch-entries c samples = by_test (nat_eq c.stretch.committed 0 && nat_eq c.st
     by_test false some = append-nil (segment_entries c samples)
 
 -- the entries of segments are the same for a client of the same member and bindings
-same-entries : (c d : Plain) (samples : List ℤ) (segments : List Segment) → d.identity.member ≡ c.identity.member → d.setup.bindings ≡ c.setup.bindings
+same-entries : (c d : PlaybackStream) (samples : List ℤ) (segments : List Segment) → d.identity.member ≡ c.identity.member → d.setup.bindings ≡ c.setup.bindings
     → flat_map (entries_by c samples) segments ≡ flat_map (entries_by d samples) segments
 same-entries c d samples [] member bindings = refl
 same-entries c d samples (segment ∷ segments) member bindings =
@@ -50,7 +50,7 @@ same-entries c d samples (segment ∷ segments) member bindings =
 
 module _ {S : Type 0} (P : mixport.Ghosts S) (composes : Composes P.laid) where
   -- nothing was laid, and the entries are the same
-  pub Extends-still : (p : S) (c d : Plain) (samples : List ℤ) (ended : List Segment) → segment_entries c samples ≡ stretches_entries d samples ended
+  pub Extends-still : (p : S) (c d : PlaybackStream) (samples : List ℤ) (ended : List Segment) → segment_entries c samples ≡ stretches_entries d samples ended
       → d.identity.member ≡ c.identity.member → d.setup.bindings ≡ c.setup.bindings → Extends P samples p p c d ended
   Extends-still p c d samples ended same member bindings = record {
     away = record {
@@ -65,7 +65,7 @@ module _ {S : Type 0} (P : mixport.Ghosts S) (composes : Composes P.laid) where
   }
 
   -- a segment grew by what was laid
-  pub Extends-grows : (p q : S) (c d : Plain) (samples : List ℤ)
+  pub Extends-grows : (p q : S) (c d : PlaybackStream) (samples : List ℤ)
       → ((p q : S) (xs es : List Entry) → AreAdds es → P.laid p q es → P.ends_in p xs → P.ends_in q (xs ++ es))
       → Grows P.laid p q c d samples → Extends P samples p q c d []
   Extends-grows p q c d samples held_laid w =
@@ -86,11 +86,11 @@ module _ {S : Type 0} (P : mixport.Ghosts S) (composes : Composes P.laid) where
       }
 
   -- a segment lost what was withdrawn
-  pub Extends-back : (p q : S) (c d : Plain) (samples : List ℤ) → Loses P.laid P.ends_in p q c d samples → Extends P samples p q c d []
+  pub Extends-back : (p q : S) (c d : PlaybackStream) (samples : List ℤ) → Loses P.laid P.ends_in p q c d samples → Extends P samples p q c d []
   Extends-back p q c d samples loses = record { away = loses.away; same_member = loses.same_member; same_bindings = loses.same_bindings }
 
   -- one after the other
-  pub Extends-joined : (p q r : S) (c d e : Plain) (samples : List ℤ) (ended others : List Segment) → Extends P samples p q c d ended → Extends P samples q r d e others
+  pub Extends-joined : (p q r : S) (c d e : PlaybackStream) (samples : List ℤ) (ended others : List Segment) → Extends P samples p q c d ended → Extends P samples q r d e others
       → Extends P samples p r c e (ended ++ others)
   Extends-joined p q r c d e samples ended others first later =
       let one = first.away in

@@ -21,7 +21,7 @@ use Rattle.pcm_states.specs.declared.calls.Call.{Call}
 use Rattle.pcm_states.specs.declared.calls.Call.TheVariants as call
 use Rattle.pcm_stream.specs.Status.{is_moving, refusal_of}
 use Rattle.pcm_stream.specs.declared.direction.Direction.TheVariants.{Playback}
-use Rattle.dmix_client.specs.declared.plain.Plain.{Plain}
+use Rattle.dmix_client.specs.declared.stream.PlaybackStream.{PlaybackStream}
 use Rattle.dmix_client.specs.Calls.{Answered, base_of, dropped, in_state, is_paused, paused, prepared, rebased}
 use Rattle.dmix_client.specs.Course.{admitted, admitted_by}
 use Rattle.dmix_client.specs.Growth.{AnySamples, IsBacked, Keeps, KeepsBack, segment_entries}
@@ -40,15 +40,15 @@ module _ {S T : Type 0} (P : mixport.Ghosts S) (G : gates.Ghosts T) (composes : 
     (held_laid : (p q : S) (xs es : List Entry) → AreAdds es → P.laid p q es → P.ends_in p xs → P.ends_in q (xs ++ es))
     (ends_in_part : (p : S) (xs ys : List Entry) → P.ends_in p (xs ++ ys) → P.ends_in p ys) where
   -- a call was taken, and its answer is another's
-  pub answer-taken : {X : Type 0} (answer : Result X PcmError → Answer) (s t : S × T) (m : Course (Answered X)) (d : Plain) (result : Result X PcmError) (is : Answer)
+  pub answer-taken : {X : Type 0} (answer : Result X PcmError → Answer) (s t : S × T) (m : Course (Answered X)) (d : PlaybackStream) (result : Result X PcmError) (is : Answer)
       → TakesAt P G s m t (d, result) → is ≡ answer result → TakesAt P G s (answered answer m) t (d, is)
   answer-taken answer s t m d result is takes same =
       Takes-map (LoadsAt P G) (LaysAt P G) NoGet s t m (λ (done : Answered _). (done.0, answer done.1)) (d, result) (d, is) takes (ap (λ (a : Answer). (d, a)) (sym same))
 
   -- a call that lays entries, or none, and ends no stretch
   pub called-keeps : {X : Type 0} (s t : S × T) (wav : Sound) (c d : ClientView) (asked : Op) (answer : Answer) (result : Result X PcmError) (For : List ℤ → Type 0) (samples : List ℤ)
-      → IsReady P wav s.0 c → IsOffered wav c.plain samples asked → TakesAt P G s (made_call c.ring samples (P.view s.0).marks c.plain asked) t (d.plain, answer)
-      → Keeps P G s t c d result For → For wav.samples → ended_by asked answer c.plain d.plain ≡ [] → d.plain.fed ≤ frames_of wav → HasCalled P G s t wav c d asked answer
+      → IsReady P wav s.0 c → IsOffered wav c.stream samples asked → TakesAt P G s (made_call c.ring samples (P.view s.0).marks c.stream asked) t (d.stream, answer)
+      → Keeps P G s t c d result For → For wav.samples → ended_by asked answer c.stream d.stream ≡ [] → d.stream.fed ≤ frames_of wav → HasCalled P G s t wav c d asked answer
   called-keeps s t wav c d asked answer result For samples ready offered takes keeps for none fed =
       let grows = keeps.grows wav.samples ready.backed.stands for in
       record {
@@ -61,14 +61,14 @@ module _ {S T : Type 0} (P : mixport.Ghosts S) (G : gates.Ghosts T) (composes : 
           channels = ap length grows.same_bindings ∙ ready.channels;
           fed = fed;
         };
-        extends = subst (λ (ended : List Segment). Extends P wav.samples s.0 t.0 c.plain d.plain ended) (sym none)
-            (Extends-grows P composes s.0 t.0 c.plain d.plain wav.samples held_laid grows);
+        extends = subst (λ (ended : List Segment). Extends P wav.samples s.0 t.0 c.stream d.stream ended) (sym none)
+            (Extends-grows P composes s.0 t.0 c.stream d.stream wav.samples held_laid grows);
       }
 
   -- a rewind
   pub called-back : {X : Type 0} (s t : S × T) (wav : Sound) (c d : ClientView) (frames : ℕ) (answer : Answer) (result : Result X PcmError)
-      → IsReady P wav s.0 c → TakesAt P G s (made_call c.ring [] (P.view s.0).marks c.plain (op.Rewind frames)) t (d.plain, answer)
-      → KeepsBack P G s t c d result → d.plain.fed ≤ frames_of wav → HasCalled P G s t wav c d (op.Rewind frames) answer
+      → IsReady P wav s.0 c → TakesAt P G s (made_call c.ring [] (P.view s.0).marks c.stream (op.Rewind frames)) t (d.stream, answer)
+      → KeepsBack P G s t c d result → d.stream.fed ≤ frames_of wav → HasCalled P G s t wav c d (op.Rewind frames) answer
   called-back s t wav c d frames answer result ready takes keeps fed =
       let loses = keeps.loses wav.samples ready.backed.stands in
       record {
@@ -81,30 +81,30 @@ module _ {S T : Type 0} (P : mixport.Ghosts S) (G : gates.Ghosts T) (composes : 
           channels = ap length loses.same_bindings ∙ ready.channels;
           fed = fed;
         };
-        extends = Extends-back P composes s.0 t.0 c.plain d.plain wav.samples loses;
+        extends = Extends-back P composes s.0 t.0 c.stream d.stream wav.samples loses;
       }
 
   -- A resume. Where the client isn't paused any more its stretch ended, and its counts were based anew.
   pub called-resume : {X : Type 0} (s t : S × T) (wav : Sound) (c d : ClientView) (answer : Answer) (result : Result X PcmError)
-      → IsReady P wav s.0 c → IsSound c.plain c.ring → TakesAt P G s (made_call c.ring [] (P.view s.0).marks c.plain op.Resume) t (d.plain, answer)
-      → Keeps P G s t (record { plain = base_of c.plain d.plain; ring = c.ring }) d result AnySamples → d.plain.fed ≤ frames_of wav → HasCalled P G s t wav c d op.Resume answer
-  called-resume s t wav c d answer result ready sound takes keeps fed = by_test (is_paused c.plain.status.state && not (is_paused d.plain.status.state)) refl
+      → IsReady P wav s.0 c → IsSound c.stream c.ring → TakesAt P G s (made_call c.ring [] (P.view s.0).marks c.stream op.Resume) t (d.stream, answer)
+      → Keeps P G s t (record { stream = base_of c.stream d.stream; ring = c.ring }) d result AnySamples → d.stream.fed ≤ frames_of wav → HasCalled P G s t wav c d op.Resume answer
+  called-resume s t wav c d answer result ready sound takes keeps fed = by_test (is_paused c.stream.status.state && not (is_paused d.stream.status.state)) refl
     where
       in_pause : (state : State) (other : Bool) → (is_paused state && other) ≡ true → state ≡ Paused
       in_pause Paused other is = refl
       in_pause state other is = absurd (cc)
 
-      by_test : (test : Bool) → (is_paused c.plain.status.state && not (is_paused d.plain.status.state)) ≡ test → HasCalled P G s t wav c d op.Resume answer
+      by_test : (test : Bool) → (is_paused c.stream.status.state && not (is_paused d.stream.status.state)) ≡ test → HasCalled P G s t wav c d op.Resume answer
       by_test true is =
-          let base_is : base_of c.plain d.plain ≡ rebased c.plain = ap (λ (test : Bool). if test then rebased c.plain else c.plain) is in
-          let ended_is : ended_by op.Resume answer c.plain d.plain ≡ stretch_of c.plain = ap (λ (test : Bool). if test then stretch_of c.plain else []) is in
-          let base : ClientView = record { plain = rebased c.plain; ring = c.ring } in
-          let since : Keeps P G s t base d result AnySamples = subst (λ (b : Plain). Keeps P G s t (record { plain = b; ring = c.ring }) d result AnySamples) base_is keeps in
-          let backed : IsBacked P.ends_in s.0 base wav.samples = IsBacked-rebased P G s.0 c.plain c.ring wav.samples ends_in_part sound (in_pause c.plain.status.state _ is) ready.backed in
+          let base_is : base_of c.stream d.stream ≡ rebased c.stream = ap (λ (test : Bool). if test then rebased c.stream else c.stream) is in
+          let ended_is : ended_by op.Resume answer c.stream d.stream ≡ stretch_of c.stream = ap (λ (test : Bool). if test then stretch_of c.stream else []) is in
+          let base : ClientView = record { stream = rebased c.stream; ring = c.ring } in
+          let since : Keeps P G s t base d result AnySamples = subst (λ (b : PlaybackStream). Keeps P G s t (record { stream = b; ring = c.ring }) d result AnySamples) base_is keeps in
+          let backed : IsBacked P.ends_in s.0 base wav.samples = IsBacked-rebased P G s.0 c.stream c.ring wav.samples ends_in_part sound (in_pause c.stream.status.state _ is) ready.backed in
           let grows = since.grows wav.samples backed.stands tt in
-          let ends : Extends P wav.samples s.0 s.0 c.plain base.plain (stretch_of c.plain) =
-          Extends-still P composes s.0 c.plain base.plain wav.samples (stretch_of c.plain)
-          (sym (append-nil (flat_map (entries_by c.plain wav.samples) (stretch_of c.plain)) ∙ stretch-entries c.plain wav.samples)) refl refl in
+          let ends : Extends P wav.samples s.0 s.0 c.stream base.stream (stretch_of c.stream) =
+          Extends-still P composes s.0 c.stream base.stream wav.samples (stretch_of c.stream)
+          (sym (append-nil (flat_map (entries_by c.stream wav.samples) (stretch_of c.stream)) ∙ stretch-entries c.stream wav.samples)) refl refl in
           record {
             samples = [];
             offered = tt;
@@ -115,18 +115,18 @@ module _ {S T : Type 0} (P : mixport.Ghosts S) (G : gates.Ghosts T) (composes : 
               channels = ap length grows.same_bindings ∙ ready.channels;
               fed = fed;
             };
-            extends = subst (λ (ended : List Segment). Extends P wav.samples s.0 t.0 c.plain d.plain ended) (append-nil (stretch_of c.plain) ∙ sym ended_is)
-                (Extends-joined P composes s.0 s.0 t.0 c.plain base.plain d.plain wav.samples (stretch_of c.plain) [] ends
-                (Extends-grows P composes s.0 t.0 base.plain d.plain wav.samples held_laid grows));
+            extends = subst (λ (ended : List Segment). Extends P wav.samples s.0 t.0 c.stream d.stream ended) (append-nil (stretch_of c.stream) ∙ sym ended_is)
+                (Extends-joined P composes s.0 s.0 t.0 c.stream base.stream d.stream wav.samples (stretch_of c.stream) [] ends
+                (Extends-grows P composes s.0 t.0 base.stream d.stream wav.samples held_laid grows));
           }
       by_test false is =
-          let base_is : base_of c.plain d.plain ≡ c.plain = ap (λ (test : Bool). if test then rebased c.plain else c.plain) is in
-          let ended_is : ended_by op.Resume answer c.plain d.plain ≡ [] = ap (λ (test : Bool). if test then stretch_of c.plain else []) is in
+          let base_is : base_of c.stream d.stream ≡ c.stream = ap (λ (test : Bool). if test then rebased c.stream else c.stream) is in
+          let ended_is : ended_by op.Resume answer c.stream d.stream ≡ [] = ap (λ (test : Bool). if test then stretch_of c.stream else []) is in
           called-keeps s t wav c d op.Resume answer result AnySamples [] ready tt takes
-          (subst (λ (b : Plain). Keeps P G s t (record { plain = b; ring = c.ring }) d result AnySamples) base_is keeps) tt ended_is fed
+          (subst (λ (b : PlaybackStream). Keeps P G s t (record { stream = b; ring = c.ring }) d result AnySamples) base_is keeps) tt ended_is fed
 
   -- a call without steps, unless it is refused
-  admitted-taken : {X : Type 0} (s : S × T) (c : Plain) (what : Call) (end : Answered X) (d : Plain) (result : Result X PcmError)
+  admitted-taken : {X : Type 0} (s : S × T) (c : PlaybackStream) (what : Call) (end : Answered X) (d : PlaybackStream) (result : Result X PcmError)
       → ((e : PcmError) → refusal_of Playback c.status what ≡ Some e → (result ≡ Err e) × (d ≡ c)) → (refusal_of Playback c.status what ≡ None → (result ≡ end.1) × (d ≡ end.0))
       → TakesAt P G s (admitted c what (ends end)) s (d, result)
   admitted-taken s c what end d result refused admits = by_refusal (refusal_of Playback c.status what) refl
@@ -137,7 +137,7 @@ module _ {S T : Type 0} (P : mixport.Ghosts S) (G : gates.Ghosts T) (composes : 
 
   -- a client in which nothing but its state changed, so that it moves no frames
   IsReady-resting : (wav : Sound) (p : S) (c : ClientView) (state : State) → is_moving state ≡ false → IsReady P wav p c
-      → IsReady P wav p (record { plain = in_state c.plain state; ring = c.ring })
+      → IsReady P wav p (record { stream = in_state c.stream state; ring = c.ring })
   IsReady-resting wav p c state rests ready = record {
     usable = record {
       same_geometry = ready.usable.same_geometry;
@@ -152,7 +152,7 @@ module _ {S T : Type 0} (P : mixport.Ghosts S) (G : gates.Ghosts T) (composes : 
   }
 
   -- a client that is prepared anew
-  IsReady-prepared : (wav : Sound) (p : S) (c : ClientView) → IsReady P wav p c → IsReady P wav p (record { plain = prepared c.plain; ring = c.ring })
+  IsReady-prepared : (wav : Sound) (p : S) (c : ClientView) → IsReady P wav p c → IsReady P wav p (record { stream = prepared c.stream; ring = c.ring })
   IsReady-prepared wav p c ready = record {
     usable = record {
       same_geometry = ready.usable.same_geometry;
@@ -161,98 +161,98 @@ module _ {S T : Type 0} (P : mixport.Ghosts S) (G : gates.Ghosts T) (composes : 
       behind = λ moves going. absurd (cc);
       newer = λ moves going. absurd (cc);
     };
-    backed = IsBacked-new P G p (record { plain = prepared c.plain; ring = c.ring }) wav.samples refl refl refl
-        (ends_in_part p (segment_entries c.plain wav.samples) [] (subst (P.ends_in p) (sym (append-nil (segment_entries c.plain wav.samples))) ready.backed.segment));
+    backed = IsBacked-new P G p (record { stream = prepared c.stream; ring = c.ring }) wav.samples refl refl refl
+        (ends_in_part p (segment_entries c.stream wav.samples) [] (subst (P.ends_in p) (sym (append-nil (segment_entries c.stream wav.samples))) ready.backed.segment));
     channels = ready.channels;
     fed = ready.fed;
   }
 
   -- a line that changes nothing
-  pub called-none : (s : S × T) (wav : Sound) (c : ClientView) (asked : Op) (answer : Answer) → IsReady P wav s.0 c → IsOffered wav c.plain [] asked
-      → TakesAt P G s (made_call c.ring [] (P.view s.0).marks c.plain asked) s (c.plain, answer) → ended_by asked answer c.plain c.plain ≡ [] → HasCalled P G s s wav c c asked answer
+  pub called-none : (s : S × T) (wav : Sound) (c : ClientView) (asked : Op) (answer : Answer) → IsReady P wav s.0 c → IsOffered wav c.stream [] asked
+      → TakesAt P G s (made_call c.ring [] (P.view s.0).marks c.stream asked) s (c.stream, answer) → ended_by asked answer c.stream c.stream ≡ [] → HasCalled P G s s wav c c asked answer
   called-none s wav c asked answer ready offered takes none = record {
     samples = [];
     offered = offered;
     takes = takes;
     ready = ready;
-    extends = subst (λ (ended : List Segment). Extends P wav.samples s.0 s.0 c.plain c.plain ended) (sym none)
-        (Extends-still P composes s.0 c.plain c.plain wav.samples [] refl refl refl);
+    extends = subst (λ (ended : List Segment). Extends P wav.samples s.0 s.0 c.stream c.stream ended) (sym none)
+        (Extends-still P composes s.0 c.stream c.stream wav.samples [] refl refl refl);
   }
 
   pub called-drop : (s : S × T) (wav : Sound) (c d : ClientView) (answer : Answer) (result : Result (Unit {0}) PcmError) → IsReady P wav s.0 c
-      → ((e : PcmError) → refusal_of Playback c.plain.status call.Drop ≡ Some e → (result ≡ Err e) × (d ≡ c))
-      → (refusal_of Playback c.plain.status call.Drop ≡ None → (result ≡ Ok tt) × (d ≡ record { plain = dropped c.plain; ring = c.ring }))
+      → ((e : PcmError) → refusal_of Playback c.stream.status call.Drop ≡ Some e → (result ≡ Err e) × (d ≡ c))
+      → (refusal_of Playback c.stream.status call.Drop ≡ None → (result ≡ Ok tt) × (d ≡ record { stream = dropped c.stream; ring = c.ring }))
       → answer ≡ done_answer result → HasCalled P G s s wav c d op.Drop answer
-  called-drop s wav c d answer result ready refused drops is = by_refusal (refusal_of Playback c.plain.status call.Drop) refl
+  called-drop s wav c d answer result ready refused drops is = by_refusal (refusal_of Playback c.stream.status call.Drop) refl
     where
-      takes : TakesAt P G s (made_call c.ring [] (P.view s.0).marks c.plain op.Drop) s (d.plain, answer)
-      takes = answer-taken done_answer s s _ d.plain result answer
-          (admitted-taken s c.plain call.Drop (dropped c.plain, Ok tt) d.plain result
-          (λ e found. let r = refused e found in (r.0, ap (λ (v : ClientView). v.plain) r.1)) (λ found. let r = drops found in (r.0, ap (λ (v : ClientView). v.plain) r.1))) is
+      takes : TakesAt P G s (made_call c.ring [] (P.view s.0).marks c.stream op.Drop) s (d.stream, answer)
+      takes = answer-taken done_answer s s _ d.stream result answer
+          (admitted-taken s c.stream call.Drop (dropped c.stream, Ok tt) d.stream result
+          (λ e found. let r = refused e found in (r.0, ap (λ (v : ClientView). v.stream) r.1)) (λ found. let r = drops found in (r.0, ap (λ (v : ClientView). v.stream) r.1))) is
 
-      called : (ready_now : IsReady P wav s.0 d) → segment_entries c.plain wav.samples ≡ segment_entries d.plain wav.samples
-          → d.plain.identity.member ≡ c.plain.identity.member → d.plain.setup.bindings ≡ c.plain.setup.bindings → HasCalled P G s s wav c d op.Drop answer
+      called : (ready_now : IsReady P wav s.0 d) → segment_entries c.stream wav.samples ≡ segment_entries d.stream wav.samples
+          → d.stream.identity.member ≡ c.stream.identity.member → d.stream.setup.bindings ≡ c.stream.setup.bindings → HasCalled P G s s wav c d op.Drop answer
       called ready_now same member bindings = record {
         samples = [];
         offered = tt;
         takes = takes;
         ready = ready_now;
-        extends = Extends-still P composes s.0 c.plain d.plain wav.samples [] same member bindings;
+        extends = Extends-still P composes s.0 c.stream d.stream wav.samples [] same member bindings;
       }
 
-      by_refusal : (refusal : Option PcmError) → refusal_of Playback c.plain.status call.Drop ≡ refusal → HasCalled P G s s wav c d op.Drop answer
+      by_refusal : (refusal : Option PcmError) → refusal_of Playback c.stream.status call.Drop ≡ refusal → HasCalled P G s s wav c d op.Drop answer
       by_refusal None found =
           let d_is = (drops found).1 in
           called (subst (IsReady P wav s.0) (sym d_is) (IsReady-resting wav s.0 c Setup refl ready))
-          (ap (λ (v : ClientView). segment_entries v.plain wav.samples) (sym d_is)) (ap (λ (v : ClientView). v.plain.identity.member) d_is) (ap (λ (v : ClientView). v.plain.setup.bindings) d_is)
+          (ap (λ (v : ClientView). segment_entries v.stream wav.samples) (sym d_is)) (ap (λ (v : ClientView). v.stream.identity.member) d_is) (ap (λ (v : ClientView). v.stream.setup.bindings) d_is)
       by_refusal (Some e) found =
           let d_is = (refused e found).1 in
           called (subst (IsReady P wav s.0) (sym d_is) ready)
-          (ap (λ (v : ClientView). segment_entries v.plain wav.samples) (sym d_is)) (ap (λ (v : ClientView). v.plain.identity.member) d_is) (ap (λ (v : ClientView). v.plain.setup.bindings) d_is)
+          (ap (λ (v : ClientView). segment_entries v.stream wav.samples) (sym d_is)) (ap (λ (v : ClientView). v.stream.identity.member) d_is) (ap (λ (v : ClientView). v.stream.setup.bindings) d_is)
 
   pub called-prepare : (s : S × T) (wav : Sound) (c d : ClientView) (answer : Answer) (result : Result (Unit {0}) PcmError) → IsReady P wav s.0 c
-      → ((e : PcmError) → refusal_of Playback c.plain.status call.Prepare ≡ Some e → (result ≡ Err e) × (d ≡ c))
-      → (refusal_of Playback c.plain.status call.Prepare ≡ None → (result ≡ Ok tt) × (d ≡ record { plain = prepared c.plain; ring = c.ring }))
+      → ((e : PcmError) → refusal_of Playback c.stream.status call.Prepare ≡ Some e → (result ≡ Err e) × (d ≡ c))
+      → (refusal_of Playback c.stream.status call.Prepare ≡ None → (result ≡ Ok tt) × (d ≡ record { stream = prepared c.stream; ring = c.ring }))
       → answer ≡ done_answer result → HasCalled P G s s wav c d op.Prepare answer
-  called-prepare s wav c d answer result ready refused prepares is = by_refusal (refusal_of Playback c.plain.status call.Prepare) refl
+  called-prepare s wav c d answer result ready refused prepares is = by_refusal (refusal_of Playback c.stream.status call.Prepare) refl
     where
-      takes : TakesAt P G s (made_call c.ring [] (P.view s.0).marks c.plain op.Prepare) s (d.plain, answer)
-      takes = answer-taken done_answer s s _ d.plain result answer
-          (admitted-taken s c.plain call.Prepare (prepared c.plain, Ok tt) d.plain result
-          (λ e found. let r = refused e found in (r.0, ap (λ (v : ClientView). v.plain) r.1)) (λ found. let r = prepares found in (r.0, ap (λ (v : ClientView). v.plain) r.1))) is
+      takes : TakesAt P G s (made_call c.ring [] (P.view s.0).marks c.stream op.Prepare) s (d.stream, answer)
+      takes = answer-taken done_answer s s _ d.stream result answer
+          (admitted-taken s c.stream call.Prepare (prepared c.stream, Ok tt) d.stream result
+          (λ e found. let r = refused e found in (r.0, ap (λ (v : ClientView). v.stream) r.1)) (λ found. let r = prepares found in (r.0, ap (λ (v : ClientView). v.stream) r.1))) is
 
-      called : (e : Plain) (ring : List ℤ) (a : Answer) → d ≡ record { plain = e; ring = ring } → answer ≡ a → IsReady P wav s.0 (record { plain = e; ring = ring })
-          → Extends P wav.samples s.0 s.0 c.plain e (ended_by op.Prepare a c.plain e) → HasCalled P G s s wav c d op.Prepare answer
+      called : (e : PlaybackStream) (ring : List ℤ) (a : Answer) → d ≡ record { stream = e; ring = ring } → answer ≡ a → IsReady P wav s.0 (record { stream = e; ring = ring })
+          → Extends P wav.samples s.0 s.0 c.stream e (ended_by op.Prepare a c.stream e) → HasCalled P G s s wav c d op.Prepare answer
       called e ring a d_is a_is ready_now extends = record {
         samples = [];
         offered = tt;
         takes = takes;
         ready = subst (IsReady P wav s.0) (sym d_is) ready_now;
-        extends = subst (λ (v : ClientView). Extends P wav.samples s.0 s.0 c.plain v.plain (ended_by op.Prepare answer c.plain v.plain)) (sym d_is)
-            (subst (λ (x : Answer). Extends P wav.samples s.0 s.0 c.plain e (ended_by op.Prepare x c.plain e)) (sym a_is) extends);
+        extends = subst (λ (v : ClientView). Extends P wav.samples s.0 s.0 c.stream v.stream (ended_by op.Prepare answer c.stream v.stream)) (sym d_is)
+            (subst (λ (x : Answer). Extends P wav.samples s.0 s.0 c.stream e (ended_by op.Prepare x c.stream e)) (sym a_is) extends);
       }
 
-      by_refusal : (refusal : Option PcmError) → refusal_of Playback c.plain.status call.Prepare ≡ refusal → HasCalled P G s s wav c d op.Prepare answer
+      by_refusal : (refusal : Option PcmError) → refusal_of Playback c.stream.status call.Prepare ≡ refusal → HasCalled P G s s wav c d op.Prepare answer
       by_refusal None found =
           let r = prepares found in
-          called (prepared c.plain) c.ring Done r.1 (is ∙ ap done_answer r.0) (IsReady-prepared wav s.0 c ready)
-          (Extends-still P composes s.0 c.plain (prepared c.plain) wav.samples (stretch_of c.plain)
-          (sym (append-nil (flat_map (entries_by c.plain wav.samples) (stretch_of c.plain)) ∙ stretch-entries c.plain wav.samples)) refl refl)
+          called (prepared c.stream) c.ring Done r.1 (is ∙ ap done_answer r.0) (IsReady-prepared wav s.0 c ready)
+          (Extends-still P composes s.0 c.stream (prepared c.stream) wav.samples (stretch_of c.stream)
+          (sym (append-nil (flat_map (entries_by c.stream wav.samples) (stretch_of c.stream)) ∙ stretch-entries c.stream wav.samples)) refl refl)
       by_refusal (Some e) found =
           let r = refused e found in
-          called c.plain c.ring (Failed (reported e)) r.1 (is ∙ ap done_answer r.0) ready
-          (Extends-still P composes s.0 c.plain c.plain wav.samples [] refl refl refl)
+          called c.stream c.ring (Failed (reported e)) r.1 (is ∙ ap done_answer r.0) ready
+          (Extends-still P composes s.0 c.stream c.stream wav.samples [] refl refl refl)
 
   -- A pause. It begins with the counts that the client has.
   pub called-pause : {X : Type 0} (s t : S × T) (wav : Sound) (c d : ClientView) (answer : Answer) (result : Result X PcmError) → IsReady P wav s.0 c
-      → TakesAt P G s (made_call c.ring [] (P.view s.0).marks c.plain op.Pause) t (d.plain, answer)
-      → Keeps P G s t (record { plain = base_of c.plain d.plain; ring = c.ring }) d result AnySamples
-      → ((e : PcmError) → refusal_of Playback c.plain.status call.Pause ≡ Some e → d ≡ c)
-      → (refusal_of Playback c.plain.status call.Pause ≡ None → d ≡ record { plain = paused c.plain; ring = c.ring })
-      → d.plain.fed ≤ frames_of wav → HasCalled P G s t wav c d op.Pause answer
+      → TakesAt P G s (made_call c.ring [] (P.view s.0).marks c.stream op.Pause) t (d.stream, answer)
+      → Keeps P G s t (record { stream = base_of c.stream d.stream; ring = c.ring }) d result AnySamples
+      → ((e : PcmError) → refusal_of Playback c.stream.status call.Pause ≡ Some e → d ≡ c)
+      → (refusal_of Playback c.stream.status call.Pause ≡ None → d ≡ record { stream = paused c.stream; ring = c.ring })
+      → d.stream.fed ≤ frames_of wav → HasCalled P G s t wav c d op.Pause answer
   called-pause s t wav c d answer result ready takes keeps refused pauses fed =
       called-keeps s t wav c d op.Pause answer result AnySamples [] ready tt takes
-      (subst (λ (b : Plain). Keeps P G s t (record { plain = b; ring = c.ring }) d result AnySamples) (base_is (refusal_of Playback c.plain.status call.Pause) refl) keeps) tt refl fed
+      (subst (λ (b : PlaybackStream). Keeps P G s t (record { stream = b; ring = c.ring }) d result AnySamples) (base_is (refusal_of Playback c.stream.status call.Pause) refl) keeps) tt refl fed
     where
       not_both : (one : Bool) → (one && not one) ≡ false
       not_both true = refl
@@ -262,13 +262,13 @@ module _ {S T : Type 0} (P : mixport.Ghosts S) (G : gates.Ghosts T) (composes : 
       not_now true = refl
       not_now false = refl
 
-      base_is : (refusal : Option PcmError) → refusal_of Playback c.plain.status call.Pause ≡ refusal → base_of c.plain d.plain ≡ c.plain
+      base_is : (refusal : Option PcmError) → refusal_of Playback c.stream.status call.Pause ≡ refusal → base_of c.stream d.stream ≡ c.stream
       base_is None found =
-          ap (λ (v : ClientView). base_of c.plain v.plain) (pauses found)
-          ∙ ap (λ (test : Bool). if test then rebased c.plain else c.plain) (not_now (is_paused c.plain.status.state))
+          ap (λ (v : ClientView). base_of c.stream v.stream) (pauses found)
+          ∙ ap (λ (test : Bool). if test then rebased c.stream else c.stream) (not_now (is_paused c.stream.status.state))
       base_is (Some e) found =
-          ap (λ (v : ClientView). base_of c.plain v.plain) (refused e found)
-          ∙ ap (λ (test : Bool). if test then rebased c.plain else c.plain) (not_both (is_paused c.plain.status.state))
+          ap (λ (v : ClientView). base_of c.stream v.stream) (refused e found)
+          ∙ ap (λ (test : Bool). if test then rebased c.stream else c.stream) (not_both (is_paused c.stream.status.state))
 
   -- a line that isn't a client's, and a `die`, which makes no call
   pub called-refused : (s : S × T) (wav : Sound) (c : ClientView) (asked : Op) → IsReady P wav s.0 c

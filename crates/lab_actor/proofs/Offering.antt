@@ -4,14 +4,14 @@ use Rattle.std.proofs.Math.Nat.{div-mul-le_self, mul-div_cancel, mul-le-mul_righ
 use Rattle.std.proofs.lemmas.Bool.Decides.{nat_tests}
 use Rattle.std.proofs.lemmas.List.{get_or-drop, get_or-take, length-drop, length-take}
 use Rattle.std.specs.Prelude.{ℤ, pos, ◌-◌, ◌/◌, ◌^◌, min}
-use Rattle.dmix_client.specs.declared.plain.Plain.{Plain}
+use Rattle.dmix_client.specs.declared.stream.PlaybackStream.{PlaybackStream}
 use Rattle.dmix_client.specs.Growth.{Follows}
 use Rattle.dmix_client.specs.Writes.{IsOffer, frames_in}
 use Rattle.wav_io.specs.Sound.{Sound}
 use Rattle.lab_run.specs.Client.{frames_of}
 
 -- a write offers the next frames of a client's file
-pub record Offers (wav : Sound) (c : Plain) (offer : List ℤ) (n : ℕ) : Type 0 where
+pub record Offers (wav : Sound) (c : PlaybackStream) (offer : List ℤ) (n : ℕ) : Type 0 where
   pub frames : frames_in c offer ≡ n
   pub held : n * length c.setup.bindings ≤ length offer
   pub most : c.fed + n ≤ frames_of wav
@@ -19,7 +19,7 @@ pub record Offers (wav : Sound) (c : Plain) (offer : List ℤ) (n : ℕ) : Type 
       → get_or offer (k * length c.setup.bindings + q) (pos 0) ≡ get_or wav.samples ((c.fed + k) * length c.setup.bindings + q) (pos 0)
 
 -- a slice of the file from the frames that are fed on
-pub slice-Offers : (wav : Sound) (c : Plain) (n : ℕ) → 1 ≤ length c.setup.bindings → length c.setup.bindings ≡ wav.channels → c.fed + n ≤ frames_of wav
+pub slice-Offers : (wav : Sound) (c : PlaybackStream) (n : ℕ) → 1 ≤ length c.setup.bindings → length c.setup.bindings ≡ wav.channels → c.fed + n ≤ frames_of wav
     → Offers wav c (take (n * wav.channels) (drop (c.fed * wav.channels) wav.samples)) n
 slice-Offers wav c n some channels most =
     subst (λ (k : ℕ). Offers wav c (take (n * k) (drop (c.fed * k) wav.samples)) n) channels (record {
@@ -53,7 +53,7 @@ slice-Offers wav c n some channels most =
         omega (arith, scaled)
 
 -- the next frames of a file are whole, and not too many
-pub Offers-IsOffer : (wav : Sound) (c : Plain) (frames : ℕ) → 1 ≤ length c.setup.bindings → length c.setup.bindings ≡ wav.channels → c.fed ≤ frames_of wav → frames_of wav < 2 ^ 63 → frames ≤ 4194304
+pub Offers-IsOffer : (wav : Sound) (c : PlaybackStream) (frames : ℕ) → 1 ≤ length c.setup.bindings → length c.setup.bindings ≡ wav.channels → c.fed ≤ frames_of wav → frames_of wav < 2 ^ 63 → frames ≤ 4194304
     → IsOffer c (take (min frames (frames_of wav - c.fed) * wav.channels) (drop (c.fed * wav.channels) wav.samples))
 Offers-IsOffer wav c frames some channels fed room few =
     let n = min frames (frames_of wav - c.fed) in
@@ -70,7 +70,7 @@ Offers-IsOffer wav c frames some channels fed room few =
     }
 
 -- what is offered follows, in the file, what was accepted
-pub Offers-Follows : (wav : Sound) (c : Plain) (offer : List ℤ) (n : ℕ) → c.stretch.written + c.stretch.source ≡ c.fed → Offers wav c offer n → Follows c wav.samples offer n
+pub Offers-Follows : (wav : Sound) (c : PlaybackStream) (offer : List ℤ) (n : ℕ) → c.stretch.written + c.stretch.source ≡ c.fed → Offers wav c offer n → Follows c wav.samples offer n
 Offers-Follows wav c offer n fed offers k q within in_range =
     ap (λ (j : ℕ). get_or wav.samples (j * length c.setup.bindings + q) (pos 0)) (let same : c.stretch.source + (c.stretch.written + k) ≡ c.fed + k = omega (arith, fed) in same)
     ∙ sym (offers.each k q within in_range)

@@ -75,7 +75,7 @@ module _ {S T : Type 0} (P : mixport.Ghosts S) (composes : Composes P.laid) (lef
     part = λ first ring from before at. record { doing = before; done = (refl, refl); at = at };
     ended = [];
     ended_are = sym (append-nil a.ended.items);
-    extends = Extends-still P composes s.0 a.client.plain a.client.plain wav.samples [] refl refl refl;
+    extends = Extends-still P composes s.0 a.client.stream a.client.stream wav.samples [] refl refl refl;
     same = refl;
   }
 
@@ -83,12 +83,12 @@ module _ {S T : Type 0} (P : mixport.Ghosts S) (composes : Composes P.laid) (lef
       → (s t u : S × T) (phase : ℕ) (wav : Sound) (a x b : ClientActor) (ops : List Op) (asked : Op)
       → ClientPart P left by_gate s t phase wav a x ops → ClientLine P left by_gate t u phase wav x b asked → ClientPart P left by_gate s u phase wav a b (ops ++ asked ∷ [])
   ClientPart-more grow s t u phase wav a x b ops asked one line =
-      let row : Row = row_by phase a.number asked (Some b.client.plain) line.answer in
+      let row : Row = row_by phase a.number asked (Some b.client.stream) line.answer in
       record {
         rows = one.rows ++ row ∷ [];
         rows_are =
             line.rows_are
-            ∙ ap (λ (n : ℕ). x.rows.items ++ row_by phase n asked (Some b.client.plain) line.answer ∷ []) one.same
+            ∙ ap (λ (n : ℕ). x.rows.items ++ row_by phase n asked (Some b.client.stream) line.answer ∷ []) one.same
             ∙ ap (λ (rows : List Row). rows ++ row ∷ []) one.rows_are
             ∙ append_assoc a.rows.items one.rows (row ∷ []);
         part = λ first ring from before at.
@@ -103,7 +103,7 @@ module _ {S T : Type 0} (P : mixport.Ghosts S) (composes : Composes P.laid) (lef
             };
         ended = one.ended ++ line.ended;
         ended_are = line.ended_are ∙ ap (λ (segments : List Segment). segments ++ line.ended) one.ended_are ∙ append_assoc a.ended.items one.ended line.ended;
-        extends = Extends-joined P composes s.0 t.0 u.0 a.client.plain x.client.plain b.client.plain wav.samples one.ended line.ended one.extends line.extends;
+        extends = Extends-joined P composes s.0 t.0 u.0 a.client.stream x.client.stream b.client.stream wav.samples one.ended line.ended one.extends line.extends;
         same = line.same ∙ one.same;
       }
 
@@ -129,7 +129,7 @@ pub ClientPart-shared : {S T U : Type 0} (P : mixport.Ghosts S) (left : T → Op
     → c.rows.items ≡ b.rows.items → c.ended.items ≡ b.ended.items → c.client ≡ b.client → c.number ≡ b.number
     → ClientPart P left by_gate (p, g) (q, h) phase wav a b ops → ClientPart P other_left by_other (p, k) (q, m) phase wav a c ops
 ClientPart-shared P left by_gate other_left by_other p q g h k m phase wav a b c ops left_before gate_before left_after gate_after rows ended client number part =
-    let same : client_of b ≡ client_of c = λ i. record { own = Some (with_member ((sym number) i) ((sym client) i).plain); ended = (sym ended) i } in
+    let same : client_of b ≡ client_of c = λ i. record { own = Some (with_member ((sym number) i) ((sym client) i).stream); ended = (sym ended) i } in
     record {
       rows = part.rows;
       rows_are = rows ∙ part.rows_are;
@@ -143,7 +143,7 @@ ClientPart-shared P left by_gate other_left by_other p q g h k m phase wav a b c
           });
       ended = part.ended;
       ended_are = ended ∙ part.ended_are;
-      extends = subst (λ (v : ClientView). Extends P wav.samples p q a.client.plain v.plain part.ended) (sym client) part.extends;
+      extends = subst (λ (v : ClientView). Extends P wav.samples p q a.client.stream v.stream part.ended) (sym client) part.extends;
       same = number ∙ part.same;
     }
 

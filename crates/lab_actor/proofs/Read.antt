@@ -23,7 +23,7 @@ use Rattle.pcm_states.specs.declared.calls.Call.TheVariants as call
 use Rattle.pcm_states.specs.declared.states.State.{State}
 use Rattle.pcm_stream.specs.Status.{refusal_of}
 use Rattle.pcm_stream.specs.declared.direction.Direction.TheVariants.{Capture}
-use Rattle.dsnoop_client.specs.declared.plain.Plain.{Plain}
+use Rattle.dsnoop_client.specs.declared.stream.CaptureStream.{CaptureStream}
 use Rattle.dsnoop_client.specs.Calls.{Answered, in_state}
 use Rattle.dsnoop_client.specs.Course.{admitted, admitted_by, read_course}
 use Rattle.dsnoop_client.specs.FewerReads.{most_read, read_course-fewer}
@@ -54,18 +54,18 @@ pub got-none : (asked : Op) (e : PcmError) → got_by asked (Failed e) ≡ 0
 got-none (op.Read n) e = refl
 got-none other e = refl
 
-pub frames-none : (asked : Op) (e : PcmError) (r : Plain) → frames_by asked (Failed e) r ≡ []
+pub frames-none : (asked : Op) (e : PcmError) (r : CaptureStream) → frames_by asked (Failed e) r ≡ []
 frames-none (op.Read n) e r = refl
 frames-none other e r = refl
 
 -- what a line counts are its frames, which end before the reader's next one
-pub frames_by-count : (asked : Op) (answer : Answer) (r : Plain) → frames_by asked answer r ≡ range_with_len (r.next - got_by asked answer) (got_by asked answer)
+pub frames_by-count : (asked : Op) (answer : Answer) (r : CaptureStream) → frames_by asked answer r ≡ range_with_len (r.next - got_by asked answer) (got_by asked answer)
 frames_by-count (op.Read n) (Count count) r = refl
 frames_by-count (op.Read n) other r = refl
 frames_by-count asked answer r = refl
 
 -- no call has another name
-pub call-none : (r : Plain) (asked : Op) → ((n : ℕ) → asked ≡ op.Read n → ⊥) → (asked ≡ op.Start → ⊥) → (asked ≡ op.Sync → ⊥) → (asked ≡ op.Avail → ⊥)
+pub call-none : (r : CaptureStream) (asked : Op) → ((n : ℕ) → asked ≡ op.Read n → ⊥) → (asked ≡ op.Start → ⊥) → (asked ≡ op.Sync → ⊥) → (asked ≡ op.Avail → ⊥)
     → (asked ≡ op.Drop → ⊥) → (asked ≡ op.Prepare → ⊥) → (asked ≡ op.Pause → ⊥) → call_of r asked ≡ ends (r, Failed BadState)
 call-none r (op.Read n) read start sync avail drop prepare pause = absurd (read n refl)
 call-none r op.Start read start sync avail drop prepare pause = absurd (start refl)
@@ -77,10 +77,10 @@ call-none r op.Pause read start sync avail drop prepare pause = absurd (pause re
 call-none r other read start sync avail drop prepare pause = refl
 
 -- room for whole frames
-frames_in-whole : (r : Plain) (room : List ℤ) (n : ℕ) → 1 ≤ length r.setup.bindings → length room ≡ n * length r.setup.bindings → frames_in r room ≡ n
+frames_in-whole : (r : CaptureStream) (room : List ℤ) (n : ℕ) → 1 ≤ length r.setup.bindings → length room ≡ n * length r.setup.bindings → frames_in r room ≡ n
 frames_in-whole r room n some size = ap (λ (k : ℕ). k / length r.setup.bindings) size ∙ mul-div_cancel n (omega (arith, some))
 
-pub can-read : (r : Plain) (room : List ℤ) (n : ℕ) → 1 ≤ length r.setup.bindings → n ≤ 4194304 → length room ≡ n * length r.setup.bindings → CanRead r room
+pub can-read : (r : CaptureStream) (room : List ℤ) (n : ℕ) → 1 ≤ length r.setup.bindings → n ≤ 4194304 → length room ≡ n * length r.setup.bindings → CanRead r room
 can-read r room n some few size = λ configured. record {
   whole = ap (λ (k : ℕ). k % length r.setup.bindings) size ∙ mul-mod_left n (length r.setup.bindings);
   few = subst (λ (k : ℕ). k ≤ 4194304) (sym (frames_in-whole r room n some size)) few;
@@ -111,7 +111,7 @@ kept-behind old zeros xs out p r n b m is size count =
     ∙ take-append-add old out m
 
 -- nothing was read
-pub HasRead-none : {S : Type 0} (P : snoopport.Ghosts S) (p q : S) (r d : Plain) (before : List ℤ) (asked : Op) (answer : Answer) (got : List Frame) → P.got p q got
+pub HasRead-none : {S : Type 0} (P : snoopport.Ghosts S) (p q : S) (r d : CaptureStream) (before : List ℤ) (asked : Op) (answer : Answer) (got : List Frame) → P.got p q got
     → CanUse d (P.view q) → HasSameSetup r d → got_by asked answer ≡ 0 → frames_by asked answer d ≡ [] → HasRead P p q r d before before asked answer
 HasRead-none P p q r d before asked answer got got_them usable same none no_frames = record {
   usable = usable;
@@ -163,21 +163,21 @@ module _ {S T : Type 0} (P : snoopport.Ghosts S) (G : gates.Ghosts T) (composes 
       s t m y takes
 
   -- a call that reads no frame
-  pub called-reading_none : {X : Type 0} (answer_of : Result X PcmError → Answer) (s t : S × T) (r d : Plain) (before : List ℤ) (asked : Op)
+  pub called-reading_none : {X : Type 0} (answer_of : Result X PcmError → Answer) (s t : S × T) (r d : CaptureStream) (before : List ℤ) (asked : Op)
       (m : Course (Answered X)) (result : Result X PcmError) (answer : Answer) → call_of r asked ≡ answered answer_of m → TakesAtSnoop P G s m t (d, result)
       → answer ≡ answer_of result → CanUse d (P.view t.0) → HasSameSetup r d → got_by asked answer ≡ 0 → frames_by asked answer d ≡ []
       → HasCalled P G s t r d before before asked answer
   called-reading_none answer_of s t r d before asked m result answer call takes is usable same none no_frames =
       let got = got-some s t m (d, result) takes in
       record {
-        takes = subst (λ (n : Course (Plain × Answer)). TakesAtSnoop P G s n t (d, answer)) (sym call)
+        takes = subst (λ (n : Course (CaptureStream × Answer)). TakesAtSnoop P G s n t (d, answer)) (sym call)
             (Takes-map (LoadsAtSnoop P G) NoLay (GetsAtSnoop P G) s t m (λ (done : Answered _). (done.0, answer_of done.1)) (d, result) (d, answer) takes
             (ap (λ (a : Answer). (d, a)) (sym is)));
         has_read = HasRead-none P s.0 t.0 r d before asked answer got.0 got.1 usable same none no_frames;
       }
 
   -- a call that loads the position and no frame
-  pub called-keeps : {X : Type 0} (answer_of : Result X PcmError → Answer) (s t : S × T) (r d : Plain) (before : List ℤ) (asked : Op)
+  pub called-keeps : {X : Type 0} (answer_of : Result X PcmError → Answer) (s t : S × T) (r d : CaptureStream) (before : List ℤ) (asked : Op)
       (m : Course (Answered X)) (result : Result X PcmError) (answer : Answer) → call_of r asked ≡ answered answer_of m → TakesAtSnoop P G s m t (d, result)
       → Keeps P G s t r d result → answer ≡ answer_of result → got_by asked answer ≡ 0 → frames_by asked answer d ≡ []
       → HasCalled P G s t r d before before asked answer
@@ -186,7 +186,7 @@ module _ {S T : Type 0} (P : snoopport.Ghosts S) (G : gates.Ghosts T) (composes 
       (record { same_ring = keeps.same_ring; same_setup = keeps.same_setup }) none no_frames
 
   -- a call that only changes the reader's state
-  admitted-taken : (s : S × T) (r : Plain) (what : Call) (end : Answered (Unit {0})) (d : Plain) (result : Result (Unit {0}) PcmError)
+  admitted-taken : (s : S × T) (r : CaptureStream) (what : Call) (end : Answered (Unit {0})) (d : CaptureStream) (result : Result (Unit {0}) PcmError)
       → ((e : PcmError) → refusal_of Capture r.status what ≡ Some e → (result ≡ Err e) × (d ≡ r)) → (refusal_of Capture r.status what ≡ None → (result ≡ end.1) × (d ≡ end.0))
       → TakesAtSnoop P G s (admitted r what (ends end)) s (d, result)
   admitted-taken s r what end d result refused admits = by_refusal (refusal_of Capture r.status what) refl
@@ -195,7 +195,7 @@ module _ {S T : Type 0} (P : snoopport.Ghosts S) (G : gates.Ghosts T) (composes 
       by_refusal None found = let now = admits found in record { there = refl; result = λ i. (now.1 i, now.0 i) }
       by_refusal (Some e) found = let now = refused e found in record { there = refl; result = λ i. (now.1 i, now.0 i) }
 
-  pub called-state : (s : S × T) (r d : Plain) (before : List ℤ) (asked : Op) (what : Call) (state : State) (result : Result (Unit {0}) PcmError) (answer : Answer)
+  pub called-state : (s : S × T) (r d : CaptureStream) (before : List ℤ) (asked : Op) (what : Call) (state : State) (result : Result (Unit {0}) PcmError) (answer : Answer)
       → call_of r asked ≡ answered done_answer (admitted r what (ends (in_state r state, Ok tt)))
       → ((e : PcmError) → refusal_of Capture r.status what ≡ Some e → (result ≡ Err e) × (d ≡ r))
       → (refusal_of Capture r.status what ≡ None → (result ≡ Ok tt) × (d ≡ in_state r state))
@@ -205,8 +205,8 @@ module _ {S T : Type 0} (P : snoopport.Ghosts S) (G : gates.Ghosts T) (composes 
       called-reading_none done_answer s s r d before asked _ result answer call (admitted-taken s r what (in_state r state, Ok tt) d result refused admits) is
       kept.0 kept.1 none no_frames
     where
-      changed : (x : Plain) → d ≡ x → CanUse x (P.view s.0) → HasSameSetup r x → CanUse d (P.view s.0) × HasSameSetup r d
-      changed x d_is usable same = (subst (λ (y : Plain). CanUse y (P.view s.0)) (sym d_is) usable, subst (HasSameSetup r) (sym d_is) same)
+      changed : (x : CaptureStream) → d ≡ x → CanUse x (P.view s.0) → HasSameSetup r x → CanUse d (P.view s.0) × HasSameSetup r d
+      changed x d_is usable same = (subst (λ (y : CaptureStream). CanUse y (P.view s.0)) (sym d_is) usable, subst (HasSameSetup r) (sym d_is) same)
 
       by_refusal : (refusal : Option PcmError) → refusal_of Capture r.status what ≡ refusal → CanUse d (P.view s.0) × HasSameSetup r d
       by_refusal None found = changed (in_state r state) (admits found).1 (record { same_geometry = usable.same_geometry; newer = usable.newer }) (record { same_ring = refl; same_setup = refl })
@@ -216,15 +216,15 @@ module _ {S T : Type 0} (P : snoopport.Ghosts S) (G : gates.Ghosts T) (composes 
       kept = by_refusal (refusal_of Capture r.status what) refl
 
   -- a line that is refused at once
-  pub called-refused : (s : S × T) (r : Plain) (before : List ℤ) (asked : Op) (e : PcmError) → call_of r asked ≡ ends (r, Failed e) → CanUse r (P.view s.0)
+  pub called-refused : (s : S × T) (r : CaptureStream) (before : List ℤ) (asked : Op) (e : PcmError) → call_of r asked ≡ ends (r, Failed e) → CanUse r (P.view s.0)
       → HasCalled P G s s r r before before asked (Failed e)
   called-refused s r before asked e call usable = record {
-    takes = subst (λ (n : Course (Plain × Answer)). TakesAtSnoop P G s n s (r, Failed e)) (sym call) (record { there = refl; result = refl });
+    takes = subst (λ (n : Course (CaptureStream × Answer)). TakesAtSnoop P G s n s (r, Failed e)) (sym call) (record { there = refl; result = refl });
     has_read = HasRead-none P s.0 s.0 r r before asked (Failed e) [] (composes.none s.0) usable (record { same_ring = refl; same_setup = refl }) (got-none asked e) (frames-none asked e r);
   }
 
   -- a read of n frames into room for as many of them as a read gets or starts by; the samples that it gave are kept
-  pub called-read : (s t : S × T) (r d : Plain) (before samples room filled : List ℤ) (n : ℕ) (result : Result ℕ PcmError) (answer : Answer)
+  pub called-read : (s t : S × T) (r d : CaptureStream) (before samples room filled : List ℤ) (n : ℕ) (result : Result ℕ PcmError) (answer : Answer)
       → 1 ≤ length r.setup.bindings → length room ≡ min n (most_read r) * length r.setup.bindings
       → TakesAtSnoop P G s (admitted r call.Transfer (read_course r (frames_in r room))) t (d, result) → Reads P s.0 t.0 r d room filled result
       → Keeps P G s t r d result → answer ≡ count_answer result → samples ≡ before ++ take (result_unwrap_or result 0 * length r.setup.bindings) filled

@@ -13,7 +13,7 @@ use Rattle.course.specs.AtSnoopPort.{GetsAtSnoop, LoadsAtSnoop, NoLay, TakesAtSn
 use Rattle.course.specs.Course.{ends}
 use Rattle.course.specs.CourseLaws.{Takes-parts, Takes-then}
 use Rattle.pcm_states.specs.declared.calls.Call.TheVariants as call
-use Rattle.dsnoop_client.specs.declared.plain.Plain.{Plain}
+use Rattle.dsnoop_client.specs.declared.stream.CaptureStream.{CaptureStream}
 use Rattle.dsnoop_client.specs.Calls.{Answered}
 use Rattle.dsnoop_client.specs.Course.{admitted, read_course}
 use Rattle.dsnoop_client.specs.FewerReads.{most_read, read_course-fewer}
@@ -39,7 +39,7 @@ got-fitting (op.Read n) spare (Count count) = refl
 got-fitting (op.Read n) spare other = refl
 got-fitting other spare answer = refl
 
-frames-fitting : (asked : Op) (spare : ℕ) (answer : Answer) (r : Plain) → frames_by (fitting spare asked) answer r ≡ frames_by asked answer r
+frames-fitting : (asked : Op) (spare : ℕ) (answer : Answer) (r : CaptureStream) → frames_by (fitting spare asked) answer r ≡ frames_by asked answer r
 frames-fitting (op.Read n) spare (Count count) r = refl
 frames-fitting (op.Read n) spare other r = refl
 frames-fitting other spare answer r = refl
@@ -48,7 +48,7 @@ asked-fitting : (asked : Op) (spare : ℕ) → asked_by (fitting spare asked) �
 asked-fitting (op.Read n) spare = omega arith
 asked-fitting other spare = omega arith
 
-HasRead-fitting : {S : Type 0} (P : snoopport.Ghosts S) (p q : S) (r after : Plain) (before samples : List ℤ) (asked : Op) (spare : ℕ) (answer : Answer)
+HasRead-fitting : {S : Type 0} (P : snoopport.Ghosts S) (p q : S) (r after : CaptureStream) (before samples : List ℤ) (asked : Op) (spare : ℕ) (answer : Answer)
     → HasRead P p q r after before samples (fitting spare asked) answer → HasRead P p q r after before samples asked answer
 HasRead-fitting P p q r after before samples asked spare answer has_read = record {
   usable = has_read.usable;
@@ -60,7 +60,7 @@ HasRead-fitting P p q r after before samples asked spare answer has_read = recor
 }
 
 -- and it is the read that the line names, where there is room for the frames that this may get
-call-fitting : {S T : Type 0} (P : snoopport.Ghosts S) (G : gates.Ghosts T) (s t : S × T) (r d : Plain) (asked : Op) (spare : ℕ) (answer : Answer)
+call-fitting : {S T : Type 0} (P : snoopport.Ghosts S) (G : gates.Ghosts T) (s t : S × T) (r d : CaptureStream) (asked : Op) (spare : ℕ) (answer : Answer)
     → wanted_by (most_read r) asked ≤ spare → TakesAtSnoop P G s (call_of r (fitting spare asked)) t (d, answer) → TakesAtSnoop P G s (call_of r asked) t (d, answer)
 call-fitting P G s t r d (op.Read n) spare answer fits takes = by_order (nat_le n spare) refl
   where
@@ -79,7 +79,7 @@ call-fitting P G s t r d other spare answer fits takes = takes
 
 module _ {S T : Type 0} (P : snoopport.Ghosts S) (composes : Composes P.got) (loading : Composes P.loaded) (left : T → Option ℕ) (by_gate : T → ℕ) where
   pub answered-call : (G : gates.Ghosts T) → ((first : S) (ring : Geometry) → ReaderLinesAreParts P G left by_gate first ring)
-      → (s t : S × T) (r d : Plain) (before samples : List ℤ) (asked : Op) (spare : ℕ) (answer : Answer) → CanCall r.status.stopped asked
+      → (s t : S × T) (r d : CaptureStream) (before samples : List ℤ) (asked : Op) (spare : ℕ) (answer : Answer) → CanCall r.status.stopped asked
       → HasCalled P G s t r d before samples (fitting spare asked) answer → HasAnswered P left by_gate s t r d before samples asked spare answer
   answered-call G parts s t r d before samples asked spare answer can called =
       let makes = call-makes P G s t r d (fitting spare asked) answer called.takes in
@@ -98,7 +98,7 @@ module _ {S T : Type 0} (P : snoopport.Ghosts S) (composes : Composes P.got) (lo
 
   -- a line of a reader that was stopped
   pub answered-stopped : ((ring : Geometry) (phase number : ℕ) → ReaderLinesWithoutCall ring phase number)
-      → (s : S × T) (r : Plain) (before : List ℤ) (asked : Op) (spare : ℕ) → r.status.stopped ≡ true → CanUse r (P.view s.0)
+      → (s : S × T) (r : CaptureStream) (before : List ℤ) (asked : Op) (spare : ℕ) → r.status.stopped ≡ true → CanUse r (P.view s.0)
       → HasAnswered P left by_gate s s r r before before asked spare (Failed Stopped)
   answered-stopped laws s r before asked spare stopped usable = record {
     line = λ fits phase number frames first ring doing at.
@@ -118,7 +118,7 @@ module _ {S T : Type 0} (P : snoopport.Ghosts S) (composes : Composes P.got) (lo
 
   -- a `die`
   pub answered-die : ((ring : Geometry) (phase number : ℕ) → ReaderLinesWithoutCall ring phase number)
-      → (p : S) (g h : T) (r : Plain) (before : List ℤ) (asks spare : ℕ) → r.status.stopped ≡ false → left h ≡ Some asks → by_gate h ≡ by_gate g → CanUse r (P.view p)
+      → (p : S) (g h : T) (r : CaptureStream) (before : List ℤ) (asks spare : ℕ) → r.status.stopped ≡ false → left h ≡ Some asks → by_gate h ≡ by_gate g → CanUse r (P.view p)
       → HasAnswered P left by_gate (p, g) (p, h) r r before before (op.Die asks) spare Done
   answered-die laws p g h r before asks spare going left_is gate_is usable = record {
     line = λ fits phase number frames first ring doing at.

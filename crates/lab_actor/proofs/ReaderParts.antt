@@ -15,7 +15,7 @@ use Rattle.snoop_core.specs.declared.port.Frame.{Frame}
 use Rattle.snoop_core.specs.declared.port.SnoopPort as snoopport
 use Rattle.snoop_core.specs.Port.{SnoopView}
 use Rattle.pcm_stream.specs.declared.setup.Setup.{Setup}
-use Rattle.dsnoop_client.specs.declared.plain.Plain.{Plain}
+use Rattle.dsnoop_client.specs.declared.stream.CaptureStream.{CaptureStream}
 use Rattle.dsnoop_client.specs.FewerReads.{most_read}
 use Rattle.dsnoop_client.specs.Reads.{through, through_all}
 use Rattle.lab_script.specs.declared.line.Actor.{Actor}
@@ -97,7 +97,7 @@ rows-next a b mine lines k line within is room takes others = by_test (mine line
 -- ---- the frames that they got
 
 -- the samples of frames are as many as these have numbers, times the channels
-AreSamples-length : {S : Type 0} (P : snoopport.Ghosts S) (p q : S) (r : Plain) (numbers : List ℕ) (samples : List ℤ) → AreSamples P p q r numbers samples
+AreSamples-length : {S : Type 0} (P : snoopport.Ghosts S) (p q : S) (r : CaptureStream) (numbers : List ℕ) (samples : List ℤ) → AreSamples P p q r numbers samples
     → length samples ≡ length numbers * length r.setup.bindings
 AreSamples-length P p q r numbers samples are =
     ap length are.samples_are
@@ -205,7 +205,7 @@ line-fits played v w a x all ops asked some same got within space most =
 
 module _ {S : Type 0} (P : snoopport.Ghosts S) (composes : Composes P.got) where
   -- samples of frames through the same setup
-  AreSamples-same : (p q : S) (r d : Plain) (numbers : List ℕ) (samples : List ℤ) → HasSameSetup r d → AreSamples P p q d numbers samples → AreSamples P p q r numbers samples
+  AreSamples-same : (p q : S) (r d : CaptureStream) (numbers : List ℕ) (samples : List ℤ) → HasSameSetup r d → AreSamples P p q d numbers samples → AreSamples P p q r numbers samples
   AreSamples-same p q r d numbers samples same are = record {
     got = are.got;
     got_them = are.got_them;
@@ -216,7 +216,7 @@ module _ {S : Type 0} (P : snoopport.Ghosts S) (composes : Composes P.got) where
     samples_are = are.samples_are ∙ ap (λ (setup : Setup). through_all setup.bindings are.frames) same.same_setup;
   }
 
-  AreSamples-joined : (p q s : S) (r : Plain) (numbers others : List ℕ) (samples more : List ℤ) → AreSamples P p q r numbers samples → AreSamples P q s r others more
+  AreSamples-joined : (p q s : S) (r : CaptureStream) (numbers others : List ℕ) (samples more : List ℤ) → AreSamples P p q r numbers samples → AreSamples P q s r others more
       → AreSamples P p s r (numbers ++ others) (samples ++ more)
   AreSamples-joined p q s r numbers others samples more one two =
       record {
@@ -366,6 +366,6 @@ ReaderPart-shared P left by_gate other_left by_other p q g h k m phase played a 
       };
       same = record {
         number = same.number ∙ part.same.number;
-        setup = subst (λ (r : Plain). HasSameSetup a.reader r) (sym same.reader) part.same.setup;
+        setup = subst (λ (r : CaptureStream). HasSameSetup a.reader r) (sym same.reader) part.same.setup;
       };
     }

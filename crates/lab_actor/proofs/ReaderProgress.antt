@@ -22,7 +22,7 @@ use Rattle.pcm_states.specs.declared.states.State.TheVariants as state
 use Rattle.pcm_states.specs.Table.{next_of}
 use Rattle.pcm_stream.specs.Status.{refusal_of}
 use Rattle.pcm_stream.specs.declared.direction.Direction.TheVariants.{Capture}
-use Rattle.dsnoop_client.specs.declared.plain.Plain.{Plain}
+use Rattle.dsnoop_client.specs.declared.stream.CaptureStream.{CaptureStream}
 use Rattle.dsnoop_client.specs.Calls.{Answered, found, in_state, read_after, read_to, seen_at, taken_of, waits, with_avail, with_outcome}
 use Rattle.dsnoop_client.specs.Course.{admitted_by, counts, gets_frames, one_more, read_course, reads_first, reads_on, starts, syncs, transfer_on, transfers}
 use Rattle.dsnoop_client.specs.Reads.{counted}
@@ -39,10 +39,10 @@ use Rattle.lab_actor.specs.Room.{asked_by}
 -- ---- of a reader
 
 -- one that got no frame: where it runs, its next frame is the position seen, or it ran before and has the same next one
-abbrev IsOn : Plain → Plain → SnoopView → Type 0
+abbrev IsOn : CaptureStream → CaptureStream → SnoopView → Type 0
 IsOn r d w = is_running d.status.state ≡ true → (d.next ≡ w.seen) ⊎ ((is_running r.status.state ≡ true) × (d.next ≡ r.next))
 
-Progress-none : (r d : Plain) (v w : SnoopView) → w.geometry ≡ v.geometry → v.seen ≤ w.seen → IsOn r d w → Progress 0 r d v w
+Progress-none : (r d : CaptureStream) (v w : SnoopView) → w.geometry ≡ v.geometry → v.seen ≤ w.seen → IsOn r d w → Progress 0 r d v w
 Progress-none r d v w ring rising on = record { ring = ring; rising = rising; next = by_running (is_running d.status.state) refl; held = inl refl }
   where
     low : least_next r v ≤ v.seen
@@ -58,11 +58,11 @@ Progress-none r d v w ring rising on = record { ring = ring; rising = rising; ne
           omega (arith, own, same, rising)
     ]
 
-pub Progress-same : (r : Plain) (v : SnoopView) → Progress 0 r r v v
+pub Progress-same : (r : CaptureStream) (v : SnoopView) → Progress 0 r r v v
 Progress-same r v = Progress-none r r v v refl (omega arith) (λ is. inr (is, refl))
 
 -- one that runs and got frames from its next one on, of which the ring had the first
-Progress-some : (count : ℕ) (r d : Plain) (v w : SnoopView) → w.geometry ≡ v.geometry → v.seen ≤ w.seen → is_running r.status.state ≡ true → d.next ≡ r.next + count
+Progress-some : (count : ℕ) (r d : CaptureStream) (v w : SnoopView) → w.geometry ≡ v.geometry → v.seen ≤ w.seen → is_running r.status.state ≡ true → d.next ≡ r.next + count
     → d.next ≤ w.seen → v.seen ≤ r.next + v.geometry.frames → Progress count r d v w
 Progress-some count r d v w ring rising running next below had = record {
   ring = ring;
@@ -121,17 +121,17 @@ reads-gone_state state.Disconnected is = is
 -- ---- frames
 
 -- what a read made of a reader after its load, by how many frames it got
-record Reads (c d : Plain) (got done : ℕ) : Type 0 where
+record Reads (c d : CaptureStream) (got done : ℕ) : Type 0 where
   few : got ≤ done
   next : d.next ≡ c.next + got
   runs : is_running d.status.state ≡ true → is_running c.status.state ≡ true
 
-reads-to : (c : Plain) (done : ℕ) (ended : Got) → Reads c (read_to c done ended).0 (counted (read_to c done ended).1) done
+reads-to : (c : CaptureStream) (done : ℕ) (ended : Got) → Reads c (read_to c done ended).0 (counted (read_to c done ended).1) done
 reads-to c done Whole = record { few = omega arith; next = refl; runs = λ is. is }
 reads-to c done (Overtaken channel word) = record { few = omega arith; next = omega arith; runs = λ is. absurd (false≢true is) }
 reads-to c done Stopped = record { few = omega arith; next = omega arith; runs = λ is. is }
 
-reads-after : (c : Plain) (n done : ℕ) (ended : Got) → Reads c (read_after c n done ended).0 (counted (read_after c n done ended).1) done
+reads-after : (c : CaptureStream) (n done : ℕ) (ended : Got) → Reads c (read_after c n done ended).0 (counted (read_after c n done ended).1) done
 reads-after c n done ended = by_none (nat_lt 0 n && nat_eq (avail_of c) 0)
   where
     by_none : (none : Bool) → let y = if none then (c, Err Again) else read_to c done ended in Reads c y.0 (counted y.1) done
@@ -176,14 +176,14 @@ module _ {S T : Type 0} (P : snoopport.Ghosts S) (G : gates.Ghosts T) where
       gets-none s t (suc count) first done (ap (λ (u : S × T). P.view u.0) rest.there ∙ step.1.view_is) (ap (λ (end : ℕ × Got). end.0) rest.result)
 
   -- the frames of a read, behind its load
-  record Transfers (s t : S × T) (c d : Plain) (n got : ℕ) : Type 0 where
+  record Transfers (s t : S × T) (c d : CaptureStream) (n got : ℕ) : Type 0 where
     view_is : P.view t.0 ≡ P.view s.0
     few : got ≤ taken_of c n
     had : (got ≡ 0) ⊎ ((P.view s.0).seen ≤ c.next + (P.view s.0).geometry.frames)
     next : d.next ≡ c.next + got
     runs : is_running d.status.state ≡ true → is_running c.status.state ≡ true
 
-  transfers-got : (s t : S × T) (c : Plain) (n : ℕ) (y : Answered ℕ) → TakesAtSnoop P G s (transfers c n) t y → Transfers s t c y.0 n (counted y.1)
+  transfers-got : (s t : S × T) (c : CaptureStream) (n : ℕ) (y : Answered ℕ) → TakesAtSnoop P G s (transfers c n) t y → Transfers s t c y.0 n (counted y.1)
   unfolding transfers
   transfers-got s t c n y takes =
       let parts = Takes-parts (LoadsAtSnoop P G) NoLay (GetsAtSnoop P G) s t (gets_frames (taken_of c n) c.next) (λ (end : ℕ × Got). ends (read_after c n end.0 end.1)) y takes in
@@ -206,21 +206,21 @@ module _ {S T : Type 0} (P : snoopport.Ghosts S) (G : gates.Ghosts T) where
   -- ---- loads
 
   -- a call that got no frame went on from one view of its port to another
-  record Went (s t : S × T) (r d : Plain) : Type 0 where
+  record Went (s t : S × T) (r d : CaptureStream) : Type 0 where
     ring : (P.view t.0).geometry ≡ (P.view s.0).geometry
     rising : (P.view s.0).seen ≤ (P.view t.0).seen
     on : IsOn r d (P.view t.0)
 
-  Went-progress : (s t : S × T) (r d : Plain) → Went s t r d → Progress 0 r d (P.view s.0) (P.view t.0)
+  Went-progress : (s t : S × T) (r d : CaptureStream) → Went s t r d → Progress 0 r d (P.view s.0) (P.view t.0)
   Went-progress s t r d went = Progress-none r d (P.view s.0) (P.view t.0) went.ring went.rising went.on
 
-  Went-there : (s t u : S × T) (r d e : Plain) → u ≡ t → e ≡ d → Went s t r d → Went s u r e
+  Went-there : (s t u : S × T) (r d e : CaptureStream) → u ≡ t → e ≡ d → Went s t r d → Went s u r e
   Went-there s t u r d e there same went = subst (λ (v : S × T). Went s v r e) (sym there) (subst (Went s t r) (sym same) went)
 
-  Went-none : (s : S × T) (r : Plain) → Went s s r r
+  Went-none : (s : S × T) (r : CaptureStream) → Went s s r r
   Went-none s r = record { ring = refl; rising = omega arith; on = λ is. inr (is, refl) }
 
-  load-none : (s m : S × T) (r d : Plain) → LoadsAtSnoop P G s None m → d.status.state ≡ r.status.state → d.next ≡ r.next → Went s m r d
+  load-none : (s m : S × T) (r d : CaptureStream) → LoadsAtSnoop P G s None m → d.status.state ≡ r.status.state → d.next ≡ r.next → Went s m r d
   load-none s m r d step same next =
       let seen : (P.view m.0).seen ≡ (P.view s.0).seen = ap (λ (v : SnoopView). v.seen) step.view_is in
       record {
@@ -229,7 +229,7 @@ module _ {S T : Type 0} (P : snoopport.Ghosts S) (G : gates.Ghosts T) where
         on = λ is. inr (sym (ap is_running same) ∙ is, next);
       }
 
-  load-some : (s m : S × T) (r d : Plain) (position : Position) → LoadsAtSnoop P G s (Some position) m → IsOn r d (record (P.view s.0) { seen = position.frame }) → Went s m r d
+  load-some : (s m : S × T) (r d : CaptureStream) (position : Position) → LoadsAtSnoop P G s (Some position) m → IsOn r d (record (P.view s.0) { seen = position.frame }) → Went s m r d
   load-some s m r d position step on =
       let seen : (P.view m.0).seen ≡ position.frame = ap (λ (v : SnoopView). v.seen) step.view_is in
       let newer = step.newer in
@@ -240,12 +240,12 @@ module _ {S T : Type 0} (P : snoopport.Ghosts S) (G : gates.Ghosts T) where
       }
 
   -- a sync of a reader that runs
-  record Syncs (s t : S × T) (r : Plain) (x : Answered (Unit {0})) : Type 0 where
+  record Syncs (s t : S × T) (r : CaptureStream) (x : Answered (Unit {0})) : Type 0 where
     went : Went s t r x.0
     next : x.0.next ≡ r.next
     saw : (done : Unit {0}) → x.1 ≡ Ok done → (P.view t.0).seen ≡ unwrap_or x.0.seen 0
 
-  syncs-went : (s t : S × T) (r : Plain) (k : Call) (x : Answered (Unit {0})) → is_running r.status.state ≡ true → TakesAtSnoop P G s (syncs r k) t x → Syncs s t r x
+  syncs-went : (s t : S × T) (r : CaptureStream) (k : Call) (x : Answered (Unit {0})) → is_running r.status.state ≡ true → TakesAtSnoop P G s (syncs r k) t x → Syncs s t r x
   unfolding syncs
   syncs-went s t r k x running (None, m, step, rest) = record {
     went = Went-there s m t r _ x.0 rest.there (ap (λ (y : Answered (Unit {0})). y.0) rest.result) (load-none s m r _ step refl refl);
@@ -261,7 +261,7 @@ module _ {S T : Type 0} (P : snoopport.Ghosts S) (G : gates.Ghosts T) where
   }
 
   -- a call of start
-  starts-went : (s t : S × T) (r : Plain) (x : Answered (Unit {0})) → TakesAtSnoop P G s (starts r call.Start) t x → Went s t r x.0
+  starts-went : (s t : S × T) (r : CaptureStream) (x : Answered (Unit {0})) → TakesAtSnoop P G s (starts r call.Start) t x → Went s t r x.0
   unfolding starts
   starts-went s t r x (None, m, step, rest) =
       Went-there s m t r _ x.0 rest.there (ap (λ (y : Answered (Unit {0})). y.0) rest.result) (load-none s m r _ step refl refl)
@@ -275,11 +275,11 @@ module _ {S T : Type 0} (P : snoopport.Ghosts S) (G : gates.Ghosts T) where
       by_gone false = λ is. inl refl
 
   -- a read that starts a reader finds no frame at the position that it loaded
-  record Starts (s t : S × T) (r : Plain) (x : Answered (Unit {0})) : Type 0 where
+  record Starts (s t : S × T) (r : CaptureStream) (x : Answered (Unit {0})) : Type 0 where
     went : Went s t r x.0
     none : (done : Unit {0}) → x.1 ≡ Ok done → (x.0.next ≡ (P.view t.0).seen) × (avail_of x.0 ≡ 0)
 
-  reads-started : (s t : S × T) (r : Plain) (x : Answered (Unit {0})) → TakesAtSnoop P G s (starts r call.Transfer) t x → Starts s t r x
+  reads-started : (s t : S × T) (r : CaptureStream) (x : Answered (Unit {0})) → TakesAtSnoop P G s (starts r call.Transfer) t x → Starts s t r x
   unfolding starts
   reads-started s t r x (None, m, step, rest) = record {
     went = Went-there s m t r _ x.0 rest.there (ap (λ (y : Answered (Unit {0})). y.0) rest.result) (load-none s m r _ step refl refl);
@@ -306,18 +306,18 @@ module _ {S T : Type 0} (P : snoopport.Ghosts S) (G : gates.Ghosts T) where
   -- ---- calls
 
   -- a call made progress by the frames that it counts, of n frames at most
-  pub record Makes (s t : S × T) (r d : Plain) (n got : ℕ) : Type 0 where
+  pub record Makes (s t : S × T) (r d : CaptureStream) (n got : ℕ) : Type 0 where
     pub progress : Progress got r d (P.view s.0) (P.view t.0)
     pub few : got ≤ n
 
-  Makes-none : (s t : S × T) (r d : Plain) (n got : ℕ) → got ≡ 0 → Went s t r d → Makes s t r d n got
+  Makes-none : (s t : S × T) (r d : CaptureStream) (n got : ℕ) → got ≡ 0 → Went s t r d → Makes s t r d n got
   Makes-none s t r d n got none went = record {
     progress = subst (λ (k : ℕ). Progress k r d (P.view s.0) (P.view t.0)) (sym none) (Went-progress s t r d went);
     few = omega (arith, none);
   }
 
   -- the frames of a read of a reader that runs
-  transfers-on : (s u t : S × T) (r c : Plain) (n : ℕ) (y : Answered ℕ) → is_running r.status.state ≡ true → Went s u r c → c.next ≡ r.next
+  transfers-on : (s u t : S × T) (r c : CaptureStream) (n : ℕ) (y : Answered ℕ) → is_running r.status.state ≡ true → Went s u r c → c.next ≡ r.next
       → (P.view u.0).seen ≡ unwrap_or c.seen 0 → TakesAtSnoop P G u (transfers c n) t y → Makes s t r y.0 n (counted y.1)
   transfers-on s u t r c n y running went next saw takes =
       let did = transfers-got u t c n y takes in
@@ -354,7 +354,7 @@ module _ {S T : Type 0} (P : snoopport.Ghosts S) (G : gates.Ghosts T) where
             few = omega (arith, few);
           }
 
-  reads-on : (s t : S × T) (r : Plain) (n : ℕ) (y : Answered ℕ) → is_running r.status.state ≡ true → TakesAtSnoop P G s (reads_on r n) t y → Makes s t r y.0 n (counted y.1)
+  reads-on : (s t : S × T) (r : CaptureStream) (n : ℕ) (y : Answered ℕ) → is_running r.status.state ≡ true → TakesAtSnoop P G s (reads_on r n) t y → Makes s t r y.0 n (counted y.1)
   unfolding reads_on
   reads-on s t r n y running takes =
       let parts = Takes-parts (LoadsAtSnoop P G) NoLay (GetsAtSnoop P G) s t (syncs r call.Transfer) (transfer_on n) y takes in
@@ -366,7 +366,7 @@ module _ {S T : Type 0} (P : snoopport.Ghosts S) (G : gates.Ghosts T) where
           Makes-none s t r y.0 n (counted y.1) (ap (λ (z : Answered ℕ). counted z.1) rest.result)
           (Went-there s u t r c y.0 rest.there (ap (λ (z : Answered ℕ). z.0) rest.result) did.went)
 
-  reads-first : (s t : S × T) (r : Plain) (n : ℕ) (y : Answered ℕ) → TakesAtSnoop P G s (reads_first r n) t y → Makes s t r y.0 n (counted y.1)
+  reads-first : (s t : S × T) (r : CaptureStream) (n : ℕ) (y : Answered ℕ) → TakesAtSnoop P G s (reads_first r n) t y → Makes s t r y.0 n (counted y.1)
   unfolding reads_first
   reads-first s t r n y takes =
       let parts = Takes-parts (LoadsAtSnoop P G) NoLay (GetsAtSnoop P G) s t (starts r call.Transfer) (transfer_on n) y takes in
@@ -399,7 +399,7 @@ module _ {S T : Type 0} (P : snoopport.Ghosts S) (G : gates.Ghosts T) where
       by_none true = refl
       by_none false = refl
 
-  reads-course : (s t : S × T) (r : Plain) (n : ℕ) (y : Answered ℕ) → TakesAtSnoop P G s (read_course r n) t y → Makes s t r y.0 n (counted y.1)
+  reads-course : (s t : S × T) (r : CaptureStream) (n : ℕ) (y : Answered ℕ) → TakesAtSnoop P G s (read_course r n) t y → Makes s t r y.0 n (counted y.1)
   reads-course s t r n y takes = by_running (is_running r.status.state) refl takes
     where
       by_start : (enough : Bool) → TakesAtSnoop P G s (if enough then reads_first r n else ends (r, waits n)) t y → Makes s t r y.0 n (counted y.1)
@@ -415,7 +415,7 @@ module _ {S T : Type 0} (P : snoopport.Ghosts S) (G : gates.Ghosts T) where
       by_running false is takes = by_start (nat_le r.setup.params.start_threshold n) takes
 
   -- the calls that get no frame
-  syncs-course : {X : Type 0} (s t : S × T) (r : Plain) (k : Call) (m : Course (Answered X)) (x : X) (y : Answered X)
+  syncs-course : {X : Type 0} (s t : S × T) (r : CaptureStream) (k : Call) (m : Course (Answered X)) (x : X) (y : Answered X)
       → ((u : S × T) (z : Answered X) → TakesAtSnoop P G s m u z → is_running r.status.state ≡ true → Went s u r z.0)
       → TakesAtSnoop P G s (if is_running r.status.state then m else ends (r, Ok x)) t y → Went s t r y.0
   syncs-course s t r k m x y syncs takes = by_running (is_running r.status.state) refl takes
@@ -424,7 +424,7 @@ module _ {S T : Type 0} (P : snoopport.Ghosts S) (G : gates.Ghosts T) where
       by_running true is takes = syncs t y takes is
       by_running false is takes = Went-there s s t r r y.0 takes.there (ap (λ (z : Answered _). z.0) takes.result) (Went-none s r)
 
-  counts-went : (s t : S × T) (r : Plain) (y : Answered ℕ) → is_running r.status.state ≡ true → TakesAtSnoop P G s (counts (syncs r call.Sync)) t y → Went s t r y.0
+  counts-went : (s t : S × T) (r : CaptureStream) (y : Answered ℕ) → is_running r.status.state ≡ true → TakesAtSnoop P G s (counts (syncs r call.Sync)) t y → Went s t r y.0
   unfolding counts
   counts-went s t r y running takes =
       let parts = Takes-parts (LoadsAtSnoop P G) NoLay (GetsAtSnoop P G) s t (syncs r call.Sync) (λ (done : Answered (Unit {0})). ends (with_avail done)) y takes in
@@ -435,30 +435,30 @@ module _ {S T : Type 0} (P : snoopport.Ghosts S) (G : gates.Ghosts T) where
       by_answer u (c, Err e) went rest = Went-there s u t r c y.0 rest.there (ap (λ (z : Answered ℕ). z.0) rest.result) went
 
   -- a reader that ends in a state in which it doesn't run
-  ends-still : (s t : S × T) (r : Plain) (still : State) (y : Answered (Unit {0})) → is_running still ≡ false → TakesAtSnoop P G s (ends (in_state r still, Ok tt)) t y → Went s t r y.0
+  ends-still : (s t : S × T) (r : CaptureStream) (still : State) (y : Answered (Unit {0})) → is_running still ≡ false → TakesAtSnoop P G s (ends (in_state r still, Ok tt)) t y → Went s t r y.0
   ends-still s t r still y rests takes =
       Went-there s s t r (in_state r still) y.0 takes.there (ap (λ (z : Answered (Unit {0})). z.0) takes.result)
       (record { ring = refl; rising = omega arith; on = λ is. absurd (false≢true (sym rests ∙ is)) })
 
   -- a call that is refused, or does what it is for
-  admitted-went : {X : Type 0} (s t : S × T) (r : Plain) (refusal : Option PcmError) (m : Course (Answered X)) (y : Answered X)
+  admitted-went : {X : Type 0} (s t : S × T) (r : CaptureStream) (refusal : Option PcmError) (m : Course (Answered X)) (y : Answered X)
       → (TakesAtSnoop P G s m t y → Went s t r y.0) → TakesAtSnoop P G s (admitted_by refusal r m) t y → Went s t r y.0
   admitted-went s t r None m y does takes = does takes
   admitted-went s t r (Some e) m y does takes = Went-there s s t r r y.0 takes.there (ap (λ (z : Answered _). z.0) takes.result) (Went-none s r)
 
   -- with the answer of its row
-  answered-went : {X : Type 0} (answer_of : Result X PcmError → Answer) (s t : S × T) (r d : Plain) (m : Course (Answered X)) (answer : Answer)
+  answered-went : {X : Type 0} (answer_of : Result X PcmError → Answer) (s t : S × T) (r d : CaptureStream) (m : Course (Answered X)) (answer : Answer)
       → ((u : S × T) (y : Answered X) → TakesAtSnoop P G s m u y → Went s u r y.0) → TakesAtSnoop P G s (answered answer_of m) t (d, answer) → Went s t r d
   answered-went answer_of s t r d m answer does takes =
       let parts = Takes-parts (LoadsAtSnoop P G) NoLay (GetsAtSnoop P G) s t m (λ (done : Answered _). ends (done.0, answer_of done.1)) (d, answer) takes in
-      Went-there s parts.0 t r parts.1.0 d parts.3.there (ap (λ (z : Plain × Answer). z.0) parts.3.result) (does parts.0 parts.1 parts.2)
+      Went-there s parts.0 t r parts.1.0 d parts.3.there (ap (λ (z : CaptureStream × Answer). z.0) parts.3.result) (does parts.0 parts.1 parts.2)
 
-  reads-call : (s t : S × T) (r d : Plain) (n : ℕ) (answer : Answer) → TakesAtSnoop P G s (call_of r (op.Read n)) t (d, answer) → Makes s t r d n (got_by (op.Read n) answer)
+  reads-call : (s t : S × T) (r d : CaptureStream) (n : ℕ) (answer : Answer) → TakesAtSnoop P G s (call_of r (op.Read n)) t (d, answer) → Makes s t r d n (got_by (op.Read n) answer)
   reads-call s t r d n answer takes =
       let m : Course (Answered ℕ) = admitted_by (refusal_of Capture r.status call.Transfer) r (read_course r n) in
       let parts = Takes-parts (LoadsAtSnoop P G) NoLay (GetsAtSnoop P G) s t m (λ (done : Answered ℕ). ends (done.0, count_answer done.1)) (d, answer) takes in
       subst (λ (u : S × T). Makes s u r d n (got_by (op.Read n) answer)) (sym parts.3.there)
-      (subst (λ (z : Plain × Answer). Makes s parts.0 r z.0 n (got_by (op.Read n) z.1)) (sym parts.3.result)
+      (subst (λ (z : CaptureStream × Answer). Makes s parts.0 r z.0 n (got_by (op.Read n) z.1)) (sym parts.3.result)
       (by_answer parts.0 parts.1 (by_refusal (refusal_of Capture r.status call.Transfer) parts.0 parts.1 parts.2)))
     where
       by_refusal : (refusal : Option PcmError) (u : S × T) (y : Answered ℕ) → TakesAtSnoop P G s (admitted_by refusal r (read_course r n)) u y → Makes s u r y.0 n (counted y.1)
@@ -472,7 +472,7 @@ module _ {S T : Type 0} (P : snoopport.Ghosts S) (G : gates.Ghosts T) where
       by_answer u (c, Err e) makes = makes
 
   -- The call that a line names makes progress by the frames that its row counts, which are no more than it asks for.
-  pub call-makes : (s t : S × T) (r d : Plain) (asked : Op) (answer : Answer) → TakesAtSnoop P G s (call_of r asked) t (d, answer) → Makes s t r d (asked_by asked) (got_by asked answer)
+  pub call-makes : (s t : S × T) (r d : CaptureStream) (asked : Op) (answer : Answer) → TakesAtSnoop P G s (call_of r asked) t (d, answer) → Makes s t r d (asked_by asked) (got_by asked answer)
   call-makes s t r d (op.Read n) answer takes = reads-call s t r d n answer takes
   call-makes s t r d op.Start answer takes =
       Makes-none s t r d 0 0 refl (answered-went done_answer s t r d _ answer
@@ -492,4 +492,4 @@ module _ {S T : Type 0} (P : snoopport.Ghosts S) (G : gates.Ghosts T) where
       Makes-none s t r d 0 0 refl (answered-went done_answer s t r d _ answer
       (λ u y taken. admitted-went s u r (refusal_of Capture r.status call.Prepare) _ y (ends-still s u r state.Prepared y refl) taken) takes)
   call-makes s t r d other answer takes =
-      Makes-none s t r d 0 0 refl (Went-there s s t r r d takes.there (ap (λ (z : Plain × Answer). z.0) takes.result) (Went-none s r))
+      Makes-none s t r d 0 0 refl (Went-there s s t r r d takes.there (ap (λ (z : CaptureStream × Answer). z.0) takes.result) (Went-none s r))

@@ -5,8 +5,8 @@ use Rattle.std.specs.Prelude.{Bool, true, false, None, Option}
 use Rattle.snd_base.specs.declared.errors.PcmError.TheVariants.{BadState}
 use Rattle.snd_base.specs.declared.geometry.Geometry.{Geometry}
 use Rattle.wav_io.specs.Sound.{Sound}
-use Rattle.dmix_client.specs.declared.plain.Plain.{Plain}
-use Rattle.dsnoop_client.specs.declared.plain.Plain as reading
+use Rattle.dmix_client.specs.declared.stream.PlaybackStream.{PlaybackStream}
+use Rattle.dsnoop_client.specs.declared.stream.CaptureStream as reading
 use Rattle.lab_script.specs.declared.line.Actor.{Actor}
 use Rattle.lab_script.specs.declared.line.Actor.TheVariants as actor
 use Rattle.lab_script.specs.declared.line.Line.{Line}
@@ -33,7 +33,7 @@ client-refused ring phase wav number laws a found client closed (asked ∷ ops) 
   refused_rows phase (actor.Client number) ops,
   laws.closed a found client asked closed,
   client-refused ring phase wav number laws a found client closed ops,
-  ap (λ (own : Option Plain). clients.row_by phase number asked own (Failed BadState) ∷ refused_rows phase (actor.Client number) ops) (sym closed),
+  ap (λ (own : Option PlaybackStream). clients.row_by phase number asked own (Failed BadState) ∷ refused_rows phase (actor.Client number) ops) (sym closed),
 )
 
 reader-refused : (ring : Geometry) (phase number : ℕ) → ReaderLinesWithoutCall ring phase number → (a : AtPort) (found : Findings) (reader : readers.Reader)
@@ -46,7 +46,7 @@ reader-refused ring phase number laws a found reader closed (asked ∷ ops) = (
   refused_rows phase (actor.Reader number) ops,
   laws.closed a found reader asked closed,
   reader-refused ring phase number laws a found reader closed ops,
-  ap (λ (own : Option reading.Plain). readers.row_by phase number asked own (Failed BadState) ∷ refused_rows phase (actor.Reader number) ops) (sym closed),
+  ap (λ (own : Option reading.CaptureStream). readers.row_by phase number asked own (Failed BadState) ∷ refused_rows phase (actor.Reader number) ops) (sym closed),
 )
 
 pub are-refused : ((ring : Geometry) (phase : ℕ) (wav : Sound) (number : ℕ) → ClientLinesWithoutCall ring phase wav number)

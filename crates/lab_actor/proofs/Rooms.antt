@@ -3,14 +3,14 @@ use Rattle.std.proofs.Common.{ℕ, ◌≤◌, arith, length, zero-mul}
 use Rattle.std.proofs.Math.Nat.{div-mul-le_self, mul-le-mul_right}
 use Rattle.std.specs.Prelude.{◌-◌, ℤ, min, vec_capacity, vec_len}
 use Rattle.std.specs.Global.{Vec}
-use Rattle.dsnoop_client.specs.declared.plain.Plain.{Plain}
+use Rattle.dsnoop_client.specs.declared.stream.CaptureStream.{CaptureStream}
 use Rattle.dsnoop_client.specs.FewerReads.{most_read}
 use Rattle.lab_script.specs.declared.line.Op.{Op}
 use Rattle.lab_script.specs.declared.line.Op.TheVariants as op
 use Rattle.lab_actor.specs.Room.{HasSpace, fitting, samples_wanted, spare_frames}
 
 -- there is room for what a line names of no more frames than there is room for
-pub fitting-fits : (r : Plain) (samples : Vec ℤ) (asked : Op) → HasSpace (samples_wanted r (fitting (spare_frames r samples) asked)) samples
+pub fitting-fits : (r : CaptureStream) (samples : Vec ℤ) (asked : Op) → HasSpace (samples_wanted r (fitting (spare_frames r samples) asked)) samples
 fitting-fits r samples (op.Read n) =
     let channels : ℕ = length r.setup.bindings in
     let spare : ℕ = spare_frames r samples in

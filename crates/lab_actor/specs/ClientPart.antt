@@ -17,7 +17,7 @@ use Rattle.lab_actor.specs.ClientLines.{Extends}
 
 -- the client of an actor, as a run has it
 abbrev pub client_of : ClientActor → Client
-client_of a = record { own = Some (with_member a.number a.client.plain); ended = a.ended.items }
+client_of a = record { own = Some (with_member a.number a.client.stream); ended = a.ended.items }
 
 -- what stays of an actor
 abbrev pub IsSameActor : ClientActor → ClientActor → Type 0
@@ -34,12 +34,12 @@ pub record HasDone {S T : Type 0} (P : mixport.Ghosts S) (left : T → Option �
 -- is a line of the client, as a run has it.
 pub record ClientLine {S T : Type 0} (P : mixport.Ghosts S) (left : T → Option ℕ) (by_gate : T → ℕ) (s t : S × T) (phase : ℕ) (wav : Sound) (a b : ClientActor) (asked : Op) : Type 0 where
   pub answer : Answer
-  pub rows_are : b.rows.items ≡ a.rows.items ++ row_by phase a.number asked (Some b.client.plain) answer ∷ []
+  pub rows_are : b.rows.items ≡ a.rows.items ++ row_by phase a.number asked (Some b.client.stream) answer ∷ []
   pub line : (first : S) (ring : Geometry) (from : ℕ) (before : Doing) → IsAtPort P left by_gate first ring from s before
       → IsClientLine P left by_gate first ring from t phase wav a.number before (client_of a) asked (client_of b) answer
   pub ended : List Segment
   pub ended_are : b.ended.items ≡ a.ended.items ++ ended
-  pub extends : Extends P wav.samples s.0 t.0 a.client.plain b.client.plain ended
+  pub extends : Extends P wav.samples s.0 t.0 a.client.stream b.client.stream ended
   pub same : IsSameActor a b
 
 -- an actor did some lines, likewise
@@ -50,7 +50,7 @@ pub record ClientPart {S T : Type 0} (P : mixport.Ghosts S) (left : T → Option
       → HasDone P left by_gate first ring from t phase wav a.number before (client_of a) ops (client_of b) rows
   pub ended : List Segment
   pub ended_are : b.ended.items ≡ a.ended.items ++ ended
-  pub extends : Extends P wav.samples s.0 t.0 a.client.plain b.client.plain ended
+  pub extends : Extends P wav.samples s.0 t.0 a.client.stream b.client.stream ended
   pub same : IsSameActor a b
 
 -- an actor's share of a gate's state: what a `die` lets pass yet, and the stops of its own gate

@@ -3,14 +3,14 @@ use Rattle.std.specs.Prelude.{◌≡◌, ℕ, ◌+◌, ◌≤◌, ◌⊎◌, Boo
 use Rattle.std.proofs.Common.{arith, inl, inr, ◌∙◌, ap}
 use Rattle.snd_base.specs.declared.geometry.Geometry.{Geometry}
 use Rattle.snoop_core.specs.Port.{SnoopView}
-use Rattle.dsnoop_client.specs.declared.plain.Plain.{Plain}
+use Rattle.dsnoop_client.specs.declared.stream.CaptureStream.{CaptureStream}
 use Rattle.dsnoop_client.specs.View.{is_running}
 
 -- the frame below which a reader gets none any more: its next one where it runs, and else the position that its port has seen
-abbrev pub least_next : Plain → SnoopView → ℕ
+abbrev pub least_next : CaptureStream → SnoopView → ℕ
 least_next r v = if is_running r.status.state then min r.next v.seen else v.seen
 
-pub least_next-seen : (r : Plain) (v : SnoopView) → least_next r v ≤ v.seen
+pub least_next-seen : (r : CaptureStream) (v : SnoopView) → least_next r v ≤ v.seen
 least_next-seen r v = by_running (is_running r.status.state)
   where
     by_running : (running : Bool) → (if running then min r.next v.seen else v.seen) ≤ v.seen
@@ -18,13 +18,13 @@ least_next-seen r v = by_running (is_running r.status.state)
     by_running false = omega arith
 
 -- A reader got so many frames: they are below the ones that it gets later, and the ring had each of them when the port had seen the first position.
-pub record Progress (count : ℕ) (r after : Plain) (v w : SnoopView) : Type 0 where
+pub record Progress (count : ℕ) (r after : CaptureStream) (v w : SnoopView) : Type 0 where
   pub ring : w.geometry ≡ v.geometry
   pub rising : v.seen ≤ w.seen
   pub next : least_next r v + count ≤ least_next after w
   pub held : (count ≡ 0) ⊎ (v.seen + count ≤ least_next after w + v.geometry.frames)
 
-pub Progress-joined : (m n : ℕ) (r x d : Plain) (u v w : SnoopView) → Progress m r x u v → Progress n x d v w → Progress (m + n) r d u w
+pub Progress-joined : (m n : ℕ) (r x d : CaptureStream) (u v w : SnoopView) → Progress m r x u v → Progress n x d v w → Progress (m + n) r d u w
 Progress-joined m n r x d u v w one two =
     let rising = one.rising in
     let later = two.rising in
@@ -49,7 +49,7 @@ abbrev pub SeesAtMost : ℕ → SnoopView → SnoopView → Type 0
 SeesAtMost played v w = w.seen ≤ v.seen + played
 
 -- then a reader got no more frames than the ring has and the card plays
-pub Progress-most : (count played : ℕ) (r d : Plain) (v w : SnoopView) → Progress count r d v w → SeesAtMost played v w → count ≤ v.geometry.frames + played
+pub Progress-most : (count played : ℕ) (r d : CaptureStream) (v w : SnoopView) → Progress count r d v w → SeesAtMost played v w → count ≤ v.geometry.frames + played
 Progress-most count played r d v w progress most =
     let below = least_next-seen d w in
     elim progress.held [

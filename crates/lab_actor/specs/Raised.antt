@@ -12,8 +12,8 @@ use Rattle.snoop_core.specs.declared.port.Got.TheVariants as got
 use Rattle.wav_io.specs.Sound.{Sound}
 use Rattle.course.specs.Course.{Course, Takes}
 use Rattle.course.specs.CourseLaws.{Takes-follow}
-use Rattle.dmix_client.specs.declared.plain.Plain as playing
-use Rattle.dsnoop_client.specs.declared.plain.Plain as reading
+use Rattle.dmix_client.specs.declared.stream.PlaybackStream as playing
+use Rattle.dsnoop_client.specs.declared.stream.CaptureStream as reading
 use Rattle.lab_script.specs.declared.line.Op.{Op}
 use Rattle.lab_script.specs.declared.line.Op.TheVariants as op
 use Rattle.lab_report.specs.declared.row.Answer.{Answer}
@@ -128,11 +128,11 @@ dies_if-raised : (k : ℕ) (stopped : Bool) (asked : Op) (a : AtPort) → dies_i
 dies_if-raised k false (op.Die n) a = refl
 dies_if-raised k stopped asked a = refl
 
-client-begins : (k : ℕ) (a : AtPort) (own : Option playing.Plain) (asked : Op) → client.begins own asked (raised k a) ≡ raised k (client.begins own asked a)
+client-begins : (k : ℕ) (a : AtPort) (own : Option playing.PlaybackStream) (asked : Op) → client.begins own asked (raised k a) ≡ raised k (client.begins own asked a)
 client-begins k a None asked = refl
 client-begins k a (Some c) asked = dies_if-raised k c.status.stopped asked a
 
-reader-begins : (k : ℕ) (a : AtPort) (own : Option reading.Plain) (asked : Op) → reader.begins own asked (raised k a) ≡ raised k (reader.begins own asked a)
+reader-begins : (k : ℕ) (a : AtPort) (own : Option reading.CaptureStream) (asked : Op) → reader.begins own asked (raised k a) ≡ raised k (reader.begins own asked a)
 reader-begins k a None asked = refl
 reader-begins k a (Some r) asked = dies_if-raised k r.status.stopped asked a
 

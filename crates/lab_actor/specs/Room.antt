@@ -1,7 +1,7 @@
 -- How many lines of a phase an actor has, and the room for what they leave.
 use Rattle.std.specs.Prelude.{ℕ, ℤ, ◌+◌, ◌-◌, ◌*◌, ◌/◌, ◌≤◌, Bool, false, List, length, max, min, sum_by, vec_capacity, vec_len}
 use Rattle.std.specs.Global.{Vec}
-use Rattle.dsnoop_client.specs.declared.plain.Plain.{Plain}
+use Rattle.dsnoop_client.specs.declared.stream.CaptureStream.{CaptureStream}
 use Rattle.dsnoop_client.specs.FewerReads.{most_read}
 use Rattle.lab_script.specs.declared.line.Actor.{Actor}
 use Rattle.lab_script.specs.declared.line.Actor.TheVariants.{Card, Client, Reader}
@@ -35,7 +35,7 @@ asked_by other = 0
 
 -- the most frames for which a reader gets room in a phase in which the card plays so many: as many as the ring has and as the card plays, and with them
 -- the greatest start threshold of a script's reader, or its own where that is greater still
-abbrev pub most_wanted : Plain → ℕ → ℕ → ℕ
+abbrev pub most_wanted : CaptureStream → ℕ → ℕ → ℕ
 most_wanted reader ring played = ring + played + max reader.setup.params.start_threshold 65536
 
 -- the frames for which lines get room: as many as they ask to read, and no more than the most
@@ -48,11 +48,11 @@ wanted_by most (op.Read frames) = min frames most
 wanted_by most other = 0
 
 -- the samples of these frames
-abbrev pub samples_wanted : Plain → Op → ℕ
+abbrev pub samples_wanted : CaptureStream → Op → ℕ
 samples_wanted reader asked = wanted_by (most_read reader) asked * length reader.setup.bindings
 
 -- the frames of a reader that there is room for yet
-abbrev pub spare_frames : Plain → Vec ℤ → ℕ
+abbrev pub spare_frames : CaptureStream → Vec ℤ → ℕ
 spare_frames reader samples = (vec_capacity samples - vec_len samples) / length reader.setup.bindings
 
 -- a read asks for as many frames as there is room for

@@ -35,7 +35,7 @@ pub struct ClientActor {
 
 /// Whether a client is paused.
 fn is_paused(client: &Client) -> bool
-    ensures { result ≡ is_paused client.now.plain.status.state }
+    ensures { result ≡ is_paused client.now.stream.status.state }
 {
     match client.state() {
         State::Paused => true,
@@ -75,7 +75,7 @@ fn call_line<P: MixPort, G: Gate, L: Ledger>(
     asked: Op,
 ) -> Answer
     requires few { IsFew asked }
-    requires can { CanCall client.old.plain.status.stopped asked }
+    requires can { CanCall client.old.stream.status.stopped asked }
     requires ready { IsReady P.MixPort wav.now port.old client.old }
     ensures answered { HasAnswered P.MixPort left_of (by_gate_of G.stops) (port.old, gate.old) (port.new, gate.new)
         wav.now client.old client.new asked result }

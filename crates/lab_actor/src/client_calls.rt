@@ -55,7 +55,7 @@ pub(crate) fn call<P: MixPort, G: Gate>(
     asked: Op,
 ) -> Answer
     requires few { IsFew asked }
-    requires unstopped { client.old.plain.status.stopped ≡ false }
+    requires unstopped { client.old.stream.status.stopped ≡ false }
     requires ready { IsReady P.MixPort wav.now port.old client.old }
     ensures { HasCalled P.MixPort G.Gate (port.old, gate.old) (port.new, gate.new)
         wav.now client.old client.new asked result }

@@ -17,7 +17,7 @@ use Rattle.sum_table.specs.declared.view.Key.{Key}
 use Rattle.sum_table.specs.declared.view.View.{View}
 use Rattle.sum_table.specs.Seats.{SeatLoaded-composes, TableId, marks_of_seat, view_of}
 use Rattle.wav_io.specs.Sound.{Sound}
-use Rattle.dmix_client.specs.declared.plain.Plain.{Plain}
+use Rattle.dmix_client.specs.declared.stream.PlaybackStream.{PlaybackStream}
 use Rattle.card_sim.specs.declared.card.Card.{Card}
 use Rattle.lab_script.specs.declared.line.Actor.TheVariants as actor
 use Rattle.lab_script.specs.declared.line.Line.{Line}
@@ -40,7 +40,7 @@ use Rattle.lab_card.specs.Findings.{CardPhase, client-found, rules_between}
 use Rattle.lab_client.specs.declared.open_client.OpenClient.{OpenClient}
 use Rattle.lab_client.specs.declared.client.LabClient.{LabClient}
 use Rattle.lab_client.specs.Clients.{AllRefused, HasLaidBy, IsAt, IsAtBy, IsCardOf, IsClientHeard, IsClientInformed, IsSameRest, RunsLines, Stays, client_by, client_in, ended_of, number_of, open_of, rows_by, rows_of}
-use Rattle.lab_client.specs.OpenClients.{HasLaid, HasRun, IsHeard, IsInformed, IsOpenAt, IsSameOpening, plain_of}
+use Rattle.lab_client.specs.OpenClients.{HasLaid, HasRun, IsHeard, IsInformed, IsOpenAt, IsSameOpening, stream_of}
 use Rattle.lab_client.specs.SeatLaws.{IsPlace-same, IsReady-same, IsSameSeat, IsSameSeat-informed, IsSameSeat-same}
 use Rattle.lab_client.specs.SeatPort.{seat_port}
 
@@ -53,7 +53,7 @@ IsOpenAt-same : (ring : TableId) (key : Key) (wav : Sound) (last : Option ℕ) (
     → IsOpenAt ring key wav last number o a → IsOpenAt ring key wav last number p a
 IsOpenAt-same ring key wav last number o p a seat own same is = record {
   numbered = ap (λ (x : ClientActor). x.number) own ∙ is.numbered;
-  bindings = same.bindings ∙ (is.bindings ∙ ap (λ (x : ClientActor). x.client.plain.setup.bindings) (sym own));
+  bindings = same.bindings ∙ (is.bindings ∙ ap (λ (x : ClientActor). x.client.stream.setup.bindings) (sym own));
   place = IsPlace-same ring key o.seat p.seat seat is.place;
   ready = subst (λ (x : ClientActor). IsReady seat_port wav p.seat x.client) (sym own) (IsReady-same wav o.actor.client o.seat p.seat seat is.ready);
   after = let low = is.after in let up = seat.seen in let at = same.opened_at in omega (arith, low, up, at);
@@ -125,15 +125,15 @@ module _ (ring : TableId) (key : Key) (wav : Sound) (last : Option ℕ) (number 
 
 -- ---- what was laid
 
-HasLaid-same : (samples : List ℤ) (x y v w : List Entry) (c d e f : Plain) (ended : List Segment) → v ≡ x → w ≡ y → e ≡ c → f ≡ d → HasLaid samples x y c d ended
+HasLaid-same : (samples : List ℤ) (x y v w : List Entry) (c d e f : PlaybackStream) (ended : List Segment) → v ≡ x → w ≡ y → e ≡ c → f ≡ d → HasLaid samples x y c d ended
     → HasLaid samples v w e f ended
 HasLaid-same samples x y v w c d e f ended one two first second laid =
     subst (λ (s : List Entry). HasLaid samples s w e f ended) (sym one)
     (subst (λ (t : List Entry). HasLaid samples x t e f ended) (sym two)
-    (subst (λ (m : Plain). HasLaid samples x y m f ended) (sym first)
-    (subst (λ (n : Plain). HasLaid samples x y c n ended) (sym second) laid)))
+    (subst (λ (m : PlaybackStream). HasLaid samples x y m f ended) (sym first)
+    (subst (λ (n : PlaybackStream). HasLaid samples x y c n ended) (sym second) laid)))
 
-HasLaid-extends : (samples : List ℤ) (s t : MixSeat) (c d : Plain) (ended : List Segment) → Extends seat_port samples s t c d ended
+HasLaid-extends : (samples : List ℤ) (s t : MixSeat) (c d : PlaybackStream) (ended : List Segment) → Extends seat_port samples s t c d ended
     → HasLaid samples (view_of s).laid (view_of t).laid c d ended
 HasLaid-extends samples s t c d ended extends =
     let away = extends.away in
@@ -234,10 +234,10 @@ module _ {capture : Option Sound} {phase : ℕ} (c : Card) (a b : CardActor) (d 
         rows_are = ap (λ (x : ClientActor). x.rows.items) heard.actor ∙ (run.part.rows_are ∙ ap (λ (x : ClientActor). x.rows.items ++ rows) informed.actor);
         ended = run.part.ended;
         ended_are = ap (λ (x : ClientActor). x.ended.items) heard.actor ∙ (run.part.ended_are ∙ ap (λ (x : ClientActor). x.ended.items ++ run.part.ended) informed.actor);
-        laid = HasLaid-same wav.samples (view_of p.seat).laid (view_of q.seat).laid (view_of o.seat).laid (view_of r.seat).laid (plain_of p) (plain_of q) (plain_of o) (plain_of r)
-            run.part.ended (sym informed.seat.laid) (ap (λ (v : View). v.laid) heard.seat.view) (ap (λ (x : ClientActor). x.client.plain) (sym informed.actor))
-            (ap (λ (x : ClientActor). x.client.plain) heard.actor)
-            (HasLaid-extends wav.samples p.seat q.seat (plain_of p) (plain_of q) run.part.ended run.part.extends);
+        laid = HasLaid-same wav.samples (view_of p.seat).laid (view_of q.seat).laid (view_of o.seat).laid (view_of r.seat).laid (stream_of p) (stream_of q) (stream_of o) (stream_of r)
+            run.part.ended (sym informed.seat.laid) (ap (λ (v : View). v.laid) heard.seat.view) (ap (λ (x : ClientActor). x.client.stream) (sym informed.actor))
+            (ap (λ (x : ClientActor). x.client.stream) heard.actor)
+            (HasLaid-extends wav.samples p.seat q.seat (stream_of p) (stream_of q) run.part.ended run.part.extends);
       }
 
   -- a client that isn't open had its lines refused

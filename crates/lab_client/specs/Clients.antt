@@ -10,7 +10,7 @@ use Rattle.card_sim.specs.declared.card.Card.{Card}
 use Rattle.lab_script.specs.declared.line.Actor.TheVariants as actor
 use Rattle.lab_script.specs.declared.line.Line.{Line}
 use Rattle.lab_report.specs.declared.row.Row.{Row}
-use Rattle.dmix_client.specs.declared.plain.Plain.{Plain}
+use Rattle.dmix_client.specs.declared.stream.PlaybackStream.{PlaybackStream}
 use Rattle.lab_run.specs.Client.{Client, stretch_of}
 use Rattle.lab_run.specs.Phases.{is_client, ops_by}
 use Rattle.lab_run.specs.Rules.{AtPort}
@@ -22,7 +22,7 @@ use Rattle.lab_card.specs.Meets.{IsClientOf}
 use Rattle.lab_card.specs.Moves.{seat_of_card}
 use Rattle.lab_client.specs.declared.client.LabClient.{LabClient}
 use Rattle.lab_client.specs.declared.open_client.OpenClient.{OpenClient}
-use Rattle.lab_client.specs.OpenClients.{HasLaid, HasRun, IsHeard, IsInformed, IsOpenAt, IsReadyAt, IsSameOpen, plain_of}
+use Rattle.lab_client.specs.OpenClients.{HasLaid, HasRun, IsHeard, IsInformed, IsOpenAt, IsReadyAt, IsSameOpen, stream_of}
 
 abbrev pub number_of : LabClient → ℕ
 number_of d = d.number
@@ -60,10 +60,10 @@ ended_by d (Some o) = o.actor.ended.items
 
 abbrev pub last_by : LabClient → Option OpenClient → List Segment
 last_by d None = option_to_list d.last
-last_by d (Some o) = stretch_of (plain_of o)
+last_by d (Some o) = stretch_of (stream_of o)
 
 -- the position of the card that a client of a run loaded last
-abbrev pub seen_by : Option Plain → Option ℕ
+abbrev pub seen_by : Option PlaybackStream → Option ℕ
 seen_by None = None
 seen_by (Some c) = c.seen
 
@@ -133,7 +133,7 @@ pub record IsClientHeard (c : Card) (d e : LabClient) : Type 0 where
 
 -- what was laid for a client in a phase, in which its segments grew by these
 abbrev pub HasLaidBy : Sound → List Segment → OpenClient → OpenClient → Type 0
-HasLaidBy wav ended o p = HasLaid wav.samples (view_of o.seat).laid (view_of p.seat).laid (plain_of o) (plain_of p) ended
+HasLaidBy wav ended o p = HasLaid wav.samples (view_of o.seat).laid (view_of p.seat).laid (stream_of o) (stream_of p) ended
 
 -- the same client as before, but for its rows and its room
 pub record IsSameBut (d e : LabClient) : Type 0 where

@@ -38,7 +38,7 @@ CanRun-open wav o p same ready =
 
 -- a client of a run, by its stream
 abbrev pub run_client : ℕ → ClientView → List Segment → Client
-run_client number v ended = record { own = Some (with_member number v.plain); ended = ended }
+run_client number v ended = record { own = Some (with_member number v.stream); ended = ended }
 
 -- where a client is open, its seat is of a ring
 pub record IsSeatOf (ring : TableId) (key : Key) (o : OpenClient) : Type 0 where
@@ -112,7 +112,7 @@ module _ (ring : TableId) (key : Key) where
       by_open None None stays is = is
       by_open (Some o) (Some p) stays is = record {
         numbered = stays.number ∙ is.numbered;
-        bindings = stays.same.bindings ∙ (is.bindings ∙ ap (λ (c : ClientView). c.plain.setup.bindings) (sym stays.client));
+        bindings = stays.same.bindings ∙ (is.bindings ∙ ap (λ (c : ClientView). c.stream.setup.bindings) (sym stays.client));
         place = subst (λ (s : MixSeat). IsPlace ring key (member_of s) s) (sym stays.seat) is.place;
         ready = CanRun-open wav o p stays is.ready;
         after = let low = is.after in let at = stays.same.opened_at in let seat = ap seen_of stays.seat in omega (arith, low, at, seat);

@@ -8,7 +8,7 @@ use Rattle.sum_table.specs.declared.view.Key.{Key}
 use Rattle.sum_table.specs.Seats.{TableId, marks_of_seat, member_of, seen_of, view_of}
 use Rattle.lobby.specs.Seats.{IsPlace}
 use Rattle.wav_io.specs.Sound.{Sound}
-use Rattle.dmix_client.specs.declared.plain.Plain.{Plain}
+use Rattle.dmix_client.specs.declared.stream.PlaybackStream.{PlaybackStream}
 use Rattle.dmix_client.specs.Growth.{segment_entries}
 use Rattle.card_sim.specs.declared.card.Card.{Card}
 use Rattle.lab_script.specs.declared.line.Line.{Line}
@@ -22,8 +22,8 @@ use Rattle.lab_client.specs.declared.open_client.OpenClient.{OpenClient}
 use Rattle.lab_client.specs.SeatPort.{seat_port}
 
 -- what an open client's stream is
-abbrev pub plain_of : OpenClient → Plain
-plain_of o = o.actor.client.plain
+abbrev pub stream_of : OpenClient → PlaybackStream
+stream_of o = o.actor.client.stream
 
 -- an open client can use its seat with its file
 abbrev pub IsReadyAt : Sound → OpenClient → Type 0
@@ -33,7 +33,7 @@ IsReadyAt wav o = IsReady seat_port wav o.seat o.actor.client
 -- place before is known. The place's marks, which former clients moved, are to it what those of the client in the run are.
 pub record IsOpenAt (ring : TableId) (key : Key) (wav : Sound) (last : Option ℕ) (number : ℕ) (o : OpenClient) (a : AtPort) : Type 0 where
   pub numbered : o.actor.number ≡ number
-  pub bindings : o.bindings ≡ (plain_of o).setup.bindings
+  pub bindings : o.bindings ≡ (stream_of o).setup.bindings
   pub place : IsPlace ring key (member_of o.seat) o.seat
   pub ready : IsReadyAt wav o
   pub after : o.opened_at ≤ seen_of o.seat
@@ -79,7 +79,7 @@ pub record IsHeard (c : Card) (o p : OpenClient) : Type 0 where
 
 -- What a seat laid for a client in a phase, by the samples of its file: the client had a stretch there before. At the end of the seat's standing adds
 -- its stretches, those that it ended and then the present one, took the place of that one; and they give each sum as much more as the seat laid.
-pub record HasLaid (samples : List ℤ) (before after : List Entry) (c d : Plain) (ended : List Segment) : Type 0 where
+pub record HasLaid (samples : List ℤ) (before after : List Entry) (c d : PlaybackStream) (ended : List Segment) : Type 0 where
   pub totals : (f k : ℕ) → total after f k +ℤ total (segment_entries c samples) f k ≡ total before f k +ℤ total (stretches_entries d samples ended) f k
   pub standing_adds : (early : List Entry) → standing before ≡ early ++ segment_entries c samples → standing after ≡ early ++ stretches_entries d samples ended
   pub same_member : d.identity.member ≡ c.identity.member

@@ -12,7 +12,7 @@ use Rattle.sum_table.specs.declared.view.Key.{Key}
 use Rattle.sum_table.specs.Seats.{TableId, geometry_of, marks_of_seat, member_of, places_of_seat, seen_of, view_of}
 use Rattle.lobby.specs.Seats as seats
 use Rattle.wav_io.specs.Sound.{Sound}
-use Rattle.dmix_client.specs.declared.plain.Plain.{Plain}
+use Rattle.dmix_client.specs.declared.stream.PlaybackStream.{PlaybackStream}
 use Rattle.lab_run.specs.Client.{Client}
 use Rattle.lab_run.specs.Members.{with_member}
 use Rattle.lab_run.specs.Places.{last_of}
@@ -32,7 +32,7 @@ use Rattle.lab_client.specs.SeatPort.{seat_port}
 
 -- a client that is opened with as many bindings as its file has channels can use its seat
 IsReady-new : (wav : Sound) (seat : MixSeat) (setup : Setup) (held : List ℤ) → places_of_seat seat ≡ 1 → length setup.bindings ≡ wav.channels
-    → IsReady seat_port wav seat (record { plain = opened_client (geometry_of seat) (member_of seat) setup; ring = held })
+    → IsReady seat_port wav seat (record { stream = opened_client (geometry_of seat) (member_of seat) setup; ring = held })
 IsReady-new wav seat setup held one channels = record {
   usable = record {
     same_geometry = refl;
@@ -53,7 +53,7 @@ IsReady-opened : (wav : Sound) (seat : MixSeat) (setup : Setup) (position : ℕ)
     → IsNew seat setup position d o → IsReadyAt wav o
 IsReady-opened wav seat setup position d o one channels new =
     subst (λ (s : MixSeat). IsReady seat_port wav s o.actor.client) (sym new.seat_is)
-    (subst (λ (c : Plain). IsReady seat_port wav seat (record { plain = c; ring = o.actor.client.ring })) (sym new.stream)
+    (subst (λ (c : PlaybackStream). IsReady seat_port wav seat (record { stream = c; ring = o.actor.client.ring })) (sym new.stream)
     (IsReady-new wav seat setup o.actor.client.ring one channels))
 
 -- the client of a run that is opened, with segments that it had before
@@ -84,7 +84,7 @@ module _ (p : Places) (position : ℕ) (seat : MixSeat) (setup : Setup) (d e : L
       by_open None never = absurd never
       by_open (Some o) new = record {
         numbered = new.number ∙ sym opened.number;
-        bindings = new.bindings ∙ ap (λ (c : Plain). c.setup.bindings) (sym new.stream);
+        bindings = new.bindings ∙ ap (λ (c : PlaybackStream). c.setup.bindings) (sym new.stream);
         place = subst (λ (s : MixSeat). seats.IsPlace (ring_of_places p) (key_of_places p) (member_of s) s) (sym new.seat_is) given.place;
         ready = IsReady-opened wav seat setup position d o given.place.places channels new;
         after = subst (λ (s : MixSeat). o.opened_at ≤ seen_of s) (sym new.seat_is) (let low = given.seen in let at = new.opened_at in omega (arith, low, at));
@@ -106,7 +106,7 @@ module _ (p : Places) (position : ℕ) (seat : MixSeat) (setup : Setup) (d e : L
           → client_by (ended_of e) o ≡ new_client setup (key_of_places p).geometry (number_of d) (client_in d).ended
       by_open None never = absurd never
       by_open (Some o) new =
-          ap (λ (c : Plain). record { own = Some (with_member o.actor.number c); ended = o.actor.ended.items }) new.stream
+          ap (λ (c : PlaybackStream). record { own = Some (with_member o.actor.number c); ended = o.actor.ended.items }) new.stream
           ∙ (ap (λ (k : Key). new_client setup k.geometry o.actor.number o.actor.ended.items) given.place.of_key
           ∙ (ap (λ (n : ℕ). new_client setup (key_of_places p).geometry n o.actor.ended.items) new.number
           ∙ ap (new_client setup (key_of_places p).geometry (number_of d)) new.ended))

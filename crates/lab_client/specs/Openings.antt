@@ -9,12 +9,12 @@ use Rattle.lab_run.specs.Stage.{Setup, opened_client}
 use Rattle.lab_client.specs.declared.client.LabClient.{LabClient}
 use Rattle.lab_client.specs.declared.open_client.OpenClient.{OpenClient}
 use Rattle.lab_client.specs.Clients.{client_in, number_of, open_of, rows_of}
-use Rattle.lab_client.specs.OpenClients.{plain_of}
+use Rattle.lab_client.specs.OpenClients.{stream_of}
 
 -- a client that is opened at a seat and a position: its stream is new, and the segments and rows that it had are its own
 pub record IsNew (seat : MixSeat) (setup : Setup) (position : ℕ) (d : LabClient) (o : OpenClient) : Type 0 where
   pub number : o.actor.number ≡ number_of d
-  pub stream : plain_of o ≡ opened_client (geometry_of seat) (member_of seat) setup
+  pub stream : stream_of o ≡ opened_client (geometry_of seat) (member_of seat) setup
   pub left : o.actor.left ≡ None
   pub ended : o.actor.ended.items ≡ (client_in d).ended
   pub rows : o.actor.rows.items ≡ rows_of d

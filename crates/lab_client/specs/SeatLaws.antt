@@ -65,13 +65,13 @@ IsReady-same wav v s t is ready = record {
     same_geometry = ap (λ (k : Key). k.geometry) is.key ∙ ready.usable.same_geometry;
     same_member = is.member ∙ ready.usable.same_member;
     can = ap (nat_lt 0) is.places ∙ ready.usable.can;
-    behind = λ moves goes. subst (λ (m : Marks). IsFrom m.cursor (v.plain.stretch.card + v.plain.stretch.committed) (least_channel v.plain.setup.bindings)) (sym is.marks)
+    behind = λ moves goes. subst (λ (m : Marks). IsFrom m.cursor (v.stream.stretch.card + v.stream.stretch.committed) (least_channel v.stream.setup.bindings)) (sym is.marks)
         (ready.usable.behind moves goes);
     newer = λ moves goes. let low = ready.usable.newer moves goes in let up = is.seen in omega (arith, low, up);
   };
   backed = record {
     stands = ready.backed.stands;
-    segment = subst (λ (es : List Entry). EndsIn (standing es) (segment_entries v.plain wav.samples)) (sym is.laid) ready.backed.segment;
+    segment = subst (λ (es : List Entry). EndsIn (standing es) (segment_entries v.stream wav.samples)) (sym is.laid) ready.backed.segment;
   };
   channels = ready.channels;
   fed = ready.fed;

@@ -8,7 +8,7 @@ use snd_base::{PcmError, Segment};
 
 /// The segment of a client's present stretch, where it has a sample.
 pub(crate) fn present_segment(client: &Client) -> Option<Segment>
-    ensures { option_to_list result ≡ stretch_of client.now.plain }
+    ensures { option_to_list result ≡ stretch_of client.now.stream }
 {
     let segment = client.segment();
     if segment.whole == 0 && segment.part == 0 {

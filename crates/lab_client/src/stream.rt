@@ -17,7 +17,7 @@ pub(crate) fn set_up(
     opening: &Opening,
 ) -> Result<Client, PcmError>
     requires { IsUsable geometry.channels geometry.frames opening.now }
-    ensures ok { IfOk result (λ client. client.plain ≡ opened_client geometry member opening.now) }
+    ensures ok { IfOk result (λ client. client.stream ≡ opened_client geometry member opening.now) }
     ensures only { IfErr result (λ e. e ≡ PcmError.Memory) }
 {
     let mut client = Client::new(alloc, geometry, member, opening.lead);

@@ -13,7 +13,7 @@ use Rattle.sum_table.specs.Joins.{OneRing}
 use Rattle.sum_table.specs.Seats.{TableId, key_of, member_of, ring_of, view_of}
 use Rattle.lobby.specs.Lobbies.{free_seats}
 use Rattle.lobby.specs.Seats.{last_of}
-use Rattle.dmix_client.specs.declared.plain.Plain.{Plain}
+use Rattle.dmix_client.specs.declared.stream.PlaybackStream.{PlaybackStream}
 use Rattle.pcm_states.specs.declared.states.State.TheVariants as state
 use Rattle.lab_script.specs.declared.line.Actor.TheVariants as actor
 use Rattle.lab_script.specs.declared.line.Op.TheVariants as op
@@ -32,7 +32,7 @@ use Rattle.lab_client.specs.declared.client.LabClient.{LabClient}
 use Rattle.lab_client.specs.declared.open_client.OpenClient.{OpenClient}
 use Rattle.lab_client.specs.ClientPhase.{LastsAreOwn}
 use Rattle.lab_client.specs.Clients.{IsAt, IsAtBy, client_by, client_in, ended_of, is_open, number_of, open_of, seen_by}
-use Rattle.lab_client.specs.OpenClients.{IsOpenAt, plain_of}
+use Rattle.lab_client.specs.OpenClients.{IsOpenAt, stream_of}
 use Rattle.lab_client.specs.OpeningLaws.{IsAt-closed, IsOwnLast-closed}
 use Rattle.lab_client.specs.Openings.{HasClosed, IsHigh, closed_client}
 use Rattle.lab_clients.specs.declared.clients.LabClients.{LabClients}
@@ -55,8 +55,8 @@ ClosesAny-own p q d e o s channels position closed closes =
     (subst (λ own. ClosesAny p own position s q) closed.channels_are closes))
 
 -- the client of a run while it is open
-abbrev own_client : OpenClient → Plain
-own_client o = with_member o.actor.number (plain_of o)
+abbrev own_client : OpenClient → PlaybackStream
+own_client o = with_member o.actor.number (stream_of o)
 
 -- An open client of a list: its seat is of the card's ring, and it can be closed. The relation `Is` is of a client of a run.
 module _ (Is : Relation (AtPort × Client)) (session : Session) (held : Held) (xs : List (AtPort × Client)) (cs : LabClients) (number : ℕ) (d : LabClient) (o : OpenClient)
@@ -234,13 +234,13 @@ abbrev closed_row : ℕ → ℕ → Option ℕ → Row
 closed_row phase number seen = record { phase = phase; actor = actor.Client number; op = op.Closes; answer = Done; state = state.Open; seen = seen }
 
 -- a closing of a client that isn't open
-close_client-closed : (session : Session) (stage : Stage) (number : ℕ) (client : AtPort × Client) (own : Option Plain) → own ≡ None
+close_client-closed : (session : Session) (stage : Stage) (number : ℕ) (client : AtPort × Client) (own : Option PlaybackStream) → own ≡ None
     → close_client session stage number client own ≡ with_row (row_by stage.phases number op.Closes None (Failed BadState)) stage
 close_client-closed session stage number client None is = refl
 close_client-closed session stage number client (Some c) is = absurd (cc)
 
 -- of one that is open
-AreAfter-close_client : (session : Session) (stage : Stage) (number : ℕ) (own : Option Plain) (ds : LabClients) → is_some own ≡ true
+AreAfter-close_client : (session : Session) (stage : Stage) (number : ℕ) (own : Option PlaybackStream) (ds : LabClients) → is_some own ≡ true
     → AreAt session (held_without session number (client_among session stage.clients number).0 own (held_of stage)) (clients_but session stage.clients number) ds
     → AreAfter session stage (close_client session stage number (client_among session stage.clients number) own) (closed_row stage.phases number (seen_by own)) ds
 AreAfter-close_client session stage number None ds is are = absurd (cc)

@@ -20,7 +20,7 @@ use Rattle.sum_table.specs.Known.{greater, last_frame}
 use Rattle.sum_table.specs.Seats.{TableId, key_of, places_of_seat, view_of}
 use Rattle.lobby.specs.Lobbies.{free_seats, laid_by_all}
 use Rattle.lobby.specs.Seats.{AreFree}
-use Rattle.dmix_client.specs.declared.plain.Plain.{Plain}
+use Rattle.dmix_client.specs.declared.stream.PlaybackStream.{PlaybackStream}
 use Rattle.lab_script.specs.declared.script.Share.{Share}
 use Rattle.lab_script.specs.Script.{first_frame}
 use Rattle.lab_run.specs.Client.{Client, segments_of}
@@ -193,7 +193,7 @@ HasEnded-none session held xs cs are = record { then_held = held; ys = xs; are =
 length-held_but : (session : Session) (held : Held) (xs : List (AtPort × Client)) (number : ℕ) → length (held_but session held xs number).lobby.places ≡ length held.lobby.places
 length-held_but session held xs number = by_own (client_among session xs number).1.own
   where
-    by_own : (own : Option Plain) → length (held_without session number (client_among session xs number).0 own held).lobby.places ≡ length held.lobby.places
+    by_own : (own : Option PlaybackStream) → length (held_without session number (client_among session xs number).0 own held).lobby.places ≡ length held.lobby.places
     by_own None = refl
     by_own (Some c) = length-map held.lobby.places (left_place number (high_frame session.ring (client_among session xs number).0.marks))
 

@@ -13,7 +13,7 @@ use Rattle.sum_table.specs.declared.view.Key.{Key}
 use Rattle.sum_table.specs.Seats.{TableId, member_of, view_of}
 use Rattle.lobby.specs.Lobbies.{free_seats}
 use Rattle.lobby.specs.Seats.{last_of}
-use Rattle.dmix_client.specs.declared.plain.Plain.{Plain}
+use Rattle.dmix_client.specs.declared.stream.PlaybackStream.{PlaybackStream}
 use Rattle.lab_script.specs.declared.line.Actor.TheVariants as actor
 use Rattle.lab_script.specs.declared.line.Op.TheVariants as op
 use Rattle.lab_script.specs.declared.script.Share.{Share}
@@ -66,7 +66,7 @@ module _ (session : Session) (held : Held) (xs : List (AtPort × Client)) (cs : 
 -- ---- refusals that name no place
 
 -- an opening of an open client
-open_client-open : (session : Session) (stage : Stage) (number : ℕ) (client : AtPort × Client) (own : Option Plain) → is_some own ≡ true
+open_client-open : (session : Session) (stage : Stage) (number : ℕ) (client : AtPort × Client) (own : Option PlaybackStream) → is_some own ≡ true
     → open_client session stage number client own ≡ with_row (row_by stage.phases number op.Opens own (Failed BadState)) stage
 open_client-open session stage number client None is = absurd (false≢true is)
 open_client-open session stage number client (Some c) is = refl
@@ -214,7 +214,7 @@ module _ (session : Session) (stage : Stage) (number : ℕ) (setup : Setup) (pos
 
   set-up : (o : Option OpenClient) → IsSomeAnd o (IsNew seat setup position d) → IsSetUp (slice_index_or session.clients number None) o
   set-up None never = absurd never
-  set-up (Some o) new = (setup, sym before.setup_is, ap (λ (c : Plain). c.setup.bindings) new.stream)
+  set-up (Some o) new = (setup, sym before.setup_is, ap (λ (c : PlaybackStream). c.setup.bindings) new.stream)
 
   no-rows : (o : Option OpenClient) → IsSomeAnd o (IsNew seat setup position d) → rows_by e.rows.items o ≡ []
   no-rows None never = absurd never
@@ -248,7 +248,7 @@ module _ (session : Session) (stage : Stage) (number : ℕ) (setup : Setup) (pos
 
   segments-are : segments_of opened-as.1 ≡ segments_of (client_at session stage number).1
   segments-are =
-      ap (λ (own : Option Plain). (client_at session stage number).1.ended ++ present_of own)
+      ap (λ (own : Option PlaybackStream). (client_at session stage number).1.ended ++ present_of own)
       (sym (own-is session stage phase number cs d before.at inside is ∙ none-own d closed))
 
   reported-still : IsReported session (free_seats (lobby_of (places_of ds))) (slice_set (clients_of cs) number e) (slice_set stage.clients number opened-as)
@@ -272,7 +272,7 @@ module _ (session : Session) (stage : Stage) (number : ℕ) (setup : Setup) (pos
   -- the row of the opening
   opened-row : row_by stage.phases number op.Opens (Some (opened_client session.ring number setup)) Done ≡ row_by phase (number_of e) op.Opens (client_in e).own Done
   opened-row =
-      ap (λ (own : Option Plain). row_by stage.phases number op.Opens own Done) (ap (λ (c : Client). c.own) (sym client-is))
+      ap (λ (own : Option PlaybackStream). row_by stage.phases number op.Opens own Done) (ap (λ (c : Client). c.own) (sym client-is))
       ∙ (ap (λ n. row_by n number op.Opens (client_in e).own Done) (sym before.at.phase_is)
       ∙ ap (λ n. row_by phase n op.Opens (client_in e).own Done) (sym (opened.number ∙ was.is.numbered)))
 

@@ -22,7 +22,7 @@ use Rattle.lab_places.specs.Holdings.{AreHeld, Holding, Holdings}
 use Rattle.lab_client.specs.declared.client.LabClient.{LabClient}
 use Rattle.lab_client.specs.declared.open_client.OpenClient.{OpenClient}
 use Rattle.lab_client.specs.Clients.{IsAt, client_in, number_of, open_of, rows_of}
-use Rattle.lab_client.specs.OpenClients.{plain_of}
+use Rattle.lab_client.specs.OpenClients.{stream_of}
 use Rattle.lab_clients.specs.declared.clients.LabClients.{LabClients}
 use Rattle.lab_clients.specs.Steps.{sound_at}
 use Rattle.lab_actors.specs.Walks.{AreEach}
@@ -43,7 +43,7 @@ holding_by last (Some o) = Some (record { place = member_of o.seat; before = las
 -- where a client is open, it was opened with what its line and its file leave it
 abbrev pub IsSetUp : Option Setup → Option OpenClient → Type 0
 IsSetUp setup None = ⊤
-IsSetUp setup (Some o) = (own : Setup) × (setup ≡ Some own) × ((plain_of o).setup.bindings ≡ own.bindings)
+IsSetUp setup (Some o) = (own : Setup) × (setup ≡ Some own) × ((stream_of o).setup.bindings ≡ own.bindings)
 
 -- a client of the lab is the client of a number in a run, with what it holds
 pub record IsClientIn (session : Session) (ring : TableId) (key : Key) (holdings : Holdings) (number : ℕ) (d : LabClient) (x : AtPort × Client) : Type 0 where

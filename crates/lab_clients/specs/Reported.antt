@@ -11,7 +11,7 @@ use Rattle.snd_base.specs.declared.places.Segment.{Segment}
 use Rattle.mix_core.specs.declared.port.Entry.{Entry}
 use Rattle.mix_core.specs.HistoryLaws.{total-append}
 use Rattle.mix_core.specs.Laid.{total}
-use Rattle.dmix_client.specs.declared.plain.Plain.{Plain}
+use Rattle.dmix_client.specs.declared.stream.PlaybackStream.{PlaybackStream}
 use Rattle.dmix_client.specs.Calls.{segment_of}
 use Rattle.dmix_client.specs.Expansion.{expand, run_entries, sample_at}
 use Rattle.dmix_client.specs.Growth.{segment_entries}
@@ -24,7 +24,7 @@ use Rattle.lab_run.specs.Stage.{Session, Setup}
 use Rattle.lab_actor.specs.ClientLines.{entries_by as stretch_entries}
 use Rattle.lab_client.specs.declared.open_client.OpenClient.{OpenClient}
 use Rattle.lab_client.specs.Clients.{HasLaidBy, Stays, client_by}
-use Rattle.lab_client.specs.OpenClients.{plain_of}
+use Rattle.lab_client.specs.OpenClients.{stream_of}
 use Rattle.lab_clients.specs.AtStage.{IsSetUp, laid_for}
 use Rattle.lab_clients.specs.Steps.{sound_at}
 
@@ -53,13 +53,13 @@ given_by-append session xs ys f k =
 -- ---- the entries of a stretch
 
 -- a stretch in which nothing was laid has no entries
-segment_entries-none : (c : Plain) (samples : List ℤ) → c.stretch.committed ≡ 0 → c.stretch.part ≡ 0 → segment_entries c samples ≡ []
+segment_entries-none : (c : PlaybackStream) (samples : List ℤ) → c.stretch.committed ≡ 0 → c.stretch.part ≡ 0 → segment_entries c samples ≡ []
 segment_entries-none c samples no_frame no_part =
     ap (λ (n : ℕ). run_entries c.identity.member c.setup.bindings (λ j. sample_at samples (length c.setup.bindings) (c.stretch.source + j)) c.stretch.card 0 n c.stretch.part) no_frame
     ∙ ap (λ (n : ℕ). run_entries c.identity.member c.setup.bindings (λ j. sample_at samples (length c.setup.bindings) (c.stretch.source + j)) c.stretch.card 0 0 n) no_part
 
 -- so its entries are those of its segment, where it has one
-stretch_entries-stretch_of : (c : Plain) (samples : List ℤ) → flat_map (stretch_entries c samples) (stretch_of c) ≡ segment_entries c samples
+stretch_entries-stretch_of : (c : PlaybackStream) (samples : List ℤ) → flat_map (stretch_entries c samples) (stretch_of c) ≡ segment_entries c samples
 stretch_entries-stretch_of c samples = by_test (nat_eq c.stretch.committed 0 && nat_eq c.stretch.part 0) refl
   where
     by_test : (test : Bool) → (nat_eq c.stretch.committed 0 && nat_eq c.stretch.part 0) ≡ test
@@ -70,13 +70,13 @@ stretch_entries-stretch_of c samples = by_test (nat_eq c.stretch.committed 0 && 
 -- ---- the segments of an open client, by its file and with what it was opened
 
 -- an open client of a number is set up as the session has it
-pub record IsOpenOf (session : Session) (number : ℕ) (c : Plain) : Type 0 where
+pub record IsOpenOf (session : Session) (number : ℕ) (c : PlaybackStream) : Type 0 where
   pub file : number < length session.sounds
   pub own : Setup
   pub setup : slice_index_or session.clients number None ≡ Some own
   pub bindings : c.setup.bindings ≡ own.bindings
 
-module _ (session : Session) (number : ℕ) (alike : AllLayAlike) (c : Plain) (is : IsOpenOf session number c) where
+module _ (session : Session) (number : ℕ) (alike : AllLayAlike) (c : PlaybackStream) (is : IsOpenOf session number c) where
   abbrev samples_of : List ℤ
   samples_of = (sound_at session.sounds number).samples
 
@@ -125,18 +125,18 @@ module _ (session : Session) (number : ℕ) (alike : AllLayAlike) (c : Plain) (i
 -- ---- a client in a phase
 
 -- The seat of an open client laid as much more as its segments give more.
-laid_for-run : (session : Session) (number : ℕ) → AllLayAlike → (o p : OpenClient) (ended : List Segment) → IsOpenOf session number (plain_of o)
-    → IsOpenOf session number (plain_of p) → p.actor.ended.items ≡ o.actor.ended.items ++ ended → HasLaidBy (sound_at session.sounds number) ended o p → (f k : ℕ)
-    → laid_for (Some p) f k +ℤ given_by session (map (with_number number) (o.actor.ended.items ++ stretch_of (plain_of o))) f k
-    ≡ laid_for (Some o) f k +ℤ given_by session (map (with_number number) (p.actor.ended.items ++ stretch_of (plain_of p))) f k
+laid_for-run : (session : Session) (number : ℕ) → AllLayAlike → (o p : OpenClient) (ended : List Segment) → IsOpenOf session number (stream_of o)
+    → IsOpenOf session number (stream_of p) → p.actor.ended.items ≡ o.actor.ended.items ++ ended → HasLaidBy (sound_at session.sounds number) ended o p → (f k : ℕ)
+    → laid_for (Some p) f k +ℤ given_by session (map (with_number number) (o.actor.ended.items ++ stretch_of (stream_of o))) f k
+    ≡ laid_for (Some o) f k +ℤ given_by session (map (with_number number) (p.actor.ended.items ++ stretch_of (stream_of p))) f k
 laid_for-run session number alike o p ended is then_is ended_are laid f k =
     let samples : List ℤ = (sound_at session.sounds number).samples in
-    let before = given_by-open session number alike (plain_of o) is o.actor.ended.items f k in
-    let after = given_by-open session number alike (plain_of p) then_is p.actor.ended.items f k in
+    let before = given_by-open session number alike (stream_of o) is o.actor.ended.items f k in
+    let after = given_by-open session number alike (stream_of p) then_is p.actor.ended.items f k in
     let grown = ap (λ (segments : List Segment). given_by session (map (with_number number) segments) f k) ended_are
-    ∙ given_by-ended session number alike (plain_of p) then_is o.actor.ended.items ended f k in
+    ∙ given_by-ended session number alike (stream_of p) then_is o.actor.ended.items ended f k in
     let totals = laid.totals f k in
-    let stretches = total-append (flat_map (stretch_entries (plain_of p) samples) ended) (segment_entries (plain_of p) samples) f k in
+    let stretches = total-append (flat_map (stretch_entries (stream_of p) samples) ended) (segment_entries (stream_of p) samples) f k in
     omega (arith, ints, before, after, grown, totals, stretches)
 
 -- So it is of each client, open or not.

@@ -8,8 +8,8 @@ use Rattle.snd_base.specs.declared.errors.PcmError.{PcmError}
 use Rattle.snd_base.specs.declared.geometry.Geometry.{Geometry}
 use Rattle.mix_core.specs.Marks.{high_frame}
 use Rattle.wav_io.specs.Sound.{Sound}
-use Rattle.dmix_client.specs.declared.plain.Plain.{Plain}
-use Rattle.dsnoop_client.specs.declared.plain.Plain as reading
+use Rattle.dmix_client.specs.declared.stream.PlaybackStream.{PlaybackStream}
+use Rattle.dsnoop_client.specs.declared.stream.CaptureStream as reading
 use Rattle.dshare.specs.Owners.{AreFree, Row as Claim, claimed, has_channel, owner_of, released}
 use Rattle.lab_script.specs.declared.line.Actor.TheVariants as actor
 use Rattle.lab_script.specs.declared.line.Item.{Item}
@@ -153,11 +153,11 @@ line-part : (rules : Rules) (phase : ℕ) (wav : Sound) (number : ℕ) (a b : At
     → LineMay (client_kind phase wav number) rules (a, client) asked (b, after) answer → IsPart (channels_of after.own) (channels_of client.own)
 line-part rules phase wav number a b client after asked answer may = by_own client.own refl
   where
-    bound-part : (channels : List ℕ) (own : Option Plain) → HasBindings channels own → IsPart (channels_of own) channels
+    bound-part : (channels : List ℕ) (own : Option PlaybackStream) → HasBindings channels own → IsPart (channels_of own) channels
     bound-part channels None bound k has = absurd (none-has k has)
     bound-part channels (Some c) bound k has = subst (λ (l : List ℕ). Has l k) bound has
 
-    by_own : (own : Option Plain) → client.own ≡ own → IsPart (channels_of after.own) (channels_of own)
+    by_own : (own : Option PlaybackStream) → client.own ≡ own → IsPart (channels_of after.own) (channels_of own)
     by_own None is = rw (still-closed rules phase wav number a b client after asked answer is may) (λ k has. has)
     by_own (Some c) is = bound-part c.setup.bindings after.own
         (line-bound rules phase wav number c.setup.bindings a b client after asked answer (subst (HasBindings c.setup.bindings) (sym is) refl) may)
@@ -187,12 +187,12 @@ held-owner session number [] held k share none = refl
 held-owner session number (x ∷ clients) held k share none =
     held-owner session (number + 1) clients (reaped_one session number x (is_stopped x.1.own) held) k share none.1 ∙ by_own x.1.own refl (is_stopped x.1.own) refl
   where
-    by_own : (own : Option Plain) → x.1.own ≡ own → (stopped : Bool) → is_stopped x.1.own ≡ stopped
+    by_own : (own : Option PlaybackStream) → x.1.own ≡ own → (stopped : Bool) → is_stopped x.1.own ≡ stopped
         → owner_of (reaped_one session number x stopped held).claims k ≡ owner_of held.claims k
     by_own own is false stops = refl
     by_own None is true stops = rw is refl
     by_own (Some c) is true stops = rw is (rw share (released-owner held.claims c.setup.bindings (high_frame session.ring x.0.marks) k
-        (subst (λ (o : Option Plain). has_channel (channels_of o) k ≡ false) is (none.0 stops))))
+        (subst (λ (o : Option PlaybackStream). has_channel (channels_of o) k ≡ false) is (none.0 stops))))
 
 from-index : {X : Type 0} (P : X → Type 0) (xs : List X) (d : X) → ((i : ℕ) → P (slice_index_or xs i d)) → AllByRecursion P xs
 from-index P [] d each = tt
@@ -215,7 +215,7 @@ reaped-part ring (a, client) k = by_test (is_stopped client.own) refl
 
 -- ---- items
 
-open-shares : (session : Session) (stage : Stage) (n : ℕ) (own : Option Plain)
+open-shares : (session : Session) (stage : Stage) (n : ℕ) (own : Option PlaybackStream)
     → ((claims : List Claim) (channels : List ℕ) (position : ℕ) → ClaimIsOwners claims channels position)
     → session.card.share ≡ Dshare → Shares session stage → Shares session (open_client session stage n (client_at session stage n) own)
 open-shares session stage n (Some c) owners share shares = same-shares session stage _ refl refl shares
@@ -237,7 +237,7 @@ open-shares session stage n None owners share shares = by_setup (slice_index_or 
     by_setup None = same-shares session stage _ refl refl shares
     by_setup (Some setup) = by_claim setup (claim_refusal session.card.share stage.claims setup.bindings stage.position) refl
 
-close-shares : (session : Session) (stage : Stage) (n : ℕ) (own : Option Plain) → (client_at session stage n).1.own ≡ own
+close-shares : (session : Session) (stage : Stage) (n : ℕ) (own : Option PlaybackStream) → (client_at session stage n).1.own ≡ own
     → session.card.share ≡ Dshare → Shares session stage → Shares session (close_client session stage n (client_at session stage n) own)
 close-shares session stage n None is share shares = same-shares session stage _ refl refl shares
 close-shares session stage n (Some c) is share shares = part-shares session stage _ part owners shares
@@ -261,7 +261,7 @@ close-shares session stage n (Some c) is share shares = part-shares session stag
     kept m k other has =
         let not_own : has_channel (Channels session stage n) k ≡ false =
         not-has (Channels session stage n) k (λ own. false≢true (sym (shares.apart n m other k own) ∙ part m k has)) in
-        rw share (released-owner stage.claims c.setup.bindings (high_frame session.ring (client_at session stage n).0.marks) k (subst (λ (o : Option Plain). has_channel (channels_of o) k ≡ false) is not_own))
+        rw share (released-owner stage.claims c.setup.bindings (high_frame session.ring (client_at session stage n).0.marks) k (subst (λ (o : Option PlaybackStream). has_channel (channels_of o) k ≡ false) is not_own))
 
     owners : (m k : ℕ) → Has (Channels session after m) k → owner_of after.claims k ≡ owner_of stage.claims k
     owners m k has = elim (cases_eq n m) [
@@ -269,7 +269,7 @@ close-shares session stage n (Some c) is share shares = part-shares session stag
       | inr other ↦ kept m k other has
     ]
 
-reader-opens : (session : Session) (stage : Stage) (n : ℕ) (own : Option reading.Plain) → Shares session stage → Shares session (open_reader session stage n (reader_at session stage n) own)
+reader-opens : (session : Session) (stage : Stage) (n : ℕ) (own : Option reading.CaptureStream) → Shares session stage → Shares session (open_reader session stage n (reader_at session stage n) own)
 reader-opens session stage n (Some r) shares = same-shares session stage _ refl refl shares
 reader-opens session stage n None shares = by_setup (slice_index_or session.readers n None)
   where
@@ -277,7 +277,7 @@ reader-opens session stage n None shares = by_setup (slice_index_or session.read
     by_setup None = same-shares session stage _ refl refl shares
     by_setup (Some setup) = same-shares session stage _ refl refl shares
 
-reader-closes : (session : Session) (stage : Stage) (n : ℕ) (own : Option reading.Plain) → Shares session stage → Shares session (close_reader session stage n (reader_at session stage n) own)
+reader-closes : (session : Session) (stage : Stage) (n : ℕ) (own : Option reading.CaptureStream) → Shares session stage → Shares session (close_reader session stage n (reader_at session stage n) own)
 reader-closes session stage n None shares = same-shares session stage _ refl refl shares
 reader-closes session stage n (Some r) shares = same-shares session stage _ refl refl shares
 

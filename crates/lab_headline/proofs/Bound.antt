@@ -5,7 +5,7 @@ use Rattle.snd_base.specs.declared.errors.PcmError.TheVariants as error
 use Rattle.mix_core.specs.declared.marks.Marks.{Marks}
 use Rattle.course.specs.Course.{◌>>=◌, ends}
 use Rattle.wav_io.specs.Sound.{Sound}
-use Rattle.dmix_client.specs.declared.plain.Plain.{Plain}
+use Rattle.dmix_client.specs.declared.stream.PlaybackStream.{PlaybackStream}
 use Rattle.lab_script.specs.declared.line.Op.{Op}
 use Rattle.lab_script.specs.declared.line.Op.TheVariants as op
 use Rattle.lab_report.specs.declared.row.Answer.{Answer}
@@ -22,7 +22,7 @@ use Rattle.lab_run.proofs.Results.{All, All-then, Takes-all}
 -- ---- a line
 
 -- an open client is bound so
-abbrev pub HasBindings : List ℕ → Option Plain → Type 0
+abbrev pub HasBindings : List ℕ → Option PlaybackStream → Type 0
 HasBindings bindings own = IfSome own (λ c. c.setup.bindings ≡ bindings)
 
 -- an open client after a line: bound so, and where it was late, with less than a whole frame more
@@ -38,25 +38,25 @@ line-named rules phase wav number bindings a b client after asked answer bound n
     marks : Marks
     marks = (begins client.own asked a).marks
 
-    stays : (own : Option Plain) (given : Answer) → client.own ≡ own → IfSome own (λ c. Named bindings (c, given)) → IsNamed bindings client given
+    stays : (own : Option PlaybackStream) (given : Answer) → client.own ≡ own → IfSome own (λ c. Named bindings (c, given)) → IsNamed bindings client given
     stays own given is named = subst (λ o. IfSome o (λ c. Named bindings (c, given))) (sym is) named
 
-    called : (c : Plain) (o : Op) (x : Plain × Answer) → Named bindings x → IsNamed bindings (after_call client c o x).0 (after_call client c o x).1
+    called : (c : PlaybackStream) (o : Op) (x : PlaybackStream × Answer) → Named bindings x → IsNamed bindings (after_call client c o x).0 (after_call client c o x).1
     called c o (d, given) named = named
 
-    by_call : (c : Plain) (o : Op) → c.setup.bindings ≡ bindings → is_rewind o ≡ false → All (λ x. IsNamed bindings x.0 x.1) (call_of wav marks c o >>= λ done. ends (after_call client c o done))
+    by_call : (c : PlaybackStream) (o : Op) → c.setup.bindings ≡ bindings → is_rewind o ≡ false → All (λ x. IsNamed bindings x.0 x.1) (call_of wav marks c o >>= λ done. ends (after_call client c o done))
     by_call c o same rewind = All-then (Named bindings) (λ x. IsNamed bindings x.0 x.1) (call_of wav marks c o) (λ done. ends (after_call client c o done))
         (call-named bindings wav marks c o rewind same) (called c o)
 
-    by_op : (c : Plain) (o : Op) → client.own ≡ Some c → c.setup.bindings ≡ bindings → is_rewind o ≡ false → All (λ x. IsNamed bindings x.0 x.1) (line_if false wav marks client c o)
+    by_op : (c : PlaybackStream) (o : Op) → client.own ≡ Some c → c.setup.bindings ≡ bindings → is_rewind o ≡ false → All (λ x. IsNamed bindings x.0 x.1) (line_if false wav marks client c o)
     by_op c (op.Die k) is same rewind = stays (Some c) Done is (same, tt)
     by_op c other is same rewind = by_call c other same rewind
 
-    by_stop : (c : Plain) (stopped : Bool) → client.own ≡ Some c → c.setup.bindings ≡ bindings → All (λ x. IsNamed bindings x.0 x.1) (line_if stopped wav marks client c asked)
+    by_stop : (c : PlaybackStream) (stopped : Bool) → client.own ≡ Some c → c.setup.bindings ≡ bindings → All (λ x. IsNamed bindings x.0 x.1) (line_if stopped wav marks client c asked)
     by_stop c true is same = stays (Some c) (Failed error.Stopped) is (same, tt)
     by_stop c false is same = by_op c asked is same not
 
-    by_own : (own : Option Plain) → client.own ≡ own → HasBindings bindings own → All (λ x. IsNamed bindings x.0 x.1) (line_by wav marks client own asked)
+    by_own : (own : Option PlaybackStream) → client.own ≡ own → HasBindings bindings own → All (λ x. IsNamed bindings x.0 x.1) (line_by wav marks client own asked)
     by_own None is same = stays None (Failed error.BadState) is tt
     by_own (Some c) is same = by_stop c c.status.stopped is same
 
@@ -69,23 +69,23 @@ rewind-bound rules phase wav number bindings a b client after n answer bound may
     marks : Marks
     marks = (begins client.own (op.Rewind n) a).marks
 
-    stays : (own : Option Plain) → client.own ≡ own → HasBindings bindings own → HasBindings bindings client.own
+    stays : (own : Option PlaybackStream) → client.own ≡ own → HasBindings bindings own → HasBindings bindings client.own
     stays own is same = subst (HasBindings bindings) (sym is) same
 
-    called : (c : Plain) (x : Plain × Answer) → Bound bindings x → HasBindings bindings (after_call client c (op.Rewind n) x).0.own
+    called : (c : PlaybackStream) (x : PlaybackStream × Answer) → Bound bindings x → HasBindings bindings (after_call client c (op.Rewind n) x).0.own
     called c (d, given) same = same
 
-    by_stop : (c : Plain) (stopped : Bool) → client.own ≡ Some c → c.setup.bindings ≡ bindings
+    by_stop : (c : PlaybackStream) (stopped : Bool) → client.own ≡ Some c → c.setup.bindings ≡ bindings
         → All (λ (x : Client × Answer). HasBindings bindings x.0.own) (line_if stopped wav marks client c (op.Rewind n))
     by_stop c true is same = stays (Some c) is same
     by_stop c false is same = All-then (Bound bindings) (λ (x : Client × Answer). HasBindings bindings x.0.own) (call_of wav marks c (op.Rewind n))
         (λ done. ends (after_call client c (op.Rewind n) done)) (rewind-named bindings wav marks c n same) (called c)
 
-    by_own : (own : Option Plain) → client.own ≡ own → HasBindings bindings own → All (λ (x : Client × Answer). HasBindings bindings x.0.own) (line_by wav marks client own (op.Rewind n))
+    by_own : (own : Option PlaybackStream) → client.own ≡ own → HasBindings bindings own → All (λ (x : Client × Answer). HasBindings bindings x.0.own) (line_by wav marks client own (op.Rewind n))
     by_own None is same = stays None is tt
     by_own (Some c) is same = by_stop c c.status.stopped is same
 
-named-bound : (bindings : List ℕ) (own : Option Plain) (answer : Answer) → IfSome own (λ c. Named bindings (c, answer)) → HasBindings bindings own
+named-bound : (bindings : List ℕ) (own : Option PlaybackStream) (answer : Answer) → IfSome own (λ c. Named bindings (c, answer)) → HasBindings bindings own
 named-bound bindings None answer named = tt
 named-bound bindings (Some c) answer named = named.0
 
@@ -98,7 +98,7 @@ line-bound rules phase wav number bindings a b client after other answer bound m
 -- ---- a run
 
 -- an open client is bound as its setup says
-abbrev pub IsBound : Option Setup → Option Plain → Type 0
+abbrev pub IsBound : Option Setup → Option PlaybackStream → Type 0
 IsBound setup own = IfSome setup (λ (s : Setup). HasBindings s.bindings own)
 
 abbrev pub IsClientBound : Option Setup → Client → Type 0

@@ -7,7 +7,7 @@ use Rattle.std.specs.Prelude.{Bool, true, false, ◌&&◌, nat_eq, zero, suc, ma
 use Rattle.snd_base.specs.declared.places.Segment.{Segment}
 use Rattle.mix_core.specs.declared.marks.Marks.{Marks}
 use Rattle.wav_io.specs.Sound.{Sound}
-use Rattle.dmix_client.specs.declared.plain.Plain.{Plain}
+use Rattle.dmix_client.specs.declared.stream.PlaybackStream.{PlaybackStream}
 use Rattle.dmix_client.specs.Calls.{segment_of}
 use Rattle.lab_script.specs.declared.line.Op.{Op}
 use Rattle.lab_report.specs.declared.row.Answer.{Answer}
@@ -66,7 +66,7 @@ lies-less p q x y v w card e m later less lower lies = record {
     less-high : (high : ℕ) → y ≤ high → w ≤ high
     less-high high is = omega (arith, lower, is)
 
-pub onward-less : (p q x y v w : ℕ) (m : Marks) (c : Plain) → p ≤ q → v ≤ x → w ≤ y → Onward p x y m c → Onward q v w m c
+pub onward-less : (p q x y v w : ℕ) (m : Marks) (c : PlaybackStream) → p ≤ q → v ≤ x → w ≤ y → Onward p x y m c → Onward q v w m c
 onward-less p q x y v w m c later less lower (inl is) = inl (record {
   bound = is.bound;
   started = is.started;
@@ -91,15 +91,15 @@ onward-less p q x y v w m c later less lower (inr is) = inr (record {
     less-high high less_so = omega (arith, lower, less_so)
 
 -- something is placed in the stretch
-abbrev pub IsPlaced : Plain → Type 0
+abbrev pub IsPlaced : PlaybackStream → Type 0
 IsPlaced c = (nat_eq c.stretch.committed 0 && nat_eq c.stretch.part 0) ≡ false
 
 -- then it began, past x
-pub placed-past : (p x y : ℕ) (m : Marks) (c : Plain) → IsPlaced c → Onward p x y m c → x ≤ c.stretch.card
+pub placed-past : (p x y : ℕ) (m : Marks) (c : PlaybackStream) → IsPlaced c → Onward p x y m c → x ≤ c.stretch.card
 placed-past p x y m c some (inl is) = is.past
 placed-past p x y m c some (inr is) = absurd (false≢true (sym some ∙ waits-none p x y m c is))
 
-pub placed-some : (c : Plain) → IsPlaced c → c.stretch.card < end_of c
+pub placed-some : (c : PlaybackStream) → IsPlaced c → c.stretch.card < end_of c
 placed-some c some = by_test (nat_eq c.stretch.committed 0) (nat_eq c.stretch.part 0) refl refl some
   where
     by_test : (none no_part : Bool) → nat_eq c.stretch.committed 0 ≡ none → nat_eq c.stretch.part 0 ≡ no_part → (none && no_part) ≡ false
@@ -127,11 +127,11 @@ pub record Going (p : ℕ) (bindings : List ℕ) (Old : ℕ → Type 0) (New Set
   pub new : AllByRecursion New x.1.ended
   pub settled : AllByRecursion (λ s. Settled s ⊎ InOpen x.1.own (λ c. Onward p 0 (seg_end s) x.0.marks c)) x.1.ended
 
-in-open : (F : Plain → Type 0) (own : Option Plain) → InOpen own F → IfSome own F
+in-open : (F : PlaybackStream → Type 0) (own : Option PlaybackStream) → InOpen own F → IfSome own F
 in-open F None is = tt
 in-open F (Some c) is = is
 
-open-map : (F G : Plain → Type 0) (own : Option Plain) → ((c : Plain) → F c → G c) → InOpen own F → InOpen own G
+open-map : (F G : PlaybackStream → Type 0) (own : Option PlaybackStream) → ((c : PlaybackStream) → F c → G c) → InOpen own F → InOpen own G
 open-map F G None map is = is
 open-map F G (Some c) map is = map c is
 
@@ -165,10 +165,10 @@ module _ (rules : Rules) (p : ℕ) (least : (q : ℕ) → Contains rules.publish
           keeps s (inl done) = inl done
           keeps s (inr here) = absurd (subst (λ o. InOpen o (λ c. Onward p 0 (seg_end s) a.marks c)) is here)
 
-      opened : (c : Plain) → client.own ≡ Some c → Going p bindings Old New Settled (b, after)
+      opened : (c : PlaybackStream) → client.own ≡ Some c → Going p bindings Old New Settled (b, after)
       opened c is = by_end (goes 0 0 (some (λ d. Onward p 0 0 a.marks d) going.base)).1
         where
-          some : (F : Plain → Type 0) → IfSome client.own F → F c
+          some : (F : PlaybackStream → Type 0) → IfSome client.own F → F c
           some F there = subst (λ o. IfSome o F) is there
 
           goes : (x y : ℕ) → Onward p x y a.marks c → After p x y client c b.marks after
@@ -225,7 +225,7 @@ module _ (rules : Rules) (p : ℕ) (least : (q : ℕ) → Contains rules.publish
               (each-more (λ s. Settled s ⊎ InOpen after.own (λ d. Onward p 0 (seg_end s) b.marks d)) client.ended (segment_of c) settled
               (inr (open-map _ (Onward p 0 (end_of c) b.marks) after.own (λ d. onward-less p p (end_of c) (end_of c) 0 (end_of c) b.marks d (omega arith) (omega arith) (omega arith)) past)))
 
-      by_own : (own : Option Plain) → client.own ≡ own → Going p bindings Old New Settled (b, after)
+      by_own : (own : Option PlaybackStream) → client.own ≡ own → Going p bindings Old New Settled (b, after)
       by_own None is = subst (λ (x : Client). Going p bindings Old New Settled (b, x)) (sym (still-client rules phase wav number a b client after asked answer is may)) (closed is)
       by_own (Some c) is = opened c is
 

@@ -18,7 +18,7 @@ use Rattle.pcm_states.specs.Table.{next_of}
 use Rattle.course.specs.Course.{◌>>=◌, Course, ends}
 use Rattle.wav_io.specs.Sound.{Sound}
 use Rattle.dmix_client.specs.declared.commit.Commit.{Commit}
-use Rattle.dmix_client.specs.declared.plain.Plain.{Plain}
+use Rattle.dmix_client.specs.declared.stream.PlaybackStream.{PlaybackStream}
 use Rattle.pcm_stream.specs.declared.direction.Direction.TheVariants.{Playback}
 use Rattle.pcm_stream.specs.Status.{is_moving, is_refusal, nothing_found, refusal_in, refusal_of}
 use Rattle.dmix_client.specs.Calls.{Answered, accepted, accepted_if, avail_answer, committed_by, delay_answer, dropped, end_channel, end_of_commit, facts_of, found_at, going_on, going_on_by, is_running, is_stop, late_at, late_of, over_of, paused, pending_of, prepared, rebased, resumed, seen_at, with_outcome, after_start, started_in, start_count, stopped_in, sync_count, after_sync, taken_of, with_number, written_after}
@@ -79,12 +79,12 @@ frames-short member card b samples (suc count) first =
     on rest (done, ended.Late word) is = is
     on rest (done, ended.Stopped) is = tt
 
-commits-short : (b : List ℕ) (c : Plain) (ring : List ℤ) (count : ℕ) → c.setup.bindings ≡ b → All (Short b) (commits c ring count)
+commits-short : (b : List ℕ) (c : PlaybackStream) (ring : List ℤ) (count : ℕ) → c.setup.bindings ≡ b → All (Short b) (commits c ring count)
 commits-short b c ring count is =
     subst (λ (l : List ℕ). All (Short l) (commits c ring count)) is
     (frames-short c.identity.member c.stretch.card c.setup.bindings (ring_sample c ring) count c.stretch.committed)
 
-looks-short : (b : List ℕ) (at : Position → Plain) (count : Position → ℕ) (ring : List ℤ) → ((p : Position) → (at p).setup.bindings ≡ b)
+looks-short : (b : List ℕ) (at : Position → PlaybackStream) (count : Position → ℕ) (ring : List ℤ) → ((p : Position) → (at p).setup.bindings ≡ b)
     → All (λ (x : Option Position × Commit). Short b x.1) (looks at count ring)
 unfolding looks ◌>>=◌
 looks-short b at count ring are = by_load
@@ -101,7 +101,7 @@ abbrev Kept : {T : Type 0} → List ℕ → Answered T → Type 0
 Kept b (d, r) = (d.setup.bindings ≡ b) × LateIn (λ frame channel. d.stretch.part < length (rising b)) r
 
 -- the place that is late in a commit
-late-short : (b : List ℕ) (c : Plain) (x : Commit) → Short b x → IfSome (late_of c x) (LateWhy (λ frame channel. x.part < length (rising b)))
+late-short : (b : List ℕ) (c : PlaybackStream) (x : Commit) → Short b x → IfSome (late_of c x) (LateWhy (λ frame channel. x.part < length (rising b)))
 late-short b c x = by_end x.ended
   where
     by_end : (e : Ended) → WhereLate (x.part < length (rising b)) e → IfSome (late_at e (end_of_commit c x) (end_channel c x)) (LateWhy (λ frame channel. x.part < length (rising b)))
@@ -109,12 +109,12 @@ late-short b c x = by_end x.ended
     by_end (ended.Late word) short = short
     by_end ended.Stopped short = tt
 
-going_on-kept : (b : List ℕ) (c : Plain) (state refused : State) (r : Result (Unit {0}) PcmError) → c.setup.bindings ≡ b
+going_on-kept : (b : List ℕ) (c : PlaybackStream) (state refused : State) (r : Result (Unit {0}) PcmError) → c.setup.bindings ≡ b
     → LateIn (λ frame channel. c.stretch.part < length (rising b)) r → Kept b (going_on_by r c state refused)
 going_on-kept b c state refused (Ok done) is late = (is, tt)
 going_on-kept b c state refused (Err e) is late = (is, late)
 
-after_sync-kept : (b : List ℕ) (c : Plain) (asked : Call) (load : Option Position) (x : Commit) → c.setup.bindings ≡ b → Short b x → Kept b (after_sync c asked load x)
+after_sync-kept : (b : List ℕ) (c : PlaybackStream) (asked : Call) (load : Option Position) (x : Commit) → c.setup.bindings ≡ b → Short b x → Kept b (after_sync c asked load x)
 after_sync-kept b c asked None x is short = (is, tt)
 after_sync-kept b c asked (Some p) x is short = by_stop (is_stop x.ended)
   where
@@ -125,12 +125,12 @@ after_sync-kept b c asked (Some p) x is short = by_stop (is_stop x.ended)
     by_stop true = (is, tt)
     by_stop false = (is, next-late (λ frame channel. x.part < length (rising b)) c.status.state asked f (late-short b (seen_at c p) x short))
 
-after_start-kept : (b : List ℕ) (c : Plain) (state : State) (cursor : Cursor) (load : Option Position) (x : Commit) → c.setup.bindings ≡ b → Short b x
+after_start-kept : (b : List ℕ) (c : PlaybackStream) (state : State) (cursor : Cursor) (load : Option Position) (x : Commit) → c.setup.bindings ≡ b → Short b x
     → Kept b (after_start c state cursor load x)
 after_start-kept b c state cursor None x is short = (is, tt)
 after_start-kept b c state cursor (Some p) x is short = by_gone p.gone
   where
-    from : Plain
+    from : PlaybackStream
     from = started_in c state p cursor
 
     by_stop : (stop : Bool) → Kept b (if stop then stopped_in (committed_by from x) else going_on (committed_by from x) state (next_of Prepared call.Start (found_at p (late_of from x))))
@@ -144,7 +144,7 @@ after_start-kept b c state cursor (Some p) x is short = by_gone p.gone
         (next-late (λ frame channel. c.stretch.part < length (rising b)) Prepared call.Start (found_at p None) tt)
     by_gone false = by_stop (is_stop x.ended)
 
-resumed-kept : (b : List ℕ) (c : Plain) (cursor : Cursor) (load : Option Position) (x : Commit) → c.setup.bindings ≡ b → Short b x → Kept b (resumed c cursor load x)
+resumed-kept : (b : List ℕ) (c : PlaybackStream) (cursor : Cursor) (load : Option Position) (x : Commit) → c.setup.bindings ≡ b → Short b x → Kept b (resumed c cursor load x)
 resumed-kept b c cursor None x is short = (is, tt)
 resumed-kept b c cursor (Some p) x is short = after_start-kept b (rebased c) Running cursor (Some p) x is short
 
@@ -152,11 +152,11 @@ accepted-kept : (b : List ℕ) (n : ℕ) (done : Answered (Unit {0})) → Kept b
 accepted-kept b n (c, Ok done) kept = (kept.0, tt)
 accepted-kept b n (c, Err e) kept = kept
 
-number-kept : (b : List ℕ) (number : Plain → ℕ) (done : Answered (Unit {0})) → Kept b done → Kept b (with_number number done)
+number-kept : (b : List ℕ) (number : PlaybackStream → ℕ) (done : Answered (Unit {0})) → Kept b done → Kept b (with_number number done)
 number-kept b number (c, Ok done) kept = (kept.0, tt)
 number-kept b number (c, Err e) kept = kept
 
-written-kept : (b : List ℕ) (c : Plain) (n : ℕ) (x : Commit) → c.setup.bindings ≡ b → Short b x → Kept b (written_after c n x)
+written-kept : (b : List ℕ) (c : PlaybackStream) (n : ℕ) (x : Commit) → c.setup.bindings ≡ b → Short b x → Kept b (written_after c n x)
 written-kept b c n x is short = by_test (nat_lt 0 n && nat_eq (avail_of c) 0) (is_stop x.ended)
   where
     f : Facts
@@ -179,13 +179,13 @@ All-if Q false m n one two = two
 All-after : {X Y : Type 0} (Q : Y → Type 0) (m : Course X) (f : X → Course Y) → ((x : X) → All Q (f x)) → All Q (m >>= f)
 All-after Q m f each = All-then (λ x. ⊤) Q m f (All-any (λ x. ⊤) m (λ x. tt)) (λ x any. each x)
 
-syncs-kept : (b : List ℕ) (c : Plain) (asked : Call) (ring : List ℤ) → c.setup.bindings ≡ b → All (Kept b) (syncs c asked ring)
+syncs-kept : (b : List ℕ) (c : PlaybackStream) (asked : Call) (ring : List ℤ) → c.setup.bindings ≡ b → All (Kept b) (syncs c asked ring)
 unfolding syncs
 syncs-kept b c asked ring is = All-then (λ (x : Option Position × Commit). Short b x.1) (Kept b) (looks (λ position. c) (sync_count c) ring)
     (λ found. ends (after_sync c asked found.0 found.1)) (looks-short b (λ position. c) (sync_count c) ring (λ p. is))
     (λ found short. after_sync-kept b c asked found.0 found.1 is short)
 
-starts-kept : (b : List ℕ) (c : Plain) (state : State) (cursor : Cursor) (upto : ℕ) (ring : List ℤ) → c.setup.bindings ≡ b → All (Kept b) (starts c state cursor upto ring)
+starts-kept : (b : List ℕ) (c : PlaybackStream) (state : State) (cursor : Cursor) (upto : ℕ) (ring : List ℤ) → c.setup.bindings ≡ b → All (Kept b) (starts c state cursor upto ring)
 unfolding starts
 starts-kept b c state cursor upto ring is = All-then (λ (x : Option Position × Commit). Short b x.1) (Kept b)
     (looks (λ position. started_in c Running position cursor) (λ position. start_count c cursor position upto) ring)
@@ -193,7 +193,7 @@ starts-kept b c state cursor upto ring is = All-then (λ (x : Option Position ×
     (looks-short b (λ position. started_in c Running position cursor) (λ position. start_count c cursor position upto) ring (λ p. is))
     (λ found short. after_start-kept b c state cursor found.0 found.1 is short)
 
-resumes-kept : (b : List ℕ) (c : Plain) (cursor : Cursor) (ring : List ℤ) → c.setup.bindings ≡ b → All (Kept b) (resumes c cursor ring)
+resumes-kept : (b : List ℕ) (c : PlaybackStream) (cursor : Cursor) (ring : List ℤ) → c.setup.bindings ≡ b → All (Kept b) (resumes c cursor ring)
 unfolding resumes
 resumes-kept b c cursor ring is = All-then (λ (x : Option Position × Commit). Short b x.1) (Kept b)
     (looks (λ position. started_in (rebased c) Running position cursor) (λ position. start_count (rebased c) cursor position (pending_of c)) ring)
@@ -201,7 +201,7 @@ resumes-kept b c cursor ring is = All-then (λ (x : Option Position × Commit). 
     (looks-short b (λ position. started_in (rebased c) Running position cursor) (λ position. start_count (rebased c) cursor position (pending_of c)) ring (λ p. is))
     (λ found short. resumed-kept b c cursor found.0 found.1 is short)
 
-numbered-kept : (b : List ℕ) (number : Plain → ℕ) (m : Course (Answered (Unit {0}))) → All (Kept b) m → All (Kept b) (numbered number m)
+numbered-kept : (b : List ℕ) (number : PlaybackStream → ℕ) (m : Course (Answered (Unit {0}))) → All (Kept b) m → All (Kept b) (numbered number m)
 unfolding numbered
 numbered-kept b number m all = All-then (Kept b) (Kept b) m (λ done. ends (with_number number done)) all (number-kept b number)
 
@@ -212,7 +212,7 @@ write_on-kept b samples n (c, Ok done) kept =
     All-then (Short b) (Kept b) (commits c (ring_with c [] samples (taken_of c n)) (count_with c (taken_of c n))) (λ last. ends (written_after c n last))
     (commits-short b c (ring_with c [] samples (taken_of c n)) (count_with c (taken_of c n)) kept.0) (λ x short. written-kept b c n x kept.0 short)
 
-write-kept : (b : List ℕ) (c : Plain) (cursor : Cursor) (n : ℕ) → c.setup.bindings ≡ b → All (Kept b) (write_course c cursor n)
+write-kept : (b : List ℕ) (c : PlaybackStream) (cursor : Cursor) (n : ℕ) → c.setup.bindings ≡ b → All (Kept b) (write_course c cursor n)
 unfolding writes_on starts_taking
 write-kept b c cursor n is = All-if (Kept b) (is_running c.status.state) (writes_on c [] [] n) (fills c [] [] cursor n)
     (All-then (Kept b) (Kept b) (syncs c call.Transfer []) (write_on [] [] n) (syncs-kept b c call.Transfer [] is) (write_on-kept b [] n))
@@ -221,7 +221,7 @@ write-kept b c cursor n is = All-if (Kept b) (is_running c.status.state) (writes
     (starts-kept b c Running cursor (c.stretch.written + taken_of c n) (ring_with c [] [] (taken_of c n)) is) (accepted-kept b (taken_of c n)))
     (is, tt))
 
-start-kept : (b : List ℕ) (c : Plain) (cursor : Cursor) → c.setup.bindings ≡ b → All (Kept b) (start_course c [] cursor)
+start-kept : (b : List ℕ) (c : PlaybackStream) (cursor : Cursor) → c.setup.bindings ≡ b → All (Kept b) (start_course c [] cursor)
 start-kept b c cursor is = All-if (Kept b) (nat_eq c.stretch.written 0) (ends (with_outcome c (next_of c.status.state call.Start f))) (starts c Running cursor c.stretch.written [])
     (is, next-late (λ frame channel. c.stretch.part < length (rising b)) c.status.state call.Start f tt) (starts-kept b c Running cursor c.stretch.written [] is)
   where
@@ -232,30 +232,30 @@ drain_on-kept : (b : List ℕ) (done : Answered (Unit {0})) → Kept b done → 
 drain_on-kept b (c, Ok done) kept = syncs-kept b c call.Drain [] kept.0
 drain_on-kept b (c, Err e) kept = kept
 
-drain-kept : (b : List ℕ) (c : Plain) (cursor : Cursor) → c.setup.bindings ≡ b → All (Kept b) (drain_course c [] cursor)
+drain-kept : (b : List ℕ) (c : PlaybackStream) (cursor : Cursor) → c.setup.bindings ≡ b → All (Kept b) (drain_course c [] cursor)
 unfolding drains
 drain-kept b c cursor is = All-if (Kept b) (is_moving c.status.state) (syncs (calls.draining c) call.Drain []) _ (syncs-kept b (calls.draining c) call.Drain [] is)
     (All-if (Kept b) (calls.has_frames c) (drains c [] cursor) (ends (dropped c, Ok tt))
     (All-then (Kept b) (Kept b) (starts c Draining cursor c.stretch.written []) (drain_on []) (starts-kept b c Draining cursor c.stretch.written [] is) (drain_on-kept b)) (is, tt))
 
-pause-kept : (b : List ℕ) (on : Bool) (c : Plain) (cursor : Cursor) → c.setup.bindings ≡ b → All (Kept b) (pause_course on c [] cursor)
+pause-kept : (b : List ℕ) (on : Bool) (c : PlaybackStream) (cursor : Cursor) → c.setup.bindings ≡ b → All (Kept b) (pause_course on c [] cursor)
 pause-kept b on c cursor is = All-if (Kept b) on (ends (paused c, Ok tt)) _ (is, tt)
     (All-if (Kept b) (nat_eq (pending_of c) 0) (ends (rebased c, Ok tt)) (resumes c cursor []) (is, tt) (resumes-kept b c cursor [] is))
 
-number_course-kept : (b : List ℕ) (number : Plain → ℕ) (c : Plain) → c.setup.bindings ≡ b → All (Kept b) (number_course number c [])
+number_course-kept : (b : List ℕ) (number : PlaybackStream → ℕ) (c : PlaybackStream) → c.setup.bindings ≡ b → All (Kept b) (number_course number c [])
 number_course-kept b number c is = All-if (Kept b) (is_moving c.status.state) (numbered number (syncs c call.Sync [])) (ends (c, Ok (number c)))
     (numbered-kept b number (syncs c call.Sync []) (syncs-kept b c call.Sync [] is)) (is, tt)
 
-checks-kept : (b : List ℕ) (c : Plain) → c.setup.bindings ≡ b → All (Kept b) (checks c)
+checks-kept : (b : List ℕ) (c : PlaybackStream) → c.setup.bindings ≡ b → All (Kept b) (checks c)
 unfolding checks
 checks-kept b c is = λ load. after_sync-kept b c call.Transfer load nothing is tt
 
-rewindable-kept : (b : List ℕ) (c : Plain) (floor : Cursor) → c.setup.bindings ≡ b → All (Kept b) (rewindable_course c floor)
+rewindable-kept : (b : List ℕ) (c : PlaybackStream) (floor : Cursor) → c.setup.bindings ≡ b → All (Kept b) (rewindable_course c floor)
 rewindable-kept b c floor is = All-if (Kept b) (is_running c.status.state) (numbered (rewindable_of floor) (checks c)) _
     (numbered-kept b (rewindable_of floor) (checks c) (checks-kept b c is)) (is, tt)
 
 -- a call's refusal isn't late
-refusal-early : (c : Plain) (asked : Call) (P : Type 0) → IfSome (refusal_of Playback c.status asked) (LateErr (λ frame channel. P))
+refusal-early : (c : PlaybackStream) (asked : Call) (P : Type 0) → IfSome (refusal_of Playback c.status asked) (LateErr (λ frame channel. P))
 refusal-early c asked P = by_stop c.status.stopped
   where
     Q : ℕ → ℕ → Type 0
@@ -273,7 +273,7 @@ refusal-early c asked P = by_stop c.status.stopped
     by_stop true = tt
     by_stop false = by_answer (next_of c.status.state asked (nothing_found Playback)).answer (next-late Q c.status.state asked (nothing_found Playback) tt)
 
-admitted-kept : {T : Type 0} (b : List ℕ) (c : Plain) (asked : Call) (m : Course (Answered T)) → c.setup.bindings ≡ b → All (Kept b) m → All (Kept b) (admitted c asked m)
+admitted-kept : {T : Type 0} (b : List ℕ) (c : PlaybackStream) (asked : Call) (m : Course (Answered T)) → c.setup.bindings ≡ b → All (Kept b) m → All (Kept b) (admitted c asked m)
 admitted-kept {T = T} b c asked m is all = by_refusal (refusal_of Playback c.status asked) (refusal-early c asked (c.stretch.part < length (rising b)))
   where
     by_refusal : (refusal : Option PcmError) → IfSome refusal (LateErr (λ frame channel. c.stretch.part < length (rising b))) → All (Kept b) (admitted_by refusal c m)
@@ -283,7 +283,7 @@ admitted-kept {T = T} b c asked m is all = by_refusal (refusal_of Playback c.sta
 -- ---- the lines
 
 -- a call's answer, as a report has it
-abbrev pub Named : List ℕ → Plain × Answer → Type 0
+abbrev pub Named : List ℕ → PlaybackStream × Answer → Type 0
 Named b (d, answer) = (d.setup.bindings ≡ b) × LateAnswer (λ frame channel. d.stretch.part < length (rising b)) answer
 
 done-named : (b : List ℕ) (m : Course (Answered (Unit {0}))) → All (Kept b) m → All (Named b) (answered done_answer m)
@@ -300,7 +300,7 @@ count-named b m all = All-then (Kept b) (Named b) m (λ done. ends (done.0, coun
     named (d, Ok n) kept = (kept.0, tt)
     named (d, Err e) kept = (kept.0, reported-late (λ frame channel. d.stretch.part < length (rising b)) e kept.1)
 
-pub call-named : (b : List ℕ) (wav : Sound) (marks : Marks) (c : Plain) (asked : Op) → is_rewind asked ≡ false → c.setup.bindings ≡ b → All (Named b) (call_of wav marks c asked)
+pub call-named : (b : List ℕ) (wav : Sound) (marks : Marks) (c : PlaybackStream) (asked : Op) → is_rewind asked ≡ false → c.setup.bindings ≡ b → All (Named b) (call_of wav marks c asked)
 call-named b wav marks c (op.Write n) not is = count-named b _ (admitted-kept b c call.Transfer _ is (write-kept b c marks.cursor _ is))
 call-named b wav marks c op.Start not is = done-named b _ (admitted-kept b c call.Start _ is (start-kept b c marks.cursor is))
 call-named b wav marks c op.Sync not is = done-named b _ (admitted-kept b c call.Sync _ is
@@ -318,17 +318,17 @@ call-named b wav marks c other not is = (is, tt)
 
 -- ---- a rewind keeps the bindings
 
-abbrev pub Bound : {T : Type 0} → List ℕ → Plain × T → Type 0
+abbrev pub Bound : {T : Type 0} → List ℕ → PlaybackStream × T → Type 0
 Bound b (d, r) = d.setup.bindings ≡ b
 
-rewound-bound : (b : List ℕ) (c : Plain) (n : ℕ) (left : Commit) → c.setup.bindings ≡ b → Bound b (rewound c n left)
+rewound-bound : (b : List ℕ) (c : PlaybackStream) (n : ℕ) (left : Commit) → c.setup.bindings ≡ b → Bound b (rewound c n left)
 rewound-bound b c n left is = by_stop (is_stop left.ended)
   where
-    by_answer : (d : Plain) (r : Result (Unit {0}) PcmError) → d.setup.bindings ≡ b → Bound b (with_number (λ (e : Plain). n) (d, r))
+    by_answer : (d : PlaybackStream) (r : Result (Unit {0}) PcmError) → d.setup.bindings ≡ b → Bound b (with_number (λ (e : PlaybackStream). n) (d, r))
     by_answer d (Ok done) same = same
     by_answer d (Err e) same = same
 
-    by_stop : (stop : Bool) → Bound b (if stop then stopped_in (taken_back c n left) else with_number (λ (e : Plain). n) (with_outcome (taken_back c n left)
+    by_stop : (stop : Bool) → Bound b (if stop then stopped_in (taken_back c n left) else with_number (λ (e : PlaybackStream). n) (with_outcome (taken_back c n left)
         (next_of Running call.Transfer (found_at (record { frame = 0; gone = false }) (late_at left.ended (last_laid (taken_back c n left)) (last_channel (taken_back c n left)))))))
     by_stop true = is
     by_stop false = by_answer _ _ is
@@ -340,12 +340,12 @@ rewind_on-bound b floor n (c, Ok done) kept = All-after (Bound b) (take_frames c
     (λ left. ends (rewound c (min n (rewindable_of floor c)) left)) (λ left. rewound-bound b c (min n (rewindable_of floor c)) left kept.0)
 rewind_on-bound b floor n (c, Err e) kept = kept.0
 
-rewind-bound : (b : List ℕ) (c : Plain) (floor : Cursor) (n : ℕ) → c.setup.bindings ≡ b → All (Bound b) (rewind_course c [] floor n)
+rewind-bound : (b : List ℕ) (c : PlaybackStream) (floor : Cursor) (n : ℕ) → c.setup.bindings ≡ b → All (Bound b) (rewind_course c [] floor n)
 unfolding rewinds
 rewind-bound b c floor n is = All-if (Bound b) (is_running c.status.state) (rewinds c [] floor n) _
     (All-then (Kept b) (Bound b) (checks c) (rewind_on floor [] n) (checks-kept b c is) (rewind_on-bound b floor n)) is
 
-pub rewind-named : (b : List ℕ) (wav : Sound) (marks : Marks) (c : Plain) (n : ℕ) → c.setup.bindings ≡ b → All (Bound b) (call_of wav marks c (op.Rewind n))
+pub rewind-named : (b : List ℕ) (wav : Sound) (marks : Marks) (c : PlaybackStream) (n : ℕ) → c.setup.bindings ≡ b → All (Bound b) (call_of wav marks c (op.Rewind n))
 rewind-named b wav marks c n is = All-then (Bound b) (Bound b) (admitted c call.Transfer (rewind_course c [] marks.floor n)) (λ done. ends (done.0, count_answer done.1))
     (by_refusal (refusal_of Playback c.status call.Transfer)) (λ x bound. bound)
   where

@@ -7,7 +7,7 @@ use Rattle.bindings.specs.Bound.{rising}
 use Rattle.mix_core.specs.Laid.{at}
 use Rattle.wav_io.specs.Sound.{Sound}
 use Rattle.dmix_client.specs.Calls.{segment_of}
-use Rattle.dmix_client.specs.declared.plain.Plain.{Plain}
+use Rattle.dmix_client.specs.declared.stream.PlaybackStream.{PlaybackStream}
 use Rattle.lab_script.specs.declared.line.Item.{Item}
 use Rattle.lab_script.specs.declared.line.Op.{Op}
 use Rattle.lab_script.specs.declared.line.Op.TheVariants as op
@@ -28,7 +28,7 @@ use Rattle.lab_run.proofs.Results.{All, Takes-all}
 use Rattle.lab_headline.proofs.Stages.{lines-kept, reached-client}
 
 -- the samples of a stretch
-of-stretch : (session : Session) (number : ℕ) (c : Plain) (frame channel : ℕ) → at (entries_by session (number, segment_of c)) frame channel ≡ []
+of-stretch : (session : Session) (number : ℕ) (c : PlaybackStream) (frame channel : ℕ) → at (entries_by session (number, segment_of c)) frame channel ≡ []
     → at (flat_map (λ segment. entries_by session (number, segment)) (stretch_of c)) frame channel ≡ []
 of-stretch session number c frame channel none = by_test (nat_eq c.stretch.committed 0 && nat_eq c.stretch.part 0)
   where
@@ -37,7 +37,7 @@ of-stretch session number c frame channel none = by_test (nat_eq c.stretch.commi
     by_test false = ap (λ es. at es frame channel) (append-nil (entries_by session (number, segment_of c))) ∙ none
 
 -- those of the segment
-of-segment : (session : Session) (number : ℕ) (c : Plain) (frame channel : ℕ) → IsNext c frame channel
+of-segment : (session : Session) (number : ℕ) (c : PlaybackStream) (frame channel : ℕ) → IsNext c frame channel
     → IfSome (slice_index_or session.clients number None) (λ (s : Setup). (c.setup.bindings ≡ s.bindings) × (c.stretch.part < length (rising s.bindings)))
     → at (entries_by session (number, segment_of c)) frame channel ≡ []
 of-segment session number c frame channel next = by_file (slice_get session.sounds number) refl (slice_index_or session.clients number None) refl
@@ -58,13 +58,13 @@ of-segment session number c frame channel next = by_file (slice_get session.soun
 
 -- a client's line was late, so its setup's part is short
 short-of : (session : Session) (number : ℕ) (setup : Option Setup) (rules : Rules) (phase : ℕ) (wav : Sound) (a b : AtPort) (client after : Client) (asked : Op) (answer : Answer)
-    (frame channel : ℕ) (c : Plain) → after.own ≡ Some c → IsBound setup client.own → is_rewind asked ≡ false → IsLate answer frame channel
+    (frame channel : ℕ) (c : PlaybackStream) → after.own ≡ Some c → IsBound setup client.own → is_rewind asked ≡ false → IsLate answer frame channel
     → LineMay (client_kind phase wav number) rules (a, client) asked (b, after) answer
     → IfSome setup (λ (s : Setup). (c.setup.bindings ≡ s.bindings) × (c.stretch.part < length (rising s.bindings)))
 short-of session number None rules phase wav a b client after asked answer frame channel c own bound not late may = tt
 short-of session number (Some s) rules phase wav a b client after asked answer frame channel c own bound not late may =
     let named : Named s.bindings (c, answer) =
-    subst (λ (o : Option Plain). IfSome o (λ d. Named s.bindings (d, answer))) own
+    subst (λ (o : Option PlaybackStream). IfSome o (λ d. Named s.bindings (d, answer))) own
     (line-named rules phase wav number s.bindings a b client after asked answer bound not may) in
     (named.0, subst (LateAnswer (λ f k. c.stretch.part < length (rising s.bindings))) late named.1)
 
@@ -97,7 +97,7 @@ late-missed session body names names_last = record {
   where
     by_rewind : (rules : Rules) (phase : ℕ) (wav : Sound) (number : ℕ) (a b : AtPort) (client after : Client) (n : ℕ) (answer : Answer) (frame channel : ℕ)
         → LateRewindsNameLast rules phase wav number → IsLate answer frame channel
-        → LineMay (client_kind phase wav number) rules (a, client) (op.Rewind n) (b, after) answer → (own : Option Plain) → client.own ≡ own
+        → LineMay (client_kind phase wav number) rules (a, client) (op.Rewind n) (b, after) answer → (own : Option PlaybackStream) → client.own ≡ own
         → IfSome after.own (λ c. IsLast c frame channel)
     by_rewind rules phase wav number a b client after n answer frame channel name late may None was =
         rw (still-closed rules phase wav number a b client after (op.Rewind n) answer was may) tt
@@ -105,16 +105,16 @@ late-missed session body names names_last = record {
         let named : NamesLast after answer = name a b client after c n answer was may in
         rw named.is_own (named.late frame channel late)
 
-    by_next : (session : Session) (number : ℕ) (after : Client) (answer : Answer) (frame channel : ℕ) (c : Plain) → after.own ≡ Some c → IsLate answer frame channel
+    by_next : (session : Session) (number : ℕ) (after : Client) (answer : Answer) (frame channel : ℕ) (c : PlaybackStream) → after.own ≡ Some c → IsLate answer frame channel
         → NamesNext after answer → IsNext c frame channel
     by_next session number after answer frame channel c own late named =
         let same : Some named.own ≡ Some c = sym named.is_own ∙ own in
         let is : named.own ≡ c = cc in
-        subst (λ (d : Plain). IsNext d frame channel) is (named.late frame channel late)
+        subst (λ (d : PlaybackStream). IsNext d frame channel) is (named.late frame channel late)
 
     by_own : (session : Session) (number : ℕ) (rules : Rules) (phase : ℕ) (wav : Sound) (a b : AtPort) (client after : Client) (asked : Op) (answer : Answer) (frame channel : ℕ)
         → LateRowsNameNext rules phase wav number → IsBound (slice_index_or session.clients number None) client.own → is_rewind asked ≡ false → IsLate answer frame channel
-        → LineMay (client_kind phase wav number) rules (a, client) asked (b, after) answer → (own : Option Plain) → after.own ≡ own
+        → LineMay (client_kind phase wav number) rules (a, client) asked (b, after) answer → (own : Option PlaybackStream) → after.own ≡ own
         → at (placed_now session number after) frame channel ≡ []
     by_own session number rules phase wav a b client after asked answer frame channel name bound not late may None is = rw is refl
     by_own session number rules phase wav a b client after asked answer frame channel name bound not late may (Some c) is = rw is
@@ -122,9 +122,9 @@ late-missed session body names names_last = record {
         (by_next session number after answer frame channel c is late (open-before client.own refl))
         (short-of session number (slice_index_or session.clients number None) rules phase wav a b client after asked answer frame channel c is bound not late may)))
       where
-        open-before : (own : Option Plain) → client.own ≡ own → NamesNext after answer
+        open-before : (own : Option PlaybackStream) → client.own ≡ own → NamesNext after answer
         open-before (Some d) was = name a b client after d asked answer was not may
         open-before None was = absurd (both (still-closed rules phase wav number a b client after asked answer was may) is)
           where
-            both : {own : Option Plain} → own ≡ None → own ≡ Some c → ⊥
+            both : {own : Option PlaybackStream} → own ≡ None → own ≡ Some c → ⊥
             both x y = absurd (cc)

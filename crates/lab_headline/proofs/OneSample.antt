@@ -27,7 +27,7 @@ use Rattle.lab_run.specs.Rules.{AtPort}
 use Rattle.lab_run.specs.Stage.{Session, Setup}
 use Rattle.snd_base.specs.Places.{first_frame}
 use Rattle.dshare.specs.Owners.{Row as Claim}
-use Rattle.dmix_client.specs.declared.plain.Plain.{Plain}
+use Rattle.dmix_client.specs.declared.stream.PlaybackStream.{PlaybackStream}
 use Rattle.lab_script.specs.declared.line.Item.{Item}
 use Rattle.lab_script.specs.declared.script.Share.TheVariants.{Dshare}
 use Rattle.lab_run.specs.Claims.{ClaimIsOwners}
@@ -301,7 +301,7 @@ module _ (session : Session) (share : session.card.share ≡ Dshare) (bound : (m
       → AllByRecursion (λ s. AllByRecursion (Clear s) (segments_of (at session end.clients k).1)) (segments_of (at session end.clients n).1)
   clear-at n k other (channel, one, two) = by_own (at session end.clients k).1.own refl (at session end.clients n).1.own refl
     where
-      by_own : (own : Option Plain) → (at session end.clients k).1.own ≡ own → (other_own : Option Plain) → (at session end.clients n).1.own ≡ other_own
+      by_own : (own : Option PlaybackStream) → (at session end.clients k).1.own ≡ own → (other_own : Option PlaybackStream) → (at session end.clients n).1.own ≡ other_own
           → AllByRecursion (λ s. AllByRecursion (Clear s) (segments_of (at session end.clients k).1)) (segments_of (at session end.clients n).1)
       by_own None is other_own other_is = subst (λ (l : List Segment). AllByRecursion (λ s. AllByRecursion (Clear s) l) (segments_of (at session end.clients n).1))
           (sym (closed-segments (at session end.clients k).1 is))

@@ -28,7 +28,7 @@ use Rattle.snd_base.specs.declared.errors.XrunWhy.{XrunWhy}
 use Rattle.snoop_core.specs.declared.port.Got.{Got}
 use Rattle.course.specs.Course.{◌>>=◌, Course, ends, gets, lays, loads}
 use Rattle.dmix_client.specs.declared.commit.Commit.{Commit}
-use Rattle.dmix_client.specs.declared.plain.Plain.{Plain}
+use Rattle.dmix_client.specs.declared.stream.PlaybackStream.{PlaybackStream}
 use Rattle.dmix_client.specs.Calls.{Answered, committed_by, facts_of, found_at, going_on, going_on_by, is_prepared, is_stop, late_of, over_of, seen_at, with_outcome, start_count, start_frame, after_start, started_in, stopped_in, sync_count, after_sync}
 use Rattle.dmix_client.specs.Course.{commits, go_on, lay_each, lay_frame, lay_frames, looks, nothing, one_frame_more, one_more, starts, syncs}
 use Rattle.dmix_client.specs.Port.{IsStep}
@@ -238,7 +238,7 @@ module _ (p : ℕ) (g : Geometry) (x y card z : ℕ) (past : x ≤ card) where
 -- ---- a client
 
 -- the frame of the card behind what a client has placed in its stretch
-abbrev pub end_of : Plain → ℕ
+abbrev pub end_of : PlaybackStream → ℕ
 end_of c = c.stretch.card + c.stretch.committed + begun c.stretch.part
 
 -- bindings of at least one channel, each of which has its place in the order of the card
@@ -267,22 +267,22 @@ pub record WaitsAt (p x y : ℕ) (m : Marks) (bindings : List ℕ) (state : Stat
   pub top : free_frame m ≤ high_end m
   pub high : y ≤ high_end m
 
-abbrev pub Begun : ℕ → ℕ → ℕ → Marks → Plain → Type 0
+abbrev pub Begun : ℕ → ℕ → ℕ → Marks → PlaybackStream → Type 0
 Begun p x y m c = BegunAt p x y m c.setup.bindings c.status.state c.stretch.started c.stretch.card (end_of c)
 
-abbrev pub Waits : ℕ → ℕ → ℕ → Marks → Plain → Type 0
+abbrev pub Waits : ℕ → ℕ → ℕ → Marks → PlaybackStream → Type 0
 Waits p x y m c = WaitsAt p x y m c.setup.bindings c.status.state c.stretch.committed c.stretch.part
 
 -- a client's stretch goes on past x: what it places from now on is at x or behind it; and y is before the end of what its port placed
-abbrev pub Onward : ℕ → ℕ → ℕ → Marks → Plain → Type 0
+abbrev pub Onward : ℕ → ℕ → ℕ → Marks → PlaybackStream → Type 0
 Onward p x y m c = Begun p x y m c ⊎ Waits p x y m c
 
 -- it does after a call
-abbrev pub OnwardAfter : {T : Type 0} → ℕ → ℕ → ℕ → Marks → Plain × T → Type 0
+abbrev pub OnwardAfter : {T : Type 0} → ℕ → ℕ → ℕ → Marks → PlaybackStream × T → Type 0
 OnwardAfter p x y m (d, r) = Onward p x y m d
 
 -- a client that moves frames began
-pub moving-begun : (p x y : ℕ) (m : Marks) (c : Plain) → is_moving c.status.state ≡ true → Onward p x y m c → Begun p x y m c
+pub moving-begun : (p x y : ℕ) (m : Marks) (c : PlaybackStream) → is_moving c.status.state ≡ true → Onward p x y m c → Begun p x y m c
 moving-begun p x y m c moves (inl is) = is
 moving-begun p x y m c moves (inr waits) = absurd (false≢true (sym waits.still ∙ moves))
 
@@ -353,7 +353,7 @@ pub ended-lies : (p x y card z e : ℕ) (m : Marks) → Lies p x y card z e m �
 ended-lies p x y card z e m lies = record { low = lies.low; top = lies.top; high = lies.high; kept = lies.end; end = lies.end }
 
 module _ (p : ℕ) (g : Geometry) (x y : ℕ) where
-  pub looks-lead : (Q : Marks → Option Position × Commit → Type 0) (at : Position → Plain) (count : Position → ℕ) (ring : List ℤ) (m : Marks) → Q m (None, nothing)
+  pub looks-lead : (Q : Marks → Option Position × Commit → Type 0) (at : Position → PlaybackStream) (count : Position → ℕ) (ring : List ℤ) (m : Marks) → Q m (None, nothing)
       → ((position : Position) → p ≤ position.frame → Leads p g (λ n commit. Q n (Some position, commit)) m (commits (at position) ring (count position)))
       → Leads p g Q m (looks at count ring)
   unfolding looks ◌>>=◌
@@ -364,7 +364,7 @@ module _ (p : ℕ) (g : Geometry) (x y : ℕ) where
         (some position least) (λ n commit is. is),
   )
 
-  pub commits-lead : (c : Plain) (ring : List ℤ) (count : ℕ) (m : Marks) → Channels c.setup.bindings → x ≤ c.stretch.card → Lies p x y c.stretch.card (end_of c) (end_of c) m
+  pub commits-lead : (c : PlaybackStream) (ring : List ℤ) (count : ℕ) (m : Marks) → Channels c.setup.bindings → x ≤ c.stretch.card → Lies p x y c.stretch.card (end_of c) (end_of c) m
       → Leads p g (λ n commit. Lies p x y c.stretch.card (end_of c) (end_of (committed_by c commit)) n) m (commits c ring count)
   commits-lead c ring count m bound past lies =
       frames-lead p g x y c.stretch.card (end_of c) past c.identity.member c.setup.bindings (ring_sample c ring) count c.stretch.committed m (channels-rise c.setup.bindings bound)
@@ -372,12 +372,12 @@ module _ (p : ℕ) (g : Geometry) (x y : ℕ) where
       (earlier-lies p x y c.stretch.card (end_of c) (end_of c) (c.stretch.card + c.stretch.committed) m (omega arith) lies)
 
   -- the sync of a client that moves frames
-  pub after_sync-goes : (c : Plain) (asked : Call) (position : Position) (commit : Commit) (n : Marks) → Channels c.setup.bindings → c.stretch.started ≡ true → is_prepared c.status.state ≡ false
+  pub after_sync-goes : (c : PlaybackStream) (asked : Call) (position : Position) (commit : Commit) (n : Marks) → Channels c.setup.bindings → c.stretch.started ≡ true → is_prepared c.status.state ≡ false
       → IsStep c.status.state asked → x ≤ c.stretch.card → Lies p x y c.stretch.card (end_of c) (end_of (committed_by c commit)) n
       → Begun p x y n (after_sync c asked (Some position) commit).0
   after_sync-goes c asked position commit n bound started unprepared step past lies = by_stop (is_stop commit.ended)
     where
-      done : Plain
+      done : PlaybackStream
       done = committed_by (seen_at c position) commit
 
       f : Facts
@@ -390,7 +390,7 @@ module _ (p : ℕ) (g : Geometry) (x y : ℕ) where
       by_stop true = record { bound = bound; started = started; unprepared = unprepared; past = past; lies = there }
       by_stop false = record { bound = bound; started = started; unprepared = stepped-unprepared c.status.state asked f step refl; past = past; lies = there }
 
-  pub syncs-go : (c : Plain) (asked : Call) (ring : List ℤ) (m : Marks) → IsStep c.status.state asked → Begun p x y m c
+  pub syncs-go : (c : PlaybackStream) (asked : Call) (ring : List ℤ) (m : Marks) → IsStep c.status.state asked → Begun p x y m c
       → Leads p g (λ n done. Begun p x y n done.0) m (syncs c asked ring)
   unfolding syncs
   syncs-go c asked ring m step is =
@@ -411,12 +411,12 @@ module _ (p : ℕ) (g : Geometry) (x y : ℕ) where
   abbrev pub Started : State → Marks → Answered (Unit {0}) → Type 0
   Started state n (d, r) = Onward p x y n d × IfOk r (λ done. d.status.state ≡ state)
 
-  pub going_on-state : (c : Plain) (state refused : State) (r : Result (Unit {0}) PcmError)
+  pub going_on-state : (c : PlaybackStream) (state refused : State) (r : Result (Unit {0}) PcmError)
       → IfOk (going_on_by r c state refused).1 (λ done. (going_on_by r c state refused).0.status.state ≡ state)
   going_on-state c state refused (Ok done) = refl
   going_on-state c state refused (Err e) = tt
 
-  pub after_start-begun : (c : Plain) (state refused : State) (r : Result (Unit {0}) PcmError) (n : Marks) → Channels c.setup.bindings → c.stretch.started ≡ true → is_prepared state ≡ false
+  pub after_start-begun : (c : PlaybackStream) (state refused : State) (r : Result (Unit {0}) PcmError) (n : Marks) → Channels c.setup.bindings → c.stretch.started ≡ true → is_prepared state ≡ false
       → is_prepared refused ≡ false → x ≤ c.stretch.card → Lies p x y c.stretch.card (end_of c) (end_of c) n → Begun p x y n (going_on_by r c state refused).0
   after_start-begun c state refused (Ok done) n bound started unprepared other past lies = record { bound = bound; started = started; unprepared = unprepared; past = past; lies = lies }
   after_start-begun c state refused (Err e) n bound started unprepared other past lies = record { bound = bound; started = started; unprepared = other; past = past; lies = lies }
@@ -425,9 +425,9 @@ module _ (p : ℕ) (g : Geometry) (x y : ℕ) where
   starting-unprepared frame None = refl
   starting-unprepared frame (Some w) = refl
 
-  pub after_start-goes : (c : Plain) (state : State) (cursor : Cursor) (frame : ℕ) (gone : Bool) (commit : Commit) (n : Marks) → Channels c.setup.bindings → is_prepared state ≡ false
+  pub after_start-goes : (c : PlaybackStream) (state : State) (cursor : Cursor) (frame : ℕ) (gone : Bool) (commit : Commit) (n : Marks) → Channels c.setup.bindings → is_prepared state ≡ false
       → c.stretch.committed ≡ 0 → c.stretch.part ≡ 0 → x ≤ start_frame c frame cursor
-      → (let position : Position = record { frame = frame; gone = gone } in let from : Plain = started_in c state position cursor in
+      → (let position : Position = record { frame = frame; gone = gone } in let from : PlaybackStream = started_in c state position cursor in
       Lies p x y (start_frame c frame cursor) (end_of from) (end_of (committed_by from commit)) n
       → Started state n (after_start c state cursor (Some position) commit))
   after_start-goes c state cursor frame true commit n bound unprepared none no_part past lies =
@@ -437,10 +437,10 @@ module _ (p : ℕ) (g : Geometry) (x y : ℕ) where
       position : Position
       position = record { frame = frame; gone = false }
 
-      from : Plain
+      from : PlaybackStream
       from = started_in c state position cursor
 
-      done : Plain
+      done : PlaybackStream
       done = committed_by from commit
 
       there : Lies p x y (start_frame c frame cursor) (end_of done) (end_of done) n
@@ -457,13 +457,13 @@ module _ (p : ℕ) (g : Geometry) (x y : ℕ) where
       )
 
   -- where a start begins is past x
-  pub start-past : (c : Plain) (m : Marks) (frame : ℕ) → p ≤ frame → x ≤ max p (free_frame m) → x ≤ start_frame c frame m.cursor
+  pub start-past : (c : PlaybackStream) (m : Marks) (frame : ℕ) → p ≤ frame → x ≤ max p (free_frame m) → x ≤ start_frame c frame m.cursor
   start-past c m frame least low = by_number (first_free m.cursor 0) low
     where
       by_number : (n : ℕ) → x ≤ max p n → x ≤ max (frame + c.identity.lead) n
       by_number n is = omega (arith, least, is)
 
-  pub start-commits : (c : Plain) (state : State) (count : ℕ) (ring : List ℤ) (m : Marks) → is_prepared state ≡ false → Waits p x y m c
+  pub start-commits : (c : PlaybackStream) (state : State) (count : ℕ) (ring : List ℤ) (m : Marks) → is_prepared state ≡ false → Waits p x y m c
       → (position : Position) → p ≤ position.frame
       → Leads p g (λ n commit. Started state n (after_start c state m.cursor (Some position) commit)) m (commits (started_in c Running position m.cursor) ring count)
   start-commits c state count ring m unprepared waits position least =
@@ -479,13 +479,13 @@ module _ (p : ℕ) (g : Geometry) (x y : ℕ) where
       }))
       (λ n commit lies. after_start-goes c state m.cursor position.frame position.gone commit n waits.bound unprepared waits.none waits.no_part past lies)
     where
-      at : Plain
+      at : PlaybackStream
       at = started_in c Running position m.cursor
 
       nothing-placed : end_of at ≡ start_frame c position.frame m.cursor
       nothing-placed = rw waits.none (rw waits.no_part (omega arith))
 
-  pub starts-go : (c : Plain) (state : State) (upto : ℕ) (ring : List ℤ) (m : Marks) → is_prepared state ≡ false → Waits p x y m c
+  pub starts-go : (c : PlaybackStream) (state : State) (upto : ℕ) (ring : List ℤ) (m : Marks) → is_prepared state ≡ false → Waits p x y m c
       → Leads p g (Started state) m (starts c state m.cursor upto ring)
   unfolding starts
   starts-go c state upto ring m unprepared waits =

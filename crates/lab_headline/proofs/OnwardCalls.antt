@@ -18,7 +18,7 @@ use Rattle.pcm_stream.specs.declared.status.Status.{Status}
 use Rattle.pcm_stream.specs.Status.{is_moving, nothing_found, refusal_of}
 use Rattle.course.specs.Course.{Course, ends}
 use Rattle.dmix_client.specs.declared.commit.Commit.{Commit}
-use Rattle.dmix_client.specs.declared.plain.Plain.{Plain}
+use Rattle.dmix_client.specs.declared.stream.PlaybackStream.{PlaybackStream}
 use Rattle.dmix_client.specs.Calls.{Answered, committed_by, found_at, is_prepared, is_stop, late_of, with_outcome, start_count, after_start, started_in, stopped_in, accepted_if, avail_answer, delay_answer, draining, dropped, has_frames, in_state, is_running, late_at, pending_of, prepared, rebased, resumed, taken_of, with_number, written_after}
 use Rattle.dmix_client.specs.Course.{commits, looks, nothing, starts, syncs, admitted, admitted_by, drain_course, drain_on, drains, fills, number_course, numbered, pause_course, resumes, start_course, starts_taking, sync_course, takes_more, write_on, writes_on}
 use Rattle.dmix_client.specs.Port.{IsStep}
@@ -70,17 +70,17 @@ transfers-prepared status = by_stop status.stopped status.state
     by_stop false other is not = absurd (some-none is)
 
 module _ (p : ℕ) (g : Geometry) (x y : ℕ) where
-  pub prepared-waits : (m : Marks) (c : Plain) → is_prepared c.status.state ≡ true → Onward p x y m c → Waits p x y m c
+  pub prepared-waits : (m : Marks) (c : PlaybackStream) → is_prepared c.status.state ≡ true → Onward p x y m c → Waits p x y m c
   prepared-waits m c prepared (inl is) = absurd (false≢true (sym is.unprepared ∙ prepared))
   prepared-waits m c prepared (inr is) = is
 
   -- in another state that is neither prepared nor moving
-  pub in-state : (state : State) (m : Marks) (c : Plain) → is_prepared state ≡ false → is_moving state ≡ false → Onward p x y m c → Onward p x y m (in_state c state)
+  pub in-state : (state : State) (m : Marks) (c : PlaybackStream) → is_prepared state ≡ false → is_moving state ≡ false → Onward p x y m c → Onward p x y m (in_state c state)
   in-state state m c unprepared still (inl is) = inl (record { bound = is.bound; started = is.started; unprepared = unprepared; past = is.past; lies = is.lies })
   in-state state m c unprepared still (inr is) =
       inr (record { bound = is.bound; still = still; none = is.none; no_part = is.no_part; low = is.low; top = is.top; high = is.high })
 
-  pub number-goes : (number : Plain → ℕ) (m : Marks) (done : Answered (Unit {0})) → OnwardAfter p x y m done → OnwardAfter p x y m (with_number number done)
+  pub number-goes : (number : PlaybackStream → ℕ) (m : Marks) (done : Answered (Unit {0})) → OnwardAfter p x y m done → OnwardAfter p x y m (with_number number done)
   number-goes number m (c, Ok done) goes = goes
   number-goes number m (c, Err e) goes = goes
 
@@ -88,21 +88,21 @@ module _ (p : ℕ) (g : Geometry) (x y : ℕ) where
   accepted-goes n m (c, Ok done) goes = goes
   accepted-goes n m (c, Err e) goes = goes
 
-  pub numbered-goes : (number : Plain → ℕ) (m : Marks) (course : Course (Answered (Unit {0}))) → Leads p g (OnwardAfter p x y) m course → Leads p g (OnwardAfter p x y) m (numbered number course)
+  pub numbered-goes : (number : PlaybackStream → ℕ) (m : Marks) (course : Course (Answered (Unit {0}))) → Leads p g (OnwardAfter p x y) m course → Leads p g (OnwardAfter p x y) m (numbered number course)
   unfolding numbered
   numbered-goes number m course leads = Leads-then p g (OnwardAfter p x y) (OnwardAfter p x y) m course (λ done. ends (with_number number done)) leads (number-goes number)
 
-  pub syncs-goes : (c : Plain) (asked : Call) (m : Marks) → IsStep c.status.state asked → Begun p x y m c → Leads p g (OnwardAfter p x y) m (syncs c asked [])
+  pub syncs-goes : (c : PlaybackStream) (asked : Call) (m : Marks) → IsStep c.status.state asked → Begun p x y m c → Leads p g (OnwardAfter p x y) m (syncs c asked [])
   syncs-goes c asked m step is = Leads-map p g (λ n done. Begun p x y n done.0) (OnwardAfter p x y) m (syncs c asked []) (syncs-go p g x y c asked [] m step is) (λ n done begun. inl begun)
 
-  pub sync-goes : (c : Plain) (m : Marks) → Onward p x y m c → Leads p g (OnwardAfter p x y) m (sync_course c [])
+  pub sync-goes : (c : PlaybackStream) (m : Marks) → Onward p x y m c → Leads p g (OnwardAfter p x y) m (sync_course c [])
   sync-goes c m is = by_test (is_moving c.status.state) refl
     where
       by_test : (moves : Bool) → is_moving c.status.state ≡ moves → Leads p g (OnwardAfter p x y) m (if moves then syncs c call.Sync [] else ends (c, Ok tt))
       by_test true moves = syncs-goes c call.Sync m (moving-syncs c.status.state moves) (moving-begun p x y m c moves is)
       by_test false moves = is
 
-  pub number_course-goes : (number : Plain → ℕ) (c : Plain) (m : Marks) → Onward p x y m c → Leads p g (OnwardAfter p x y) m (number_course number c [])
+  pub number_course-goes : (number : PlaybackStream → ℕ) (c : PlaybackStream) (m : Marks) → Onward p x y m c → Leads p g (OnwardAfter p x y) m (number_course number c [])
   number_course-goes number c m is = by_test (is_moving c.status.state) refl
     where
       by_test : (moves : Bool) → is_moving c.status.state ≡ moves
@@ -110,7 +110,7 @@ module _ (p : ℕ) (g : Geometry) (x y : ℕ) where
       by_test true moves = numbered-goes number m (syncs c call.Sync []) (syncs-goes c call.Sync m (moving-syncs c.status.state moves) (moving-begun p x y m c moves is))
       by_test false moves = is
 
-  pub start-goes : (c : Plain) (m : Marks) → is_prepared c.status.state ≡ true → Waits p x y m c → Leads p g (OnwardAfter p x y) m (start_course c [] m.cursor)
+  pub start-goes : (c : PlaybackStream) (m : Marks) → is_prepared c.status.state ≡ true → Waits p x y m c → Leads p g (OnwardAfter p x y) m (start_course c [] m.cursor)
   start-goes c m prepared waits = Leads-if p g (OnwardAfter p x y) m (nat_eq c.stretch.written 0) _ _ (inr (record {
     bound = waits.bound;
     still = empty-still c.status.state prepared;
@@ -127,11 +127,11 @@ module _ (p : ℕ) (g : Geometry) (x y : ℕ) where
       empty-still other is = absurd (false≢true is)
 
   -- a write
-  pub written-begun : (c : Plain) (n : ℕ) (commit : Commit) (m : Marks) → Channels c.setup.bindings → c.stretch.started ≡ true → is_prepared c.status.state ≡ false
+  pub written-begun : (c : PlaybackStream) (n : ℕ) (commit : Commit) (m : Marks) → Channels c.setup.bindings → c.stretch.started ≡ true → is_prepared c.status.state ≡ false
       → x ≤ c.stretch.card → Lies p x y c.stretch.card (end_of c) (end_of (committed_by c commit)) m → OnwardAfter p x y m (written_after c n commit)
   written-begun c n commit m bound started unprepared past lies = by_test (nat_lt 0 n && nat_eq (avail_of c) 0) (is_stop commit.ended)
     where
-      done : Plain
+      done : PlaybackStream
       done = committed_by c commit
 
       there : Lies p x y c.stretch.card (end_of done) (end_of done) m
@@ -162,7 +162,7 @@ module _ (p : ℕ) (g : Geometry) (x y : ℕ) where
       (commits-lead p g x y c (ring_with c [] [] (taken_of c n)) (count_with c (taken_of c n)) m is.bound is.past is.lies)
       (λ k commit lies. written-begun c n commit k is.bound is.started is.unprepared is.past lies)
 
-  pub write-goes : (c : Plain) (n : ℕ) (m : Marks) → refusal_of Playback c.status call.Transfer ≡ None → Onward p x y m c → Leads p g (OnwardAfter p x y) m (write_course c m.cursor n)
+  pub write-goes : (c : PlaybackStream) (n : ℕ) (m : Marks) → refusal_of Playback c.status call.Transfer ≡ None → Onward p x y m c → Leads p g (OnwardAfter p x y) m (write_course c m.cursor n)
   unfolding writes_on starts_taking
   write-goes c n m admits is = by_test (is_running c.status.state) refl
     where
@@ -183,7 +183,7 @@ module _ (p : ℕ) (g : Geometry) (x y : ℕ) where
   drain_on-goes m (c, Ok done) (is, drains) = syncs-goes c call.Drain m (subst (λ s. IsStep s call.Drain) (sym drains) tt)
       (moving-begun p x y m c (subst (λ s. is_moving s ≡ true) (sym drains) refl) is)
 
-  pub drain-goes : (c : Plain) (m : Marks) → Onward p x y m c → Leads p g (OnwardAfter p x y) m (drain_course c [] m.cursor)
+  pub drain-goes : (c : PlaybackStream) (m : Marks) → Onward p x y m c → Leads p g (OnwardAfter p x y) m (drain_course c [] m.cursor)
   unfolding drains
   drain-goes c m is = by_test (is_moving c.status.state) refl
     where
@@ -206,10 +206,10 @@ module _ (p : ℕ) (g : Geometry) (x y : ℕ) where
 
   -- ---- a resume
 
-  pub based-waits : (m : Marks) (c : Plain) → Channels c.setup.bindings → x ≤ max p (free_frame m) → free_frame m ≤ high_end m → y ≤ high_end m → Waits p x y m (rebased c)
+  pub based-waits : (m : Marks) (c : PlaybackStream) → Channels c.setup.bindings → x ≤ max p (free_frame m) → free_frame m ≤ high_end m → y ≤ high_end m → Waits p x y m (rebased c)
   based-waits m c bound low top high = record { bound = bound; still = refl; none = refl; no_part = refl; low = low; top = top; high = high }
 
-  pub resumes-go : (Q : Marks → Answered (Unit {0}) → Type 0) (c : Plain) (m : Marks) → Waits p x y m (rebased c) → Q m (stopped_in c)
+  pub resumes-go : (Q : Marks → Answered (Unit {0}) → Type 0) (c : PlaybackStream) (m : Marks) → Waits p x y m (rebased c) → Q m (stopped_in c)
       → ((n : Marks) (done : Answered (Unit {0})) → OnwardAfter p x y n done → Q n done) → Leads p g Q m (resumes c m.cursor [])
   unfolding resumes
   resumes-go Q c m waits stop on = Leads-then p g (λ n found. Q n (resumed c m.cursor found.0 found.1)) Q m
@@ -223,22 +223,22 @@ module _ (p : ℕ) (g : Geometry) (x y : ℕ) where
       (λ n commit started. on n (resumed c m.cursor (Some position) commit) started.0)))
       (λ n found is. is)
 
-  pub resume-leads : (Q : Marks → Answered (Unit {0}) → Type 0) (c : Plain) (m : Marks) → Waits p x y m (rebased c) → Q m (stopped_in c)
+  pub resume-leads : (Q : Marks → Answered (Unit {0}) → Type 0) (c : PlaybackStream) (m : Marks) → Waits p x y m (rebased c) → Q m (stopped_in c)
       → ((n : Marks) (done : Answered (Unit {0})) → OnwardAfter p x y n done → Q n done) → Leads p g Q m (pause_course false c [] m.cursor)
   resume-leads Q c m waits stop on = Leads-if p g Q m (nat_eq (pending_of c) 0) (ends (rebased c, Ok tt)) (resumes c m.cursor []) (on m (rebased c, Ok tt) (inr waits))
       (resumes-go Q c m waits stop on)
 
-  pub reached : (m : Marks) (c : Plain) → Onward p x y m c → (x ≤ max p (free_frame m)) × (free_frame m ≤ high_end m) × (y ≤ high_end m) × Channels c.setup.bindings
+  pub reached : (m : Marks) (c : PlaybackStream) → Onward p x y m c → (x ≤ max p (free_frame m)) × (free_frame m ≤ high_end m) × (y ≤ high_end m) × Channels c.setup.bindings
   reached m c (inl is) = (is.lies.low, is.lies.top, is.lies.high, is.bound)
   reached m c (inr is) = (is.low, is.top, is.high, is.bound)
 
-  pub resume-goes : (c : Plain) (m : Marks) → Onward p x y m c → Leads p g (OnwardAfter p x y) m (pause_course false c [] m.cursor)
+  pub resume-goes : (c : PlaybackStream) (m : Marks) → Onward p x y m c → Leads p g (OnwardAfter p x y) m (pause_course false c [] m.cursor)
   resume-goes c m is =
       let at = reached m c is in resume-leads (OnwardAfter p x y) c m (based-waits m c at.3 at.0 at.1 at.2) is (λ n done goes. goes)
 
   -- ---- a rewind
 
-  pub checks-go : (c : Plain) (m : Marks) → is_running c.status.state ≡ true → Begun p x y m c → Leads p g (λ n done. Begun p x y n done.0) m (checks c)
+  pub checks-go : (c : PlaybackStream) (m : Marks) → is_running c.status.state ≡ true → Begun p x y m c → Leads p g (λ n done. Begun p x y n done.0) m (checks c)
   unfolding checks
   checks-go c m runs is = (
     is,
@@ -246,7 +246,7 @@ module _ (p : ℕ) (g : Geometry) (x y : ℕ) where
         (earlier-lies p x y c.stretch.card (end_of c) (end_of c) (end_of (committed_by c nothing)) m (omega arith) is.lies),
   )
 
-  pub rewindable-goes : (floor : Cursor) (c : Plain) (m : Marks) → Onward p x y m c → Leads p g (OnwardAfter p x y) m (rewindable_course c floor)
+  pub rewindable-goes : (floor : Cursor) (c : PlaybackStream) (m : Marks) → Onward p x y m c → Leads p g (OnwardAfter p x y) m (rewindable_course c floor)
   rewindable-goes floor c m is = by_test (is_running c.status.state) refl
     where
       by_test : (runs : Bool) → is_running c.status.state ≡ runs
@@ -255,11 +255,11 @@ module _ (p : ℕ) (g : Geometry) (x y : ℕ) where
           (checks-go c m runs (moving-begun p x y m c (running-moves c.status.state runs) is)) (λ n done begun. inl begun))
       by_test false runs = is
 
-  pub rewound-goes : (c : Plain) (n : ℕ) (left : Commit) (m : Marks) → Channels c.setup.bindings → c.stretch.started ≡ true → is_prepared c.status.state ≡ false → x ≤ c.stretch.card
+  pub rewound-goes : (c : PlaybackStream) (n : ℕ) (left : Commit) (m : Marks) → Channels c.setup.bindings → c.stretch.started ≡ true → is_prepared c.status.state ≡ false → x ≤ c.stretch.card
       → Lies p x y c.stretch.card 0 (end_of (taken_back c n left)) m → OnwardAfter p x y m (rewound c n left)
   rewound-goes c n left m bound started unprepared past lies = by_stop (is_stop left.ended)
     where
-      done : Plain
+      done : PlaybackStream
       done = taken_back c n left
 
       f : Facts
@@ -268,12 +268,12 @@ module _ (p : ℕ) (g : Geometry) (x y : ℕ) where
       there : Lies p x y c.stretch.card (end_of done) (end_of done) m
       there = ended-lies p x y c.stretch.card 0 (end_of done) m lies
 
-      by_stop : (stop : Bool) → OnwardAfter p x y m (if stop then stopped_in done else with_number (λ (d : Plain). n) (with_outcome done (next_of Running call.Transfer f)))
+      by_stop : (stop : Bool) → OnwardAfter p x y m (if stop then stopped_in done else with_number (λ (d : PlaybackStream). n) (with_outcome done (next_of Running call.Transfer f)))
       by_stop true = inl (record { bound = bound; started = started; unprepared = unprepared; past = past; lies = there })
-      by_stop false = number-goes (λ (d : Plain). n) m (with_outcome done (next_of Running call.Transfer f))
+      by_stop false = number-goes (λ (d : PlaybackStream). n) m (with_outcome done (next_of Running call.Transfer f))
           (inl (record { bound = bound; started = started; unprepared = moving-unprepared f; past = past; lies = there }))
 
-  pub takes_back-goes : (c : Plain) (n : ℕ) (m : Marks) → back_of c n ≤ c.stretch.committed → Begun p x y m c → Leads p g (OnwardAfter p x y) m (takes_back c [] n)
+  pub takes_back-goes : (c : PlaybackStream) (n : ℕ) (m : Marks) → back_of c n ≤ c.stretch.committed → Begun p x y m c → Leads p g (OnwardAfter p x y) m (takes_back c [] n)
   unfolding takes_back
   takes_back-goes c n m within is =
       Leads-then p g (λ k left. Lies p x y c.stretch.card 0 (end_of (taken_back c n left)) k) (OnwardAfter p x y) m
@@ -299,7 +299,7 @@ module _ (p : ℕ) (g : Geometry) (x y : ℕ) where
   rewind_on-goes floor n m (c, Err e) is = inl is
   rewind_on-goes floor n m (c, Ok done) is = takes_back-goes c (min n (rewindable_of floor c)) m (below-sum n (pending_of c) c.stretch.committed _) is
 
-  pub rewind-goes : (floor : Cursor) (c : Plain) (n : ℕ) (m : Marks) → Onward p x y m c → Leads p g (OnwardAfter p x y) m (rewind_course c [] floor n)
+  pub rewind-goes : (floor : Cursor) (c : PlaybackStream) (n : ℕ) (m : Marks) → Onward p x y m c → Leads p g (OnwardAfter p x y) m (rewind_course c [] floor n)
   unfolding rewinds
   rewind-goes floor c n m is = by_test (is_running c.status.state) refl
     where
@@ -317,7 +317,7 @@ module _ (p : ℕ) (g : Geometry) (x y : ℕ) where
       → Leads p g (OnwardAfter p x y) m (answered answer course)
   answered-goes answer m course leads = Leads-then p g (OnwardAfter p x y) (OnwardAfter p x y) m course (λ done. ends (done.0, answer done.1)) leads (λ n done goes. goes)
 
-  pub admitted-goes : {T : Type 0} (c : Plain) (asked : Call) (course : Course (Answered T)) (m : Marks) → Onward p x y m c
+  pub admitted-goes : {T : Type 0} (c : PlaybackStream) (asked : Call) (course : Course (Answered T)) (m : Marks) → Onward p x y m c
       → (refusal_of Playback c.status asked ≡ None → Leads p g (OnwardAfter p x y) m course) → Leads p g (OnwardAfter p x y) m (admitted c asked course)
   admitted-goes {T = T} c asked course m is leads = by_refusal (refusal_of Playback c.status asked) refl
     where
@@ -325,7 +325,7 @@ module _ (p : ℕ) (g : Geometry) (x y : ℕ) where
       by_refusal None admits = leads admits
       by_refusal (Some e) admits = is
 
-  pub call-goes : (wav : Sound) (c : Plain) (asked : Op) (m : Marks) → Onward p x y m c → Leads p g (OnwardAfter p x y) m (call_of wav m c asked)
+  pub call-goes : (wav : Sound) (c : PlaybackStream) (asked : Op) (m : Marks) → Onward p x y m c → Leads p g (OnwardAfter p x y) m (call_of wav m c asked)
   call-goes wav c (op.Write n) m is = answered-goes count_answer m _ (admitted-goes c call.Transfer _ m is (λ admits. write-goes c _ m admits is))
   call-goes wav c op.Start m is = answered-goes done_answer m _
       (admitted-goes c call.Start _ m is (λ admits. let prepared = starts-prepared c.status admits in start-goes c m prepared (prepared-waits m c prepared is)))

@@ -13,7 +13,7 @@ use Rattle.pcm_states.specs.declared.calls.Call.TheVariants as call
 use Rattle.pcm_stream.specs.declared.direction.Direction.TheVariants.{Playback}
 use Rattle.pcm_stream.specs.Status.{refusal_of}
 use Rattle.course.specs.Course.{◌>>=◌, Course, ends, gets, lays, loads}
-use Rattle.dmix_client.specs.declared.plain.Plain.{Plain}
+use Rattle.dmix_client.specs.declared.stream.PlaybackStream.{PlaybackStream}
 use Rattle.dmix_client.specs.Calls.{Answered, is_paused, paused, prepared, segment_of}
 use Rattle.dmix_client.specs.Course.{admitted, admitted_by, pause_course}
 use Rattle.lab_script.specs.declared.line.Op.{Op}
@@ -34,12 +34,12 @@ pub append-none : {X : Type 0} (xs ys : List X) → ys ≡ [] → xs ++ ys ≡ x
 append-none xs ys is = ap (λ l. xs ++ l) is ∙ append-nil xs
 
 -- a client is open, and has a fact
-abbrev pub InOpen : Option Plain → (Plain → Type 0) → Type 0
+abbrev pub InOpen : Option PlaybackStream → (PlaybackStream → Type 0) → Type 0
 InOpen None F = ⊥
 InOpen (Some c) F = F c
 
 -- What a line makes of an open client: it goes on past x; and where its stretch ended with something placed, it goes on past the end of that.
-abbrev pub After : ℕ → ℕ → ℕ → Client → Plain → Marks → Client → Type 0
+abbrev pub After : ℕ → ℕ → ℕ → Client → PlaybackStream → Marks → Client → Type 0
 After p x y client c n after =
     InOpen after.own (Onward p x y n)
     × ((after.ended ≡ client.ended)
@@ -47,7 +47,7 @@ After p x y client c n after =
     × InOpen after.own (Onward p (end_of c) (end_of c) n)))
 
 -- the end of a stretch in which something is placed is reached by the cursor
-pub ends-reached : (p x y : ℕ) (m : Marks) (c : Plain) → Begun p x y m c → (nat_eq c.stretch.committed 0 && nat_eq c.stretch.part 0) ≡ false → end_of c ≤ free_frame m
+pub ends-reached : (p x y : ℕ) (m : Marks) (c : PlaybackStream) → Begun p x y m c → (nat_eq c.stretch.committed 0 && nat_eq c.stretch.part 0) ≡ false → end_of c ≤ free_frame m
 ends-reached p x y m c is some = by_test (nat_eq c.stretch.committed 0) (nat_eq c.stretch.part 0) refl refl some is.lies.end
   where
     past-card : (a b free : ℕ) → 0 < a + b → c.stretch.card + a + b ≤ max free c.stretch.card → c.stretch.card + a + b ≤ free
@@ -63,12 +63,12 @@ ends-reached p x y m c is some = by_test (nat_eq c.stretch.committed 0) (nat_eq 
     by_test false no_part none test one end = past-card c.stretch.committed (begun c.stretch.part) (free_frame m) (not-none c.stretch.committed (begun c.stretch.part) none) end
 
 -- nothing is placed of one that waits
-pub waits-none : (p x y : ℕ) (m : Marks) (c : Plain) → Waits p x y m c → (nat_eq c.stretch.committed 0 && nat_eq c.stretch.part 0) ≡ true
+pub waits-none : (p x y : ℕ) (m : Marks) (c : PlaybackStream) → Waits p x y m c → (nat_eq c.stretch.committed 0 && nat_eq c.stretch.part 0) ≡ true
 waits-none p x y m c is = rw is.none (rw is.no_part refl)
 
 module _ (p : ℕ) (g : Geometry) (x y : ℕ) where
   -- a stretch that ends, where what goes on is past each frame that the cursor reached
-  pub stretch-ends : (client : Client) (c : Plain) (m n : Marks) (own : Option Plain) → Onward p x y m c → InOpen own (Onward p x y n)
+  pub stretch-ends : (client : Client) (c : PlaybackStream) (m n : Marks) (own : Option PlaybackStream) → Onward p x y m c → InOpen own (Onward p x y n)
       → (end_of c ≤ free_frame m → free_frame m ≤ high_end m → InOpen own (Onward p (end_of c) (end_of c) n))
       → After p x y client c n (record { own = own; ended = client.ended ++ stretch_of c })
   stretch-ends client c m n own (inr waits) goes past = (goes, inl (append-none client.ended (stretch_of c) (rw (waits-none p x y m c waits) refl)))
@@ -80,13 +80,13 @@ module _ (p : ℕ) (g : Geometry) (x y : ℕ) where
       by_test false is = (goes, inr (refl, is, past (ends-reached p x y m c begun is) begun.lies.top))
 
   -- a line whose call ends no stretch
-  pub call-after : (wav : Sound) (client : Client) (c : Plain) (asked : Op) (m : Marks) → ((answer : Answer) (d : Plain) → ended_by asked answer c d ≡ []) → Onward p x y m c
+  pub call-after : (wav : Sound) (client : Client) (c : PlaybackStream) (asked : Op) (m : Marks) → ((answer : Answer) (d : PlaybackStream) → ended_by asked answer c d ≡ []) → Onward p x y m c
       → Leads p g (λ n (done : Client × Answer). After p x y client c n done.0) m (call_of wav m c asked >>= λ done. ends (after_call client c asked done))
   call-after wav client c asked m none is = Leads-then p g (OnwardAfter p x y) (λ n (done : Client × Answer). After p x y client c n done.0) m (call_of wav m c asked)
       (λ done. ends (after_call client c asked done)) (call-goes p g x y wav c asked m is)
       (λ n done goes. (goes, inl (append-none client.ended (ended_by asked done.1 c done.0) (none done.1 done.0))))
 
-  pub prepare-after : (wav : Sound) (client : Client) (c : Plain) (m : Marks) → Onward p x y m c
+  pub prepare-after : (wav : Sound) (client : Client) (c : PlaybackStream) (m : Marks) → Onward p x y m c
       → Leads p g (λ n (done : Client × Answer). After p x y client c n done.0) m (call_of wav m c op.Prepare >>= λ done. ends (after_call client c op.Prepare done))
   unfolding ◌>>=◌
   prepare-after wav client c m is = by_refusal (refusal_of Playback c.status call.Prepare)
@@ -104,10 +104,10 @@ module _ (p : ℕ) (g : Geometry) (x y : ℕ) where
       by_refusal (Some e) = (is, inl (append-nil client.ended))
 
   -- a resume that leaves a paused client in another state goes on past each frame that the cursor reached
-  pub resume-past : (wav : Sound) (c : Plain) (m : Marks) → Channels c.setup.bindings → is_paused c.status.state ≡ true → x ≤ max p (free_frame m)
+  pub resume-past : (wav : Sound) (c : PlaybackStream) (m : Marks) → Channels c.setup.bindings → is_paused c.status.state ≡ true → x ≤ max p (free_frame m)
       → free_frame m ≤ high_end m → y ≤ high_end m
-      → Leads p g (λ n (done : Plain × Answer). is_paused done.0.status.state ≡ false → Onward p x y n done.0) m (call_of wav m c op.Resume)
-  resume-past wav c m bound paused low top high = Leads-then p g Q (λ n (done : Plain × Answer). is_paused done.0.status.state ≡ false → Onward p x y n done.0) m
+      → Leads p g (λ n (done : PlaybackStream × Answer). is_paused done.0.status.state ≡ false → Onward p x y n done.0) m (call_of wav m c op.Resume)
+  resume-past wav c m bound paused low top high = Leads-then p g Q (λ n (done : PlaybackStream × Answer). is_paused done.0.status.state ≡ false → Onward p x y n done.0) m
       (admitted c call.Resume (pause_course false c [] m.cursor)) (λ done. ends (done.0, done_answer done.1)) (by_refusal (refusal_of Playback c.status call.Resume)) (λ n done is. is)
     where
       Q : Marks → Answered (Unit {0}) → Type 0
@@ -132,7 +132,7 @@ Leads-both p g R Q m (lays e next) one two = (
 Leads-both p g R Q m (gets frame next) one two = λ got. Leads-both p g R Q m (next got) (one got) (two got)
 
 -- a line ends no stretch in which nothing is placed
-pub none-ends : (asked : Op) (answer : Answer) (c d : Plain) → stretch_of c ≡ [] → ended_by asked answer c d ≡ []
+pub none-ends : (asked : Op) (answer : Answer) (c d : PlaybackStream) → stretch_of c ≡ [] → ended_by asked answer c d ≡ []
 none-ends op.Prepare Done c d none = none
 none-ends op.Resume answer c d none = by_test (is_paused c.status.state && not (is_paused d.status.state))
   where
@@ -142,16 +142,16 @@ none-ends op.Resume answer c d none = by_test (is_paused c.status.state && not (
 none-ends other answer c d none = refl
 
 -- nor does a resume of a client that isn't paused
-pub unpaused-ends : (answer : Answer) (c d : Plain) → is_paused c.status.state ≡ false → ended_by op.Resume answer c d ≡ []
+pub unpaused-ends : (answer : Answer) (c d : PlaybackStream) → is_paused c.status.state ≡ false → ended_by op.Resume answer c d ≡ []
 unpaused-ends answer c d not = rw not refl
 
 module _ (p : ℕ) (g : Geometry) (x y : ℕ) where
-  pub resume-after : (wav : Sound) (client : Client) (c : Plain) (m : Marks) → Onward p x y m c
+  pub resume-after : (wav : Sound) (client : Client) (c : PlaybackStream) (m : Marks) → Onward p x y m c
       → Leads p g (λ n (done : Client × Answer). After p x y client c n done.0) m (call_of wav m c op.Resume >>= λ done. ends (after_call client c op.Resume done))
   resume-after wav client c m (inr waits) = call-after p g x y wav client c op.Resume m (λ answer d. none-ends op.Resume answer c d (rw (waits-none p x y m c waits) refl)) (inr waits)
   resume-after wav client c m (inl begun) = by_test (nat_eq c.stretch.committed 0 && nat_eq c.stretch.part 0) refl (is_paused c.status.state) refl
     where
-      by_state : (n : Marks) (d : Plain) (paused : Bool) → is_paused d.status.state ≡ paused → (nat_eq c.stretch.committed 0 && nat_eq c.stretch.part 0) ≡ false
+      by_state : (n : Marks) (d : PlaybackStream) (paused : Bool) → is_paused d.status.state ≡ paused → (nat_eq c.stretch.committed 0 && nat_eq c.stretch.part 0) ≡ false
           → is_paused c.status.state ≡ true → Onward p x y n d → (is_paused d.status.state ≡ false → Onward p (end_of c) (end_of c) n d)
           → After p x y client c n (record { own = Some d; ended = client.ended ++ (if is_paused c.status.state && not (is_paused d.status.state) then stretch_of c else []) })
       by_state n d true is some was goes past = (goes, inl (append-none client.ended _ (rw was (rw is refl))))
@@ -163,9 +163,9 @@ module _ (p : ℕ) (g : Geometry) (x y : ℕ) where
       by_test false none false is = call-after p g x y wav client c op.Resume m (λ answer d. unpaused-ends answer c d is) (inl begun)
       by_test false none true is =
           let end : end_of c ≤ free_frame m = ends-reached p x y m c begun none in
-          Leads-then p g (λ n (done : Plain × Answer). OnwardAfter p x y n done × (is_paused done.0.status.state ≡ false → Onward p (end_of c) (end_of c) n done.0))
+          Leads-then p g (λ n (done : PlaybackStream × Answer). OnwardAfter p x y n done × (is_paused done.0.status.state ≡ false → Onward p (end_of c) (end_of c) n done.0))
           (λ n (done : Client × Answer). After p x y client c n done.0) m (call_of wav m c op.Resume) (λ done. ends (after_call client c op.Resume done))
-          (Leads-both p g (OnwardAfter p x y) (λ n (done : Plain × Answer). is_paused done.0.status.state ≡ false → Onward p (end_of c) (end_of c) n done.0) m (call_of wav m c op.Resume)
+          (Leads-both p g (OnwardAfter p x y) (λ n (done : PlaybackStream × Answer). is_paused done.0.status.state ≡ false → Onward p (end_of c) (end_of c) n done.0) m (call_of wav m c op.Resume)
           (call-goes p g x y wav c op.Resume m (inl begun))
           (resume-past p g (end_of c) (end_of c) wav c m begun.bound is (max-least (end_of c) (free_frame m) p end) begun.lies.top (omega (arith, end, begun.lies.top))))
           (λ n done both. by_state n done.0 (is_paused done.0.status.state) refl none is both.0 both.1)
@@ -208,7 +208,7 @@ module _ (rules : Rules) (p : ℕ) (least : (q : ℕ) → Contains rules.publish
       (sym (ap (λ (k : AtPort). k.marks) step.4 ∙ stop-marks (with_asks step.0 a))) (leads got.Stopped)) rest
 
 -- how a line begins moves no marks
-pub begins-marks : (own : Option Plain) (asked : Op) (a : AtPort) → (begins own asked a).marks ≡ a.marks
+pub begins-marks : (own : Option PlaybackStream) (asked : Op) (a : AtPort) → (begins own asked a).marks ≡ a.marks
 begins-marks None asked a = refl
 begins-marks (Some c) asked a = by_stop c.status.stopped asked
   where
@@ -218,7 +218,7 @@ begins-marks (Some c) asked a = by_stop c.status.stopped asked
 
 -- a line of an open client
 module _ (rules : Rules) (p : ℕ) (least : (q : ℕ) → Contains rules.published q → p ≤ q) (x y : ℕ) where
-  pub line-after : (phase : ℕ) (wav : Sound) (number : ℕ) (a b : AtPort) (client after : Client) (asked : Op) (answer : Answer) (c : Plain) → client.own ≡ Some c
+  pub line-after : (phase : ℕ) (wav : Sound) (number : ℕ) (a b : AtPort) (client after : Client) (asked : Op) (answer : Answer) (c : PlaybackStream) → client.own ≡ Some c
       → Onward p x y a.marks c → LineMay (client_kind phase wav number) rules (a, client) asked (b, after) answer → After p x y client c b.marks after
   line-after phase wav number a b client after asked answer c is onward may =
       Takes-leads rules p least (λ n (done : Client × Answer). After p x y client c n done.0) (begins client.own asked a) b
@@ -232,7 +232,7 @@ module _ (rules : Rules) (p : ℕ) (least : (q : ℕ) → Contains rules.publish
       goes = subst (λ (k : Marks). Onward p x y k c) (sym (begins-marks client.own asked a)) onward
 
       stays : After p x y client c m client
-      stays = (subst (λ (own : Option Plain). InOpen own (Onward p x y m)) (sym is) goes, inl refl)
+      stays = (subst (λ (own : Option PlaybackStream). InOpen own (Onward p x y m)) (sym is) goes, inl refl)
 
       by_op : (o : Op) → Leads p rules.at.ring (λ n (done : Client × Answer). After p x y client c n done.0) m (line_if false wav m client c o)
       by_op (op.Die k) = stays

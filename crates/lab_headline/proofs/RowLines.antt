@@ -8,8 +8,8 @@ use Rattle.snd_base.specs.declared.errors.PcmError.{PcmError}
 use Rattle.snd_base.specs.declared.errors.PcmError.TheVariants as error
 use Rattle.snd_base.specs.declared.errors.XrunWhy.TheVariants as why
 use Rattle.wav_io.specs.Sound.{Sound}
-use Rattle.dmix_client.specs.declared.plain.Plain.{Plain}
-use Rattle.dsnoop_client.specs.declared.plain.Plain as reading
+use Rattle.dmix_client.specs.declared.stream.PlaybackStream.{PlaybackStream}
+use Rattle.dsnoop_client.specs.declared.stream.CaptureStream as reading
 use Rattle.dshare.specs.Owners as owners
 use Rattle.lab_script.specs.declared.line.Actor.TheVariants as actor
 use Rattle.lab_script.specs.declared.line.Item.{Item}
@@ -104,7 +104,7 @@ IsFirst rows all = (later : List Row) × (all ≡ rows ++ later)
 first-more : (rows more all : List Row) → IsFirst (rows ++ more) all → IsFirst rows all
 first-more rows more all (later, is) = (more ++ later, is ∙ append_assoc rows more later)
 
-open-first : (session : Session) (stage : Stage) (n : ℕ) (x : AtPort × Client) (own : Option Plain) (all : List Row) → IsFirst (open_client session stage n x own).rows all → IsFirst stage.rows all
+open-first : (session : Session) (stage : Stage) (n : ℕ) (x : AtPort × Client) (own : Option PlaybackStream) (all : List Row) → IsFirst (open_client session stage n x own).rows all → IsFirst stage.rows all
 open-first session stage n x (Some c) all = first-more stage.rows _ all
 open-first session stage n x None all = by_setup (slice_index_or session.clients n None)
   where
@@ -120,11 +120,11 @@ open-first session stage n x None all = by_setup (slice_index_or session.clients
     by_setup None is = first-more stage.rows _ all is
     by_setup (Some setup) is = by_claim setup (claim_refusal session.card.share stage.claims setup.bindings stage.position) is
 
-close-first : (session : Session) (stage : Stage) (n : ℕ) (x : AtPort × Client) (own : Option Plain) (all : List Row) → IsFirst (close_client session stage n x own).rows all → IsFirst stage.rows all
+close-first : (session : Session) (stage : Stage) (n : ℕ) (x : AtPort × Client) (own : Option PlaybackStream) (all : List Row) → IsFirst (close_client session stage n x own).rows all → IsFirst stage.rows all
 close-first session stage n x None all is = first-more stage.rows _ all is
 close-first session stage n x (Some c) all is = first-more stage.rows _ all is
 
-open_reader-first : (session : Session) (stage : Stage) (n : ℕ) (x : AtPort × Reader) (own : Option reading.Plain) (all : List Row)
+open_reader-first : (session : Session) (stage : Stage) (n : ℕ) (x : AtPort × Reader) (own : Option reading.CaptureStream) (all : List Row)
     → IsFirst (open_reader session stage n x own).rows all → IsFirst stage.rows all
 open_reader-first session stage n x (Some r) all = first-more stage.rows _ all
 open_reader-first session stage n x None all = by_setup (slice_index_or session.readers n None)
@@ -133,7 +133,7 @@ open_reader-first session stage n x None all = by_setup (slice_index_or session.
     by_setup None is = first-more stage.rows _ all is
     by_setup (Some setup) is = first-more stage.rows _ all is
 
-close_reader-first : (session : Session) (stage : Stage) (n : ℕ) (x : AtPort × Reader) (own : Option reading.Plain) (all : List Row)
+close_reader-first : (session : Session) (stage : Stage) (n : ℕ) (x : AtPort × Reader) (own : Option reading.CaptureStream) (all : List Row)
     → IsFirst (close_reader session stage n x own).rows all → IsFirst stage.rows all
 close_reader-first session stage n x None all is = first-more stage.rows _ all is
 close_reader-first session stage n x (Some r) all is = first-more stage.rows _ all is
@@ -179,7 +179,7 @@ module _ (session : Session) (body : List Item) (all : List Row) (late : LateLin
   cards-P phase position [] = tt
   cards-P phase position (asked ∷ more) = (card-P phase position asked, cards-P phase (position + played_by asked) more)
 
-  reader-P : (phase number : ℕ) (asked : Op) (own : Option reading.Plain) (answer : Answer) → P (readers.row_by phase number asked own answer)
+  reader-P : (phase number : ℕ) (asked : Op) (own : Option reading.CaptureStream) (answer : Answer) → P (readers.row_by phase number asked own answer)
   reader-P phase number asked None answer = of-other _ (λ n who. absurd (cc))
   reader-P phase number asked (Some r) answer = of-other _ (λ n who. absurd (cc))
 
@@ -197,15 +197,15 @@ module _ (session : Session) (body : List Item) (all : List Row) (late : LateLin
       (reader-rows stage rules ops (number + 1) actors others other_rows rest))
 
   -- the row of a client's line
-  row-actor : (phase n : ℕ) (asked : Op) (own : Option Plain) (answer : Answer) → (row_by phase n asked own answer).actor ≡ actor.Client n
+  row-actor : (phase n : ℕ) (asked : Op) (own : Option PlaybackStream) (answer : Answer) → (row_by phase n asked own answer).actor ≡ actor.Client n
   row-actor phase n asked None answer = refl
   row-actor phase n asked (Some c) answer = refl
 
-  row-op : (phase n : ℕ) (asked : Op) (own : Option Plain) (answer : Answer) → (row_by phase n asked own answer).op ≡ asked
+  row-op : (phase n : ℕ) (asked : Op) (own : Option PlaybackStream) (answer : Answer) → (row_by phase n asked own answer).op ≡ asked
   row-op phase n asked None answer = refl
   row-op phase n asked (Some c) answer = refl
 
-  row-answer : (phase n : ℕ) (asked : Op) (own : Option Plain) (answer : Answer) → (row_by phase n asked own answer).answer ≡ answer
+  row-answer : (phase n : ℕ) (asked : Op) (own : Option PlaybackStream) (answer : Answer) → (row_by phase n asked own answer).answer ≡ answer
   row-answer phase n asked None answer = refl
   row-answer phase n asked (Some c) answer = refl
 
@@ -278,7 +278,7 @@ module _ (session : Session) (body : List Item) (all : List Row) (late : LateLin
   one-more : (rows : List Row) (row : Row) → AllByRecursion P rows → P row → AllByRecursion P (rows ++ row ∷ [])
   one-more rows row are is = rows-append P rows (row ∷ []) are (is, tt)
 
-  open-rows : (stage : Stage) (n : ℕ) (x : AtPort × Client) (own : Option Plain) → AllByRecursion P stage.rows → AllByRecursion P (open_client session stage n x own).rows
+  open-rows : (stage : Stage) (n : ℕ) (x : AtPort × Client) (own : Option PlaybackStream) → AllByRecursion P stage.rows → AllByRecursion P (open_client session stage n x own).rows
   open-rows stage n x (Some c) are = one-more stage.rows _ are (answered-other _ (λ frame channel is. absurd (cc)))
   open-rows stage n x None are = by_setup (slice_index_or session.clients n None)
     where
@@ -295,11 +295,11 @@ module _ (session : Session) (body : List Item) (all : List Row) (late : LateLin
       by_setup (Some setup) = by_claim setup (claim_refusal session.card.share stage.claims setup.bindings stage.position)
           (claim-early session.card.share stage.claims setup.bindings stage.position)
 
-  close-rows : (stage : Stage) (n : ℕ) (x : AtPort × Client) (own : Option Plain) → AllByRecursion P stage.rows → AllByRecursion P (close_client session stage n x own).rows
+  close-rows : (stage : Stage) (n : ℕ) (x : AtPort × Client) (own : Option PlaybackStream) → AllByRecursion P stage.rows → AllByRecursion P (close_client session stage n x own).rows
   close-rows stage n x None are = one-more stage.rows _ are (answered-other _ (λ frame channel is. absurd (cc)))
   close-rows stage n x (Some c) are = one-more stage.rows _ are (answered-other _ (λ frame channel is. absurd (cc)))
 
-  open_reader-rows : (stage : Stage) (n : ℕ) (x : AtPort × Reader) (own : Option reading.Plain) → AllByRecursion P stage.rows → AllByRecursion P (open_reader session stage n x own).rows
+  open_reader-rows : (stage : Stage) (n : ℕ) (x : AtPort × Reader) (own : Option reading.CaptureStream) → AllByRecursion P stage.rows → AllByRecursion P (open_reader session stage n x own).rows
   open_reader-rows stage n x (Some r) are = one-more stage.rows _ are (of-other _ (λ number who. absurd (cc)))
   open_reader-rows stage n x None are = by_setup (slice_index_or session.readers n None)
     where
@@ -307,7 +307,7 @@ module _ (session : Session) (body : List Item) (all : List Row) (late : LateLin
       by_setup None = one-more stage.rows _ are (of-other _ (λ number who. absurd (cc)))
       by_setup (Some setup) = one-more stage.rows _ are (of-other _ (λ number who. absurd (cc)))
 
-  close_reader-rows : (stage : Stage) (n : ℕ) (x : AtPort × Reader) (own : Option reading.Plain) → AllByRecursion P stage.rows → AllByRecursion P (close_reader session stage n x own).rows
+  close_reader-rows : (stage : Stage) (n : ℕ) (x : AtPort × Reader) (own : Option reading.CaptureStream) → AllByRecursion P stage.rows → AllByRecursion P (close_reader session stage n x own).rows
   close_reader-rows stage n x None are = one-more stage.rows _ are (of-other _ (λ number who. absurd (cc)))
   close_reader-rows stage n x (Some r) are = one-more stage.rows _ are (of-other _ (λ number who. absurd (cc)))
 

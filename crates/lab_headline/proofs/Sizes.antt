@@ -3,8 +3,8 @@ use Rattle.std.proofs.Common.{◌≡◌, ℕ, ◌+◌, refl, ◌∙◌, ap, List
 use Rattle.std.proofs.lemmas.List.{length-set}
 use Rattle.std.specs.Prelude.{map, suc, slice_index_or, slice_set, Result, Ok, Err}
 use Rattle.snd_base.specs.declared.errors.PcmError.{PcmError}
-use Rattle.dmix_client.specs.declared.plain.Plain.{Plain}
-use Rattle.dsnoop_client.specs.declared.plain.Plain as reading
+use Rattle.dmix_client.specs.declared.stream.PlaybackStream.{PlaybackStream}
+use Rattle.dsnoop_client.specs.declared.stream.CaptureStream as reading
 use Rattle.lab_script.specs.declared.line.Actor.TheVariants as actor
 use Rattle.lab_script.specs.declared.line.Item.{Item}
 use Rattle.lab_script.specs.declared.line.Item.TheVariants as item
@@ -38,7 +38,7 @@ with-client stage after n x clients readers = record { clients = ap length clien
 with-reader : (stage after : Stage) (n : ℕ) (x : AtPort × Reader) → after.clients ≡ stage.clients → after.readers ≡ slice_set stage.readers n x → AreAsMany stage after
 with-reader stage after n x clients readers = record { clients = ap length clients; readers = ap length readers ∙ length-set stage.readers n x }
 
-open_client-size : (session : Session) (stage : Stage) (n : ℕ) (x : AtPort × Client) (own : Option Plain) → AreAsMany stage (open_client session stage n x own)
+open_client-size : (session : Session) (stage : Stage) (n : ℕ) (x : AtPort × Client) (own : Option PlaybackStream) → AreAsMany stage (open_client session stage n x own)
 open_client-size session stage n x (Some c) = as-before stage _ refl refl
 open_client-size session stage n x None = by_setup (slice_index_or session.clients n None)
   where
@@ -54,7 +54,7 @@ open_client-size session stage n x None = by_setup (slice_index_or session.clien
     by_setup None = as-before stage _ refl refl
     by_setup (Some setup) = by_claim setup (claim_refusal session.card.share stage.claims setup.bindings stage.position)
 
-open_reader-size : (session : Session) (stage : Stage) (n : ℕ) (x : AtPort × Reader) (own : Option reading.Plain) → AreAsMany stage (open_reader session stage n x own)
+open_reader-size : (session : Session) (stage : Stage) (n : ℕ) (x : AtPort × Reader) (own : Option reading.CaptureStream) → AreAsMany stage (open_reader session stage n x own)
 open_reader-size session stage n x (Some r) = as-before stage _ refl refl
 open_reader-size session stage n x None = by_setup (slice_index_or session.readers n None)
   where
@@ -62,11 +62,11 @@ open_reader-size session stage n x None = by_setup (slice_index_or session.reade
     by_setup None = as-before stage _ refl refl
     by_setup (Some setup) = with-reader stage _ n _ refl refl
 
-close_client-size : (session : Session) (stage : Stage) (n : ℕ) (x : AtPort × Client) (own : Option Plain) → AreAsMany stage (close_client session stage n x own)
+close_client-size : (session : Session) (stage : Stage) (n : ℕ) (x : AtPort × Client) (own : Option PlaybackStream) → AreAsMany stage (close_client session stage n x own)
 close_client-size session stage n x None = as-before stage _ refl refl
 close_client-size session stage n x (Some c) = with-client stage _ n _ refl refl
 
-close_reader-size : (session : Session) (stage : Stage) (n : ℕ) (x : AtPort × Reader) (own : Option reading.Plain) → AreAsMany stage (close_reader session stage n x own)
+close_reader-size : (session : Session) (stage : Stage) (n : ℕ) (x : AtPort × Reader) (own : Option reading.CaptureStream) → AreAsMany stage (close_reader session stage n x own)
 close_reader-size session stage n x None = as-before stage _ refl refl
 close_reader-size session stage n x (Some r) = with-reader stage _ n _ refl refl
 

@@ -12,9 +12,9 @@ use Rattle.snd_base.specs.Places.{first_frame, first_free}
 use Rattle.mix_core.specs.declared.marks.Marks.{Marks}
 use Rattle.mix_core.specs.Marks.{high_frame, is_before, last_before, start_marks, start_of}
 use Rattle.wav_io.specs.Sound.{Sound}
-use Rattle.dmix_client.specs.declared.plain.Plain.{Plain}
+use Rattle.dmix_client.specs.declared.stream.PlaybackStream.{PlaybackStream}
 use Rattle.dmix_client.specs.Calls.{segment_of}
-use Rattle.dsnoop_client.specs.declared.plain.Plain as reading
+use Rattle.dsnoop_client.specs.declared.stream.CaptureStream as reading
 use Rattle.dshare.specs.Owners.{AreFree, Row as Claim, claimed, has_channel, last_frames, released}
 use Rattle.lab_script.specs.declared.line.Actor.TheVariants as actor
 use Rattle.lab_script.specs.declared.line.Item.{Item}
@@ -152,16 +152,16 @@ each-forall Q (s ∷ xs) each = (λ a. (each a).0, each-forall Q xs (λ a. (each
 
 -- ---- from one stage to the next
 
-if-map : (F G : Plain → Type 0) (own : Option Plain) → ((c : Plain) → F c → G c) → IfSome own F → IfSome own G
+if-map : (F G : PlaybackStream → Type 0) (own : Option PlaybackStream) → ((c : PlaybackStream) → F c → G c) → IfSome own F → IfSome own G
 if-map F G None map is = tt
 if-map F G (Some c) map is = map c is
 
-in-map : (F G : Plain → Type 0) (own : Option Plain) → ((c : Plain) → F c → G c) → InOpen own F → InOpen own G
+in-map : (F G : PlaybackStream → Type 0) (own : Option PlaybackStream) → ((c : PlaybackStream) → F c → G c) → InOpen own F → InOpen own G
 in-map F G None map is = is
 in-map F G (Some c) map is = map c is
 
 -- an open client has its channels
-pub open-has : (bindings : List ℕ) (own : Option Plain) (c : Plain) (channel : ℕ) → own ≡ Some c → HasBindings bindings own → has_channel bindings channel ≡ true
+pub open-has : (bindings : List ℕ) (own : Option PlaybackStream) (c : PlaybackStream) (channel : ℕ) → own ≡ Some c → HasBindings bindings own → has_channel bindings channel ≡ true
     → has_channel (channels_of own) channel ≡ true
 open-has bindings own c channel is bound has =
     let same : c.setup.bindings ≡ bindings = subst (HasBindings bindings) is bound in rw is (rw same has)
@@ -172,18 +172,18 @@ module _ (session : Session) (stage : Stage) (shares : Shares session stage) (so
     (closed : (n : ℕ) → (client_at session stage n).1.own ≡ None → (at session clients n).1 ≡ (client_at session stage n).1)
     (going : (n : ℕ) → GoesAt session stage.clients claims stage.position n (at session clients n)) where
   -- two clients with a channel in common aren't both open
-  one-closed : (n k : ℕ) (c d : Plain) → (n ≡ k → ⊥) → Meets session n k → (client_at session stage n).1.own ≡ Some c → (client_at session stage k).1.own ≡ Some d → ⊥
+  one-closed : (n k : ℕ) (c d : PlaybackStream) → (n ≡ k → ⊥) → Meets session n k → (client_at session stage n).1.own ≡ Some c → (client_at session stage k).1.own ≡ Some d → ⊥
   one-closed n k c d other (channel, one, two) first second =
       false≢true (sym (shares.apart n k other channel (open-has (bound_of session n) (client_at session stage n).1.own c channel first (sole.going n).bound one))
       ∙ open-has (bound_of session k) (client_at session stage k).1.own d channel second (sole.going k).bound two)
 
   -- where a client is open, those with a channel in common are as they were
-  others-same : (n k : ℕ) → (n ≡ k → ⊥) → Meets session n k → (own : Option Plain) → (client_at session stage n).1.own ≡ own
+  others-same : (n k : ℕ) → (n ≡ k → ⊥) → Meets session n k → (own : Option PlaybackStream) → (client_at session stage n).1.own ≡ own
       → ((at session clients n).1 ≡ (client_at session stage n).1) ⊎ ((at session clients k).1 ≡ (client_at session stage k).1)
   others-same n k other meets None is = inl (closed n is)
   others-same n k other meets (Some c) is = by_other (client_at session stage k).1.own refl
     where
-      by_other : (own : Option Plain) → (client_at session stage k).1.own ≡ own
+      by_other : (own : Option PlaybackStream) → (client_at session stage k).1.own ≡ own
           → ((at session clients n).1 ≡ (client_at session stage n).1) ⊎ ((at session clients k).1 ≡ (client_at session stage k).1)
       by_other None there = inr (closed k there)
       by_other (Some d) there = absurd (one-closed n k c d other meets is there)
@@ -209,20 +209,20 @@ module _ (session : Session) (stage : Stage) (shares : Shares session stage) (so
   next-old n e (inl is) = (going n).old e (inl is)
   next-old n e (inr (k, other, meets, among)) = by_own (at session clients n).1.own refl
     where
-      by_own : (own : Option Plain) → (at session clients n).1.own ≡ own → IfSome own (λ c. Onward stage.position e 0 (at session clients n).0.marks c)
+      by_own : (own : Option PlaybackStream) → (at session clients n).1.own ≡ own → IfSome own (λ c. Onward stage.position e 0 (at session clients n).0.marks c)
       by_own None is = tt
       by_own (Some c) is = subst (λ o. IfSome o (λ c. Onward stage.position e 0 (at session clients n).0.marks c)) is ((going n).old e (inr (k, other, meets, by_stage (client_at session stage n).1.own refl)))
         where
-          by_same : ((at session clients n).1 ≡ (client_at session stage n).1) ⊎ ((at session clients k).1 ≡ (client_at session stage k).1) → (d : Plain)
+          by_same : ((at session clients n).1 ≡ (client_at session stage n).1) ⊎ ((at session clients k).1 ≡ (client_at session stage k).1) → (d : PlaybackStream)
               → (client_at session stage n).1.own ≡ Some d → Among e (client_at session stage k).1.ended
           by_same (inr same) d there = subst (λ (x : Client). Among e x.ended) same among
           by_same (inl same) d there = elim_k (client_at session stage k).1.own refl
             where
-              elim_k : (own : Option Plain) → (client_at session stage k).1.own ≡ own → Among e (client_at session stage k).1.ended
+              elim_k : (own : Option PlaybackStream) → (client_at session stage k).1.own ≡ own → Among e (client_at session stage k).1.ended
               elim_k None closed_k = subst (λ (x : Client). Among e x.ended) (closed k closed_k) among
               elim_k (Some b) open_k = absurd (one-closed n k d b other meets there open_k)
 
-          by_stage : (own : Option Plain) → (client_at session stage n).1.own ≡ own → Among e (client_at session stage k).1.ended
+          by_stage : (own : Option PlaybackStream) → (client_at session stage n).1.own ≡ own → Among e (client_at session stage k).1.ended
           by_stage None there = absurd (false≢true (sym (ap is_some (sym is ∙ ap (λ (x : Client). x.own) (closed n there) ∙ there))))
           by_stage (Some d) there = by_same (others-same n k other meets (client_at session stage n).1.own refl) d there
 
@@ -243,7 +243,7 @@ module _ (session : Session) (stage : Stage) (shares : Shares session stage) (so
     };
   }
     where
-      later-on : (n x y : ℕ) (c : Plain) → Onward stage.position x y (at session clients n).0.marks c → Onward position x y (at session clients n).0.marks c
+      later-on : (n x y : ℕ) (c : PlaybackStream) → Onward stage.position x y (at session clients n).0.marks c → Onward position x y (at session clients n).0.marks c
       later-on n x y c = onward-less stage.position position x y x y (at session clients n).0.marks c later (omega arith) (omega arith)
 
       later-settled : (n : ℕ) (s : Segment) → Settled session claims n s ⊎ InOpen (at session clients n).1.own (λ c. Onward stage.position 0 (seg_end s) (at session clients n).0.marks c)
@@ -295,7 +295,7 @@ module _ (session : Session) (share : session.card.share ≡ Dshare) where
   reaped-heard number x false held channel e heard = heard
   reaped-heard number x true held channel e heard = by_own x.1.own refl
     where
-      by_own : (own : Option Plain) → x.1.own ≡ own → Heard (reaped_one session number x true held).claims channel e
+      by_own : (own : Option PlaybackStream) → x.1.own ≡ own → Heard (reaped_one session number x true held).claims channel e
       by_own None is = rw is heard
       by_own (Some c) is = rw is (rw share (released-heard c.setup.bindings (high_frame session.ring x.0.marks) held.claims channel e heard))
 
@@ -305,12 +305,12 @@ module _ (session : Session) (share : session.card.share ≡ Dshare) where
       held-heard (number + 1) clients (reaped_one session number x (is_stopped x.1.own) held) channel e (reaped-heard number x (is_stopped x.1.own) held channel e heard)
 
   -- a client that was stopped leaves its last frame
-  stopped-one : (number : ℕ) (x : AtPort × Client) (held : Held) (c : Plain) (channel e : ℕ) → x.1.own ≡ Some c → has_channel c.setup.bindings channel ≡ true
+  stopped-one : (number : ℕ) (x : AtPort × Client) (held : Held) (c : PlaybackStream) (channel e : ℕ) → x.1.own ≡ Some c → has_channel c.setup.bindings channel ≡ true
       → first_frame session.ring < e → e ≤ high_end x.0.marks → Heard (reaped_one session number x true held).claims channel e
   stopped-one number x held c channel e is has after most =
       rw is (rw share (high-heard session.ring x.0.marks c.setup.bindings held.claims channel e has after most))
 
-  stopped-heard : (number i : ℕ) (clients : List (AtPort × Client)) (held : Held) (c : Plain) (channel e : ℕ) → (at session clients i).1.own ≡ Some c → is_stopped (Some c) ≡ true
+  stopped-heard : (number i : ℕ) (clients : List (AtPort × Client)) (held : Held) (c : PlaybackStream) (channel e : ℕ) → (at session clients i).1.own ≡ Some c → is_stopped (Some c) ≡ true
       → has_channel c.setup.bindings channel ≡ true → first_frame session.ring < e → e ≤ high_end (at session clients i).0.marks
       → Heard (held_after session number clients held).claims channel e
   stopped-heard number i [] held c channel e is stops has after most = absurd (false≢true (ap is_some is))
@@ -321,9 +321,9 @@ module _ (session : Session) (share : session.card.share ≡ Dshare) where
 
 -- ---- a client that ends
 
-module _ (session : Session) (clients : List (AtPort × Client)) (claims : List Claim) (position n : ℕ) (a : AtPort) (client : Client) (c : Plain) (is : client.own ≡ Some c)
+module _ (session : Session) (clients : List (AtPort × Client)) (claims : List Claim) (position n : ℕ) (a : AtPort) (client : Client) (c : PlaybackStream) (is : client.own ≡ Some c)
     (placed : IsPlaced c) (going : GoesAt session clients claims position n (a, client)) where
-  own-fact : (F : Plain → Type 0) → IfSome client.own F → F c
+  own-fact : (F : PlaybackStream → Type 0) → IfSome client.own F → F c
   own-fact F there = subst (λ o. IfSome o F) is there
 
   old-past : (e : ℕ) → Old session clients n e → e ≤ c.stretch.card
@@ -343,7 +343,7 @@ module _ (session : Session) (clients : List (AtPort × Client)) (claims : List 
       (λ s there. placed-past position (seg_end s) 0 a.marks c placed (own-fact (λ d. Onward position (seg_end s) 0 a.marks d) there)) going.own)
 
 -- all segments of a client rise, and are new
-pub all-segments : (session : Session) (clients : List (AtPort × Client)) (claims : List Claim) (position n : ℕ) (a : AtPort) (client : Client) (own : Option Plain) → client.own ≡ own
+pub all-segments : (session : Session) (clients : List (AtPort × Client)) (claims : List Claim) (position n : ℕ) (a : AtPort) (client : Client) (own : Option PlaybackStream) → client.own ≡ own
     → GoesAt session clients claims position n (a, client)
     → Ascends (client.ended ++ present_of own) × AllByRecursion (New session clients n) (client.ended ++ present_of own)
 all-segments session clients claims position n a client None is going =
@@ -376,13 +376,13 @@ module _ (session : Session) (clients : List (AtPort × Client)) (claims more : 
       keeps s (inl is) = inl (λ channel has. grows channel (seg_end s) (is channel has))
       keeps s (inr is) = inr is
 
-  ended-going : (a b : AtPort) (client : Client) (c : Plain) → client.own ≡ Some c
+  ended-going : (a b : AtPort) (client : Client) (c : PlaybackStream) → client.own ≡ Some c
       → ((channel e : ℕ) → has_channel (bound_of session n) channel ≡ true → first_frame session.ring < e → e ≤ high_end a.marks → Heard more channel e)
       → GoesAt session clients claims position n (a, client) → GoesAt session clients more position n (b, record { own = None; ended = segments_of client })
   ended-going a b client c is heard going = subst (λ own. GoesAt session clients more position n (b, record { own = None; ended = client.ended ++ present_of own })) (sym is)
       (by_placed (nat_eq c.stretch.committed 0 && nat_eq c.stretch.part 0) refl)
     where
-      some : (F : Plain → Type 0) → IfSome client.own F → F c
+      some : (F : PlaybackStream → Type 0) → IfSome client.own F → F c
       some F there = subst (λ o. IfSome o F) is there
 
       high : (e : ℕ) → Onward position 0 e a.marks c → e ≤ high_end a.marks
@@ -490,7 +490,7 @@ module _ (session : Session) (share : session.card.share ≡ Dshare) (stage : St
           here : GoesAt session stage.clients more stage.position n (at session ends n)
           here = grown session stage.clients stage.claims more stage.position n grows (at session ends n) (at-end n)
 
-          by_own : (own : Option Plain) → (at session ends n).1.own ≡ own → (stopped : Bool) → is_stopped (at session ends n).1.own ≡ stopped
+          by_own : (own : Option PlaybackStream) → (at session ends n).1.own ≡ own → (stopped : Bool) → is_stopped (at session ends n).1.own ≡ stopped
               → GoesAt session stage.clients more stage.position n (reaped_client_if stopped session.ring (at session ends n))
           by_own own is false stops = here
           by_own None is true stops = absurd (false≢true (sym (ap is_stopped is) ∙ stops))
@@ -501,12 +501,12 @@ module _ (session : Session) (share : session.card.share ≡ Dshare) (stage : St
 
   -- ---- a closing
 
-  set-own : (clients : List (AtPort × Client)) (n : ℕ) (x : AtPort × Client) (c : Plain) → (at session clients n).1.own ≡ Some c → at session (slice_set clients n x) n ≡ x
+  set-own : (clients : List (AtPort × Client)) (n : ℕ) (x : AtPort × Client) (c : PlaybackStream) → (at session clients n).1.own ≡ Some c → at session (slice_set clients n x) n ≡ x
   set-own [] n x c is = absurd (false≢true (ap is_some is))
   set-own (y ∷ clients) zero x c is = refl
   set-own (y ∷ clients) (suc n) x c is = set-own clients n x c is
 
-  close-sole : (n : ℕ) (c : Plain) → (client_at session stage n).1.own ≡ Some c
+  close-sole : (n : ℕ) (c : PlaybackStream) → (client_at session stage n).1.own ≡ Some c
       → Sole session (slice_set stage.clients n (ended_client session.ring (client_at session stage n)))
       (released c.setup.bindings (high_frame session.ring (client_at session stage n).0.marks) ∷ stage.claims) stage.position
   close-sole n c is = next-sole session stage shares sole clients more stage.position (omega arith) closed going
@@ -572,7 +572,7 @@ module _ (session : Session) (share : session.card.share ≡ Dshare) (stage : St
       before s (inl settled) = settled channel their stage.position (free-silent stage.claims stage.position (bound_of session n) channel free own)
       before s (inr is_open) = by_own (client_at session stage k).1.own refl is_open
         where
-          by_own : (own : Option Plain) → (client_at session stage k).1.own ≡ own → InOpen own (λ c. Onward stage.position 0 (seg_end s) (client_at session stage k).0.marks c)
+          by_own : (own : Option PlaybackStream) → (client_at session stage k).1.own ≡ own → InOpen own (λ c. Onward stage.position 0 (seg_end s) (client_at session stage k).0.marks c)
               → seg_end s ≤ stage.position
           by_own None is here = absurd here
           by_own (Some c) is here = absurd (false≢true (sym (ap is_some (free-unowned stage.claims stage.position (bound_of session n) channel free own))
@@ -688,7 +688,7 @@ module _ (session : Session) (share : session.card.share ≡ Dshare) (bound : (m
   SoleStage : Stage → Type 0
   SoleStage stage = Sole session stage.clients stage.claims stage.position
 
-  client-opens : (stage : Stage) (n : ℕ) (own : Option Plain) → (client_at session stage n).1.own ≡ own → Shares session stage
+  client-opens : (stage : Stage) (n : ℕ) (own : Option PlaybackStream) → (client_at session stage n).1.own ≡ own → Shares session stage
       → Sole session stage.clients stage.claims stage.position
       → (let after : Stage = open_client session stage n (client_at session stage n) own in Sole session after.clients after.claims after.position)
   client-opens stage n (Some c) is shares sole = sole
@@ -713,7 +713,7 @@ module _ (session : Session) (share : session.card.share ≡ Dshare) (bound : (m
       by_setup None there = sole
       by_setup (Some setup) there = by_claim setup there (claim_refusal session.card.share stage.claims setup.bindings stage.position) refl
 
-  client-closes : (stage : Stage) (n : ℕ) (own : Option Plain) → (client_at session stage n).1.own ≡ own → Shares session stage
+  client-closes : (stage : Stage) (n : ℕ) (own : Option PlaybackStream) → (client_at session stage n).1.own ≡ own → Shares session stage
       → Sole session stage.clients stage.claims stage.position
       → (let after : Stage = close_client session stage n (client_at session stage n) own in Sole session after.clients after.claims after.position)
   client-closes stage n None is shares sole = sole
@@ -721,7 +721,7 @@ module _ (session : Session) (share : session.card.share ≡ Dshare) (bound : (m
       (with_release s c.setup.bindings (high_frame session.ring (client_at session stage n).0.marks) stage.claims) stage.position) (sym share)
       (close-sole session share stage shares sole n c is)
 
-  reader-opens : (stage : Stage) (n : ℕ) (own : Option reading.Plain) → Sole session stage.clients stage.claims stage.position
+  reader-opens : (stage : Stage) (n : ℕ) (own : Option reading.CaptureStream) → Sole session stage.clients stage.claims stage.position
       → (let after : Stage = open_reader session stage n (reader_at session stage n) own in Sole session after.clients after.claims after.position)
   reader-opens stage n (Some r) sole = sole
   reader-opens stage n None sole = by_setup (slice_index_or session.readers n None)
@@ -730,7 +730,7 @@ module _ (session : Session) (share : session.card.share ≡ Dshare) (bound : (m
       by_setup None = sole
       by_setup (Some setup) = sole
 
-  reader-closes : (stage : Stage) (n : ℕ) (own : Option reading.Plain) → Sole session stage.clients stage.claims stage.position
+  reader-closes : (stage : Stage) (n : ℕ) (own : Option reading.CaptureStream) → Sole session stage.clients stage.claims stage.position
       → (let after : Stage = close_reader session stage n (reader_at session stage n) own in Sole session after.clients after.claims after.position)
   reader-closes stage n None sole = sole
   reader-closes stage n (Some r) sole = sole

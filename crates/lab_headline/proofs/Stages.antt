@@ -4,8 +4,8 @@ use Rattle.std.specs.Prelude.{Bool, true, false, zero, suc, map, slice_index_or,
 use Rattle.snd_base.specs.declared.errors.PcmError.{PcmError}
 use Rattle.snd_base.specs.declared.geometry.Geometry.{Geometry}
 use Rattle.wav_io.specs.Sound.{Sound}
-use Rattle.dmix_client.specs.declared.plain.Plain.{Plain}
-use Rattle.dsnoop_client.specs.declared.plain.Plain as reading
+use Rattle.dmix_client.specs.declared.stream.PlaybackStream.{PlaybackStream}
+use Rattle.dsnoop_client.specs.declared.stream.CaptureStream as reading
 use Rattle.lab_script.specs.declared.line.Actor.TheVariants as actor
 use Rattle.lab_script.specs.declared.line.Item.{Item}
 use Rattle.lab_script.specs.declared.line.Item.TheVariants as item
@@ -85,7 +85,7 @@ module _ (P : Option Setup → Client → Type 0) (kept : IsKept P) where
   client-so : (session : Session) (stage : Stage) (n : ℕ) → AreSo session 0 stage.clients → P (slice_index_or session.clients n None) (client_at session stage n).1
   client-so session stage n are = AreSo-at session 0 n n stage.clients (omega arith) are
 
-  open-kept : (session : Session) (stage : Stage) (n : ℕ) (own : Option Plain) → AreSo session 0 stage.clients
+  open-kept : (session : Session) (stage : Stage) (n : ℕ) (own : Option PlaybackStream) → AreSo session 0 stage.clients
       → AreSo session 0 (open_client session stage n (client_at session stage n) own).clients
   open-kept session stage n (Some c) are = are
   open-kept session stage n None are = by_setup (slice_index_or session.clients n None) refl
@@ -108,13 +108,13 @@ module _ (P : Option Setup → Client → Type 0) (kept : IsKept P) where
       by_setup None is = are
       by_setup (Some setup) is = by_claim setup is (claim_refusal session.card.share stage.claims setup.bindings stage.position)
 
-  close-kept : (session : Session) (stage : Stage) (n : ℕ) (own : Option Plain) → AreSo session 0 stage.clients
+  close-kept : (session : Session) (stage : Stage) (n : ℕ) (own : Option PlaybackStream) → AreSo session 0 stage.clients
       → AreSo session 0 (close_client session stage n (client_at session stage n) own).clients
   close-kept session stage n None are = are
   close-kept session stage n (Some c) are = AreSo-set session 0 n n stage.clients _ (omega arith)
       (kept.ends (slice_index_or session.clients n None) (client_at session stage n).1 (client-so session stage n are)) are
 
-  reader-opens : (session : Session) (stage : Stage) (n : ℕ) (own : Option reading.Plain)
+  reader-opens : (session : Session) (stage : Stage) (n : ℕ) (own : Option reading.CaptureStream)
       → (open_reader session stage n (reader_at session stage n) own).clients ≡ stage.clients
   reader-opens session stage n (Some r) = refl
   reader-opens session stage n None = by_setup (slice_index_or session.readers n None)
@@ -123,7 +123,7 @@ module _ (P : Option Setup → Client → Type 0) (kept : IsKept P) where
       by_setup None = refl
       by_setup (Some setup) = refl
 
-  reader-closes : (session : Session) (stage : Stage) (n : ℕ) (own : Option reading.Plain)
+  reader-closes : (session : Session) (stage : Stage) (n : ℕ) (own : Option reading.CaptureStream)
       → (close_reader session stage n (reader_at session stage n) own).clients ≡ stage.clients
   reader-closes session stage n None = refl
   reader-closes session stage n (Some r) = refl

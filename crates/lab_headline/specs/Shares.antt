@@ -1,14 +1,14 @@
 -- Clients that share a card by channels (alsa-lib's dshare): each has its own.
 use Rattle.std.specs.Prelude.{◌≡◌, ℕ, true, false, List, [], Option, Some, None}
 use Rattle.dshare.specs.Owners.{has_channel}
-use Rattle.dmix_client.specs.declared.plain.Plain.{Plain}
+use Rattle.dmix_client.specs.declared.stream.PlaybackStream.{PlaybackStream}
 use Rattle.lab_script.specs.declared.line.Item.{Item}
 use Rattle.lab_script.specs.declared.script.Share.TheVariants.{Dshare}
 use Rattle.lab_run.specs.Items.{ItemsMay}
 use Rattle.lab_run.specs.Stage.{Session, Stage, client_at, first_stage}
 
 -- the card's channels of an open client
-abbrev pub channels_of : Option Plain → List ℕ
+abbrev pub channels_of : Option PlaybackStream → List ℕ
 channels_of None = []
 channels_of (Some c) = c.setup.bindings
 

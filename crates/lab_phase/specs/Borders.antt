@@ -3,8 +3,8 @@ use Rattle.std.specs.Prelude.{◌≡◌, ℕ, zero, suc, ◌+◌, List, [], ◌�
 use Rattle.std.proofs.Common.{refl, sym, ap, subst, ◌∙◌}
 use Rattle.std.proofs.lemmas.List.{length-set}
 use Rattle.snd_base.specs.declared.errors.PcmError.{PcmError}
-use Rattle.dmix_client.specs.declared.plain.Plain.{Plain}
-use Rattle.dsnoop_client.specs.declared.plain.Plain as reading
+use Rattle.dmix_client.specs.declared.stream.PlaybackStream.{PlaybackStream}
+use Rattle.dsnoop_client.specs.declared.stream.CaptureStream as reading
 use Rattle.lab_run.specs.Claims.{claim_refusal}
 use Rattle.lab_run.specs.Client.{Client}
 use Rattle.lab_run.specs.Items.{held_of}
@@ -85,14 +85,14 @@ module _ (session : Session) (stage : Stage) (number : ℕ) where
   open_client_with-keeps None client same = keeps-clients _ (record { phases = refl; position = refl; gone = refl }) refl refl
   open_client_with-keeps (Some setup) client same = claimed_client-keeps setup client (claim_refusal session.card.share stage.claims setup.bindings stage.position) same
 
-  open_client-keeps : (own : Option Plain) → KeepsReaders stage (open_client session stage number (client_at session stage number) own)
+  open_client-keeps : (own : Option PlaybackStream) → KeepsReaders stage (open_client session stage number (client_at session stage number) own)
   open_client-keeps (Some c) = keeps-clients _ (record { phases = refl; position = refl; gone = refl }) refl refl
   open_client-keeps None = open_client_with-keeps (slice_index_or session.clients number None) (client_at session stage number) refl
 
   pub after_open-keeps_readers : KeepsReaders stage (open_client session stage number (client_at session stage number) (client_at session stage number).1.own)
   after_open-keeps_readers = open_client-keeps (client_at session stage number).1.own
 
-  close_client-keeps : (own : Option Plain) → KeepsReaders stage (close_client session stage number (client_at session stage number) own)
+  close_client-keeps : (own : Option PlaybackStream) → KeepsReaders stage (close_client session stage number (client_at session stage number) own)
   close_client-keeps None = keeps-clients _ (record { phases = refl; position = refl; gone = refl }) refl refl
   close_client-keeps (Some c) = keeps-set_client _ _ (record { phases = refl; position = refl; gone = refl }) refl refl refl
 
@@ -126,14 +126,14 @@ module _ (session : Session) (stage : Stage) (number : ℕ) where
   open_reader_with-keeps None reader same = keeps-readers _ (record { phases = refl; position = refl; gone = refl }) refl refl refl
   open_reader_with-keeps (Some setup) (a, reader) same = keeps-set_reader _ _ (record { phases = refl; position = refl; gone = refl }) refl refl refl same
 
-  open_reader-keeps : (own : Option reading.Plain) → KeepsClients stage (open_reader session stage number (reader_at session stage number) own)
+  open_reader-keeps : (own : Option reading.CaptureStream) → KeepsClients stage (open_reader session stage number (reader_at session stage number) own)
   open_reader-keeps (Some r) = keeps-readers _ (record { phases = refl; position = refl; gone = refl }) refl refl refl
   open_reader-keeps None = open_reader_with-keeps (slice_index_or session.readers number None) (reader_at session stage number) refl
 
   pub after_open-keeps_clients : KeepsClients stage (open_reader session stage number (reader_at session stage number) (reader_at session stage number).1.own)
   after_open-keeps_clients = open_reader-keeps (reader_at session stage number).1.own
 
-  close_reader-keeps : (own : Option reading.Plain) → KeepsClients stage (close_reader session stage number (reader_at session stage number) own)
+  close_reader-keeps : (own : Option reading.CaptureStream) → KeepsClients stage (close_reader session stage number (reader_at session stage number) own)
   close_reader-keeps None = keeps-readers _ (record { phases = refl; position = refl; gone = refl }) refl refl refl
   close_reader-keeps (Some r) = keeps-set_reader _ _ (record { phases = refl; position = refl; gone = refl }) refl refl refl refl
 

@@ -6,7 +6,7 @@ use Rattle.std.proofs.lemmas.List.{length-map, length-replicate}
 use Rattle.snd_base.specs.declared.errors.PcmError.{PcmError}
 use Rattle.snd_base.specs.declared.errors.PcmError.TheVariants.{Busy}
 use Rattle.mix_core.specs.Marks.{high_frame}
-use Rattle.dmix_client.specs.declared.plain.Plain.{Plain}
+use Rattle.dmix_client.specs.declared.stream.PlaybackStream.{PlaybackStream}
 use Rattle.lab_script.specs.declared.line.Actor.TheVariants as actor
 use Rattle.lab_script.specs.declared.line.Item.{Item}
 use Rattle.lab_script.specs.declared.line.Item.TheVariants as item
@@ -60,17 +60,17 @@ module _ (session : Session) (stage : Stage) (number : ℕ) where
   open_client_with-places None client = refl
   open_client_with-places (Some setup) client = claimed_client-places setup client (claim_refusal session.card.share stage.claims setup.bindings stage.position)
 
-  open_client-places : (client : AtPort × Client) (own : Option Plain) → place_count (open_client session stage number client own) ≡ place_count stage
+  open_client-places : (client : AtPort × Client) (own : Option PlaybackStream) → place_count (open_client session stage number client own) ≡ place_count stage
   open_client-places client (Some c) = refl
   open_client-places client None = open_client_with-places (slice_index_or session.clients number None) client
 
-  close_client-places : (client : AtPort × Client) (own : Option Plain) → place_count (close_client session stage number client own) ≡ place_count stage
+  close_client-places : (client : AtPort × Client) (own : Option PlaybackStream) → place_count (close_client session stage number client own) ≡ place_count stage
   close_client-places client None = refl
   close_client-places client (Some c) = length-map stage.lobby.places (left_place number (high_frame session.ring client.0.marks))
 
 -- ---- the end of a phase
 
-held_without-places : (session : Session) (number : ℕ) (a : AtPort) (own : Option Plain) (held : Held)
+held_without-places : (session : Session) (number : ℕ) (a : AtPort) (own : Option PlaybackStream) (held : Held)
     → length (held_without session number a own held).lobby.places ≡ length held.lobby.places
 held_without-places session number a None held = refl
 held_without-places session number a (Some c) held = length-map held.lobby.places (left_place number (high_frame session.ring a.marks))

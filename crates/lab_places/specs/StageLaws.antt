@@ -4,7 +4,7 @@ use Rattle.std.proofs.Common.{refl, ap, ◌∙◌}
 use Rattle.snd_base.specs.declared.errors.PcmError.{PcmError}
 use Rattle.mix_core.specs.Marks.{high_frame}
 use Rattle.pcm_states.specs.declared.states.State.TheVariants as state
-use Rattle.dmix_client.specs.declared.plain.Plain.{Plain}
+use Rattle.dmix_client.specs.declared.stream.PlaybackStream.{PlaybackStream}
 use Rattle.lab_script.specs.declared.line.Actor.TheVariants as actor
 use Rattle.lab_script.specs.declared.line.Op.TheVariants as op
 use Rattle.lab_report.specs.declared.row.Answer.TheVariants.{Done}
@@ -87,23 +87,23 @@ module _ (session : Session) (stage : Stage) (number : ℕ) where
       open_client_with-came_of setup client ∙ opened_stage-refused setup client (came_of session stage number setup) e is
 
   -- a closing of an open client gives its place and its channels back
-  pub close_client-closed_held : (client : AtPort × Client) (c : Plain)
+  pub close_client-closed_held : (client : AtPort × Client) (c : PlaybackStream)
       → close_client session stage number client (Some c)
       ≡ with_row (row_at stage (actor.Client number) op.Closes Done state.Open c.seen)
       (with_client number (ended_client session.ring client)
       (with_held (closed_held session.card.share number c.setup.bindings (high_frame session.ring client.0.marks) (held_of stage)) stage))
   close_client-closed_held client c = refl
 
-  pub held_of-close_client : (client : AtPort × Client) (c : Plain)
+  pub held_of-close_client : (client : AtPort × Client) (c : PlaybackStream)
       → held_of (close_client session stage number client (Some c))
       ≡ closed_held session.card.share number c.setup.bindings (high_frame session.ring client.0.marks) (held_of stage)
   held_of-close_client client c = refl
 
   -- and so does one that was stopped, when it is reaped
-  pub held_without-closed_held : (a : AtPort) (c : Plain) (held : Held)
+  pub held_without-closed_held : (a : AtPort) (c : PlaybackStream) (held : Held)
       → held_without session number a (Some c) held ≡ closed_held session.card.share number c.setup.bindings (high_frame session.ring a.marks) held
   held_without-closed_held a c held = refl
 
-  pub reaped_one-closed_held : (a : AtPort) (client : Client) (c : Plain) (held : Held) → client.own ≡ Some c
+  pub reaped_one-closed_held : (a : AtPort) (client : Client) (c : PlaybackStream) (held : Held) → client.own ≡ Some c
       → reaped_one session number (a, client) true held ≡ closed_held session.card.share number c.setup.bindings (high_frame session.ring a.marks) held
-  reaped_one-closed_held a client c held own = ap (λ (o : Option Plain). held_without session number a o held) own
+  reaped_one-closed_held a client c held own = ap (λ (o : Option PlaybackStream). held_without session number a o held) own

@@ -11,7 +11,7 @@ use Rattle.pcm_states.specs.declared.calls.Call.TheVariants as call
 use Rattle.pcm_stream.specs.declared.direction.Direction.TheVariants.{Capture}
 use Rattle.pcm_stream.specs.Setup.{Checks}
 use Rattle.pcm_stream.specs.Status.{refusal_of}
-use Rattle.dsnoop_client.specs.declared.plain.Plain.{Plain}
+use Rattle.dsnoop_client.specs.declared.stream.CaptureStream.{CaptureStream}
 use Rattle.dsnoop_client.specs.Calls.{configured_with, new_reader}
 use Rattle.lab_run.specs.Stage.{Setup}
 use Rattle.lab_setup.specs.Usable.{IsUsable}
@@ -24,10 +24,10 @@ Checks-valid params boundary (Invalid StopRange) valid is = is.2 valid.stop
 Checks-valid params boundary e valid is = is
 
 -- what a new stream answers
-abbrev Answers : Result (Unit {0}) PcmError → SwParams → Plain → Type 0
+abbrev Answers : Result (Unit {0}) PcmError → SwParams → CaptureStream → Type 0
 Answers answer params r = refusal_of Capture r.status call.SwParams ≡ None → (b : ℕ) × IsBoundary r.setup.config.buffer_size b × Checks answer params b
 
-pub params-taken : (geometry : Geometry) (setup : Setup) (r : Plain) (answer : Result (Unit {0}) PcmError) (e : PcmError) → IsUsable geometry.channels geometry.frames setup
+pub params-taken : (geometry : Geometry) (setup : Setup) (r : CaptureStream) (answer : Result (Unit {0}) PcmError) (e : PcmError) → IsUsable geometry.channels geometry.frames setup
     → r ≡ configured_with (new_reader geometry) setup.config setup.bindings
     → (refusal_of Capture r.status call.SwParams ≡ None → (b : ℕ) × IsBoundary r.setup.config.buffer_size b × Checks answer setup.params b) → answer ≡ Err e → ⊥
 params-taken geometry setup r answer e usable is checked refused =

@@ -6,7 +6,7 @@ use Rattle.snd_base.specs.declared.geometry.Geometry.{Geometry}
 use Rattle.snd_base.specs.Places.{first_frame}
 use Rattle.snoop_table.specs.declared.seats.reader.ReaderSeat.{ReaderSeat}
 use Rattle.snoop_table.specs.Readers.{geometry_of, ring_of, seat_view}
-use Rattle.dsnoop_client.specs.declared.plain.Plain.{Plain}
+use Rattle.dsnoop_client.specs.declared.stream.CaptureStream.{CaptureStream}
 use Rattle.dsnoop_client.specs.View.{CanUse}
 use Rattle.wav_io.specs.Sound.{Sound}
 use Rattle.card_sim.specs.declared.card.Card.{Card}
@@ -47,7 +47,7 @@ pub reader_in-opened : (seat : ReaderSeat) (setup : Setup) (r s : LabReader) →
     → reader_in s ≡ record (reader_in r) { own = Some (opened_reader (geometry_of seat) setup) }
 reader_in-opened seat setup r s opened =
     ap (λ (at : Option ReaderSeat). reader_at at s.actor) opened.seat_is
-    ∙ (ap (λ (stream : Plain). record { own = Some stream; frames = frames_in s.actor.frames.runs }) opened.stream
+    ∙ (ap (λ (stream : CaptureStream). record { own = Some stream; frames = frames_in s.actor.frames.runs }) opened.stream
     ∙ ap (λ (runs : List (ℕ × ℕ)). record { own = Some (opened_reader (geometry_of seat) setup); frames = frames_in runs }) opened.file.frames)
 
 -- it is at a new port, whichever position its seat has seen
@@ -59,7 +59,7 @@ IsAt-opened ring geometry k seat setup r s of_ring of_geometry opened =
     record {
       of_ring = of_ring;
       of_geometry = of_geometry;
-      usable = subst (λ (stream : Plain). CanUse stream (seat_view seat)) (sym opened.stream) usable;
+      usable = subst (λ (stream : CaptureStream). CanUse stream (seat_view seat)) (sym opened.stream) usable;
       seen = omega arith;
       left = sym opened.left;
     } in
@@ -68,7 +68,7 @@ IsAt-opened ring geometry k seat setup r s of_ring of_geometry opened =
 pub IsRecorded-opened : (capture : Option Sound) (geometry : Geometry) (bindings : List ℕ) (seat : ReaderSeat) (setup : Setup) (r s : LabReader) → setup.bindings ≡ bindings
     → HasOpened seat setup r s → IsRecorded capture geometry bindings r → IsRecorded capture geometry bindings s
 IsRecorded-opened capture geometry bindings seat setup r s bound opened is =
-    let stream : s.actor.reader.setup.bindings ≡ bindings = ap (λ (plain : Plain). plain.setup.bindings) opened.stream ∙ bound in
+    let stream : s.actor.reader.setup.bindings ≡ bindings = ap (λ (stream : CaptureStream). stream.setup.bindings) opened.stream ∙ bound in
     record {
       on_card = is.on_card;
       bound = subst (λ (at : Option ReaderSeat). OnSeat at (λ now. s.actor.reader.setup.bindings ≡ bindings)) (sym opened.seat_is) stream;
@@ -114,7 +114,7 @@ HasRoom-informed card r s lines informed room =
 pub reader_in-same : (r s : LabReader) → IsSame r s → reader_in s ≡ reader_in r
 reader_in-same r s same =
     ap (λ (seat : Option ReaderSeat). reader_at seat s.actor) same.seat
-    ∙ (ap (λ (own : Option Plain). record { own = own; frames = frames_in s.actor.frames.runs }) (by_seat r.seat)
+    ∙ (ap (λ (own : Option CaptureStream). record { own = own; frames = frames_in s.actor.frames.runs }) (by_seat r.seat)
     ∙ ap (λ (runs : List (ℕ × ℕ)). record { own = stream_at r.seat r.actor; frames = frames_in runs }) same.file.frames)
   where
     by_seat : (seat : Option ReaderSeat) → stream_at seat s.actor ≡ stream_at seat r.actor
@@ -130,7 +130,7 @@ IsAt-same ring geometry r s a same at =
     by_seat (Some seat) is = record {
       of_ring = is.of_ring;
       of_geometry = is.of_geometry;
-      usable = subst (λ (stream : Plain). CanUse stream (seat_view seat)) (sym same.stream) is.usable;
+      usable = subst (λ (stream : CaptureStream). CanUse stream (seat_view seat)) (sym same.stream) is.usable;
       seen = is.seen;
       left = is.left ∙ sym same.left;
     }
@@ -145,4 +145,4 @@ IsRecorded-same capture geometry bindings r s same is = record {
   where
     by_seat : (seat : Option ReaderSeat) → OnSeat seat (λ at. r.actor.reader.setup.bindings ≡ bindings) → OnSeat seat (λ at. s.actor.reader.setup.bindings ≡ bindings)
     by_seat None bound = tt
-    by_seat (Some at) bound = ap (λ (plain : Plain). plain.setup.bindings) same.stream ∙ bound
+    by_seat (Some at) bound = ap (λ (stream : CaptureStream). stream.setup.bindings) same.stream ∙ bound

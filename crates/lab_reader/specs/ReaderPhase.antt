@@ -5,7 +5,7 @@ use Rattle.atomic_table.specs.Seated.{TableId}
 use Rattle.snd_base.specs.declared.geometry.Geometry.{Geometry}
 use Rattle.snoop_table.specs.declared.seats.reader.ReaderSeat.{ReaderSeat}
 use Rattle.snoop_table.specs.Readers.{SeatLoaded-composes, geometry_of, seat_view, seen_of}
-use Rattle.dsnoop_client.specs.declared.plain.Plain.{Plain}
+use Rattle.dsnoop_client.specs.declared.stream.CaptureStream.{CaptureStream}
 use Rattle.dsnoop_client.specs.View.{CanUse}
 use Rattle.wav_io.specs.Sound.{Sound}
 use Rattle.card_sim.specs.declared.card.Card.{Card}
@@ -73,7 +73,7 @@ pub record ReaderMay (ring : TableId) (geometry : Geometry) (rules : Rules) (pha
 -- ---- before the lines
 
 -- a reader that is at its port can use its seat once it met the card's note
-CanUse-later : (r : Plain) (s t : ReaderSeat) → geometry_of t ≡ geometry_of s → seen_of s ≤ seen_of t → CanUse r (seat_view s) → CanUse r (seat_view t)
+CanUse-later : (r : CaptureStream) (s t : ReaderSeat) → geometry_of t ≡ geometry_of s → seen_of s ≤ seen_of t → CanUse r (seat_view s) → CanUse r (seat_view t)
 CanUse-later r s t same later can = let newer = can.newer in record { same_geometry = same ∙ can.same_geometry; newer = omega (arith, newer, later) }
 
 pub CanRun-informed : (ring : TableId) (geometry : Geometry) (c : Card) (r s : LabReader) (before : AtPort) → IsAt ring geometry r before → IsInformed c r s → CanRun s

@@ -5,7 +5,7 @@ use Rattle.snd_base.specs.declared.geometry.Geometry.{Geometry}
 use Rattle.snoop_core.specs.declared.port.SnoopPort as snoopport
 use Rattle.snoop_table.specs.declared.seats.reader.ReaderSeat.{ReaderSeat}
 use Rattle.snoop_table.specs.Readers.{SeatFinds, SeatGot, SeatLoaded, geometry_of, ring_of, seat_view, seen_of, shown}
-use Rattle.dsnoop_client.specs.declared.plain.Plain.{Plain}
+use Rattle.dsnoop_client.specs.declared.stream.CaptureStream.{CaptureStream}
 use Rattle.dsnoop_client.specs.View.{CanUse}
 use Rattle.card_sim.specs.declared.card.Card.{Card}
 use Rattle.lab_script.specs.declared.line.Line.{Line}
@@ -41,7 +41,7 @@ abbrev pub rows_of : LabReader → List Row
 rows_of r = r.actor.rows.items
 
 -- its stream, where it has a seat
-abbrev pub stream_at : Option ReaderSeat → ReaderActor → Option Plain
+abbrev pub stream_at : Option ReaderSeat → ReaderActor → Option CaptureStream
 stream_at None actor = None
 stream_at (Some seat) actor = Some actor.reader
 

@@ -7,7 +7,7 @@ use Rattle.snd_base.specs.declared.errors.PcmError.{PcmError}
 use Rattle.snoop_table.specs.declared.seats.reader.ReaderSeat.{ReaderSeat}
 use Rattle.snoop_table.specs.Readers.{SameReader}
 use Rattle.pcm_states.specs.declared.states.State.TheVariants as state
-use Rattle.dsnoop_client.specs.declared.plain.Plain.{Plain}
+use Rattle.dsnoop_client.specs.declared.stream.CaptureStream.{CaptureStream}
 use Rattle.wav_io.specs.Sound.{Sound}
 use Rattle.lab_script.specs.declared.line.Actor.TheVariants as actor
 use Rattle.lab_script.specs.declared.line.Op.{Op}
@@ -37,7 +37,7 @@ pub opening-done : (spare seat : ReaderSeat) (phase : ℕ) (r s : LabReader) (ro
     → HasOpened seat own r s → row ≡ row_by phase (number_of s) op.Opens (reader_in s).own Done → HasOpening spare phase r s row (reader_in r).own setup
 opening-done spare seat phase r s row setup own closed is of_ring opened row_is =
     subst (λ (o : Option Setup). HasOpening spare phase r s row (reader_in r).own o) (sym is)
-    (subst (λ (o : Option Plain). HasOpening spare phase r s row o (Some own)) (sym (ap (λ (p : Option ReaderSeat). stream_at p r.actor) closed))
+    (subst (λ (o : Option CaptureStream). HasOpening spare phase r s row o (Some own)) (sym (ap (λ (p : Option ReaderSeat). stream_at p r.actor) closed))
     (record {
       seat = seat;
       of_ring = of_ring;
@@ -50,8 +50,8 @@ pub closing-done : (phase : ℕ) (r s : LabReader) (seat : ReaderSeat) (row : Ro
     → HasClosing phase r s (record row { state = state.Open }) (reader_in r).own
 closing-done phase r s seat row closed is =
     let own : (reader_in r).own ≡ Some r.actor.reader = ap (λ (p : Option ReaderSeat). stream_at p r.actor) closed.seat_was in
-    subst (λ (o : Option Plain). HasClosing phase r s (record row { state = state.Open }) o) (sym own)
-    (seat, closed, ap (λ (w : Row). record w { state = state.Open }) (is ∙ ap (λ (o : Option Plain). row_by phase (number_of r) op.Closes o Done) own))
+    subst (λ (o : Option CaptureStream). HasClosing phase r s (record row { state = state.Open }) o) (sym own)
+    (seat, closed, ap (λ (w : Row). record w { state = state.Open }) (is ∙ ap (λ (o : Option CaptureStream). row_by phase (number_of r) op.Closes o Done) own))
 
 -- ---- one reader of a list
 

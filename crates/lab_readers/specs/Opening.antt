@@ -10,7 +10,7 @@ use Rattle.snoop_table.specs.declared.seats.reader.ReaderSeat.{ReaderSeat}
 use Rattle.snoop_table.specs.Readers as seats
 use Rattle.snoop_table.specs.Readers.{SameReader}
 use Rattle.pcm_states.specs.declared.states.State.TheVariants as state
-use Rattle.dsnoop_client.specs.declared.plain.Plain.{Plain}
+use Rattle.dsnoop_client.specs.declared.stream.CaptureStream.{CaptureStream}
 use Rattle.wav_io.specs.Sound.{Sound}
 use Rattle.lab_script.specs.declared.line.Actor.TheVariants as actor
 use Rattle.lab_script.specs.declared.line.Op.{Op}
@@ -99,8 +99,8 @@ pub record OpensAt (spare : ReaderSeat) (setup : Setup) (phase : ℕ) (r s : Lab
 
 -- What an opening makes of a reader, with its row, by its stream where it is open and by what it is opened with: one that is open is refused, and so
 -- is one that can't be opened.
-abbrev pub HasOpening : ReaderSeat → ℕ → LabReader → LabReader → Row → Option Plain → Option Setup → Type 0
-HasOpening spare phase r s row (Some plain) setup = (s ≡ r) × (row ≡ row_by phase (number_of r) op.Opens (Some plain) (Failed BadState))
+abbrev pub HasOpening : ReaderSeat → ℕ → LabReader → LabReader → Row → Option CaptureStream → Option Setup → Type 0
+HasOpening spare phase r s row (Some stream) setup = (s ≡ r) × (row ≡ row_by phase (number_of r) op.Opens (Some stream) (Failed BadState))
 HasOpening spare phase r s row None None = (s ≡ r) × (row ≡ row_by phase (number_of r) op.Opens None (Failed (Invalid why.Config)))
 HasOpening spare phase r s row None (Some setup) = OpensAt spare setup phase r s row
 
@@ -109,9 +109,9 @@ abbrev pub closed_row : ℕ → ℕ → Option ℕ → Row
 closed_row phase number seen = record { phase = phase; actor = actor.Reader number; op = op.Closes; answer = Done; state = state.Open; seen = seen }
 
 -- what a closing makes of a reader, likewise
-abbrev pub HasClosing : ℕ → LabReader → LabReader → Row → Option Plain → Type 0
+abbrev pub HasClosing : ℕ → LabReader → LabReader → Row → Option CaptureStream → Type 0
 HasClosing phase r s row None = (s ≡ r) × (row ≡ row_by phase (number_of r) op.Closes None (Failed BadState))
-HasClosing phase r s row (Some plain) = (seat : ReaderSeat) × HasClosed seat r s × (row ≡ closed_row phase (number_of r) plain.seen)
+HasClosing phase r s row (Some stream) = (seat : ReaderSeat) × HasClosed seat r s × (row ≡ closed_row phase (number_of r) stream.seen)
 
 -- one reader of the lab became another one; the spare seat is of the ring of which it was
 pub record Exchanges (rs ss : LabReaders) (number : ℕ) (s : LabReader) : Type 0 where
@@ -192,14 +192,14 @@ module _ (session : Session) (capture : Option Sound) (stage : Stage) (number ph
       }
 
   -- the row is that of the stage
-  row-is : (asked : Op) (own : Option Plain) (answer : Answer) → row ≡ row_by phase (number_of before) asked own answer → row ≡ row_by stage.phases number asked own answer
+  row-is : (asked : Op) (own : Option CaptureStream) (answer : Answer) → row ≡ row_by phase (number_of before) asked own answer → row ≡ row_by stage.phases number asked own answer
   row-is asked own answer is =
       is ∙ (ap (λ n. row_by n (number_of before) asked own answer) at_item.phases ∙ ap (λ n. row_by stage.phases n asked own answer) is-at.is.numbered)
 
-  opening-by : (own : Option Plain) (setup : Option Setup) → slice_index_or session.readers number None ≡ setup
+  opening-by : (own : Option CaptureStream) (setup : Option Setup) → slice_index_or session.readers number None ≡ setup
       → HasOpening (spare_of rs) phase before s row own setup → AreAfter session capture stage (open_reader session stage number actor-before own) row ss
-  opening-by (Some plain) setup setup_is has =
-      refused (row_by stage.phases number op.Opens (Some plain) (Failed BadState)) (row-is op.Opens (Some plain) (Failed BadState) has.1) has.0
+  opening-by (Some stream) setup setup_is has =
+      refused (row_by stage.phases number op.Opens (Some stream) (Failed BadState)) (row-is op.Opens (Some stream) (Failed BadState) has.1) has.0
   opening-by None None setup_is has =
       subst (λ (own : Option Setup). AreAfter session capture stage (open_reader_with session stage number own actor-before) row ss) (sym setup_is)
       (refused (row_by stage.phases number op.Opens None (Failed (Invalid why.Config))) (row-is op.Opens None (Failed (Invalid why.Config)) has.1) has.0)
@@ -216,22 +216,22 @@ module _ (session : Session) (capture : Option Sound) (stage : Stage) (number ph
       → AreAfter session capture stage (after_open session stage (actor.Reader number)) row ss
   AreAfter-opening has =
       opening-by actor-before.1.own (slice_index_or session.readers number None) refl
-      (subst (λ (own : Option Plain). HasOpening (spare_of rs) phase before s row own (slice_index_or session.readers number None)) own-is has)
+      (subst (λ (own : Option CaptureStream). HasOpening (spare_of rs) phase before s row own (slice_index_or session.readers number None)) own-is has)
 
   -- ---- closed
 
-  closing-by : (own : Option Plain) → HasClosing phase before s row own → AreAfter session capture stage (close_reader session stage number actor-before own) row ss
+  closing-by : (own : Option CaptureStream) → HasClosing phase before s row own → AreAfter session capture stage (close_reader session stage number actor-before own) row ss
   closing-by None has =
       refused (row_by stage.phases number op.Closes None (Failed BadState)) (row-is op.Closes None (Failed BadState) has.1) has.0
-  closing-by (Some plain) has =
-      let row_is : row ≡ closed_row stage.phases number plain.seen =
-      has.2 ∙ (ap (λ n. closed_row n (number_of before) plain.seen) at_item.phases ∙ ap (λ n. closed_row stage.phases n plain.seen) is-at.is.numbered) in
-      exchange (closed_row stage.phases number plain.seen) (ended_reader session.ring actor-before) row_is refl
+  closing-by (Some stream) has =
+      let row_is : row ≡ closed_row stage.phases number stream.seen =
+      has.2 ∙ (ap (λ n. closed_row n (number_of before) stream.seen) at_item.phases ∙ ap (λ n. closed_row stage.phases n stream.seen) is-at.is.numbered) in
+      exchange (closed_row stage.phases number stream.seen) (ended_reader session.ring actor-before) row_is refl
       (IsReaderAt-closed session capture (ring_of rs) number before s actor-before (record { is = is-at.is; rows = is-at.rows }) has.0 has.1)
 
   -- A reader that an item closes is the one that is closed in a run.
   pub AreAfter-closing : HasClosing phase before s row (reader_in before).own → AreAfter session capture stage (after_close session stage (actor.Reader number)) row ss
-  AreAfter-closing has = closing-by actor-before.1.own (subst (λ (own : Option Plain). HasClosing phase before s row own) own-is has)
+  AreAfter-closing has = closing-by actor-before.1.own (subst (λ (own : Option CaptureStream). HasClosing phase before s row own) own-is has)
 
 -- an item that failed for memory leaves the readers as they are, with the spare seat of the same ring
 pub AreAt-same : (session : Session) (capture : Option Sound) (xs : List (AtPort × Reader)) (rs ss : LabReaders) → SameReader (spare_of rs) (spare_of ss) → readers_of ss ≡ readers_of rs

@@ -6,8 +6,8 @@ use Rattle.std.specs.Prelude.{All, Bool, true, false, if◌then◌else◌, slice
 use Rattle.std.specs.List.{list_all, list_any, position}
 use Rattle.snd_base.specs.declared.errors.PcmError.{PcmError}
 use Rattle.snd_base.specs.declared.errors.PcmError.TheVariants as error
-use Rattle.dmix_client.specs.declared.plain.Plain.{Plain}
-use Rattle.dsnoop_client.specs.declared.plain.Plain as reading
+use Rattle.dmix_client.specs.declared.stream.PlaybackStream.{PlaybackStream}
+use Rattle.dsnoop_client.specs.declared.stream.CaptureStream as reading
 use Rattle.dshare.specs.Owners as owners
 use Rattle.lab_script.specs.declared.line.Actor.{Actor}
 use Rattle.lab_script.specs.declared.line.Actor.TheVariants as actor
@@ -118,7 +118,7 @@ claim-reportable share.Dshare claims channels at = by_test (list_all (is_free_ch
 
 -- ---- openings
 
-open_client-adds : (script : Script) (session : Session) (stage : Stage) (n : ℕ) (x : AtPort × Client) (own : Option Plain) → n < length script.clients
+open_client-adds : (script : Script) (session : Session) (stage : Stage) (n : ℕ) (x : AtPort × Client) (own : Option PlaybackStream) → n < length script.clients
     → CanBeReported script stage → IsReportable own → AddsRow script stage (asks stage.phases (actor.Client n) op.Opens) (open_client session stage n x own)
 open_client-adds script session stage n x (Some c) within reportable is =
     adds script stage stage _ _ reportable refl refl (client_row-of script stage.phases n op.Opens (Some c) (Failed error.BadState) within is tt) refl
@@ -143,7 +143,7 @@ open_client-adds script session stage n x None within reportable is = by_setup (
     by_setup (Some setup) = by_claim setup (claim_refusal session.card.share stage.claims setup.bindings stage.position)
         (claim-reportable session.card.share stage.claims setup.bindings stage.position)
 
-open_reader-adds : (script : Script) (session : Session) (stage : Stage) (n : ℕ) (x : AtPort × Reader) (own : Option reading.Plain) → n < length script.readers
+open_reader-adds : (script : Script) (session : Session) (stage : Stage) (n : ℕ) (x : AtPort × Reader) (own : Option reading.CaptureStream) → n < length script.readers
     → CanBeReported script stage → reader_calls.IsReportable own → AddsRow script stage (asks stage.phases (actor.Reader n) op.Opens) (open_reader session stage n x own)
 open_reader-adds script session stage n x (Some r) within reportable is =
     adds script stage stage _ _ reportable refl refl (reader_row-of script stage.phases n op.Opens (Some r) (Failed error.BadState) within is tt) refl
@@ -168,7 +168,7 @@ open-adds script session stage (actor.Reader n) within reportable =
 
 -- ---- closings
 
-close_client-adds : (script : Script) (session : Session) (stage : Stage) (n : ℕ) (x : AtPort × Client) (own : Option Plain) → n < length script.clients
+close_client-adds : (script : Script) (session : Session) (stage : Stage) (n : ℕ) (x : AtPort × Client) (own : Option PlaybackStream) → n < length script.clients
     → CanBeReported script stage → AddsRow script stage (asks stage.phases (actor.Client n) op.Closes) (close_client session stage n x own)
 close_client-adds script session stage n x None within reportable =
     adds script stage stage _ _ reportable refl refl (record { actor = within; answer = tt; state = tt }) refl
@@ -176,7 +176,7 @@ close_client-adds script session stage n (a, client) (Some c) within reportable 
     adds script stage _ _ _ (with-client script (record stage { lobby = _; claims = _ }) n (ended_client session.ring (a, client)) (held script stage _ _ reportable) tt) refl refl
     (record { actor = within; answer = tt; state = tt }) refl
 
-close_reader-adds : (script : Script) (session : Session) (stage : Stage) (n : ℕ) (x : AtPort × Reader) (own : Option reading.Plain) → n < length script.readers
+close_reader-adds : (script : Script) (session : Session) (stage : Stage) (n : ℕ) (x : AtPort × Reader) (own : Option reading.CaptureStream) → n < length script.readers
     → CanBeReported script stage → AddsRow script stage (asks stage.phases (actor.Reader n) op.Closes) (close_reader session stage n x own)
 close_reader-adds script session stage n x None within reportable =
     adds script stage stage _ _ reportable refl refl (record { actor = within; answer = tt; state = tt }) refl

@@ -7,8 +7,8 @@ use Rattle.std.specs.Prelude.{All, Bool, true, false, ◌%◌, ◌==◌, max, sl
 use Rattle.std.specs.List.{range_with_len}
 use Rattle.snd_base.specs.declared.errors.PcmError.{PcmError}
 use Rattle.snd_base.specs.declared.geometry.Geometry.{Geometry}
-use Rattle.dmix_client.specs.declared.plain.Plain as playing
-use Rattle.dsnoop_client.specs.declared.plain.Plain.{Plain}
+use Rattle.dmix_client.specs.declared.stream.PlaybackStream as playing
+use Rattle.dsnoop_client.specs.declared.stream.CaptureStream.{CaptureStream}
 use Rattle.lab_script.specs.declared.line.Actor.{Actor}
 use Rattle.lab_script.specs.declared.line.Actor.TheVariants as actor
 use Rattle.lab_script.specs.declared.line.Item.{Item}
@@ -134,7 +134,7 @@ phase-within first session stage after lines may are = subst (AreWithin first) (
     end = stage.position + played_in lines
 
 -- openings and closings of clients
-open_client-within : (first : ℕ) (session : Session) (stage : Stage) (n : ℕ) (x : AtPort × Client) (own : Option playing.Plain)
+open_client-within : (first : ℕ) (session : Session) (stage : Stage) (n : ℕ) (x : AtPort × Client) (own : Option playing.PlaybackStream)
     → AreWithin first stage → AreWithin first (open_client session stage n x own)
 open_client-within first session stage n x (Some c) are = record { low = are.low; each = are.each }
 open_client-within first session stage n x None are = by_setup (slice_index_or session.clients n None)
@@ -151,13 +151,13 @@ open_client-within first session stage n x None are = by_setup (slice_index_or s
     by_setup None = record { low = are.low; each = are.each }
     by_setup (Some setup) = by_claim setup (claim_refusal session.card.share stage.claims setup.bindings stage.position)
 
-close_client-within : (first : ℕ) (session : Session) (stage : Stage) (n : ℕ) (x : AtPort × Client) (own : Option playing.Plain)
+close_client-within : (first : ℕ) (session : Session) (stage : Stage) (n : ℕ) (x : AtPort × Client) (own : Option playing.PlaybackStream)
     → AreWithin first stage → AreWithin first (close_client session stage n x own)
 close_client-within first session stage n x None are = record { low = are.low; each = are.each }
 close_client-within first session stage n x (Some c) are = record { low = are.low; each = are.each }
 
 -- openings and closings of readers
-open_reader-within : (first : ℕ) (session : Session) (stage : Stage) (n : ℕ) (x : AtPort × Reader) (own : Option Plain) → IsWithin first stage.position x
+open_reader-within : (first : ℕ) (session : Session) (stage : Stage) (n : ℕ) (x : AtPort × Reader) (own : Option CaptureStream) → IsWithin first stage.position x
     → AreWithin first stage → AreWithin first (open_reader session stage n x own)
 open_reader-within first session stage n x (Some r) is are = record { low = are.low; each = are.each }
 open_reader-within first session stage n (a, reader) None is are = by_setup (slice_index_or session.readers n None)
@@ -169,7 +169,7 @@ open_reader-within first session stage n (a, reader) None is are = by_setup (sli
       each = All-set (IsWithin first stage.position) stage.readers n _ (omega arith, (is.1.0, λ runs. absurd (cc))) are.each;
     }
 
-close_reader-within : (first : ℕ) (session : Session) (stage : Stage) (n : ℕ) (x : AtPort × Reader) (own : Option Plain) → IsWithin first stage.position x
+close_reader-within : (first : ℕ) (session : Session) (stage : Stage) (n : ℕ) (x : AtPort × Reader) (own : Option CaptureStream) → IsWithin first stage.position x
     → AreWithin first stage → AreWithin first (close_reader session stage n x own)
 close_reader-within first session stage n x None is are = record { low = are.low; each = are.each }
 close_reader-within first session stage n (a, reader) (Some r) is are =

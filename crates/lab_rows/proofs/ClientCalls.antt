@@ -17,7 +17,7 @@ use Rattle.pcm_stream.specs.Status.{is_moving, nothing_found, refusal_of}
 use Rattle.course.specs.Course.{◌>>=◌, Course, ends}
 use Rattle.wav_io.specs.Sound.{Sound}
 use Rattle.dmix_client.specs.declared.commit.Commit.{Commit}
-use Rattle.dmix_client.specs.declared.plain.Plain.{Plain}
+use Rattle.dmix_client.specs.declared.stream.PlaybackStream.{PlaybackStream}
 use Rattle.dmix_client.specs.Calls.{Answered, accepted, accepted_if, avail_answer, committed_by, delay_answer, dropped, facts_of, found_at, going_on, going_on_by, is_running, is_stop, late_at, late_of, over_of, paused, pending_of, prepared, rebased, resumed, seen_at, with_outcome, after_start, started_in, start_count, stopped_in, sync_count, after_sync, taken_of, with_number, written_after}
 use Rattle.dmix_client.specs.Calls as calls
 use Rattle.dmix_client.specs.Course.{admitted, admitted_by, commits, drain_course, drain_on, drains, fills, looks, nothing, number_course, numbered, pause_course, resumes, start_course, starts, starts_taking, sync_course, syncs, takes_more, write_on, writes_on}
@@ -33,7 +33,7 @@ use Rattle.lab_run.proofs.Results.{All, All-any, All-then}
 use Rattle.lab_rows.proofs.TableLaws.{CanReport, CanReportIn, next-reports, refusal-reports, reported-reports}
 
 -- a client's state has a text
-abbrev pub HasState : Plain → Type 0
+abbrev pub HasState : PlaybackStream → Type 0
 HasState c = HasStateText c.status.state
 
 -- a report can have a call's error, and the state of its client afterwards
@@ -42,17 +42,17 @@ Reports (d, r) = CanReportIn r × HasState d
 
 -- ---- the parts of a call
 
-going_on-reports : (c : Plain) (s refused : State) (r : Result (Unit {0}) PcmError) → HasStateText s → HasStateText refused → CanReportIn r
+going_on-reports : (c : PlaybackStream) (s refused : State) (r : Result (Unit {0}) PcmError) → HasStateText s → HasStateText refused → CanReportIn r
     → Reports (going_on_by r c s refused)
 going_on-reports c s refused (Ok done) is other reports = (tt, is)
 going_on-reports c s refused (Err e) is other reports = (reports, other)
 
-begun-reports : (c : Plain) (s : State) (f : Facts) → HasStateText s → Reports (going_on c s (next_of Prepared call.Start f))
+begun-reports : (c : PlaybackStream) (s : State) (f : Facts) → HasStateText s → Reports (going_on c s (next_of Prepared call.Start f))
 begun-reports c s f is =
     let o = next-reports Prepared call.Start f tt in
     going_on-reports c s (next_of Prepared call.Start f).state (next_of Prepared call.Start f).answer is o.1 o.0
 
-after_sync-reports : (c : Plain) (asked : Call) (load : Option Position) (x : Commit) → HasState c → Reports (after_sync c asked load x)
+after_sync-reports : (c : PlaybackStream) (asked : Call) (load : Option Position) (x : Commit) → HasState c → Reports (after_sync c asked load x)
 after_sync-reports c asked None x is = (tt, is)
 after_sync-reports c asked (Some p) x is = by_stop (is_stop x.ended)
   where
@@ -63,11 +63,11 @@ after_sync-reports c asked (Some p) x is = by_stop (is_stop x.ended)
     by_stop true = (tt, is)
     by_stop false = next-reports c.status.state asked f is
 
-after_start-reports : (c : Plain) (s : State) (cursor : Cursor) (load : Option Position) (x : Commit) → HasState c → HasStateText s → Reports (after_start c s cursor load x)
+after_start-reports : (c : PlaybackStream) (s : State) (cursor : Cursor) (load : Option Position) (x : Commit) → HasState c → HasStateText s → Reports (after_start c s cursor load x)
 after_start-reports c s cursor None x is there = (tt, is)
 after_start-reports c s cursor (Some p) x is there = by_gone p.gone
   where
-    from : Plain
+    from : PlaybackStream
     from = started_in c s p cursor
 
     by_stop : (b : Bool) → Reports (if b then stopped_in (committed_by from x) else going_on (committed_by from x) s (next_of Prepared call.Start (found_at p (late_of from x))))
@@ -79,7 +79,7 @@ after_start-reports c s cursor (Some p) x is there = by_gone p.gone
     by_gone true = begun-reports (seen_at c p) s (found_at p None) there
     by_gone false = by_stop (is_stop x.ended)
 
-resumed-reports : (c : Plain) (cursor : Cursor) (load : Option Position) (x : Commit) → HasState c → Reports (resumed c cursor load x)
+resumed-reports : (c : PlaybackStream) (cursor : Cursor) (load : Option Position) (x : Commit) → HasState c → Reports (resumed c cursor load x)
 resumed-reports c cursor None x is = (tt, is)
 resumed-reports c cursor (Some p) x is = after_start-reports (rebased c) Running cursor (Some p) x tt tt
 
@@ -87,11 +87,11 @@ accepted-reports : (n : ℕ) (done : Answered (Unit {0})) → Reports done → R
 accepted-reports n (c, Ok done) reports = (tt, reports.1)
 accepted-reports n (c, Err e) reports = reports
 
-number-reports : (number : Plain → ℕ) (done : Answered (Unit {0})) → Reports done → Reports (with_number number done)
+number-reports : (number : PlaybackStream → ℕ) (done : Answered (Unit {0})) → Reports done → Reports (with_number number done)
 number-reports number (c, Ok done) reports = (tt, reports.1)
 number-reports number (c, Err e) reports = reports
 
-written-reports : (c : Plain) (n : ℕ) (x : Commit) → HasState c → Reports (written_after c n x)
+written-reports : (c : PlaybackStream) (n : ℕ) (x : Commit) → HasState c → Reports (written_after c n x)
 written-reports c n x is = by_test (nat_lt 0 n && nat_eq (avail_of c) 0) (is_stop x.ended)
   where
     f : Facts
@@ -103,10 +103,10 @@ written-reports c n x is = by_test (nat_lt 0 n && nat_eq (avail_of c) 0) (is_sto
     by_test false true = (tt, is)
     by_test false false = accepted-reports (taken_of c n) (with_outcome (committed_by c x) (next_of Running call.Transfer f)) (next-reports Running call.Transfer f tt)
 
-rewound-reports : (c : Plain) (n : ℕ) (left : Commit) → HasState c → Reports (rewound c n left)
+rewound-reports : (c : PlaybackStream) (n : ℕ) (left : Commit) → HasState c → Reports (rewound c n left)
 rewound-reports c n left is = by_stop (is_stop left.ended)
   where
-    done : Plain
+    done : PlaybackStream
     done = taken_back c n left
 
     f : Facts
@@ -126,24 +126,24 @@ All-if Q false m n one two = two
 pub All-after : {X Y : Type 0} (Q : Y → Type 0) (m : Course X) (f : X → Course Y) → ((x : X) → All Q (f x)) → All Q (m >>= f)
 All-after Q m f each = All-then (λ x. ⊤) Q m f (All-any (λ x. ⊤) m (λ x. tt)) (λ x any. each x)
 
-syncs-reports : (c : Plain) (asked : Call) (ring : List ℤ) → HasState c → All Reports (syncs c asked ring)
+syncs-reports : (c : PlaybackStream) (asked : Call) (ring : List ℤ) → HasState c → All Reports (syncs c asked ring)
 unfolding syncs
 syncs-reports c asked ring is = All-after Reports (looks (λ position. c) (sync_count c) ring) (λ found. ends (after_sync c asked found.0 found.1))
     (λ found. after_sync-reports c asked found.0 found.1 is)
 
-starts-reports : (c : Plain) (s : State) (cursor : Cursor) (upto : ℕ) (ring : List ℤ) → HasState c → HasStateText s → All Reports (starts c s cursor upto ring)
+starts-reports : (c : PlaybackStream) (s : State) (cursor : Cursor) (upto : ℕ) (ring : List ℤ) → HasState c → HasStateText s → All Reports (starts c s cursor upto ring)
 unfolding starts
 starts-reports c s cursor upto ring is there =
     All-after Reports (looks (λ position. started_in c Running position cursor) (λ position. start_count c cursor position upto) ring)
     (λ found. ends (after_start c s cursor found.0 found.1)) (λ found. after_start-reports c s cursor found.0 found.1 is there)
 
-resumes-reports : (c : Plain) (cursor : Cursor) (ring : List ℤ) → HasState c → All Reports (resumes c cursor ring)
+resumes-reports : (c : PlaybackStream) (cursor : Cursor) (ring : List ℤ) → HasState c → All Reports (resumes c cursor ring)
 unfolding resumes
 resumes-reports c cursor ring is =
     All-after Reports (looks (λ position. started_in (rebased c) Running position cursor) (λ position. start_count (rebased c) cursor position (pending_of c)) ring)
     (λ found. ends (resumed c cursor found.0 found.1)) (λ found. resumed-reports c cursor found.0 found.1 is)
 
-numbered-reports : (number : Plain → ℕ) (m : Course (Answered (Unit {0}))) → All Reports m → All Reports (numbered number m)
+numbered-reports : (number : PlaybackStream → ℕ) (m : Course (Answered (Unit {0}))) → All Reports m → All Reports (numbered number m)
 unfolding numbered
 numbered-reports number m all = All-then Reports Reports m (λ done. ends (with_number number done)) all (number-reports number)
 
@@ -154,7 +154,7 @@ write_on-reports ring samples n (c, Ok done) reports =
     All-after Reports (commits c (ring_with c ring samples (taken_of c n)) (count_with c (taken_of c n))) (λ last. ends (written_after c n last))
     (λ last. written-reports c n last reports.1)
 
-write-reports : (c : Plain) (cursor : Cursor) (n : ℕ) → HasState c → All Reports (write_course c cursor n)
+write-reports : (c : PlaybackStream) (cursor : Cursor) (n : ℕ) → HasState c → All Reports (write_course c cursor n)
 unfolding writes_on starts_taking
 write-reports c cursor n is = All-if Reports (is_running c.status.state) (writes_on c [] [] n) (fills c [] [] cursor n)
     (All-then Reports Reports (syncs c call.Transfer []) (write_on [] [] n) (syncs-reports c call.Transfer [] is) (write_on-reports [] [] n))
@@ -163,39 +163,39 @@ write-reports c cursor n is = All-if Reports (is_running c.status.state) (writes
     (starts-reports c Running cursor (c.stretch.written + taken_of c n) (ring_with c [] [] (taken_of c n)) is tt) (accepted-reports (taken_of c n)))
     (tt, is))
 
-start-reports : (c : Plain) (cursor : Cursor) → HasState c → All Reports (start_course c [] cursor)
+start-reports : (c : PlaybackStream) (cursor : Cursor) → HasState c → All Reports (start_course c [] cursor)
 start-reports c cursor is = All-if Reports (nat_eq c.stretch.written 0) (ends (with_outcome c (next_of c.status.state call.Start f))) (starts c Running cursor c.stretch.written [])
     (next-reports c.status.state call.Start f is) (starts-reports c Running cursor c.stretch.written [] is tt)
   where
     f : Facts
     f = record (nothing_found Playback) { queued = 0 }
 
-sync-reports : (c : Plain) → HasState c → All Reports (sync_course c [])
+sync-reports : (c : PlaybackStream) → HasState c → All Reports (sync_course c [])
 sync-reports c is = All-if Reports (is_moving c.status.state) (syncs c call.Sync []) (ends (c, Ok tt)) (syncs-reports c call.Sync [] is) (tt, is)
 
 drain_on-reports : (done : Answered (Unit {0})) → Reports done → All Reports (drain_on [] done)
 drain_on-reports (c, Ok done) reports = syncs-reports c call.Drain [] reports.1
 drain_on-reports (c, Err e) reports = reports
 
-drain-reports : (c : Plain) (cursor : Cursor) → HasState c → All Reports (drain_course c [] cursor)
+drain-reports : (c : PlaybackStream) (cursor : Cursor) → HasState c → All Reports (drain_course c [] cursor)
 unfolding drains
 drain-reports c cursor is = All-if Reports (is_moving c.status.state) (syncs (calls.draining c) call.Drain []) _ (syncs-reports (calls.draining c) call.Drain [] tt)
     (All-if Reports (calls.has_frames c) (drains c [] cursor) (ends (dropped c, Ok tt))
     (All-then Reports Reports (starts c Draining cursor c.stretch.written []) (drain_on []) (starts-reports c Draining cursor c.stretch.written [] is tt) drain_on-reports) (tt, tt))
 
-pause-reports : (on : Bool) (c : Plain) (cursor : Cursor) → HasState c → All Reports (pause_course on c [] cursor)
+pause-reports : (on : Bool) (c : PlaybackStream) (cursor : Cursor) → HasState c → All Reports (pause_course on c [] cursor)
 pause-reports on c cursor is = All-if Reports on (ends (paused c, Ok tt)) _ (tt, tt)
     (All-if Reports (nat_eq (pending_of c) 0) (ends (rebased c, Ok tt)) (resumes c cursor []) (tt, tt) (resumes-reports c cursor [] is))
 
-number_course-reports : (number : Plain → ℕ) (c : Plain) → HasState c → All Reports (number_course number c [])
+number_course-reports : (number : PlaybackStream → ℕ) (c : PlaybackStream) → HasState c → All Reports (number_course number c [])
 number_course-reports number c is = All-if Reports (is_moving c.status.state) (numbered number (syncs c call.Sync [])) (ends (c, Ok (number c)))
     (numbered-reports number (syncs c call.Sync []) (syncs-reports c call.Sync [] is)) (tt, is)
 
-checks-reports : (c : Plain) → HasState c → All Reports (checks c)
+checks-reports : (c : PlaybackStream) → HasState c → All Reports (checks c)
 unfolding checks
 checks-reports c is = λ load. after_sync-reports c call.Transfer load nothing is
 
-rewindable-reports : (c : Plain) (floor : Cursor) → HasState c → All Reports (rewindable_course c floor)
+rewindable-reports : (c : PlaybackStream) (floor : Cursor) → HasState c → All Reports (rewindable_course c floor)
 rewindable-reports c floor is = All-if Reports (is_running c.status.state) (numbered (rewindable_of floor) (checks c)) _
     (numbered-reports (rewindable_of floor) (checks c) (checks-reports c is)) (tt, is)
 
@@ -207,12 +207,12 @@ rewind_on-reports floor n (c, Ok done) reports =
     All-after Reports (take_frames c.identity.member c.stretch.card c.setup.bindings (ring_sample c []) (c.stretch.committed - back_of c m) (back_of c m))
     (λ left. ends (rewound c m left)) (λ left. rewound-reports c m left reports.1)
 
-rewind-reports : (c : Plain) (floor : Cursor) (n : ℕ) → HasState c → All Reports (rewind_course c [] floor n)
+rewind-reports : (c : PlaybackStream) (floor : Cursor) (n : ℕ) → HasState c → All Reports (rewind_course c [] floor n)
 unfolding rewinds
 rewind-reports c floor n is = All-if Reports (is_running c.status.state) (rewinds c [] floor n) (ends (without c (min n c.stretch.written), Ok (min n c.stretch.written)))
     (All-then Reports Reports (checks c) (rewind_on floor [] n) (checks-reports c is) (rewind_on-reports floor n)) (tt, is)
 
-admitted-reports : {T : Type 0} (c : Plain) (asked : Call) (m : Course (Answered T)) → HasState c → All Reports m → All Reports (admitted c asked m)
+admitted-reports : {T : Type 0} (c : PlaybackStream) (asked : Call) (m : Course (Answered T)) → HasState c → All Reports m → All Reports (admitted c asked m)
 admitted-reports {T = T} c asked m is all = by_refusal (refusal_of Playback c.status asked) (refusal-reports Playback c.status asked is)
   where
     by_refusal : (refusal : Option PcmError) → IfSome refusal CanReport → All Reports (admitted_by refusal c m)
@@ -222,24 +222,24 @@ admitted-reports {T = T} c asked m is all = by_refusal (refusal_of Playback c.st
 -- ---- the lines
 
 -- an answer of a report has a text, and the state of its client
-abbrev IsSaid : Plain × Answer → Type 0
+abbrev IsSaid : PlaybackStream × Answer → Type 0
 IsSaid (d, answer) = HasText answer × HasState d
 
-done-said : (c : Plain) (asked : Call) (m : Course (Answered (Unit {0}))) → HasState c → All Reports m → All IsSaid (answered done_answer (admitted c asked m))
+done-said : (c : PlaybackStream) (asked : Call) (m : Course (Answered (Unit {0}))) → HasState c → All Reports m → All IsSaid (answered done_answer (admitted c asked m))
 done-said c asked m is all = All-then Reports IsSaid (admitted c asked m) (λ done. ends (done.0, done_answer done.1)) (admitted-reports c asked m is all) said
   where
     said : (x : Answered (Unit {0})) → Reports x → IsSaid (x.0, done_answer x.1)
     said (d, Ok done) reports = (tt, reports.1)
     said (d, Err e) reports = (reported-reports e reports.0, reports.1)
 
-count-said : (c : Plain) (asked : Call) (m : Course (Answered ℕ)) → HasState c → All Reports m → All IsSaid (answered count_answer (admitted c asked m))
+count-said : (c : PlaybackStream) (asked : Call) (m : Course (Answered ℕ)) → HasState c → All Reports m → All IsSaid (answered count_answer (admitted c asked m))
 count-said c asked m is all = All-then Reports IsSaid (admitted c asked m) (λ done. ends (done.0, count_answer done.1)) (admitted-reports c asked m is all) said
   where
     said : (x : Answered ℕ) → Reports x → IsSaid (x.0, count_answer x.1)
     said (d, Ok n) reports = (tt, reports.1)
     said (d, Err e) reports = (reported-reports e reports.0, reports.1)
 
-call-said : (wav : Sound) (marks : Marks) (c : Plain) (asked : Op) → HasState c → All IsSaid (call_of wav marks c asked)
+call-said : (wav : Sound) (marks : Marks) (c : PlaybackStream) (asked : Op) → HasState c → All IsSaid (call_of wav marks c asked)
 call-said wav marks c (op.Write n) is = count-said c call.Transfer _ is (write-reports c marks.cursor _ is)
 call-said wav marks c op.Start is = done-said c call.Start _ is (start-reports c marks.cursor is)
 call-said wav marks c op.Sync is = done-said c call.Sync _ is (sync-reports c is)
@@ -255,7 +255,7 @@ call-said wav marks c op.Rewindable is = count-said c call.Transfer _ is (rewind
 call-said wav marks c other is = (tt, is)
 
 -- a client that is open has a state with a text
-abbrev pub IsReportable : Option Plain → Type 0
+abbrev pub IsReportable : Option PlaybackStream → Type 0
 IsReportable None = ⊤
 IsReportable (Some c) = HasState c
 
@@ -263,7 +263,7 @@ IsReportable (Some c) = HasState c
 abbrev pub LineReports : Client × Answer → Type 0
 LineReports (client, answer) = IsReportable client.own × HasText answer
 
-pub client_line-reports : (wav : Sound) (marks : Marks) (client : Client) (own : Option Plain) (asked : Op) → IsReportable own → IsReportable client.own
+pub client_line-reports : (wav : Sound) (marks : Marks) (client : Client) (own : Option PlaybackStream) (asked : Op) → IsReportable own → IsReportable client.own
     → All LineReports (line_by wav marks client own asked)
 client_line-reports wav marks client None asked is there = (there, tt)
 client_line-reports wav marks client (Some c) asked is there = by_stop c.status.stopped asked

@@ -5,8 +5,8 @@ use Rattle.std.specs.Prelude.{Bool, true, false, drop, slice_index_or, slice_set
 use Rattle.std.specs.List.{range_with_len}
 use Rattle.snd_base.specs.declared.errors.PcmError.{PcmError}
 use Rattle.snd_base.specs.declared.geometry.Geometry.{Geometry}
-use Rattle.dmix_client.specs.declared.plain.Plain as playing
-use Rattle.dsnoop_client.specs.declared.plain.Plain.{Plain}
+use Rattle.dmix_client.specs.declared.stream.PlaybackStream as playing
+use Rattle.dsnoop_client.specs.declared.stream.CaptureStream.{CaptureStream}
 use Rattle.lab_script.specs.declared.line.Actor.{Actor}
 use Rattle.lab_script.specs.declared.line.Actor.TheVariants as actor
 use Rattle.lab_script.specs.declared.line.Item.{Item}
@@ -90,11 +90,11 @@ module _ (session : Session) (stage : Stage) (number : ℕ) where
   open_client_with-keeps None client = refl
   open_client_with-keeps (Some setup) client = claimed_client-keeps setup client (claim_refusal session.card.share stage.claims setup.bindings stage.position)
 
-  open_client-keeps : (client : AtPort × Client) (own : Option playing.Plain) → (open_client session stage number client own).readers ≡ stage.readers
+  open_client-keeps : (client : AtPort × Client) (own : Option playing.PlaybackStream) → (open_client session stage number client own).readers ≡ stage.readers
   open_client-keeps client (Some c) = refl
   open_client-keeps client None = open_client_with-keeps (slice_index_or session.clients number None) client
 
-  close_client-keeps : (client : AtPort × Client) (own : Option playing.Plain) → (close_client session stage number client own).readers ≡ stage.readers
+  close_client-keeps : (client : AtPort × Client) (own : Option playing.PlaybackStream) → (close_client session stage number client own).readers ≡ stage.readers
   close_client-keeps client None = refl
   close_client-keeps client (Some c) = refl
 
@@ -105,11 +105,11 @@ module _ (session : Session) (stage : Stage) (number : ℕ) where
   open_reader_with-keeps None reader same = refl
   open_reader_with-keeps (Some setup) (a, reader) same = frames-set stage.readers number (no_reader session.ring) _ same
 
-  open_reader-keeps : (own : Option Plain) → frames_of (open_reader session stage number (reader_at session stage number) own).readers ≡ frames_of stage.readers
+  open_reader-keeps : (own : Option CaptureStream) → frames_of (open_reader session stage number (reader_at session stage number) own).readers ≡ frames_of stage.readers
   open_reader-keeps (Some r) = refl
   open_reader-keeps None = open_reader_with-keeps (slice_index_or session.readers number None) (reader_at session stage number) refl
 
-  close_reader-keeps : (own : Option Plain) → frames_of (close_reader session stage number (reader_at session stage number) own).readers ≡ frames_of stage.readers
+  close_reader-keeps : (own : Option CaptureStream) → frames_of (close_reader session stage number (reader_at session stage number) own).readers ≡ frames_of stage.readers
   close_reader-keeps None = refl
   close_reader-keeps (Some r) = frames-set stage.readers number (no_reader session.ring) _ refl
 

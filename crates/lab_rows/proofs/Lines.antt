@@ -4,8 +4,8 @@ use Rattle.std.proofs.lemmas.List.{map-append}
 use Rattle.std.proofs.lemmas.List.Elements.{All-append, All-cons, All-head, All-nil, All-tail}
 use Rattle.std.specs.Prelude.{All}
 use Rattle.wav_io.specs.Sound.{Sound}
-use Rattle.dmix_client.specs.declared.plain.Plain.{Plain}
-use Rattle.dsnoop_client.specs.declared.plain.Plain as reading
+use Rattle.dmix_client.specs.declared.stream.PlaybackStream.{PlaybackStream}
+use Rattle.dsnoop_client.specs.declared.stream.CaptureStream as reading
 use Rattle.lab_script.specs.declared.line.Actor.{Actor}
 use Rattle.lab_script.specs.declared.line.Actor.TheVariants as actor
 use Rattle.lab_script.specs.declared.line.Line.{Line}
@@ -97,12 +97,12 @@ each-rows {S = S} script phase who P kind ops lines end base is own rules number
 
 -- ---- clients and readers
 
-pub client_row-of : (script : Script) (phase number : ℕ) (asked : Op) (own : Option Plain) (answer : Answer) → number < length script.clients
+pub client_row-of : (script : Script) (phase number : ℕ) (asked : Op) (own : Option PlaybackStream) (answer : Answer) → number < length script.clients
     → IsReportable own → HasText answer → IsRowOf script (clients.row_by phase number asked own answer)
 client_row-of script phase number asked None answer within is text = record { actor = within; answer = text; state = tt }
 client_row-of script phase number asked (Some c) answer within is text = record { actor = within; answer = text; state = is }
 
-pub client_row-asks : (phase number : ℕ) (asked : Op) (own : Option Plain) (answer : Answer)
+pub client_row-asks : (phase number : ℕ) (asked : Op) (own : Option PlaybackStream) (answer : Answer)
     → request_of_row (clients.row_by phase number asked own answer) ≡ asks phase (actor.Client number) asked
 client_row-asks phase number asked None answer = refl
 client_row-asks phase number asked (Some c) answer = refl
@@ -115,12 +115,12 @@ client-reports script phase wav number within = record {
   request = λ asked client answer. client_row-asks phase number asked client.own answer;
 }
 
-pub reader_row-of : (script : Script) (phase number : ℕ) (asked : Op) (own : Option reading.Plain) (answer : Answer) → number < length script.readers
+pub reader_row-of : (script : Script) (phase number : ℕ) (asked : Op) (own : Option reading.CaptureStream) (answer : Answer) → number < length script.readers
     → reader_calls.IsReportable own → HasText answer → IsRowOf script (readers.row_by phase number asked own answer)
 reader_row-of script phase number asked None answer within is text = record { actor = within; answer = text; state = tt }
 reader_row-of script phase number asked (Some r) answer within is text = record { actor = within; answer = text; state = is }
 
-pub reader_row-asks : (phase number : ℕ) (asked : Op) (own : Option reading.Plain) (answer : Answer)
+pub reader_row-asks : (phase number : ℕ) (asked : Op) (own : Option reading.CaptureStream) (answer : Answer)
     → request_of_row (readers.row_by phase number asked own answer) ≡ asks phase (actor.Reader number) asked
 reader_row-asks phase number asked None answer = refl
 reader_row-asks phase number asked (Some r) answer = refl

@@ -14,7 +14,7 @@ use Rattle.pcm_stream.specs.Status.{refusal_of}
 use Rattle.course.specs.Course.{◌>>=◌, Course, ends}
 use Rattle.snoop_core.specs.declared.port.Got.{Got}
 use Rattle.snoop_core.specs.declared.port.Got.TheVariants as got
-use Rattle.dsnoop_client.specs.declared.plain.Plain.{Plain}
+use Rattle.dsnoop_client.specs.declared.stream.CaptureStream.{CaptureStream}
 use Rattle.dsnoop_client.specs.Calls.{Answered, found, in_state, numbered, over_of, read_after, read_to, seen_at, with_outcome, after_start, after_sync, taken_of, waits, with_avail}
 use Rattle.dsnoop_client.specs.Course.{admitted, admitted_by, avail_course, counts, gets_frames, read_course, reads_first, reads_on, starts, sync_course, syncs, transfer_on, transfers}
 use Rattle.dsnoop_client.specs.View.{avail_of, is_running}
@@ -29,7 +29,7 @@ use Rattle.lab_rows.proofs.ClientCalls.{All-after, All-if}
 use Rattle.lab_rows.proofs.TableLaws.{CanReport, CanReportIn, next-reports, refusal-reports, reported-reports}
 
 -- a reader's state has a text
-abbrev pub HasState : Plain → Type 0
+abbrev pub HasState : CaptureStream → Type 0
 HasState r = HasStateText r.status.state
 
 -- a report can have a call's error, and the state of its reader afterwards
@@ -38,11 +38,11 @@ Reports (d, r) = CanReportIn r × HasState d
 
 -- ---- the parts of a call
 
-after_start-reports : (r : Plain) (asked : Call) (load : Option Position) → HasState r → Reports (after_start r asked load)
+after_start-reports : (r : CaptureStream) (asked : Call) (load : Option Position) → HasState r → Reports (after_start r asked load)
 after_start-reports r asked None is = (tt, is)
 after_start-reports r asked (Some p) is = next-reports r.status.state asked (found p.gone None None) is
 
-after_sync-reports : (r : Plain) (asked : Call) (load : Option Position) → HasState r → Reports (after_sync r asked load)
+after_sync-reports : (r : CaptureStream) (asked : Call) (load : Option Position) → HasState r → Reports (after_sync r asked load)
 after_sync-reports r asked None is = (tt, is)
 after_sync-reports r asked (Some p) is = next-reports r.status.state asked (found p.gone (over_of (seen_at r p)) None) is
 
@@ -54,21 +54,21 @@ number-reports : (n : ℕ) (done : Answered (Unit {0})) → Reports done → Rep
 number-reports n (r, Ok done) reports = (tt, reports.1)
 number-reports n (r, Err e) reports = reports
 
-read_to-reports : (r : Plain) (done : ℕ) (ended : Got) → HasState r → Reports (read_to r done ended)
+read_to-reports : (r : CaptureStream) (done : ℕ) (ended : Got) → HasState r → Reports (read_to r done ended)
 read_to-reports r done got.Whole is = (tt, is)
 read_to-reports r done (got.Overtaken channel word) is =
     number-reports 0 (with_outcome r (next_of Running call.Transfer (found false None (Some (why.Overtaken (r.next + done) channel word)))))
     (next-reports Running call.Transfer (found false None (Some (why.Overtaken (r.next + done) channel word))) tt)
 read_to-reports r done got.Stopped is = (tt, is)
 
-read-reports : (r : Plain) (n done : ℕ) (ended : Got) → HasState r → Reports (read_after r n done ended)
+read-reports : (r : CaptureStream) (n done : ℕ) (ended : Got) → HasState r → Reports (read_after r n done ended)
 read-reports r n done ended is = by_test (nat_lt 0 n && nat_eq (avail_of r) 0)
   where
     by_test : (none : Bool) → Reports (if none then (r, Err error.Again) else read_to r done ended)
     by_test true = (tt, is)
     by_test false = read_to-reports r done ended is
 
-waits-reports : (r : Plain) (n : ℕ) → HasState r → Reports {T = ℕ} (r, waits n)
+waits-reports : (r : CaptureStream) (n : ℕ) → HasState r → Reports {T = ℕ} (r, waits n)
 waits-reports r n is = by_test (nat_eq n 0)
   where
     by_test : (none : Bool) → Reports {T = ℕ} (r, if none then Ok 0 else Err error.Again)
@@ -77,18 +77,18 @@ waits-reports r n is = by_test (nat_eq n 0)
 
 -- ---- the calls
 
-starts-reports : (r : Plain) (asked : Call) → HasState r → All Reports (starts r asked)
+starts-reports : (r : CaptureStream) (asked : Call) → HasState r → All Reports (starts r asked)
 unfolding starts
 starts-reports r asked is = λ load. after_start-reports r asked load is
 
-syncs-reports : (r : Plain) (asked : Call) → HasState r → All Reports (syncs r asked)
+syncs-reports : (r : CaptureStream) (asked : Call) → HasState r → All Reports (syncs r asked)
 unfolding syncs
 syncs-reports r asked is = λ load. after_sync-reports r asked load is
 
-sync-reports : (r : Plain) → HasState r → All Reports (sync_course r)
+sync-reports : (r : CaptureStream) → HasState r → All Reports (sync_course r)
 sync-reports r is = All-if Reports (is_running r.status.state) (syncs r call.Sync) (ends (r, Ok tt)) (syncs-reports r call.Sync is) (tt, is)
 
-avail_course-reports : (r : Plain) → HasState r → All Reports (avail_course r)
+avail_course-reports : (r : CaptureStream) → HasState r → All Reports (avail_course r)
 unfolding counts
 avail_course-reports r is = All-if Reports (is_running r.status.state) (counts (syncs r call.Sync)) (ends (r, Ok 0))
     (All-then Reports Reports (syncs r call.Sync) (λ done. ends (with_avail done)) (syncs-reports r call.Sync is) avail-reports) (tt, is)
@@ -99,14 +99,14 @@ transfer_on-reports n (r, Err e) reports = reports
 transfer_on-reports n (r, Ok done) reports =
     All-after Reports (gets_frames (taken_of r n) r.next) (λ end. ends (read_after r n end.0 end.1)) (λ end. read-reports r n end.0 end.1 reports.1)
 
-read_course-reports : (r : Plain) (n : ℕ) → HasState r → All Reports (read_course r n)
+read_course-reports : (r : CaptureStream) (n : ℕ) → HasState r → All Reports (read_course r n)
 unfolding reads_on reads_first
 read_course-reports r n is = All-if Reports (is_running r.status.state) (reads_on r n) _
     (All-then Reports Reports (syncs r call.Transfer) (transfer_on n) (syncs-reports r call.Transfer is) (transfer_on-reports n))
     (All-if Reports (nat_le r.setup.params.start_threshold n) (reads_first r n) (ends (r, waits n))
     (All-then Reports Reports (starts r call.Transfer) (transfer_on n) (starts-reports r call.Transfer is) (transfer_on-reports n)) (waits-reports r n is))
 
-admitted-reports : {T : Type 0} (r : Plain) (asked : Call) (m : Course (Answered T)) → HasState r → All Reports m → All Reports (admitted r asked m)
+admitted-reports : {T : Type 0} (r : CaptureStream) (asked : Call) (m : Course (Answered T)) → HasState r → All Reports m → All Reports (admitted r asked m)
 admitted-reports {T = T} r asked m is all = by_refusal (refusal_of Capture r.status asked) (refusal-reports Capture r.status asked is)
   where
     by_refusal : (refusal : Option PcmError) → IfSome refusal CanReport → All Reports (admitted_by refusal r m)
@@ -116,24 +116,24 @@ admitted-reports {T = T} r asked m is all = by_refusal (refusal_of Capture r.sta
 -- ---- the lines
 
 -- an answer of a report has a text, and the state of its reader
-abbrev IsSaid : Plain × Answer → Type 0
+abbrev IsSaid : CaptureStream × Answer → Type 0
 IsSaid (d, answer) = HasText answer × HasState d
 
-done-said : (r : Plain) (asked : Call) (m : Course (Answered (Unit {0}))) → HasState r → All Reports m → All IsSaid (answered done_answer (admitted r asked m))
+done-said : (r : CaptureStream) (asked : Call) (m : Course (Answered (Unit {0}))) → HasState r → All Reports m → All IsSaid (answered done_answer (admitted r asked m))
 done-said r asked m is all = All-then Reports IsSaid (admitted r asked m) (λ done. ends (done.0, done_answer done.1)) (admitted-reports r asked m is all) said
   where
     said : (x : Answered (Unit {0})) → Reports x → IsSaid (x.0, done_answer x.1)
     said (d, Ok done) reports = (tt, reports.1)
     said (d, Err e) reports = (reported-reports e reports.0, reports.1)
 
-count-said : (r : Plain) (asked : Call) (m : Course (Answered ℕ)) → HasState r → All Reports m → All IsSaid (answered count_answer (admitted r asked m))
+count-said : (r : CaptureStream) (asked : Call) (m : Course (Answered ℕ)) → HasState r → All Reports m → All IsSaid (answered count_answer (admitted r asked m))
 count-said r asked m is all = All-then Reports IsSaid (admitted r asked m) (λ done. ends (done.0, count_answer done.1)) (admitted-reports r asked m is all) said
   where
     said : (x : Answered ℕ) → Reports x → IsSaid (x.0, count_answer x.1)
     said (d, Ok n) reports = (tt, reports.1)
     said (d, Err e) reports = (reported-reports e reports.0, reports.1)
 
-call-said : (r : Plain) (asked : Op) → HasState r → All IsSaid (call_of r asked)
+call-said : (r : CaptureStream) (asked : Op) → HasState r → All IsSaid (call_of r asked)
 call-said r (op.Read n) is = count-said r call.Transfer _ is (read_course-reports r n is)
 call-said r op.Start is = done-said r call.Start _ is (starts-reports r call.Start is)
 call-said r op.Sync is = done-said r call.Sync _ is (sync-reports r is)
@@ -144,7 +144,7 @@ call-said r op.Pause is = (tt, is)
 call-said r other is = (tt, is)
 
 -- a reader that is open has a state with a text
-abbrev pub IsReportable : Option Plain → Type 0
+abbrev pub IsReportable : Option CaptureStream → Type 0
 IsReportable None = ⊤
 IsReportable (Some r) = HasState r
 
@@ -152,7 +152,7 @@ IsReportable (Some r) = HasState r
 abbrev pub LineReports : Reader × Answer → Type 0
 LineReports (reader, answer) = IsReportable reader.own × HasText answer
 
-pub reader_line-reports : (reader : Reader) (own : Option Plain) (asked : Op) → IsReportable own → IsReportable reader.own → All LineReports (line_by reader own asked)
+pub reader_line-reports : (reader : Reader) (own : Option CaptureStream) (asked : Op) → IsReportable own → IsReportable reader.own → All LineReports (line_by reader own asked)
 reader_line-reports reader None asked is there = (there, tt)
 reader_line-reports reader (Some r) asked is there = by_stop r.status.stopped asked
   where

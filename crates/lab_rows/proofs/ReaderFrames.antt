@@ -18,7 +18,7 @@ use Rattle.pcm_stream.specs.Status.{refusal_of}
 use Rattle.course.specs.Course.{◌>>=◌, Course, ends}
 use Rattle.snoop_core.specs.declared.port.Got.{Got}
 use Rattle.snoop_core.specs.declared.port.Got.TheVariants as got
-use Rattle.dsnoop_client.specs.declared.plain.Plain.{Plain}
+use Rattle.dsnoop_client.specs.declared.stream.CaptureStream.{CaptureStream}
 use Rattle.dsnoop_client.specs.Calls.{Answered, found, in_state, over_of, read_after, read_to, seen_at, with_outcome, after_sync, taken_of, waits, with_avail}
 use Rattle.dsnoop_client.specs.Course.{admitted, admitted_by, avail_course, counts, get_on, gets_frames, one_more, read_course, reads_first, reads_on, starts, sync_course, syncs, transfer_on, transfers}
 use Rattle.dsnoop_client.specs.View.{avail_of, is_running}
@@ -31,7 +31,7 @@ use Rattle.lab_run.specs.Reader.{Reader, after_call, answered, call_of, frames_b
 use Rattle.lab_rows.proofs.Known.{AllKnown, AllKnown-then}
 
 -- a reader that runs has its next frame at a frame or past it
-abbrev pub IsPast : ℕ → Plain → Type 0
+abbrev pub IsPast : ℕ → CaptureStream → Type 0
 IsPast base r = is_running r.status.state ≡ true → base ≤ r.next
 
 -- a call that gets nothing
@@ -50,22 +50,22 @@ Reads base known (d, Err e) = (base ≤ known) × IsPast base d
 
 -- ---- the parts of a call
 
-with_outcome-begins : (base known : ℕ) (d : Plain) (s : State) (r : Result (Unit {0}) PcmError) → base ≤ known → base ≤ d.next → d.seen ≡ Some known
+with_outcome-begins : (base known : ℕ) (d : CaptureStream) (s : State) (r : Result (Unit {0}) PcmError) → base ≤ known → base ≤ d.next → d.seen ≡ Some known
     → Begins base known (in_state d s, r)
 with_outcome-begins base known d s (Ok done) low next seen = (low, next, seen)
 with_outcome-begins base known d s (Err e) low next seen = (low, λ runs. next)
 
 -- a reader that doesn't run and finds the card gone doesn't run afterwards, and its read ends there
-gone-begins : (base known : ℕ) (s : State) (d : Plain) → base ≤ known → is_running s ≡ false → Begins base known (with_outcome d (next_of s call.Transfer (found true None None)))
+gone-begins : (base known : ℕ) (s : State) (d : CaptureStream) → base ≤ known → is_running s ≡ false → Begins base known (with_outcome d (next_of s call.Transfer (found true None None)))
 gone-begins base known state.Running d low not = absurd (cc)
 gone-begins base known other d low not = (low, λ runs. absurd (cc))
 
-gone-stays : (base known : ℕ) (s : State) (d : Plain) → base ≤ known → (is_running s ≡ true → base ≤ d.next)
+gone-stays : (base known : ℕ) (s : State) (d : CaptureStream) → base ≤ known → (is_running s ≡ true → base ≤ d.next)
     → Stays base known (with_outcome d (next_of s call.Start (found true None None)))
 gone-stays base known state.Running d low next = (low, next)
 gone-stays base known other d low next = (low, λ runs. absurd (cc))
 
-starts-begins : (base known : ℕ) (r : Plain) → base ≤ known → is_running r.status.state ≡ false → AllKnown (Begins base) known (starts r call.Transfer)
+starts-begins : (base known : ℕ) (r : CaptureStream) → base ≤ known → is_running r.status.state ≡ false → AllKnown (Begins base) known (starts r call.Transfer)
 unfolding starts
 starts-begins base known r low not = ((low, λ runs. absurd (cc)), λ p newer. by_gone p (omega (arith, low, newer)) p.gone)
   where
@@ -73,11 +73,11 @@ starts-begins base known r low not = ((low, λ runs. absurd (cc)), λ p newer. b
         → Begins base p.frame (with_outcome (if gone then seen_at r p else record r { seen = Some p.frame; next = p.frame }) (next_of r.status.state call.Transfer (found gone None None)))
     by_gone p past true = gone-begins base p.frame r.status.state (seen_at r p) past not
     by_gone p past false =
-        let d : Plain = record r { seen = Some p.frame; next = p.frame } in
+        let d : CaptureStream = record r { seen = Some p.frame; next = p.frame } in
         let o : Outcome = next_of r.status.state call.Transfer (found false None None) in
         with_outcome-begins base p.frame d o.state o.answer past past refl
 
-starts-stays : (base known : ℕ) (r : Plain) → base ≤ known → IsPast base r → AllKnown (Stays base) known (starts r call.Start)
+starts-stays : (base known : ℕ) (r : CaptureStream) → base ≤ known → IsPast base r → AllKnown (Stays base) known (starts r call.Start)
 unfolding starts
 starts-stays base known r low next = ((low, next), λ p newer. by_gone p (omega (arith, low, newer)) p.gone)
   where
@@ -86,7 +86,7 @@ starts-stays base known r low next = ((low, next), λ p newer. by_gone p (omega 
     by_gone p past true = gone-stays base p.frame r.status.state (seen_at r p) past next
     by_gone p past false = (past, λ runs. past)
 
-syncs-begins : (base known : ℕ) (r : Plain) (asked : Call) → base ≤ known → base ≤ r.next → AllKnown (Begins base) known (syncs r asked)
+syncs-begins : (base known : ℕ) (r : CaptureStream) (asked : Call) → base ≤ known → base ≤ r.next → AllKnown (Begins base) known (syncs r asked)
 unfolding syncs
 syncs-begins base known r asked low next = ((low, λ runs. next), λ p newer. by_load p (omega (arith, low, newer)))
   where
@@ -95,7 +95,7 @@ syncs-begins base known r asked low next = ((low, λ runs. next), λ p newer. by
         let o : Outcome = next_of r.status.state asked (found p.gone (over_of (seen_at r p)) None) in
         with_outcome-begins base p.frame (seen_at r p) o.state o.answer past next refl
 
-syncs-stays : (base known : ℕ) (r : Plain) (asked : Call) → base ≤ known → base ≤ r.next → AllKnown (Stays base) known (syncs r asked)
+syncs-stays : (base known : ℕ) (r : CaptureStream) (asked : Call) → base ≤ known → base ≤ r.next → AllKnown (Stays base) known (syncs r asked)
 unfolding syncs
 syncs-stays base known r asked low next = ((low, λ runs. next), λ p newer. (omega (arith, low, newer), λ runs. next))
 
@@ -113,12 +113,12 @@ gets-few known (suc count) first = by_end (gets-few known count (first + 1))
     by_end rest got.Stopped = (refl, omega arith)
 
 -- a read that got at most what was available
-read_to-reads : (base known : ℕ) (d : Plain) (done : ℕ) (how : Got) → base ≤ known → base ≤ d.next → done ≤ known - d.next → Reads base known (read_to d done how)
+read_to-reads : (base known : ℕ) (d : CaptureStream) (done : ℕ) (how : Got) → base ≤ known → base ≤ d.next → done ≤ known - d.next → Reads base known (read_to d done how)
 read_to-reads base known d done got.Whole low next few = (omega (arith, low, next, few), λ runs. omega (arith, next))
 read_to-reads base known d done (got.Overtaken channel word) low next few = (low, λ runs. next)
 read_to-reads base known d done got.Stopped low next few = (low, λ runs. next)
 
-read-reads : (base known : ℕ) (d : Plain) (n done : ℕ) (how : Got) → base ≤ known → base ≤ d.next → d.seen ≡ Some known → done ≤ taken_of d n
+read-reads : (base known : ℕ) (d : CaptureStream) (n done : ℕ) (how : Got) → base ≤ known → base ≤ d.next → d.seen ≡ Some known → done ≤ taken_of d n
     → Reads base known (read_after d n done how)
 read-reads base known d n done how low next seen few = by_test (nat_lt 0 n && nat_eq (avail_of d) 0)
   where
@@ -137,7 +137,7 @@ transfer_on-reads base known n (d, Ok done) (low, next, seen) =
     (λ end. ends (read_after d n end.0 end.1)) (gets-few known (taken_of d n) d.next)
     (λ later x few. subst (λ (k : ℕ). Reads base k (read_after d n x.0 x.1)) (sym few.0) (read-reads base known d n x.0 x.1 low next seen few.1))
 
-waits-reads : (base known : ℕ) (r : Plain) (n : ℕ) → base ≤ known → IsPast base r → Reads base known (r, waits n)
+waits-reads : (base known : ℕ) (r : CaptureStream) (n : ℕ) → base ≤ known → IsPast base r → Reads base known (r, waits n)
 waits-reads base known r n low next = by_test (nat_eq n 0)
   where
     by_test : (none : Bool) → Reads base known (r, if none then Ok 0 else Err error.Again)
@@ -146,7 +146,7 @@ waits-reads base known r n low next = by_test (nat_eq n 0)
 
 -- ---- the calls
 
-read_course-reads : (base known : ℕ) (r : Plain) (n : ℕ) → base ≤ known → IsPast base r → AllKnown (Reads base) known (read_course r n)
+read_course-reads : (base known : ℕ) (r : CaptureStream) (n : ℕ) → base ≤ known → IsPast base r → AllKnown (Reads base) known (read_course r n)
 unfolding reads_on reads_first
 read_course-reads base known r n low next = by_running (is_running r.status.state) refl
   where
@@ -161,14 +161,14 @@ read_course-reads base known r n low next = by_running (is_running r.status.stat
         (syncs-begins base known r call.Transfer low (next runs)) (λ later done is. transfer_on-reads base later n done is)
     by_running false not = by_start (nat_le r.setup.params.start_threshold n) not
 
-sync_course-stays : (base known : ℕ) (r : Plain) → base ≤ known → IsPast base r → AllKnown (Stays base) known (sync_course r)
+sync_course-stays : (base known : ℕ) (r : CaptureStream) → base ≤ known → IsPast base r → AllKnown (Stays base) known (sync_course r)
 sync_course-stays base known r low next = by_running (is_running r.status.state) refl
   where
     by_running : (b : Bool) → is_running r.status.state ≡ b → AllKnown (Stays base) known (if b then syncs r call.Sync else ends (r, Ok tt))
     by_running true runs = syncs-stays base known r call.Sync low (next runs)
     by_running false not = (low, next)
 
-avail_course-stays : (base known : ℕ) (r : Plain) → base ≤ known → IsPast base r → AllKnown (Stays base) known (avail_course r)
+avail_course-stays : (base known : ℕ) (r : CaptureStream) → base ≤ known → IsPast base r → AllKnown (Stays base) known (avail_course r)
 unfolding counts
 avail_course-stays base known r low next = by_running (is_running r.status.state) refl
   where
@@ -184,7 +184,7 @@ avail_course-stays base known r low next = by_running (is_running r.status.state
 -- ---- the lines
 
 -- an open reader with so many frames behind a first one
-abbrev pub IsOwnPast : ℕ → Option Plain → Type 0
+abbrev pub IsOwnPast : ℕ → Option CaptureStream → Type 0
 IsOwnPast base None = ⊤
 IsOwnPast base (Some r) = IsPast base r
 
@@ -196,10 +196,10 @@ abbrev pub LineHas : ℕ → ℕ → Reader × Answer → Type 0
 LineHas first known (reader, answer) = HasFrames first known reader
 
 -- what a call leaves of a reader that had some frames
-abbrev IsLeft : ℕ → ℕ → Op → Plain × Answer → Type 0
+abbrev IsLeft : ℕ → ℕ → Op → CaptureStream × Answer → Type 0
 IsLeft base known asked (d, answer) = (base + length (frames_by asked answer d) ≤ known) × IsPast (base + length (frames_by asked answer d)) d
 
-admitted-left : {T : Type 0} (base known : ℕ) (r : Plain) (asked : Op) (c : Call) (answer : Result T PcmError → Answer) (R : ℕ → Answered T → Type 0) (m : Course (Answered T))
+admitted-left : {T : Type 0} (base known : ℕ) (r : CaptureStream) (asked : Op) (c : Call) (answer : Result T PcmError → Answer) (R : ℕ → Answered T → Type 0) (m : Course (Answered T))
     → ((later : ℕ) (x : Answered T) → R later x → IsLeft base later asked (x.0, answer x.1)) → ((e : PcmError) → R known (r, Err e)) → AllKnown R known m
     → AllKnown (λ later x. IsLeft base later asked x) known (answered answer (admitted r c m))
 admitted-left {T = T} base known r asked c answer R m leaves refused all =
@@ -210,7 +210,7 @@ admitted-left {T = T} base known r asked c answer R m leaves refused all =
     by_refusal (Some e) = refused e
 
 -- a call that got nothing
-none-left : (base known : ℕ) (asked : Op) (d : Plain) (answer : Answer) → frames_by asked answer d ≡ [] → (base ≤ known) × IsPast base d
+none-left : (base known : ℕ) (asked : Op) (d : CaptureStream) (answer : Answer) → frames_by asked answer d ≡ [] → (base ≤ known) × IsPast base d
     → IsLeft base known asked (d, answer)
 none-left base known asked d answer none is =
     let same : base + length (frames_by asked answer d) ≡ base = ap (λ (frames : List ℕ). base + length frames) none ∙ add-zero base in
@@ -224,7 +224,7 @@ read-left base n known (d, Ok count) (low, past) =
     (omega (arith, low, same), λ runs. let next = past runs in omega (arith, next, same))
 read-left base n known (d, Err e) is = none-left base known (op.Read n) d (count_answer (Err e)) refl is
 
-call-left : (base known : ℕ) (r : Plain) (asked : Op) → base ≤ known → IsPast base r → AllKnown (λ later x. IsLeft base later asked x) known (call_of r asked)
+call-left : (base known : ℕ) (r : CaptureStream) (asked : Op) → base ≤ known → IsPast base r → AllKnown (λ later x. IsLeft base later asked x) known (call_of r asked)
 call-left base known r (op.Read n) low next =
     admitted-left base known r (op.Read n) call.Transfer count_answer (Reads base) (read_course r n) (λ later x is. read-left base n later x is) (λ e. (low, next))
     (read_course-reads base known r n low next)
@@ -247,14 +247,14 @@ call-left base known r op.Pause low next = none-left base known op.Pause r (Fail
 call-left base known r other low next = none-left base known other r (Failed error.BadState) refl (low, next)
 
 -- a line adds the frames that its call got
-line-left : (first known : ℕ) (reader : Reader) (r : Plain) (asked : Op) (x : Plain × Answer) → IsLeft (first + length reader.frames) known asked x
+line-left : (first known : ℕ) (reader : Reader) (r : CaptureStream) (asked : Op) (x : CaptureStream × Answer) → IsLeft (first + length reader.frames) known asked x
     → LineHas first known (after_call reader asked x)
 line-left first known reader r asked (d, answer) (low, past) =
     let more : length (reader.frames ++ frames_by asked answer d) ≡ length reader.frames + length (frames_by asked answer d) =
     length-append reader.frames (frames_by asked answer d) in
     (omega (arith, low, more), λ runs. let next = past runs in omega (arith, next, more))
 
-pub line-has : (first known : ℕ) (reader : Reader) (own : Option Plain) (asked : Op) → reader.own ≡ own → HasFrames first known reader
+pub line-has : (first known : ℕ) (reader : Reader) (own : Option CaptureStream) (asked : Op) → reader.own ≡ own → HasFrames first known reader
     → AllKnown (LineHas first) known (line_by reader own asked)
 line-has first known reader None asked is has = has
 line-has first known reader (Some r) asked is has = by_stop r.status.stopped asked

@@ -7,10 +7,10 @@ use Rattle.pcm_states.specs.declared.calls.Call.{Call}
 use Rattle.pcm_states.specs.declared.calls.Call.TheVariants as call
 use Rattle.wav_io.specs.Sound.{Sound}
 use Rattle.course.specs.Course.{Course, ends}
-use Rattle.dmix_client.specs.declared.plain.Plain.{Plain}
+use Rattle.dmix_client.specs.declared.stream.PlaybackStream.{PlaybackStream}
 use Rattle.dmix_client.specs.Calls.{Answered, avail_answer, delay_answer}
 use Rattle.dmix_client.specs.Course.{admitted}
-use Rattle.dsnoop_client.specs.declared.plain.Plain as reading
+use Rattle.dsnoop_client.specs.declared.stream.CaptureStream as reading
 use Rattle.dsnoop_client.specs.Calls as reading_calls
 use Rattle.dsnoop_client.specs.Course as reading_course
 use Rattle.lab_script.specs.declared.line.Op.{Op}
@@ -34,12 +34,12 @@ pub record IsKind {S : Type 0} (kind : Kind S) : Type 0 where
 
 -- ---- clients
 
-answered-first : {X : Type 0} (answer : Result X PcmError → Answer) (c : Plain) (call : Call) (course : Course (Answered X)) → LoadsFirst false course
+answered-first : {X : Type 0} (answer : Result X PcmError → Answer) (c : PlaybackStream) (call : Call) (course : Course (Answered X)) → LoadsFirst false course
     → LoadsFirst false (answered answer (admitted c call course))
 answered-first answer c call course led =
     first-then false (admitted c call course) (λ done. ends (done.0, answer done.1)) (client_leads.admitted-first c call course led) (λ l x. tt)
 
-call-first : (wav : Sound) (marks : Marks) (c : Plain) (asked : Op) → LoadsFirst false (call_of wav marks c asked)
+call-first : (wav : Sound) (marks : Marks) (c : PlaybackStream) (asked : Op) → LoadsFirst false (call_of wav marks c asked)
 call-first wav marks c (op.Write n) = answered-first count_answer c call.Transfer _ (client_leads.write-first c marks.cursor (min n (frames_of wav - c.fed)))
 call-first wav marks c op.Start = answered-first done_answer c call.Start _ (client_leads.start-first c [] marks.cursor)
 call-first wav marks c op.Sync = answered-first done_answer c call.Sync _ (client_leads.sync-first c [])
@@ -59,13 +59,13 @@ call-first wav marks c op.Unplug = tt
 call-first wav marks c op.Opens = tt
 call-first wav marks c op.Closes = tt
 
-line_if-first : (stopped : Bool) (wav : Sound) (marks : Marks) (client : Client) (c : Plain) (asked : Op) → LoadsFirst false (line_if stopped wav marks client c asked)
+line_if-first : (stopped : Bool) (wav : Sound) (marks : Marks) (client : Client) (c : PlaybackStream) (asked : Op) → LoadsFirst false (line_if stopped wav marks client c asked)
 line_if-first true wav marks client c asked = tt
 line_if-first false wav marks client c (op.Die k) = tt
 line_if-first false wav marks client c asked =
     first-then false (call_of wav marks c asked) (λ done. ends (after_call client c asked done)) (call-first wav marks c asked) (λ l x. tt)
 
-line_by-first : (wav : Sound) (marks : Marks) (client : Client) (own : Option Plain) (asked : Op) → LoadsFirst false (line_by wav marks client own asked)
+line_by-first : (wav : Sound) (marks : Marks) (client : Client) (own : Option PlaybackStream) (asked : Op) → LoadsFirst false (line_by wav marks client own asked)
 line_by-first wav marks client None asked = tt
 line_by-first wav marks client (Some c) asked = line_if-first c.status.stopped wav marks client c asked
 
@@ -78,7 +78,7 @@ dies_if-same : (stopped : Bool) (asked : Op) (a : AtPort) → IsSame a (dies_if 
 dies_if-same false (op.Die k) a = record { seen = refl; by_gate = refl }
 dies_if-same stopped asked a = record { seen = refl; by_gate = refl }
 
-begins-same : (own : Option Plain) (asked : Op) (a : AtPort) → IsSame a (begins own asked a)
+begins-same : (own : Option PlaybackStream) (asked : Op) (a : AtPort) → IsSame a (begins own asked a)
 begins-same None asked a = record { seen = refl; by_gate = refl }
 begins-same (Some c) asked a = dies_if-same c.status.stopped asked a
 
@@ -91,12 +91,12 @@ client-IsKind phase wav number = record {
 
 -- ---- readers
 
-read-first : {X : Type 0} (answer : Result X PcmError → Answer) (r : reading.Plain) (call : Call) (course : Course (reading_calls.Answered X)) → LoadsFirst false course
+read-first : {X : Type 0} (answer : Result X PcmError → Answer) (r : reading.CaptureStream) (call : Call) (course : Course (reading_calls.Answered X)) → LoadsFirst false course
     → LoadsFirst false (readers.answered answer (reading_course.admitted r call course))
 read-first answer r call course led =
     first-then false (reading_course.admitted r call course) (λ done. ends (done.0, answer done.1)) (reader_leads.admitted-first r call course led) (λ l x. tt)
 
-reader_call-first : (r : reading.Plain) (asked : Op) → LoadsFirst false (readers.call_of r asked)
+reader_call-first : (r : reading.CaptureStream) (asked : Op) → LoadsFirst false (readers.call_of r asked)
 reader_call-first r (op.Read n) = read-first count_answer r call.Transfer _ (reader_leads.read-first r n)
 reader_call-first r op.Start = read-first done_answer r call.Start _ (reader_leads.start-first r)
 reader_call-first r op.Sync = read-first done_answer r call.Sync _ (reader_leads.sync-first r)
@@ -116,17 +116,17 @@ reader_call-first r op.Unplug = tt
 reader_call-first r op.Opens = tt
 reader_call-first r op.Closes = tt
 
-reader_line-first : (stopped : Bool) (reader : Reader) (r : reading.Plain) (asked : Op) → LoadsFirst false (readers.line_if stopped reader r asked)
+reader_line-first : (stopped : Bool) (reader : Reader) (r : reading.CaptureStream) (asked : Op) → LoadsFirst false (readers.line_if stopped reader r asked)
 reader_line-first true reader r asked = tt
 reader_line-first false reader r (op.Die k) = tt
 reader_line-first false reader r asked =
     first-then false (readers.call_of r asked) (λ done. ends (readers.after_call reader asked done)) (reader_call-first r asked) (λ l x. tt)
 
-reader_by-first : (reader : Reader) (own : Option reading.Plain) (asked : Op) → LoadsFirst false (readers.line_by reader own asked)
+reader_by-first : (reader : Reader) (own : Option reading.CaptureStream) (asked : Op) → LoadsFirst false (readers.line_by reader own asked)
 reader_by-first reader None asked = tt
 reader_by-first reader (Some r) asked = reader_line-first r.status.stopped reader r asked
 
-reader_begins-same : (own : Option reading.Plain) (asked : Op) (a : AtPort) → IsSame a (readers.begins own asked a)
+reader_begins-same : (own : Option reading.CaptureStream) (asked : Op) (a : AtPort) → IsSame a (readers.begins own asked a)
 reader_begins-same None asked a = record { seen = refl; by_gate = refl }
 reader_begins-same (Some r) asked a = dies_if-same r.status.stopped asked a
 

@@ -14,7 +14,7 @@ use Rattle.pcm_states.specs.declared.calls.Call.{Call}
 use Rattle.pcm_states.specs.declared.calls.Call.TheVariants as call
 use Rattle.course.specs.Course.{◌>>=◌, Course, ends}
 use Rattle.dmix_client.specs.declared.commit.Commit.{Commit}
-use Rattle.dmix_client.specs.declared.plain.Plain.{Plain}
+use Rattle.dmix_client.specs.declared.stream.PlaybackStream.{PlaybackStream}
 use Rattle.pcm_stream.specs.declared.direction.Direction.TheVariants.{Playback}
 use Rattle.pcm_stream.specs.Status.{is_moving, refusal_of}
 use Rattle.dmix_client.specs.Calls.{Answered, accepted, accepted_if, avail_answer, avail_in, commit_count, delay_answer, delay_in, draining, dropped, has_frames, is_running, paused, pending_of, prepared, rebased, resumed, start_count, after_start, started_in, sync_count, after_sync, taken_of, with_number, written_after}
@@ -55,14 +55,14 @@ on-ok (Ok x) fact is = is
 on-ok (Err e) fact is = tt
 
 -- the numbers that are answered don't depend on a client's member
-avail-member : (member : ℕ) (c : Plain) → avail_answer (with_member member c) ≡ avail_answer c
+avail-member : (member : ℕ) (c : PlaybackStream) → avail_answer (with_member member c) ≡ avail_answer c
 avail-member member c = by_state c.status.state
   where
     by_state : (state : State) → avail_in state (with_member member c) ≡ avail_in state c
     by_state Setup = refl
     by_state other = refl
 
-delay-member : (member : ℕ) (c : Plain) → delay_answer (with_member member c) ≡ delay_answer c
+delay-member : (member : ℕ) (c : PlaybackStream) → delay_answer (with_member member c) ≡ delay_answer c
 delay-member member c = by_state c.status.state
   where
     by_state : (state : State) → delay_in state (with_member member c) ≡ delay_in state c
@@ -72,7 +72,7 @@ delay-member member c = by_state c.status.state
 
 module _ (from member : ℕ) where
   -- the client that a course is like
-  abbrev other_of : Plain → Plain
+  abbrev other_of : PlaybackStream → PlaybackStream
   other_of c = with_member member c
 
   -- a call that ends at once
@@ -106,10 +106,10 @@ module _ (from member : ℕ) where
       (lay_each-alike place (card + first) bindings (f first) (g first) (rising bindings))
       (λ x y is. go_on-alike x y (lay_frames place card bindings f count (first + 1)) (lay_frames member card bindings g count (first + 1)) is (lay_frames-alike place card bindings f g count (first + 1)))
 
-  commits-alike : (c : Plain) (ring other : List ℤ) (count : ℕ) → Alike from SameCommit (commits c ring count) (commits (other_of c) other count)
+  commits-alike : (c : PlaybackStream) (ring other : List ℤ) (count : ℕ) → Alike from SameCommit (commits c ring count) (commits (other_of c) other count)
   commits-alike c ring other count = lay_frames-alike c.identity.member c.stretch.card c.setup.bindings (ring_sample c ring) (ring_sample (other_of c) other) count c.stretch.committed
 
-  looks-alike : (at at' : Position → Plain) (count count' : Position → ℕ) (ring other : List ℤ)
+  looks-alike : (at at' : Position → PlaybackStream) (count count' : Position → ℕ) (ring other : List ℤ)
       → ((p : Position) → from ≤ p.frame → at' p ≡ other_of (at p)) → ((p : Position) → from ≤ p.frame → count' p ≡ count p)
       → Alike from (SameFound from) (looks at count ring) (looks at' count' other)
   unfolding looks ◌>>=◌
@@ -122,7 +122,7 @@ module _ (from member : ℕ) where
           (Alike-then from SameCommit (SameFound from) (commits (at p) ring (count p)) (commits (other_of (at p)) other (count p)) (λ commit. ends (Some p, commit)) (λ commit. ends (Some p, commit))
           (commits-alike (at p) ring other (count p)) (λ x y is. record { after = after; same = ap (λ z. (Some p, z)) is }))
 
-  found-alike : (at at' : Position → Plain) (count count' : Position → ℕ) (ring other : List ℤ) (call call' : Option Position → Commit → Answered (Unit {0}))
+  found-alike : (at at' : Position → PlaybackStream) (count count' : Position → ℕ) (ring other : List ℤ) (call call' : Option Position → Commit → Answered (Unit {0}))
       → ((p : Position) → from ≤ p.frame → at' p ≡ other_of (at p)) → ((p : Position) → from ≤ p.frame → count' p ≡ count p)
       → ((load : Option Position) (x : Commit) → IsFromOn from load → SameButMember member done_answer (call load x) (call' load (commit_without_word x)))
       → Alike from (SameButMember member done_answer) (looks at count ring >>= λ found. ends (call found.0 found.1)) (looks at' count' other >>= λ found. ends (call' found.0 found.1))
@@ -130,29 +130,29 @@ module _ (from member : ℕ) where
       Alike-then from (SameFound from) (SameButMember member done_answer) (looks at count ring) (looks at' count' other) (λ found. ends (call found.0 found.1)) (λ found. ends (call' found.0 found.1))
       (looks-alike at at' count count' ring other same same_count) (λ x y is. rw (is.same) (word x.0 x.1 is.after))
 
-  syncs-alike : (c : Plain) (call : Call) (ring other : List ℤ) → Alike from (SameButMember member done_answer) (syncs c call ring) (syncs (other_of c) call other)
+  syncs-alike : (c : PlaybackStream) (call : Call) (ring other : List ℤ) → Alike from (SameButMember member done_answer) (syncs c call ring) (syncs (other_of c) call other)
   unfolding syncs
   syncs-alike c call ring other = found-alike (λ p. c) (λ p. other_of c) (sync_count c) (sync_count (other_of c)) ring other (after_sync c call) (after_sync (other_of c) call)
       (λ p after. refl) (λ p after. refl) (λ load x after. after_sync-word member c call load x)
 
   -- a start at a port whose cursor is the same from the frame on
-  started_in-same : (c : Plain) (cursor other : Cursor) → SameFrom from cursor other → (p : Position) → from ≤ p.frame
+  started_in-same : (c : PlaybackStream) (cursor other : Cursor) → SameFrom from cursor other → (p : Position) → from ≤ p.frame
       → started_in (other_of c) Running p other ≡ other_of (started_in c Running p cursor)
   started_in-same c cursor other same p after =
-      let one : Plain = started_in (other_of c) Running p cursor in
-      ap (λ (n : ℕ). let d : Plain = record one { stretch = record one.stretch { card = n } } in d) (sym (same (p.frame + c.identity.lead) (omega (arith, after))))
+      let one : PlaybackStream = started_in (other_of c) Running p cursor in
+      ap (λ (n : ℕ). let d : PlaybackStream = record one { stretch = record one.stretch { card = n } } in d) (sym (same (p.frame + c.identity.lead) (omega (arith, after))))
 
-  start_count-same : (c : Plain) (cursor other : Cursor) (upto : ℕ) → SameFrom from cursor other → (p : Position) → from ≤ p.frame
+  start_count-same : (c : PlaybackStream) (cursor other : Cursor) (upto : ℕ) → SameFrom from cursor other → (p : Position) → from ≤ p.frame
       → start_count (other_of c) other p upto ≡ start_count c cursor p upto
   start_count-same c cursor other upto same p after =
-      ap (λ (d : Plain). if p.gone then 0 else commit_count d p.frame upto) (started_in-same c cursor other same p after)
+      ap (λ (d : PlaybackStream). if p.gone then 0 else commit_count d p.frame upto) (started_in-same c cursor other same p after)
 
-  after_start-same : (c : Plain) (state : State) (cursor other : Cursor) → SameFrom from cursor other → (load : Option Position) (x : Commit) → IsFromOn from load
+  after_start-same : (c : PlaybackStream) (state : State) (cursor other : Cursor) → SameFrom from cursor other → (load : Option Position) (x : Commit) → IsFromOn from load
       → after_start c state other load x ≡ after_start c state cursor load x
   after_start-same c state cursor other same None x after = refl
   after_start-same c state cursor other same (Some p) x after = rw (same (p.frame + c.identity.lead) (omega (arith, after))) refl
 
-  starts-alike : (c : Plain) (state : State) (cursor other : Cursor) (upto : ℕ) (ring more : List ℤ) → SameFrom from cursor other
+  starts-alike : (c : PlaybackStream) (state : State) (cursor other : Cursor) (upto : ℕ) (ring more : List ℤ) → SameFrom from cursor other
       → Alike from (SameButMember member done_answer) (starts c state cursor upto ring) (starts (other_of c) state other upto more)
   unfolding starts
   starts-alike c state cursor other upto ring more same =
@@ -160,12 +160,12 @@ module _ (from member : ℕ) where
       (after_start c state cursor) (after_start (other_of c) state other) (started_in-same c cursor other same) (start_count-same c cursor other upto same)
       (λ load x after. subst (SameButMember member done_answer (after_start c state cursor load x)) (sym (after_start-same (other_of c) state cursor other same load (commit_without_word x) after)) (after_start-word member c state cursor load x))
 
-  resumed-same : (c : Plain) (cursor other : Cursor) → SameFrom from cursor other → (load : Option Position) (x : Commit) → IsFromOn from load
+  resumed-same : (c : PlaybackStream) (cursor other : Cursor) → SameFrom from cursor other → (load : Option Position) (x : Commit) → IsFromOn from load
       → resumed c other load x ≡ resumed c cursor load x
   resumed-same c cursor other same None x after = refl
   resumed-same c cursor other same (Some p) x after = after_start-same (rebased c) Running cursor other same (Some p) x after
 
-  resumes-alike : (c : Plain) (cursor other : Cursor) (ring more : List ℤ) → SameFrom from cursor other
+  resumes-alike : (c : PlaybackStream) (cursor other : Cursor) (ring more : List ℤ) → SameFrom from cursor other
       → Alike from (SameButMember member done_answer) (resumes c cursor ring) (resumes (other_of c) other more)
   unfolding resumes
   resumes-alike c cursor other ring more same =
@@ -176,7 +176,7 @@ module _ (from member : ℕ) where
 
   -- ---- the calls
 
-  pub admitted-alike : {X : Type 0} (answer : Result X PcmError → Answer) (c : Plain) (call : Call) (m n : Course (Answered X)) → Alike from (SameButMember member answer) m n
+  pub admitted-alike : {X : Type 0} (answer : Result X PcmError → Answer) (c : PlaybackStream) (call : Call) (m n : Course (Answered X)) → Alike from (SameButMember member answer) m n
       → Alike from (SameButMember member answer) (admitted c call m) (admitted (other_of c) call n)
   admitted-alike answer c call m n alike = by_refusal (refusal_of Playback c.status call)
     where
@@ -184,11 +184,11 @@ module _ (from member : ℕ) where
       by_refusal None = alike
       by_refusal (Some e) = at-once answer (c, Err e)
 
-  sync-alike : (c : Plain) (ring : List ℤ) → Alike from (SameButMember member done_answer) (sync_course c ring) (sync_course (other_of c) [])
+  sync-alike : (c : PlaybackStream) (ring : List ℤ) → Alike from (SameButMember member done_answer) (sync_course c ring) (sync_course (other_of c) [])
   sync-alike c ring = Alike-if from (SameButMember member done_answer) (is_moving c.status.state) (syncs c call.Sync ring) (ends (c, Ok tt)) (syncs (other_of c) call.Sync []) (ends (other_of c, Ok tt))
       (syncs-alike c call.Sync ring []) (at-once done_answer (c, Ok tt))
 
-  start-alike : (c : Plain) (ring : List ℤ) (cursor other : Cursor) → SameFrom from cursor other
+  start-alike : (c : PlaybackStream) (ring : List ℤ) (cursor other : Cursor) → SameFrom from cursor other
       → Alike from (SameButMember member done_answer) (start_course c ring cursor) (start_course (other_of c) [] other)
   start-alike c ring cursor other same = Alike-if from (SameButMember member done_answer) (nat_eq c.stretch.written 0) (ends _) (starts c Running cursor c.stretch.written ring) (ends _) (starts (other_of c) Running other c.stretch.written [])
       (at-once done_answer _) (starts-alike c Running cursor other c.stretch.written ring [] same)
@@ -199,31 +199,31 @@ module _ (from member : ℕ) where
   drain_on-alike ring other (c, Ok a) (d, Err f) is = let wrong = is.answer_is in absurd (cc)
   drain_on-alike ring other (c, Err e) (d, Ok b) is = let wrong = is.answer_is in absurd (cc)
 
-  drains-alike : (c : Plain) (ring more : List ℤ) (cursor other : Cursor) → SameFrom from cursor other
+  drains-alike : (c : PlaybackStream) (ring more : List ℤ) (cursor other : Cursor) → SameFrom from cursor other
       → Alike from (SameButMember member done_answer) (drains c ring cursor) (drains (other_of c) more other)
   unfolding drains
   drains-alike c ring more cursor other same =
       Alike-then from (SameButMember member done_answer) (SameButMember member done_answer) (starts c Draining cursor c.stretch.written ring) (starts (other_of c) Draining other c.stretch.written more)
       (drain_on ring) (drain_on more) (starts-alike c Draining cursor other c.stretch.written ring more same) (drain_on-alike ring more)
 
-  drain-alike : (c : Plain) (ring : List ℤ) (cursor other : Cursor) → SameFrom from cursor other
+  drain-alike : (c : PlaybackStream) (ring : List ℤ) (cursor other : Cursor) → SameFrom from cursor other
       → Alike from (SameButMember member done_answer) (drain_course c ring cursor) (drain_course (other_of c) [] other)
   drain-alike c ring cursor other same = Alike-if from (SameButMember member done_answer) (is_moving c.status.state) (syncs (draining c) call.Drain ring) _ (syncs (draining (other_of c)) call.Drain []) _
       (syncs-alike (draining c) call.Drain ring [])
       (Alike-if from (SameButMember member done_answer) (has_frames c) (drains c ring cursor) (ends _) (drains (other_of c) [] other) (ends _) (drains-alike c ring [] cursor other same) (at-once done_answer (dropped c, Ok tt)))
 
-  pause-alike : (on : Bool) (c : Plain) (ring : List ℤ) (cursor other : Cursor) → SameFrom from cursor other
+  pause-alike : (on : Bool) (c : PlaybackStream) (ring : List ℤ) (cursor other : Cursor) → SameFrom from cursor other
       → Alike from (SameButMember member done_answer) (pause_course on c ring cursor) (pause_course on (other_of c) [] other)
   pause-alike on c ring cursor other same = Alike-if from (SameButMember member done_answer) on (ends _) _ (ends _) _ (at-once done_answer (paused c, Ok tt))
       (Alike-if from (SameButMember member done_answer) (nat_eq (pending_of c) 0) (ends _) (resumes c cursor ring) (ends _) (resumes (other_of c) other []) (at-once done_answer (rebased c, Ok tt)) (resumes-alike c cursor other ring [] same))
 
-  numbered-alike : (number other : Plain → ℕ) (Q : Answered (Unit {0}) → Answered (Unit {0}) → Type 0) (m n : Course (Answered (Unit {0})))
+  numbered-alike : (number other : PlaybackStream → ℕ) (Q : Answered (Unit {0}) → Answered (Unit {0}) → Type 0) (m n : Course (Answered (Unit {0})))
       → ((x y : Answered (Unit {0})) → Q x y → SameButMember member count_answer (with_number number x) (with_number other y))
       → Alike from Q m n → Alike from (SameButMember member count_answer) (numbered number m) (numbered other n)
   unfolding numbered
   numbered-alike number other Q m n same alike = Alike-then from Q (SameButMember member count_answer) m n (λ done. ends (with_number number done)) (λ done. ends (with_number other done)) alike same
 
-  number-alike : (number : Plain → ℕ) → ((c : Plain) → number (other_of c) ≡ number c) → (c : Plain) (ring : List ℤ)
+  number-alike : (number : PlaybackStream → ℕ) → ((c : PlaybackStream) → number (other_of c) ≡ number c) → (c : PlaybackStream) (ring : List ℤ)
       → Alike from (SameButMember member count_answer) (number_course number c ring) (number_course number (other_of c) [])
   number-alike number same c ring =
       Alike-if from (SameButMember member count_answer) (is_moving c.status.state) (numbered number (syncs c call.Sync ring)) (ends (c, Ok (number c)))
@@ -231,7 +231,7 @@ module _ (from member : ℕ) where
       (numbered-alike number number (SameButMember member done_answer) (syncs c call.Sync ring) (syncs (other_of c) call.Sync []) (with_number-alike member number same) (syncs-alike c call.Sync ring []))
       (record { client = refl; answer_is = ap (λ n. count_answer (Ok n)) (sym (same c)) })
 
-  takes_more-alike : (c : Plain) (ring samples other more : List ℤ) (n : ℕ)
+  takes_more-alike : (c : PlaybackStream) (ring samples other more : List ℤ) (n : ℕ)
       → Alike from (SameButMember member count_answer) (takes_more c ring samples n) (takes_more (other_of c) other more n)
   unfolding takes_more
   takes_more-alike c ring samples other more n =
@@ -246,20 +246,20 @@ module _ (from member : ℕ) where
   write_on-alike ring samples other more n (c, Ok a) (d, Err f) is = let wrong = is.answer_is in absurd (cc)
   write_on-alike ring samples other more n (c, Err e) (d, Ok b) is = let wrong = is.answer_is in absurd (cc)
 
-  writes_on-alike : (c : Plain) (ring samples other more : List ℤ) (n : ℕ)
+  writes_on-alike : (c : PlaybackStream) (ring samples other more : List ℤ) (n : ℕ)
       → Alike from (SameButMember member count_answer) (writes_on c ring samples n) (writes_on (other_of c) other more n)
   unfolding writes_on
   writes_on-alike c ring samples other more n = Alike-then from (SameButMember member done_answer) (SameButMember member count_answer) (syncs c call.Transfer ring) (syncs (other_of c) call.Transfer other)
       (write_on ring samples n) (write_on other more n) (syncs-alike c call.Transfer ring other) (write_on-alike ring samples other more n)
 
-  starts_taking-alike : (c : Plain) (ring more : List ℤ) (cursor other : Cursor) (taken : ℕ) → SameFrom from cursor other
+  starts_taking-alike : (c : PlaybackStream) (ring more : List ℤ) (cursor other : Cursor) (taken : ℕ) → SameFrom from cursor other
       → Alike from (SameButMember member count_answer) (starts_taking c ring cursor taken) (starts_taking (other_of c) more other taken)
   unfolding starts_taking
   starts_taking-alike c ring more cursor other taken same = Alike-then from (SameButMember member done_answer) (SameButMember member count_answer)
       (starts c Running cursor (c.stretch.written + taken) ring) (starts (other_of c) Running other (c.stretch.written + taken) more) (λ done. ends (accepted_if taken done)) (λ done. ends (accepted_if taken done))
       (starts-alike c Running cursor other (c.stretch.written + taken) ring more same) (accepted_if-alike member taken)
 
-  write-alike : (c : Plain) (ring samples : List ℤ) (cursor other : Cursor) → SameFrom from cursor other
+  write-alike : (c : PlaybackStream) (ring samples : List ℤ) (cursor other : Cursor) → SameFrom from cursor other
       → Alike from (SameButMember member count_answer) (client_calls.write_course c ring samples cursor) (write_course (other_of c) other (frames_in c samples))
   write-alike c ring samples cursor other same =
       Alike-if from (SameButMember member count_answer) (is_running c.status.state) (writes_on c ring samples (frames_in c samples)) (fills c ring samples cursor (frames_in c samples))
@@ -300,14 +300,14 @@ module _ (from member : ℕ) where
       (take_each-alike place (card + (first + n)) bindings (f (first + n)) (g (first + n)) (length bindings))
       (λ x y is. back_on-alike n (length bindings) x y (take_frames place card bindings f first n) (take_frames member card bindings g first n) is (take_frames-alike place card bindings f g first n))
 
-  takes_back-alike : (c : Plain) (ring other : List ℤ) (n : ℕ) → Alike from (SameButMember member count_answer) (takes_back c ring n) (takes_back (other_of c) other n)
+  takes_back-alike : (c : PlaybackStream) (ring other : List ℤ) (n : ℕ) → Alike from (SameButMember member count_answer) (takes_back c ring n) (takes_back (other_of c) other n)
   unfolding takes_back
   takes_back-alike c ring other n =
       Alike-then from SameCommit (SameButMember member count_answer) (take_frames c.identity.member c.stretch.card c.setup.bindings (ring_sample c ring) (c.stretch.committed - back_of c n) (back_of c n)) (take_frames member c.stretch.card c.setup.bindings (ring_sample (other_of c) other) (c.stretch.committed - back_of c n) (back_of c n))
       (λ left. ends (rewound c n left)) (λ left. ends (rewound (other_of c) n left))
       (take_frames-alike c.identity.member c.stretch.card c.setup.bindings (ring_sample c ring) (ring_sample (other_of c) other) (c.stretch.committed - back_of c n) (back_of c n)) (λ x y is. rw is (rewound-word member c n x))
 
-  checks-alike : (c : Plain) → Alike from (SameLook from member) (checks c) (checks (other_of c))
+  checks-alike : (c : PlaybackStream) → Alike from (SameLook from member) (checks c) (checks (other_of c))
   unfolding checks
   checks-alike c = by_load
     where
@@ -315,7 +315,7 @@ module _ (from member : ℕ) where
       by_load None after = record { answer = record { client = refl; answer_is = refl }; seen = tt }
       by_load (Some p) after = record { answer = record { client = refl; answer_is = refl }; seen = on-ok (after_sync c call.Transfer (Some p) nothing).1 _ after }
 
-  rewindable-same : (floor lower : Cursor) (c : Plain) → SameFrom from floor lower → from ≤ unwrap_or c.seen 0 → rewindable_of floor c ≡ rewindable_of lower (other_of c)
+  rewindable-same : (floor lower : Cursor) (c : PlaybackStream) → SameFrom from floor lower → from ≤ unwrap_or c.seen 0 → rewindable_of floor c ≡ rewindable_of lower (other_of c)
   rewindable-same floor lower c same seen = ap (λ (n : ℕ). pending_of c + (c.stretch.committed - (n - c.stretch.card))) (same (unwrap_or c.seen 0) seen)
 
   rewind_on-alike : (floor lower : Cursor) (ring other : List ℤ) (n : ℕ) → SameFrom from floor lower → (x y : Answered (Unit {0})) → SameLook from member x y
@@ -326,13 +326,13 @@ module _ (from member : ℕ) where
   rewind_on-alike floor lower ring other n same (c, Ok a) (d, Err f) is = let wrong = is.answer.answer_is in absurd (cc)
   rewind_on-alike floor lower ring other n same (c, Err e) (d, Ok b) is = let wrong = is.answer.answer_is in absurd (cc)
 
-  rewinds-alike : (c : Plain) (ring other : List ℤ) (floor lower : Cursor) (n : ℕ) → SameFrom from floor lower
+  rewinds-alike : (c : PlaybackStream) (ring other : List ℤ) (floor lower : Cursor) (n : ℕ) → SameFrom from floor lower
       → Alike from (SameButMember member count_answer) (rewinds c ring floor n) (rewinds (other_of c) other lower n)
   unfolding rewinds
   rewinds-alike c ring other floor lower n same =
       Alike-then from (SameLook from member) (SameButMember member count_answer) (checks c) (checks (other_of c)) (rewind_on floor ring n) (rewind_on lower other n) (checks-alike c) (rewind_on-alike floor lower ring other n same)
 
-  rewind-alike : (c : Plain) (ring : List ℤ) (floor lower : Cursor) (n : ℕ) → SameFrom from floor lower
+  rewind-alike : (c : PlaybackStream) (ring : List ℤ) (floor lower : Cursor) (n : ℕ) → SameFrom from floor lower
       → Alike from (SameButMember member count_answer) (rewind_course c ring floor n) (rewind_course (other_of c) [] lower n)
   rewind-alike c ring floor lower n same = Alike-if from (SameButMember member count_answer) (is_running c.status.state) (rewinds c ring floor n) (ends _) (rewinds (other_of c) [] lower n) (ends _)
       (rewinds-alike c ring [] floor lower n same) (at-once count_answer (without c (min n c.stretch.written), Ok (min n c.stretch.written)))
@@ -347,12 +347,12 @@ module _ (from member : ℕ) where
   rewindable_number floor lower same (c, Ok a) (d, Err f) is = let wrong = is.answer.answer_is in absurd (cc)
   rewindable_number floor lower same (c, Err e) (d, Ok b) is = let wrong = is.answer.answer_is in absurd (cc)
 
-  rewindable-alike : (c : Plain) (floor lower : Cursor) → SameFrom from floor lower
+  rewindable-alike : (c : PlaybackStream) (floor lower : Cursor) → SameFrom from floor lower
       → Alike from (SameButMember member count_answer) (rewindable_course c floor) (rewindable_course (other_of c) lower)
   rewindable-alike c floor lower same = Alike-if from (SameButMember member count_answer) (is_running c.status.state) (numbered (rewindable_of floor) (checks c)) (ends _) (numbered (rewindable_of lower) (checks (other_of c))) (ends _)
       (numbered-alike (rewindable_of floor) (rewindable_of lower) (SameLook from member) (checks c) (checks (other_of c)) (rewindable_number floor lower same) (checks-alike c)) (at-once count_answer (c, Ok c.stretch.written))
 
-  pub calls-alike : (c : Plain) (ring : List ℤ) (cursor other floor lower : Cursor) → SameFrom from cursor other → SameFrom from floor lower
+  pub calls-alike : (c : PlaybackStream) (ring : List ℤ) (cursor other floor lower : Cursor) → SameFrom from cursor other → SameFrom from floor lower
       → CallsAreAlike from member c ring cursor other floor lower
   calls-alike c ring cursor other floor lower same same_floor = record {
     write = λ samples. admitted-alike count_answer c call.Transfer _ _ (write-alike c ring samples cursor other same);

@@ -13,7 +13,7 @@ use Rattle.pcm_states.specs.declared.calls.Call.{Call}
 use Rattle.pcm_states.specs.declared.calls.Call.TheVariants as call
 use Rattle.course.specs.Course.{◌>>=◌, Course, ends}
 use Rattle.dmix_client.specs.declared.commit.Commit.{Commit}
-use Rattle.dmix_client.specs.declared.plain.Plain.{Plain}
+use Rattle.dmix_client.specs.declared.stream.PlaybackStream.{PlaybackStream}
 use Rattle.pcm_stream.specs.declared.direction.Direction.TheVariants.{Playback}
 use Rattle.pcm_stream.specs.Status.{is_moving, refusal_of}
 use Rattle.dmix_client.specs.Calls.{Answered, accepted_if, draining, has_frames, is_running, pending_of, rebased, resumed, start_count, after_start, started_in, sync_count, after_sync, taken_of, with_number, written_after}
@@ -48,7 +48,7 @@ lay_frames-led member card bindings samples (suc count) first =
     (lay_each-led member (card + first) bindings (samples first) (rising bindings))
     (λ l end is. go_on-led end l (lay_frames member card bindings samples count (first + 1)) is (lay_frames-led member card bindings samples count (first + 1)))
 
-commits-led : (c : Plain) (ring : List ℤ) (count : ℕ) → Led IsLed true (commits c ring count)
+commits-led : (c : PlaybackStream) (ring : List ℤ) (count : ℕ) → Led IsLed true (commits c ring count)
 commits-led c ring count = lay_frames-led c.identity.member c.stretch.card c.setup.bindings (ring_sample c ring) count c.stretch.committed
 
 -- a load and the commit behind it
@@ -56,7 +56,7 @@ abbrev FoundLed : Bool → Option Position × Commit → Type 0
 FoundLed l (None, commit) = ⊤
 FoundLed l (Some position, commit) = l ≡ true
 
-looks-led : (at : Position → Plain) (count : Position → ℕ) (ring : List ℤ) (loaded : Bool) → Led FoundLed loaded (looks at count ring)
+looks-led : (at : Position → PlaybackStream) (count : Position → ℕ) (ring : List ℤ) (loaded : Bool) → Led FoundLed loaded (looks at count ring)
 unfolding looks ◌>>=◌
 looks-led at count ring loaded = by_load
   where
@@ -71,21 +71,21 @@ found-ok : {T : Type 0} (done : Option Position → Commit → Answered T) → (
 found-ok done none l (None, x) led = none l x
 found-ok done none l (Some position, x) led = on-ok l (done (Some position) x).1 led
 
-found-led : {T : Type 0} (at : Position → Plain) (count : Position → ℕ) (ring : List ℤ) (done : Option Position → Commit → Answered T)
+found-led : {T : Type 0} (at : Position → PlaybackStream) (count : Position → ℕ) (ring : List ℤ) (done : Option Position → Commit → Answered T)
     → ((l : Bool) (x : Commit) → OkLed l (done None x)) → (loaded : Bool) → Led OkLed loaded (looks at count ring >>= λ found. ends (done found.0 found.1))
 found-led at count ring done none loaded =
     Led-then FoundLed OkLed loaded (looks at count ring) (λ found. ends (done found.0 found.1)) (looks-led at count ring loaded) (found-ok done none)
 
-syncs-led : (c : Plain) (call : Call) (ring : List ℤ) (loaded : Bool) → Led OkLed loaded (syncs c call ring)
+syncs-led : (c : PlaybackStream) (call : Call) (ring : List ℤ) (loaded : Bool) → Led OkLed loaded (syncs c call ring)
 unfolding syncs
 syncs-led c call ring loaded = found-led (λ position. c) (sync_count c) ring (after_sync c call) (λ l x. tt) loaded
 
-starts-led : (c : Plain) (state : State) (cursor : Cursor) (upto : ℕ) (ring : List ℤ) (loaded : Bool) → Led OkLed loaded (starts c state cursor upto ring)
+starts-led : (c : PlaybackStream) (state : State) (cursor : Cursor) (upto : ℕ) (ring : List ℤ) (loaded : Bool) → Led OkLed loaded (starts c state cursor upto ring)
 unfolding starts
 starts-led c state cursor upto ring loaded =
     found-led (λ position. started_in c Running position cursor) (λ position. start_count c cursor position upto) ring (after_start c state cursor) (λ l x. tt) loaded
 
-resumes-led : (c : Plain) (cursor : Cursor) (ring : List ℤ) (loaded : Bool) → Led OkLed loaded (resumes c cursor ring)
+resumes-led : (c : PlaybackStream) (cursor : Cursor) (ring : List ℤ) (loaded : Bool) → Led OkLed loaded (resumes c cursor ring)
 unfolding resumes
 resumes-led c cursor ring loaded =
     found-led (λ position. started_in (rebased c) Running position cursor) (λ position. start_count (rebased c) cursor position (pending_of c)) ring
@@ -93,10 +93,10 @@ resumes-led c cursor ring loaded =
 
 -- ---- the calls
 
-pub sync-first : (c : Plain) (ring : List ℤ) → LoadsFirst false (sync_course c ring)
+pub sync-first : (c : PlaybackStream) (ring : List ℤ) → LoadsFirst false (sync_course c ring)
 sync-first c ring = Led-if Anything false (is_moving c.status.state) (syncs c call.Sync ring) (ends _) (first-of OkLed false _ (syncs-led c call.Sync ring false)) tt
 
-pub start-first : (c : Plain) (ring : List ℤ) (cursor : Cursor) → LoadsFirst false (start_course c ring cursor)
+pub start-first : (c : PlaybackStream) (ring : List ℤ) (cursor : Cursor) → LoadsFirst false (start_course c ring cursor)
 start-first c ring cursor =
     Led-if Anything false (nat_eq c.stretch.written 0) (ends _) (starts c Running cursor c.stretch.written ring) tt (first-of OkLed false _ (starts-led c Running cursor c.stretch.written ring false))
 
@@ -104,29 +104,29 @@ drain_on-first : (ring : List ℤ) (l : Bool) (done : Answered (Unit {0})) → L
 drain_on-first ring l (c, Ok x) = first-of OkLed l _ (syncs-led c call.Drain ring l)
 drain_on-first ring l (c, Err e) = tt
 
-drains-first : (c : Plain) (ring : List ℤ) (cursor : Cursor) → LoadsFirst false (drains c ring cursor)
+drains-first : (c : PlaybackStream) (ring : List ℤ) (cursor : Cursor) → LoadsFirst false (drains c ring cursor)
 unfolding drains
 drains-first c ring cursor = first-then false (starts c Draining cursor c.stretch.written ring) (drain_on ring)
     (first-of OkLed false _ (starts-led c Draining cursor c.stretch.written ring false)) (drain_on-first ring)
 
-pub drain-first : (c : Plain) (ring : List ℤ) (cursor : Cursor) → LoadsFirst false (drain_course c ring cursor)
+pub drain-first : (c : PlaybackStream) (ring : List ℤ) (cursor : Cursor) → LoadsFirst false (drain_course c ring cursor)
 drain-first c ring cursor = Led-if Anything false (is_moving c.status.state) (syncs (draining c) call.Drain ring) _
     (first-of OkLed false _ (syncs-led (draining c) call.Drain ring false))
     (Led-if Anything false (has_frames c) (drains c ring cursor) (ends _) (drains-first c ring cursor) tt)
 
-pub pause-first : (on : Bool) (c : Plain) (ring : List ℤ) (cursor : Cursor) → LoadsFirst false (pause_course on c ring cursor)
+pub pause-first : (on : Bool) (c : PlaybackStream) (ring : List ℤ) (cursor : Cursor) → LoadsFirst false (pause_course on c ring cursor)
 pause-first on c ring cursor = Led-if Anything false on (ends _) _ tt
     (Led-if Anything false (nat_eq (pending_of c) 0) (ends _) (resumes c cursor ring) tt (first-of OkLed false _ (resumes-led c cursor ring false)))
 
-numbered-first : (number : Plain → ℕ) (course : Course (Answered (Unit {0}))) → LoadsFirst false course → LoadsFirst false (numbered number course)
+numbered-first : (number : PlaybackStream → ℕ) (course : Course (Answered (Unit {0}))) → LoadsFirst false course → LoadsFirst false (numbered number course)
 unfolding numbered
 numbered-first number course led = first-then false course (λ done. ends (with_number number done)) led (λ l x. tt)
 
-pub number-first : (number : Plain → ℕ) (c : Plain) (ring : List ℤ) → LoadsFirst false (number_course number c ring)
+pub number-first : (number : PlaybackStream → ℕ) (c : PlaybackStream) (ring : List ℤ) → LoadsFirst false (number_course number c ring)
 number-first number c ring = Led-if Anything false (is_moving c.status.state) (numbered number (syncs c call.Sync ring)) (ends _)
     (numbered-first number (syncs c call.Sync ring) (first-of OkLed false _ (syncs-led c call.Sync ring false))) tt
 
-takes_more-first : (c : Plain) (ring samples : List ℤ) (n : ℕ) → LoadsFirst true (takes_more c ring samples n)
+takes_more-first : (c : PlaybackStream) (ring samples : List ℤ) (n : ℕ) → LoadsFirst true (takes_more c ring samples n)
 unfolding takes_more
 takes_more-first c ring samples n =
     Led-then IsLed Anything true (commits c (ring_with c ring samples (taken_of c n)) (count_with c (taken_of c n))) (λ last. ends (written_after c n last))
@@ -136,23 +136,23 @@ write_on-first : (ring samples : List ℤ) (n : ℕ) (l : Bool) (done : Answered
 write_on-first ring samples n l (c, Ok x) led = rw led (takes_more-first c ring samples n)
 write_on-first ring samples n l (c, Err e) led = tt
 
-writes_on-first : (c : Plain) (ring samples : List ℤ) (n : ℕ) → LoadsFirst false (writes_on c ring samples n)
+writes_on-first : (c : PlaybackStream) (ring samples : List ℤ) (n : ℕ) → LoadsFirst false (writes_on c ring samples n)
 unfolding writes_on
 writes_on-first c ring samples n =
     Led-then OkLed Anything false (syncs c call.Transfer ring) (write_on ring samples n) (syncs-led c call.Transfer ring false) (write_on-first ring samples n)
 
-starts_taking-first : (c : Plain) (ring : List ℤ) (cursor : Cursor) (taken : ℕ) → LoadsFirst false (starts_taking c ring cursor taken)
+starts_taking-first : (c : PlaybackStream) (ring : List ℤ) (cursor : Cursor) (taken : ℕ) → LoadsFirst false (starts_taking c ring cursor taken)
 unfolding starts_taking
 starts_taking-first c ring cursor taken =
     first-then false (starts c Running cursor (c.stretch.written + taken) ring) (λ done. ends (accepted_if taken done))
     (first-of OkLed false _ (starts-led c Running cursor (c.stretch.written + taken) ring false)) (λ l x. tt)
 
-pub write-first : (c : Plain) (cursor : Cursor) (n : ℕ) → LoadsFirst false (write_course c cursor n)
+pub write-first : (c : PlaybackStream) (cursor : Cursor) (n : ℕ) → LoadsFirst false (write_course c cursor n)
 write-first c cursor n = Led-if Anything false (is_running c.status.state) (writes_on c [] [] n) (fills c [] [] cursor n) (writes_on-first c [] [] n)
     (Led-if Anything false (starts_with c n) (starts_taking c (ring_with c [] [] (taken_of c n)) cursor (taken_of c n)) (ends _)
     (starts_taking-first c (ring_with c [] [] (taken_of c n)) cursor (taken_of c n)) tt)
 
-pub admitted-first : {X : Type 0} (c : Plain) (call : Call) (course : Course (Answered X)) → LoadsFirst false course → LoadsFirst false (admitted c call course)
+pub admitted-first : {X : Type 0} (c : PlaybackStream) (call : Call) (course : Course (Answered X)) → LoadsFirst false course → LoadsFirst false (admitted c call course)
 admitted-first {X = X} c call course led = by_refusal (refusal_of Playback c.status call)
   where
     by_refusal : (refusal : Option PcmError) → LoadsFirst false (admitted_by {X = X} refusal c course)

@@ -16,7 +16,7 @@ use Rattle.wav_io.specs.Sound.{Sound}
 use Rattle.course.specs.AtPort.{LaysAt, LoadsAt, NoGet, TakesAt}
 use Rattle.course.specs.Course.{◌>>=◌, Course, Takes, ends}
 use Rattle.course.specs.CourseLaws.{Takes-map}
-use Rattle.dmix_client.specs.declared.plain.Plain.{Plain}
+use Rattle.dmix_client.specs.declared.stream.PlaybackStream.{PlaybackStream}
 use Rattle.dmix_client.specs.Calls.{Answered}
 use Rattle.dmix_client.specs.Course.{admitted}
 use Rattle.dmix_client.specs.Course as client_calls
@@ -37,7 +37,7 @@ use Rattle.lab_run.proofs.MemberLaws.{ended-member}
 use Rattle.lab_run.proofs.PortLaws.{course-part}
 
 -- a client and an answer, and those of the client with another member
-abbrev IsRenumbered : ℕ → Plain × Answer → Plain × Answer → Type 0
+abbrev IsRenumbered : ℕ → PlaybackStream × Answer → PlaybackStream × Answer → Type 0
 IsRenumbered member x y = y ≡ (with_member member x.0, x.1)
 
 -- a call with its answer, and then a function of both
@@ -51,7 +51,7 @@ other-way : (from : ℕ) (one other : Cursor) → SameFrom from one other → Sa
 other-way from one other same position after = sym (same position after)
 
 -- the call as a client makes it, and as it is in a run
-call-alike : (ring : Geometry) (from member : ℕ) (before : Cursor) (wav : Sound) (held samples : List ℤ) (own port : Marks) (c : Plain) (asked : Op)
+call-alike : (ring : Geometry) (from member : ℕ) (before : Cursor) (wav : Sound) (held samples : List ℤ) (own port : Marks) (c : PlaybackStream) (asked : Op)
     → MarksAlike ring from before own port → IsOffered wav c samples asked
     → Alike from (IsRenumbered member) (made_call held samples port c asked) (call_of wav own (with_member member c) asked)
 call-alike ring from member before wav held samples own port c asked marks = by_op asked
@@ -77,7 +77,7 @@ call-alike ring from member before wav held samples own port c asked marks = by_
     by_op other offered = refl
 
 -- the course of a line that makes a call
-line-is_call : (wav : Sound) (marks : Marks) (client : Client) (c : Plain) (asked : Op) → MakesCall client c asked
+line-is_call : (wav : Sound) (marks : Marks) (client : Client) (c : PlaybackStream) (asked : Op) → MakesCall client c asked
     → line_by wav marks client client.own asked ≡ (call_of wav marks c asked >>= λ done. ends (after_call client c asked done))
 unfolding ◌>>=◌
 line-is_call wav marks client c asked makes =
@@ -88,7 +88,7 @@ line-is_call wav marks client c asked makes =
     by_op (op.Die k) asks = absurd (cc)
     by_op other asks = refl
 
-begins-same : (client : Client) (c : Plain) (asked : Op) (a : AtPort) → MakesCall client c asked → begins client.own asked a ≡ a
+begins-same : (client : Client) (c : PlaybackStream) (asked : Op) (a : AtPort) → MakesCall client c asked → begins client.own asked a ≡ a
 begins-same client c asked a makes = ap (λ own. begins own asked a) makes.is_open ∙ ap (λ stopped. dies_if stopped asked a) makes.goes ∙ by_op asked makes.asks
   where
     by_op : (asked : Op) → is_die asked ≡ false → dies_if false asked a ≡ a
@@ -104,8 +104,8 @@ module _ {S T : Type 0} (P : mixport.Ghosts S) (G : gates.Ghosts T) (shown_laid 
     (composes : Composes P.loaded) (left : T → Option ℕ) (by_gate : T → ℕ) (counts : CountsDown G.asked left by_gate) (first : S) (ring : Geometry) (from : ℕ) where
   pub client-lines : ClientLinesAreParts P G left by_gate first ring from
   client-lines s t phase wav number (a, found) client c held samples asked after answer makes offered at takes =
-      let own : Plain = with_member number c in
-      let taken : Plain × Answer → Client × Answer = λ done. after_call client own asked (with_member number done.0, done.1) in
+      let own : PlaybackStream = with_member number c in
+      let taken : PlaybackStream × Answer → Client × Answer = λ done. after_call client own asked (with_member number done.0, done.1) in
       let made : Course (Client × Answer) = made_call held samples (P.view s.0).marks c asked >>= λ done. ends (taken done) in
       let line : Course (Client × Answer) = call_of wav a.marks own asked >>= λ done. ends (after_call client own asked done) in
       let alike : Alike from (λ (x y : Client × Answer). x ≡ y) made line =

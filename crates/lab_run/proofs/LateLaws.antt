@@ -21,7 +21,7 @@ use Rattle.pcm_states.specs.Table.{Cell, already, done_in, draining, ebadfd, eio
 use Rattle.course.specs.Course.{◌>>=◌, Course, ends}
 use Rattle.wav_io.specs.Sound.{Sound}
 use Rattle.dmix_client.specs.declared.commit.Commit.{Commit}
-use Rattle.dmix_client.specs.declared.plain.Plain.{Plain}
+use Rattle.dmix_client.specs.declared.stream.PlaybackStream.{PlaybackStream}
 use Rattle.pcm_stream.specs.declared.direction.Direction.TheVariants.{Playback}
 use Rattle.pcm_stream.specs.Status.{is_moving, is_refusal, nothing_found, refusal_in, refusal_of}
 use Rattle.dmix_client.specs.Calls.{Answered, accepted, accepted_if, avail_answer, committed_by, delay_answer, dropped, end_channel, end_of_commit, facts_of, found_at, going_on, going_on_by, is_running, is_stop, late_at, late_of, over_of, paused, pending_of, prepared, rebased, resumed, seen_at, with_outcome, after_start, started_in, start_count, stopped_in, sync_count, after_sync, taken_of, with_number, written_after}
@@ -139,7 +139,7 @@ abbrev Missed : {T : Type 0} → Answered T → Type 0
 Missed (d, r) = LateIn (IsNext d) r
 
 -- a commit's late sample is the first that isn't laid
-commit-missed : (c : Plain) (x : Commit) → IfSome (late_of c x) (LateWhy (IsNext (committed_by c x)))
+commit-missed : (c : PlaybackStream) (x : Commit) → IfSome (late_of c x) (LateWhy (IsNext (committed_by c x)))
 commit-missed c x = by_end x.ended
   where
     by_end : (e : Ended) → IfSome (late_at e (end_of_commit c x) (end_channel c x)) (LateWhy (IsNext (committed_by c x)))
@@ -147,11 +147,11 @@ commit-missed c x = by_end x.ended
     by_end (ended.Late word) = (refl, refl)
     by_end ended.Stopped = tt
 
-going_on-missed : (c : Plain) (state refused : State) (r : Result (Unit {0}) PcmError) → LateIn (IsNext c) r → Missed (going_on_by r c state refused)
+going_on-missed : (c : PlaybackStream) (state refused : State) (r : Result (Unit {0}) PcmError) → LateIn (IsNext c) r → Missed (going_on_by r c state refused)
 going_on-missed c state refused (Ok done) late = tt
 going_on-missed c state refused (Err e) late = late
 
-after_sync-missed : (c : Plain) (asked : Call) (load : Option Position) (x : Commit) → Missed (after_sync c asked load x)
+after_sync-missed : (c : PlaybackStream) (asked : Call) (load : Option Position) (x : Commit) → Missed (after_sync c asked load x)
 after_sync-missed c asked None x = tt
 after_sync-missed c asked (Some p) x = by_stop (is_stop x.ended)
   where
@@ -162,11 +162,11 @@ after_sync-missed c asked (Some p) x = by_stop (is_stop x.ended)
     by_stop true = tt
     by_stop false = next-late (IsNext (committed_by (seen_at c p) x)) c.status.state asked f (commit-missed (seen_at c p) x)
 
-after_start-missed : (c : Plain) (state : State) (cursor : Cursor) (load : Option Position) (x : Commit) → Missed (after_start c state cursor load x)
+after_start-missed : (c : PlaybackStream) (state : State) (cursor : Cursor) (load : Option Position) (x : Commit) → Missed (after_start c state cursor load x)
 after_start-missed c state cursor None x = tt
 after_start-missed c state cursor (Some p) x = by_gone p.gone
   where
-    from : Plain
+    from : PlaybackStream
     from = started_in c state p cursor
 
     by_stop : (b : Bool) → Missed (if b then stopped_in (committed_by from x) else going_on (committed_by from x) state (next_of Prepared call.Start (found_at p (late_of from x))))
@@ -180,7 +180,7 @@ after_start-missed c state cursor (Some p) x = by_gone p.gone
         (next-late (IsNext (seen_at c p)) Prepared call.Start (found_at p None) tt)
     by_gone false = by_stop (is_stop x.ended)
 
-resumed-missed : (c : Plain) (cursor : Cursor) (load : Option Position) (x : Commit) → Missed (resumed c cursor load x)
+resumed-missed : (c : PlaybackStream) (cursor : Cursor) (load : Option Position) (x : Commit) → Missed (resumed c cursor load x)
 resumed-missed c cursor None x = tt
 resumed-missed c cursor (Some p) x = after_start-missed (rebased c) Running cursor (Some p) x
 
@@ -188,11 +188,11 @@ accepted-missed : (n : ℕ) (done : Answered (Unit {0})) → Missed done → Mis
 accepted-missed n (c, Ok done) late = tt
 accepted-missed n (c, Err e) late = late
 
-number-missed : (number : Plain → ℕ) (done : Answered (Unit {0})) → Missed done → Missed (with_number number done)
+number-missed : (number : PlaybackStream → ℕ) (done : Answered (Unit {0})) → Missed done → Missed (with_number number done)
 number-missed number (c, Ok done) late = tt
 number-missed number (c, Err e) late = late
 
-written-missed : (c : Plain) (n : ℕ) (x : Commit) → Missed (written_after c n x)
+written-missed : (c : PlaybackStream) (n : ℕ) (x : Commit) → Missed (written_after c n x)
 written-missed c n x = by_test (nat_lt 0 n && nat_eq (avail_of c) 0) (is_stop x.ended)
   where
     f : Facts
@@ -215,24 +215,24 @@ All-if Q false m n one two = two
 All-after : {X Y : Type 0} (Q : Y → Type 0) (m : Course X) (f : X → Course Y) → ((x : X) → All Q (f x)) → All Q (m >>= f)
 All-after Q m f each = All-then (λ x. ⊤) Q m f (All-any (λ x. ⊤) m (λ x. tt)) (λ x any. each x)
 
-syncs-missed : (c : Plain) (asked : Call) (ring : List ℤ) → All Missed (syncs c asked ring)
+syncs-missed : (c : PlaybackStream) (asked : Call) (ring : List ℤ) → All Missed (syncs c asked ring)
 unfolding syncs
 syncs-missed c asked ring = All-after Missed (looks (λ position. c) (sync_count c) ring) (λ found. ends (after_sync c asked found.0 found.1))
     (λ found. after_sync-missed c asked found.0 found.1)
 
-starts-missed : (c : Plain) (state : State) (cursor : Cursor) (upto : ℕ) (ring : List ℤ) → All Missed (starts c state cursor upto ring)
+starts-missed : (c : PlaybackStream) (state : State) (cursor : Cursor) (upto : ℕ) (ring : List ℤ) → All Missed (starts c state cursor upto ring)
 unfolding starts
 starts-missed c state cursor upto ring =
     All-after Missed (looks (λ position. started_in c Running position cursor) (λ position. start_count c cursor position upto) ring)
     (λ found. ends (after_start c state cursor found.0 found.1)) (λ found. after_start-missed c state cursor found.0 found.1)
 
-resumes-missed : (c : Plain) (cursor : Cursor) (ring : List ℤ) → All Missed (resumes c cursor ring)
+resumes-missed : (c : PlaybackStream) (cursor : Cursor) (ring : List ℤ) → All Missed (resumes c cursor ring)
 unfolding resumes
 resumes-missed c cursor ring =
     All-after Missed (looks (λ position. started_in (rebased c) Running position cursor) (λ position. start_count (rebased c) cursor position (pending_of c)) ring)
     (λ found. ends (resumed c cursor found.0 found.1)) (λ found. resumed-missed c cursor found.0 found.1)
 
-numbered-missed : (number : Plain → ℕ) (m : Course (Answered (Unit {0}))) → All Missed m → All Missed (numbered number m)
+numbered-missed : (number : PlaybackStream → ℕ) (m : Course (Answered (Unit {0}))) → All Missed m → All Missed (numbered number m)
 unfolding numbered
 numbered-missed number m all = All-then Missed Missed m (λ done. ends (with_number number done)) all (number-missed number)
 
@@ -242,7 +242,7 @@ write_on-missed ring samples n (c, Err e) late = late
 write_on-missed ring samples n (c, Ok done) late =
     All-after Missed (commits c (ring_with c ring samples (taken_of c n)) (count_with c (taken_of c n))) (λ last. ends (written_after c n last)) (written-missed c n)
 
-write-missed : (c : Plain) (cursor : Cursor) (n : ℕ) → All Missed (write_course c cursor n)
+write-missed : (c : PlaybackStream) (cursor : Cursor) (n : ℕ) → All Missed (write_course c cursor n)
 unfolding writes_on starts_taking
 write-missed c cursor n = All-if Missed (is_running c.status.state) (writes_on c [] [] n) (fills c [] [] cursor n)
     (All-then Missed Missed (syncs c call.Transfer []) (write_on [] [] n) (syncs-missed c call.Transfer []) (write_on-missed [] [] n))
@@ -251,7 +251,7 @@ write-missed c cursor n = All-if Missed (is_running c.status.state) (writes_on c
     (starts-missed c Running cursor (c.stretch.written + taken_of c n) (ring_with c [] [] (taken_of c n))) (accepted-missed (taken_of c n)))
     tt)
 
-start-missed : (c : Plain) (cursor : Cursor) → All Missed (start_course c [] cursor)
+start-missed : (c : PlaybackStream) (cursor : Cursor) → All Missed (start_course c [] cursor)
 start-missed c cursor = All-if Missed (nat_eq c.stretch.written 0) (ends (with_outcome c (next_of c.status.state call.Start f))) (starts c Running cursor c.stretch.written [])
     (next-late (IsNext c) c.status.state call.Start f tt) (starts-missed c Running cursor c.stretch.written [])
   where
@@ -262,30 +262,30 @@ drain_on-missed : (done : Answered (Unit {0})) → Missed done → All Missed (d
 drain_on-missed (c, Ok done) late = syncs-missed c call.Drain []
 drain_on-missed (c, Err e) late = late
 
-drain-missed : (c : Plain) (cursor : Cursor) → All Missed (drain_course c [] cursor)
+drain-missed : (c : PlaybackStream) (cursor : Cursor) → All Missed (drain_course c [] cursor)
 unfolding drains
 drain-missed c cursor = All-if Missed (is_moving c.status.state) (syncs (calls.draining c) call.Drain []) _ (syncs-missed (calls.draining c) call.Drain [])
     (All-if Missed (calls.has_frames c) (drains c [] cursor) (ends (dropped c, Ok tt))
     (All-then Missed Missed (starts c Draining cursor c.stretch.written []) (drain_on []) (starts-missed c Draining cursor c.stretch.written []) drain_on-missed) tt)
 
-pause-missed : (on : Bool) (c : Plain) (cursor : Cursor) → All Missed (pause_course on c [] cursor)
+pause-missed : (on : Bool) (c : PlaybackStream) (cursor : Cursor) → All Missed (pause_course on c [] cursor)
 pause-missed on c cursor = All-if Missed on (ends (paused c, Ok tt)) _ tt
     (All-if Missed (nat_eq (pending_of c) 0) (ends (rebased c, Ok tt)) (resumes c cursor []) tt (resumes-missed c cursor []))
 
-number_course-missed : (number : Plain → ℕ) (c : Plain) → All Missed (number_course number c [])
+number_course-missed : (number : PlaybackStream → ℕ) (c : PlaybackStream) → All Missed (number_course number c [])
 number_course-missed number c = All-if Missed (is_moving c.status.state) (numbered number (syncs c call.Sync [])) (ends (c, Ok (number c)))
     (numbered-missed number (syncs c call.Sync []) (syncs-missed c call.Sync [])) tt
 
-checks-missed : (c : Plain) → All Missed (checks c)
+checks-missed : (c : PlaybackStream) → All Missed (checks c)
 unfolding checks
 checks-missed c = λ load. after_sync-missed c call.Transfer load nothing
 
-rewindable-missed : (c : Plain) (floor : Cursor) → All Missed (rewindable_course c floor)
+rewindable-missed : (c : PlaybackStream) (floor : Cursor) → All Missed (rewindable_course c floor)
 rewindable-missed c floor = All-if Missed (is_running c.status.state) (numbered (rewindable_of floor) (checks c)) _
     (numbered-missed (rewindable_of floor) (checks c) (checks-missed c)) tt
 
 -- a call's refusal isn't late
-refusal-missed : (c : Plain) (asked : Call) → IfSome (refusal_of Playback c.status asked) (LateErr (IsNext c))
+refusal-missed : (c : PlaybackStream) (asked : Call) → IfSome (refusal_of Playback c.status asked) (LateErr (IsNext c))
 refusal-missed c asked = by_stop c.status.stopped
   where
     Q : ℕ → ℕ → Type 0
@@ -303,7 +303,7 @@ refusal-missed c asked = by_stop c.status.stopped
     by_stop true = tt
     by_stop false = by_answer (next_of c.status.state asked (nothing_found Playback)).answer (next-late Q c.status.state asked (nothing_found Playback) tt)
 
-admitted-missed : {T : Type 0} (c : Plain) (asked : Call) (m : Course (Answered T)) → All Missed m → All Missed (admitted c asked m)
+admitted-missed : {T : Type 0} (c : PlaybackStream) (asked : Call) (m : Course (Answered T)) → All Missed m → All Missed (admitted c asked m)
 admitted-missed {T = T} c asked m all = by_refusal (refusal_of Playback c.status asked) (refusal-missed c asked)
   where
     by_refusal : (refusal : Option PcmError) → IfSome refusal (LateErr (IsNext c)) → All Missed (admitted_by refusal c m)
@@ -313,7 +313,7 @@ admitted-missed {T = T} c asked m all = by_refusal (refusal_of Playback c.status
 -- ---- the lines
 
 -- an answer of a report
-abbrev Named : Plain × Answer → Type 0
+abbrev Named : PlaybackStream × Answer → Type 0
 Named (d, answer) = LateAnswer (IsNext d) answer
 
 done-named : (m : Course (Answered (Unit {0}))) → All Missed m → All Named (answered done_answer m)
@@ -330,7 +330,7 @@ count-named m all = All-then Missed Named m (λ done. ends (done.0, count_answer
     named (d, Ok n) late = tt
     named (d, Err e) late = reported-late (IsNext d) e late
 
-call-named : (wav : Sound) (marks : Marks) (c : Plain) (asked : Op) → is_rewind asked ≡ false → All Named (call_of wav marks c asked)
+call-named : (wav : Sound) (marks : Marks) (c : PlaybackStream) (asked : Op) → is_rewind asked ≡ false → All Named (call_of wav marks c asked)
 call-named wav marks c (op.Write n) not = count-named _ (admitted-missed c call.Transfer _ (write-missed c marks.cursor _))
 call-named wav marks c op.Start not = done-named _ (admitted-missed c call.Start _ (start-missed c marks.cursor))
 call-named wav marks c op.Sync not = done-named _ (admitted-missed c call.Sync _ (All-if Missed (is_moving c.status.state) (syncs c call.Sync []) (ends (c, Ok tt)) (syncs-missed c call.Sync []) tt))
@@ -357,7 +357,7 @@ late-rows rules phase wav number a b client after c asked answer is not may =
     stays : (given : Answer) → LateAnswer (IsNext c) given → NamesNext client given
     stays given named = record { own = c; is_own = is; late = λ frame channel late. subst (LateAnswer (IsNext c)) late named }
 
-    called : (o : Op) (x : Plain × Answer) → Named x → NamesNext (after_call client c o x).0 (after_call client c o x).1
+    called : (o : Op) (x : PlaybackStream × Answer) → Named x → NamesNext (after_call client c o x).0 (after_call client c o x).1
     called o (d, given) named = record { own = d; is_own = refl; late = λ frame channel late. subst (LateAnswer (IsNext d)) late named }
 
     by_call : (o : Op) → is_rewind o ≡ false → All (λ x. NamesNext x.0 x.1) (call_of wav marks c o >>= λ done. ends (after_call client c o done))

@@ -17,7 +17,7 @@ use Rattle.wav_io.specs.Sound.{Sound}
 use Rattle.pcm_stream.specs.declared.direction.Direction.TheVariants.{Playback}
 use Rattle.pcm_stream.specs.Status.{is_refusal, nothing_found, refusal_in, refusal_of}
 use Rattle.dmix_client.specs.declared.commit.Commit.{Commit}
-use Rattle.dmix_client.specs.declared.plain.Plain.{Plain}
+use Rattle.dmix_client.specs.declared.stream.PlaybackStream.{PlaybackStream}
 use Rattle.dmix_client.specs.Calls.{Answered, committed_by, facts_of, found_at, is_running, is_stop, late_at, over_of, seen_at, with_outcome, stopped_in, after_sync, with_number}
 use Rattle.dmix_client.specs.Course.{admitted, admitted_by, nothing}
 use Rattle.dmix_client.specs.Rewind.{back_of, back_on, checks, last_channel, last_laid, left_of, rewind_course, rewind_on, rewindable_of, rewinds, rewound, take_each, take_frames, take_on, taken_back, takes_back, without}
@@ -87,14 +87,14 @@ frames-left member card bindings samples first (suc n) =
     by_end rest (left, ended.Late word) some = left_of-some n left (length bindings) (ended.Late word) some
     by_end rest (left, ended.Stopped) some = left_of-some n left (length bindings) ended.Stopped some
 
-number-kept : (number : Plain → ℕ) (done : Answered (Unit {0})) → Kept done → Kept (with_number number done)
+number-kept : (number : PlaybackStream → ℕ) (done : Answered (Unit {0})) → Kept done → Kept (with_number number done)
 number-kept number (c, Ok done) late = tt
 number-kept number (c, Err e) late = late
 
-rewound-kept : (c : Plain) (n : ℕ) (left : Commit) → HasLeft left → Kept (rewound c n left)
+rewound-kept : (c : PlaybackStream) (n : ℕ) (left : Commit) → HasLeft left → Kept (rewound c n left)
 rewound-kept c n left some = by_stop (is_stop left.ended)
   where
-    done : Plain
+    done : PlaybackStream
     done = taken_back c n left
 
     f : Facts
@@ -110,7 +110,7 @@ rewound-kept c n left some = by_stop (is_stop left.ended)
     by_stop false = number-kept (λ d. n) (with_outcome done (next_of Running call.Transfer f)) (next-late (IsLast done) Running call.Transfer f (named left.ended some))
 
 -- the load before it finds nothing late
-after_sync-kept : (c : Plain) (load : Option Position) → Kept (after_sync c call.Transfer load nothing)
+after_sync-kept : (c : PlaybackStream) (load : Option Position) → Kept (after_sync c call.Transfer load nothing)
 after_sync-kept c None = tt
 after_sync-kept c (Some p) = next-late (IsLast (committed_by (seen_at c p) nothing)) c.status.state call.Transfer
     (facts_of (committed_by (seen_at c p) nothing) p (over_of (seen_at c p) p) None) tt
@@ -125,17 +125,17 @@ rewind_on-kept floor n (c, Ok done) late =
     (frames-left c.identity.member c.stretch.card c.setup.bindings (ring_sample c []) (c.stretch.committed - back_of c m) (back_of c m))
     (λ left some. rewound-kept c m left some)
 
-checks-kept : (c : Plain) → All Kept (checks c)
+checks-kept : (c : PlaybackStream) → All Kept (checks c)
 unfolding checks
 checks-kept c = λ load. after_sync-kept c load
 
-rewind-kept : (c : Plain) (floor : Cursor) (n : ℕ) → All Kept (rewind_course c [] floor n)
+rewind-kept : (c : PlaybackStream) (floor : Cursor) (n : ℕ) → All Kept (rewind_course c [] floor n)
 unfolding rewinds
 rewind-kept c floor n = All-if Kept (is_running c.status.state) (rewinds c [] floor n) (ends (without c (min n c.stretch.written), Ok (min n c.stretch.written)))
     (All-then Kept Kept (checks c) (rewind_on floor [] n) (checks-kept c) (rewind_on-kept floor n)) tt
 
 -- a refusal isn't late
-refusal-kept : (c : Plain) → IfSome (refusal_of Playback c.status call.Transfer) (LateErr (IsLast c))
+refusal-kept : (c : PlaybackStream) → IfSome (refusal_of Playback c.status call.Transfer) (LateErr (IsLast c))
 refusal-kept c = by_stop c.status.stopped
   where
     Q : ℕ → ℕ → Type 0
@@ -153,17 +153,17 @@ refusal-kept c = by_stop c.status.stopped
     by_stop true = tt
     by_stop false = by_answer (next_of c.status.state call.Transfer (nothing_found Playback)).answer (next-late Q c.status.state call.Transfer (nothing_found Playback) tt)
 
-admitted-kept : (c : Plain) (m : Course (Answered ℕ)) → All Kept m → All Kept (admitted c call.Transfer m)
+admitted-kept : (c : PlaybackStream) (m : Course (Answered ℕ)) → All Kept m → All Kept (admitted c call.Transfer m)
 admitted-kept c m all = by_refusal (refusal_of Playback c.status call.Transfer) (refusal-kept c)
   where
     by_refusal : (refusal : Option PcmError) → IfSome refusal (LateErr (IsLast c)) → All Kept (admitted_by refusal c m)
     by_refusal None late = all
     by_refusal (Some e) late = late
 
-abbrev Named : Plain × Answer → Type 0
+abbrev Named : PlaybackStream × Answer → Type 0
 Named (d, answer) = LateAnswer (IsLast d) answer
 
-call-named : (wav : Sound) (marks : Marks) (c : Plain) (n : ℕ) → All Named (call_of wav marks c (op.Rewind n))
+call-named : (wav : Sound) (marks : Marks) (c : PlaybackStream) (n : ℕ) → All Named (call_of wav marks c (op.Rewind n))
 call-named wav marks c n = All-then Kept Named (admitted c call.Transfer (rewind_course c [] marks.floor n)) (λ done. ends (done.0, count_answer done.1))
     (admitted-kept c _ (rewind-kept c marks.floor n)) named
   where
@@ -183,7 +183,7 @@ late-rewinds rules phase wav number a b client after c n answer is may =
     marks : Marks
     marks = (begins client.own asked a).marks
 
-    called : (x : Plain × Answer) → Named x → NamesLast (after_call client c asked x).0 (after_call client c asked x).1
+    called : (x : PlaybackStream × Answer) → Named x → NamesLast (after_call client c asked x).0 (after_call client c asked x).1
     called (d, given) named = record { own = d; is_own = refl; late = λ frame channel late. subst (LateAnswer (IsLast d)) late named }
 
     by_stop : (stopped : Bool) → All (λ x. NamesLast x.0 x.1) (line_if stopped wav marks client c asked)

@@ -6,7 +6,7 @@ use Rattle.std.specs.List.{flat_map, range_with_len}
 use Rattle.mix_core.specs.declared.port.Entry.{Entry}
 use Rattle.mix_core.specs.Laid.{is_at, sum_of_samples, value_of}
 use Rattle.bindings.specs.Bound.{rising}
-use Rattle.dmix_client.specs.declared.plain.Plain.{Plain}
+use Rattle.dmix_client.specs.declared.stream.PlaybackStream.{PlaybackStream}
 use Rattle.dmix_client.specs.Expansion.{frame_entries, run_entries, sample_at}
 use Rattle.lab_script.specs.declared.line.Op.{Op}
 use Rattle.lab_script.specs.declared.line.Op.TheVariants as op
@@ -15,7 +15,7 @@ use Rattle.lab_report.specs.declared.row.Answer.TheVariants.{Done}
 use Rattle.lab_run.specs.Client.{ended_by}
 use Rattle.lab_run.specs.Members.{MembersAreUnreported, MembersLayAlike, of_member, with_member}
 
-pub ended-member : (member : ℕ) (asked : Op) (answer : Answer) (c d : Plain) → ended_by asked answer (with_member member c) (with_member member d) ≡ ended_by asked answer c d
+pub ended-member : (member : ℕ) (asked : Op) (answer : Answer) (c d : PlaybackStream) → ended_by asked answer (with_member member c) (with_member member d) ≡ ended_by asked answer c d
 ended-member member op.Prepare Done c d = refl
 ended-member member op.Prepare other c d = refl
 ended-member member op.Resume answer c d = refl

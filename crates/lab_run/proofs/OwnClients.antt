@@ -5,8 +5,8 @@ use Rattle.std.proofs.lemmas.List.{append-nil, get_or-set_same, get_or-set_other
 use Rattle.std.specs.Prelude.{Bool, true, false, nat_eq, List, [], ◌∷◌, ◌++◌, slice_index_or, Result, Ok, Err}
 use Rattle.snd_base.specs.declared.errors.PcmError.{PcmError}
 use Rattle.snd_base.specs.declared.places.Segment.{Segment}
-use Rattle.dmix_client.specs.declared.plain.Plain.{Plain}
-use Rattle.dsnoop_client.specs.declared.plain.Plain as reading
+use Rattle.dmix_client.specs.declared.stream.PlaybackStream.{PlaybackStream}
+use Rattle.dsnoop_client.specs.declared.stream.CaptureStream as reading
 use Rattle.lab_script.specs.declared.line.Actor.TheVariants as actor
 use Rattle.lab_script.specs.declared.line.Item.{Item}
 use Rattle.lab_script.specs.declared.line.Item.TheVariants as item
@@ -43,7 +43,7 @@ client_view session n stage = view_of (is_client n) (client_at session stage n) 
 
 -- ---- items of other actors
 
-open_client-other : (session : Session) (stage : Stage) (n m : ℕ) (x : AtPort × Client) (own : Option Plain) → nat_eq m n ≡ false
+open_client-other : (session : Session) (stage : Stage) (n m : ℕ) (x : AtPort × Client) (own : Option PlaybackStream) → nat_eq m n ≡ false
     → client_view session n (open_client session stage m x own) ≡ client_view session n stage
 open_client-other session stage n m x (Some c) is = other-view (is_client n) _ _ stage _ refl is
 open_client-other session stage n m x None is = by_setup (slice_index_or session.clients m None)
@@ -61,13 +61,13 @@ open_client-other session stage n m x None is = by_setup (slice_index_or session
     by_setup None = other-view (is_client n) _ _ stage _ refl is
     by_setup (Some setup) = by_claim setup (claim_refusal session.card.share stage.claims setup.bindings stage.position)
 
-close_client-other : (session : Session) (stage : Stage) (n m : ℕ) (x : AtPort × Client) (own : Option Plain) → nat_eq m n ≡ false
+close_client-other : (session : Session) (stage : Stage) (n m : ℕ) (x : AtPort × Client) (own : Option PlaybackStream) → nat_eq m n ≡ false
     → client_view session n (close_client session stage m x own) ≡ client_view session n stage
 close_client-other session stage n m x None is = other-view (is_client n) _ _ stage _ refl is
 close_client-other session stage n m x (Some c) is =
     other-view (is_client n) _ _ stage _ (get_or-set_other stage.clients m n _ _ (not-own n m is)) is
 
-open_reader-other : (session : Session) (stage : Stage) (n m : ℕ) (x : AtPort × Reader) (own : Option reading.Plain)
+open_reader-other : (session : Session) (stage : Stage) (n m : ℕ) (x : AtPort × Reader) (own : Option reading.CaptureStream)
     → client_view session n (open_reader session stage m x own) ≡ client_view session n stage
 open_reader-other session stage n m x (Some r) = other-view (is_client n) _ _ stage _ refl refl
 open_reader-other session stage n m x None = by_setup (slice_index_or session.readers m None)
@@ -76,7 +76,7 @@ open_reader-other session stage n m x None = by_setup (slice_index_or session.re
     by_setup None = other-view (is_client n) _ _ stage _ refl refl
     by_setup (Some setup) = other-view (is_client n) _ _ stage _ refl refl
 
-close_reader-other : (session : Session) (stage : Stage) (n m : ℕ) (x : AtPort × Reader) (own : Option reading.Plain)
+close_reader-other : (session : Session) (stage : Stage) (n m : ℕ) (x : AtPort × Reader) (own : Option reading.CaptureStream)
     → client_view session n (close_reader session stage m x own) ≡ client_view session n stage
 close_reader-other session stage n m x None = other-view (is_client n) _ _ stage _ refl refl
 close_reader-other session stage n m x (Some r) = other-view (is_client n) _ _ stage _ refl refl
@@ -84,10 +84,10 @@ close_reader-other session stage n m x (Some r) = other-view (is_client n) _ _ s
 -- ---- items of the client's own
 
 -- a client with its parts
-abbrev client_with : AtPort → Option Plain → List Segment → AtPort × Client
+abbrev client_with : AtPort → Option PlaybackStream → List Segment → AtPort × Client
 client_with a own ended = (a, record { own = own; ended = ended })
 
-open-own : (session : Session) (n : ℕ) (stage : Stage) (a : AtPort) (own : Option Plain) (ended : List Segment) → n < length stage.clients
+open-own : (session : Session) (n : ℕ) (stage : Stage) (a : AtPort) (own : Option PlaybackStream) (ended : List Segment) → n < length stage.clients
     → client_at session stage n ≡ client_with a own ended
     → ItemAlone (given_of session n) (view_of (is_client n) (client_with a own ended) stage) (client_view session n (open_client session stage n (client_with a own ended) own)) (own_open ∷ [])
 open-own session n stage a (Some c) ended there is =
@@ -116,7 +116,7 @@ open-own session n stage a None ended there is = by_setup (slice_index_or sessio
         (rw given (own-view (is_client n) _ _ stage _ is (is-own n)))
     by_setup (Some setup) given = by_claim setup (claim_refusal session.card.share stage.claims setup.bindings stage.position) given
 
-close-own : (session : Session) (n : ℕ) (stage : Stage) (a : AtPort) (own : Option Plain) (ended : List Segment) → n < length stage.clients
+close-own : (session : Session) (n : ℕ) (stage : Stage) (a : AtPort) (own : Option PlaybackStream) (ended : List Segment) → n < length stage.clients
     → client_at session stage n ≡ client_with a own ended
     → ItemAlone (given_of session n) (view_of (is_client n) (client_with a own ended) stage) (client_view session n (close_client session stage n (client_with a own ended) own)) (own_close ∷ [])
 close-own session n stage a None ended there is =
@@ -130,15 +130,15 @@ reaped-same : (session : Session) (n : ℕ) (stopped : Bool) (x : AtPort × Clie
 reaped-same session n true (a, client) = refl
 reaped-same session n false (a, client) = refl
 
-row-numbered : (n phase m : ℕ) (asked : Op) (own : Option Plain) (answer : Answer) → is_client n (row_by phase m asked own answer).actor ≡ nat_eq m n
+row-numbered : (n phase m : ℕ) (asked : Op) (own : Option PlaybackStream) (answer : Answer) → is_client n (row_by phase m asked own answer).actor ≡ nat_eq m n
 row-numbered n phase m asked None answer = refl
 row-numbered n phase m asked (Some c) answer = refl
 
-row-op : (phase m : ℕ) (asked : Op) (own : Option Plain) (answer : Answer) → (row_by phase m asked own answer).op ≡ asked
+row-op : (phase m : ℕ) (asked : Op) (own : Option PlaybackStream) (answer : Answer) → (row_by phase m asked own answer).op ≡ asked
 row-op phase m asked None answer = refl
 row-op phase m asked (Some c) answer = refl
 
-reader_row-other : (n phase m : ℕ) (asked : Op) (own : Option reading.Plain) (answer : Answer) → is_client n (readers.row_by phase m asked own answer).actor ≡ false
+reader_row-other : (n phase m : ℕ) (asked : Op) (own : Option reading.CaptureStream) (answer : Answer) → is_client n (readers.row_by phase m asked own answer).actor ≡ false
 reader_row-other n phase m asked None answer = refl
 reader_row-other n phase m asked (Some r) answer = refl
 
@@ -193,7 +193,7 @@ phase-own session n stage lines there none = record {
 -- ---- a body
 
 -- there are as many clients after an item as before
-open_client-size : (session : Session) (stage : Stage) (m : ℕ) (x : AtPort × Client) (own : Option Plain)
+open_client-size : (session : Session) (stage : Stage) (m : ℕ) (x : AtPort × Client) (own : Option PlaybackStream)
     → length (open_client session stage m x own).clients ≡ length stage.clients
 open_client-size session stage m x (Some c) = refl
 open_client-size session stage m x None = by_setup (slice_index_or session.clients m None)
@@ -210,12 +210,12 @@ open_client-size session stage m x None = by_setup (slice_index_or session.clien
     by_setup None = refl
     by_setup (Some setup) = by_claim setup (claim_refusal session.card.share stage.claims setup.bindings stage.position)
 
-close_client-size : (session : Session) (stage : Stage) (m : ℕ) (x : AtPort × Client) (own : Option Plain)
+close_client-size : (session : Session) (stage : Stage) (m : ℕ) (x : AtPort × Client) (own : Option PlaybackStream)
     → length (close_client session stage m x own).clients ≡ length stage.clients
 close_client-size session stage m x None = refl
 close_client-size session stage m x (Some c) = length-set stage.clients m _
 
-open_reader-size : (session : Session) (stage : Stage) (m : ℕ) (x : AtPort × Reader) (own : Option reading.Plain)
+open_reader-size : (session : Session) (stage : Stage) (m : ℕ) (x : AtPort × Reader) (own : Option reading.CaptureStream)
     → length (open_reader session stage m x own).clients ≡ length stage.clients
 open_reader-size session stage m x (Some r) = refl
 open_reader-size session stage m x None = by_setup (slice_index_or session.readers m None)
@@ -224,7 +224,7 @@ open_reader-size session stage m x None = by_setup (slice_index_or session.reade
     by_setup None = refl
     by_setup (Some setup) = refl
 
-close_reader-size : (session : Session) (stage : Stage) (m : ℕ) (x : AtPort × Reader) (own : Option reading.Plain)
+close_reader-size : (session : Session) (stage : Stage) (m : ℕ) (x : AtPort × Reader) (own : Option reading.CaptureStream)
     → length (close_reader session stage m x own).clients ≡ length stage.clients
 close_reader-size session stage m x None = refl
 close_reader-size session stage m x (Some r) = refl

@@ -5,8 +5,8 @@ use Rattle.std.proofs.lemmas.List.{append-nil, get_or-set_same, get_or-set_other
 use Rattle.std.specs.Prelude.{Bool, true, false, nat_eq, List, [], ◌∷◌, ◌++◌, map, slice_index_or, Result, Ok, Err}
 use Rattle.snd_base.specs.declared.errors.PcmError.{PcmError}
 use Rattle.wav_io.specs.Sound.{Sound}
-use Rattle.dmix_client.specs.declared.plain.Plain as playing
-use Rattle.dsnoop_client.specs.declared.plain.Plain.{Plain}
+use Rattle.dmix_client.specs.declared.stream.PlaybackStream as playing
+use Rattle.dsnoop_client.specs.declared.stream.CaptureStream.{CaptureStream}
 use Rattle.lab_script.specs.declared.line.Actor.TheVariants as actor
 use Rattle.lab_script.specs.declared.line.Item.{Item}
 use Rattle.lab_script.specs.declared.line.Item.TheVariants as item
@@ -42,7 +42,7 @@ reader_view session n stage = view_of (is_reader n) (reader_at session stage n) 
 
 -- ---- items of other actors
 
-pub open_reader-other : (session : Session) (stage : Stage) (n m : ℕ) (x : AtPort × Reader) (own : Option Plain) → nat_eq m n ≡ false
+pub open_reader-other : (session : Session) (stage : Stage) (n m : ℕ) (x : AtPort × Reader) (own : Option CaptureStream) → nat_eq m n ≡ false
     → reader_view session n (open_reader session stage m x own) ≡ reader_view session n stage
 open_reader-other session stage n m x (Some r) is = other-view (is_reader n) _ _ stage _ refl is
 open_reader-other session stage n m (a, reader) None is = by_setup (slice_index_or session.readers m None)
@@ -51,12 +51,12 @@ open_reader-other session stage n m (a, reader) None is = by_setup (slice_index_
     by_setup None = other-view (is_reader n) _ _ stage _ refl is
     by_setup (Some setup) = other-view (is_reader n) _ _ stage _ (get_or-set_other stage.readers m n _ _ (not-own n m is)) is
 
-pub close_reader-other : (session : Session) (stage : Stage) (n m : ℕ) (x : AtPort × Reader) (own : Option Plain) → nat_eq m n ≡ false
+pub close_reader-other : (session : Session) (stage : Stage) (n m : ℕ) (x : AtPort × Reader) (own : Option CaptureStream) → nat_eq m n ≡ false
     → reader_view session n (close_reader session stage m x own) ≡ reader_view session n stage
 close_reader-other session stage n m x None is = other-view (is_reader n) _ _ stage _ refl is
 close_reader-other session stage n m x (Some r) is = other-view (is_reader n) _ _ stage _ (get_or-set_other stage.readers m n _ _ (not-own n m is)) is
 
-pub open_client-other : (session : Session) (stage : Stage) (n m : ℕ) (x : AtPort × Client) (own : Option playing.Plain)
+pub open_client-other : (session : Session) (stage : Stage) (n m : ℕ) (x : AtPort × Client) (own : Option playing.PlaybackStream)
     → reader_view session n (open_client session stage m x own) ≡ reader_view session n stage
 open_client-other session stage n m x (Some c) = other-view (is_reader n) _ _ stage _ refl refl
 open_client-other session stage n m x None = by_setup (slice_index_or session.clients m None)
@@ -73,7 +73,7 @@ open_client-other session stage n m x None = by_setup (slice_index_or session.cl
     by_setup None = other-view (is_reader n) _ _ stage _ refl refl
     by_setup (Some setup) = by_claim setup (claim_refusal session.card.share stage.claims setup.bindings stage.position)
 
-pub close_client-other : (session : Session) (stage : Stage) (n m : ℕ) (x : AtPort × Client) (own : Option playing.Plain)
+pub close_client-other : (session : Session) (stage : Stage) (n m : ℕ) (x : AtPort × Client) (own : Option playing.PlaybackStream)
     → reader_view session n (close_client session stage m x own) ≡ reader_view session n stage
 close_client-other session stage n m x None = other-view (is_reader n) _ _ stage _ refl refl
 close_client-other session stage n m x (Some c) = other-view (is_reader n) _ _ stage _ refl refl
@@ -81,10 +81,10 @@ close_client-other session stage n m x (Some c) = other-view (is_reader n) _ _ s
 -- ---- items of the reader's own
 
 -- a reader with its parts
-abbrev pub reader_with : AtPort → Option Plain → List ℕ → AtPort × Reader
+abbrev pub reader_with : AtPort → Option CaptureStream → List ℕ → AtPort × Reader
 reader_with a own frames = (a, record { own = own; frames = frames })
 
-open-own : (session : Session) (n : ℕ) (stage : Stage) (a : AtPort) (own : Option Plain) (frames : List ℕ) → n < length stage.readers
+open-own : (session : Session) (n : ℕ) (stage : Stage) (a : AtPort) (own : Option CaptureStream) (frames : List ℕ) → n < length stage.readers
     → reader_at session stage n ≡ reader_with a own frames
     → ItemAlone (given_of session n) (view_of (is_reader n) (reader_with a own frames) stage) (reader_view session n (open_reader session stage n (reader_with a own frames) own)) (own_open ∷ [])
 open-own session n stage a (Some r) frames there is =
@@ -98,7 +98,7 @@ open-own session n stage a None frames there is = by_setup (slice_index_or sessi
     by_setup (Some setup) given = open-item (given_of session n) _ _ _ refl (own-row (is_reader n) stage.rows _ (is-own n))
         (rw given (own-view (is_reader n) _ _ stage _ (get_or-set_same stage.readers n _ _ there) (is-own n)))
 
-close-own : (session : Session) (n : ℕ) (stage : Stage) (a : AtPort) (own : Option Plain) (frames : List ℕ) → n < length stage.readers
+close-own : (session : Session) (n : ℕ) (stage : Stage) (a : AtPort) (own : Option CaptureStream) (frames : List ℕ) → n < length stage.readers
     → reader_at session stage n ≡ reader_with a own frames
     → ItemAlone (given_of session n) (view_of (is_reader n) (reader_with a own frames) stage) (reader_view session n (close_reader session stage n (reader_with a own frames) own)) (own_close ∷ [])
 close-own session n stage a None frames there is =
@@ -112,15 +112,15 @@ reaped-same : (session : Session) (n : ℕ) (stopped : Bool) (x : AtPort × Read
 reaped-same session n true (a, reader) = refl
 reaped-same session n false (a, reader) = refl
 
-pub row-numbered : (n phase m : ℕ) (asked : Op) (own : Option Plain) (answer : Answer) → is_reader n (row_by phase m asked own answer).actor ≡ nat_eq m n
+pub row-numbered : (n phase m : ℕ) (asked : Op) (own : Option CaptureStream) (answer : Answer) → is_reader n (row_by phase m asked own answer).actor ≡ nat_eq m n
 row-numbered n phase m asked None answer = refl
 row-numbered n phase m asked (Some r) answer = refl
 
-row-op : (phase m : ℕ) (asked : Op) (own : Option Plain) (answer : Answer) → (row_by phase m asked own answer).op ≡ asked
+row-op : (phase m : ℕ) (asked : Op) (own : Option CaptureStream) (answer : Answer) → (row_by phase m asked own answer).op ≡ asked
 row-op phase m asked None answer = refl
 row-op phase m asked (Some r) answer = refl
 
-pub client_row-other : (n phase m : ℕ) (asked : Op) (own : Option playing.Plain) (answer : Answer) → is_reader n (clients.row_by phase m asked own answer).actor ≡ false
+pub client_row-other : (n phase m : ℕ) (asked : Op) (own : Option playing.PlaybackStream) (answer : Answer) → is_reader n (clients.row_by phase m asked own answer).actor ≡ false
 client_row-other n phase m asked None answer = refl
 client_row-other n phase m asked (Some c) answer = refl
 
@@ -175,7 +175,7 @@ phase-own session n stage lines there none = record {
 -- ---- a body
 
 -- there are as many readers after an item as before
-pub open_reader-size : (session : Session) (stage : Stage) (m : ℕ) (x : AtPort × Reader) (own : Option Plain)
+pub open_reader-size : (session : Session) (stage : Stage) (m : ℕ) (x : AtPort × Reader) (own : Option CaptureStream)
     → length (open_reader session stage m x own).readers ≡ length stage.readers
 open_reader-size session stage m x (Some r) = refl
 open_reader-size session stage m (a, reader) None = by_setup (slice_index_or session.readers m None)
@@ -184,12 +184,12 @@ open_reader-size session stage m (a, reader) None = by_setup (slice_index_or ses
     by_setup None = refl
     by_setup (Some setup) = length-set stage.readers m _
 
-pub close_reader-size : (session : Session) (stage : Stage) (m : ℕ) (x : AtPort × Reader) (own : Option Plain)
+pub close_reader-size : (session : Session) (stage : Stage) (m : ℕ) (x : AtPort × Reader) (own : Option CaptureStream)
     → length (close_reader session stage m x own).readers ≡ length stage.readers
 close_reader-size session stage m x None = refl
 close_reader-size session stage m x (Some r) = length-set stage.readers m _
 
-pub open_client-size : (session : Session) (stage : Stage) (m : ℕ) (x : AtPort × Client) (own : Option playing.Plain)
+pub open_client-size : (session : Session) (stage : Stage) (m : ℕ) (x : AtPort × Client) (own : Option playing.PlaybackStream)
     → length (open_client session stage m x own).readers ≡ length stage.readers
 open_client-size session stage m x (Some c) = refl
 open_client-size session stage m x None = by_setup (slice_index_or session.clients m None)
@@ -206,7 +206,7 @@ open_client-size session stage m x None = by_setup (slice_index_or session.clien
     by_setup None = refl
     by_setup (Some setup) = by_claim setup (claim_refusal session.card.share stage.claims setup.bindings stage.position)
 
-pub close_client-size : (session : Session) (stage : Stage) (m : ℕ) (x : AtPort × Client) (own : Option playing.Plain)
+pub close_client-size : (session : Session) (stage : Stage) (m : ℕ) (x : AtPort × Client) (own : Option playing.PlaybackStream)
     → length (close_client session stage m x own).readers ≡ length stage.readers
 close_client-size session stage m x None = refl
 close_client-size session stage m x (Some c) = refl

@@ -5,8 +5,8 @@ use Rattle.snd_base.specs.declared.errors.PcmError.TheVariants.{BadState, Stoppe
 use Rattle.snd_base.specs.declared.geometry.Geometry.{Geometry}
 use Rattle.wav_io.specs.Sound.{Sound}
 use Rattle.course.specs.Course.{Takes}
-use Rattle.dmix_client.specs.declared.plain.Plain.{Plain}
-use Rattle.dsnoop_client.specs.declared.plain.Plain as reading
+use Rattle.dmix_client.specs.declared.stream.PlaybackStream.{PlaybackStream}
+use Rattle.dsnoop_client.specs.declared.stream.CaptureStream as reading
 use Rattle.lab_script.specs.declared.line.Op.{Op}
 use Rattle.lab_script.specs.declared.line.Op.TheVariants as op
 use Rattle.lab_report.specs.declared.row.Answer.{Answer}
@@ -34,7 +34,7 @@ parts-grow {S = S} kind ring before between after (first ∷ more) rows asked an
 
 -- a line that makes no call, of a client
 module _ (ring : Geometry) (phase : ℕ) (wav : Sound) (number : ℕ) where
-  abbrev Done_by : AtPort → AtPort → Findings → clients.Client → Op → Answer → Option Plain → Type 0
+  abbrev Done_by : AtPort → AtPort → Findings → clients.Client → Op → Answer → Option PlaybackStream → Type 0
   Done_by a b found client asked answer own =
       Takes DoesLoad (DoesLay ring) (DoesGet ring) (clients.begins own asked a, found) (clients.line_by wav (clients.begins own asked a).marks client own asked) (b, found) (client, answer)
 
@@ -45,12 +45,12 @@ module _ (ring : Geometry) (phase : ℕ) (wav : Sound) (number : ℕ) where
     dies = λ a found client c k is goes. subst (λ own. Done_by a (record a { left = Some k }) found client (op.Die k) Done own) (sym is) (by_going a found client c k goes);
   }
     where
-      by_stop : (a : AtPort) (found : Findings) (client : clients.Client) (c : Plain) (asked : Op) → c.status.stopped ≡ true → Done_by a a found client asked (Failed Stopped) (Some c)
+      by_stop : (a : AtPort) (found : Findings) (client : clients.Client) (c : PlaybackStream) (asked : Op) → c.status.stopped ≡ true → Done_by a a found client asked (Failed Stopped) (Some c)
       by_stop a found client c asked stopped =
           subst (λ (b : Bool). Takes DoesLoad (DoesLay ring) (DoesGet ring) (clients.dies_if b asked a, found)
           (clients.line_if b wav (clients.dies_if b asked a).marks client c asked) (a, found) (client, Failed Stopped)) (sym stopped) (record { there = refl; result = refl })
 
-      by_going : (a : AtPort) (found : Findings) (client : clients.Client) (c : Plain) (k : ℕ) → c.status.stopped ≡ false
+      by_going : (a : AtPort) (found : Findings) (client : clients.Client) (c : PlaybackStream) (k : ℕ) → c.status.stopped ≡ false
           → Done_by a (record a { left = Some k }) found client (op.Die k) Done (Some c)
       by_going a found client c k goes =
           subst (λ (b : Bool). Takes DoesLoad (DoesLay ring) (DoesGet ring) (clients.dies_if b (op.Die k) a, found)
@@ -60,7 +60,7 @@ module _ (ring : Geometry) (phase : ℕ) (wav : Sound) (number : ℕ) where
           after = record a { left = Some k }
 
 module _ (ring : Geometry) (phase number : ℕ) where
-  abbrev Read_by : AtPort → AtPort → Findings → readers.Reader → Op → Answer → Option reading.Plain → Type 0
+  abbrev Read_by : AtPort → AtPort → Findings → readers.Reader → Op → Answer → Option reading.CaptureStream → Type 0
   Read_by a b found reader asked answer own =
       Takes DoesLoad (DoesLay ring) (DoesGet ring) (readers.begins own asked a, found) (readers.line_by reader own asked) (b, found) (reader, answer)
 
@@ -71,12 +71,12 @@ module _ (ring : Geometry) (phase number : ℕ) where
     dies = λ a found reader r k is goes. subst (λ own. Read_by a (record a { left = Some k }) found reader (op.Die k) Done own) (sym is) (by_going a found reader r k goes);
   }
     where
-      by_stop : (a : AtPort) (found : Findings) (reader : readers.Reader) (r : reading.Plain) (asked : Op) → r.status.stopped ≡ true → Read_by a a found reader asked (Failed Stopped) (Some r)
+      by_stop : (a : AtPort) (found : Findings) (reader : readers.Reader) (r : reading.CaptureStream) (asked : Op) → r.status.stopped ≡ true → Read_by a a found reader asked (Failed Stopped) (Some r)
       by_stop a found reader r asked stopped =
           subst (λ (b : Bool). Takes DoesLoad (DoesLay ring) (DoesGet ring) (clients.dies_if b asked a, found) (readers.line_if b reader r asked) (a, found) (reader, Failed Stopped))
           (sym stopped) (record { there = refl; result = refl })
 
-      by_going : (a : AtPort) (found : Findings) (reader : readers.Reader) (r : reading.Plain) (k : ℕ) → r.status.stopped ≡ false
+      by_going : (a : AtPort) (found : Findings) (reader : readers.Reader) (r : reading.CaptureStream) (k : ℕ) → r.status.stopped ≡ false
           → Read_by a (record a { left = Some k }) found reader (op.Die k) Done (Some r)
       by_going a found reader r k goes =
           subst (λ (b : Bool). Takes DoesLoad (DoesLay ring) (DoesGet ring) (clients.dies_if b (op.Die k) a, found)

@@ -13,7 +13,7 @@ use Rattle.pcm_states.specs.declared.states.State.TheVariants.{Prepared, Setup}
 use Rattle.course.specs.AtSnoopPort.{GetsAtSnoop, LoadsAtSnoop, NoLay, TakesAtSnoop}
 use Rattle.course.specs.Course.{◌>>=◌, Course, Takes, ends}
 use Rattle.course.specs.CourseLaws.{Takes-map}
-use Rattle.dsnoop_client.specs.declared.plain.Plain.{Plain}
+use Rattle.dsnoop_client.specs.declared.stream.CaptureStream.{CaptureStream}
 use Rattle.dsnoop_client.specs.Calls.{Answered, in_state}
 use Rattle.lab_script.specs.declared.line.Op.{Op}
 use Rattle.lab_script.specs.declared.line.Op.TheVariants as op
@@ -37,7 +37,7 @@ answered-alike answer m n alike =
     (λ x y is. λ i. (is.client i, is.answer_is i))
 
 -- the call is alike to itself without its words
-call-alike : (r : Plain) (asked : Op) → Alike 0 (λ x y. x ≡ y) (call_of r asked) (call_of r asked)
+call-alike : (r : CaptureStream) (asked : Op) → Alike 0 (λ x y. x ≡ y) (call_of r asked) (call_of r asked)
 call-alike r (op.Read n) = answered-alike count_answer _ _ ((reads-alike r).read n)
 call-alike r op.Start = answered-alike done_answer _ _ (reads-alike r).start
 call-alike r op.Sync = answered-alike done_answer _ _ (reads-alike r).sync
@@ -50,7 +50,7 @@ call-alike r op.Pause = refl
 call-alike r other = refl
 
 -- the course of a line that makes a call
-line-is_call : (reader : Reader) (r : Plain) (asked : Op) → ReadsBy reader r asked
+line-is_call : (reader : Reader) (r : CaptureStream) (asked : Op) → ReadsBy reader r asked
     → line_by reader reader.own asked ≡ (call_of r asked >>= λ done. ends (after_call reader asked done))
 unfolding ◌>>=◌
 line-is_call reader r asked reads =
@@ -60,7 +60,7 @@ line-is_call reader r asked reads =
     by_op (op.Die k) asks = absurd (cc)
     by_op other asks = refl
 
-begins-same : (reader : Reader) (r : Plain) (asked : Op) (a : AtPort) → ReadsBy reader r asked → begins reader.own asked a ≡ a
+begins-same : (reader : Reader) (r : CaptureStream) (asked : Op) (a : AtPort) → ReadsBy reader r asked → begins reader.own asked a ≡ a
 begins-same reader r asked a reads = ap (λ own. begins own asked a) reads.is_open ∙ ap (λ stopped. dies_if stopped asked a) reads.goes ∙ by_op asked reads.asks
   where
     by_op : (asked : Op) → is_die asked ≡ false → dies_if false asked a ≡ a
@@ -76,7 +76,7 @@ module _ {S T : Type 0} (P : snoopport.Ghosts S) (G : gates.Ghosts T) (shown_got
     (composes : Composes P.loaded) (left : T → Option ℕ) (by_gate : T → ℕ) (counts : CountsDown G.asked left by_gate) (first : S) (ring : Geometry) where
   pub reader-lines : ReaderLinesAreParts P G left by_gate first ring
   reader-lines s t phase number (a, found) reader r asked after answer reads at takes =
-      let finish : Plain × Answer → Course (Reader × Answer) = λ done. ends (after_call reader asked done) in
+      let finish : CaptureStream × Answer → Course (Reader × Answer) = λ done. ends (after_call reader asked done) in
       let line : Course (Reader × Answer) = call_of r asked >>= finish in
       let end : Reader × Answer = after_call reader asked (after, answer) in
       let alike : Alike 0 (λ (x y : Reader × Answer). x ≡ y) line line =

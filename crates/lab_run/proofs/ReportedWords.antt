@@ -15,7 +15,7 @@ use Rattle.pcm_states.specs.declared.calls.Facts.{Facts}
 use Rattle.pcm_states.specs.declared.calls.Outcome.{Outcome}
 use Rattle.pcm_states.specs.Table.{Cell, already, done_in, draining, ebadfd, eio, enodev, filling, first_of, if_empty, if_gone, if_none_left, if_over, moving, next_of, outcome_of, resuming, row_of, starting, stopped_by, to}
 use Rattle.dmix_client.specs.declared.commit.Commit.{Commit}
-use Rattle.dmix_client.specs.declared.plain.Plain.{Plain}
+use Rattle.dmix_client.specs.declared.stream.PlaybackStream.{PlaybackStream}
 use Rattle.dmix_client.specs.Calls.{Answered, accepted, accepted_if, committed_by, end_channel, end_of_commit, facts_of, found_at, going_on, going_on_by, over_of, rebased, resumed, seen_at, with_outcome, after_start, after_sync, taken_of, with_number, written_after}
 use Rattle.dmix_client.specs.Rewind.{rewound}
 use Rattle.dmix_client.specs.View.{avail_of}
@@ -71,11 +71,11 @@ abbrev pub commit_without_word : Commit → Commit
 commit_without_word x = record x { ended = without_word x.ended }
 
 module _ (member : ℕ) where
-  with_outcome-alike : (c : Plain) (o u : Outcome) → SameOutcome o u → SameButMember member done_answer (with_outcome c o) (with_outcome (with_member member c) u)
+  with_outcome-alike : (c : PlaybackStream) (o u : Outcome) → SameOutcome o u → SameButMember member done_answer (with_outcome c o) (with_outcome (with_member member c) u)
   with_outcome-alike c o u is =
-      record { client = ap (λ s. let d : Plain = record (with_member member c) { status = record c.status { state = s } } in d) is.state; answer_is = is.answer }
+      record { client = ap (λ s. let d : PlaybackStream = record (with_member member c) { status = record c.status { state = s } } in d) is.state; answer_is = is.answer }
 
-  going_on-alike : (c : Plain) (state : State) (o u : Outcome) → SameOutcome o u
+  going_on-alike : (c : PlaybackStream) (state : State) (o u : Outcome) → SameOutcome o u
       → SameButMember member done_answer (going_on c state o) (going_on (with_member member c) state u)
   going_on-alike c state o u is = by_answer o.answer u.answer is.answer
     where
@@ -83,13 +83,13 @@ module _ (member : ℕ) where
           → SameButMember member done_answer (going_on_by r c state o.state) (going_on_by s (with_member member c) state u.state)
       by_answer (Ok x) (Ok y) same_answer = record { client = refl; answer_is = refl }
       by_answer (Err e) (Err f) same_answer =
-          record { client = ap (λ s. let d : Plain = record (with_member member c) { status = record c.status { state = s } } in d) is.state; answer_is = same_answer }
+          record { client = ap (λ s. let d : PlaybackStream = record (with_member member c) { status = record c.status { state = s } } in d) is.state; answer_is = same_answer }
       by_answer (Ok x) (Err f) same_answer = absurd (cc)
       by_answer (Err e) (Ok y) same_answer = absurd (cc)
 
   -- the parts of the calls, by a load and a commit
 
-  pub after_sync-word : (c : Plain) (call : Call) (load : Option Position) (x : Commit)
+  pub after_sync-word : (c : PlaybackStream) (call : Call) (load : Option Position) (x : Commit)
       → SameButMember member done_answer (after_sync c call load x) (after_sync (with_member member c) call load (commit_without_word x))
   after_sync-word c call None x = record { client = refl; answer_is = refl }
   after_sync-word c call (Some p) x = by_end x.ended
@@ -101,7 +101,7 @@ module _ (member : ℕ) where
       by_end (Late w) = with_outcome-alike (committed_by (seen_at c p) x) _ _
           (next-word c.status.state call (facts_of (committed_by (seen_at c p) x) p (over_of (seen_at c p) p) None) (end_of_commit (seen_at c p) x) (end_channel (seen_at c p) x) w)
 
-  pub after_start-word : (c : Plain) (state : State) (cursor : Cursor) (load : Option Position) (x : Commit)
+  pub after_start-word : (c : PlaybackStream) (state : State) (cursor : Cursor) (load : Option Position) (x : Commit)
       → SameButMember member done_answer (after_start c state cursor load x) (after_start (with_member member c) state cursor load (commit_without_word x))
   after_start-word c state cursor None x = record { client = refl; answer_is = refl }
   after_start-word c state cursor (Some p) x = by_gone p.gone refl x.ended
@@ -113,7 +113,7 @@ module _ (member : ℕ) where
       by_gone false is Stopped = rw is (record { client = refl; answer_is = refl })
       by_gone false is (Late w) = rw is (record { client = refl; answer_is = refl })
 
-  pub resumed-word : (c : Plain) (cursor : Cursor) (load : Option Position) (x : Commit)
+  pub resumed-word : (c : PlaybackStream) (cursor : Cursor) (load : Option Position) (x : Commit)
       → SameButMember member done_answer (resumed c cursor load x) (resumed (with_member member c) cursor load (commit_without_word x))
   resumed-word c cursor None x = record { client = refl; answer_is = refl }
   resumed-word c cursor (Some p) x = after_start-word (rebased c) Running cursor (Some p) x
@@ -124,7 +124,7 @@ module _ (member : ℕ) where
   accepted_if-alike n (c, Ok x) (d, Err f) is = let wrong = is.answer_is in absurd (cc)
   accepted_if-alike n (c, Err e) (d, Ok y) is = let wrong = is.answer_is in absurd (cc)
 
-  pub with_number-alike : (number : Plain → ℕ) → ((c : Plain) → number (with_member member c) ≡ number c) → (a b : Answered (Unit {0})) → SameButMember member done_answer a b
+  pub with_number-alike : (number : PlaybackStream → ℕ) → ((c : PlaybackStream) → number (with_member member c) ≡ number c) → (a b : Answered (Unit {0})) → SameButMember member done_answer a b
       → SameButMember member count_answer (with_number number a) (with_number number b)
   with_number-alike number same (c, Ok x) (d, Ok y) is =
       record { client = is.client; answer_is = ap (λ n. count_answer (Ok n)) (sym (same c) ∙ ap number is.client) }
@@ -132,7 +132,7 @@ module _ (member : ℕ) where
   with_number-alike number same (c, Ok x) (d, Err f) is = let wrong = is.answer_is in absurd (cc)
   with_number-alike number same (c, Err e) (d, Ok y) is = let wrong = is.answer_is in absurd (cc)
 
-  pub written_after-word : (c : Plain) (n : ℕ) (x : Commit)
+  pub written_after-word : (c : PlaybackStream) (n : ℕ) (x : Commit)
       → SameButMember member count_answer (written_after c n x) (written_after (with_member member c) n (commit_without_word x))
   written_after-word c n x = by_again (nat_lt 0 n && nat_eq (avail_of c) 0) refl x.ended
     where
@@ -144,7 +144,7 @@ module _ (member : ℕ) where
       by_again false is (Late w) = rw is (accepted_if-alike (taken_of c n) _ _ (with_outcome-alike (committed_by c x) _ _
           (next-word Running call.Transfer (found_at (record { frame = 0; gone = false }) None) (end_of_commit c x) (end_channel c x) w)))
 
-  pub rewound-word : (c : Plain) (n : ℕ) (left : Commit)
+  pub rewound-word : (c : PlaybackStream) (n : ℕ) (left : Commit)
       → SameButMember member count_answer (rewound c n left) (rewound (with_member member c) n (commit_without_word left))
   rewound-word c n left = by_end left.ended
     where

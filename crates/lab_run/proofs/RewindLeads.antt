@@ -8,14 +8,14 @@ use Rattle.mix_core.specs.declared.port.Position.{Position}
 use Rattle.pcm_states.specs.declared.calls.Call.TheVariants as call
 use Rattle.course.specs.Course.{Course, ends}
 use Rattle.dmix_client.specs.declared.commit.Commit.{Commit}
-use Rattle.dmix_client.specs.declared.plain.Plain.{Plain}
+use Rattle.dmix_client.specs.declared.stream.PlaybackStream.{PlaybackStream}
 use Rattle.dmix_client.specs.Calls.{Answered, is_running, after_sync, with_number}
 use Rattle.dmix_client.specs.Course.{nothing, numbered}
 use Rattle.dmix_client.specs.Rewind.{back_of, back_on, checks, rewind_course, rewind_on, rewindable_course, rewindable_of, rewinds, rewound, take_each, take_frames, take_on, takes_back}
 use Rattle.dmix_client.specs.View.{ring_sample}
 use Rattle.lab_run.proofs.Leads.{Anything, IsLed, Led, Led-if, Led-then, LoadsFirst, OkLed, first-of, first-then, is_loaded, on-ok}
 
-checks-led : (c : Plain) (loaded : Bool) → Led OkLed loaded (checks c)
+checks-led : (c : PlaybackStream) (loaded : Bool) → Led OkLed loaded (checks c)
 unfolding checks
 checks-led c loaded = by_load
   where
@@ -23,11 +23,11 @@ checks-led c loaded = by_load
     by_load None = tt
     by_load (Some position) = on-ok true (after_sync c call.Transfer (Some position) nothing).1 refl
 
-numbered-first : (number : Plain → ℕ) (course : Course (Answered (Unit {0}))) → LoadsFirst false course → LoadsFirst false (numbered number course)
+numbered-first : (number : PlaybackStream → ℕ) (course : Course (Answered (Unit {0}))) → LoadsFirst false course → LoadsFirst false (numbered number course)
 unfolding numbered
 numbered-first number course led = first-then false course (λ done. ends (with_number number done)) led (λ l x. tt)
 
-pub rewindable-first : (c : Plain) (floor : Cursor) → LoadsFirst false (rewindable_course c floor)
+pub rewindable-first : (c : PlaybackStream) (floor : Cursor) → LoadsFirst false (rewindable_course c floor)
 rewindable-first c floor = Led-if Anything false (is_running c.status.state) (numbered (rewindable_of floor) (checks c)) (ends _)
     (numbered-first (rewindable_of floor) (checks c) (first-of OkLed false _ (checks-led c false))) tt
 
@@ -56,7 +56,7 @@ take_frames-led member card bindings samples first (suc n) =
     (take_each-led member (card + (first + n)) bindings (samples (first + n)) (length bindings))
     (λ l end is. back_on-led end n (length bindings) l (take_frames member card bindings samples first n) is (take_frames-led member card bindings samples first n))
 
-takes_back-first : (c : Plain) (ring : List ℤ) (n : ℕ) → LoadsFirst true (takes_back c ring n)
+takes_back-first : (c : PlaybackStream) (ring : List ℤ) (n : ℕ) → LoadsFirst true (takes_back c ring n)
 unfolding takes_back
 takes_back-first c ring n =
     Led-then IsLed Anything true (take_frames c.identity.member c.stretch.card c.setup.bindings (ring_sample c ring) (c.stretch.committed - back_of c n) (back_of c n)) (λ left. ends (rewound c n left))
@@ -66,9 +66,9 @@ rewind_on-first : (floor : Cursor) (ring : List ℤ) (n : ℕ) (l : Bool) (done 
 rewind_on-first floor ring n l (c, Ok x) led = rw led (takes_back-first c ring (min n (rewindable_of floor c)))
 rewind_on-first floor ring n l (c, Err e) led = tt
 
-rewinds-first : (c : Plain) (ring : List ℤ) (floor : Cursor) (n : ℕ) → LoadsFirst false (rewinds c ring floor n)
+rewinds-first : (c : PlaybackStream) (ring : List ℤ) (floor : Cursor) (n : ℕ) → LoadsFirst false (rewinds c ring floor n)
 unfolding rewinds
 rewinds-first c ring floor n = Led-then OkLed Anything false (checks c) (rewind_on floor ring n) (checks-led c false) (rewind_on-first floor ring n)
 
-pub rewind-first : (c : Plain) (ring : List ℤ) (floor : Cursor) (n : ℕ) → LoadsFirst false (rewind_course c ring floor n)
+pub rewind-first : (c : PlaybackStream) (ring : List ℤ) (floor : Cursor) (n : ℕ) → LoadsFirst false (rewind_course c ring floor n)
 rewind-first c ring floor n = Led-if Anything false (is_running c.status.state) (rewinds c ring floor n) (ends _) (rewinds-first c ring floor n) tt

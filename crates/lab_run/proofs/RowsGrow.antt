@@ -3,8 +3,8 @@ use Rattle.std.proofs.Common.{◌≡◌, ℕ, ◌+◌, refl, sym, ◌∙◌, ap,
 use Rattle.std.proofs.lemmas.List.{append_assoc, append-nil}
 use Rattle.std.specs.Prelude.{Result, Ok, Err, slice_index_or}
 use Rattle.snd_base.specs.declared.errors.PcmError.{PcmError}
-use Rattle.dmix_client.specs.declared.plain.Plain.{Plain}
-use Rattle.dsnoop_client.specs.declared.plain.Plain as reading
+use Rattle.dmix_client.specs.declared.stream.PlaybackStream.{PlaybackStream}
+use Rattle.dsnoop_client.specs.declared.stream.CaptureStream as reading
 use Rattle.lab_script.specs.declared.line.Actor.{Actor}
 use Rattle.lab_script.specs.declared.line.Actor.TheVariants as actor
 use Rattle.lab_script.specs.declared.line.Item.{Item}
@@ -31,7 +31,7 @@ one stage after row is = record { more = row ∷ []; rows = is }
 none : (stage : Stage) → HasMore stage stage
 none stage = record { more = []; rows = sym (append-nil stage.rows) }
 
-open_client-more : (session : Session) (stage : Stage) (n : ℕ) (x : AtPort × Client) (own : Option Plain) → HasMore stage (open_client session stage n x own)
+open_client-more : (session : Session) (stage : Stage) (n : ℕ) (x : AtPort × Client) (own : Option PlaybackStream) → HasMore stage (open_client session stage n x own)
 open_client-more session stage n x (Some c) = one stage _ _ refl
 open_client-more session stage n x None = by_setup (slice_index_or session.clients n None)
   where
@@ -47,7 +47,7 @@ open_client-more session stage n x None = by_setup (slice_index_or session.clien
     by_setup None = one stage _ _ refl
     by_setup (Some setup) = by_claim setup (claim_refusal session.card.share stage.claims setup.bindings stage.position)
 
-open_reader-more : (session : Session) (stage : Stage) (n : ℕ) (x : AtPort × Reader) (own : Option reading.Plain) → HasMore stage (open_reader session stage n x own)
+open_reader-more : (session : Session) (stage : Stage) (n : ℕ) (x : AtPort × Reader) (own : Option reading.CaptureStream) → HasMore stage (open_reader session stage n x own)
 open_reader-more session stage n x (Some r) = one stage _ _ refl
 open_reader-more session stage n (a, reader) None = by_setup (slice_index_or session.readers n None)
   where
@@ -55,11 +55,11 @@ open_reader-more session stage n (a, reader) None = by_setup (slice_index_or ses
     by_setup None = one stage _ _ refl
     by_setup (Some setup) = one stage _ _ refl
 
-close_client-more : (session : Session) (stage : Stage) (n : ℕ) (x : AtPort × Client) (own : Option Plain) → HasMore stage (close_client session stage n x own)
+close_client-more : (session : Session) (stage : Stage) (n : ℕ) (x : AtPort × Client) (own : Option PlaybackStream) → HasMore stage (close_client session stage n x own)
 close_client-more session stage n x None = one stage _ _ refl
 close_client-more session stage n x (Some c) = one stage _ _ refl
 
-close_reader-more : (session : Session) (stage : Stage) (n : ℕ) (x : AtPort × Reader) (own : Option reading.Plain) → HasMore stage (close_reader session stage n x own)
+close_reader-more : (session : Session) (stage : Stage) (n : ℕ) (x : AtPort × Reader) (own : Option reading.CaptureStream) → HasMore stage (close_reader session stage n x own)
 close_reader-more session stage n x None = one stage _ _ refl
 close_reader-more session stage n x (Some r) = one stage _ _ refl
 

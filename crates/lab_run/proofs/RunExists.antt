@@ -6,8 +6,8 @@ use Rattle.snd_base.specs.declared.geometry.Geometry.{Geometry}
 use Rattle.std.proofs.lemmas.List.Sums.{sum_by-cons}
 use Rattle.std.proofs.lemmas.List.Elements.{Contains-append_left, Contains-append_right, Contains-append_cases}
 use Rattle.wav_io.specs.Sound.{Sound}
-use Rattle.dmix_client.specs.declared.plain.Plain.{Plain}
-use Rattle.dsnoop_client.specs.declared.plain.Plain as reading
+use Rattle.dmix_client.specs.declared.stream.PlaybackStream.{PlaybackStream}
+use Rattle.dsnoop_client.specs.declared.stream.CaptureStream as reading
 use Rattle.lab_script.specs.declared.line.Actor.{Actor}
 use Rattle.lab_script.specs.declared.line.Actor.TheVariants as actor
 use Rattle.lab_script.specs.declared.line.Item.{Item}
@@ -90,7 +90,7 @@ attached-behind Q R session stage n setup (a, client) (lobby, Ok done) none behi
     new-client Q R session.ring stage _ n a (record client { own = Some (opened_client session.ring n setup) }) none refl refl refl behind
 attached-behind Q R session stage n setup x (lobby, Err e) none behind = same-actors Q R stage _ refl refl refl behind
 
-open_client-behind : (Q R : ℕ → ℕ → Type 0) (session : Session) (stage : Stage) (n : ℕ) (x : AtPort × Client) (own : Option Plain)
+open_client-behind : (Q R : ℕ → ℕ → Type 0) (session : Session) (stage : Stage) (n : ℕ) (x : AtPort × Client) (own : Option PlaybackStream)
     → Q n x.0.by_gate → IsBehind Q R stage → IsBehind Q R (open_client session stage n x own)
 open_client-behind Q R session stage n x (Some c) none behind = same-actors Q R stage _ refl refl refl behind
 open_client-behind Q R session stage n x None none behind = by_setup (slice_index_or session.clients n None)
@@ -103,7 +103,7 @@ open_client-behind Q R session stage n x None none behind = by_setup (slice_inde
     by_setup None = same-actors Q R stage _ refl refl refl behind
     by_setup (Some setup) = by_claim setup (claim_refusal session.card.share stage.claims setup.bindings stage.position)
 
-open_reader-behind : (Q R : ℕ → ℕ → Type 0) (session : Session) (stage : Stage) (n : ℕ) (x : AtPort × Reader) (own : Option reading.Plain)
+open_reader-behind : (Q R : ℕ → ℕ → Type 0) (session : Session) (stage : Stage) (n : ℕ) (x : AtPort × Reader) (own : Option reading.CaptureStream)
     → R n x.0.by_gate → IsBehind Q R stage → IsBehind Q R (open_reader session stage n x own)
 open_reader-behind Q R session stage n x (Some r) none behind = same-actors Q R stage _ refl refl refl behind
 open_reader-behind Q R session stage n (a, reader) None none behind = by_setup (slice_index_or session.readers n None)
@@ -119,13 +119,13 @@ open-behind Q R none reader_none session stage (actor.Client n) behind =
 open-behind Q R none reader_none session stage (actor.Reader n) behind =
     open_reader-behind Q R session stage n (reader_at session stage n) (reader_at session stage n).1.own (behind-at R stage.position 0 stage.readers n n _ (omega arith) (reader_none n) behind.readers) behind
 
-close_client-behind : (Q R : ℕ → ℕ → Type 0) (session : Session) (stage : Stage) (n : ℕ) (x : AtPort × Client) (own : Option Plain) → Q n x.0.by_gate → IsBehind Q R stage
+close_client-behind : (Q R : ℕ → ℕ → Type 0) (session : Session) (stage : Stage) (n : ℕ) (x : AtPort × Client) (own : Option PlaybackStream) → Q n x.0.by_gate → IsBehind Q R stage
     → IsBehind Q R (close_client session stage n x own)
 close_client-behind Q R session stage n x None none behind = same-actors Q R stage _ refl refl refl behind
 close_client-behind Q R session stage n (a, client) (Some c) none behind =
     new-client Q R session.ring stage _ n a (ended_client session.ring (a, client)).1 none refl refl refl behind
 
-close_reader-behind : (Q R : ℕ → ℕ → Type 0) (session : Session) (stage : Stage) (n : ℕ) (x : AtPort × Reader) (own : Option reading.Plain) → R n x.0.by_gate → IsBehind Q R stage
+close_reader-behind : (Q R : ℕ → ℕ → Type 0) (session : Session) (stage : Stage) (n : ℕ) (x : AtPort × Reader) (own : Option reading.CaptureStream) → R n x.0.by_gate → IsBehind Q R stage
     → IsBehind Q R (close_reader session stage n x own)
 close_reader-behind Q R session stage n x None none behind = same-actors Q R stage _ refl refl refl behind
 close_reader-behind Q R session stage n (a, reader) (Some r) none behind =

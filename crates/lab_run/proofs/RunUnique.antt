@@ -4,8 +4,8 @@ use Rattle.std.specs.Prelude.{Bool, true, false, List, [], ◌∷◌, ⊤, map, 
 use Rattle.snd_base.specs.declared.errors.PcmError.{PcmError}
 use Rattle.snd_base.specs.declared.geometry.Geometry.{Geometry}
 use Rattle.wav_io.specs.Sound.{Sound}
-use Rattle.dmix_client.specs.declared.plain.Plain.{Plain}
-use Rattle.dsnoop_client.specs.declared.plain.Plain as reading
+use Rattle.dmix_client.specs.declared.stream.PlaybackStream.{PlaybackStream}
+use Rattle.dsnoop_client.specs.declared.stream.CaptureStream as reading
 use Rattle.lab_script.specs.declared.line.Actor.{Actor}
 use Rattle.lab_script.specs.declared.line.Actor.TheVariants as actor
 use Rattle.lab_script.specs.declared.line.Item.{Item}
@@ -52,7 +52,7 @@ set-reader : (session : Session) (stage after : Stage) (n : ℕ) (x : AtPort × 
 set-reader session stage after n x is clients readers =
     record { clients = rw clients (grow-refl stage.clients); readers = rw readers (grow-set stage.readers n _ x is) }
 
-open_client-grows : (session : Session) (stage : Stage) (n : ℕ) (own : Option Plain) → Grows stage (open_client session stage n (client_at session stage n) own)
+open_client-grows : (session : Session) (stage : Stage) (n : ℕ) (own : Option PlaybackStream) → Grows stage (open_client session stage n (client_at session stage n) own)
 open_client-grows session stage n (Some c) = same-actors stage _ refl refl
 open_client-grows session stage n None = by_setup (slice_index_or session.clients n None)
   where
@@ -69,7 +69,7 @@ open_client-grows session stage n None = by_setup (slice_index_or session.client
     by_setup None = same-actors stage _ refl refl
     by_setup (Some setup) = by_claim setup (claim_refusal session.card.share stage.claims setup.bindings stage.position)
 
-open_reader-grows : (session : Session) (stage : Stage) (n : ℕ) (own : Option reading.Plain) → Grows stage (open_reader session stage n (reader_at session stage n) own)
+open_reader-grows : (session : Session) (stage : Stage) (n : ℕ) (own : Option reading.CaptureStream) → Grows stage (open_reader session stage n (reader_at session stage n) own)
 open_reader-grows session stage n (Some r) = same-actors stage _ refl refl
 open_reader-grows session stage n None = by_setup (slice_index_or session.readers n None)
   where
@@ -83,11 +83,11 @@ open-grows session stage actor.Card = same-actors stage stage refl refl
 open-grows session stage (actor.Client n) = open_client-grows session stage n (client_at session stage n).1.own
 open-grows session stage (actor.Reader n) = open_reader-grows session stage n (reader_at session stage n).1.own
 
-close_client-grows : (session : Session) (stage : Stage) (n : ℕ) (own : Option Plain) → Grows stage (close_client session stage n (client_at session stage n) own)
+close_client-grows : (session : Session) (stage : Stage) (n : ℕ) (own : Option PlaybackStream) → Grows stage (close_client session stage n (client_at session stage n) own)
 close_client-grows session stage n None = same-actors stage _ refl refl
 close_client-grows session stage n (Some c) = set-client session stage _ n (ended_client session.ring (client_at session stage n)) refl refl refl
 
-close_reader-grows : (session : Session) (stage : Stage) (n : ℕ) (own : Option reading.Plain) → Grows stage (close_reader session stage n (reader_at session stage n) own)
+close_reader-grows : (session : Session) (stage : Stage) (n : ℕ) (own : Option reading.CaptureStream) → Grows stage (close_reader session stage n (reader_at session stage n) own)
 close_reader-grows session stage n None = same-actors stage _ refl refl
 close_reader-grows session stage n (Some r) = set-reader session stage _ n (ended_reader session.ring (reader_at session stage n)) refl refl refl
 

@@ -9,8 +9,8 @@ use Rattle.std.specs.Prelude.{Bool, true, false, ◌||◌, ◌/◌, ◌%◌, ◌
 use Rattle.std.specs.List.{list_any, range_with_len}
 use Rattle.wav_io.specs.Sound.{Sound}
 use Rattle.snd_base.specs.declared.errors.PcmError.{PcmError}
-use Rattle.dmix_client.specs.declared.plain.Plain.{Plain}
-use Rattle.dsnoop_client.specs.declared.plain.Plain as reading
+use Rattle.dmix_client.specs.declared.stream.PlaybackStream.{PlaybackStream}
+use Rattle.dsnoop_client.specs.declared.stream.CaptureStream as reading
 use Rattle.lab_script.specs.declared.line.Actor.{Actor}
 use Rattle.lab_script.specs.declared.line.Actor.TheVariants as actor
 use Rattle.lab_script.specs.declared.line.Item.{Item}
@@ -40,7 +40,7 @@ record HasCardOf (stage after : Stage) : Type 0 where
 same : (stage after : Stage) → after.phases ≡ stage.phases → after.position ≡ stage.position → after.gone ≡ stage.gone → HasCardOf stage after
 same stage after phases position gone = record { phases = phases; position = position; gone = gone }
 
-open_client-card : (session : Session) (stage : Stage) (n : ℕ) (x : AtPort × Client) (own : Option Plain) → HasCardOf stage (open_client session stage n x own)
+open_client-card : (session : Session) (stage : Stage) (n : ℕ) (x : AtPort × Client) (own : Option PlaybackStream) → HasCardOf stage (open_client session stage n x own)
 open_client-card session stage n x (Some c) = same stage _ refl refl refl
 open_client-card session stage n x None = by_setup (slice_index_or session.clients n None)
   where
@@ -56,7 +56,7 @@ open_client-card session stage n x None = by_setup (slice_index_or session.clien
     by_setup None = same stage _ refl refl refl
     by_setup (Some setup) = by_claim setup (claim_refusal session.card.share stage.claims setup.bindings stage.position)
 
-open_reader-card : (session : Session) (stage : Stage) (n : ℕ) (x : AtPort × Reader) (own : Option reading.Plain) → HasCardOf stage (open_reader session stage n x own)
+open_reader-card : (session : Session) (stage : Stage) (n : ℕ) (x : AtPort × Reader) (own : Option reading.CaptureStream) → HasCardOf stage (open_reader session stage n x own)
 open_reader-card session stage n x (Some r) = same stage _ refl refl refl
 open_reader-card session stage n (a, reader) None = by_setup (slice_index_or session.readers n None)
   where
@@ -64,11 +64,11 @@ open_reader-card session stage n (a, reader) None = by_setup (slice_index_or ses
     by_setup None = same stage _ refl refl refl
     by_setup (Some setup) = same stage _ refl refl refl
 
-close_client-card : (session : Session) (stage : Stage) (n : ℕ) (x : AtPort × Client) (own : Option Plain) → HasCardOf stage (close_client session stage n x own)
+close_client-card : (session : Session) (stage : Stage) (n : ℕ) (x : AtPort × Client) (own : Option PlaybackStream) → HasCardOf stage (close_client session stage n x own)
 close_client-card session stage n x None = same stage _ refl refl refl
 close_client-card session stage n x (Some c) = same stage _ refl refl refl
 
-close_reader-card : (session : Session) (stage : Stage) (n : ℕ) (x : AtPort × Reader) (own : Option reading.Plain) → HasCardOf stage (close_reader session stage n x own)
+close_reader-card : (session : Session) (stage : Stage) (n : ℕ) (x : AtPort × Reader) (own : Option reading.CaptureStream) → HasCardOf stage (close_reader session stage n x own)
 close_reader-card session stage n x None = same stage _ refl refl refl
 close_reader-card session stage n x (Some r) = same stage _ refl refl refl
 

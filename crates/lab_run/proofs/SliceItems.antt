@@ -8,7 +8,7 @@ use Rattle.std.specs.List.{flat_map, range_with_len}
 use Rattle.std.specs.Prelude.{Bool, true, false, zero, suc, nat_eq, map, slice_index_or}
 use Rattle.snd_base.specs.declared.geometry.Geometry.{Geometry}
 use Rattle.wav_io.specs.Sound.{Sound}
-use Rattle.dsnoop_client.specs.declared.plain.Plain.{Plain}
+use Rattle.dsnoop_client.specs.declared.stream.CaptureStream.{CaptureStream}
 use Rattle.lab_script.specs.declared.line.Actor.{Actor}
 use Rattle.lab_script.specs.declared.line.Actor.TheVariants as actor
 use Rattle.lab_script.specs.declared.line.Item.{Item}
@@ -143,7 +143,7 @@ none-closed : (at : Option ℕ) → IsGoing at None → at ≡ None
 none-closed None goes = refl
 none-closed (Some next) goes = absurd goes
 
-open-read : (session : Session) (n : ℕ) (stage : Stage) (a : AtPort) (own : Option Plain) (frames : List ℕ) → n < length stage.readers → reader_at session stage n ≡ reader_with a own frames
+open-read : (session : Session) (n : ℕ) (stage : Stage) (a : AtPort) (own : Option CaptureStream) (frames : List ℕ) → n < length stage.readers → reader_at session stage n ≡ reader_with a own frames
     → IsRead (view_of (is_reader n) (reader_with a own frames) stage) → IsRead (reader_view session n (open_reader session stage n (reader_with a own frames) own))
 open-read session n stage a (Some r) frames there is read =
     read-by _ _ (reader_with a (Some r) frames) read.at (own-row (is_reader n) stage.rows _ (is-own n)) is (with-row _ frames read.at read.at _ refl refl read.slices) read.goes
@@ -160,7 +160,7 @@ open-read session n stage a None frames there is read = by_setup (slice_index_or
     by_setup (Some setup) = read-by _ _ _ None (own-row (is_reader n) stage.rows _ (is-own n)) (get_or-set_same stage.readers n _ _ there)
         (with-row _ frames None None _ refl refl slices) tt
 
-close-read : (session : Session) (n : ℕ) (stage : Stage) (a : AtPort) (own : Option Plain) (frames : List ℕ) → n < length stage.readers → reader_at session stage n ≡ reader_with a own frames
+close-read : (session : Session) (n : ℕ) (stage : Stage) (a : AtPort) (own : Option CaptureStream) (frames : List ℕ) → n < length stage.readers → reader_at session stage n ≡ reader_with a own frames
     → IsRead (view_of (is_reader n) (reader_with a own frames) stage) → IsRead (reader_view session n (close_reader session stage n (reader_with a own frames) own))
 close-read session n stage a None frames there is read =
     read-by _ _ (reader_with a None frames) None (own-row (is_reader n) stage.rows _ (is-own n)) is (with-row _ frames read.at None _ refl refl read.slices) tt
@@ -175,7 +175,7 @@ reaped-goes ring (Some next) (a, reader) goes = by_own reader.own refl goes
     both : {b : Bool} → b ≡ true → b ≡ false → ⊥
     both x y = absurd (cc)
 
-    by_own : (own : Option Plain) → reader.own ≡ own → IsGoing (Some next) own → IsGoing (Some next) (reaped_reader_if (is_reader_stopped own) ring (a, reader)).1.own
+    by_own : (own : Option CaptureStream) → reader.own ≡ own → IsGoing (Some next) own → IsGoing (Some next) (reaped_reader_if (is_reader_stopped own) ring (a, reader)).1.own
     by_own None is goes = absurd goes
     by_own (Some r) is goes = by_stopped r.status.stopped refl
       where

@@ -13,7 +13,7 @@ use Rattle.pcm_states.specs.Table.{next_of}
 use Rattle.snoop_core.specs.declared.port.Got.{Got}
 use Rattle.snoop_core.specs.declared.port.Got.TheVariants as got
 use Rattle.course.specs.Course.{◌>>=◌, Course, ends}
-use Rattle.dsnoop_client.specs.declared.plain.Plain.{Plain}
+use Rattle.dsnoop_client.specs.declared.stream.CaptureStream.{CaptureStream}
 use Rattle.dsnoop_client.specs.Calls.{Answered, found, over_of, read_after, read_to, seen_at, with_outcome, after_sync, taken_of, with_avail}
 use Rattle.dsnoop_client.specs.View.{avail_of}
 use Rattle.dsnoop_client.specs.Course.{counts, gets_frames, reads_on, syncs, transfer_on, transfers}
@@ -28,26 +28,26 @@ use Rattle.lab_run.specs.Slices.{GetsSlice, LinesGetSlices, ReadersReadOn, Reads
 use Rattle.lab_run.proofs.Results.{All, All-any, All-map, All-then, Takes-all}
 
 -- a reader that runs, and that its gate didn't stop
-abbrev going : Plain → Plain
+abbrev going : CaptureStream → CaptureStream
 going r = record r { status = record { state = Running; stopped = false } }
 
 -- a call of a reader that runs
-record GoesOn (r : Plain) (asked : Op) (x : Plain × Answer) : Type 0 where
+record GoesOn (r : CaptureStream) (asked : Op) (x : CaptureStream × Answer) : Type 0 where
   count : ℕ
   frames : frames_by asked x.1 x.0 ≡ range_with_len r.next count
   next : x.0.next ≡ r.next + count
   goes : (x.0.status.state ≡ Running) ⊎ (ends_stretch asked x.1 ≡ true)
 
 -- a sync of it
-abbrev GoesBy : Result (Unit {0}) PcmError → Plain → Type 0
+abbrev GoesBy : Result (Unit {0}) PcmError → CaptureStream → Type 0
 GoesBy (Ok done) d = d.status.state ≡ Running
 GoesBy (Err e) d = (d.status.state ≡ Running) ⊎ (ends_by (reported e) ≡ true)
 
-record Syncs (r : Plain) (x : Answered (Unit {0})) : Type 0 where
+record Syncs (r : CaptureStream) (x : Answered (Unit {0})) : Type 0 where
   next : x.0.next ≡ r.next
   goes : GoesBy x.1 x.0
 
-syncs-on : (r : Plain) (asked : Call) → (asked ≡ call.Transfer) ⊎ (asked ≡ call.Sync) → All (Syncs r) (syncs (going r) asked)
+syncs-on : (r : CaptureStream) (asked : Call) → (asked ≡ call.Transfer) ⊎ (asked ≡ call.Sync) → All (Syncs r) (syncs (going r) asked)
 unfolding syncs
 syncs-on r asked which = by_load
   where
@@ -65,12 +65,12 @@ syncs-on r asked which = by_load
     by_load (Some p) = by_found asked p which p.gone (over_of (seen_at (going r) p))
 
 -- a call that got nothing
-nothing-got : (r d : Plain) (asked : Op) (answer : Answer) → frames_by asked answer d ≡ [] → d.next ≡ r.next → (d.status.state ≡ Running) ⊎ (ends_stretch asked answer ≡ true)
+nothing-got : (r d : CaptureStream) (asked : Op) (answer : Answer) → frames_by asked answer d ≡ [] → d.next ≡ r.next → (d.status.state ≡ Running) ⊎ (ends_stretch asked answer ≡ true)
     → GoesOn r asked (d, answer)
 nothing-got r d asked answer none same goes = record { count = 0; frames = none; next = omega (arith, same); goes = goes }
 
 -- the frames of a read
-frames-on : (r d : Plain) (n done : ℕ) (ended : Got) → d.next ≡ r.next → d.status.state ≡ Running
+frames-on : (r d : CaptureStream) (n done : ℕ) (ended : Got) → d.next ≡ r.next → d.status.state ≡ Running
     → GoesOn r (op.Read n) (let x = read_after d n done ended in (x.0, count_answer x.1))
 frames-on r d n done ended same runs = by_test (nat_lt 0 n && nat_eq (avail_of d) 0)
   where
@@ -89,11 +89,11 @@ frames-on r d n done ended same runs = by_test (nat_lt 0 n && nat_eq (avail_of d
     by_test false = by_end ended
 
 -- a call's answer
-answers-on : {X : Type 0} (r : Plain) (asked : Op) (answer : Result X PcmError → Answer) (m : Course (Answered X)) → All (λ x. GoesOn r asked (x.0, answer x.1)) m
+answers-on : {X : Type 0} (r : CaptureStream) (asked : Op) (answer : Result X PcmError → Answer) (m : Course (Answered X)) → All (λ x. GoesOn r asked (x.0, answer x.1)) m
     → All (GoesOn r asked) (answered answer m)
 answers-on r asked answer m all = All-then (λ x. GoesOn r asked (x.0, answer x.1)) (GoesOn r asked) m (λ done. ends (done.0, answer done.1)) all (λ x is. is)
 
-read-on : (r : Plain) (n : ℕ) → All (λ x. GoesOn r (op.Read n) (x.0, count_answer x.1)) (reads_on (going r) n)
+read-on : (r : CaptureStream) (n : ℕ) → All (λ x. GoesOn r (op.Read n) (x.0, count_answer x.1)) (reads_on (going r) n)
 unfolding reads_on transfers
 read-on r n = All-then (Syncs r) _ (syncs (going r) call.Transfer) (transfer_on n) (syncs-on r call.Transfer (inl refl)) transfer
   where
@@ -103,7 +103,7 @@ read-on r n = All-then (Syncs r) _ (syncs (going r) call.Transfer) (transfer_on 
     transfer (d, Err e) is = nothing-got r d (op.Read n) _ refl is.next is.goes
 
 -- each call
-calls-on : (r : Plain) (asked : Op) → All (GoesOn r asked) (call_of (going r) asked)
+calls-on : (r : CaptureStream) (asked : Op) → All (GoesOn r asked) (call_of (going r) asked)
 unfolding ◌>>=◌ counts
 calls-on r (op.Read n) = answers-on r (op.Read n) count_answer _ (read-on r n)
 calls-on r op.Start = nothing-got r _ op.Start _ refl refl (inl refl)
@@ -134,7 +134,7 @@ readers-read_on rules phase number a b reader after r asked answer is runs may =
     same : r.status.stopped ≡ false → r ≡ going r
     same goes = λ i. record r { status = record { state = runs i; stopped = goes i } }
 
-    called : (o : Op) (x : Plain × Answer) → GoesOn r o x → ReadsOn reader r o (after_call reader o x).0 (after_call reader o x).1
+    called : (o : Op) (x : CaptureStream × Answer) → GoesOn r o x → ReadsOn reader r o (after_call reader o x).0 (after_call reader o x).1
     called o (d, given) goes =
         record { own = d; is_own = refl; count = goes.count; frames = ap (λ frames. reader.frames ++ frames) goes.frames; next = goes.next; goes = goes.goes }
 
@@ -159,26 +159,26 @@ lines-get_slices rules phase number a b reader after asked answer may =
     stays = record { first = 0; count = 0; frames = sym (append-nil reader.frames) }
 
     -- what a call got
-    gets : (o : Op) (given : Answer) (d : Plain) → (first : ℕ) × (count : ℕ) × (frames_by o given d ≡ range_with_len first count)
+    gets : (o : Op) (given : Answer) (d : CaptureStream) → (first : ℕ) × (count : ℕ) × (frames_by o given d ≡ range_with_len first count)
     gets (op.Read n) (Count count) d = (d.next - count, count, refl)
     gets other given d = (0, 0, refl)
 
-    called : (o : Op) (x : Plain × Answer) → GetsSlice reader (after_call reader o x).0
+    called : (o : Op) (x : CaptureStream × Answer) → GetsSlice reader (after_call reader o x).0
     called o (d, given) = let got = gets o given d in
         record { first = got.0; count = got.1; frames = ap (λ frames. reader.frames ++ frames) got.2 }
 
-    by_call : (r : Plain) (o : Op) → All (λ x. GetsSlice reader x.0) (call_of r o >>= λ done. ends (after_call reader o done))
+    by_call : (r : CaptureStream) (o : Op) → All (λ x. GetsSlice reader x.0) (call_of r o >>= λ done. ends (after_call reader o done))
     by_call r o = All-then (λ x. ⊤) (λ x. GetsSlice reader x.0) (call_of r o) (λ done. ends (after_call reader o done))
         (All-any (λ x. ⊤) (call_of r o) (λ x. tt)) (λ x any. called o x)
 
-    by_op : (r : Plain) (o : Op) → All (λ x. GetsSlice reader x.0) (line_if false reader r o)
+    by_op : (r : CaptureStream) (o : Op) → All (λ x. GetsSlice reader x.0) (line_if false reader r o)
     by_op r (op.Die k) = stays
     by_op r other = by_call r other
 
-    by_stop : (r : Plain) (stopped : Bool) → All (λ x. GetsSlice reader x.0) (line_if stopped reader r asked)
+    by_stop : (r : CaptureStream) (stopped : Bool) → All (λ x. GetsSlice reader x.0) (line_if stopped reader r asked)
     by_stop r true = stays
     by_stop r false = by_op r asked
 
-    by_own : (own : Option Plain) → All (λ x. GetsSlice reader x.0) (line_by reader own asked)
+    by_own : (own : Option CaptureStream) → All (λ x. GetsSlice reader x.0) (line_by reader own asked)
     by_own None = stays
     by_own (Some r) = by_stop r r.status.stopped

@@ -19,7 +19,7 @@ use Rattle.pcm_stream.specs.Status.{nothing_found, refusal_in}
 use Rattle.snoop_core.specs.declared.port.Got.{Got}
 use Rattle.snoop_core.specs.declared.port.Got.TheVariants as got
 use Rattle.course.specs.Course.{◌>>=◌, Course, ends}
-use Rattle.dsnoop_client.specs.declared.plain.Plain.{Plain}
+use Rattle.dsnoop_client.specs.declared.stream.CaptureStream.{CaptureStream}
 use Rattle.dsnoop_client.specs.Calls.{Answered, found, over_of, read_after, read_to, seen_at, with_outcome, after_start, started_at, after_sync, taken_of, waits, with_avail}
 use Rattle.dsnoop_client.specs.View.{avail_of, is_running}
 use Rattle.dsnoop_client.specs.Course.{admitted, admitted_by, counts, gets_frames, read_course, reads_first, reads_on, starts, syncs, transfer_on, transfers}
@@ -36,31 +36,31 @@ use Rattle.lab_run.specs.Stretches.{AreSlices, IsFirstOf, ends_by_row, goes_on_a
 use Rattle.lab_run.proofs.Results.{All, All-any, All-map, All-then, Takes-all}
 
 -- a reader that wasn't stopped and runs, or whose card is gone
-abbrev IsOn : Plain → Type 0
+abbrev IsOn : CaptureStream → Type 0
 IsOn d = (d.status.stopped ≡ false) × (d.status.state ≡ Running)
 
-abbrev IsOpen : Plain → Type 0
+abbrev IsOpen : CaptureStream → Type 0
 IsOpen d = (d.status.stopped ≡ false) × ((d.status.state ≡ Running) ⊎ (d.status.state ≡ Disconnected))
 
 -- where a stretch has frames, its reader is open and at the frame after them
-abbrev pub IsGoing : Option ℕ → Option Plain → Type 0
+abbrev pub IsGoing : Option ℕ → Option CaptureStream → Type 0
 IsGoing None own = ⊤
 IsGoing (Some next) None = ⊥
 IsGoing (Some next) (Some d) = (d.next ≡ next) × IsOpen d
 
 -- a call
-record Gets (at : Option ℕ) (asked : Op) (x : Plain × Answer) : Type 0 where
+record Gets (at : Option ℕ) (asked : Op) (x : CaptureStream × Answer) : Type 0 where
   first : ℕ
   begins : IsFirstOf at first
   frames : frames_by asked x.1 x.0 ≡ range_with_len first (got_by asked x.1)
   goes : IsGoing (goes_on_after (ends_by_row asked x.1) at first (got_by asked x.1)) (Some x.0)
 
 -- a row without frames, of a reader without a stretch, and of one with a stretch
-none-goes : (b : Bool) (first : ℕ) (own : Option Plain) → IsGoing (goes_on_after b None first 0) own
+none-goes : (b : Bool) (first : ℕ) (own : Option CaptureStream) → IsGoing (goes_on_after b None first 0) own
 none-goes true first own = tt
 none-goes false first own = tt
 
-still-goes : (b : Bool) (next first : ℕ) (d : Plain) → d.next ≡ next → IsOpen d ⊎ (b ≡ true) → IsGoing (goes_on_after b (Some next) first 0) (Some d)
+still-goes : (b : Bool) (next first : ℕ) (d : CaptureStream) → d.next ≡ next → IsOpen d ⊎ (b ≡ true) → IsGoing (goes_on_after b (Some next) first 0) (Some d)
 still-goes true next first d same open_or = tt
 still-goes false next first d same (inl is) = (same, is)
 still-goes false next first d same (inr ends_so) = absurd (cc)
@@ -87,21 +87,21 @@ ends-reported f xrun stop other is = absurd (cc)
 
 -- ---- a reader in a stretch
 
-abbrev going : Plain → Plain
+abbrev going : CaptureStream → CaptureStream
 going r = record r { status = record { state = Running; stopped = false } }
 
-abbrev gone : Plain → Plain
+abbrev gone : CaptureStream → CaptureStream
 gone r = record r { status = record { state = Disconnected; stopped = false } }
 
-abbrev StaysBy : Result (Unit {0}) PcmError → Plain → Type 0
+abbrev StaysBy : Result (Unit {0}) PcmError → CaptureStream → Type 0
 StaysBy (Ok done) d = IsOn d
 StaysBy (Err e) d = IsOpen d ⊎ (ends_by_error e ≡ true)
 
-record Syncs (r : Plain) (x : Answered (Unit {0})) : Type 0 where
+record Syncs (r : CaptureStream) (x : Answered (Unit {0})) : Type 0 where
   next : x.0.next ≡ r.next
   stays : StaysBy x.1 x.0
 
-syncs-on : (r : Plain) (asked : Call) → (asked ≡ call.Transfer) ⊎ (asked ≡ call.Sync) → All (Syncs r) (syncs (going r) asked)
+syncs-on : (r : CaptureStream) (asked : Call) → (asked ≡ call.Transfer) ⊎ (asked ≡ call.Sync) → All (Syncs r) (syncs (going r) asked)
 unfolding syncs
 syncs-on r asked which = by_load
   where
@@ -119,7 +119,7 @@ syncs-on r asked which = by_load
     by_load (Some p) = by_found asked p which p.gone (over_of (seen_at (going r) p))
 
 -- a call of a reader in a stretch that gets nothing
-nothing : (r d : Plain) (asked : Op) (answer : Answer) → frames_by asked answer d ≡ [] → got_by asked answer ≡ 0 → d.next ≡ r.next
+nothing : (r d : CaptureStream) (asked : Op) (answer : Answer) → frames_by asked answer d ≡ [] → got_by asked answer ≡ 0 → d.next ≡ r.next
     → IsOpen d ⊎ (ends_by_row asked answer ≡ true) → Gets (Some r.next) asked (d, answer)
 nothing r d asked answer no_frames none same stays = record {
   first = r.next;
@@ -129,11 +129,11 @@ nothing r d asked answer no_frames none same stays = record {
       (still-goes (ends_by_row asked answer) r.next r.next d same stays);
 }
 
-open-of : (d : Plain) → IsOn d → IsOpen d
+open-of : (d : CaptureStream) → IsOn d → IsOpen d
 open-of d on = (on.0, inl on.1)
 
 -- the frames of its read
-frames-on : (r d : Plain) (n done : ℕ) (ended : Got) → d.next ≡ r.next → IsOn d → Gets (Some r.next) (op.Read n) (let x = read_after d n done ended in (x.0, count_answer x.1))
+frames-on : (r d : CaptureStream) (n done : ℕ) (ended : Got) → d.next ≡ r.next → IsOn d → Gets (Some r.next) (op.Read n) (let x = read_after d n done ended in (x.0, count_answer x.1))
 frames-on r d n done ended same on = by_test (nat_lt 0 n && nat_eq (avail_of d) 0)
   where
     whole : (count : ℕ) → IsGoing (goes_on_after false (Some r.next) r.next count) (Some (record d { next = d.next + count }))
@@ -154,12 +154,12 @@ answers-on : {X : Type 0} (at : Option ℕ) (asked : Op) (answer : Result X PcmE
 answers-on at asked answer m all = All-then (λ x. Gets at asked (x.0, answer x.1)) (Gets at asked) m (λ done. ends (done.0, answer done.1)) all (λ x is. is)
 
 -- an error of a sync
-stays-on : (d : Plain) (asked : Op) (e : PcmError) → ((w : XrunWhy) → ends_by_row asked (Failed (error.Xrun w)) ≡ true) → ends_by_row asked (Failed error.Stopped) ≡ true
+stays-on : (d : CaptureStream) (asked : Op) (e : PcmError) → ((w : XrunWhy) → ends_by_row asked (Failed (error.Xrun w)) ≡ true) → ends_by_row asked (Failed error.Stopped) ≡ true
     → IsOpen d ⊎ (ends_by_error e ≡ true) → IsOpen d ⊎ (ends_by_row asked (Failed (reported e)) ≡ true)
 stays-on d asked e xrun stop (inl is) = inl is
 stays-on d asked e xrun stop (inr is) = inr (ends-reported (λ answer. ends_by_row asked answer) xrun stop e is)
 
-read-on : (r : Plain) (n : ℕ) → All (λ x. Gets (Some r.next) (op.Read n) (x.0, count_answer x.1)) (reads_on (going r) n)
+read-on : (r : CaptureStream) (n : ℕ) → All (λ x. Gets (Some r.next) (op.Read n) (x.0, count_answer x.1)) (reads_on (going r) n)
 unfolding reads_on transfers
 read-on r n = All-then (Syncs r) _ (syncs (going r) call.Transfer) (transfer_on n) (syncs-on r call.Transfer (inl refl)) transfer
   where
@@ -168,7 +168,7 @@ read-on r n = All-then (Syncs r) _ (syncs (going r) call.Transfer) (transfer_on 
         (All-any (λ x. ⊤) (gets_frames (taken_of d n) d.next) (λ x. tt)) (λ x any. frames-on r d n x.0 x.1 is.next is.stays)
     transfer (d, Err e) is = nothing r d (op.Read n) _ refl refl is.next (stays-on d (op.Read n) e (λ w. refl) refl is.stays)
 
-calls-on : (r : Plain) (asked : Op) → All (Gets (Some r.next) asked) (call_of (going r) asked)
+calls-on : (r : CaptureStream) (asked : Op) → All (Gets (Some r.next) asked) (call_of (going r) asked)
 unfolding ◌>>=◌ counts
 calls-on r (op.Read n) = answers-on (Some r.next) (op.Read n) count_answer _ (read-on r n)
 calls-on r op.Start = nothing r _ op.Start _ refl refl refl (inl (refl, inl refl))
@@ -189,7 +189,7 @@ calls-on r op.Pause = nothing r _ op.Pause _ refl refl refl (inl (refl, inl refl
 calls-on r other = nothing r _ other _ refl refl refl (inl (refl, inl refl))
 
 -- a reader whose card is gone gets nothing
-calls-gone : (r : Plain) (asked : Op) → All (Gets (Some r.next) asked) (call_of (gone r) asked)
+calls-gone : (r : CaptureStream) (asked : Op) → All (Gets (Some r.next) asked) (call_of (gone r) asked)
 unfolding ◌>>=◌
 calls-gone r (op.Read n) = nothing r _ (op.Read n) _ refl refl refl (inl (refl, inr refl))
 calls-gone r op.Start = nothing r _ op.Start _ refl refl refl (inl (refl, inr refl))
@@ -210,7 +210,7 @@ abbrev Opens : Answered (Unit {0}) → Type 0
 Opens (d, Ok done) = IsOn d
 Opens (d, Err e) = ⊤
 
-well-read : (d : Plain) (n done : ℕ) (ended : Got) → IsOn d → ReadsWell (read_after d n done ended)
+well-read : (d : CaptureStream) (n done : ℕ) (ended : Got) → IsOn d → ReadsWell (read_after d n done ended)
 well-read d n done ended on = by_test (nat_lt 0 n && nat_eq (avail_of d) 0)
   where
     by_end : (ended : Got) → ReadsWell (read_to d done ended)
@@ -228,11 +228,11 @@ transfer-well n (d, Ok done) on = All-then (λ x. ⊤) ReadsWell (gets_frames (t
     (All-any (λ x. ⊤) (gets_frames (taken_of d n) d.next) (λ x. tt)) (λ x any. well-read d n x.0 x.1 on)
 transfer-well n (d, Err e) on = tt
 
-starts-well : (r : Plain) → r.status.stopped ≡ false → All Opens (starts r call.Transfer)
+starts-well : (r : CaptureStream) → r.status.stopped ≡ false → All Opens (starts r call.Transfer)
 unfolding starts
 starts-well r goes = by_load
   where
-    by_state : (s : State) (d : Plain) (gone : Bool) → d.status.stopped ≡ false → Opens (with_outcome d (next_of s call.Transfer (found gone None None)))
+    by_state : (s : State) (d : CaptureStream) (gone : Bool) → d.status.stopped ≡ false → Opens (with_outcome d (next_of s call.Transfer (found gone None None)))
     by_state state.Prepared d true is = tt
     by_state state.Prepared d false is = (is, refl)
     by_state Running d true is = tt
@@ -253,7 +253,7 @@ starts-well r goes = by_load
     by_load None = tt
     by_load (Some p) = by_state r.status.state (started_at r p) p.gone (at-start p p.gone)
 
-syncs-well : (r : Plain) → r.status.stopped ≡ false → r.status.state ≡ Running → All Opens (syncs r call.Transfer)
+syncs-well : (r : CaptureStream) → r.status.stopped ≡ false → r.status.state ≡ Running → All Opens (syncs r call.Transfer)
 syncs-well r goes runs = subst (λ q. All Opens (syncs q call.Transfer)) (sym same)
     (All-map (Syncs r) Opens (syncs (going r) call.Transfer) (syncs-on r call.Transfer (inl refl)) well)
   where
@@ -264,7 +264,7 @@ syncs-well r goes runs = subst (λ q. All Opens (syncs q call.Transfer)) (sym sa
     well (d, Ok done) is = is.stays
     well (d, Err e) is = tt
 
-reads-well : (r : Plain) (n : ℕ) → r.status.stopped ≡ false → All ReadsWell (read_course r n)
+reads-well : (r : CaptureStream) (n : ℕ) → r.status.stopped ≡ false → All ReadsWell (read_course r n)
 unfolding reads_on reads_first
 reads-well r n goes = by_running (is_running r.status.state) (runs-of r.status.state)
   where
@@ -285,7 +285,7 @@ reads-well r n goes = by_running (is_running r.status.state) (runs-of r.status.s
     by_running true runs = All-then Opens ReadsWell (syncs r call.Transfer) (transfer_on n) (syncs-well r goes (runs refl)) (transfer-well n)
     by_running false runs = by_start (nat_le r.setup.params.start_threshold n)
 
-admitted-well : (r : Plain) (n : ℕ) → All ReadsWell (admitted r call.Transfer (read_course r n))
+admitted-well : (r : CaptureStream) (n : ℕ) → All ReadsWell (admitted r call.Transfer (read_course r n))
 admitted-well r n = by_stop r.status.stopped refl
   where
     by_refusal : (refusal : Option PcmError) → r.status.stopped ≡ false → All ReadsWell (admitted_by refusal r (read_course r n))
@@ -297,7 +297,7 @@ admitted-well r n = by_stop r.status.stopped refl
     by_stop true is = tt
     by_stop false is = by_refusal (refusal_in (next_of r.status.state call.Transfer (nothing_found Capture)).answer) is
 
-idle : (d : Plain) (asked : Op) (answer : Answer) → frames_by asked answer d ≡ [] → got_by asked answer ≡ 0 → Gets None asked (d, answer)
+idle : (d : CaptureStream) (asked : Op) (answer : Answer) → frames_by asked answer d ≡ [] → got_by asked answer ≡ 0 → Gets None asked (d, answer)
 idle d asked answer no_frames none = record {
   first = 0;
   begins = tt;
@@ -305,10 +305,10 @@ idle d asked answer no_frames none = record {
   goes = subst (λ n. IsGoing (goes_on_after (ends_by_row asked answer) None 0 n) (Some d)) (sym none) (none-goes (ends_by_row asked answer) 0 (Some d));
 }
 
-calls-first : (r : Plain) (asked : Op) → All (Gets None asked) (call_of r asked)
+calls-first : (r : CaptureStream) (asked : Op) → All (Gets None asked) (call_of r asked)
 calls-first r (op.Read n) = answers-on None (op.Read n) count_answer _ (All-map ReadsWell _ (admitted r call.Transfer (read_course r n)) (admitted-well r n) by_read)
   where
-    goes : (d : Plain) (count : ℕ) → (count ≡ 0) ⊎ ((count ≤ d.next) × IsOn d) → IsGoing (goes_on_after false None (d.next - count) count) (Some d)
+    goes : (d : CaptureStream) (count : ℕ) → (count ≡ 0) ⊎ ((count ≤ d.next) × IsOn d) → IsGoing (goes_on_after false None (d.next - count) count) (Some d)
     goes d zero well = tt
     goes d (suc count) (inl none) = absurd (omega (arith, none))
     goes d (suc count) (inr (few, on)) = (omega (arith, few), (on.0, inl on.1))
@@ -323,7 +323,7 @@ calls-first r op.Drop = All-any _ (call_of r op.Drop) (λ x. idle x.0 op.Drop x.
 calls-first r op.Prepare = All-any _ (call_of r op.Prepare) (λ x. idle x.0 op.Prepare x.1 refl refl)
 calls-first r other = All-any _ (call_of r other) (λ x. idle x.0 other x.1 refl refl)
 
-calls-get : (at : Option ℕ) (r : Plain) (asked : Op) → IsGoing at (Some r) → All (Gets at asked) (call_of r asked)
+calls-get : (at : Option ℕ) (r : CaptureStream) (asked : Op) → IsGoing at (Some r) → All (Gets at asked) (call_of r asked)
 calls-get None r asked goes = calls-first r asked
 calls-get (Some next) r asked (same, (goes, inl runs)) = subst (λ k. All (Gets (Some k) asked) (call_of r asked)) same
     (subst (λ q. All (Gets (Some r.next) asked) (call_of q asked)) (sym is) (calls-on r asked))
@@ -371,21 +371,21 @@ line-gets rules phase number a b reader after asked answer at goes may =
     fails : (e : PcmError) → LineGets at reader reader asked (Failed e)
     fails e = unchanged at reader asked (Failed e) (got-failed asked e) goes
 
-    called : (o : Op) (x : Plain × Answer) → Gets at o x → LineGets at reader (after_call reader o x).0 o (after_call reader o x).1
+    called : (o : Op) (x : CaptureStream × Answer) → Gets at o x → LineGets at reader (after_call reader o x).0 o (after_call reader o x).1
     called o (d, given) gets = record { first = gets.first; begins = gets.begins; frames = ap (λ frames. reader.frames ++ frames) gets.frames; goes = gets.goes }
 
-    by_call : (r : Plain) (o : Op) → IsGoing at (Some r) → All (λ x. LineGets at reader x.0 o x.1) (call_of r o >>= λ done. ends (after_call reader o done))
+    by_call : (r : CaptureStream) (o : Op) → IsGoing at (Some r) → All (λ x. LineGets at reader x.0 o x.1) (call_of r o >>= λ done. ends (after_call reader o done))
     by_call r o is = All-then (Gets at o) (λ x. LineGets at reader x.0 o x.1) (call_of r o) (λ done. ends (after_call reader o done)) (calls-get at r o is) (called o)
 
-    by_op : (r : Plain) (o : Op) → IsGoing at (Some r) → All (λ x. LineGets at reader x.0 o x.1) (line_if false reader r o)
+    by_op : (r : CaptureStream) (o : Op) → IsGoing at (Some r) → All (λ x. LineGets at reader x.0 o x.1) (line_if false reader r o)
     by_op r (op.Die k) is = unchanged at reader (op.Die k) Done refl goes
     by_op r other is = by_call r other is
 
-    by_stop : (r : Plain) (stopped : Bool) → IsGoing at (Some r) → All (λ x. LineGets at reader x.0 asked x.1) (line_if stopped reader r asked)
+    by_stop : (r : CaptureStream) (stopped : Bool) → IsGoing at (Some r) → All (λ x. LineGets at reader x.0 asked x.1) (line_if stopped reader r asked)
     by_stop r true is = fails error.Stopped
     by_stop r false is = by_op r asked is
 
-    by_own : (own : Option Plain) → reader.own ≡ own → IsGoing at own → All (λ x. LineGets at reader x.0 asked x.1) (line_by reader own asked)
+    by_own : (own : Option CaptureStream) → reader.own ≡ own → IsGoing at own → All (λ x. LineGets at reader x.0 asked x.1) (line_by reader own asked)
     by_own None same is = fails error.BadState
     by_own (Some r) same is = by_stop r r.status.stopped is
 
@@ -416,7 +416,7 @@ lines-get rules phase number x y (asked ∷ ops) rows at goes (between, answer, 
       goes = more.goes;
     }
   where
-    by_row : (own : Option Plain) (first : ℕ) → IsFirstOf at first → (got : List ℕ) (next : Option ℕ)
+    by_row : (own : Option CaptureStream) (first : ℕ) → IsFirstOf at first → (got : List ℕ) (next : Option ℕ)
         → AreSlices (goes_on_after (ends_by_row asked answer) at first (got_by asked answer)) others got next
         → AreSlices at (row_by phase number asked own answer ∷ others) (range_with_len first (got_by asked answer) ++ got) next
     by_row None first begins got next are = (first, got, begins, refl, are)

@@ -10,13 +10,13 @@ use Rattle.mix_core.specs.declared.port.Position.{Position}
 use Rattle.pcm_states.specs.declared.calls.Call.TheVariants as call
 use Rattle.snoop_core.specs.declared.port.Got.TheVariants as got
 use Rattle.course.specs.Course.{Course, ends, gets, lays, loads}
-use Rattle.dmix_client.specs.declared.plain.Plain.{Plain}
+use Rattle.dmix_client.specs.declared.stream.PlaybackStream.{PlaybackStream}
 use Rattle.dmix_client.specs.Calls.{Answered, avail_answer, delay_answer, dropped, prepared}
 use Rattle.dmix_client.specs.Course.{admitted, drain_course, number_course, pause_call, pause_course, start_course, sync_course}
 use Rattle.dmix_client.specs.Course as client_calls
 use Rattle.dmix_client.specs.Rewind.{rewind_course, rewindable_course}
 use Rattle.dmix_client.specs.Writes.{frames_in}
-use Rattle.dsnoop_client.specs.declared.plain.Plain as reading
+use Rattle.dsnoop_client.specs.declared.stream.CaptureStream as reading
 use Rattle.dsnoop_client.specs.Course.{avail_course, read_course}
 use Rattle.dsnoop_client.specs.Course as reading_course
 use Rattle.lab_report.specs.declared.row.Answer.{Answer}
@@ -62,7 +62,7 @@ pub record SameButMember {X : Type 0} (member : ℕ) (answer : Result X PcmError
 
 -- each call of a client, whatever its ring holds and whatever it is given, is like the call without them of the client with another member, at a
 -- port whose cursor and floor are the same from a frame on
-pub record CallsAreAlike (from member : ℕ) (c : Plain) (ring : List ℤ) (cursor other floor lower : Cursor) : Type 0 where
+pub record CallsAreAlike (from member : ℕ) (c : PlaybackStream) (ring : List ℤ) (cursor other floor lower : Cursor) : Type 0 where
   pub write : (samples : List ℤ) → Alike from (SameButMember member count_answer)
       (admitted c call.Transfer (client_calls.write_course c ring samples cursor))
       (admitted (with_member member c) call.Transfer (write_course (with_member member c) other (frames_in c samples)))
@@ -88,7 +88,7 @@ pub record CallsAreAlike (from member : ℕ) (c : Plain) (ring : List ℤ) (curs
       (admitted (with_member member c) call.Transfer (rewindable_course (with_member member c) lower))
 
 -- each call of a reader is like itself without its words
-pub record ReadsAreAlike (r : reading.Plain) : Type 0 where
+pub record ReadsAreAlike (r : reading.CaptureStream) : Type 0 where
   pub read : (n : ℕ) → Alike 0 (SameAnswer count_answer)
       (reading_course.admitted r call.Transfer (read_course r n)) (reading_course.admitted r call.Transfer (read_course r n))
   pub start : Alike 0 (SameAnswer done_answer)

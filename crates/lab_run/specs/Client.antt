@@ -11,7 +11,7 @@ use Rattle.pcm_states.specs.declared.states.State.TheVariants.{Open}
 use Rattle.pcm_states.specs.declared.calls.Call.TheVariants as call
 use Rattle.wav_io.specs.Sound.{Sound}
 use Rattle.course.specs.Course.{◌>>=◌, Course, ends}
-use Rattle.dmix_client.specs.declared.plain.Plain.{Plain}
+use Rattle.dmix_client.specs.declared.stream.PlaybackStream.{PlaybackStream}
 use Rattle.dmix_client.specs.Calls.{Answered, avail_answer, delay_answer, dropped, is_paused, is_running, prepared, segment_of}
 use Rattle.dmix_client.specs.Course.{admitted, drain_course, fills, number_course, pause_course, start_course, sync_course, writes_on}
 use Rattle.dmix_client.specs.Rewind.{rewind_course, rewindable_course}
@@ -46,14 +46,14 @@ count_answer (Err e) = Failed (reported e)
 
 -- a client of a script: its stream where it is open, and its segments so far but that of its present stretch
 pub record Client : Type 0 where
-  pub own : Option Plain
+  pub own : Option PlaybackStream
   pub ended : List Segment
 
 -- the segment of a stretch, where at least one of its samples is in the card's ring
-abbrev pub stretch_of : Plain → List Segment
+abbrev pub stretch_of : PlaybackStream → List Segment
 stretch_of c = if nat_eq c.stretch.committed 0 && nat_eq c.stretch.part 0 then [] else segment_of c ∷ []
 
-abbrev pub present_of : Option Plain → List Segment
+abbrev pub present_of : Option PlaybackStream → List Segment
 present_of None = []
 present_of (Some c) = stretch_of c
 
@@ -62,21 +62,21 @@ segments_of client = client.ended ++ present_of client.own
 
 -- A stretch ends at a prepare that succeeds, and at a resume that begins a new one: where the client, `c` before the call and `d`
 -- after it, isn't paused any more.
-abbrev pub ended_by : Op → Answer → Plain → Plain → List Segment
+abbrev pub ended_by : Op → Answer → PlaybackStream → PlaybackStream → List Segment
 ended_by op.Prepare Done c d = stretch_of c
 ended_by op.Resume answer c d = if is_paused c.status.state && not (is_paused d.status.state) then stretch_of c else []
 ended_by asked answer c d = []
 
 -- a write of n frames. No sample of them matters to what a run may be, so the course is that of a client with silence.
-abbrev pub write_course : Plain → Cursor → ℕ → Course (Answered ℕ)
+abbrev pub write_course : PlaybackStream → Cursor → ℕ → Course (Answered ℕ)
 write_course c cursor n = if is_running c.status.state then writes_on c [] [] n else fills c [] [] cursor n
 
 -- a call with its answer
-abbrev pub answered : {X : Type 0} → (Result X PcmError → Answer) → Course (Answered X) → Course (Plain × Answer)
+abbrev pub answered : {X : Type 0} → (Result X PcmError → Answer) → Course (Answered X) → Course (PlaybackStream × Answer)
 answered answer course = course >>= λ done. ends (done.0, answer done.1)
 
 -- the call that a line of an open client names, of a client with a file and with marks at its port
-abbrev pub call_of : Sound → Marks → Plain → Op → Course (Plain × Answer)
+abbrev pub call_of : Sound → Marks → PlaybackStream → Op → Course (PlaybackStream × Answer)
 call_of wav marks c (op.Write n) = answered count_answer (admitted c call.Transfer (write_course c marks.cursor (min n (frames_of wav - c.fed))))
 call_of wav marks c op.Start = answered done_answer (admitted c call.Start (start_course c [] marks.cursor))
 call_of wav marks c op.Sync = answered done_answer (admitted c call.Sync (sync_course c []))
@@ -92,18 +92,18 @@ call_of wav marks c op.Rewindable = answered count_answer (admitted c call.Trans
 call_of wav marks c other = ends (c, Failed BadState)
 
 -- the client after a call
-abbrev pub after_call : Client → Plain → Op → Plain × Answer → Client × Answer
+abbrev pub after_call : Client → PlaybackStream → Op → PlaybackStream × Answer → Client × Answer
 after_call client before asked (after, answer) =
     (record { own = Some after; ended = client.ended ++ ended_by asked answer before after }, answer)
 
 -- a line of an open client: after a stop in this phase nothing is done any more
-abbrev pub line_if : Bool → Sound → Marks → Client → Plain → Op → Course (Client × Answer)
+abbrev pub line_if : Bool → Sound → Marks → Client → PlaybackStream → Op → Course (Client × Answer)
 line_if true wav marks client c asked = ends (client, Failed Stopped)
 line_if false wav marks client c (op.Die k) = ends (client, Done)
 line_if false wav marks client c asked = call_of wav marks c asked >>= λ done. ends (after_call client c asked done)
 
 -- a line of a client
-abbrev pub line_by : Sound → Marks → Client → Option Plain → Op → Course (Client × Answer)
+abbrev pub line_by : Sound → Marks → Client → Option PlaybackStream → Op → Course (Client × Answer)
 line_by wav marks client None asked = ends (client, Failed BadState)
 line_by wav marks client (Some c) asked = line_if c.status.stopped wav marks client c asked
 
@@ -112,12 +112,12 @@ abbrev pub dies_if : Bool → Op → AtPort → AtPort
 dies_if false (op.Die k) a = record a { left = Some k }
 dies_if stopped asked a = a
 
-abbrev pub begins : Option Plain → Op → AtPort → AtPort
+abbrev pub begins : Option PlaybackStream → Op → AtPort → AtPort
 begins None asked a = a
 begins (Some c) asked a = dies_if c.status.stopped asked a
 
 -- the row of a client's line, by the client after it
-abbrev pub row_by : ℕ → ℕ → Op → Option Plain → Answer → Row
+abbrev pub row_by : ℕ → ℕ → Op → Option PlaybackStream → Answer → Row
 row_by phase number asked None answer =
     record { phase = phase; actor = actor.Client number; op = asked; answer = answer; state = Open; seen = None }
 row_by phase number asked (Some c) answer =

@@ -8,7 +8,7 @@ use Rattle.pcm_states.specs.declared.calls.Call.TheVariants as call
 use Rattle.wav_io.specs.Sound.{Sound}
 use Rattle.course.specs.AtPort.{TakesAt}
 use Rattle.course.specs.Course.{Course, ends}
-use Rattle.dmix_client.specs.declared.plain.Plain.{Plain}
+use Rattle.dmix_client.specs.declared.stream.PlaybackStream.{PlaybackStream}
 use Rattle.dmix_client.specs.Calls.{avail_answer, delay_answer, dropped, prepared}
 use Rattle.dmix_client.specs.Course.{admitted, drain_course, number_course, pause_course, start_course, sync_course, write_course}
 use Rattle.dmix_client.specs.Rewind.{rewind_course, rewindable_course}
@@ -26,7 +26,7 @@ use Rattle.lab_run.specs.Rules.{AtPort}
 
 -- the call that a line of an open client names, as the client makes it: with what its local ring holds, with the samples that it is given,
 -- and with the marks of its port
-abbrev pub made_call : List ℤ → List ℤ → Marks → Plain → Op → Course (Plain × Answer)
+abbrev pub made_call : List ℤ → List ℤ → Marks → PlaybackStream → Op → Course (PlaybackStream × Answer)
 made_call ring samples marks c (op.Write n) = answered count_answer (admitted c call.Transfer (write_course c ring samples marks.cursor))
 made_call ring samples marks c op.Start = answered done_answer (admitted c call.Start (start_course c ring marks.cursor))
 made_call ring samples marks c op.Sync = answered done_answer (admitted c call.Sync (sync_course c ring))
@@ -42,7 +42,7 @@ made_call ring samples marks c op.Rewindable = answered count_answer (admitted c
 made_call ring samples marks c other = ends (c, Failed BadState)
 
 -- a write is given the next frames of the client's file, as many as it asks for, or those that are left
-abbrev pub IsOffered : Sound → Plain → List ℤ → Op → Type 0
+abbrev pub IsOffered : Sound → PlaybackStream → List ℤ → Op → Type 0
 IsOffered wav c samples (op.Write n) = frames_in c samples ≡ min n (frames_of wav - c.fed)
 IsOffered wav c samples other = ⊤
 
@@ -51,13 +51,13 @@ is_die (op.Die k) = true
 is_die other = false
 
 -- a line makes a call of an open client: it isn't stopped, and the line isn't a `die`
-pub record MakesCall (client : Client) (c : Plain) (asked : Op) : Type 0 where
+pub record MakesCall (client : Client) (c : PlaybackStream) (asked : Op) : Type 0 where
   pub is_open : client.own ≡ Some c
   pub goes : c.status.stopped ≡ false
   pub asks : is_die asked ≡ false
 
 -- a client of a run, which has its own number as member, after a call that left the client at its seat so
-abbrev pub after_seat_call : ℕ → Client → Plain → Op → Plain → Answer → Client
+abbrev pub after_seat_call : ℕ → Client → PlaybackStream → Op → PlaybackStream → Answer → Client
 after_seat_call number client c asked after answer =
     record { own = Some (with_member number after); ended = client.ended ++ ended_by asked answer c after }
 
@@ -72,8 +72,8 @@ pub record IsClientLine {S T : Type 0} (P : mixport.Ghosts S) (left : T → Opti
 -- own number as member, before the call and after it.
 abbrev pub ClientLinesAreParts : {S T : Type 0} → mixport.Ghosts S → gates.Ghosts T → (T → Option ℕ) → (T → ℕ) → S → Geometry → ℕ → Type 0
 ClientLinesAreParts {S = S} {T = T} P G left by_gate first ring from =
-    (s t : S × T) (phase : ℕ) (wav : Sound) (number : ℕ) (before : Doing) (client : Client) (c : Plain) (held samples : List ℤ) (asked : Op)
-    (after : Plain) (answer : Answer) → MakesCall client (with_member number c) asked → IsOffered wav c samples asked
+    (s t : S × T) (phase : ℕ) (wav : Sound) (number : ℕ) (before : Doing) (client : Client) (c : PlaybackStream) (held samples : List ℤ) (asked : Op)
+    (after : PlaybackStream) (answer : Answer) → MakesCall client (with_member number c) asked → IsOffered wav c samples asked
     → IsAtPort P left by_gate first ring from s before → TakesAt P G s (made_call held samples (P.view s.0).marks c asked) t (after, answer)
     → IsClientLine P left by_gate first ring from t phase wav number before client asked (after_seat_call number client c asked after answer) answer
 
@@ -81,7 +81,7 @@ ClientLinesAreParts {S = S} {T = T} P G left by_gate first ring from =
 pub record ClientLinesWithoutCall (ring : Geometry) (phase : ℕ) (wav : Sound) (number : ℕ) : Type 0 where
   pub closed : (a : AtPort) (found : Findings) (client : Client) (asked : Op) → client.own ≡ None
       → LineDone (client_kind phase wav number) ring ((a, client), found) asked ((a, client), found) (Failed BadState)
-  pub stopped : (a : AtPort) (found : Findings) (client : Client) (c : Plain) (asked : Op) → client.own ≡ Some c → c.status.stopped ≡ true
+  pub stopped : (a : AtPort) (found : Findings) (client : Client) (c : PlaybackStream) (asked : Op) → client.own ≡ Some c → c.status.stopped ≡ true
       → LineDone (client_kind phase wav number) ring ((a, client), found) asked ((a, client), found) (Failed Stopped)
-  pub dies : (a : AtPort) (found : Findings) (client : Client) (c : Plain) (k : ℕ) → client.own ≡ Some c → c.status.stopped ≡ false
+  pub dies : (a : AtPort) (found : Findings) (client : Client) (c : PlaybackStream) (k : ℕ) → client.own ≡ Some c → c.status.stopped ≡ false
       → LineDone (client_kind phase wav number) ring ((a, client), found) (op.Die k) ((record a { left = Some k }, client), found) Done

@@ -2,8 +2,8 @@
 use Rattle.std.specs.Prelude.{◌≡◌, ℕ, ◌+◌, Bool, true, false, ◌||◌, List, [], ◌∷◌, ◌++◌, map, slice_index_or, Option, Some, None}
 use Rattle.snd_base.specs.declared.geometry.Geometry.{Geometry}
 use Rattle.wav_io.specs.Sound.{Sound}
-use Rattle.dmix_client.specs.declared.plain.Plain.{Plain}
-use Rattle.dsnoop_client.specs.declared.plain.Plain as reading
+use Rattle.dmix_client.specs.declared.stream.PlaybackStream.{PlaybackStream}
+use Rattle.dsnoop_client.specs.declared.stream.CaptureStream as reading
 use Rattle.dshare.specs.Owners as owners
 use Rattle.lab_script.specs.declared.line.Item.{Item}
 use Rattle.lab_script.specs.declared.line.Item.TheVariants as item
@@ -27,11 +27,11 @@ rules_of session stage lines =
     record { at = card_end session stage lines; published = published session.card.period stage.position lines }
 
 -- an actor that was stopped ends with the phase
-abbrev pub is_stopped : Option Plain → Bool
+abbrev pub is_stopped : Option PlaybackStream → Bool
 is_stopped None = false
 is_stopped (Some c) = c.status.stopped
 
-abbrev pub is_reader_stopped : Option reading.Plain → Bool
+abbrev pub is_reader_stopped : Option reading.CaptureStream → Bool
 is_reader_stopped None = false
 is_reader_stopped (Some r) = r.status.stopped
 
@@ -58,7 +58,7 @@ abbrev pub held_of : Stage → Held
 held_of stage = record { lobby = stage.lobby; claims = stage.claims }
 
 -- the places and the claims after a client was reaped, if it was stopped
-abbrev pub held_without : Session → ℕ → AtPort → Option Plain → Held → Held
+abbrev pub held_without : Session → ℕ → AtPort → Option PlaybackStream → Held → Held
 held_without session number a None held = held
 held_without session number a (Some c) held = record {
   lobby = lobby_without session.ring number a held.lobby;

@@ -5,7 +5,7 @@ use Rattle.snd_base.specs.declared.geometry.Geometry.{Geometry}
 use Rattle.snd_base.specs.declared.places.Segment.{Segment}
 use Rattle.mix_core.specs.declared.port.Entry.{Entry}
 use Rattle.mix_core.specs.Laid.{total}
-use Rattle.dmix_client.specs.declared.plain.Plain.{Plain}
+use Rattle.dmix_client.specs.declared.stream.PlaybackStream.{PlaybackStream}
 use Rattle.dmix_client.specs.Expansion.{expand, run_entries}
 use Rattle.lab_script.specs.declared.line.Op.{Op}
 use Rattle.lab_report.specs.declared.row.Answer.{Answer}
@@ -13,7 +13,7 @@ use Rattle.lab_run.specs.Client.{ended_by, row_by, stretch_of}
 use Rattle.lab_run.specs.Stage.{Setup, opened_client}
 
 -- a client with another member
-abbrev pub with_member : ℕ → Plain → Plain
+abbrev pub with_member : ℕ → PlaybackStream → PlaybackStream
 with_member member c = record c { identity = record c.identity { member = member } }
 
 -- an entry of another member
@@ -24,10 +24,10 @@ of_member member e = record e { member = member }
 pub record MembersAreUnreported (member : ℕ) : Type 0 where
   pub opening : (ring : Geometry) (other : ℕ) (setup : Setup)
       → with_member member (opened_client ring other setup) ≡ opened_client ring member setup
-  pub row : (phase number : ℕ) (asked : Op) (c : Plain) (answer : Answer)
+  pub row : (phase number : ℕ) (asked : Op) (c : PlaybackStream) (answer : Answer)
       → row_by phase number asked (Some (with_member member c)) answer ≡ row_by phase number asked (Some c) answer
-  pub stretch : (c : Plain) → stretch_of (with_member member c) ≡ stretch_of c
-  pub ended : (asked : Op) (answer : Answer) (c d : Plain)
+  pub stretch : (c : PlaybackStream) → stretch_of (with_member member c) ≡ stretch_of c
+  pub ended : (asked : Op) (answer : Answer) (c d : PlaybackStream)
       → ended_by asked answer (with_member member c) (with_member member d) ≡ ended_by asked answer c d
 
 -- the entries of one member have the frames, channels, samples and kinds of those of another: those of a segment and its file, and those of

@@ -6,7 +6,7 @@ use Rattle.snd_base.specs.declared.errors.PcmError.TheVariants.{BadState, NotSup
 use Rattle.pcm_states.specs.declared.states.State.TheVariants.{Open, Prepared, Setup}
 use Rattle.pcm_states.specs.declared.calls.Call.TheVariants as call
 use Rattle.course.specs.Course.{◌>>=◌, Course, ends}
-use Rattle.dsnoop_client.specs.declared.plain.Plain.{Plain}
+use Rattle.dsnoop_client.specs.declared.stream.CaptureStream.{CaptureStream}
 use Rattle.dsnoop_client.specs.Calls.{Answered, in_state}
 use Rattle.dsnoop_client.specs.Course.{admitted, avail_course, read_course, starts, sync_course}
 use Rattle.lab_script.specs.declared.line.Actor.TheVariants as actor
@@ -21,15 +21,15 @@ use Rattle.lab_run.specs.Rules.{AtPort}
 
 -- a reader of a script: its stream where it is open, and the captured frames in its file so far, by their numbers
 pub record Reader : Type 0 where
-  pub own : Option Plain
+  pub own : Option CaptureStream
   pub frames : List ℕ
 
 -- a call with its answer
-abbrev pub answered : {X : Type 0} → (Result X PcmError → Answer) → Course (Answered X) → Course (Plain × Answer)
+abbrev pub answered : {X : Type 0} → (Result X PcmError → Answer) → Course (Answered X) → Course (CaptureStream × Answer)
 answered answer course = course >>= λ done. ends (done.0, answer done.1)
 
 -- the call that a line of an open reader names
-abbrev pub call_of : Plain → Op → Course (Plain × Answer)
+abbrev pub call_of : CaptureStream → Op → Course (CaptureStream × Answer)
 call_of r (op.Read n) = answered count_answer (admitted r call.Transfer (read_course r n))
 call_of r op.Start = answered done_answer (admitted r call.Start (starts r call.Start))
 call_of r op.Sync = answered done_answer (admitted r call.Sync (sync_course r))
@@ -40,32 +40,32 @@ call_of r op.Pause = ends (r, Failed NotSupported)
 call_of r other = ends (r, Failed BadState)
 
 -- the frames that a line got: those that a read counts, which end before the next frame of the reader
-abbrev pub frames_by : Op → Answer → Plain → List ℕ
+abbrev pub frames_by : Op → Answer → CaptureStream → List ℕ
 frames_by (op.Read n) (Count count) r = range_with_len (r.next - count) count
 frames_by asked answer r = []
 
 -- the reader after a call
-abbrev pub after_call : Reader → Op → Plain × Answer → Reader × Answer
+abbrev pub after_call : Reader → Op → CaptureStream × Answer → Reader × Answer
 after_call reader asked (after, answer) =
     (record { own = Some after; frames = reader.frames ++ frames_by asked answer after }, answer)
 
 -- a line of an open reader: after a stop in this phase nothing is done any more
-abbrev pub line_if : Bool → Reader → Plain → Op → Course (Reader × Answer)
+abbrev pub line_if : Bool → Reader → CaptureStream → Op → Course (Reader × Answer)
 line_if true reader r asked = ends (reader, Failed Stopped)
 line_if false reader r (op.Die k) = ends (reader, Done)
 line_if false reader r asked = call_of r asked >>= λ done. ends (after_call reader asked done)
 
 -- a line of a reader
-abbrev pub line_by : Reader → Option Plain → Op → Course (Reader × Answer)
+abbrev pub line_by : Reader → Option CaptureStream → Op → Course (Reader × Answer)
 line_by reader None asked = ends (reader, Failed BadState)
 line_by reader (Some r) asked = line_if r.status.stopped reader r asked
 
-abbrev pub begins : Option Plain → Op → AtPort → AtPort
+abbrev pub begins : Option CaptureStream → Op → AtPort → AtPort
 begins None asked a = a
 begins (Some r) asked a = dies_if r.status.stopped asked a
 
 -- the row of a reader's line, by the reader after it
-abbrev pub row_by : ℕ → ℕ → Op → Option Plain → Answer → Row
+abbrev pub row_by : ℕ → ℕ → Op → Option CaptureStream → Answer → Row
 row_by phase number asked None answer =
     record { phase = phase; actor = actor.Reader number; op = asked; answer = answer; state = Open; seen = None }
 row_by phase number asked (Some r) answer =

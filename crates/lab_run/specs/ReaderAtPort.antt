@@ -6,7 +6,7 @@ use Rattle.mix_core.specs.declared.gate.Gate as gates
 use Rattle.snoop_core.specs.declared.port.SnoopPort as snoopport
 use Rattle.snoop_core.specs.Port.{IsPast}
 use Rattle.course.specs.AtSnoopPort.{TakesAtSnoop}
-use Rattle.dsnoop_client.specs.declared.plain.Plain.{Plain}
+use Rattle.dsnoop_client.specs.declared.stream.CaptureStream.{CaptureStream}
 use Rattle.lab_script.specs.declared.line.Op.{Op}
 use Rattle.lab_script.specs.declared.line.Op.TheVariants as op
 use Rattle.lab_report.specs.declared.row.Answer.{Answer}
@@ -27,7 +27,7 @@ pub record IsAtSnoop {S T : Type 0} (P : snoopport.Ghosts S) (left : T → Optio
   pub overtaken : Each (λ (place : ℕ × ℕ). (word : ℕ) × IsPast P.view P.shows s.0 place.0 place.1 word) doing.1.overtaken
 
 -- a line makes a call of an open reader: it isn't stopped, and the line isn't a `die`
-pub record ReadsBy (reader : Reader) (r : Plain) (asked : Op) : Type 0 where
+pub record ReadsBy (reader : Reader) (r : CaptureStream) (asked : Op) : Type 0 where
   pub is_open : reader.own ≡ Some r
   pub goes : r.status.stopped ≡ false
   pub asks : is_die asked ≡ false
@@ -42,7 +42,7 @@ pub record IsReaderLine {S T : Type 0} (P : snoopport.Ghosts S) (left : T → Op
 -- each line that makes a call is a part of its reader
 abbrev pub ReaderLinesAreParts : {S T : Type 0} → snoopport.Ghosts S → gates.Ghosts T → (T → Option ℕ) → (T → ℕ) → S → Geometry → Type 0
 ReaderLinesAreParts {S = S} {T = T} P G left by_gate first ring =
-    (s t : S × T) (phase number : ℕ) (before : Doing) (reader : Reader) (r : Plain) (asked : Op) (after : Plain) (answer : Answer)
+    (s t : S × T) (phase number : ℕ) (before : Doing) (reader : Reader) (r : CaptureStream) (asked : Op) (after : CaptureStream) (answer : Answer)
     → ReadsBy reader r asked → IsAtSnoop P left by_gate first ring s before → TakesAtSnoop P G s (call_of r asked) t (after, answer)
     → IsReaderLine P left by_gate first ring t phase number before reader asked (after_call reader asked (after, answer)).0 answer
 
@@ -50,7 +50,7 @@ ReaderLinesAreParts {S = S} {T = T} P G left by_gate first ring =
 pub record ReaderLinesWithoutCall (ring : Geometry) (phase number : ℕ) : Type 0 where
   pub closed : (a : AtPort) (found : Findings) (reader : Reader) (asked : Op) → reader.own ≡ None
       → LineDone (reader_kind phase number) ring ((a, reader), found) asked ((a, reader), found) (Failed BadState)
-  pub stopped : (a : AtPort) (found : Findings) (reader : Reader) (r : Plain) (asked : Op) → reader.own ≡ Some r → r.status.stopped ≡ true
+  pub stopped : (a : AtPort) (found : Findings) (reader : Reader) (r : CaptureStream) (asked : Op) → reader.own ≡ Some r → r.status.stopped ≡ true
       → LineDone (reader_kind phase number) ring ((a, reader), found) asked ((a, reader), found) (Failed Stopped)
-  pub dies : (a : AtPort) (found : Findings) (reader : Reader) (r : Plain) (k : ℕ) → reader.own ≡ Some r → r.status.stopped ≡ false
+  pub dies : (a : AtPort) (found : Findings) (reader : Reader) (r : CaptureStream) (k : ℕ) → reader.own ≡ Some r → r.status.stopped ≡ false
       → LineDone (reader_kind phase number) ring ((a, reader), found) (op.Die k) ((record a { left = Some k }, reader), found) Done

@@ -4,7 +4,7 @@ use Rattle.std.specs.List.{range_with_len}
 use Rattle.snd_base.specs.declared.errors.PcmError.{PcmError}
 use Rattle.snd_base.specs.declared.errors.PcmError.TheVariants.{NoDevice, Xrun}
 use Rattle.pcm_states.specs.declared.states.State.TheVariants.{Running}
-use Rattle.dsnoop_client.specs.declared.plain.Plain.{Plain}
+use Rattle.dsnoop_client.specs.declared.stream.CaptureStream.{CaptureStream}
 use Rattle.lab_script.specs.declared.line.Op.{Op}
 use Rattle.lab_script.specs.declared.line.Op.TheVariants as op
 use Rattle.lab_report.specs.declared.row.Answer.{Answer}
@@ -27,8 +27,8 @@ ends_stretch asked answer = false
 
 -- a line of a reader that runs got so many frames, from the reader's next one on, and the next one is then the one after them; the reader
 -- runs on, or the line ends the stretch
-pub record ReadsOn (reader : Reader) (r : Plain) (asked : Op) (after : Reader) (answer : Answer) : Type 0 where
-  pub own : Plain
+pub record ReadsOn (reader : Reader) (r : CaptureStream) (asked : Op) (after : Reader) (answer : Answer) : Type 0 where
+  pub own : CaptureStream
   pub is_own : after.own ≡ Some own
   pub count : ℕ
   pub frames : after.frames ≡ reader.frames ++ range_with_len r.next count
@@ -38,7 +38,7 @@ pub record ReadsOn (reader : Reader) (r : Plain) (asked : Op) (after : Reader) (
 -- each line that a phase allows to a reader that runs
 abbrev pub ReadersReadOn : Rules → ℕ → ℕ → Type 0
 ReadersReadOn rules phase number =
-    (a b : AtPort) (reader after : Reader) (r : Plain) (asked : Op) (answer : Answer) → reader.own ≡ Some r → r.status.state ≡ Running
+    (a b : AtPort) (reader after : Reader) (r : CaptureStream) (asked : Op) (answer : Answer) → reader.own ≡ Some r → r.status.state ≡ Running
     → LineMay (reader_kind phase number) rules (a, reader) asked (b, after) answer → ReadsOn reader r asked after answer
 
 -- a line got one slice of frames, if it got any

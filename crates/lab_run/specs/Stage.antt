@@ -10,9 +10,9 @@ use Rattle.pcm_states.specs.declared.states.State.TheVariants as state
 use Rattle.hw_space.specs.declared.config.Config.{Config}
 use Rattle.sw_limits.specs.declared.params.SwParams.{SwParams}
 use Rattle.wav_io.specs.Sound.{Sound}
-use Rattle.dmix_client.specs.declared.plain.Plain.{Plain}
+use Rattle.dmix_client.specs.declared.stream.PlaybackStream.{PlaybackStream}
 use Rattle.dmix_client.specs.Calls.{configured_with, new_client, with_params}
-use Rattle.dsnoop_client.specs.declared.plain.Plain as reading
+use Rattle.dsnoop_client.specs.declared.stream.CaptureStream as reading
 use Rattle.dsnoop_client.specs.Calls as reading_calls
 use Rattle.dshare.specs.Owners as owners
 use Rattle.lab_script.specs.declared.line.Actor.{Actor}
@@ -110,11 +110,11 @@ renewed ring a = new_port ring a.by_gate
 -- ---- open
 
 -- the client of a number that is opened
-abbrev pub opened_client : Geometry → ℕ → Setup → Plain
+abbrev pub opened_client : Geometry → ℕ → Setup → PlaybackStream
 opened_client ring number setup =
     with_params (configured_with (new_client ring number setup.lead) setup.config setup.bindings) setup.params
 
-abbrev pub opened_reader : Geometry → Setup → reading.Plain
+abbrev pub opened_reader : Geometry → Setup → reading.CaptureStream
 opened_reader ring setup =
     reading_calls.with_params (reading_calls.configured_with (reading_calls.new_reader ring) setup.config setup.bindings) setup.params
 
@@ -144,7 +144,7 @@ open_client_with session stage number None client = refused_open (actor.Client n
 open_client_with session stage number (Some setup) client =
     claimed_client session stage number setup client (claim_refusal session.card.share stage.claims setup.bindings stage.position)
 
-abbrev pub open_client : Session → Stage → ℕ → AtPort × Client → Option Plain → Stage
+abbrev pub open_client : Session → Stage → ℕ → AtPort × Client → Option PlaybackStream → Stage
 open_client session stage number client (Some c) = with_row (row_by stage.phases number op.Opens (Some c) (Failed BadState)) stage
 open_client session stage number client None = open_client_with session stage number (slice_index_or session.clients number None) client
 
@@ -154,7 +154,7 @@ open_reader_with session stage number (Some setup) (a, reader) =
     done_open (actor.Reader number)
     (with_reader number (renewed session.ring a, record reader { own = Some (opened_reader session.ring setup) }) stage)
 
-abbrev pub open_reader : Session → Stage → ℕ → AtPort × Reader → Option reading.Plain → Stage
+abbrev pub open_reader : Session → Stage → ℕ → AtPort × Reader → Option reading.CaptureStream → Stage
 open_reader session stage number reader (Some r) = with_row (readers.row_by stage.phases number op.Opens (Some r) (Failed BadState)) stage
 open_reader session stage number reader None = open_reader_with session stage number (slice_index_or session.readers number None) reader
 
@@ -171,17 +171,17 @@ ended_reader ring (a, reader) = (renewed ring a, record reader { own = None })
 abbrev pub lobby_without : Geometry → ℕ → AtPort → Lobby → Lobby
 lobby_without ring number a lobby = left_by number (high_frame ring a.marks) lobby
 
-abbrev pub claims_without : Session → AtPort → Plain → List owners.Row → List owners.Row
+abbrev pub claims_without : Session → AtPort → PlaybackStream → List owners.Row → List owners.Row
 claims_without session a c claims = with_release session.card.share c.setup.bindings (high_frame session.ring a.marks) claims
 
-abbrev pub close_client : Session → Stage → ℕ → AtPort × Client → Option Plain → Stage
+abbrev pub close_client : Session → Stage → ℕ → AtPort × Client → Option PlaybackStream → Stage
 close_client session stage number client None = with_row (row_at stage (actor.Client number) op.Closes (Failed BadState) state.Open None) stage
 close_client session stage number client (Some c) =
     with_row (row_at stage (actor.Client number) op.Closes Done state.Open c.seen)
     (with_client number (ended_client session.ring client)
     (record stage { lobby = lobby_without session.ring number client.0 stage.lobby; claims = claims_without session client.0 c stage.claims }))
 
-abbrev pub close_reader : Session → Stage → ℕ → AtPort × Reader → Option reading.Plain → Stage
+abbrev pub close_reader : Session → Stage → ℕ → AtPort × Reader → Option reading.CaptureStream → Stage
 close_reader session stage number reader None = with_row (row_at stage (actor.Reader number) op.Closes (Failed BadState) state.Open None) stage
 close_reader session stage number reader (Some r) =
     with_row (row_at stage (actor.Reader number) op.Closes Done state.Open r.seen) (with_reader number (ended_reader session.ring reader) stage)

@@ -7,8 +7,8 @@ ghost use Rattle.lab_run.specs.PortSteps.{CountsDown, HasOwnLast, MarksAlike};
 ghost use Rattle.mix_core.specs.declared.marks.Marks.{Marks};
 ghost use Rattle.snd_base.specs.declared.places.Cursor.{Cursor};
 ghost use Rattle.wav_io.specs.Sound.{Sound};
-ghost use Rattle.dmix_client.specs.declared.plain.Plain.{Plain};
-ghost use Rattle.dsnoop_client.specs.declared.plain.Plain as reading;
+ghost use Rattle.dmix_client.specs.declared.stream.PlaybackStream.{PlaybackStream};
+ghost use Rattle.dsnoop_client.specs.declared.stream.CaptureStream as reading;
 ghost use Rattle.lab_script.specs.declared.line.Actor.{Actor};
 ghost use Rattle.lab_script.specs.declared.line.Item.{Item};
 ghost use Rattle.lab_script.specs.declared.script.Script.{Script};
@@ -67,10 +67,10 @@ pub fn runs_go_on()
 ///
 /// It does nothing.
 pub fn calls_are_alike()
-    ensures clients { (from member : ℕ) (c : Plain) (ring : List ℤ)
+    ensures clients { (from member : ℕ) (c : PlaybackStream) (ring : List ℤ)
         (cursor other floor lower : Cursor) → SameFrom from cursor other →
         SameFrom from floor lower → CallsAreAlike from member c ring cursor other floor lower }
-    ensures readers { (r : reading.Plain) → ReadsAreAlike r }
+    ensures readers { (r : reading.CaptureStream) → ReadsAreAlike r }
 {}
 
 /// A client at a place has the place's number as member, and in a run it has its own. It is opened

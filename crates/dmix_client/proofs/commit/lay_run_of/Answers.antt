@@ -22,36 +22,36 @@ slot_is buffer channels length_is source first frame from same below is =
 pub loop-frame-init : goal.loop-frame-init
 loop-frame-init g c =
     let port = g.P.MixPort in
-    let plain = c.args.plain.now in
+    let stream = c.args.stream.now in
     record {
       view_is = refl;
       cursor = omega (arith, c.requires.from_cursor);
-      takes = RestFrames-none port g.G.Gate plain.identity.member plain.stretch.card plain.setup.bindings (ring_sample plain c.args.ring.now) c.args.count c.args.first (c.args.port.now, c.args.gate.now);
+      takes = RestFrames-none port g.G.Gate stream.identity.member stream.stretch.card stream.setup.bindings (ring_sample stream c.args.ring.now) c.args.count c.args.first (c.args.port.now, c.args.gate.now);
     }
 
 pub place_frame-placed-requires-clause-slot : goal.place_frame-placed-requires-clause-slot
 place_frame-placed-requires-clause-slot g c =
-    let plain = c.args.plain.now in
-    let within = slot-within plain.setup.config.buffer_size (length plain.setup.bindings) (plain.stretch.source + (c.args.first + c.loop-frame.frame)) c.requires.buffer in
-    omega (arith, c.requires.room, slot_is plain.setup.config.buffer_size c.args.channels (length plain.setup.bindings) plain.stretch.source c.args.first c.loop-frame.frame c.held_from-from.result (sym c.requires.channels) (omega (arith, c.requires.run, c.loop-frame-test.true)) c.held_from-from.ensures.value, within)
+    let stream = c.args.stream.now in
+    let within = slot-within stream.setup.config.buffer_size (length stream.setup.bindings) (stream.stretch.source + (c.args.first + c.loop-frame.frame)) c.requires.buffer in
+    omega (arith, c.requires.room, slot_is stream.setup.config.buffer_size c.args.channels (length stream.setup.bindings) stream.stretch.source c.args.first c.loop-frame.frame c.held_from-from.result (sym c.requires.channels) (omega (arith, c.requires.run, c.loop-frame-test.true)) c.held_from-from.ensures.value, within)
 
 pub loop-frame-preserved : goal.loop-frame-preserved
 loop-frame-preserved g c =
     let port = g.P.MixPort in
     let before = c.loop-frame.invariant in
-    let plain = c.args.plain.now in
+    let stream = c.args.stream.now in
     let number : ℕ = c.args.first + c.loop-frame.frame in
-    let member : (port.view c.loop-frame.port).member ≡ plain.identity.member = ap (λ (v : PortView). v.member) before.view_is ∙ c.requires.member in
-    let placed = TakesAt-ring_sample port g.G.Gate plain c.args.ring.now (port.view c.loop-frame.port).member (plain.stretch.card + number) (c.held_from-from.result + c.loop-frame.frame * c.args.channels) number (c.loop-frame.port, c.loop-frame.gate) (c.place_frame-placed.new.port, c.place_frame-placed.new.gate)
-    (c.place_frame-placed.result.placed, c.place_frame-placed.result.ended) member refl (slot_is plain.setup.config.buffer_size c.args.channels (length plain.setup.bindings) plain.stretch.source c.args.first c.loop-frame.frame c.held_from-from.result (sym c.requires.channels) (omega (arith, c.requires.run, c.loop-frame-test.true)) c.held_from-from.ensures.value) c.place_frame-placed.ensures in
-    let step : TakesAt port g.G.Gate (c.loop-frame.port, c.loop-frame.gate) (lay_frame plain.identity.member (plain.stretch.card + number) plain.setup.bindings (ring_sample plain c.args.ring.now number)) (c.place_frame-placed.new.port, c.place_frame-placed.new.gate) (c.place_frame-placed.result.placed, Whole) =
-    subst (λ (e : Ended). TakesAt port g.G.Gate (c.loop-frame.port, c.loop-frame.gate) (lay_frame plain.identity.member (plain.stretch.card + number) plain.setup.bindings (ring_sample plain c.args.ring.now number)) (c.place_frame-placed.new.port, c.place_frame-placed.new.gate) (c.place_frame-placed.result.placed, e)) c.in-Whole.is placed in
-    let frame = TakesAt-frame port g.G.Gate g.met.P.MixPort.laid_composes g.met.P.MixPort.loaded_composes plain.identity.member (plain.stretch.card + number) plain.setup.bindings (ring_sample plain c.args.ring.now number) (rising plain.setup.bindings)
+    let member : (port.view c.loop-frame.port).member ≡ stream.identity.member = ap (λ (v : PortView). v.member) before.view_is ∙ c.requires.member in
+    let placed = TakesAt-ring_sample port g.G.Gate stream c.args.ring.now (port.view c.loop-frame.port).member (stream.stretch.card + number) (c.held_from-from.result + c.loop-frame.frame * c.args.channels) number (c.loop-frame.port, c.loop-frame.gate) (c.place_frame-placed.new.port, c.place_frame-placed.new.gate)
+    (c.place_frame-placed.result.placed, c.place_frame-placed.result.ended) member refl (slot_is stream.setup.config.buffer_size c.args.channels (length stream.setup.bindings) stream.stretch.source c.args.first c.loop-frame.frame c.held_from-from.result (sym c.requires.channels) (omega (arith, c.requires.run, c.loop-frame-test.true)) c.held_from-from.ensures.value) c.place_frame-placed.ensures in
+    let step : TakesAt port g.G.Gate (c.loop-frame.port, c.loop-frame.gate) (lay_frame stream.identity.member (stream.stretch.card + number) stream.setup.bindings (ring_sample stream c.args.ring.now number)) (c.place_frame-placed.new.port, c.place_frame-placed.new.gate) (c.place_frame-placed.result.placed, Whole) =
+    subst (λ (e : Ended). TakesAt port g.G.Gate (c.loop-frame.port, c.loop-frame.gate) (lay_frame stream.identity.member (stream.stretch.card + number) stream.setup.bindings (ring_sample stream c.args.ring.now number)) (c.place_frame-placed.new.port, c.place_frame-placed.new.gate) (c.place_frame-placed.result.placed, e)) c.in-Whole.is placed in
+    let frame = TakesAt-frame port g.G.Gate g.met.P.MixPort.laid_composes g.met.P.MixPort.loaded_composes stream.identity.member (stream.stretch.card + number) stream.setup.bindings (ring_sample stream c.args.ring.now number) (rising stream.setup.bindings)
     (c.loop-frame.port, c.loop-frame.gate) (c.place_frame-placed.new.port, c.place_frame-placed.new.gate) c.place_frame-placed.result.placed Whole step in
     record {
       view_is = marks-joined (port.view c.args.port.now) (port.view c.loop-frame.port) (port.view c.place_frame-placed.new.port) _ before.view_is frame.view_is;
-      cursor = omega (arith, frame.free (least_channel plain.setup.bindings) (IsFrom-next (port.view c.loop-frame.port).marks.cursor (plain.stretch.card + number) (least_channel plain.setup.bindings) (least_channel plain.setup.bindings) (omega (arith, before.cursor))));
-      takes = RestFrames-next port g.G.Gate plain.identity.member plain.stretch.card plain.setup.bindings (ring_sample plain c.args.ring.now) c.args.count c.args.first (c.args.port.now, c.args.gate.now) (c.loop-frame.port, c.loop-frame.gate) (c.place_frame-placed.new.port, c.place_frame-placed.new.gate)
+      cursor = omega (arith, frame.free (least_channel stream.setup.bindings) (IsFrom-next (port.view c.loop-frame.port).marks.cursor (stream.stretch.card + number) (least_channel stream.setup.bindings) (least_channel stream.setup.bindings) (omega (arith, before.cursor))));
+      takes = RestFrames-next port g.G.Gate stream.identity.member stream.stretch.card stream.setup.bindings (ring_sample stream c.args.ring.now) c.args.count c.args.first (c.args.port.now, c.args.gate.now) (c.loop-frame.port, c.loop-frame.gate) (c.place_frame-placed.new.port, c.place_frame-placed.new.gate)
           c.loop-frame.frame c.place_frame-placed.result.placed c.loop-frame-test.true before.takes step;
     }
 
@@ -59,16 +59,16 @@ pub returns-in_default : goal.returns-in_default
 returns-in_default g c =
     let port = g.P.MixPort in
     let before = c.loop-frame.invariant in
-    let plain = c.args.plain.now in
+    let stream = c.args.stream.now in
     let number : ℕ = c.args.first + c.loop-frame.frame in
-    RestFrames-ended port g.G.Gate plain.identity.member plain.stretch.card plain.setup.bindings (ring_sample plain c.args.ring.now) c.args.count c.args.first (c.args.port.now, c.args.gate.now) (c.loop-frame.port, c.loop-frame.gate) (c.place_frame-placed.new.port, c.place_frame-placed.new.gate)
+    RestFrames-ended port g.G.Gate stream.identity.member stream.stretch.card stream.setup.bindings (ring_sample stream c.args.ring.now) c.args.count c.args.first (c.args.port.now, c.args.gate.now) (c.loop-frame.port, c.loop-frame.gate) (c.place_frame-placed.new.port, c.place_frame-placed.new.gate)
     c.loop-frame.frame c.place_frame-placed.result.placed c.place_frame-placed.result.ended c.loop-frame-test.true c.in_default.not-Whole before.takes
-    (TakesAt-ring_sample port g.G.Gate plain c.args.ring.now (port.view c.loop-frame.port).member (plain.stretch.card + number) (c.held_from-from.result + c.loop-frame.frame * c.args.channels) number (c.loop-frame.port, c.loop-frame.gate) (c.place_frame-placed.new.port, c.place_frame-placed.new.gate)
-    (c.place_frame-placed.result.placed, c.place_frame-placed.result.ended) (ap (λ (v : PortView). v.member) before.view_is ∙ c.requires.member) refl (slot_is plain.setup.config.buffer_size c.args.channels (length plain.setup.bindings) plain.stretch.source c.args.first c.loop-frame.frame c.held_from-from.result (sym c.requires.channels) (omega (arith, c.requires.run, c.loop-frame-test.true)) c.held_from-from.ensures.value) c.place_frame-placed.ensures)
+    (TakesAt-ring_sample port g.G.Gate stream c.args.ring.now (port.view c.loop-frame.port).member (stream.stretch.card + number) (c.held_from-from.result + c.loop-frame.frame * c.args.channels) number (c.loop-frame.port, c.loop-frame.gate) (c.place_frame-placed.new.port, c.place_frame-placed.new.gate)
+    (c.place_frame-placed.result.placed, c.place_frame-placed.result.ended) (ap (λ (v : PortView). v.member) before.view_is ∙ c.requires.member) refl (slot_is stream.setup.config.buffer_size c.args.channels (length stream.setup.bindings) stream.stretch.source c.args.first c.loop-frame.frame c.held_from-from.result (sym c.requires.channels) (omega (arith, c.requires.run, c.loop-frame-test.true)) c.held_from-from.ensures.value) c.place_frame-placed.ensures)
 
 pub returns : goal.returns
 returns g c =
     let port = g.P.MixPort in
-    let plain = c.args.plain.now in
-    RestFrames-all port g.G.Gate plain.identity.member plain.stretch.card plain.setup.bindings (ring_sample plain c.args.ring.now) c.args.count c.args.first (c.args.port.now, c.args.gate.now) (c.loop-frame.port, c.loop-frame.gate) c.loop-frame.frame
+    let stream = c.args.stream.now in
+    RestFrames-all port g.G.Gate stream.identity.member stream.stretch.card stream.setup.bindings (ring_sample stream c.args.ring.now) c.args.count c.args.first (c.args.port.now, c.args.gate.now) (c.loop-frame.port, c.loop-frame.gate) c.loop-frame.frame
     (omega (arith, c.loop-frame-test.false, c.loop-frame.auto.frame-end)) c.loop-frame.invariant.takes

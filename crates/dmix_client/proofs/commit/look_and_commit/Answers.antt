@@ -10,17 +10,17 @@ use Rattle.dmix_client.proofs.commit.look_and_commit.Goals as goal
 
 pub returns-in_default-clause-takes : goal.returns-in_default-clause-takes
 returns-in_default-clause-takes g c =
-    looks-none g.P.MixPort g.G.Gate (c.args.port.now, c.args.gate.now) (c.position.new.self, c.position.new.gate) (λ position. c.args.plain.now) (sync_count c.args.plain.now) c.args.ring.now
+    looks-none g.P.MixPort g.G.Gate (c.args.port.now, c.args.gate.now) (c.position.new.self, c.position.new.gate) (λ position. c.args.stream.now) (sync_count c.args.stream.now) c.args.ring.now
     (subst (λ r. LoadsAt g.P.MixPort g.G.Gate (c.args.port.now, c.args.gate.now) (load_of r) (c.position.new.self, c.position.new.gate)) c.in_default.is c.position.ensures.step)
 
 pub returns-clause-takes : goal.returns-clause-takes
 returns-clause-takes g c =
-    looks-some g.P.MixPort g.G.Gate (c.args.port.now, c.args.gate.now) (c.position.new.self, c.position.new.gate) (c.lay_frames-commit.new.port, c.lay_frames-commit.new.gate) (λ position. c.args.plain.now) (sync_count c.args.plain.now) c.args.ring.now
-    c.in-Ok.position c.args.plain.now c.sync_count-count.result c.lay_frames-commit.result refl c.sync_count-count.ensures
+    looks-some g.P.MixPort g.G.Gate (c.args.port.now, c.args.gate.now) (c.position.new.self, c.position.new.gate) (c.lay_frames-commit.new.port, c.lay_frames-commit.new.gate) (λ position. c.args.stream.now) (sync_count c.args.stream.now) c.args.ring.now
+    c.in-Ok.position c.args.stream.now c.sync_count-count.result c.lay_frames-commit.result refl c.sync_count-count.ensures
     (subst (λ r. LoadsAt g.P.MixPort g.G.Gate (c.args.port.now, c.args.gate.now) (load_of r) (c.position.new.self, c.position.new.gate)) c.in-Ok.is c.position.ensures.step) c.lay_frames-commit.ensures
 
 pub returns-clause-found : goal.returns-clause-found
 returns-clause-found g c =
-    (TakesAt-looks g.P.MixPort g.G.Gate g.met.P.MixPort.laid_composes g.met.P.MixPort.loaded_composes (λ position. c.args.plain.now) (sync_count c.args.plain.now) c.args.ring.now c.args.plain.now.setup.bindings
+    (TakesAt-looks g.P.MixPort g.G.Gate g.met.P.MixPort.laid_composes g.met.P.MixPort.loaded_composes (λ position. c.args.stream.now) (sync_count c.args.stream.now) c.args.ring.now c.args.stream.now.setup.bindings
     (c.args.port.now, c.args.gate.now) (c.lay_frames-commit.new.port, c.lay_frames-commit.new.gate) (Some c.in-Ok.position) c.lay_frames-commit.result
-    (configured-moving c.args.plain.now c.args.ring.now c.requires.sound c.requires.moving).bound (λ position. refl) (returns-clause-takes g c)).found
+    (configured-moving c.args.stream.now c.args.ring.now c.requires.sound c.requires.moving).bound (λ position. refl) (returns-clause-takes g c)).found

@@ -11,11 +11,11 @@ use Rattle.dmix_client.proofs.control.begin.Goals as goal
 pub returns-clause-takes : goal.returns-clause-takes
 returns-clause-takes g c =
     let found = c.look_and_start-found.result in
-    subst (λ (cursor : Cursor). TakesAt g.P.MixPort g.G.Gate (c.args.port.now, c.args.gate.now) (starts c.args.plain.now c.args.state cursor c.args.upto c.args.ring.now) (c.look_and_start-found.new.port, c.look_and_start-found.new.gate) c.after_start.result) c.cursor-cursor.ensures.value
+    subst (λ (cursor : Cursor). TakesAt g.P.MixPort g.G.Gate (c.args.port.now, c.args.gate.now) (starts c.args.stream.now c.args.state cursor c.args.upto c.args.ring.now) (c.look_and_start-found.new.port, c.look_and_start-found.new.gate) c.after_start.result) c.cursor-cursor.ensures.value
     (starts-by g.P.MixPort g.G.Gate (c.args.port.now, c.args.gate.now) (c.look_and_start-found.new.port, c.look_and_start-found.new.gate)
-    c.args.plain.now c.args.state c.cursor-cursor.result c.args.upto c.args.ring.now found.load found.commit c.after_start.result c.look_and_start-found.ensures.takes (sym c.after_start.ensures))
+    c.args.stream.now c.args.state c.cursor-cursor.result c.args.upto c.args.ring.now found.load found.commit c.after_start.result c.look_and_start-found.ensures.takes (sym c.after_start.ensures))
 
 pub returns-clause-same : goal.returns-clause-same
 returns-clause-same g c =
     let found = c.look_and_start-found.result in
-    subst (λ (a : Answered (Unit {0})). KeepsAccepted c.args.plain.now a.0) (sym c.after_start.ensures) (KeepsAccepted-after_start c.args.plain.now c.args.state c.cursor-cursor.result found.load found.commit)
+    subst (λ (a : Answered (Unit {0})). KeepsAccepted c.args.stream.now a.0) (sym c.after_start.ensures) (KeepsAccepted-after_start c.args.stream.now c.args.state c.cursor-cursor.result found.load found.commit)

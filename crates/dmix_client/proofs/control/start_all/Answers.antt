@@ -4,13 +4,13 @@ use Rattle.dmix_client.proofs.control.start_all.Goals as goal
 
 pub returns : goal.returns
 returns g c =
-    let plain = c.args.plain.now in
+    let stream = c.args.stream.now in
     let kept = start-kept g.P.MixPort g.G.Gate g.met.P.MixPort.laid_composes g.met.P.MixPort.loaded_composes (c.args.port.now, c.args.gate.now) (c.begin-begun.new.port, c.begin-begun.new.gate)
-    plain c.args.ring.now c.args.state c.begin-begun.result c.requires.sound c.requires.prepared c.requires.leads c.begin-begun.ensures.near c.requires.port c.begin-begun.ensures.takes in
+    stream c.args.ring.now c.args.state c.begin-begun.result c.requires.sound c.requires.prepared c.requires.leads c.begin-begun.ensures.near c.requires.port c.begin-begun.ensures.takes in
     record {
       takes = c.begin-begun.ensures.takes;
       keeps = kept.0;
       goes = kept.1;
-      explains = starts-explained g.P.MixPort g.G.Gate g.met.P.MixPort.laid_composes g.met.P.MixPort.loaded_composes (c.args.port.now, c.args.gate.now) (c.begin-begun.new.port, c.begin-begun.new.gate) plain c.args.ring.now c.args.state
-          (g.P.MixPort.view c.args.port.now).marks.cursor plain.stretch.written c.begin-begun.result (configured-prepared plain c.args.ring.now c.requires.sound c.requires.prepared).bound c.requires.prepared c.begin-begun.ensures.takes;
+      explains = starts-explained g.P.MixPort g.G.Gate g.met.P.MixPort.laid_composes g.met.P.MixPort.loaded_composes (c.args.port.now, c.args.gate.now) (c.begin-begun.new.port, c.begin-begun.new.gate) stream c.args.ring.now c.args.state
+          (g.P.MixPort.view c.args.port.now).marks.cursor stream.stretch.written c.begin-begun.result (configured-prepared stream c.args.ring.now c.requires.sound c.requires.prepared).bound c.requires.prepared c.begin-begun.ensures.takes;
     }

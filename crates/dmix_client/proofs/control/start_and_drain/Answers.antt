@@ -15,16 +15,16 @@ use Rattle.dmix_client.specs.Port.{IsStep}
 pub returns-in-Err : goal.returns-in-Err
 returns-in-Err g c =
     let port = g.P.MixPort in
-    let plain = c.args.plain.now in
-    let keeps = subst (λ (r : Result (Unit {0}) PcmError). Keeps port g.G.Gate (c.args.port.now, c.args.gate.now) (c.start_all-begun.new.port, c.start_all-begun.new.gate) (client plain c.args.ring.now) (client c.start_all-begun.new.plain c.args.ring.now) r AnySamples) c.in-Err.is c.start_all-begun.ensures.keeps in
+    let stream = c.args.stream.now in
+    let keeps = subst (λ (r : Result (Unit {0}) PcmError). Keeps port g.G.Gate (c.args.port.now, c.args.gate.now) (c.start_all-begun.new.port, c.start_all-begun.new.gate) (client stream c.args.ring.now) (client c.start_all-begun.new.stream c.args.ring.now) r AnySamples) c.in-Err.is c.start_all-begun.ensures.keeps in
     record {
-      takes = drains-by port g.G.Gate (c.args.port.now, c.args.gate.now) (c.start_all-begun.new.port, c.start_all-begun.new.gate) (c.start_all-begun.new.port, c.start_all-begun.new.gate) plain c.args.ring.now (port.view c.args.port.now).marks.cursor
-          (c.start_all-begun.new.plain, c.start_all-begun.result) _ c.start_all-begun.ensures.takes (rw c.in-Err.is (record { there = refl; result = refl }));
+      takes = drains-by port g.G.Gate (c.args.port.now, c.args.gate.now) (c.start_all-begun.new.port, c.start_all-begun.new.gate) (c.start_all-begun.new.port, c.start_all-begun.new.gate) stream c.args.ring.now (port.view c.args.port.now).marks.cursor
+          (c.start_all-begun.new.stream, c.start_all-begun.result) _ c.start_all-begun.ensures.takes (rw c.in-Err.is (record { there = refl; result = refl }));
       sound = keeps.sound;
       keeps = keeps;
-      again = subst (λ (r : Result (Unit {0}) PcmError). IsStill (c.start_all-begun.new.plain, r)) c.in-Err.is
-          (drains-ill port g.G.Gate g.met.P.MixPort.laid_composes g.met.P.MixPort.loaded_composes (c.args.port.now, c.args.gate.now) (c.start_all-begun.new.port, c.start_all-begun.new.gate) plain c.args.ring.now (port.view c.args.port.now).marks.cursor
-          (c.start_all-begun.new.plain, c.start_all-begun.result) _ (configured-prepared plain c.args.ring.now c.requires.sound c.requires.prepared).bound c.in-Err.is c.start_all-begun.ensures.takes);
+      again = subst (λ (r : Result (Unit {0}) PcmError). IsStill (c.start_all-begun.new.stream, r)) c.in-Err.is
+          (drains-ill port g.G.Gate g.met.P.MixPort.laid_composes g.met.P.MixPort.loaded_composes (c.args.port.now, c.args.gate.now) (c.start_all-begun.new.port, c.start_all-begun.new.gate) stream c.args.ring.now (port.view c.args.port.now).marks.cursor
+          (c.start_all-begun.new.stream, c.start_all-begun.result) _ (configured-prepared stream c.args.ring.now c.requires.sound c.requires.prepared).bound c.in-Err.is c.start_all-begun.ensures.takes);
     }
 
 pub sync_call-requires : goal.sync_call-requires
@@ -41,16 +41,16 @@ sync_call-requires g c =
 pub returns : goal.returns
 returns g c =
     let port = g.P.MixPort in
-    let d = c.start_all-begun.new.plain in
+    let d = c.start_all-begun.new.stream in
     let ok = ok-of c.start_all-begun.result c.in_default.not-Err in
     let well = OnOk-of c.start_all-begun.result _ ok c.start_all-begun.ensures.goes in
     let going : d.status.stopped ≡ false = well.1 ∙ c.requires.unstopped in
     record {
-      takes = drains-by port g.G.Gate (c.args.port.now, c.args.gate.now) (c.start_all-begun.new.port, c.start_all-begun.new.gate) (c.sync_call.new.port, c.sync_call.new.gate) c.args.plain.now c.args.ring.now (port.view c.args.port.now).marks.cursor
-          (d, c.start_all-begun.result) (c.sync_call.new.plain, c.sync_call.result) c.start_all-begun.ensures.takes (rw ok c.sync_call.ensures.takes);
+      takes = drains-by port g.G.Gate (c.args.port.now, c.args.gate.now) (c.start_all-begun.new.port, c.start_all-begun.new.gate) (c.sync_call.new.port, c.sync_call.new.gate) c.args.stream.now c.args.ring.now (port.view c.args.port.now).marks.cursor
+          (d, c.start_all-begun.result) (c.sync_call.new.stream, c.sync_call.result) c.start_all-begun.ensures.takes (rw ok c.sync_call.ensures.takes);
       sound = c.sync_call.ensures.sound;
       keeps = Keeps-then port g.G.Gate g.met.P.MixPort.laid_composes g.met.P.MixPort.loaded_composes (c.args.port.now, c.args.gate.now) (c.start_all-begun.new.port, c.start_all-begun.new.gate) (c.sync_call.new.port, c.sync_call.new.gate)
-          (client c.args.plain.now c.args.ring.now) (client d c.args.ring.now) (client c.sync_call.new.plain c.args.ring.now) c.start_all-begun.result c.sync_call.result AnySamples AnySamples (rw ok refl) going (λ samples any. tt) c.start_all-begun.ensures.keeps c.sync_call.ensures.keeps;
-      again = syncs-still port g.G.Gate g.met.P.MixPort.laid_composes g.met.P.MixPort.loaded_composes (c.start_all-begun.new.port, c.start_all-begun.new.gate) (c.sync_call.new.port, c.sync_call.new.gate) d c.args.ring.now (c.sync_call.new.plain, c.sync_call.result)
+          (client c.args.stream.now c.args.ring.now) (client d c.args.ring.now) (client c.sync_call.new.stream c.args.ring.now) c.start_all-begun.result c.sync_call.result AnySamples AnySamples (rw ok refl) going (λ samples any. tt) c.start_all-begun.ensures.keeps c.sync_call.ensures.keeps;
+      again = syncs-still port g.G.Gate g.met.P.MixPort.laid_composes g.met.P.MixPort.loaded_composes (c.start_all-begun.new.port, c.start_all-begun.new.gate) (c.sync_call.new.port, c.sync_call.new.gate) d c.args.ring.now (c.sync_call.new.stream, c.sync_call.result)
           (configured-moving d c.args.ring.now c.start_all-begun.ensures.keeps.sound (subst (λ (s : State). is_moving s ≡ true) (sym well.0) refl)).bound well.0 going c.sync_call.ensures.takes;
     }

@@ -9,7 +9,7 @@ use Rattle.dmix_client.proofs.rewind.take_back.Goals as goal
 pub take_frames-left-requires-clause-held : goal.take_frames-left-requires-clause-held
 take_frames-left-requires-clause-held g c =
     let port = g.P.MixPort in
-    let d = c.args.plain.now in
+    let d = c.args.stream.now in
     let floor = (port.view c.args.port.now).marks.floor in
     let m : IsMoving d = c.requires.sound.moving (rw c.requires.running refl) c.requires.unstopped in
     let is : IsBack d floor c.args.frames = IsBack-of d floor c.args.frames m c.requires.few in
@@ -19,7 +19,7 @@ take_frames-left-requires-clause-held g c =
 pub rewound-after-requires : goal.rewound-after-requires
 rewound-after-requires g c =
     let port = g.P.MixPort in
-    let d = c.args.plain.now in
+    let d = c.args.stream.now in
     let floor = (port.view c.args.port.now).marks.floor in
     let m : IsMoving d = c.requires.sound.moving (rw c.requires.running refl) c.requires.unstopped in
     let holds : HoldsBy port = record { laid_composes = g.met.P.MixPort.laid_composes; loaded_composes = g.met.P.MixPort.loaded_composes; part = g.met.P.MixPort.ends_in_part; nothing = g.met.P.MixPort.held_nothing; back = g.met.P.MixPort.held_back } in
@@ -41,7 +41,7 @@ rewound-after-requires g c =
 pub returns : goal.returns
 returns g c =
     let port = g.P.MixPort in
-    let d = c.args.plain.now in
+    let d = c.args.stream.now in
     let floor = (port.view c.args.port.now).marks.floor in
     let m : IsMoving d = c.requires.sound.moving (rw c.requires.running refl) c.requires.unstopped in
     let holds : HoldsBy port = record { laid_composes = g.met.P.MixPort.laid_composes; loaded_composes = g.met.P.MixPort.loaded_composes; part = g.met.P.MixPort.ends_in_part; nothing = g.met.P.MixPort.held_nothing; back = g.met.P.MixPort.held_back } in

@@ -17,29 +17,29 @@ use Rattle.dmix_client.proofs.write.write_running.Goals as goal
 pub returns-in-Err-clause-takes : goal.returns-in-Err-clause-takes
 returns-in-Err-clause-takes g c =
     writes_on-by g.P.MixPort g.G.Gate (c.args.port.now, c.args.gate.now) (c.sync_call-synced.new.port, c.sync_call-synced.new.gate) (c.sync_call-synced.new.port, c.sync_call-synced.new.gate)
-    c.args.plain.now c.args.ring.now c.args.samples.now c.args.frames (c.sync_call-synced.new.plain, c.sync_call-synced.result) _
+    c.args.stream.now c.args.ring.now c.args.samples.now c.args.frames (c.sync_call-synced.new.stream, c.sync_call-synced.result) _
     c.sync_call-synced.ensures.takes (rw c.in-Err.is (record { there = refl; result = refl }))
 
 pub returns-in-Err-clause-keeps : goal.returns-in-Err-clause-keeps
 returns-in-Err-clause-keeps g c =
-    let k = subst (λ (r : Result (Unit {0}) PcmError). Keeps g.P.MixPort g.G.Gate (c.args.port.now, c.args.gate.now) (c.sync_call-synced.new.port, c.sync_call-synced.new.gate) (client c.args.plain.now c.args.ring.now) (client c.sync_call-synced.new.plain c.args.ring.now) r AnySamples) c.in-Err.is c.sync_call-synced.ensures.keeps in
+    let k = subst (λ (r : Result (Unit {0}) PcmError). Keeps g.P.MixPort g.G.Gate (c.args.port.now, c.args.gate.now) (c.sync_call-synced.new.port, c.sync_call-synced.new.gate) (client c.args.stream.now c.args.ring.now) (client c.sync_call-synced.new.stream c.args.ring.now) r AnySamples) c.in-Err.is c.sync_call-synced.ensures.keeps in
     record { sound = k.sound; port = k.port; told = k.told; grows = λ samples stands for. k.grows samples stands tt; stands = λ samples stands for. k.stands samples stands tt }
 
 pub returns-in-Err-clause-explains : goal.returns-in-Err-clause-explains
 returns-in-Err-clause-explains g c =
-    let plain = c.args.plain.now in
+    let stream = c.args.stream.now in
     writes-explained g.P.MixPort g.G.Gate g.met.P.MixPort.laid_composes g.met.P.MixPort.loaded_composes (c.args.port.now, c.args.gate.now) (c.sync_call-synced.new.port, c.sync_call-synced.new.gate) (c.sync_call-synced.new.port, c.sync_call-synced.new.gate)
-    plain c.args.ring.now c.args.ring.now c.args.samples.now c.args.frames (c.sync_call-synced.new.plain, Err c.in-Err.error) (c.sync_call-synced.new.plain, Err c.in-Err.error)
-    (configured-moving plain c.args.ring.now c.requires.sound (subst (λ (s : State). is_moving s ≡ true) (sym c.requires.running) refl)).bound c.requires.running
-    (subst (λ (r : Result (Unit {0}) PcmError). TakesAt g.P.MixPort g.G.Gate (c.args.port.now, c.args.gate.now) (syncs plain call.Transfer c.args.ring.now) (c.sync_call-synced.new.port, c.sync_call-synced.new.gate) (c.sync_call-synced.new.plain, r)) c.in-Err.is c.sync_call-synced.ensures.takes)
+    stream c.args.ring.now c.args.ring.now c.args.samples.now c.args.frames (c.sync_call-synced.new.stream, Err c.in-Err.error) (c.sync_call-synced.new.stream, Err c.in-Err.error)
+    (configured-moving stream c.args.ring.now c.requires.sound (subst (λ (s : State). is_moving s ≡ true) (sym c.requires.running) refl)).bound c.requires.running
+    (subst (λ (r : Result (Unit {0}) PcmError). TakesAt g.P.MixPort g.G.Gate (c.args.port.now, c.args.gate.now) (syncs stream call.Transfer c.args.ring.now) (c.sync_call-synced.new.port, c.sync_call-synced.new.gate) (c.sync_call-synced.new.stream, r)) c.in-Err.is c.sync_call-synced.ensures.takes)
     (record { there = refl; result = refl }) refl (record { frames = 0; part = 0; ended = Whole }) refl tt (λ e is. refl)
 
 pub write_taken-requires-clause-moving : goal.write_taken-requires-clause-moving
 write_taken-requires-clause-moving g c =
-    let plain = c.args.plain.now in
+    let stream = c.args.stream.now in
     subst (λ (s : State). is_moving s ≡ true) (sym (syncs-runs g.P.MixPort g.G.Gate g.met.P.MixPort.laid_composes g.met.P.MixPort.loaded_composes (c.args.port.now, c.args.gate.now) (c.sync_call-synced.new.port, c.sync_call-synced.new.gate)
-    plain c.args.ring.now (c.sync_call-synced.new.plain, c.sync_call-synced.result)
-    (configured-moving plain c.args.ring.now c.requires.sound (subst (λ (s : State). is_moving s ≡ true) (sym c.requires.running) refl)).bound c.requires.running (ok-of c.sync_call-synced.result c.in_default.not-Err) c.sync_call-synced.ensures.takes)) refl
+    stream c.args.ring.now (c.sync_call-synced.new.stream, c.sync_call-synced.result)
+    (configured-moving stream c.args.ring.now c.requires.sound (subst (λ (s : State). is_moving s ≡ true) (sym c.requires.running) refl)).bound c.requires.running (ok-of c.sync_call-synced.result c.in_default.not-Err) c.sync_call-synced.ensures.takes)) refl
 
 pub write_taken-requires-clause-held : goal.write_taken-requires-clause-held
 write_taken-requires-clause-held g c = subst (λ (bs : List ℕ). c.args.frames * length bs ≤ length c.args.samples.now) (sym c.sync_call-synced.ensures.same.bindings) c.requires.held
@@ -51,12 +51,12 @@ pub returns : goal.returns
 returns g c =
     let ok = ok-of c.sync_call-synced.result c.in_default.not-Err in
     let wrote = writes-kept g.P.MixPort g.G.Gate g.met.P.MixPort.laid_composes g.met.P.MixPort.loaded_composes (c.args.port.now, c.args.gate.now) (c.sync_call-synced.new.port, c.sync_call-synced.new.gate) (c.write_taken.new.port, c.write_taken.new.gate)
-    c.args.plain.now c.sync_call-synced.new.plain c.args.ring.now c.write_taken.new.ring c.args.samples.now c.args.frames (c.write_taken.new.plain, c.write_taken.result) c.write_taken.ensures.ring c.requires.sound c.requires.running c.requires.unstopped c.requires.held c.requires.port
-    (subst (λ (r : Result (Unit {0}) PcmError). TakesAt g.P.MixPort g.G.Gate (c.args.port.now, c.args.gate.now) (syncs c.args.plain.now call.Transfer c.args.ring.now) (c.sync_call-synced.new.port, c.sync_call-synced.new.gate) (c.sync_call-synced.new.plain, r)) ok c.sync_call-synced.ensures.takes)
+    c.args.stream.now c.sync_call-synced.new.stream c.args.ring.now c.write_taken.new.ring c.args.samples.now c.args.frames (c.write_taken.new.stream, c.write_taken.result) c.write_taken.ensures.ring c.requires.sound c.requires.running c.requires.unstopped c.requires.held c.requires.port
+    (subst (λ (r : Result (Unit {0}) PcmError). TakesAt g.P.MixPort g.G.Gate (c.args.port.now, c.args.gate.now) (syncs c.args.stream.now call.Transfer c.args.ring.now) (c.sync_call-synced.new.port, c.sync_call-synced.new.gate) (c.sync_call-synced.new.stream, r)) ok c.sync_call-synced.ensures.takes)
     c.write_taken.ensures.takes in
     record {
       takes = writes_on-by g.P.MixPort g.G.Gate (c.args.port.now, c.args.gate.now) (c.sync_call-synced.new.port, c.sync_call-synced.new.gate) (c.write_taken.new.port, c.write_taken.new.gate)
-          c.args.plain.now c.args.ring.now c.args.samples.now c.args.frames (c.sync_call-synced.new.plain, c.sync_call-synced.result) (c.write_taken.new.plain, c.write_taken.result) c.sync_call-synced.ensures.takes (rw ok c.write_taken.ensures.takes);
+          c.args.stream.now c.args.ring.now c.args.samples.now c.args.frames (c.sync_call-synced.new.stream, c.sync_call-synced.result) (c.write_taken.new.stream, c.write_taken.result) c.sync_call-synced.ensures.takes (rw ok c.write_taken.ensures.takes);
       keeps = wrote.keeps;
       sound = wrote.keeps.sound;
       count = wrote.count;

@@ -9,7 +9,7 @@ backs_nothing-requires g c =
     let ok = c.in_ok-hw_params.ensures.ok in
     record {
       nothing = ([], (subst (λ (w : View). Stands w []) (sym c.turn-turn.ensures.value) c.in_ok-core.ensures.ok.stands, ([], refl)));
-      written = ap (λ (x : ClientView). x.plain.stretch.written) ok;
-      committed = ap (λ (x : ClientView). x.plain.stretch.committed) ok;
-      part = ap (λ (x : ClientView). x.plain.stretch.part) ok;
+      written = ap (λ (x : ClientView). x.stream.stretch.written) ok;
+      committed = ap (λ (x : ClientView). x.stream.stretch.committed) ok;
+      part = ap (λ (x : ClientView). x.stream.stretch.part) ok;
     }

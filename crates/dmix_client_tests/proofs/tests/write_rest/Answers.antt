@@ -15,7 +15,7 @@ some-config false a b is = absurd (cc)
 
 pub returns : goal.returns
 returns g c =
-    let d = c.args.client.now.plain in
+    let d = c.args.client.now.stream in
     let found = some-config d.setup.configured d.setup.config c.in-Some.config (sym c.config.ensures ∙ c.in-Some.is) in
     let channels = (c.counts_are_sound.ensures.configured found.0).channels in
     let same : d.setup.config.channels ≡ c.in-Some.config.channels = ap (λ (x : Config). x.channels) found.1 in

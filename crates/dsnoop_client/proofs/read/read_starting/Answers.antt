@@ -7,13 +7,13 @@ use Rattle.dsnoop_client.proofs.read.read_starting.Goals as goal
 pub returns-in-Err-clause-takes : goal.returns-in-Err-clause-takes
 returns-in-Err-clause-takes g c =
     reads_first-by g.P.SnoopPort g.G.Gate (c.args.port.now, c.args.gate.now) (c.start_call.new.port, c.start_call.new.gate) (c.start_call.new.port, c.start_call.new.gate)
-    c.args.plain.now c.args.frames (c.start_call.new.plain, Err c.in-Err.error) (c.start_call.new.plain, Err c.in-Err.error) c.in-Err.ensures.takes (record { there = refl; result = refl })
+    c.args.stream.now c.args.frames (c.start_call.new.stream, Err c.in-Err.error) (c.start_call.new.stream, Err c.in-Err.error) c.in-Err.ensures.takes (record { there = refl; result = refl })
 
 pub returns-in-Err-clause-reads : goal.returns-in-Err-clause-reads
 returns-in-Err-clause-reads g c =
-    reads-none g.P.SnoopPort c.args.port.now c.start_call.new.port c.args.plain.now c.start_call.new.plain c.args.out.now c.args.out.now c.in-Err.error c.in-Err.ensures.got_nothing (λ runs. let waits = c.requires.prepared in absurd (cc))
+    reads-none g.P.SnoopPort c.args.port.now c.start_call.new.port c.args.stream.now c.start_call.new.stream c.args.out.now c.args.out.now c.in-Err.error c.in-Err.ensures.got_nothing (λ runs. let waits = c.requires.prepared in absurd (cc))
 
 pub returns-clause-takes : goal.returns-clause-takes
 returns-clause-takes g c =
     reads_first-by g.P.SnoopPort g.G.Gate (c.args.port.now, c.args.gate.now) (c.start_call.new.port, c.start_call.new.gate) (c.transfer.new.port, c.transfer.new.gate)
-    c.args.plain.now c.args.frames (c.start_call.new.plain, Ok c.in_default.field-0) (c.transfer.new.plain, c.transfer.result) c.in_default.ensures.takes c.transfer.ensures.takes
+    c.args.stream.now c.args.frames (c.start_call.new.stream, Ok c.in_default.field-0) (c.transfer.new.stream, c.transfer.result) c.in_default.ensures.takes c.transfer.ensures.takes

@@ -15,8 +15,8 @@ returns-clause-mixed c = λ placed mixed.
     let samples = c.args.samples.now in
     let turn = c.turn-turn.result in
     let port = c.writei.new.port in
-    let grows = Grows-fresh turn port g m client.plain after.plain client.ring samples _ c.requires.fresh c.writei.ensures.keeps.grows in
+    let grows = Grows-fresh turn port g m client.stream after.stream client.ring samples _ c.requires.fresh c.writei.ensures.keeps.grows in
     let same_core = sym (grows.laid_them.same_core ∙ c.turn-turn.ensures.same_core) in
     let at : HasMixed (core_of turn) placed [] = subst (λ (v : View). HasMixed v placed []) (sym c.turn-turn.ensures.value) mixed in
-    subst (λ (v : View). HasMixed v (placed ++ entries_of g m (segment_of after.plain) samples) []) (grind (arith, same_core))
-    (HasMixed-written turn port g m client.plain after.plain samples placed [] c.requires.fresh grows at)
+    subst (λ (v : View). HasMixed v (placed ++ entries_of g m (segment_of after.stream) samples) []) (grind (arith, same_core))
+    (HasMixed-written turn port g m client.stream after.stream samples placed [] c.requires.fresh grows at)

@@ -31,10 +31,10 @@ returns-in-Start g c =
     let d = c.start.new.self in
     let s = both c.args.port.now c.args.gate.now in
     let t = both c.start.new.port c.start.new.gate in
-    let same : d.plain.fed ≡ v.plain.fed = (Gives-taken (LoadsAt P G) (LaysAt P G) NoGet (IsSame v.plain.fed) s t _ _ (start-fed v.plain v.ring _) call.takes).same in
+    let same : d.stream.fed ≡ v.stream.fed = (Gives-taken (LoadsAt P G) (LaysAt P G) NoGet (IsSame v.stream.fed) s t _ _ (start-fed v.stream v.ring _) call.takes).same in
     subst (λ (asked : Op). HasCalled P G s t c.args.wav.now v d asked c.done.result) (sym c.in-Start.is)
     (called-keeps P G met.laid_composes met.held_laid met.ends_in_part s t c.args.wav.now v d op.Start c.done.result c.start.result AnySamples [] c.requires.ready tt
-    (answer-taken P G met.laid_composes met.held_laid met.ends_in_part done_answer s t _ d.plain c.start.result c.done.result call.takes c.done.ensures)
+    (answer-taken P G met.laid_composes met.held_laid met.ends_in_part done_answer s t _ d.stream c.start.result c.done.result call.takes c.done.ensures)
     call.keeps tt refl (subst (λ (k : ℕ). k ≤ frames_of c.args.wav.now) (sym same) c.requires.ready.fed))
 
 pub returns-in-Sync : goal.returns-in-Sync
@@ -47,10 +47,10 @@ returns-in-Sync g c =
     let d = c.sync.new.self in
     let s = both c.args.port.now c.args.gate.now in
     let t = both c.sync.new.port c.sync.new.gate in
-    let same : d.plain.fed ≡ v.plain.fed = (Gives-taken (LoadsAt P G) (LaysAt P G) NoGet (IsSame v.plain.fed) s t _ _ (sync-fed v.plain v.ring) call.takes).same in
+    let same : d.stream.fed ≡ v.stream.fed = (Gives-taken (LoadsAt P G) (LaysAt P G) NoGet (IsSame v.stream.fed) s t _ _ (sync-fed v.stream v.ring) call.takes).same in
     subst (λ (asked : Op). HasCalled P G s t c.args.wav.now v d asked c.done-in-Sync.result) (sym c.in-Sync.is)
     (called-keeps P G met.laid_composes met.held_laid met.ends_in_part s t c.args.wav.now v d op.Sync c.done-in-Sync.result c.sync.result AnySamples [] c.requires.ready tt
-    (answer-taken P G met.laid_composes met.held_laid met.ends_in_part done_answer s t _ d.plain c.sync.result c.done-in-Sync.result call.takes c.done-in-Sync.ensures)
+    (answer-taken P G met.laid_composes met.held_laid met.ends_in_part done_answer s t _ d.stream c.sync.result c.done-in-Sync.result call.takes c.done-in-Sync.ensures)
     call.keeps tt refl (subst (λ (k : ℕ). k ≤ frames_of c.args.wav.now) (sym same) c.requires.ready.fed))
 
 pub returns-in-Avail : goal.returns-in-Avail
@@ -63,10 +63,10 @@ returns-in-Avail g c =
     let d = c.avail_update.new.self in
     let s = both c.args.port.now c.args.gate.now in
     let t = both c.avail_update.new.port c.avail_update.new.gate in
-    let same : d.plain.fed ≡ v.plain.fed = (Gives-taken (LoadsAt P G) (LaysAt P G) NoGet (IsSame v.plain.fed) s t _ _ (number-fed avail_answer v.plain v.ring) call.takes).same in
+    let same : d.stream.fed ≡ v.stream.fed = (Gives-taken (LoadsAt P G) (LaysAt P G) NoGet (IsSame v.stream.fed) s t _ _ (number-fed avail_answer v.stream v.ring) call.takes).same in
     subst (λ (asked : Op). HasCalled P G s t c.args.wav.now v d asked c.counted.result) (sym c.in-Avail.is)
     (called-keeps P G met.laid_composes met.held_laid met.ends_in_part s t c.args.wav.now v d op.Avail c.counted.result c.avail_update.result AnySamples [] c.requires.ready tt
-    (answer-taken P G met.laid_composes met.held_laid met.ends_in_part count_answer s t _ d.plain c.avail_update.result c.counted.result call.takes c.counted.ensures)
+    (answer-taken P G met.laid_composes met.held_laid met.ends_in_part count_answer s t _ d.stream c.avail_update.result c.counted.result call.takes c.counted.ensures)
     call.keeps tt refl (subst (λ (k : ℕ). k ≤ frames_of c.args.wav.now) (sym same) c.requires.ready.fed))
 
 pub returns-in-Delay : goal.returns-in-Delay
@@ -79,10 +79,10 @@ returns-in-Delay g c =
     let d = c.delay.new.self in
     let s = both c.args.port.now c.args.gate.now in
     let t = both c.delay.new.port c.delay.new.gate in
-    let same : d.plain.fed ≡ v.plain.fed = (Gives-taken (LoadsAt P G) (LaysAt P G) NoGet (IsSame v.plain.fed) s t _ _ (number-fed delay_answer v.plain v.ring) call.takes).same in
+    let same : d.stream.fed ≡ v.stream.fed = (Gives-taken (LoadsAt P G) (LaysAt P G) NoGet (IsSame v.stream.fed) s t _ _ (number-fed delay_answer v.stream v.ring) call.takes).same in
     subst (λ (asked : Op). HasCalled P G s t c.args.wav.now v d asked c.counted-in-Delay.result) (sym c.in-Delay.is)
     (called-keeps P G met.laid_composes met.held_laid met.ends_in_part s t c.args.wav.now v d op.Delay c.counted-in-Delay.result c.delay.result AnySamples [] c.requires.ready tt
-    (answer-taken P G met.laid_composes met.held_laid met.ends_in_part count_answer s t _ d.plain c.delay.result c.counted-in-Delay.result call.takes c.counted-in-Delay.ensures)
+    (answer-taken P G met.laid_composes met.held_laid met.ends_in_part count_answer s t _ d.stream c.delay.result c.counted-in-Delay.result call.takes c.counted-in-Delay.ensures)
     call.keeps tt refl (subst (λ (k : ℕ). k ≤ frames_of c.args.wav.now) (sym same) c.requires.ready.fed))
 
 pub returns-in-Drain : goal.returns-in-Drain
@@ -95,10 +95,10 @@ returns-in-Drain g c =
     let d = c.drain.new.self in
     let s = both c.args.port.now c.args.gate.now in
     let t = both c.drain.new.port c.drain.new.gate in
-    let same : d.plain.fed ≡ v.plain.fed = (Gives-taken (LoadsAt P G) (LaysAt P G) NoGet (IsSame v.plain.fed) s t _ _ (drain-fed v.plain v.ring _) call.takes).same in
+    let same : d.stream.fed ≡ v.stream.fed = (Gives-taken (LoadsAt P G) (LaysAt P G) NoGet (IsSame v.stream.fed) s t _ _ (drain-fed v.stream v.ring _) call.takes).same in
     subst (λ (asked : Op). HasCalled P G s t c.args.wav.now v d asked c.done-in-Drain.result) (sym c.in-Drain.is)
     (called-keeps P G met.laid_composes met.held_laid met.ends_in_part s t c.args.wav.now v d op.Drain c.done-in-Drain.result c.drain.result AnySamples [] c.requires.ready tt
-    (answer-taken P G met.laid_composes met.held_laid met.ends_in_part done_answer s t _ d.plain c.drain.result c.done-in-Drain.result call.takes c.done-in-Drain.ensures)
+    (answer-taken P G met.laid_composes met.held_laid met.ends_in_part done_answer s t _ d.stream c.drain.result c.done-in-Drain.result call.takes c.done-in-Drain.ensures)
     call.keeps tt refl (subst (λ (k : ℕ). k ≤ frames_of c.args.wav.now) (sym same) c.requires.ready.fed))
 
 pub returns-in-Rewindable : goal.returns-in-Rewindable
@@ -111,10 +111,10 @@ returns-in-Rewindable g c =
     let d = c.rewindable.new.self in
     let s = both c.args.port.now c.args.gate.now in
     let t = both c.rewindable.new.port c.rewindable.new.gate in
-    let same : d.plain.fed ≡ v.plain.fed = (Gives-taken (LoadsAt P G) (LaysAt P G) NoGet (IsSame v.plain.fed) s t _ _ (rewindable-fed v.plain (P.view c.args.port.now).marks.floor) call.takes).same in
+    let same : d.stream.fed ≡ v.stream.fed = (Gives-taken (LoadsAt P G) (LaysAt P G) NoGet (IsSame v.stream.fed) s t _ _ (rewindable-fed v.stream (P.view c.args.port.now).marks.floor) call.takes).same in
     subst (λ (asked : Op). HasCalled P G s t c.args.wav.now v d asked c.counted-in-Rewindable.result) (sym c.in-Rewindable.is)
     (called-keeps P G met.laid_composes met.held_laid met.ends_in_part s t c.args.wav.now v d op.Rewindable c.counted-in-Rewindable.result c.rewindable.result AnySamples [] c.requires.ready tt
-    (answer-taken P G met.laid_composes met.held_laid met.ends_in_part count_answer s t _ d.plain c.rewindable.result c.counted-in-Rewindable.result call.takes c.counted-in-Rewindable.ensures)
+    (answer-taken P G met.laid_composes met.held_laid met.ends_in_part count_answer s t _ d.stream c.rewindable.result c.counted-in-Rewindable.result call.takes c.counted-in-Rewindable.ensures)
     call.keeps tt refl (subst (λ (k : ℕ). k ≤ frames_of c.args.wav.now) (sym same) c.requires.ready.fed))
 
 pub returns-in-Drop : goal.returns-in-Drop
@@ -151,10 +151,10 @@ returns-in-Pause g c =
     let d = c.pause.new.self in
     let s = both c.args.port.now c.args.gate.now in
     let t = both c.pause.new.port c.pause.new.gate in
-    let same : d.plain.fed ≡ v.plain.fed = (Gives-taken (LoadsAt P G) (LaysAt P G) NoGet (IsSame v.plain.fed) s t _ _ (pause-fed v.plain v.ring (P.view c.args.port.now).marks.cursor) call.takes).same in
+    let same : d.stream.fed ≡ v.stream.fed = (Gives-taken (LoadsAt P G) (LaysAt P G) NoGet (IsSame v.stream.fed) s t _ _ (pause-fed v.stream v.ring (P.view c.args.port.now).marks.cursor) call.takes).same in
     subst (λ (asked : Op). HasCalled P G s t c.args.wav.now v d asked c.done-in-Pause.result) (sym c.in-Pause.is)
     (called-pause P G met.laid_composes met.held_laid met.ends_in_part s t c.args.wav.now v d c.done-in-Pause.result c.pause.result c.requires.ready
-    (answer-taken P G met.laid_composes met.held_laid met.ends_in_part done_answer s t _ d.plain c.pause.result c.done-in-Pause.result call.takes c.done-in-Pause.ensures)
+    (answer-taken P G met.laid_composes met.held_laid met.ends_in_part done_answer s t _ d.stream c.pause.result c.done-in-Pause.result call.takes c.done-in-Pause.ensures)
     call.keeps (λ e found. (call.refused e found).1) (λ found. (call.pauses refl found).1)
     (subst (λ (k : ℕ). k ≤ frames_of c.args.wav.now) (sym same) c.requires.ready.fed))
 
@@ -168,10 +168,10 @@ returns-in-Resume g c =
     let d = c.pause-in-Resume.new.self in
     let s = both c.args.port.now c.args.gate.now in
     let t = both c.pause-in-Resume.new.port c.pause-in-Resume.new.gate in
-    let same : d.plain.fed ≡ v.plain.fed = (Gives-taken (LoadsAt P G) (LaysAt P G) NoGet (IsSame v.plain.fed) s t _ _ (resume-fed v.plain v.ring _) call.takes).same in
+    let same : d.stream.fed ≡ v.stream.fed = (Gives-taken (LoadsAt P G) (LaysAt P G) NoGet (IsSame v.stream.fed) s t _ _ (resume-fed v.stream v.ring _) call.takes).same in
     subst (λ (asked : Op). HasCalled P G s t c.args.wav.now v d asked c.done-in-Resume.result) (sym c.in-Resume.is)
     (called-resume P G met.laid_composes met.held_laid met.ends_in_part s t c.args.wav.now v d c.done-in-Resume.result c.pause-in-Resume.result c.requires.ready c.counts_are_sound.ensures
-    (answer-taken P G met.laid_composes met.held_laid met.ends_in_part done_answer s t _ d.plain c.pause-in-Resume.result c.done-in-Resume.result call.takes c.done-in-Resume.ensures)
+    (answer-taken P G met.laid_composes met.held_laid met.ends_in_part done_answer s t _ d.stream c.pause-in-Resume.result c.done-in-Resume.result call.takes c.done-in-Resume.ensures)
     call.keeps (subst (λ (k : ℕ). k ≤ frames_of c.args.wav.now) (sym same) c.requires.ready.fed))
 
 pub returns-in-Rewind : goal.returns-in-Rewind
@@ -184,11 +184,11 @@ returns-in-Rewind g c =
     let d = c.rewind.new.self in
     let s = both c.args.port.now c.args.gate.now in
     let t = both c.rewind.new.port c.rewind.new.gate in
-    let few : d.plain.fed ≤ v.plain.fed = (Gives-taken (LoadsAt P G) (LaysAt P G) NoGet (IsFed v.plain.fed) s t _ _ (rewind-fed v.plain v.ring _ _ c.counts_are_sound.ensures c.requires.unstopped) call.takes).most in
+    let few : d.stream.fed ≤ v.stream.fed = (Gives-taken (LoadsAt P G) (LaysAt P G) NoGet (IsFed v.stream.fed) s t _ _ (rewind-fed v.stream v.ring _ _ c.counts_are_sound.ensures c.requires.unstopped) call.takes).most in
     let fed = c.requires.ready.fed in
     subst (λ (asked : Op). HasCalled P G s t c.args.wav.now v d asked c.counted-in-Rewind.result) (sym c.in-Rewind.is)
     (called-back P G met.laid_composes met.held_laid met.ends_in_part s t c.args.wav.now v d _ c.counted-in-Rewind.result c.rewind.result c.requires.ready
-    (answer-taken P G met.laid_composes met.held_laid met.ends_in_part count_answer s t _ d.plain c.rewind.result c.counted-in-Rewind.result call.takes c.counted-in-Rewind.ensures)
+    (answer-taken P G met.laid_composes met.held_laid met.ends_in_part count_answer s t _ d.stream c.rewind.result c.counted-in-Rewind.result call.takes c.counted-in-Rewind.ensures)
     call.keeps (omega (arith, few, fed)))
 
 pub rewind-requires-clause-standing : goal.rewind-requires-clause-standing

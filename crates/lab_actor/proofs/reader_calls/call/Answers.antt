@@ -2,7 +2,7 @@ use Rattle.std.proofs.Common.{ap, arith, refl, subst, sym, ◌∙◌}
 use Rattle.snd_base.specs.declared.errors.PcmError.TheVariants.{BadState, NotSupported}
 use Rattle.pcm_states.specs.declared.calls.Call.TheVariants as call
 use Rattle.pcm_states.specs.declared.states.State.TheVariants.{Prepared, Setup}
-use Rattle.dsnoop_client.specs.declared.plain.Plain.{Plain}
+use Rattle.dsnoop_client.specs.declared.stream.CaptureStream.{CaptureStream}
 use Rattle.dsnoop_client.specs.Course.{admitted, avail_course, starts, sync_course}
 use Rattle.lab_script.specs.declared.line.Op.{Op}
 use Rattle.lab_script.specs.declared.line.Op.TheVariants as op
@@ -74,7 +74,7 @@ returns-in-Pause-clause-called g c =
     let s = both c.args.port.now c.args.gate.now in
     let r = c.args.reader.now in
     let samples = c.args.samples.now.items in
-    subst (λ (d : Plain). HasCalled P G s s r d samples samples c.args.asked c.done-in-Pause.result) (sym c.pause.ensures.unchanged)
+    subst (λ (d : CaptureStream). HasCalled P G s s r d samples samples c.args.asked c.done-in-Pause.result) (sym c.pause.ensures.unchanged)
     (subst (λ (answer : Answer). HasCalled P G s s r r samples samples c.args.asked answer) (sym (c.done-in-Pause.ensures ∙ ap done_answer c.pause.ensures.answer))
     (called-refused P G g.met.P.SnoopPort.got_composes s r samples c.args.asked NotSupported (ap (call_of r) c.in-Pause.is) c.requires.usable))
 

@@ -20,11 +20,11 @@ unreachable-requires c =
     let inside = c.opening.inside in
     let given = c.opening.view_is in
     let came = c.in_ok-hw_params.ensures.ok in
-    let admitted = subst (λ (v : ClientView). refusal_of Playback v.plain.status call.SwParams ≡ None) (sym came)
-    (subst (λ (v : ClientView). refusal_of Playback (configured_with v.plain inside.config inside.bindings).status call.SwParams ≡ None) (sym c.new-client.ensures) refl) in
+    let admitted = subst (λ (v : ClientView). refusal_of Playback v.stream.status call.SwParams ≡ None) (sym came)
+    (subst (λ (v : ClientView). refusal_of Playback (configured_with v.stream inside.config inside.bindings).status call.SwParams ≡ None) (sym c.new-client.ensures) refl) in
     let found = c.sw_params.ensures.checked admitted in
     let boundary = subst (λ (n : ℕ). IsBoundary n found.0)
-    (ap (λ (v : ClientView). v.plain.setup.config.buffer_size) came ∙ ap (λ (s : Setup). s.config.buffer_size) given) found.1 in
+    (ap (λ (v : ClientView). v.stream.setup.config.buffer_size) came ∙ ap (λ (s : Setup). s.config.buffer_size) given) found.1 in
     valid-checks c.in_default.field-0 inside.params found.0
     (subst (λ (p : SwParams). IsValid p found.0) (ap (λ (s : Setup). s.params) (sym given)) (c.requires.params found.0 boundary))
     (subst (λ (r : Result (Unit {0}) PcmError). Checks r inside.params found.0) c.in_default.is found.2)

@@ -1,5 +1,5 @@
 use Rattle.std.proofs.Common.{◌∙◌, ap, subst, sym}
-use Rattle.dsnoop_client.specs.declared.plain.Plain.{Plain}
+use Rattle.dsnoop_client.specs.declared.stream.CaptureStream.{CaptureStream}
 use Rattle.dsnoop_client.specs.Calls.{configured_with}
 use Rattle.lab_run.specs.Stage.{Setup}
 use Rattle.lab_setup.specs.Usable.{IsUsable}
@@ -12,5 +12,5 @@ unreachable-requires c =
     let setup : Setup = record { config = inside.config; bindings = inside.bindings; params = inside.params; lead = inside.lead } in
     let usable : IsUsable c.args.geometry.channels c.args.geometry.frames setup =
     subst (IsUsable c.args.geometry.channels c.args.geometry.frames) (sym c.opening.view_is) c.requires in
-    let is = c.in_ok-hw_params.ensures.ok ∙ ap (λ (r : Plain). configured_with r setup.config setup.bindings) c.new-reader.ensures in
+    let is = c.in_ok-hw_params.ensures.ok ∙ ap (λ (r : CaptureStream). configured_with r setup.config setup.bindings) c.new-reader.ensures in
     params-taken c.args.geometry setup c.hw_params.new.self c.sw_params.result c.in_default.field-0 usable is c.sw_params.ensures.checked c.in_default.is

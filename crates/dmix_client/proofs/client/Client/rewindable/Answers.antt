@@ -18,5 +18,5 @@ returns-then-eq-clause-causes g c admitted running = rw (← c.self.view_is) c.r
 
 pub returns-clause-keeps : goal.returns-clause-keeps
 returns-clause-keeps g c =
-    rw (← c.self.view_is) (Keeps-none g.P.MixPort g.G.Gate g.met.P.MixPort.laid_composes g.met.P.MixPort.loaded_composes (c.args.port.now, c.args.gate.now) (client c.self.inside.plain c.self.inside.ring.items) (let r : Result ℕ PcmError = Ok c.self.inside.plain.stretch.written in r) AnySamples
-    c.self.invariant (subst (λ (v : ClientView). CanUse v.plain (g.P.MixPort.view c.args.port.now)) (sym c.self.view_is) c.requires) (λ unstopped. refl))
+    rw (← c.self.view_is) (Keeps-none g.P.MixPort g.G.Gate g.met.P.MixPort.laid_composes g.met.P.MixPort.loaded_composes (c.args.port.now, c.args.gate.now) (client c.self.inside.stream c.self.inside.ring.items) (let r : Result ℕ PcmError = Ok c.self.inside.stream.stretch.written in r) AnySamples
+    c.self.invariant (subst (λ (v : ClientView). CanUse v.stream (g.P.MixPort.view c.args.port.now)) (sym c.self.view_is) c.requires) (λ unstopped. refl))

@@ -15,8 +15,8 @@ returns-clause-keeps g c = rw (← c.self.view_is, ← c.as_slice-ring.ensures.v
 
 pub returns-clause-takes : goal.returns-clause-takes
 returns-clause-takes g c =
-    let moves : is_moving c.self.inside.plain.status.state ≡ true = search rules in
-    rw (← c.self.view_is, ← c.as_slice-ring.ensures.value) (admitted-ok g.P.MixPort g.G.Gate (c.args.port.now, c.args.gate.now) (c.sync_call.new.port, c.sync_call.new.gate) c.self.inside.plain call.Sync _ (c.sync_call.new.plain, c.sync_call.result)
+    let moves : is_moving c.self.inside.stream.status.state ≡ true = search rules in
+    rw (← c.self.view_is, ← c.as_slice-ring.ensures.value) (admitted-ok g.P.MixPort g.G.Gate (c.args.port.now, c.args.gate.now) (c.sync_call.new.port, c.sync_call.new.gate) c.self.inside.stream call.Sync _ (c.sync_call.new.stream, c.sync_call.result)
     c.admit.result c.admit.ensures.answer c.in_ok-admit.was (rw moves c.sync_call.ensures.takes))
 
 pub returns-clause-causes : goal.returns-clause-causes
@@ -24,5 +24,5 @@ returns-clause-causes g c admitted moves = rw (← c.self.view_is, ← c.as_slic
 
 pub returns-then-not-is_moving-clause-keeps : goal.returns-then-not-is_moving-clause-keeps
 returns-then-not-is_moving-clause-keeps g c =
-    rw (← c.self.view_is) (Keeps-none g.P.MixPort g.G.Gate g.met.P.MixPort.laid_composes g.met.P.MixPort.loaded_composes (c.args.port.now, c.args.gate.now) (client c.self.inside.plain c.self.inside.ring.items) (let r : Result (Unit {0}) PcmError = Ok tt in r) AnySamples
-    c.self.invariant (subst (λ (v : ClientView). CanUse v.plain (g.P.MixPort.view c.args.port.now)) (sym c.self.view_is) c.requires) (λ unstopped. refl))
+    rw (← c.self.view_is) (Keeps-none g.P.MixPort g.G.Gate g.met.P.MixPort.laid_composes g.met.P.MixPort.loaded_composes (c.args.port.now, c.args.gate.now) (client c.self.inside.stream c.self.inside.ring.items) (let r : Result (Unit {0}) PcmError = Ok tt in r) AnySamples
+    c.self.invariant (subst (λ (v : ClientView). CanUse v.stream (g.P.MixPort.view c.args.port.now)) (sym c.self.view_is) c.requires) (λ unstopped. refl))

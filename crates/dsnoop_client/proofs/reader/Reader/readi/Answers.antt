@@ -1,7 +1,7 @@
 use Rattle.std.proofs.Common.{ℕ, sym, subst}
 use Rattle.std.specs.Prelude.{Result}
 use Rattle.snd_base.specs.declared.errors.PcmError.{PcmError}
-use Rattle.dsnoop_client.specs.declared.plain.Plain.{Plain}
+use Rattle.dsnoop_client.specs.declared.stream.CaptureStream.{CaptureStream}
 use Rattle.dsnoop_client.specs.Causes.{ExplainsRead}
 use Rattle.dsnoop_client.specs.View.{LoadsFor, frames_in}
 use Rattle.dsnoop_client.proofs.Stepping.{reads-refused}
@@ -13,6 +13,6 @@ returns-in_err-admit-clause-reads g c =
 
 pub returns-clause-causes : goal.returns-clause-causes
 returns-clause-causes g c admitted loads =
-    subst (λ (v : Plain). ExplainsRead g.P.SnoopPort c.args.port.now c.read_admitted-answer.new.port v c.read_admitted-answer.new.plain (frames_in v c.args.out.now) c.few_frames.result) c.self.view_is
-    (subst (λ (r : Result ℕ PcmError). ExplainsRead g.P.SnoopPort c.args.port.now c.read_admitted-answer.new.port c.self.inside.plain c.read_admitted-answer.new.plain (frames_in c.self.inside.plain c.args.out.now) r) (sym c.few_frames.ensures)
-    (c.read_admitted-answer.ensures.causes (subst (λ (v : Plain). LoadsFor v (frames_in v c.args.out.now)) (sym c.self.view_is) loads)))
+    subst (λ (v : CaptureStream). ExplainsRead g.P.SnoopPort c.args.port.now c.read_admitted-answer.new.port v c.read_admitted-answer.new.stream (frames_in v c.args.out.now) c.few_frames.result) c.self.view_is
+    (subst (λ (r : Result ℕ PcmError). ExplainsRead g.P.SnoopPort c.args.port.now c.read_admitted-answer.new.port c.self.inside.stream c.read_admitted-answer.new.stream (frames_in c.self.inside.stream c.args.out.now) r) (sym c.few_frames.ensures)
+    (c.read_admitted-answer.ensures.causes (subst (λ (v : CaptureStream). LoadsFor v (frames_in v c.args.out.now)) (sym c.self.view_is) loads)))

@@ -23,11 +23,11 @@ returns g c =
     let d = c.answer_line-answer.new.client in
     let answered = c.answer_line-answer.ensures.answered in
     let t = both c.answer_line-answer.new.port c.answer_line-answer.new.gate in
-    let ended : List Segment = ended_by asked answer a.client.plain d.plain in
+    let ended : List Segment = ended_by asked answer a.client.stream d.stream in
     let ends = c.ends_stretch-ends.ensures
     ∙ (λ i. ends_stretch asked answer (c.is_paused-was_paused.ensures i) (c.is_paused-paused.ensures i)) in
     let is : (if c.ends_stretch-ends.result then laid_of c.segment-segment.result else []) ≡ ended =
-    (λ i. if ends i then laid_of (c.segment-segment.ensures i) else []) ∙ sym (ended_by-test asked answer a.client.plain d.plain) in
+    (λ i. if ends i then laid_of (c.segment-segment.ensures i) else []) ∙ sym (ended_by-test asked answer a.client.stream d.stream) in
     let ended_is : c.push_ended.new.ended.items ≡ a.ended.items ++ ended = c.push_ended.ensures.items ∙ ap (λ (more : List Segment). a.ended.items ++ more) is in
     record {
       line = record {
@@ -41,7 +41,7 @@ returns g c =
           seen = c.seen.ensures i;
         } in row) ∷ []);
         line = λ first ring from before at.
-            subst (λ (segments : List Segment). IsClientLine P left_of by_gate first ring from t c.args.phase c.args.wav.now a.number before (client_of a) asked (record { own = Some (with_member a.number d.plain); ended = segments }) answer)
+            subst (λ (segments : List Segment). IsClientLine P left_of by_gate first ring from t c.args.phase c.args.wav.now a.number before (client_of a) asked (record { own = Some (with_member a.number d.stream); ended = segments }) answer)
             (sym ended_is) (answered.line c.args.phase a.number a.ended.items first ring from before at);
         ended = ended;
         ended_are = ended_is;

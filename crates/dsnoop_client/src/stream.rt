@@ -7,7 +7,7 @@ use snd_base::Geometry;
 /// `seen` is the position that it loaded last, and `next`, once it was started, the frame that its next read begins with.
 /// Both are frame numbers, which never wrap.
 #[derive(Clone, Copy, Debug, PartialEq, Eq)]
-pub struct Plain {
+pub struct CaptureStream {
     pub geometry: Geometry,
     pub setup: Setup,
     pub status: Status,

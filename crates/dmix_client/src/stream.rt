@@ -30,7 +30,7 @@ pub struct Stretch {
 ///
 /// `seen` is the position, a frame number, that it loaded last, and `fed` how many frames it accepted in all.
 #[derive(Clone, Copy, Debug, PartialEq, Eq)]
-pub struct Plain {
+pub struct PlaybackStream {
     pub identity: Identity,
     pub setup: Setup,
     pub status: Status,
