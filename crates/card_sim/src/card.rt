@@ -182,8 +182,10 @@ impl<'p, 'w> Card<'p, 'w> {
 
     /// Unplugs the card from both rings, by one store each: from now on every position that is loaded says that it is gone.
     pub fn unplug(&mut self)
-        ensures played { HasUnplugged (seat_of (player_of self.old)) (seat_of (player_of self.new)) }
-        ensures captured { WriterHasUnplugged (desk_of (writer_of self.old)) (desk_of (writer_of self.new)) }
+        ensures played { HasUnplugged (seat_of (player_of self.old))
+            (seat_of (player_of self.new)) }
+        ensures captured { WriterHasUnplugged (desk_of (writer_of self.old))
+            (desk_of (writer_of self.new)) }
         ensures period { period_of self.new ≡ period_of self.old }
         ensures records { records_of self.new ≡ records_of self.old }
     {
@@ -193,7 +195,8 @@ impl<'p, 'w> Card<'p, 'w> {
 
     /// A note of the sum ring's player: of all that it has seen, and so of each position that it published.
     pub fn note_of_player(&mut self) -> SeatNote<'p>
-        ensures note { HasPlayerNote (seat_of (player_of self.old)) (seat_of (player_of self.new)) result }
+        ensures note { HasPlayerNote (seat_of (player_of self.old))
+            (seat_of (player_of self.new)) result }
         ensures writer { writer_of self.new ≡ writer_of self.old }
         ensures period { period_of self.new ≡ period_of self.old }
         ensures records { records_of self.new ≡ records_of self.old }
@@ -204,8 +207,11 @@ impl<'p, 'w> Card<'p, 'w> {
     /// The sum ring's player meets a note of a client's seat, and learns that what the seat has seen is what this player did.
     /// The caller shows that both are of one ring.
     pub fn meet_client(&mut self, note: SeatNote<'_>)
-        requires { OneRing (note_ring note) (note_key note) (player_ring (seat_of (player_of self.old))) (player_key (seat_of (player_of self.old))) }
-        ensures heard { HasHeard (seat_of (player_of self.old)) (seat_of (player_of self.new)) note.entry }
+        requires { OneRing (note_ring note) (note_key note)
+            (player_ring (seat_of (player_of self.old)))
+            (player_key (seat_of (player_of self.old))) }
+        ensures heard { HasHeard (seat_of (player_of self.old))
+            (seat_of (player_of self.new)) note.entry }
         ensures writer { writer_of self.new ≡ writer_of self.old }
         ensures period { period_of self.new ≡ period_of self.old }
         ensures records { records_of self.new ≡ records_of self.old }
@@ -226,7 +232,8 @@ impl<'p, 'w> Card<'p, 'w> {
     /// The snoop ring's writer meets a note of a reader's seat, and learns that what the seat has seen is what this writer did.
     /// The caller shows that both are of one ring.
     pub fn meet_reader(&mut self, note: SnoopNote<'_>)
-        requires { OneSnoopRing (snoop_note_ring note) (note_geometry note) (writer_ring (writer_of self.old)) (writer_geometry (writer_of self.old)) }
+        requires { OneSnoopRing (snoop_note_ring note) (note_geometry note)
+            (writer_ring (writer_of self.old)) (writer_geometry (writer_of self.old)) }
         ensures heard { WriterHasHeard (writer_of self.old) (writer_of self.new) note.entry }
         ensures player { player_of self.new ≡ player_of self.old }
         ensures period { period_of self.new ≡ period_of self.old }

@@ -168,8 +168,8 @@ impl Client {
         ensures refused { (e : PcmError) →
             refusal_of Direction.Playback self.old.stream.status call.SwParams ≡ Some e →
             (result ≡ Err e) × (self.new ≡ self.old) }
-        ensures checked { refusal_of Direction.Playback self.old.stream.status call.SwParams ≡ None →
-            (b : ℕ) × IsBoundary self.old.stream.setup.config.buffer_size b
+        ensures checked { refusal_of Direction.Playback self.old.stream.status call.SwParams ≡ None
+            → (b : ℕ) × IsBoundary self.old.stream.setup.config.buffer_size b
             × Checks result params b }
         ensures ok { OnOk result (self.new
             ≡ record { stream = with_params self.old.stream params; ring = self.old.ring }) }
@@ -187,11 +187,13 @@ impl Client {
         ensures refused { (e : PcmError) →
             refusal_of Direction.Playback self.old.stream.status call.Prepare ≡ Some e →
             (result ≡ Err e) × (self.new ≡ self.old) }
-        ensures prepared { refusal_of Direction.Playback self.old.stream.status call.Prepare ≡ None →
-            (result ≡ Ok tt)
+        ensures prepared { refusal_of Direction.Playback self.old.stream.status call.Prepare ≡ None
+            → (result ≡ Ok tt)
             × (self.new ≡ record { stream = prepared self.old.stream; ring = self.old.ring }) }
     {
-        self.stream.status.admit(Direction::Playback, Call::Prepare)?;
+        self.stream
+            .status
+            .admit(Direction::Playback, Call::Prepare)?;
         self.stream = self.stream.prepared();
         Ok(())
     }

@@ -81,7 +81,11 @@ pub(crate) fn held_from(stream: &PlaybackStream, number: u64) -> usize
     ensures within { result + length stream.now.setup.bindings
         ≤ stream.now.setup.config.buffer_size * length stream.now.setup.bindings }
 {
-    let slot = slot_of(stream.stretch.source, number, stream.setup.config.buffer_size);
+    let slot = slot_of(
+        stream.stretch.source,
+        number,
+        stream.setup.config.buffer_size,
+    );
     slot as usize * stream.setup.bindings.len() as usize
 }
 
@@ -200,7 +204,11 @@ pub(crate) fn lay_frames<P: MixPort, G: Gate>(
     let mut done: u64 = 0;
     while done < count {
         let first = stream.stretch.committed + done;
-        let slot = slot_of(stream.stretch.source, first, stream.setup.config.buffer_size);
+        let slot = slot_of(
+            stream.stretch.source,
+            first,
+            stream.setup.config.buffer_size,
+        );
         let run = (stream.setup.config.buffer_size as u64 - slot).min(count - done);
         let laid = lay_run(port, gate, stream, ring, first, run);
         match laid.ended {
@@ -246,7 +254,8 @@ fn lay_run<P: MixPort, G: Gate>(
     requires ahead { 0 < count → stream.now.stretch.card + (first + count)
         ≤ window_end (P.view port.old).geometry (P.view port.old).seen }
     ensures { TakesAt P.MixPort G.Gate (port.old, gate.old) (lay_frames stream.now.identity.member
-        stream.now.stretch.card stream.now.setup.bindings (ring_sample stream.now ring.now) count first)
+        stream.now.stretch.card stream.now.setup.bindings (ring_sample stream.now ring.now)
+        count first)
         (port.new, gate.new) result }
 {
     match stream.setup.bindings.len() {
@@ -281,7 +290,8 @@ fn lay_run_of<P: MixPort, G: Gate>(
     requires ahead { 0 < count → stream.now.stretch.card + (first + count)
         ≤ window_end (P.view port.old).geometry (P.view port.old).seen }
     ensures { TakesAt P.MixPort G.Gate (port.old, gate.old) (lay_frames stream.now.identity.member
-        stream.now.stretch.card stream.now.setup.bindings (ring_sample stream.now ring.now) count first)
+        stream.now.stretch.card stream.now.setup.bindings (ring_sample stream.now ring.now)
+        count first)
         (port.new, gate.new) result }
 {
     let bindings = stream.setup.bindings;
@@ -323,7 +333,8 @@ pub(crate) fn look_and_commit<P: MixPort, G: Gate>(
     ensures takes { TakesAt P.MixPort G.Gate (port.old, gate.old)
         (looks (λ position. stream.now) (sync_count stream.now) ring.now) (port.new, gate.new)
         (result.load, result.commit) }
-    ensures found { IsFound result.load result.commit (λ position. stream.now) (sync_count stream.now)
+    ensures found { IsFound result.load result.commit (λ position. stream.now)
+        (sync_count stream.now)
         (length stream.now.setup.bindings) }
     ensures near { IfSome result.load (λ position. (unwrap_or stream.now.seen 0 ≤ position.frame)
         × (position.frame ≤ end_frame stream.now.identity.geometry)) }
@@ -359,7 +370,8 @@ pub(crate) fn look_and_start<P: MixPort, G: Gate>(
         (result.load, result.commit) }
     ensures found { IsFound result.load result.commit
         (λ position. started_in stream.now State.Running position cursor)
-        (λ position. start_count stream.now cursor position upto) (length stream.now.setup.bindings) }
+        (λ position. start_count stream.now cursor position upto)
+        (length stream.now.setup.bindings) }
     ensures near { IfSome result.load
         (λ position. position.frame ≤ end_frame stream.now.identity.geometry) }
 {

@@ -13,8 +13,8 @@ ghost use Rattle.dmix_client.specs.View.{IsSound};
 
 use crate::client::Client;
 use crate::commit::look_and_start;
-use crate::stream::PlaybackStream;
 use crate::steps::resumed;
+use crate::stream::PlaybackStream;
 use mix_core::{Gate, MixPort};
 use pcm_states::{Call, State};
 use pcm_stream::Direction;

@@ -15,9 +15,9 @@ ghost use Rattle.dmix_client.specs.View.{IsSound};
 
 use crate::client::Client;
 use crate::commit::Commit;
-use crate::stream::PlaybackStream;
 use crate::rewound::{rewound, with_rewindable};
 use crate::steps::after_sync;
+use crate::stream::PlaybackStream;
 use crate::withdraw::take_frames;
 use mix_core::{Gate, MixPort, Position};
 use pcm_states::{Call, State};
@@ -35,7 +35,11 @@ fn load<P: MixPort, G: Gate>(port: &mut P, gate: &mut G) -> Option<Position>
 }
 
 /// Loads the position for a client that runs, as a sync does, and commits nothing.
-fn check<P: MixPort, G: Gate>(stream: &mut PlaybackStream, port: &mut P, gate: &mut G) -> Result<(), PcmError>
+fn check<P: MixPort, G: Gate>(
+    stream: &mut PlaybackStream,
+    port: &mut P,
+    gate: &mut G,
+) -> Result<(), PcmError>
     requires sound { (ring : List ℤ) × IsSound stream.old ring }
     requires running { stream.old.status.state ≡ State.Running }
     requires unstopped { stream.old.status.stopped ≡ false }
@@ -206,7 +210,8 @@ impl Client {
             self.old self.new result }
         ensures causes { refusal_of Direction.Playback self.old.stream.status call.Transfer ≡ None →
             self.old.stream.status.state ≡ State.Running →
-            ExplainsRewind P.MixPort G.Gate (port.old, gate.old) (port.new, gate.new) self.old.stream
+            ExplainsRewind P.MixPort G.Gate (port.old, gate.old) (port.new, gate.new)
+            self.old.stream
             self.old.ring (P.view port.old).marks.floor frames (self.new.stream, result) }
     {
         self.stream

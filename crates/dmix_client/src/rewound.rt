@@ -5,8 +5,8 @@ ghost use Rattle.dmix_client.specs.Calls.{late_at, with_number};
 ghost use Rattle.dmix_client.specs.Rewind.{back_of, last_channel, last_laid, rewindable_of, rewound, taken_back, without};
 
 use crate::commit::Commit;
-use crate::stream::{PlaybackStream, Stretch};
 use crate::steps::{Answered, found_at, is_stop, stopped_in, with_outcome};
+use crate::stream::{PlaybackStream, Stretch};
 use mix_core::{Ended, Position};
 use pcm_states::{Call, State, next};
 use snd_base::{Cursor, PcmError, XrunWhy};

@@ -14,8 +14,8 @@ ghost use Rattle.dmix_client.specs.View.{IsGoing, IsSound};
 
 use crate::client::Client;
 use crate::commit::look_and_commit;
-use crate::stream::PlaybackStream;
 use crate::steps::{after_sync, with_number};
+use crate::stream::PlaybackStream;
 use mix_core::{Gate, MixPort};
 use pcm_states::Call;
 use pcm_stream::Direction;

@@ -7,8 +7,8 @@ ghost use Rattle.dmix_client.specs.Writes.{count_with};
 ghost use Rattle.dmix_client.specs.View.{IsReady, IsReadyAt, avail_of, hw_of, queued_of};
 
 use crate::commit::Commit;
-use crate::stream::{Identity, PlaybackStream, Stretch};
 use crate::status::Asked;
+use crate::stream::{Identity, PlaybackStream, Stretch};
 use bindings::Bindings;
 use hw_space::Config;
 use mix_core::{Ended, Position};
@@ -284,7 +284,12 @@ impl PlaybackStream {
     }
 
     /// The stream starts, and is in `state`.
-    pub(crate) fn started_in(&self, state: State, position: Position, cursor: Cursor) -> PlaybackStream
+    pub(crate) fn started_in(
+        &self,
+        state: State,
+        position: Position,
+        cursor: Cursor,
+    ) -> PlaybackStream
         requires position { position.frame < 2 ^ 63 }
         requires cursor { cursor.frame < 2 ^ 63 }
         ensures { result ≡ started_in self.now state position cursor }

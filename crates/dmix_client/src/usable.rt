@@ -32,7 +32,8 @@ fn is_behind<P: MixPort>(client: &Client, port: &P) -> bool
         .bindings
         .card_channel(stream.setup.bindings.rising(0));
     let free = port.cursor().first_free(least);
-    free <= stream.stretch.card + stream.stretch.committed && stream.seen.unwrap_or(0) <= port.seen()
+    free <= stream.stretch.card + stream.stretch.committed
+        && stream.seen.unwrap_or(0) <= port.seen()
 }
 
 impl Client {

@@ -120,11 +120,13 @@ pub(crate) fn take_frames<P: MixPort, G: Gate>(
         (stream.now.stretch.card + (stream.now.stretch.committed - count))
         (least_channel stream.now.setup.bindings) }
     requires held { P.ends_in port.old
-        (run_entries stream.now.identity.member stream.now.setup.bindings (ring_sample stream.now ring.now)
+        (run_entries stream.now.identity.member stream.now.setup.bindings
+        (ring_sample stream.now ring.now)
         stream.now.stretch.card (stream.now.stretch.committed - count) count 0) }
     ensures { TakesAt P.MixPort G.Gate (port.old, gate.old)
         (take_frames stream.now.identity.member stream.now.stretch.card stream.now.setup.bindings
-        (ring_sample stream.now ring.now) (stream.now.stretch.committed - count) count) (port.new, gate.new)
+        (ring_sample stream.now ring.now) (stream.now.stretch.committed - count) count)
+        (port.new, gate.new)
         result }
 {
     let channels = stream.setup.bindings.len();

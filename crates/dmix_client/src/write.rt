@@ -16,10 +16,10 @@ ghost use Rattle.dmix_client.specs.Writes.{IsOffer, count_with, frames_in, ring_
 use crate::client::Client;
 use crate::commit::{Commit, lay_frames};
 use crate::control::begin;
-use crate::stream::PlaybackStream;
 use crate::ring::store;
 use crate::status::sync_call;
 use crate::steps::{accepted_if, written_after};
+use crate::stream::PlaybackStream;
 use mix_core::{Gate, MixPort};
 use pcm_states::{Call, State};
 use pcm_stream::Direction;
@@ -67,7 +67,8 @@ fn write_taken<P: MixPort, G: Gate>(
     ensures takes { TakesAt P.MixPort G.Gate (port.old, gate.old)
         (takes_more stream.old ring.old samples.now frames) (port.new, gate.new)
         (stream.new, result) }
-    ensures ring { ring.new ≡ ring_with stream.old ring.old samples.now (taken_of stream.old frames) }
+    ensures ring { ring.new
+        ≡ ring_with stream.old ring.old samples.now (taken_of stream.old frames) }
 {
     let taken = stream.taken(frames);
     store_taken(stream, ring, samples, taken);
@@ -112,7 +113,8 @@ fn write_running<P: MixPort, G: Gate>(
     requires fed { stream.old.fed < 2 ^ 63 }
     requires port { CanUse stream.old (P.view port.old) }
     ensures takes { TakesAt P.MixPort G.Gate (port.old, gate.old)
-        (writes_on stream.old ring.old samples.now frames) (port.new, gate.new) (stream.new, result) }
+        (writes_on stream.old ring.old samples.now frames) (port.new, gate.new)
+        (stream.new, result) }
     ensures sound { IsSound stream.new ring.new }
     ensures count { IfOk result (λ n. n ≤ 16384) }
     ensures keeps { Keeps P.MixPort G.Gate (port.old, gate.old) (port.new, gate.new)
@@ -143,7 +145,8 @@ fn start_write<P: MixPort, G: Gate>(
     requires fed { stream.old.fed < 2 ^ 63 }
     requires port { CanUse stream.old (P.view port.old) }
     ensures takes { TakesAt P.MixPort G.Gate (port.old, gate.old)
-        (starts_taking stream.old ring.now (P.view port.old).marks.cursor taken) (port.new, gate.new)
+        (starts_taking stream.old ring.now (P.view port.old).marks.cursor taken)
+        (port.new, gate.new)
         (stream.new, result) }
     ensures near { (P.view port.old).marks.cursor.frame ≤ end_frame stream.old.identity.geometry }
 {
@@ -172,7 +175,8 @@ fn write_prepared<P: MixPort, G: Gate>(
     ensures takes { TakesAt P.MixPort G.Gate (port.old, gate.old)
         (fills stream.old ring.old samples.now (P.view port.old).marks.cursor frames)
         (port.new, gate.new) (stream.new, result) }
-    ensures ring { ring.new ≡ ring_with stream.old ring.old samples.now (taken_of stream.old frames) }
+    ensures ring { ring.new
+        ≡ ring_with stream.old ring.old samples.now (taken_of stream.old frames) }
     ensures sound { IsSound stream.new ring.new }
     ensures count { IfOk result (λ n. n ≤ 16384) }
     ensures keeps { Keeps P.MixPort G.Gate (port.old, gate.old) (port.new, gate.new)

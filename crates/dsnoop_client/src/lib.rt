@@ -3,11 +3,11 @@
 
 mod frames;
 mod parts;
-mod stream;
 mod positions;
 mod read;
 mod reader;
+mod stream;
 mod usable;
 
-pub use stream::CaptureStream;
 pub use reader::Reader;
+pub use stream::CaptureStream;

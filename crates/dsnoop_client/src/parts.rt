@@ -188,7 +188,10 @@ pub(crate) fn after_sync(stream: CaptureStream, call: Call, load: Option<Positio
 }
 
 /// The frames available after a sync that went well.
-pub(crate) fn with_avail(stream: &CaptureStream, answer: Result<(), PcmError>) -> Result<u64, PcmError>
+pub(crate) fn with_avail(
+    stream: &CaptureStream,
+    answer: Result<(), PcmError>,
+) -> Result<u64, PcmError>
     requires { IsReadyIf stream.now answer }
     ensures { with_avail (stream.now, answer) ≡ (stream.now, result) }
 {
@@ -250,7 +253,12 @@ fn read_to(stream: CaptureStream, loaded: u64, ended: Got) -> Answered<u64>
 }
 
 /// A read of `frames` frames after its load of the position, by how many it loaded, and how the last load ended.
-pub(crate) fn read_after(stream: CaptureStream, frames: u64, loaded: u64, ended: Got) -> Answered<u64>
+pub(crate) fn read_after(
+    stream: CaptureStream,
+    frames: u64,
+    loaded: u64,
+    ended: Got,
+) -> Answered<u64>
     requires ready { IsReady stream }
     requires fits { stream.next + loaded < 2 ^ 64 }
     ensures { result ≡ read_after stream frames loaded ended }

@@ -11,8 +11,8 @@ ghost use Rattle.dsnoop_client.specs.Port.{Keeps};
 ghost use Rattle.dsnoop_client.specs.View.{CanUse, IsGoing, IsReadyIf, IsSound, IsStart, IsSync, is_running};
 
 use crate::parts::{after_start, after_sync, with_avail};
-use crate::stream::CaptureStream;
 use crate::reader::Reader;
+use crate::stream::CaptureStream;
 use mix_core::{Gate, Position};
 use pcm_states::{Call, State};
 use pcm_stream::Direction;
@@ -97,9 +97,12 @@ impl Reader {
     ) -> Result<(), PcmError>
         requires { CanUse self.old (P.view port.old) }
         ensures takes { TakesAtSnoop P.SnoopPort G.Gate (port.old, gate.old)
-            (admitted self.old call.Start (starts self.old call.Start)) (port.new, gate.new) (self.new, result) }
-        ensures refused { (e : PcmError) → refusal_of Direction.Capture self.old.status call.Start ≡ Some e
-            → (result ≡ Err e) × (self.new ≡ self.old) × (port.new ≡ port.old) × (gate.new ≡ gate.old) }
+            (admitted self.old call.Start (starts self.old call.Start))
+            (port.new, gate.new) (self.new, result) }
+        ensures refused { (e : PcmError)
+            → refusal_of Direction.Capture self.old.status call.Start ≡ Some e
+            → (result ≡ Err e) × (self.new ≡ self.old) × (port.new ≡ port.old)
+            × (gate.new ≡ gate.old) }
         ensures keeps { Keeps P.SnoopPort G.Gate (port.old, gate.old) (port.new, gate.new)
             self.old self.new result }
         ensures causes { refusal_of Direction.Capture self.old.status call.Start ≡ None
@@ -122,13 +125,17 @@ impl Reader {
     ) -> Result<(), PcmError>
         requires { CanUse self.old (P.view port.old) }
         ensures takes { TakesAtSnoop P.SnoopPort G.Gate (port.old, gate.old)
-            (admitted self.old call.Sync (sync_course self.old)) (port.new, gate.new) (self.new, result) }
-        ensures refused { (e : PcmError) → refusal_of Direction.Capture self.old.status call.Sync ≡ Some e
-            → (result ≡ Err e) × (self.new ≡ self.old) × (port.new ≡ port.old) × (gate.new ≡ gate.old) }
+            (admitted self.old call.Sync (sync_course self.old)) (port.new, gate.new)
+            (self.new, result) }
+        ensures refused { (e : PcmError)
+            → refusal_of Direction.Capture self.old.status call.Sync ≡ Some e
+            → (result ≡ Err e) × (self.new ≡ self.old) × (port.new ≡ port.old)
+            × (gate.new ≡ gate.old) }
         ensures keeps { Keeps P.SnoopPort G.Gate (port.old, gate.old) (port.new, gate.new)
             self.old self.new result }
         ensures causes { refusal_of Direction.Capture self.old.status call.Sync ≡ None
-            → is_running self.old.status.state ≡ true → Explains P.SnoopPort port.old port.new self.old self.new result }
+            → is_running self.old.status.state ≡ true
+            → Explains P.SnoopPort port.old port.new self.old self.new result }
     {
         self.stream.status.admit(Direction::Capture, Call::Sync)?;
         if !self.stream.is_running() {
@@ -146,13 +153,17 @@ impl Reader {
     ) -> Result<u64, PcmError>
         requires { CanUse self.old (P.view port.old) }
         ensures takes { TakesAtSnoop P.SnoopPort G.Gate (port.old, gate.old)
-            (admitted self.old call.Sync (avail_course self.old)) (port.new, gate.new) (self.new, result) }
-        ensures refused { (e : PcmError) → refusal_of Direction.Capture self.old.status call.Sync ≡ Some e
-            → (result ≡ Err e) × (self.new ≡ self.old) × (port.new ≡ port.old) × (gate.new ≡ gate.old) }
+            (admitted self.old call.Sync (avail_course self.old))
+            (port.new, gate.new) (self.new, result) }
+        ensures refused { (e : PcmError)
+            → refusal_of Direction.Capture self.old.status call.Sync ≡ Some e
+            → (result ≡ Err e) × (self.new ≡ self.old) × (port.new ≡ port.old)
+            × (gate.new ≡ gate.old) }
         ensures keeps { Keeps P.SnoopPort G.Gate (port.old, gate.old) (port.new, gate.new)
             self.old self.new result }
         ensures causes { refusal_of Direction.Capture self.old.status call.Sync ≡ None
-            → is_running self.old.status.state ≡ true → Explains P.SnoopPort port.old port.new self.old self.new result }
+            → is_running self.old.status.state ≡ true
+            → Explains P.SnoopPort port.old port.new self.old self.new result }
     {
         self.stream.status.admit(Direction::Capture, Call::Sync)?;
         if !self.stream.is_running() {

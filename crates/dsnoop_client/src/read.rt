@@ -13,9 +13,9 @@ ghost use Rattle.dsnoop_client.specs.View.{CanRead, CanUse, HasRoom, IsGoing, Is
 
 use crate::frames::load_frames;
 use crate::parts::{read_after, waits};
-use crate::stream::CaptureStream;
 use crate::positions::{start_call, sync_call};
 use crate::reader::Reader;
+use crate::stream::CaptureStream;
 use mix_core::Gate;
 use pcm_states::{Call, State};
 use pcm_stream::Direction;
@@ -37,7 +37,8 @@ fn transfer<P: SnoopPort, G: Gate>(
     requires fits { frames * length stream.old.setup.bindings ≤ length out.old }
     ensures takes { TakesAtSnoop P.SnoopPort G.Gate (port.old, gate.old)
         (transfers stream.old frames) (port.new, gate.new) (stream.new, result) }
-    ensures reads { Reads P.SnoopPort port.old port.new stream.old stream.new out.old out.new result }
+    ensures reads { Reads P.SnoopPort port.old port.new stream.old stream.new
+        out.old out.new result }
     ensures few { IfOk result (λ n. n ≤ frames) }
 {
     let count = stream.taken(frames);
@@ -65,7 +66,8 @@ fn read_running<P: SnoopPort, G: Gate>(
     requires fits { frames * length stream.old.setup.bindings ≤ length out.old }
     ensures takes { TakesAtSnoop P.SnoopPort G.Gate (port.old, gate.old)
         (reads_on stream.old frames) (port.new, gate.new) (stream.new, result) }
-    ensures reads { Reads P.SnoopPort port.old port.new stream.old stream.new out.old out.new result }
+    ensures reads { Reads P.SnoopPort port.old port.new stream.old stream.new
+        out.old out.new result }
     ensures few { IfOk result (λ n. n ≤ frames) }
 {
     if let Err(error) = sync_call(stream, port, gate, Call::Transfer) {
@@ -91,7 +93,8 @@ fn read_starting<P: SnoopPort, G: Gate>(
     requires fits { frames * length stream.old.setup.bindings ≤ length out.old }
     ensures takes { TakesAtSnoop P.SnoopPort G.Gate (port.old, gate.old)
         (reads_first stream.old frames) (port.new, gate.new) (stream.new, result) }
-    ensures reads { Reads P.SnoopPort port.old port.new stream.old stream.new out.old out.new result }
+    ensures reads { Reads P.SnoopPort port.old port.new stream.old stream.new
+        out.old out.new result }
     ensures few { IfOk result (λ n. n ≤ frames) }
 {
     if let Err(error) = start_call(stream, port, gate, Call::Transfer) {
@@ -122,15 +125,19 @@ fn read_admitted<P: SnoopPort, G: Gate>(
     requires port { CanUse stream.old (P.view port.old) }
     requires room { HasRoom stream.old frame.old }
     ensures takes { TakesAtSnoop P.SnoopPort G.Gate (port.old, gate.old)
-        (read_course stream.old (frames_in stream.old out.old)) (port.new, gate.new) (stream.new, result) }
-    ensures reads { Reads P.SnoopPort port.old port.new stream.old stream.new out.old out.new result }
+        (read_course stream.old (frames_in stream.old out.old)) (port.new, gate.new)
+        (stream.new, result) }
+    ensures reads { Reads P.SnoopPort port.old port.new stream.old stream.new
+        out.old out.new result }
     ensures keeps { Keeps P.SnoopPort G.Gate (port.old, gate.old) (port.new, gate.new)
         stream.old stream.new result }
     ensures waits { (LoadsFor stream.old (frames_in stream.old out.old) → ⊥)
         → (result ≡ waits (frames_in stream.old out.old)) × (stream.new ≡ stream.old)
-        × (port.new ≡ port.old) × (gate.new ≡ gate.old) × (out.new ≡ out.old) × (frame.new ≡ frame.old) }
+        × (port.new ≡ port.old) × (gate.new ≡ gate.old) × (out.new ≡ out.old)
+        × (frame.new ≡ frame.old) }
     ensures causes { LoadsFor stream.old (frames_in stream.old out.old)
-        → ExplainsRead P.SnoopPort port.old port.new stream.old stream.new (frames_in stream.old out.old) result }
+        → ExplainsRead P.SnoopPort port.old port.new stream.old stream.new
+        (frames_in stream.old out.old) result }
     ensures asks { LoadsFor stream.old (frames_in stream.old out.old)
         → Asks G.Gate gate.old gate.new stream.new (frames_in stream.old out.old) result }
     ensures few { IfOk result (λ n. n ≤ frames_in stream.old out.old) }
@@ -183,10 +190,12 @@ impl Reader {
         ensures takes { TakesAtSnoop P.SnoopPort G.Gate (port.old, gate.old)
             (admitted self.old call.Transfer (read_course self.old (frames_in self.old out.old)))
             (port.new, gate.new) (self.new, result) }
-        ensures refused { (e : PcmError) → refusal_of Direction.Capture self.old.status call.Transfer ≡ Some e
+        ensures refused { (e : PcmError)
+            → refusal_of Direction.Capture self.old.status call.Transfer ≡ Some e
             → (result ≡ Err e) × (self.new ≡ self.old)
             × (port.new ≡ port.old) × (gate.new ≡ gate.old) × (out.new ≡ out.old) }
-        ensures reads { Reads P.SnoopPort port.old port.new self.old self.new out.old out.new result }
+        ensures reads { Reads P.SnoopPort port.old port.new self.old self.new
+            out.old out.new result }
         ensures keeps { Keeps P.SnoopPort G.Gate (port.old, gate.old) (port.new, gate.new)
             self.old self.new result }
         ensures waits { refusal_of Direction.Capture self.old.status call.Transfer ≡ None
@@ -195,12 +204,15 @@ impl Reader {
             × (port.new ≡ port.old) × (gate.new ≡ gate.old) × (out.new ≡ out.old) }
         ensures causes { refusal_of Direction.Capture self.old.status call.Transfer ≡ None
             → LoadsFor self.old (frames_in self.old out.old)
-            → ExplainsRead P.SnoopPort port.old port.new self.old self.new (frames_in self.old out.old) result }
+            → ExplainsRead P.SnoopPort port.old port.new self.old self.new
+            (frames_in self.old out.old) result }
         ensures asks { refusal_of Direction.Capture self.old.status call.Transfer ≡ None
             → LoadsFor self.old (frames_in self.old out.old)
             → Asks G.Gate gate.old gate.new self.new (frames_in self.old out.old) result }
     {
-        self.stream.status.admit(Direction::Capture, Call::Transfer)?;
+        self.stream
+            .status
+            .admit(Direction::Capture, Call::Transfer)?;
         let frame = self.frame.as_mut_slice();
         let answer = read_admitted(&mut self.stream, frame, port, gate, out);
         few_frames(answer)

@@ -116,14 +116,18 @@ impl Reader {
         bindings: Bindings,
     ) -> Result<(), PcmError>
         requires { CanRunWith self.old.geometry config bindings }
-        ensures refused { (e : PcmError) → refusal_of Direction.Capture self.old.status call.HwParams ≡ Some e
+        ensures refused { (e : PcmError)
+            → refusal_of Direction.Capture self.old.status call.HwParams ≡ Some e
             → result ≡ Err e }
         ensures ok { OnOk result (self.new ≡ configured_with self.old config bindings) }
         ensures err { OnErr result (self.new ≡ self.old) }
         ensures only { IfErr result
-            (λ e. (refusal_of Direction.Capture self.old.status call.HwParams ≡ Some e) ⊎ (e ≡ PcmError.Memory)) }
+            (λ e. (refusal_of Direction.Capture self.old.status call.HwParams ≡ Some e)
+            ⊎ (e ≡ PcmError.Memory)) }
     {
-        self.stream.status.admit(Direction::Capture, Call::HwParams)?;
+        self.stream
+            .status
+            .admit(Direction::Capture, Call::HwParams)?;
         let frame = vec![in alloc; 0i16; self.stream.geometry.channels as usize]?;
         self.frame = frame;
         self.stream = self.stream.configured_with(config, bindings);
@@ -132,7 +136,8 @@ impl Reader {
 
     /// Gives the configuration up (`snd_pcm_hw_free`): OPEN, from SETUP or PREPARED. A refused call changes nothing.
     pub fn hw_free(&mut self) -> Result<(), PcmError>
-        ensures refused { (e : PcmError) → refusal_of Direction.Capture self.old.status call.HwFree ≡ Some e
+        ensures refused { (e : PcmError)
+            → refusal_of Direction.Capture self.old.status call.HwFree ≡ Some e
             → (result ≡ Err e) × (self.new ≡ self.old) }
         ensures freed { refusal_of Direction.Capture self.old.status call.HwFree ≡ None
             → (result ≡ Ok tt) × (self.new ≡ freed self.old) }
@@ -146,14 +151,17 @@ impl Reader {
     /// Sets the software parameters (`snd_pcm_sw_params`), in every state but OPEN and DISCONNECTED. `Invalid` comes
     /// exactly where they have a defect, with the first one. A refused call changes nothing.
     pub fn sw_params(&mut self, params: SwParams) -> Result<(), PcmError>
-        ensures refused { (e : PcmError) → refusal_of Direction.Capture self.old.status call.SwParams ≡ Some e
+        ensures refused { (e : PcmError)
+            → refusal_of Direction.Capture self.old.status call.SwParams ≡ Some e
             → (result ≡ Err e) × (self.new ≡ self.old) }
         ensures checked { refusal_of Direction.Capture self.old.status call.SwParams ≡ None
             → (b : ℕ) × IsBoundary self.old.setup.config.buffer_size b × Checks result params b }
         ensures ok { OnOk result (self.new ≡ with_params self.old params) }
         ensures err { OnErr result (self.new ≡ self.old) }
     {
-        self.stream.status.admit(Direction::Capture, Call::SwParams)?;
+        self.stream
+            .status
+            .admit(Direction::Capture, Call::SwParams)?;
         self.stream.setup.set_params(params)
     }
 
@@ -167,7 +175,8 @@ impl Reader {
 
     /// Prepares the stream (`snd_pcm_prepare`): PREPARED, from SETUP, PREPARED or XRUN. A refused call changes nothing.
     pub fn prepare(&mut self) -> Result<(), PcmError>
-        ensures refused { (e : PcmError) → refusal_of Direction.Capture self.old.status call.Prepare ≡ Some e
+        ensures refused { (e : PcmError)
+            → refusal_of Direction.Capture self.old.status call.Prepare ≡ Some e
             → (result ≡ Err e) × (self.new ≡ self.old) }
         ensures prepared { refusal_of Direction.Capture self.old.status call.Prepare ≡ None
             → (result ≡ Ok tt) × (self.new ≡ in_state self.old State.Prepared) }
@@ -180,7 +189,8 @@ impl Reader {
     /// Stops the stream (`snd_pcm_drop`): SETUP, from every state but OPEN and DISCONNECTED. A refused call changes
     /// nothing.
     pub fn drop_pending(&mut self) -> Result<(), PcmError>
-        ensures refused { (e : PcmError) → refusal_of Direction.Capture self.old.status call.Drop ≡ Some e
+        ensures refused { (e : PcmError)
+            → refusal_of Direction.Capture self.old.status call.Drop ≡ Some e
             → (result ≡ Err e) × (self.new ≡ self.old) }
         ensures dropped { refusal_of Direction.Capture self.old.status call.Drop ≡ None
             → (result ≡ Ok tt) × (self.new ≡ in_state self.old State.Setup) }

@@ -77,7 +77,8 @@ fn call_line<P: MixPort, G: Gate, L: Ledger>(
     requires few { IsFew asked }
     requires can { CanCall client.old.stream.status.stopped asked }
     requires ready { IsReady P.MixPort wav.now port.old client.old }
-    ensures answered { HasAnswered P.MixPort left_of (by_gate_of G.stops) (port.old, gate.old) (port.new, gate.new)
+    ensures answered { HasAnswered P.MixPort left_of (by_gate_of G.stops)
+        (port.old, gate.old) (port.new, gate.new)
         wav.now client.old client.new asked result }
     ensures same_gate { IsSameGate gate.old gate.new }
 {
@@ -95,7 +96,8 @@ fn answer_line<P: MixPort, G: Gate, L: Ledger>(
 ) -> Answer
     requires few { IsFew asked }
     requires ready { IsReady P.MixPort wav.now port.old client.old }
-    ensures answered { HasAnswered P.MixPort left_of (by_gate_of G.stops) (port.old, gate.old) (port.new, gate.new)
+    ensures answered { HasAnswered P.MixPort left_of (by_gate_of G.stops)
+        (port.old, gate.old) (port.new, gate.new)
         wav.now client.old client.new asked result }
     ensures same_gate { IsSameGate gate.old gate.new }
 {
@@ -114,8 +116,10 @@ impl ClientActor {
     /// Takes the room that the lines of a phase want, so that `run_lines` takes no memory. It refuses, with `Memory`, only
     /// where no memory is left; then the rows and segments are as they were.
     pub fn take_room(&mut self, lines: &[Line]) -> Result<(), PcmError>
-        ensures rows { OnOk result (HasSpace (line_count (Actor.Client self.old.number) lines.now) self.new.rows) }
-        ensures ended { OnOk result (HasSpace (line_count (Actor.Client self.old.number) lines.now) self.new.ended) }
+        ensures rows { OnOk result
+            (HasSpace (line_count (Actor.Client self.old.number) lines.now) self.new.rows) }
+        ensures ended { OnOk result
+            (HasSpace (line_count (Actor.Client self.old.number) lines.now) self.new.ended) }
         ensures same_rows { self.new.rows.items ≡ self.old.rows.items }
         ensures same_ended { self.new.ended.items ≡ self.old.ended.items }
         ensures same { (self.new.number ≡ self.old.number) × (self.new.client ≡ self.old.client)
@@ -141,7 +145,8 @@ impl ClientActor {
         requires ready { IsReady P.MixPort wav.now port.old self.old.client }
         requires rows_room { HasSpace 1 self.old.rows }
         requires ended_room { HasSpace 1 self.old.ended }
-        ensures line { ClientLine P.MixPort left_of (by_gate_of G.stops) (port.old, gate.old) (port.new, gate.new)
+        ensures line { ClientLine P.MixPort left_of (by_gate_of G.stops)
+            (port.old, gate.old) (port.new, gate.new)
             phase wav.now self.old self.new asked }
         ensures ready { IsReady P.MixPort wav.now port.new self.new.client }
         ensures same_gate { IsSameGate gate.old gate.new }
@@ -176,17 +181,22 @@ impl ClientActor {
     )
         requires few { IsFew line.now.op }
         requires ready { IsReady P.MixPort wav.now port.old self.old.client }
-        requires rows_room { is_client self.old.number line.now.actor ≡ true → HasSpace 1 self.old.rows }
-        requires ended_room { is_client self.old.number line.now.actor ≡ true → HasSpace 1 self.old.ended }
+        requires rows_room { is_client self.old.number line.now.actor ≡ true
+            → HasSpace 1 self.old.rows }
+        requires ended_room { is_client self.old.number line.now.actor ≡ true
+            → HasSpace 1 self.old.ended }
         ensures own { is_client self.old.number line.now.actor ≡ true
-            → ClientLine P.MixPort left_of (by_gate_of G.stops) (port.old, gate.old) (port.new, gate.new)
+            → ClientLine P.MixPort left_of (by_gate_of G.stops) (port.old, gate.old)
+            (port.new, gate.new)
             phase wav.now self.old self.new line.now.op }
         ensures others { is_client self.old.number line.now.actor ≡ false
             → (self.new ≡ self.old) × (port.new ≡ port.old) × (gate.new ≡ gate.old) }
         ensures ready { IsReady P.MixPort wav.now port.new self.new.client }
         ensures same_gate { IsSameGate gate.old gate.new }
-        ensures rows_room { is_client self.old.number line.now.actor ≡ true → GrowsBy 1 self.old.rows self.new.rows }
-        ensures ended_room { is_client self.old.number line.now.actor ≡ true → GrowsBy 1 self.old.ended self.new.ended }
+        ensures rows_room { is_client self.old.number line.now.actor ≡ true
+            → GrowsBy 1 self.old.rows self.new.rows }
+        ensures ended_room { is_client self.old.number line.now.actor ≡ true
+            → GrowsBy 1 self.old.ended self.new.ended }
     {
         if is_of(line, Actor::Client(self.number)) {
             self.do_line(port, gate, wav, phase, line.op);
@@ -204,9 +214,12 @@ impl ClientActor {
     )
         requires few { All (λ (line : Line). IsFew line.op) lines.now }
         requires ready { IsReady P.MixPort wav.now port.old self.old.client }
-        requires rows_room { HasSpace (line_count (Actor.Client self.old.number) lines.now) self.old.rows }
-        requires ended_room { HasSpace (line_count (Actor.Client self.old.number) lines.now) self.old.ended }
-        ensures part { ClientPart P.MixPort left_of (by_gate_of G.stops) (port.old, gate.old) (port.new, gate.new)
+        requires rows_room { HasSpace (line_count (Actor.Client self.old.number) lines.now)
+            self.old.rows }
+        requires ended_room { HasSpace (line_count (Actor.Client self.old.number) lines.now)
+            self.old.ended }
+        ensures part { ClientPart P.MixPort left_of (by_gate_of G.stops)
+            (port.old, gate.old) (port.new, gate.new)
             phase wav.now self.old self.new (ops_by (is_client self.old.number) lines.now) }
         ensures ready { IsReady P.MixPort wav.now port.new self.new.client }
         ensures same_gate { IsSameGate gate.old gate.new }
@@ -232,10 +245,13 @@ impl ClientActor {
         requires some { 0 < blank.parts }
         requires few { All (λ (line : Line). IsFew line.op) lines.now }
         requires ready { IsReady P.MixPort wav.now port.old self.old.client }
-        requires rows_room { HasSpace (line_count (Actor.Client self.old.number) lines.now) self.old.rows }
-        requires ended_room { HasSpace (line_count (Actor.Client self.old.number) lines.now) self.old.ended }
+        requires rows_room { HasSpace (line_count (Actor.Client self.old.number) lines.now)
+            self.old.rows }
+        requires ended_room { HasSpace (line_count (Actor.Client self.old.number) lines.now)
+            self.old.ended }
         ensures part { ClientPart P.MixPort left_in stops_in
-            (port.old, (self.old.left, G.stops gate.old)) (port.new, (self.new.left, G.stops gate.new))
+            (port.old, (self.old.left, G.stops gate.old))
+            (port.new, (self.new.left, G.stops gate.new))
             phase wav.now self.old self.new (ops_by (is_client self.old.number) lines.now) }
         ensures ready { IsReady P.MixPort wav.now port.new self.new.client }
     {
@@ -263,10 +279,13 @@ impl ClientActor {
     )
         requires few { All (λ (line : Line). IsFew line.op) lines.now }
         requires ready { IsReady P.MixPort wav.now port.old self.old.client }
-        requires rows_room { HasSpace (line_count (Actor.Client self.old.number) lines.now) self.old.rows }
-        requires ended_room { HasSpace (line_count (Actor.Client self.old.number) lines.now) self.old.ended }
+        requires rows_room { HasSpace (line_count (Actor.Client self.old.number) lines.now)
+            self.old.rows }
+        requires ended_room { HasSpace (line_count (Actor.Client self.old.number) lines.now)
+            self.old.ended }
         ensures part { ClientPart P.MixPort left_in stops_in
-            (port.old, (self.old.left, G.stops gate.old)) (port.new, (self.new.left, G.stops gate.new))
+            (port.old, (self.old.left, G.stops gate.old))
+            (port.new, (self.new.left, G.stops gate.new))
             phase wav.now self.old self.new (ops_by (is_client self.old.number) lines.now) }
         ensures ready { IsReady P.MixPort wav.now port.new self.new.client }
     {

@@ -17,7 +17,8 @@ fn next_frames(wav: &Wav, fed: u64, frames: u32) -> &[i16]
     ensures some { 1 ≤ wav.now.channels }
     ensures room { frames_of wav.now < 2 ^ 63 }
     ensures frames { result.now
-        ≡ take (min frames (frames_of wav.now - fed) * wav.now.channels) (drop (fed * wav.now.channels) wav.now.samples) }
+        ≡ take (min frames (frames_of wav.now - fed) * wav.now.channels)
+        (drop (fed * wav.now.channels) wav.now.samples) }
 {
     let samples = wav.samples.as_slice();
     let channels = wav.channels as usize;

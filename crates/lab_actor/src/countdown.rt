@@ -67,7 +67,8 @@ impl<'g, G: Gate, L: Ledger> Countdown<'g, G, L> {
     /// An ask that a `die` counts.
     fn pass_counted(&mut self, step: StepKind) -> Pass
         requires { kind_count step ≡ 1 }
-        ensures answer { all_stops G.stops self.new ≡ stops_after result (all_stops G.stops self.old) }
+        ensures answer { all_stops G.stops self.new
+            ≡ stops_after result (all_stops G.stops self.old) }
         ensures asked { CountsAsks G.stops self.old self.new (step ∷ []) result }
     {
         if !count_down(&mut self.left) {

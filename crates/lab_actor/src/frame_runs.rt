@@ -77,7 +77,8 @@ impl FrameRuns {
     pub fn push(&mut self, first: u64, count: u64)
         requires room { 1 ≤ self.old.room }
         requires fits { first + count < 2 ^ 64 }
-        ensures frames { frames_in self.new.runs ≡ frames_in self.old.runs ++ range_with_len first count }
+        ensures frames { frames_in self.new.runs ≡ frames_in self.old.runs
+            ++ range_with_len first count }
         ensures room { self.old.room ≤ self.new.room + 1 }
     {
         if count == 0 {

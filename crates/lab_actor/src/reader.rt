@@ -58,7 +58,8 @@ fn call_line<P: SnoopPort, G: Gate, L: Ledger>(
     requires few { IsFewRead asked }
     requires can { CanCall reader.old.status.stopped asked }
     requires usable { CanUse reader.old (P.view port.old) }
-    ensures answered { HasAnswered P.SnoopPort left_of (by_gate_of G.stops) (port.old, gate.old) (port.new, gate.new)
+    ensures answered { HasAnswered P.SnoopPort left_of (by_gate_of G.stops)
+        (port.old, gate.old) (port.new, gate.new)
         reader.old reader.new samples.old.items samples.new.items
         asked (spare_frames reader.old samples.old) result }
     ensures same_gate { IsSameGate gate.old gate.new }
@@ -78,7 +79,8 @@ fn answer_line<P: SnoopPort, G: Gate, L: Ledger>(
 ) -> Answer
     requires few { IsFewRead asked }
     requires usable { CanUse reader.old (P.view port.old) }
-    ensures answered { HasAnswered P.SnoopPort left_of (by_gate_of G.stops) (port.old, gate.old) (port.new, gate.new)
+    ensures answered { HasAnswered P.SnoopPort left_of (by_gate_of G.stops)
+        (port.old, gate.old) (port.new, gate.new)
         reader.old reader.new samples.old.items samples.new.items
         asked (spare_frames reader.old samples.old) result }
     ensures same_gate { IsSameGate gate.old gate.new }
@@ -135,7 +137,8 @@ impl ReaderActor {
         requires few { IsFewRead asked }
         requires usable { CanUse self.old.reader (P.view port.old) }
         requires room { HasRowsFor self.old 1 }
-        ensures line { ReaderLine P.SnoopPort left_of (by_gate_of G.stops) (port.old, gate.old) (port.new, gate.new)
+        ensures line { ReaderLine P.SnoopPort left_of (by_gate_of G.stops)
+            (port.old, gate.old) (port.new, gate.new)
             phase self.old self.new asked }
         ensures usable { CanUse self.new.reader (P.view port.new) }
         ensures same_gate { IsSameGate gate.old gate.new }
@@ -168,13 +171,15 @@ impl ReaderActor {
         requires usable { CanUse self.old.reader (P.view port.old) }
         requires room { is_reader self.old.number line.now.actor ≡ true → HasRowsFor self.old 1 }
         ensures own { is_reader self.old.number line.now.actor ≡ true
-            → ReaderLine P.SnoopPort left_of (by_gate_of G.stops) (port.old, gate.old) (port.new, gate.new)
+            → ReaderLine P.SnoopPort left_of (by_gate_of G.stops)
+            (port.old, gate.old) (port.new, gate.new)
             phase self.old self.new line.now.op }
         ensures others { is_reader self.old.number line.now.actor ≡ false
             → (self.new ≡ self.old) × (port.new ≡ port.old) × (gate.new ≡ gate.old) }
         ensures usable { CanUse self.new.reader (P.view port.new) }
         ensures same_gate { IsSameGate gate.old gate.new }
-        ensures room { is_reader self.old.number line.now.actor ≡ true → TakesRow self.old self.new }
+        ensures room { is_reader self.old.number line.now.actor ≡ true
+            → TakesRow self.old self.new }
         ensures got { is_reader self.old.number line.now.actor ≡ true
             → HasGot (P.view port.old) (P.view port.new) self.old self.new (line.now.op ∷ []) }
     {
@@ -194,7 +199,8 @@ impl ReaderActor {
         requires few { All (λ (line : Line). IsFewRead line.op) lines.now }
         requires usable { CanUse self.old.reader (P.view port.old) }
         requires room { HasRoom (P.view port.old).geometry.frames self.old lines.now }
-        ensures part { ReaderPart P.SnoopPort left_of (by_gate_of G.stops) (port.old, gate.old) (port.new, gate.new)
+        ensures part { ReaderPart P.SnoopPort left_of (by_gate_of G.stops)
+            (port.old, gate.old) (port.new, gate.new)
             phase (played_in lines.now) self.old self.new
             (ops_by (is_reader self.old.number) lines.now) }
         ensures usable { CanUse self.new.reader (P.view port.new) }
@@ -224,7 +230,8 @@ impl ReaderActor {
         requires usable { CanUse self.old.reader (P.view port.old) }
         requires room { HasRoom (P.view port.old).geometry.frames self.old lines.now }
         ensures part { ReaderPart P.SnoopPort left_in stops_in
-            (port.old, (self.old.left, G.stops gate.old)) (port.new, (self.new.left, G.stops gate.new))
+            (port.old, (self.old.left, G.stops gate.old))
+            (port.new, (self.new.left, G.stops gate.new))
             phase (played_in lines.now) self.old self.new
             (ops_by (is_reader self.old.number) lines.now) }
         ensures usable { CanUse self.new.reader (P.view port.new) }
@@ -255,7 +262,8 @@ impl ReaderActor {
         requires usable { CanUse self.old.reader (P.view port.old) }
         requires room { HasRoom (P.view port.old).geometry.frames self.old lines.now }
         ensures part { ReaderPart P.SnoopPort left_in stops_in
-            (port.old, (self.old.left, G.stops gate.old)) (port.new, (self.new.left, G.stops gate.new))
+            (port.old, (self.old.left, G.stops gate.old))
+            (port.new, (self.new.left, G.stops gate.new))
             phase (played_in lines.now) self.old self.new
             (ops_by (is_reader self.old.number) lines.now) }
         ensures usable { CanUse self.new.reader (P.view port.new) }

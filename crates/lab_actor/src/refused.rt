@@ -38,7 +38,8 @@ fn refuse_line(rows: &mut Vec<Row>, actor: Actor, phase: u32, line: &Line)
 /// The rows are the actor's part of a run: `part` says so.
 pub fn refuse_lines(rows: &mut Vec<Row>, actor: Actor, phase: u32, lines: &[Line])
     requires { HasSpace (line_count actor lines.now) rows.old }
-    ensures rows { rows.new.items ≡ rows.old.items ++ refused_rows phase actor (ops_by (is_actor actor) lines.now) }
+    ensures rows { rows.new.items ≡ rows.old.items
+        ++ refused_rows phase actor (ops_by (is_actor actor) lines.now) }
     ensures part { (number : ℕ) → AreRefused phase number (ops_by (is_actor actor) lines.now) }
 {
     lines_without_calls();

@@ -31,7 +31,8 @@ fn sample_in(wav: &Wav, frame: u64, channel: u8) -> i16
 /// Appends the samples of a file's frame, one for each channel of the card, for which there is room.
 fn push_frame(captured: &mut Vec<i16>, wav: &Wav, frame: u64, channels: u8)
     requires { vec_len captured.old + channels ≤ vec_capacity captured.old }
-    ensures items { captured.new.items ≡ captured.old.items ++ captured_frame (Some wav.now) channels frame }
+    ensures items { captured.new.items ≡ captured.old.items
+        ++ captured_frame (Some wav.now) channels frame }
     ensures len { vec_len captured.new ≡ vec_len captured.old + channels }
     ensures room { vec_capacity captured.old ≤ vec_capacity captured.new }
 {
@@ -76,7 +77,8 @@ pub(crate) fn capture_frames(
 )
     requires room { frames * channels ≤ vec_capacity captured.old }
     requires fits { from + frames < 2 ^ 64 }
-    ensures items { captured.new.items ≡ captured_frames (option_copied capture.entry) channels from frames }
+    ensures items { captured.new.items
+        ≡ captured_frames (option_copied capture.entry) channels from frames }
     ensures len { vec_len captured.new ≡ frames * channels }
     ensures room { vec_capacity captured.old ≤ vec_capacity captured.new }
 {

@@ -102,7 +102,8 @@ impl<'a> CardActor<'a> {
     pub fn take_room(&mut self, lines: &[Line]) -> Result<(), PcmError>
         requires { FitsRing self.old (ops_by is_of_card lines.now) }
         ensures room { OnOk result
-            (HasRoom self.new (length (ops_by is_of_card lines.now)) (frames_by (ops_by is_of_card lines.now))) }
+            (HasRoom self.new (length (ops_by is_of_card lines.now))
+            (frames_by (ops_by is_of_card lines.now))) }
         ensures card { self.new.card ≡ self.old.card }
         ensures played { self.new.played.items ≡ self.old.played.items }
         ensures rows { self.new.rows.items ≡ self.old.rows.items }
@@ -120,7 +121,8 @@ impl<'a> CardActor<'a> {
 
     // Plays a few frames, which are before the rings' end, and for the captured samples of which there is room.
     fn run_piece(&mut self, capture: Option<&Wav>, frames: usize)
-        requires fits { frame_of_card self.old.card + frames ≤ end_frame (geometry_of_card self.old.card) }
+        requires fits { frame_of_card self.old.card + frames
+            ≤ end_frame (geometry_of_card self.old.card) }
         requires room { HasRoom self.old 0 frames }
         requires few { frames ≤ period_of self.old.card }
         ensures did { CardDid (option_copied capture.entry) self.old self.new frames
@@ -137,7 +139,8 @@ impl<'a> CardActor<'a> {
         requires room { HasRoom self 0 asked.1 }
         requires few { asked.1 ≤ period_of self.card }
         ensures did { CardDid (option_copied asked.entry.0) self.entry result.0 asked.entry.1
-            (positions_of (period_of self.entry.card) (frame_of_card self.entry.card) asked.entry.1) false }
+            (positions_of (period_of self.entry.card) (frame_of_card self.entry.card) asked.entry.1)
+            false }
         ensures room { KeepsRoom self.entry result.0 0 asked.entry.1 }
         ensures rows { result.0.rows ≡ self.entry.rows }
     {
@@ -167,7 +170,8 @@ impl<'a> CardActor<'a> {
 
     // Plays so many frames, period by period.
     fn play(&mut self, capture: Option<&Wav>, frames: u32)
-        requires fits { frame_of_card self.old.card + frames ≤ end_frame (geometry_of_card self.old.card) }
+        requires fits { frame_of_card self.old.card + frames
+            ≤ end_frame (geometry_of_card self.old.card) }
         requires room { HasRoom self.old 0 frames }
         ensures did { CardDid (option_copied capture.entry) self.old self.new frames
             (positions_of (period_of self.old.card) (frame_of_card self.old.card) frames) false }
@@ -186,10 +190,13 @@ impl<'a> CardActor<'a> {
 
     // Does what the card is asked for. What isn't the card's is nothing.
     fn do_op(&mut self, capture: Option<&Wav>, asked: Op)
-        requires fits { frame_of_card self.old.card + played_by asked ≤ end_frame (geometry_of_card self.old.card) }
+        requires fits { frame_of_card self.old.card + played_by asked
+            ≤ end_frame (geometry_of_card self.old.card) }
         requires room { HasRoom self.old 0 (played_by asked) }
-        ensures did { CardDid (option_copied capture.entry) self.old self.new (frames_by (asked ∷ []))
-            (positions_by (period_of self.old.card) (frame_of_card self.old.card) (asked ∷ [])) (unplugs_by (asked ∷ [])) }
+        ensures did { CardDid (option_copied capture.entry) self.old self.new
+            (frames_by (asked ∷ []))
+            (positions_by (period_of self.old.card) (frame_of_card self.old.card) (asked ∷ []))
+            (unplugs_by (asked ∷ [])) }
         ensures room { KeepsRoom self.old self.new 0 (played_by asked) }
         ensures rows { self.new.rows ≡ self.old.rows }
     {
@@ -202,7 +209,8 @@ impl<'a> CardActor<'a> {
 
     // Does one line, and appends its row.
     fn do_line(&mut self, capture: Option<&Wav>, phase: u32, asked: Op)
-        requires fits { frame_of_card self.old.card + played_by asked ≤ end_frame (geometry_of_card self.old.card) }
+        requires fits { frame_of_card self.old.card + played_by asked
+            ≤ end_frame (geometry_of_card self.old.card) }
         requires room { HasRoom self.old 1 (played_by asked) }
         ensures part { CardPart (option_copied capture.entry) phase self.old self.new (asked ∷ []) }
         ensures room { KeepsRoom self.old self.new 1 (played_by asked) }
@@ -242,7 +250,8 @@ impl<'a> CardActor<'a> {
         requires fits { FitsRing self.old (ops_by is_of_card lines.now) }
         requires room { HasRoom self.old (length (ops_by is_of_card lines.now))
             (frames_by (ops_by is_of_card lines.now)) }
-        ensures { CardPart (option_copied capture.entry) phase self.old self.new (ops_by is_of_card lines.now) }
+        ensures { CardPart (option_copied capture.entry) phase self.old
+            self.new (ops_by is_of_card lines.now) }
     {
         for index in 0..lines.len() {
             self.do_own(capture, phase, &lines[index]);
