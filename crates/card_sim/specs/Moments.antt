@@ -36,19 +36,24 @@ pub record SightsCompose {T : Type 0} (saw : T → T → List Moment → Type 0)
 
 -- the moment at which these frames are stored and taken next, and these positions were published last
 abbrev pub moment_at : ℕ → ℕ → ℕ → ℕ → Moment
-moment_at stores takes played captured = record { stores = stores; takes = at_frame takes; played = played; captured = captured }
+moment_at stores takes played captured =
+    record { stores = stores; takes = at_frame takes; played = played; captured = captured }
 
 -- a frame is stored, and then taken
 abbrev pub frame_moments : ℕ → ℕ → ℕ → List Moment
-frame_moments frame played captured = moment_at (frame + 1) frame played captured ∷ moment_at (frame + 1) (frame + 1) played captured ∷ []
+frame_moments frame played captured =
+    moment_at (frame + 1) frame played captured ∷ moment_at (frame + 1) (frame + 1) played captured
+    ∷ []
 
 -- a frame's number is published on the sum ring, and then on the snoop ring
 abbrev pub publish_moments : ℕ → ℕ → List Moment
-publish_moments frame captured = moment_at frame frame frame captured ∷ moment_at frame frame frame frame ∷ []
+publish_moments frame captured = moment_at frame frame frame captured
+    ∷ moment_at frame frame frame frame ∷ []
 
 -- the same where it is a multiple of the period, and nothing where it isn't
 abbrev pub period_moments : ℕ → ℕ → ℕ → List Moment
-period_moments period frame captured = if is_multiple period frame then publish_moments frame captured else []
+period_moments period frame captured =
+    if is_multiple period frame then publish_moments frame captured else []
 
 -- the last multiple of the period past the first frame, among so many frame numbers, or what was published before where there is none
 abbrev pub last_period : ℕ → ℕ → ℕ → ℕ → ℕ
@@ -60,11 +65,13 @@ abbrev pub moments_to : ℕ → ℕ → ℕ → ℕ → List Moment
 moments_to period first captured zero = []
 moments_to period first captured (suc n) =
     moments_to period first captured n
-    ++ (frame_moments (first + n) (last_period period first first n) (last_period period first captured n)
+    ++ (frame_moments (first + n) (last_period period first first n)
+    (last_period period first captured n)
     ++ period_moments period (first + suc n) (last_period period first captured n))
 
 -- the same, and the end is published, where it isn't a multiple of the period
 abbrev pub moments_of : ℕ → ℕ → ℕ → ℕ → List Moment
 moments_of period first captured n =
     moments_to period first captured n
-    ++ (if ends_period period first n then [] else publish_moments (first + n) (last_period period first captured n))
+    ++ (if ends_period period first n then []
+    else publish_moments (first + n) (last_period period first captured n))

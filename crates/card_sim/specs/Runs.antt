@@ -36,7 +36,8 @@ pub record HasCaptured (w v : WriterSeat) (samples : List ℤ) (positions : List
   pub gone : (writer_track v).gone ≡ (writer_track w).gone
 
 -- A card can run for so many frames: its seats are in step, its position is published, and both buffers hold so many frames, which the rings still have.
-pub record CanRun (p : CardPlayer) (w : WriterSeat) (period frames : ℕ) (captured out : List ℤ) : Type 0 where
+pub record CanRun (p : CardPlayer) (w : WriterSeat) (period frames : ℕ)
+    (captured out : List ℤ) : Type 0 where
   pub period_least : 1 ≤ period
   pub in_step : AreInStep p w
   pub published : IsPublished p
@@ -45,13 +46,15 @@ pub record CanRun (p : CardPlayer) (w : WriterSeat) (period frames : ℕ) (captu
   pub rings_hold : frame_of p + frames ≤ end_frame (geometry_of p)
 
 -- one frame was captured and played, of the samples from an index of both buffers on; nothing was published
-pub record RunsFrame (p : CardPlayer) (w : WriterSeat) (q : CardPlayer) (v : WriterSeat) (at : ℕ) (captured old new : List ℤ) : Type 0 where
+pub record RunsFrame (p : CardPlayer) (w : WriterSeat) (q : CardPlayer) (v : WriterSeat)
+    (at : ℕ) (captured old new : List ℤ) : Type 0 where
   pub stored : HasCaptured w v (drop at (take (at + (geometry_of p).channels) captured)) []
   pub takes : TakesFrameAt p q at old new
   pub in_step : AreInStep q v
 
 -- a position is published on both rings, and nothing else is done
-pub record PublishesBoth (p : CardPlayer) (w : WriterSeat) (q : CardPlayer) (v : WriterSeat) (positions : List ℕ) : Type 0 where
+pub record PublishesBoth (p : CardPlayer) (w : WriterSeat) (q : CardPlayer)
+    (v : WriterSeat) (positions : List ℕ) : Type 0 where
   pub played : HasPlayed (seat_of p) (seat_of q) [] positions
   pub stored : HasCaptured w v [] positions
   pub next : next_of_player (seat_of q) ≡ next_of_player (seat_of p)
@@ -59,9 +62,12 @@ pub record PublishesBoth (p : CardPlayer) (w : WriterSeat) (q : CardPlayer) (v :
 
 -- So many frames were played, and the sum ring's position published at each multiple of the period, and at the end. Where the card records, as many
 -- were captured, and the snoop ring's positions published too.
-pub record RunsFrames (records : Bool) (p : CardPlayer) (w : WriterSeat) (q : CardPlayer) (v : WriterSeat) (period frames : ℕ) (captured old new : List ℤ) : Type 0 where
-  pub played : HasPlayed (seat_of p) (seat_of q) (samples_of p frames new) (positions_of period (frame_of p) frames)
-  pub stored : HasCaptured w v (captured_if records (samples_of p frames captured)) (captured_if records (positions_of period (frame_of p) frames))
+pub record RunsFrames (records : Bool) (p : CardPlayer) (w : WriterSeat)
+    (q : CardPlayer) (v : WriterSeat) (period frames : ℕ) (captured old new : List ℤ) : Type 0 where
+  pub played : HasPlayed (seat_of p) (seat_of q) (samples_of p frames new)
+      (positions_of period (frame_of p) frames)
+  pub stored : HasCaptured w v (captured_if records (samples_of p frames captured))
+      (captured_if records (positions_of period (frame_of p) frames))
   pub next : next_of_player (seat_of q) ≡ at_frame (frame_of p + frames)
   pub in_step : AreSeatsOfCard records q v
   pub rest : rest_of p frames new ≡ rest_of p frames old
@@ -69,9 +75,12 @@ pub record RunsFrames (records : Bool) (p : CardPlayer) (w : WriterSeat) (q : Ca
 -- a card runs for as many frames as its buffers hold and its rings have
 abbrev pub RunsThrough : Card → Card → List ℤ → List ℤ → List ℤ → Type 0
 RunsThrough c d captured old new =
-    RunsFrames (records_of c) (player_of c) (writer_of c) (player_of d) (writer_of d) (period_of c) (frames_left (player_of c) old) captured old new
+    RunsFrames (records_of c) (player_of c) (writer_of c) (player_of d) (writer_of d)
+    (period_of c) (frames_left (player_of c) old) captured old new
 
 -- what is seen of that run: nothing where the card doesn't record
 abbrev pub moments_through : Card → List ℤ → List Moment
 moments_through c out =
-    captured_if (records_of c) (moments_of (period_of c) (frame_of (player_of c)) (position_of_writer (writer_of c)) (frames_left (player_of c) out))
+    captured_if (records_of c)
+    (moments_of (period_of c) (frame_of (player_of c)) (position_of_writer (writer_of c))
+    (frames_left (player_of c) out))

@@ -150,7 +150,8 @@ end_channel c commit =
 -- what a commit laid of the local ring
 abbrev pub commit_entries : PlaybackStream → List ℤ → Commit → List Entry
 commit_entries c ring commit =
-    run_entries c.identity.member c.setup.bindings (ring_sample c ring) c.stretch.card c.stretch.committed
+    run_entries c.identity.member c.setup.bindings (ring_sample c ring) c.stretch.card
+    c.stretch.committed
     commit.frames commit.part
 
 abbrev pub is_stop : Ended → Bool
@@ -229,7 +230,8 @@ start_count c cursor position upto =
     upto
 
 -- an answer leads to a state, or a refusal to another
-abbrev pub going_on_by : Result (Unit {0}) PcmError → PlaybackStream → State → State → Answered (Unit {0})
+abbrev pub going_on_by : Result (Unit {0}) PcmError → PlaybackStream → State
+    → State → Answered (Unit {0})
 going_on_by (Ok done) c state refused = (in_state c state, Ok tt)
 going_on_by (Err e) c state refused = (in_state c refused, Err e)
 
@@ -238,7 +240,8 @@ abbrev pub going_on : PlaybackStream → State → Outcome → Answered (Unit {0
 going_on c state outcome = going_on_by outcome.answer c state outcome.state
 
 -- the start of a client that is prepared and has frames, which leads to a state: the load, and the commit
-abbrev pub after_start : PlaybackStream → State → Cursor → Option Position → Commit → Answered (Unit {0})
+abbrev pub after_start : PlaybackStream → State → Cursor → Option Position → Commit
+    → Answered (Unit {0})
 after_start c state cursor None commit = stopped_in c
 after_start c state cursor (Some position) commit =
     if position.gone
@@ -275,7 +278,8 @@ base_of c d = if is_paused c.status.state && not (is_paused d.status.state) then
 -- the resume of a client with pending frames: a start of these, once the position was loaded
 abbrev pub resumed : PlaybackStream → Cursor → Option Position → Commit → Answered (Unit {0})
 resumed c cursor None commit = stopped_in c
-resumed c cursor (Some position) commit = after_start (rebased c) Running cursor (Some position) commit
+resumed c cursor (Some position) commit =
+    after_start (rebased c) Running cursor (Some position) commit
 
 -- an answer's number, where there is one
 abbrev pub with_number : (PlaybackStream → ℕ) → Answered (Unit {0}) → Answered ℕ

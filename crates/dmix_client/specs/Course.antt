@@ -96,7 +96,8 @@ sync_course c ring = if is_moving c.status.state then syncs c call.Sync ring els
 abbrev pub start_course : PlaybackStream → List ℤ → Cursor → Course (Answered (Unit {0}))
 start_course c ring cursor = if nat_eq c.stretch.written 0
     then ends
-    (with_outcome c (next_of c.status.state call.Start (record (nothing_found Playback) { queued = 0 })))
+    (with_outcome c
+    (next_of c.status.state call.Start (record (nothing_found Playback) { queued = 0 })))
     else starts c Running cursor c.stretch.written ring
 
 abbrev pub drain_on : List ℤ → Answered (Unit {0}) → Course (Answered (Unit {0}))
@@ -132,7 +133,8 @@ abbrev pub admitted_by : {X : Type 0} → Option PcmError → PlaybackStream →
 admitted_by None c course = course
 admitted_by (Some e) c course = ends (c, Err e)
 
-abbrev pub admitted : {X : Type 0} → PlaybackStream → Call → Course (Answered X) → Course (Answered X)
+abbrev pub admitted : {X : Type 0} → PlaybackStream → Call → Course (Answered X)
+    → Course (Answered X)
 admitted c call course = admitted_by (refusal_of Playback c.status call) c course
 
 -- a call's answer with a number

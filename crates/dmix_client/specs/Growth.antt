@@ -68,7 +68,8 @@ pub record TakesAway {S : Type 0} (laid : S → S → List Entry → Type 0)
 
 -- it lost exactly what a client's segment lost, by some samples
 pub record Loses {S : Type 0} (laid : S → S → List Entry → Type 0)
-    (ends_in : S → List Entry → Type 0) (p q : S) (c d : PlaybackStream) (samples : List ℤ) : Type 0 where
+    (ends_in : S → List Entry → Type 0) (p q : S) (c d : PlaybackStream)
+    (samples : List ℤ) : Type 0 where
   pub away : TakesAway laid ends_in p q (segment_entries c samples) (segment_entries d samples)
   pub same_member : d.identity.member ≡ c.identity.member
   pub same_bindings : d.setup.bindings ≡ c.setup.bindings

@@ -35,11 +35,13 @@ in_state c state = record c { status = status.in_state c.status state }
 
 -- a reader that is opened
 abbrev pub new_reader : Geometry → CaptureStream
-new_reader g = record { geometry = g; setup = setup.no_setup; status = status.at_open; seen = None; next = 0 }
+new_reader g =
+    record { geometry = g; setup = setup.no_setup; status = status.at_open; seen = None; next = 0 }
 
 -- the reader is prepared with a configuration, with the default thresholds
 abbrev pub configured_with : CaptureStream → Config → List ℕ → CaptureStream
-configured_with c config bindings = in_state (record c { setup = setup.setup_with config bindings }) state.Prepared
+configured_with c config bindings =
+    in_state (record c { setup = setup.setup_with config bindings }) state.Prepared
 
 -- the reader gives its configuration up
 abbrev pub freed : CaptureStream → CaptureStream
@@ -53,7 +55,8 @@ with_params c params = record c { setup = setup.with_params c.setup params }
 
 -- what a call found, for the state table
 abbrev pub found : Bool → Option (ℕ × ℕ) → Option XrunWhy → Facts
-found gone over late = record { capture = true; queued = 0; starts = true; gone = gone; over = over; late = late }
+found gone over late =
+    record { capture = true; queued = 0; starts = true; gone = gone; over = over; late = late }
 
 -- the gate stopped the call
 abbrev pub stopped_in : {T : Type 0} → CaptureStream → Answered T
@@ -69,22 +72,29 @@ seen_at c position = record c { seen = Some position.frame }
 
 -- the position that a start loaded is the next frame, unless the card is gone
 abbrev pub started_at : CaptureStream → Position → CaptureStream
-started_at c position = if position.gone then seen_at c position else record c { seen = Some position.frame; next = position.frame }
+started_at c position =
+    if position.gone then seen_at c position
+    else record c { seen = Some position.frame; next = position.frame }
 
 -- a start, by the position that it loaded
 abbrev pub after_start : CaptureStream → Call → Option Position → Answered (Unit {0})
 after_start c call None = stopped_in c
-after_start c call (Some position) = with_outcome (started_at c position) (next_of c.status.state call (found position.gone None None))
+after_start c call (Some position) =
+    with_outcome (started_at c position)
+    (next_of c.status.state call (found position.gone None None))
 
 -- the stop threshold was reached: the frames available, and the position seen
 abbrev pub over_of : CaptureStream → Option (ℕ × ℕ)
-over_of c = if nat_le c.setup.params.stop_threshold (avail_of c) then Some (avail_of c, unwrap_or c.seen 0) else None
+over_of c =
+    if nat_le c.setup.params.stop_threshold (avail_of c) then Some (avail_of c, unwrap_or c.seen 0)
+    else None
 
 -- the sync of a reader that runs, by the position that it loaded
 abbrev pub after_sync : CaptureStream → Call → Option Position → Answered (Unit {0})
 after_sync c call None = stopped_in c
 after_sync c call (Some position) =
-    with_outcome (seen_at c position) (next_of c.status.state call (found position.gone (over_of (seen_at c position)) None))
+    with_outcome (seen_at c position)
+    (next_of c.status.state call (found position.gone (over_of (seen_at c position)) None))
 
 -- the frames that `avail_update` answers after its sync
 abbrev pub with_avail : Answered (Unit {0}) → Answered ℕ
@@ -108,7 +118,9 @@ numbered n (c, Err e) = (c, Err e)
 abbrev pub read_to : CaptureStream → ℕ → Got → Answered ℕ
 read_to c done Whole = (record c { next = c.next + done }, Ok done)
 read_to c done (Overtaken channel word) =
-    numbered 0 (with_outcome c (next_of state.Running call.Transfer (found false None (Some (why.Overtaken (c.next + done) channel word)))))
+    numbered 0 (with_outcome c
+    (next_of state.Running call.Transfer
+    (found false None (Some (why.Overtaken (c.next + done) channel word)))))
 read_to c done Stopped = stopped_in c
 
 -- a read of n frames after its load of the position, by how many it loaded, and how the last load ended

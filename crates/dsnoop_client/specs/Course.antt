@@ -65,9 +65,11 @@ read_course c n =
     (if nat_le c.setup.params.start_threshold n then reads_first c n else ends (c, waits n))
 
 -- a call, unless it is refused before it does anything
-abbrev pub admitted_by : {X : Type 0} → Option PcmError → CaptureStream → Course (Answered X) → Course (Answered X)
+abbrev pub admitted_by : {X : Type 0} → Option PcmError → CaptureStream
+    → Course (Answered X) → Course (Answered X)
 admitted_by None c course = course
 admitted_by (Some e) c course = ends (c, Err e)
 
-abbrev pub admitted : {X : Type 0} → CaptureStream → Call → Course (Answered X) → Course (Answered X)
+abbrev pub admitted : {X : Type 0} → CaptureStream → Call → Course (Answered X)
+    → Course (Answered X)
 admitted c call course = admitted_by (refusal_of Capture c.status call) c course

@@ -23,12 +23,14 @@ pub record AreFrames (frames : List Frame) (first channels : ℕ) : Type 0 where
   pub whole : All (λ (frame : Frame). length frame.samples ≡ channels) frames
 
 -- a port got so many frames from a first one on, and where the last load ended well, these are the first of some samples
-pub record Fills {S : Type 0} (P : snoopport.Ghosts S) (p q : S) (bindings : List ℕ) (first done : ℕ) (ended : Got) (before after : List ℤ) : Type 0 where
+pub record Fills {S : Type 0} (P : snoopport.Ghosts S) (p q : S) (bindings : List ℕ)
+    (first done : ℕ) (ended : Got) (before after : List ℤ) : Type 0 where
   pub frames : List Frame
   pub got_them : P.got p q frames
   pub are : AreFrames frames first (P.view p).geometry.channels
   pub count : length frames ≡ done
-  pub samples : OnGot ended (after ≡ through_all bindings frames ++ drop (done * length bindings) before)
+  pub samples : OnGot ended
+      (after ≡ through_all bindings frames ++ drop (done * length bindings) before)
 
 -- how many frames an answer counts
 abbrev pub counted : {X : Type 0} → Result ℕ X → ℕ
@@ -38,7 +40,8 @@ counted (Err e) = 0
 -- what a read answers: the frames that its port got, one after the other from a first one on, are the samples that it gives, through
 -- the bindings, and the rest of the room is as it was; only a read that is Ok counts frames, and the reader's next frame is behind
 -- those; the first is the next frame of a reader that runs
-pub record Reads {S : Type 0} (P : snoopport.Ghosts S) (p q : S) (c d : CaptureStream) (before after : List ℤ) (answer : Result ℕ PcmError) : Type 0 where
+pub record Reads {S : Type 0} (P : snoopport.Ghosts S) (p q : S) (c d : CaptureStream)
+    (before after : List ℤ) (answer : Result ℕ PcmError) : Type 0 where
   pub first : ℕ
   pub begins : c.status.state ≡ Running → first ≡ c.next
   pub next_is : d.next ≡ first + counted answer
@@ -46,4 +49,5 @@ pub record Reads {S : Type 0} (P : snoopport.Ghosts S) (p q : S) (c d : CaptureS
   pub got_them : P.got p q frames
   pub are : AreFrames frames first c.geometry.channels
   pub count : IfOk answer (λ n. length frames ≡ n)
-  pub samples : IfOk answer (λ n. after ≡ through_all c.setup.bindings frames ++ drop (n * length c.setup.bindings) before)
+  pub samples : IfOk answer (λ n. after ≡ through_all c.setup.bindings frames
+      ++ drop (n * length c.setup.bindings) before)

@@ -11,4 +11,5 @@ CanPlaceFirst seat = CanAdd seat × IsFrom (cursor_of_seat seat) 0 0
 
 -- a seat placed one sample, in the ring's first frame and its first channel
 abbrev pub HasPlacedFirst : MixSeat → MixSeat → ℤ → Type 0
-HasPlacedFirst before after sample = SeatLaid before after (an_add (member_of before) 0 0 sample ∷ [])
+HasPlacedFirst before after sample =
+    SeatLaid before after (an_add (member_of before) 0 0 sample ∷ [])

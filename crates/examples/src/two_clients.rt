@@ -37,7 +37,8 @@ pub fn mix_two(
     frames: u32,
 ) -> Result<Mixed, PcmError>
     ensures sums { IfOk result (λ mixed. AreSums geometry
-        (entries_of geometry 0 mixed.first first.now ++ entries_of geometry 1 mixed.second second.now)
+        (entries_of geometry 0 mixed.first first.now
+        ++ entries_of geometry 1 mixed.second second.now)
         mixed.taken.items) }
     ensures count { IfOk result (λ mixed. length mixed.taken.items ≡ frames * geometry.channels) }
 {
@@ -93,7 +94,8 @@ fn write(
 fn play(alloc: Global, core: &mut Core, frames: u32) -> Result<Vec<Taken>, PcmError>
     ensures mixed { IfOk result (λ taken. (placed : List Entry) → HasMixed core.old placed [] →
         HasMixed core.new placed taken.items) }
-    ensures count { IfOk result (λ taken. length taken.items ≡ frames * core.old.geometry.channels) }
+    ensures count { IfOk result
+        (λ taken. length taken.items ≡ frames * core.old.geometry.channels) }
     ensures geometry { core.new.geometry ≡ core.old.geometry }
 {
     let mut all = Vec::new(alloc);

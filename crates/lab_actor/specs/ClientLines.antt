@@ -25,7 +25,8 @@ use Rattle.snd_base.specs.declared.geometry.Geometry.{Geometry}
 
 -- An open client at its port: it can use it, it represents the samples of its file there, and the port's standing adds end in its
 -- segment. Its channels are those of the file, and it has accepted no more frames than the file has.
-pub record IsReady {S : Type 0} (P : mixport.Ghosts S) (wav : Sound) (p : S) (c : ClientView) : Type 0 where
+pub record IsReady {S : Type 0} (P : mixport.Ghosts S) (wav : Sound) (p : S)
+    (c : ClientView) : Type 0 where
   pub usable : CanUse c.stream (P.view p)
   pub backed : IsBacked P.ends_in p c wav.samples
   pub channels : length c.stream.setup.bindings ≡ wav.channels
@@ -37,22 +38,28 @@ entries_by c samples segment = expand c.identity.member segment samples c.setup.
 
 -- those of the stretches that a client ended, and then those of its present one
 abbrev pub stretches_entries : PlaybackStream → List ℤ → List Segment → List Entry
-stretches_entries c samples ended = flat_map (entries_by c samples) ended ++ segment_entries c samples
+stretches_entries c samples ended =
+    flat_map (entries_by c samples) ended ++ segment_entries c samples
 
 -- A client kept its member and its bindings, and at the end of the standing adds of its port its stretches took the place of the one
 -- that it had.
-pub record Extends {S : Type 0} (P : mixport.Ghosts S) (samples : List ℤ) (p q : S) (c d : PlaybackStream) (ended : List Segment) : Type 0 where
-  pub away : TakesAway P.laid P.ends_in p q (segment_entries c samples) (stretches_entries d samples ended)
+pub record Extends {S : Type 0} (P : mixport.Ghosts S) (samples : List ℤ) (p q : S)
+    (c d : PlaybackStream) (ended : List Segment) : Type 0 where
+  pub away : TakesAway P.laid P.ends_in p q (segment_entries c samples)
+      (stretches_entries d samples ended)
   pub same_member : d.identity.member ≡ c.identity.member
   pub same_bindings : d.setup.bindings ≡ c.setup.bindings
 
 -- an open client made the call that a line names, and is ready for the next line
-pub record HasCalled {S T : Type 0} (P : mixport.Ghosts S) (G : gates.Ghosts T) (s t : S × T) (wav : Sound) (c d : ClientView) (asked : Op) (answer : Answer) : Type 0 where
+pub record HasCalled {S T : Type 0} (P : mixport.Ghosts S) (G : gates.Ghosts T)
+    (s t : S × T) (wav : Sound) (c d : ClientView) (asked : Op) (answer : Answer) : Type 0 where
   pub samples : List ℤ
   pub offered : IsOffered wav c.stream samples asked
-  pub takes : TakesAt P G s (made_call c.ring samples (P.view s.0).marks c.stream asked) t (d.stream, answer)
+  pub takes : TakesAt P G s (made_call c.ring samples (P.view s.0).marks c.stream asked)
+      t (d.stream, answer)
   pub ready : IsReady P wav t.0 d
-  pub extends : Extends P wav.samples s.0 t.0 c.stream d.stream (ended_by asked answer c.stream d.stream)
+  pub extends : Extends P wav.samples s.0 t.0 c.stream d.stream
+      (ended_by asked answer c.stream d.stream)
 
 -- a line makes a call: its client or reader isn't stopped, and it is no `die`
 pub record CanCall (stopped : Bool) (asked : Op) : Type 0 where
@@ -65,12 +72,19 @@ IsFew (op.Write frames) = frames ≤ 4194304
 IsFew other = ⊤
 
 -- an open client was answered a line, and is ready for the next one: whichever segments it had, it is its line as a run has it
-pub record HasAnswered {S T : Type 0} (P : mixport.Ghosts S) (left : T → Option ℕ) (by_gate : T → ℕ) (s t : S × T) (wav : Sound) (c d : ClientView) (asked : Op) (answer : Answer) : Type 0 where
-  pub line : (phase number : ℕ) (ended : List Segment) (first : S) (ring : Geometry) (from : ℕ) (before : Doing) → IsAtPort P left by_gate first ring from s before
-      → IsClientLine P left by_gate first ring from t phase wav number before (record { own = Some (with_member number c.stream); ended = ended })
-      asked (record { own = Some (with_member number d.stream); ended = ended ++ ended_by asked answer c.stream d.stream }) answer
+pub record HasAnswered {S T : Type 0} (P : mixport.Ghosts S) (left : T → Option ℕ) (by_gate : T → ℕ)
+    (s t : S × T) (wav : Sound) (c d : ClientView) (asked : Op) (answer : Answer) : Type 0 where
+  pub line : (phase number : ℕ) (ended : List Segment) (first : S) (ring : Geometry)
+      (from : ℕ) (before : Doing) → IsAtPort P left by_gate first ring from s before
+      → IsClientLine P left by_gate first ring from t phase wav number before
+      (record { own = Some (with_member number c.stream); ended = ended })
+      asked (record {
+        own = Some (with_member number d.stream);
+        ended = ended ++ ended_by asked answer c.stream d.stream;
+      }) answer
   pub ready : IsReady P wav t.0 d
-  pub extends : Extends P wav.samples s.0 t.0 c.stream d.stream (ended_by asked answer c.stream d.stream)
+  pub extends : Extends P wav.samples s.0 t.0 c.stream d.stream
+      (ended_by asked answer c.stream d.stream)
 
 -- a line ends a stretch: a prepare that was done, and a resume after which a client that was paused isn't
 abbrev pub ends_stretch : Op → Answer → Bool → Bool → Bool

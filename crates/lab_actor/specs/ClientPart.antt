@@ -24,30 +24,40 @@ abbrev pub IsSameActor : ClientActor → ClientActor → Type 0
 IsSameActor a b = b.number ≡ a.number
 
 -- lines were done at a port and a gate, after which it is so
-pub record HasDone {S T : Type 0} (P : mixport.Ghosts S) (left : T → Option ℕ) (by_gate : T → ℕ) (first : S) (ring : Geometry) (from : ℕ) (t : S × T)
-    (phase : ℕ) (wav : Sound) (number : ℕ) (before : Doing) (client : Client) (ops : List Op) (after : Client) (rows : List Row) : Type 0 where
+pub record HasDone {S T : Type 0} (P : mixport.Ghosts S) (left : T → Option ℕ)
+    (by_gate : T → ℕ) (first : S) (ring : Geometry) (from : ℕ) (t : S × T)
+    (phase : ℕ) (wav : Sound) (number : ℕ) (before : Doing) (client : Client)
+    (ops : List Op) (after : Client) (rows : List Row) : Type 0 where
   pub doing : Doing
-  pub done : ActorPart (client_kind phase wav number) ring ((before.0, client), before.1) ops ((doing.0, after), doing.1) rows
+  pub done : ActorPart (client_kind phase wav number) ring ((before.0, client), before.1)
+      ops ((doing.0, after), doing.1) rows
   pub at : IsAtPort P left by_gate first ring from t doing
 
 -- An actor did one line. Whichever state of the port is taken as the first, and up to whichever frame others used the port before: the line
 -- is a line of the client, as a run has it.
-pub record ClientLine {S T : Type 0} (P : mixport.Ghosts S) (left : T → Option ℕ) (by_gate : T → ℕ) (s t : S × T) (phase : ℕ) (wav : Sound) (a b : ClientActor) (asked : Op) : Type 0 where
+pub record ClientLine {S T : Type 0} (P : mixport.Ghosts S) (left : T → Option ℕ) (by_gate : T → ℕ)
+    (s t : S × T) (phase : ℕ) (wav : Sound) (a b : ClientActor) (asked : Op) : Type 0 where
   pub answer : Answer
-  pub rows_are : b.rows.items ≡ a.rows.items ++ row_by phase a.number asked (Some b.client.stream) answer ∷ []
-  pub line : (first : S) (ring : Geometry) (from : ℕ) (before : Doing) → IsAtPort P left by_gate first ring from s before
-      → IsClientLine P left by_gate first ring from t phase wav a.number before (client_of a) asked (client_of b) answer
+  pub rows_are : b.rows.items ≡ a.rows.items
+      ++ row_by phase a.number asked (Some b.client.stream) answer ∷ []
+  pub line : (first : S) (ring : Geometry) (from : ℕ) (before : Doing)
+      → IsAtPort P left by_gate first ring from s before
+      → IsClientLine P left by_gate first ring from t phase wav a.number before
+      (client_of a) asked (client_of b) answer
   pub ended : List Segment
   pub ended_are : b.ended.items ≡ a.ended.items ++ ended
   pub extends : Extends P wav.samples s.0 t.0 a.client.stream b.client.stream ended
   pub same : IsSameActor a b
 
 -- an actor did some lines, likewise
-pub record ClientPart {S T : Type 0} (P : mixport.Ghosts S) (left : T → Option ℕ) (by_gate : T → ℕ) (s t : S × T) (phase : ℕ) (wav : Sound) (a b : ClientActor) (ops : List Op) : Type 0 where
+pub record ClientPart {S T : Type 0} (P : mixport.Ghosts S) (left : T → Option ℕ) (by_gate : T → ℕ)
+    (s t : S × T) (phase : ℕ) (wav : Sound) (a b : ClientActor) (ops : List Op) : Type 0 where
   pub rows : List Row
   pub rows_are : b.rows.items ≡ a.rows.items ++ rows
-  pub part : (first : S) (ring : Geometry) (from : ℕ) (before : Doing) → IsAtPort P left by_gate first ring from s before
-      → HasDone P left by_gate first ring from t phase wav a.number before (client_of a) ops (client_of b) rows
+  pub part : (first : S) (ring : Geometry) (from : ℕ) (before : Doing)
+      → IsAtPort P left by_gate first ring from s before
+      → HasDone P left by_gate first ring from t phase wav a.number before
+      (client_of a) ops (client_of b) rows
   pub ended : List Segment
   pub ended_are : b.ended.items ≡ a.ended.items ++ ended
   pub extends : Extends P wav.samples s.0 t.0 a.client.stream b.client.stream ended

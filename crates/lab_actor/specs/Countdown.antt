@@ -26,9 +26,13 @@ IsSameGate c d = d.gate.ghost_name ≡ c.gate.ghost_name
 -- asks are answered as a run has it; after none there is no stop
 abbrev pub Answers : {T : Type 0} → (T → Option ℕ) → (T → ℕ) → T → T → List StepKind → Pass → Type 0
 Answers left by_gate g h [] Stop = ⊥
-Answers left by_gate g h [] Go = (a : AtPort) → IsAnswered [] Go (with_gate left by_gate g a) (with_gate left by_gate h a)
-Answers left by_gate g h (kind ∷ kinds) pass = (a : AtPort) → IsAnswered (kind ∷ kinds) pass (with_gate left by_gate g a) (with_gate left by_gate h a)
+Answers left by_gate g h [] Go =
+    (a : AtPort) → IsAnswered [] Go (with_gate left by_gate g a) (with_gate left by_gate h a)
+Answers left by_gate g h (kind ∷ kinds) pass =
+    (a : AtPort)
+    → IsAnswered (kind ∷ kinds) pass (with_gate left by_gate g a) (with_gate left by_gate h a)
 
-pub record CountsAsks {G L : Type 0} (stops : G → ℕ) (c d : Countdown G L) (kinds : List StepKind) (pass : Pass) : Type 0 where
+pub record CountsAsks {G L : Type 0} (stops : G → ℕ) (c d : Countdown G L)
+    (kinds : List StepKind) (pass : Pass) : Type 0 where
   pub same_gate : IsSameGate c d
   pub answers : Answers left_of (by_gate_of stops) c d kinds pass

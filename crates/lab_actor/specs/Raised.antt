@@ -36,8 +36,10 @@ raised_doing k doing = (raised k doing.0, doing.1)
 
 -- a kind of actor doesn't ask how often the gate stopped it
 pub record IsBlind {S : Type 0} (kind : Kind S) : Type 0 where
-  pub begins : (k : ℕ) (a : AtPort) (s : S) (asked : Op) → kind.begins s asked (raised k a) ≡ raised k (kind.begins s asked a)
-  pub course : (k : ℕ) (a : AtPort) (s : S) (asked : Op) → kind.course (raised k a) s asked ≡ kind.course a s asked
+  pub begins : (k : ℕ) (a : AtPort) (s : S) (asked : Op)
+      → kind.begins s asked (raised k a) ≡ raised k (kind.begins s asked a)
+  pub course : (k : ℕ) (a : AtPort) (s : S) (asked : Op)
+      → kind.course (raised k a) s asked ≡ kind.course a s asked
 
 with_gate_stop-raised : (k : ℕ) (a : AtPort) → with_gate_stop (raised k a) ≡ raised k (with_gate_stop a)
 with_gate_stop-raised k a =

@@ -27,7 +27,8 @@ IsFewRead other = ⊤
 
 -- Samples, interleaved, are those of the frames of these numbers through a reader's bindings. The port got each of these frames; it may have got
 -- others, in a read that was answered by an error.
-pub record AreSamples {S : Type 0} (P : snoopport.Ghosts S) (p q : S) (r : CaptureStream) (numbers : List ℕ) (samples : List ℤ) : Type 0 where
+pub record AreSamples {S : Type 0} (P : snoopport.Ghosts S) (p q : S) (r : CaptureStream)
+    (numbers : List ℕ) (samples : List ℤ) : Type 0 where
   pub got : List Frame
   pub got_them : P.got p q got
   pub frames : List Frame
@@ -47,7 +48,8 @@ pub record HasSameSetup (r after : CaptureStream) : Type 0 where
   pub same_setup : after.setup ≡ r.setup
 
 -- a line left the reader so: it can use its port, the frames that it read end before its next one, and their samples were appended
-pub record HasRead {S : Type 0} (P : snoopport.Ghosts S) (p q : S) (r after : CaptureStream) (before samples : List ℤ) (asked : Op) (answer : Answer) : Type 0 where
+pub record HasRead {S : Type 0} (P : snoopport.Ghosts S) (p q : S) (r after : CaptureStream)
+    (before samples : List ℤ) (asked : Op) (answer : Answer) : Type 0 where
   pub usable : CanUse after (P.view q)
   pub same : HasSameSetup r after
   pub below : got_by asked answer ≤ after.next
@@ -56,18 +58,22 @@ pub record HasRead {S : Type 0} (P : snoopport.Ghosts S) (p q : S) (r after : Ca
   pub read : AreSamples P p q r (frames_by asked answer after) more
 
 -- an open reader made the call that a line names
-pub record HasCalled {S T : Type 0} (P : snoopport.Ghosts S) (G : gates.Ghosts T) (s t : S × T) (r after : CaptureStream) (before samples : List ℤ)
+pub record HasCalled {S T : Type 0} (P : snoopport.Ghosts S) (G : gates.Ghosts T)
+    (s t : S × T) (r after : CaptureStream) (before samples : List ℤ)
     (asked : Op) (answer : Answer) : Type 0 where
   pub takes : TakesAtSnoop P G s (call_of r asked) t (after, answer)
   pub has_read : HasRead P s.0 t.0 r after before samples asked answer
 
 -- An open reader was answered a line, with room for so many frames: whichever frames it had, it is its line as a run has it, where there was room for
 -- those that the line may get. It made progress by the frames that it got, which are no more than the line asks for.
-pub record HasAnswered {S T : Type 0} (P : snoopport.Ghosts S) (left : T → Option ℕ) (by_gate : T → ℕ) (s t : S × T) (r after : CaptureStream) (before samples : List ℤ)
+pub record HasAnswered {S T : Type 0} (P : snoopport.Ghosts S) (left : T → Option ℕ)
+    (by_gate : T → ℕ) (s t : S × T) (r after : CaptureStream) (before samples : List ℤ)
     (asked : Op) (spare : ℕ) (answer : Answer) : Type 0 where
-  pub line : wanted_by (most_read r) asked ≤ spare → (phase number : ℕ) (frames : List ℕ) (first : S) (ring : Geometry) (doing : Doing)
+  pub line : wanted_by (most_read r) asked ≤ spare
+      → (phase number : ℕ) (frames : List ℕ) (first : S) (ring : Geometry) (doing : Doing)
       → IsAtSnoop P left by_gate first ring s doing
-      → IsReaderLine P left by_gate first ring t phase number doing (record { own = Some r; frames = frames })
+      → IsReaderLine P left by_gate first ring t phase number doing
+      (record { own = Some r; frames = frames })
       asked (record { own = Some after; frames = frames ++ frames_by asked answer after }) answer
   pub has_read : HasRead P s.0 t.0 r after before samples asked answer
   pub loaded : HasLoaded P s.0 t.0

@@ -40,7 +40,8 @@ pub record HasRowsFor (a : ReaderActor) (count : ℕ) : Type 0 where
 -- each, and the samples of all frames that they may get together.
 pub record HasRoomFor (a : ReaderActor) (ring played : ℕ) (ops : List Op) : Type 0 where
   pub lines : HasRowsFor a (length ops)
-  pub samples : HasSpace (frames_wanted (most_wanted a.reader ring played) ops * channels_of a) a.samples
+  pub samples : HasSpace (frames_wanted (most_wanted a.reader ring played) ops * channels_of a)
+      a.samples
 
 -- it has the room for its lines of a phase
 abbrev pub HasRoom : ℕ → ReaderActor → List Line → Type 0
@@ -60,7 +61,8 @@ pub record HasGot (v w : SnoopView) (a b : ReaderActor) (ops : List Op) : Type 0
   pub progress : Progress count a.reader b.reader v w
 
 -- frames were appended to the runs of an actor, and their samples to its samples
-pub record Appends {S : Type 0} (P : snoopport.Ghosts S) (p q : S) (a b : ReaderActor) : Type 0 where
+pub record Appends {S : Type 0} (P : snoopport.Ghosts S) (p q : S)
+    (a b : ReaderActor) : Type 0 where
   pub numbers : List ℕ
   pub numbers_are : frames_in b.frames.runs ≡ frames_in a.frames.runs ++ numbers
   pub more : List ℤ
@@ -68,31 +70,42 @@ pub record Appends {S : Type 0} (P : snoopport.Ghosts S) (p q : S) (a b : Reader
   pub samples : AreSamples P p q a.reader numbers more
 
 -- lines were done at a port and a gate, after which it is so
-pub record HasDone {S T : Type 0} (P : snoopport.Ghosts S) (left : T → Option ℕ) (by_gate : T → ℕ) (first : S) (ring : Geometry) (t : S × T)
-    (phase number : ℕ) (before : Doing) (reader : Reader) (ops : List Op) (after : Reader) (rows : List Row) : Type 0 where
+pub record HasDone {S T : Type 0} (P : snoopport.Ghosts S) (left : T → Option ℕ)
+    (by_gate : T → ℕ) (first : S) (ring : Geometry) (t : S × T)
+    (phase number : ℕ) (before : Doing) (reader : Reader) (ops : List Op)
+    (after : Reader) (rows : List Row) : Type 0 where
   pub doing : Doing
-  pub done : ActorPart (reader_kind phase number) ring ((before.0, reader), before.1) ops ((doing.0, after), doing.1) rows
+  pub done : ActorPart (reader_kind phase number) ring ((before.0, reader), before.1)
+      ops ((doing.0, after), doing.1) rows
   pub at : IsAtSnoop P left by_gate first ring t doing
 
 -- An actor did one line. Whichever state of the port is taken as the first: the line is a line of the reader, as a run has it, where there was room for
 -- the frames that it may get.
-pub record ReaderLine {S T : Type 0} (P : snoopport.Ghosts S) (left : T → Option ℕ) (by_gate : T → ℕ) (s t : S × T) (phase : ℕ) (a b : ReaderActor) (asked : Op) : Type 0 where
+pub record ReaderLine {S T : Type 0} (P : snoopport.Ghosts S) (left : T → Option ℕ)
+    (by_gate : T → ℕ) (s t : S × T) (phase : ℕ) (a b : ReaderActor) (asked : Op) : Type 0 where
   pub answer : Answer
-  pub rows_are : b.rows.items ≡ a.rows.items ++ row_by phase a.number asked (Some b.reader) answer ∷ []
+  pub rows_are : b.rows.items ≡ a.rows.items
+      ++ row_by phase a.number asked (Some b.reader) answer ∷ []
   pub line : wanted_by (most_read a.reader) asked ≤ spare_frames a.reader a.samples
-      → (first : S) (ring : Geometry) (before : Doing) → IsAtSnoop P left by_gate first ring s before
-      → IsReaderLine P left by_gate first ring t phase a.number before (reader_of a) asked (reader_of b) answer
+      → (first : S) (ring : Geometry) (before : Doing)
+      → IsAtSnoop P left by_gate first ring s before
+      → IsReaderLine P left by_gate first ring t phase a.number before (reader_of a)
+      asked (reader_of b) answer
   pub loaded : HasLoaded P s.0 t.0
   pub appends : Appends P s.0 t.0 a b
   pub same : IsSameActor a b
 
 -- an actor did some lines, likewise, where its port saw no more frames in them than the card plays
-pub record ReaderPart {S T : Type 0} (P : snoopport.Ghosts S) (left : T → Option ℕ) (by_gate : T → ℕ) (s t : S × T) (phase played : ℕ) (a b : ReaderActor) (ops : List Op)
+pub record ReaderPart {S T : Type 0} (P : snoopport.Ghosts S) (left : T → Option ℕ)
+    (by_gate : T → ℕ) (s t : S × T) (phase played : ℕ) (a b : ReaderActor) (ops : List Op)
     : Type 0 where
   pub rows : List Row
   pub rows_are : b.rows.items ≡ a.rows.items ++ rows
-  pub part : SeesAtMost played (P.view s.0) (P.view t.0) → (first : S) (ring : Geometry) (before : Doing) → IsAtSnoop P left by_gate first ring s before
-      → HasDone P left by_gate first ring t phase a.number before (reader_of a) ops (reader_of b) rows
+  pub part : SeesAtMost played (P.view s.0) (P.view t.0)
+      → (first : S) (ring : Geometry) (before : Doing)
+      → IsAtSnoop P left by_gate first ring s before
+      → HasDone P left by_gate first ring t phase a.number before (reader_of a)
+      ops (reader_of b) rows
   pub loaded : HasLoaded P s.0 t.0
   pub appends : Appends P s.0 t.0 a b
   pub same : IsSameActor a b

@@ -53,7 +53,8 @@ samples_wanted reader asked = wanted_by (most_read reader) asked * length reader
 
 -- the frames of a reader that there is room for yet
 abbrev pub spare_frames : CaptureStream → Vec ℤ → ℕ
-spare_frames reader samples = (vec_capacity samples - vec_len samples) / length reader.setup.bindings
+spare_frames reader samples =
+    (vec_capacity samples - vec_len samples) / length reader.setup.bindings
 
 -- a read asks for as many frames as there is room for
 abbrev pub fitting : ℕ → Op → Op

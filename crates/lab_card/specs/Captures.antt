@@ -10,7 +10,8 @@ use Rattle.wav_io.specs.Sound.{Sound}
 
 -- the sample of a file at a frame, counted from the file's first, and a channel: 0 where the file has none
 abbrev pub sample_in : Sound → ℕ → ℕ → ℤ
-sample_in wav frame channel = if nat_lt channel wav.channels then sample_at wav.samples wav.channels frame channel else pos 0
+sample_in wav frame channel =
+    if nat_lt channel wav.channels then sample_at wav.samples wav.channels frame channel else pos 0
 
 -- the captured sample of a frame, counted from the card's first, and a channel of the card
 abbrev pub captured_at : Option Sound → ℕ → ℕ → ℤ
@@ -22,7 +23,8 @@ abbrev pub captured_frame : Option Sound → ℕ → ℕ → List ℤ
 captured_frame capture channels frame = map (captured_at capture frame) (range_with_len 0 channels)
 
 abbrev pub captured_frames : Option Sound → ℕ → ℕ → ℕ → List ℤ
-captured_frames capture channels from frames = flat_map (captured_frame capture channels) (range_with_len from frames)
+captured_frames capture channels from frames =
+    flat_map (captured_frame capture channels) (range_with_len from frames)
 
 -- it is the captured sample of a run
 pub captured-at : (session : Session) (capture : Option Sound) (frame channel : ℕ) → captured session capture (first_frame session.card + frame) channel ≡ captured_at capture frame channel

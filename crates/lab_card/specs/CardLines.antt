@@ -24,7 +24,8 @@ positions_at period from other = []
 
 abbrev pub positions_by : ℕ → ℕ → List Op → List ℕ
 positions_by period from [] = []
-positions_by period from (asked ∷ ops) = positions_at period from asked ++ positions_by period (from + played_by asked) ops
+positions_by period from (asked ∷ ops) =
+    positions_at period from asked ++ positions_by period (from + played_by asked) ops
 
 -- whether it is unplugged
 abbrev pub unplugs_by : List Op → Bool
@@ -32,12 +33,17 @@ unplugs_by ops = list_any is_unplug ops
 
 -- a card of a run played so many frames, and published these positions: the samples that it took are behind those that it has, and it captured the
 -- next ones of the capture file
-pub record CardDid (capture : Option Sound) (a b : CardActor) (frames : ℕ) (positions : List ℕ) (unplugged : Bool) : Type 0 where
+pub record CardDid (capture : Option Sound) (a b : CardActor) (frames : ℕ)
+    (positions : List ℕ) (unplugged : Bool) : Type 0 where
   pub samples : List ℤ
-  pub moves : CardMoves a.card b.card frames samples (captured_frames capture (geometry_of_card a.card).channels (frames_since_first a.card) frames) positions unplugged
+  pub moves : CardMoves a.card b.card frames samples
+      (captured_frames capture (geometry_of_card a.card).channels (frames_since_first a.card)
+      frames) positions unplugged
   pub played : b.played.items ≡ a.played.items ++ samples
 
 -- a card did what it was asked for, in order, with these rows
-pub record CardPart (capture : Option Sound) (phase : ℕ) (a b : CardActor) (ops : List Op) : Type 0 where
-  pub did : CardDid capture a b (frames_by ops) (positions_by (period_of a.card) (frame_of_card a.card) ops) (unplugs_by ops)
+pub record CardPart (capture : Option Sound) (phase : ℕ) (a b : CardActor)
+    (ops : List Op) : Type 0 where
+  pub did : CardDid capture a b (frames_by ops)
+      (positions_by (period_of a.card) (frame_of_card a.card) ops) (unplugs_by ops)
   pub rows : b.rows.items ≡ a.rows.items ++ card_rows phase (frame_of_card a.card) ops

@@ -60,7 +60,8 @@ rules_between c d lines = record {
 
 -- A card in a phase: it rested before it, in which no line unplugged it; then it did its lines. Before them and after them it gave notes and met
 -- some.
-pub record CardPhase (capture : Option Sound) (phase : ℕ) (c : Card) (a b : CardActor) (d : Card) (lines : List Line) : Type 0 where
+pub record CardPhase (capture : Option Sound) (phase : ℕ) (c : Card) (a b : CardActor)
+    (d : Card) (lines : List Line) : Type 0 where
   pub rests : Rests c
   pub before : IsSameCard c a.card
   pub part : CardPart capture phase a b (ops_by is_of_card lines)
@@ -74,7 +75,9 @@ pub record ClientPhase (c d : Card) (s t u v : MixSeat) (found : Findings) : Typ
   pub informed : IsInformedClient c s t
   pub key : key_of u ≡ key_of t
   pub loads : SeatLoaded t u found.loads
-  pub late : Each (λ (place : ℕ × ℕ). (word : ℕ) × mix_port.IsPast seat_view shown u place.0 place.1 word) found.late
+  pub late : Each
+      (λ (place : ℕ × ℕ). (word : ℕ) × mix_port.IsPast seat_view shown u place.0 place.1 word)
+      found.late
   pub overtaken : found.overtaken ≡ []
   pub same : IsSameClient u v
   pub knows : KnowsClient d v
@@ -86,7 +89,9 @@ pub record ReaderPhase (c d : Card) (s t u v : ReaderSeat) (found : Findings) : 
   pub geometry : readers.geometry_of u ≡ readers.geometry_of t
   pub loads : readers.SeatLoaded t u found.loads
   pub late : found.late ≡ []
-  pub overtaken : Each (λ (place : ℕ × ℕ). (word : ℕ) × snoop_port.IsPast readers.seat_view readers.shown u place.0 place.1 word) found.overtaken
+  pub overtaken : Each
+      (λ (place : ℕ × ℕ). (word : ℕ)
+      × snoop_port.IsPast readers.seat_view readers.shown u place.0 place.1 word) found.overtaken
   pub same : IsSameReader u v
   pub knows : KnowsReader d v
 

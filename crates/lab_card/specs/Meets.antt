@@ -24,10 +24,13 @@ use Rattle.lab_card.specs.Moves.{frame_of_card, is_gone, seat_of_card}
 
 -- a client's seat, and a reader's, is of a card's ring
 abbrev pub IsClientOf : Card → MixSeat → Type 0
-IsClientOf c s = OneRing (ring_of s) (key_of s) (player_ring (seat_of_card c)) (player_key (seat_of_card c))
+IsClientOf c s =
+    OneRing (ring_of s) (key_of s) (player_ring (seat_of_card c)) (player_key (seat_of_card c))
 
 abbrev pub IsReaderOf : Card → ReaderSeat → Type 0
-IsReaderOf c s = snoop_joins.OneRing (readers.ring_of s) (readers.geometry_of s) (writer_ring (writer_of c)) (writer_geometry (writer_of c))
+IsReaderOf c s =
+    snoop_joins.OneRing (readers.ring_of s) (readers.geometry_of s)
+    (writer_ring (writer_of c)) (writer_geometry (writer_of c))
 
 -- a player, and a writer, that gave notes and met some, but took, stored and published nothing
 pub record IsSamePlayer (p q : PlayerSeat) : Type 0 where
@@ -66,8 +69,11 @@ pub record IsInformedReader (c : Card) (s t : ReaderSeat) : Type 0 where
   pub ring : readers.ring_of t ≡ readers.ring_of s
   pub geometry : readers.geometry_of t ≡ readers.geometry_of s
   pub got : (readers.view_of t).got ≡ (readers.view_of s).got ++ (writer_view (writer_of c)).got
-  pub seen : readers.seen_of t ≡ max (readers.seen_of s) (position_of (writer_geometry (writer_of c)) (writer_track (writer_of c)))
-  pub gone : (readers.view_of t).seen_gone ≡ ((readers.view_of s).seen_gone || (writer_track (writer_of c)).gone)
+  pub seen : readers.seen_of t
+      ≡ max (readers.seen_of s)
+      (position_of (writer_geometry (writer_of c)) (writer_track (writer_of c)))
+  pub gone : (readers.view_of t).seen_gone
+      ≡ ((readers.view_of s).seen_gone || (writer_track (writer_of c)).gone)
 
 -- a client's seat, and a reader's, that gave a note: it is as before
 pub record IsSameClient (s t : MixSeat) : Type 0 where
@@ -91,11 +97,15 @@ pub record IsSameReader (s t : ReaderSeat) : Type 0 where
 -- has seen the card gone only where it is.
 pub record KnowsClient (c : Card) (s : MixSeat) : Type 0 where
   pub seen : seen_of s ≤ frame_of_card c
-  pub positions : (i x : ℕ) → get_elem? (view_of s).positions i ≡ some x → IsPublished (player_geometry (seat_of_card c)) (track_of (seat_of_card c)) x
-  pub noted : (f n x : ℕ) → IsNow (player_geometry (seat_of_card c)) (next_of_player (seat_of_card c)) f n → shown s f n ≡ Some x
+  pub positions : (i x : ℕ) → get_elem? (view_of s).positions i ≡ some x
+      → IsPublished (player_geometry (seat_of_card c)) (track_of (seat_of_card c)) x
+  pub noted : (f n x : ℕ)
+      → IsNow (player_geometry (seat_of_card c)) (next_of_player (seat_of_card c)) f n
+      → shown s f n ≡ Some x
       → lap_of x ≤ lap (player_geometry (seat_of_card c)) f
   pub gone : (view_of s).seen_gone ≡ true → is_gone c ≡ true
 
 -- what a reader's seat has seen and got is what the card did
 abbrev pub KnowsReader : Card → ReaderSeat → Type 0
-KnowsReader c s = IsBorneOut (writer_geometry (writer_of c)) (writer_track (writer_of c)) (readers.view_of s)
+KnowsReader c s =
+    IsBorneOut (writer_geometry (writer_of c)) (writer_track (writer_of c)) (readers.view_of s)

@@ -29,16 +29,19 @@ abbrev pub frames_since_first : Card → ℕ
 frames_since_first c = frame_of_card c - first_frame (geometry_of_card c)
 
 -- a player took the next words with these values, published these positions, and unplugged the card or not
-pub record PlayerMoves (p q : PlayerSeat) (samples : List ℤ) (positions : List ℕ) (unplugged : Bool) : Type 0 where
+pub record PlayerMoves (p q : PlayerSeat) (samples : List ℤ) (positions : List ℕ)
+    (unplugged : Bool) : Type 0 where
   pub ring : player_ring q ≡ player_ring p
   pub key : player_key q ≡ player_key p
-  pub taken : (track_of q).taken ≡ (track_of p).taken ++ words_at (player_geometry p) (next_of_player p) samples
+  pub taken : (track_of q).taken ≡ (track_of p).taken
+      ++ words_at (player_geometry p) (next_of_player p) samples
   pub published : (track_of q).published ≡ (track_of p).published ++ positions
   pub next : next_of_player q ≡ behind_words (player_geometry p) (next_of_player p) samples
   pub gone : (track_of q).gone ≡ ((track_of p).gone || unplugged)
 
 -- a writer stored the next samples, published these positions, and unplugged the card or not
-pub record WriterMoves (w x : WriterSeat) (samples : List ℤ) (positions : List ℕ) (unplugged : Bool) : Type 0 where
+pub record WriterMoves (w x : WriterSeat) (samples : List ℤ) (positions : List ℕ)
+    (unplugged : Bool) : Type 0 where
   pub ring : writer_ring x ≡ writer_ring w
   pub geometry : writer_geometry x ≡ writer_geometry w
   pub stored : (writer_track x).stored ≡ (writer_track w).stored ++ samples
@@ -47,9 +50,11 @@ pub record WriterMoves (w x : WriterSeat) (samples : List ℤ) (positions : List
 
 -- A card played so many frames: it took these samples from the sum ring and published these positions there. Where it records it stored the captured
 -- samples in the snoop ring, and published the positions there too. And it was unplugged, or not.
-pub record CardMoves (c d : Card) (frames : ℕ) (samples captured : List ℤ) (positions : List ℕ) (unplugged : Bool) : Type 0 where
+pub record CardMoves (c d : Card) (frames : ℕ) (samples captured : List ℤ)
+    (positions : List ℕ) (unplugged : Bool) : Type 0 where
   pub player : PlayerMoves (seat_of_card c) (seat_of_card d) samples positions unplugged
-  pub writer : WriterMoves (writer_of c) (writer_of d) (captured_if (records_of c) captured) (captured_if (records_of c) positions) unplugged
+  pub writer : WriterMoves (writer_of c) (writer_of d) (captured_if (records_of c) captured)
+      (captured_if (records_of c) positions) unplugged
   pub period : period_of d ≡ period_of c
   pub records : records_of d ≡ records_of c
   pub frame : frame_of_card d ≡ frame_of_card c + frames

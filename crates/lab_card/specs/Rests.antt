@@ -23,7 +23,9 @@ use Rattle.lab_card.specs.PositionLaws.{last_of-positions_by, positions_by-most}
 pub record Rests (c : Card) : Type 0 where
   pub played : Each (λ (x : ℕ). x ≤ frame_of_card c) (track_of (seat_of_card c)).published
   pub captured : Each (λ (x : ℕ). x ≤ frame_of_card c) (writer_track (writer_of c)).published
-  pub position : records_of c ≡ true → last_of (first_frame (geometry_of_card c)) (writer_track (writer_of c)).published ≡ frame_of_card c
+  pub position : records_of c ≡ true
+      → last_of (first_frame (geometry_of_card c)) (writer_track (writer_of c)).published
+      ≡ frame_of_card c
   pub gone : (writer_track (writer_of c)).gone ≡ is_gone c
 
 -- a card over new rings rests

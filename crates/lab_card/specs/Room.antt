@@ -14,7 +14,8 @@ FitsRing a ops = frame_of_card a.card + frames_by ops ≤ end_frame (geometry_of
 -- there is room for so many rows, for the samples of so many frames, and for the captured samples of a period
 pub record HasRoom (a : CardActor) (count frames : ℕ) : Type 0 where
   pub rows : vec_len a.rows + count ≤ vec_capacity a.rows
-  pub played : vec_len a.played + frames * (geometry_of_card a.card).channels ≤ vec_capacity a.played
+  pub played : vec_len a.played + frames * (geometry_of_card a.card).channels ≤ vec_capacity
+      a.played
   pub captured : period_of a.card * (geometry_of_card a.card).channels ≤ vec_capacity a.captured
 
 -- a card has so many rows more, and the samples of so many frames more, of the same shape; no room was given back

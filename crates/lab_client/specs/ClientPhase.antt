@@ -46,7 +46,9 @@ use Rattle.lab_client.specs.SeatPort.{seat_port}
 
 -- the last frames of an actor and of its port, while others used it before alone (lab_run: `last_frames_are_own`)
 abbrev pub LastsAreOwn : Type 0
-LastsAreOwn = (ring : Geometry) (from : ℕ) (before own port : Marks) → MarksAlike ring from before.high own port → HasOwnLast ring from before own port
+LastsAreOwn =
+    (ring : Geometry) (from : ℕ) (before own port : Marks)
+    → MarksAlike ring from before.high own port → HasOwnLast ring from before own port
 
 -- an open client that goes on at a seat which is as its own was
 IsOpenAt-same : (ring : TableId) (key : Key) (wav : Sound) (last : Option ℕ) (number : ℕ) (o p : OpenClient) (a : AtPort) → IsSameSeat o.seat p.seat → p.actor ≡ o.actor → IsSameOpening o p
@@ -154,11 +156,13 @@ HasLaid-extends samples s t c d ended extends =
 
 -- In a phase a client of a run did its lines, with these rows, as the phase allows it, behind a gate that had stopped it so often before the first
 -- phase and so often after this one; and its segments grew by these.
-pub record PhaseRun (phase : ℕ) (wav : Sound) (number : ℕ) (rules : Rules) (lines : List Line) (base after : ℕ) (IsAfter : AtPort → Type 0) (Laid : List Segment → Type 0)
+pub record PhaseRun (phase : ℕ) (wav : Sound) (number : ℕ) (rules : Rules)
+    (lines : List Line) (base after : ℕ) (IsAfter : AtPort → Type 0) (Laid : List Segment → Type 0)
     (first : AtPort) (client next : Client) (rows_before rows_after : List Row) : Type 0 where
   pub at : AtPort
   pub rows : List Row
-  pub may : LinesMay (client_kind phase wav number) rules (first, client) (ops_by (is_client number) lines) (at, next) rows
+  pub may : LinesMay (client_kind phase wav number) rules (first, client)
+      (ops_by (is_client number) lines) (at, next) rows
   pub is : IsAfter at
   pub gate : at.by_gate + base ≡ after
   pub rows_are : rows_after ≡ rows_before ++ rows
@@ -167,14 +171,17 @@ pub record PhaseRun (phase : ℕ) (wav : Sound) (number : ℕ) (rules : Rules) (
   pub laid : Laid ended
 
 -- that of a client of the lab, as it was before the phase and as it is after it
-abbrev pub ClientRun : ℕ → Sound → Rules → List Line → TableId → Key → Option ℕ → ℕ → ℕ → AtPort → LabClient → LabClient → Type 0
+abbrev pub ClientRun : ℕ → Sound → Rules → List Line → TableId → Key → Option ℕ
+    → ℕ → ℕ → AtPort → LabClient → LabClient → Type 0
 ClientRun phase wav rules lines ring key last base after first d e =
-    PhaseRun phase wav (number_of d) rules lines base after (IsAt ring key wav last e) (λ ended. Stays (HasLaidBy wav ended) (ended ≡ []) (open_of d) (open_of e)) first
+    PhaseRun phase wav (number_of d) rules lines base after (IsAt ring key wav last e)
+    (λ ended. Stays (HasLaidBy wav ended) (ended ≡ []) (open_of d) (open_of e)) first
     (client_in d) (client_in e) (rows_of d) (rows_of e)
 
 -- an actor's part in a phase is what the phase allows to it (lab_run: `parts_are_runs`)
 abbrev pub ClientPartsAreRuns : ℕ → Sound → Rules → Type 0
-ClientPartsAreRuns phase wav rules = (number : ℕ) → PartsAreRuns (client_kind phase wav number) rules
+ClientPartsAreRuns phase wav rules =
+    (number : ℕ) → PartsAreRuns (client_kind phase wav number) rules
 
 -- a client that isn't open has the rows that it had
 Stays-rows : (Goes : OpenClient → OpenClient → Type 0) (w x : LabClient) (o p : Option OpenClient) → Stays Goes (x.rows ≡ w.rows) o p → Stays Goes (x.rows.items ≡ w.rows.items) o p

@@ -101,7 +101,8 @@ abbrev pub HasRoom : List Line → LabClient → Type 0
 HasRoom lines d = HasRoomBy lines d (open_of d)
 
 -- what is so of a client that is open before and after, and of one that is open neither before nor after
-abbrev pub Stays : (OpenClient → OpenClient → Type 0) → Type 0 → Option OpenClient → Option OpenClient → Type 0
+abbrev pub Stays : (OpenClient → OpenClient → Type 0) → Type 0 → Option OpenClient
+    → Option OpenClient → Type 0
 Stays Goes Rests None None = Rests
 Stays Goes Rests (Some o) (Some p) = Goes o p
 Stays Goes Rests before after = ⊥
@@ -112,8 +113,10 @@ pub record IsSameRest (d e : LabClient) : Type 0 where
   pub ended : ended_of e ≡ ended_of d
 
 -- the lines of a client that isn't open were refused
-pub record AllRefused (before after : ℕ) (phase number : ℕ) (lines : List Line) (rows_before rows_after : List Row) : Type 0 where
-  pub rows : rows_after ≡ rows_before ++ refused_rows phase (actor.Client number) (ops_by (is_client number) lines)
+pub record AllRefused (before after : ℕ) (phase number : ℕ) (lines : List Line)
+    (rows_before rows_after : List Row) : Type 0 where
+  pub rows : rows_after ≡ rows_before
+      ++ refused_rows phase (actor.Client number) (ops_by (is_client number) lines)
   pub part : AreRefused phase number (ops_by (is_client number) lines)
   pub gate : after ≡ before
 
@@ -122,8 +125,10 @@ pub record IsClientInformed (c : Card) (d e : LabClient) : Type 0 where
   pub own : Stays (IsInformed c) (e.rows ≡ d.rows) (open_of d) (open_of e)
   pub rest : IsSameRest d e
 
-pub record RunsLines (before after : ℕ) (phase : ℕ) (wav : Sound) (lines : List Line) (d e : LabClient) : Type 0 where
-  pub own : Stays (HasRun before after phase wav lines) (AllRefused before after phase (number_of d) lines d.rows.items e.rows.items)
+pub record RunsLines (before after : ℕ) (phase : ℕ) (wav : Sound) (lines : List Line)
+    (d e : LabClient) : Type 0 where
+  pub own : Stays (HasRun before after phase wav lines)
+      (AllRefused before after phase (number_of d) lines d.rows.items e.rows.items)
       (open_of d) (open_of e)
   pub rest : IsSameRest d e
 
@@ -133,7 +138,9 @@ pub record IsClientHeard (c : Card) (d e : LabClient) : Type 0 where
 
 -- what was laid for a client in a phase, in which its segments grew by these
 abbrev pub HasLaidBy : Sound → List Segment → OpenClient → OpenClient → Type 0
-HasLaidBy wav ended o p = HasLaid wav.samples (view_of o.seat).laid (view_of p.seat).laid (stream_of o) (stream_of p) ended
+HasLaidBy wav ended o p =
+    HasLaid wav.samples (view_of o.seat).laid (view_of p.seat).laid (stream_of o)
+    (stream_of p) ended
 
 -- the same client as before, but for its rows and its room
 pub record IsSameBut (d e : LabClient) : Type 0 where

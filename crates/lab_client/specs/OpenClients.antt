@@ -31,7 +31,8 @@ IsReadyAt wav o = IsReady seat_port wav o.seat o.actor.client
 
 -- An open client of a number, with its file, is at its place of a ring as a client of a run is at its port; the last frame that was laid by the
 -- place before is known. The place's marks, which former clients moved, are to it what those of the client in the run are.
-pub record IsOpenAt (ring : TableId) (key : Key) (wav : Sound) (last : Option ℕ) (number : ℕ) (o : OpenClient) (a : AtPort) : Type 0 where
+pub record IsOpenAt (ring : TableId) (key : Key) (wav : Sound) (last : Option ℕ)
+    (number : ℕ) (o : OpenClient) (a : AtPort) : Type 0 where
   pub numbered : o.actor.number ≡ number
   pub bindings : o.bindings ≡ (stream_of o).setup.bindings
   pub place : IsPlace ring key (member_of o.seat) o.seat
@@ -39,7 +40,8 @@ pub record IsOpenAt (ring : TableId) (key : Key) (wav : Sound) (last : Option �
   pub after : o.opened_at ≤ seen_of o.seat
   pub seen : a.seen ≤ seen_of o.seat
   pub left : a.left ≡ o.actor.left
-  pub alike : MarksAlike key.geometry o.opened_at (marks_of_seat o.seat).high a.marks (marks_of_seat o.seat)
+  pub alike : MarksAlike key.geometry o.opened_at (marks_of_seat o.seat).high
+      a.marks (marks_of_seat o.seat)
   pub since : IsLastSince o.opened_at last (high_frame key.geometry (marks_of_seat o.seat))
 
 -- what an open client keeps from its opening to its closing
@@ -64,8 +66,10 @@ pub record IsInformed (c : Card) (o p : OpenClient) : Type 0 where
   pub same : IsSameOpening o p
 
 -- in it the open client did its lines, behind a gate that had stopped so often before and so often after them
-pub record HasRun (before after : ℕ) (phase : ℕ) (wav : Sound) (lines : List Line) (o p : OpenClient) : Type 0 where
-  pub part : ClientPart seat_port left_in stops_in (o.seat, (o.actor.left, before)) (p.seat, (p.actor.left, after)) phase wav o.actor p.actor
+pub record HasRun (before after : ℕ) (phase : ℕ) (wav : Sound) (lines : List Line)
+    (o p : OpenClient) : Type 0 where
+  pub part : ClientPart seat_port left_in stops_in (o.seat, (o.actor.left, before))
+      (p.seat, (p.actor.left, after)) phase wav o.actor p.actor
       (ops_by (is_client o.actor.number) lines)
   pub ready : IsReadyAt wav p
   pub same : IsSameOpening o p
@@ -79,8 +83,12 @@ pub record IsHeard (c : Card) (o p : OpenClient) : Type 0 where
 
 -- What a seat laid for a client in a phase, by the samples of its file: the client had a stretch there before. At the end of the seat's standing adds
 -- its stretches, those that it ended and then the present one, took the place of that one; and they give each sum as much more as the seat laid.
-pub record HasLaid (samples : List ℤ) (before after : List Entry) (c d : PlaybackStream) (ended : List Segment) : Type 0 where
-  pub totals : (f k : ℕ) → total after f k +ℤ total (segment_entries c samples) f k ≡ total before f k +ℤ total (stretches_entries d samples ended) f k
-  pub standing_adds : (early : List Entry) → standing before ≡ early ++ segment_entries c samples → standing after ≡ early ++ stretches_entries d samples ended
+pub record HasLaid (samples : List ℤ) (before after : List Entry) (c d : PlaybackStream)
+    (ended : List Segment) : Type 0 where
+  pub totals : (f k : ℕ)
+      → total after f k +ℤ total (segment_entries c samples) f k
+      ≡ total before f k +ℤ total (stretches_entries d samples ended) f k
+  pub standing_adds : (early : List Entry) → standing before ≡ early ++ segment_entries c samples
+      → standing after ≡ early ++ stretches_entries d samples ended
   pub same_member : d.identity.member ≡ c.identity.member
   pub same_bindings : d.setup.bindings ≡ c.setup.bindings

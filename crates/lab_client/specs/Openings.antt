@@ -12,7 +12,8 @@ use Rattle.lab_client.specs.Clients.{client_in, number_of, open_of, rows_of}
 use Rattle.lab_client.specs.OpenClients.{stream_of}
 
 -- a client that is opened at a seat and a position: its stream is new, and the segments and rows that it had are its own
-pub record IsNew (seat : MixSeat) (setup : Setup) (position : ℕ) (d : LabClient) (o : OpenClient) : Type 0 where
+pub record IsNew (seat : MixSeat) (setup : Setup) (position : ℕ) (d : LabClient)
+    (o : OpenClient) : Type 0 where
   pub number : o.actor.number ≡ number_of d
   pub stream : stream_of o ≡ opened_client (geometry_of seat) (member_of seat) setup
   pub left : o.actor.left ≡ None
@@ -27,7 +28,8 @@ abbrev pub IsHigh : MixSeat → Type 0
 IsHigh s = last_of s ≡ high_frame (geometry_of s) (marks_of_seat s)
 
 -- an opening
-pub record HasOpened (seat : MixSeat) (setup : Setup) (position : ℕ) (d e : LabClient) : Type 0 where
+pub record HasOpened (seat : MixSeat) (setup : Setup) (position : ℕ)
+    (d e : LabClient) : Type 0 where
   pub number : number_of e ≡ number_of d
   pub own : IsSomeAnd (open_of e) (IsNew seat setup position d)
   pub high : IsHigh seat
@@ -37,7 +39,8 @@ abbrev pub closed_client : Client → Client
 closed_client client = record { own = None; ended = segments_of client }
 
 -- a closing, which gives the seat of a client back, with its bindings and the position of its opening
-pub record HasClosed (d : LabClient) (o : OpenClient) (seat : MixSeat) (channels : List ℕ) (position : ℕ) (e : LabClient) : Type 0 where
+pub record HasClosed (d : LabClient) (o : OpenClient) (seat : MixSeat)
+    (channels : List ℕ) (position : ℕ) (e : LabClient) : Type 0 where
   pub number : number_of e ≡ number_of d
   pub closed : open_of e ≡ None
   pub client : client_in e ≡ closed_client (client_in d)

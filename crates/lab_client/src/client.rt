@@ -141,7 +141,8 @@ impl<'r> LabClient<'r> {
         requires few { All (λ (line : Line). IsFew line.op) lines.now }
         requires ready { CanRun wav.now self.old }
         requires room { HasRoom lines.now self.old }
-        ensures { RunsLines (G.stops gate.old) (G.stops gate.new) phase wav.now lines.now self.old self.new }
+        ensures { RunsLines (G.stops gate.old) (G.stops gate.new) phase
+            wav.now lines.now self.old self.new }
     {
         match &mut self.own {
             Some(own) => own.run_lines(gate, wav, phase, lines),
@@ -264,7 +265,8 @@ impl<'r> LabClient<'r> {
         opened_at: u64,
     ) -> Result<(), PcmError>
         requires closed { open_of self.old ≡ None }
-        requires usable { IsUsable (geometry_of seat).channels (geometry_of seat).frames opening.now }
+        requires usable { IsUsable (geometry_of seat).channels
+            (geometry_of seat).frames opening.now }
         ensures ok { OnOk result (HasOpened seat.entry opening.now opened_at self.old self.new) }
         ensures same { OnErr result (IsSameBut self.old self.new) }
         ensures same_rows { OnErr result (rows_of self.new ≡ rows_of self.old) }

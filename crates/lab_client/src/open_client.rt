@@ -40,7 +40,8 @@ impl OpenClient<'_> {
         requires few { All (λ (line : Line). IsFew line.op) lines.now }
         requires ready { IsReadyAt wav.now self.old }
         requires room { HasRoomAt lines.now self.old }
-        ensures { HasRun (G.stops gate.old) (G.stops gate.new) phase wav.now lines.now self.old self.new }
+        ensures { HasRun (G.stops gate.old) (G.stops gate.new) phase wav.now
+            lines.now self.old self.new }
     {
         self.actor
             .run_lines(&mut self.seat, gate, wav, phase, lines);

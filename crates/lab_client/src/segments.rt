@@ -24,7 +24,8 @@ pub(crate) fn push_segments(
     number: u32,
     segments: &[Segment],
 ) -> Result<(), PcmError>
-    ensures ok { OnOk result (all.new.items ≡ all.old.items ++ map (λ s. (number, s)) segments.now) }
+    ensures ok { OnOk result
+        (all.new.items ≡ all.old.items ++ map (λ s. (number, s)) segments.now) }
     ensures only { IfErr result (λ e. e ≡ PcmError.Memory) }
 {
     for segment in segments {

@@ -38,15 +38,18 @@ places_of cs = cs.places
 -- what a client holds, where it is open; the last frame at its place before its opening is known
 abbrev pub holding_by : Option ℕ → Option OpenClient → Option Holding
 holding_by last None = None
-holding_by last (Some o) = Some (record { place = member_of o.seat; before = last; channels = o.bindings })
+holding_by last (Some o) =
+    Some (record { place = member_of o.seat; before = last; channels = o.bindings })
 
 -- where a client is open, it was opened with what its line and its file leave it
 abbrev pub IsSetUp : Option Setup → Option OpenClient → Type 0
 IsSetUp setup None = ⊤
-IsSetUp setup (Some o) = (own : Setup) × (setup ≡ Some own) × ((stream_of o).setup.bindings ≡ own.bindings)
+IsSetUp setup (Some o) =
+    (own : Setup) × (setup ≡ Some own) × ((stream_of o).setup.bindings ≡ own.bindings)
 
 -- a client of the lab is the client of a number in a run, with what it holds
-pub record IsClientIn (session : Session) (ring : TableId) (key : Key) (holdings : Holdings) (number : ℕ) (d : LabClient) (x : AtPort × Client) : Type 0 where
+pub record IsClientIn (session : Session) (ring : TableId) (key : Key)
+    (holdings : Holdings) (number : ℕ) (d : LabClient) (x : AtPort × Client) : Type 0 where
   pub numbered : number_of d ≡ number
   pub client : client_in d ≡ x.1
   pub last : Option ℕ
@@ -55,12 +58,14 @@ pub record IsClientIn (session : Session) (ring : TableId) (key : Key) (holdings
   pub setup : IsSetUp (slice_index_or session.clients number None) (open_of d)
 
 -- the same after the lines of a phase: its rows are the lab's
-pub record IsClientDone (session : Session) (ring : TableId) (key : Key) (holdings : Holdings) (number : ℕ) (d : LabClient) (x : AtPort × Client) : Type 0 where
+pub record IsClientDone (session : Session) (ring : TableId) (key : Key)
+    (holdings : Holdings) (number : ℕ) (d : LabClient) (x : AtPort × Client) : Type 0 where
   pub is : IsClientIn session ring key holdings number d x
   pub rows : rows_of d ≡ []
 
 -- the same between two phases: no gate stopped it, and its rows are the lab's
-pub record IsClientAt (session : Session) (ring : TableId) (key : Key) (holdings : Holdings) (number : ℕ) (d : LabClient) (x : AtPort × Client) : Type 0 where
+pub record IsClientAt (session : Session) (ring : TableId) (key : Key)
+    (holdings : Holdings) (number : ℕ) (d : LabClient) (x : AtPort × Client) : Type 0 where
   pub is : IsClientIn session ring key holdings number d x
   pub goes : is_stopped x.1.own ≡ false
   pub rows : rows_of d ≡ []
@@ -75,8 +80,11 @@ laid_open [] f k = pos 0
 laid_open (d ∷ ds) f k = laid_for (open_of d) f k +ℤ laid_open ds f k
 
 -- all that was laid is what the segments say
-abbrev pub IsReported : Session → List (Option MixSeat) → List LabClient → List (AtPort × Client) → Type 0
-IsReported session seats ds xs = (f k : ℕ) → laid_free seats f k +ℤ laid_open ds f k ≡ total (entries_of session (all_segments xs)) f k
+abbrev pub IsReported : Session → List (Option MixSeat) → List LabClient
+    → List (AtPort × Client) → Type 0
+IsReported session seats ds xs =
+    (f k : ℕ) → laid_free seats f k +ℤ laid_open ds f k
+    ≡ total (entries_of session (all_segments xs)) f k
 
 -- with what a client is opened fits the card's ring and the client's file
 pub record FitsCard (session : Session) (number : ℕ) (own : Setup) : Type 0 where
@@ -84,7 +92,9 @@ pub record FitsCard (session : Session) (number : ℕ) (own : Setup) : Type 0 wh
   pub channels : length own.bindings ≡ (sound_at session.sounds number).channels
 
 abbrev pub AllFitCard : Session → Type 0
-AllFitCard session = (number : ℕ) (own : Setup) → slice_index_or session.clients number None ≡ Some own → FitsCard session number own
+AllFitCard session =
+    (number : ℕ) (own : Setup) → slice_index_or session.clients number None ≡ Some own
+    → FitsCard session number own
 
 -- the card of a session: its ring, and how clients share it; each client of the session can be opened at it
 pub record IsCardOf (session : Session) (p : Places) : Type 0 where
@@ -94,14 +104,17 @@ pub record IsCardOf (session : Session) (p : Places) : Type 0 where
   pub channels : (shares_of p).channels ≡ session.ring.channels
 
 -- each client of the lab is one of a run, with what is held; nobody else holds anything
-pub record AreIn (Is : Session → TableId → Key → Holdings → ℕ → LabClient → AtPort × Client → Type 0) (session : Session) (held : Held) (xs : List (AtPort × Client))
+pub record AreIn
+    (Is : Session → TableId → Key → Holdings → ℕ → LabClient → AtPort × Client → Type 0)
+    (session : Session) (held : Held) (xs : List (AtPort × Client))
     (cs : LabClients) : Type 0 where
   pub card : IsCardOf session cs.places
   pub holdings : Holdings
   pub held_by : IsHeldBy cs.places held
   pub are_held : AreHeld (share_of cs.places) held holdings
   pub no_others : (n : ℕ) → length (clients_of cs) ≤ n → holdings n ≡ None
-  pub each : AreEach (Is session (ring_of_places cs.places) (key_of_places cs.places) holdings) 0 cs.clients.items xs
+  pub each : AreEach (Is session (ring_of_places cs.places) (key_of_places cs.places) holdings)
+      0 cs.clients.items xs
   pub reported : IsReported session (free_seats (lobby_of cs.places)) cs.clients.items xs
 
 -- the clients of the lab between two phases
@@ -113,7 +126,8 @@ abbrev pub AreDone : Session → Held → List (AtPort × Client) → LabClients
 AreDone = AreIn IsClientDone
 
 -- the clients of the lab after an item of a body, which has one row
-pub record AreAfter (session : Session) (stage after : Stage) (row : Row) (cs : LabClients) : Type 0 where
+pub record AreAfter (session : Session) (stage after : Stage) (row : Row)
+    (cs : LabClients) : Type 0 where
   pub are : AreAt session (held_of after) after.clients cs
   pub rows : after.rows ≡ stage.rows ++ row ∷ []
 

@@ -27,7 +27,8 @@ abbrev pub segments_by : LabClient → List (ℕ × Segment)
 segments_by d = map (λ segment. (number_of d, segment)) (segments_of (client_in d))
 
 -- The clients of a run, of which some were closed since: they have the segments that they had, at as many places.
-pub record HasEnded (session : Session) (held : Held) (xs : List (AtPort × Client)) (cs : LabClients) : Type 0 where
+pub record HasEnded (session : Session) (held : Held) (xs : List (AtPort × Client))
+    (cs : LabClients) : Type 0 where
   pub then_held : Held
   pub ys : List (AtPort × Client)
   pub are : AreAt session then_held ys cs

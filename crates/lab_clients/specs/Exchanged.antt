@@ -82,8 +82,11 @@ pub all_segments-set : (xs : List (AtPort × Client)) (at : ℕ) (x d : AtPort �
 all_segments-set xs at x d same = numbered-set (λ (client : AtPort × Client). segments_of client.1) 0 at xs x d same
 
 -- what the free places gained by an exchange, the one client lost, and the other way round
-abbrev pub MovesLaid : List (Option MixSeat) → LabClient → List (Option MixSeat) → LabClient → Type 0
-MovesLaid seats d after e = (f k : ℕ) → laid_free after f k +ℤ laid_for (open_of e) f k ≡ laid_free seats f k +ℤ laid_for (open_of d) f k
+abbrev pub MovesLaid : List (Option MixSeat) → LabClient → List (Option MixSeat)
+    → LabClient → Type 0
+MovesLaid seats d after e =
+    (f k : ℕ) → laid_free after f k +ℤ laid_for (open_of e) f k
+    ≡ laid_free seats f k +ℤ laid_for (open_of d) f k
 
 -- all that was laid is still what the segments say
 pub IsReported-exchanged : (session : Session) (seats after : List (Option MixSeat)) (ds : List LabClient) (at : ℕ) (d e : LabClient) (xs : List (AtPort × Client)) (x y : AtPort × Client)
@@ -139,7 +142,8 @@ Relation X = Session → TableId → Key → Holdings → ℕ → LabClient → 
 -- it is so of a client as long as that holds what it held
 abbrev pub KeepsHolding : Relation (AtPort × Client) → Type 0
 KeepsHolding Is =
-    (session : Session) (ring : TableId) (key : Key) (holdings after : Holdings) (n : ℕ) (d : LabClient) (x : AtPort × Client) → after n ≡ holdings n
+    (session : Session) (ring : TableId) (key : Key) (holdings after : Holdings)
+    (n : ℕ) (d : LabClient) (x : AtPort × Client) → after n ≡ holdings n
     → Is session ring key holdings n d x → Is session ring key after n d x
 
 -- the card of a session at the places later

@@ -62,7 +62,8 @@ IsSameOpened-heard c d e heard =
 -- ---- what it holds
 
 abbrev holding : ℕ → Option ℕ → List ℕ → Option Holding
-holding place before channels = Some (record { place = place; before = before; channels = channels })
+holding place before channels =
+    Some (record { place = place; before = before; channels = channels })
 
 -- a client that keeps its opening holds what it held
 pub holding_by-same : (last : Option ℕ) (o p : Option OpenClient) → IsSameOpened o p → holding_by last p ≡ holding_by last o

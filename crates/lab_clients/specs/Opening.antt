@@ -24,12 +24,14 @@ pub record AreOfRun (cs : LabClients) : Type 0 where
   pub are : AreAt session held xs cs
 
 -- they are at a stage of a run, after so many phases
-pub record AreAtStage (session : Session) (stage : Stage) (phase : ℕ) (cs : LabClients) : Type 0 where
+pub record AreAtStage (session : Session) (stage : Stage) (phase : ℕ)
+    (cs : LabClients) : Type 0 where
   pub are : AreAt session (held_of stage) stage.clients cs
   pub phase_is : phase ≡ stage.phases
 
 -- they are so before the client of a number is opened with what the session leaves it, at a position of the card
-pub record AreBeforeOpening (session : Session) (stage : Stage) (number : ℕ) (setup : Option Setup) (position phase : ℕ) (cs : LabClients) : Type 0 where
+pub record AreBeforeOpening (session : Session) (stage : Stage) (number : ℕ)
+    (setup : Option Setup) (position phase : ℕ) (cs : LabClients) : Type 0 where
   pub at : AreAtStage session stage phase cs
   pub setup_is : setup ≡ slice_index_or session.clients number None
   pub position_is : position ≡ stage.position
@@ -40,10 +42,13 @@ client_among session xs number = slice_index_or xs number (no_client session.rin
 
 -- what is held, and the clients, after the client of a number, which was open, was closed
 abbrev pub held_but : Session → Held → List (AtPort × Client) → ℕ → Held
-held_but session held xs number = held_without session number (client_among session xs number).0 (client_among session xs number).1.own held
+held_but session held xs number =
+    held_without session number (client_among session xs number).0
+    (client_among session xs number).1.own held
 
 abbrev pub clients_but : Session → List (AtPort × Client) → ℕ → List (AtPort × Client)
-clients_but session xs number = slice_set xs number (ended_client session.ring (client_among session xs number))
+clients_but session xs number =
+    slice_set xs number (ended_client session.ring (client_among session xs number))
 
 -- one client isn't open any more, and the others are open as they were
 pub record IsClosedAt (number : ℕ) (ds es : List LabClient) : Type 0 where

@@ -41,7 +41,8 @@ use Rattle.lab_clients.specs.Steps.{HasClientRows, HasTakenRoom, IsHeardBy, IsIn
 -- what a phase of clients rests on (lab_run: `last_frames_are_own`, `parts_are_runs`, `members_are_unreported`)
 pub record PhaseLaws : Type 0 where
   pub lasts : LastsAreOwn
-  pub parts : (phase : ℕ) (wav : Sound) (number : ℕ) (rules : Rules) → PartsAreRuns (client_kind phase wav number) rules
+  pub parts : (phase : ℕ) (wav : Sound) (number : ℕ) (rules : Rules)
+      → PartsAreRuns (client_kind phase wav number) rules
   pub alike : AllLayAlike
 
 IsSameCard-back : (c d : Card) → IsSameCard c d → IsSameCard d c
@@ -64,7 +65,8 @@ CardPhase-met c a b d lines e f is before after = record {
 }
 
 -- The card in a phase of a stage: it is that of the stage and of the clients' ring, it did its lines, and no line unplugged it.
-pub record CardInPhase (session : Session) (stage : Stage) (lines : List Line) (ring : TableId) (key : Key) (c d : Card) : Type 0 where
+pub record CardInPhase (session : Session) (stage : Stage) (lines : List Line)
+    (ring : TableId) (key : Key) (c d : Card) : Type 0 where
   pub capture : Option Sound
   pub before : CardActor
   pub after : CardActor
@@ -75,16 +77,20 @@ pub record CardInPhase (session : Session) (stage : Stage) (lines : List Line) (
 -- ---- one client
 
 -- a client took room for its lines, met a note of the card, did its lines behind its gate, and gave a note to the card
-abbrev pub GoesThrough : {G : Type 0} → (G → ℕ) → List G → List G → List Sound → ℕ → List Line → Card → Card → ℕ → LabClient → LabClient → Type 0
+abbrev pub GoesThrough : {G : Type 0} → (G → ℕ) → List G → List G → List Sound
+    → ℕ → List Line → Card → Card → ℕ → LabClient → LabClient → Type 0
 GoesThrough stops gates after sounds phase lines c d =
-    AreJoined (AreJoined (AreJoined (HasTakenRoom lines) (IsInformedBy c)) (RunsAt stops gates after sounds phase lines)) (IsHeardBy d)
+    AreJoined (AreJoined (AreJoined (HasTakenRoom lines) (IsInformedBy c))
+    (RunsAt stops gates after sounds phase lines)) (IsHeardBy d)
 
 -- A client did in a phase what a run allows to the client of its number, and is that client then: behind a gate that had stopped it so often
 -- since the lab began. What was laid for it is what its segments grew by.
-pub record ClientGoes (session : Session) (stage : Stage) (lines : List Line) (ring : TableId) (key : Key) (holdings : Holdings) (base after : ℕ → ℕ) (number : ℕ)
+pub record ClientGoes (session : Session) (stage : Stage) (lines : List Line)
+    (ring : TableId) (key : Key) (holdings : Holdings) (base after : ℕ → ℕ) (number : ℕ)
     (d : LabClient) (x : AtPort × Client) (e : LabClient) : Type 0 where
   pub next : AtPort × Client
-  pub may : LinesMay (client_kinds session stage number) (rules_of session stage lines) x (ops_by (is_client number) lines) next (rows_of e)
+  pub may : LinesMay (client_kinds session stage number) (rules_of session stage lines)
+      x (ops_by (is_client number) lines) next (rows_of e)
   pub is : IsClientIn session ring key holdings number e next
   pub counts : next.0.by_gate + base number ≡ after number
   pub laid : (f k : ℕ) → laid_for (open_of e) f k +ℤ given_by session (own_segments number x.1) f k
@@ -164,13 +170,17 @@ module _ (session : Session) (stage : Stage) (lines : List Line) (ring : TableId
 -- ---- all clients
 
 -- all clients did what a run allows, the first of which has a number
-pub record ClientsGo (session : Session) (stage : Stage) (lines : List Line) (ring : TableId) (key : Key) (holdings : Holdings) (base after : ℕ → ℕ) (number : ℕ)
+pub record ClientsGo (session : Session) (stage : Stage) (lines : List Line)
+    (ring : TableId) (key : Key) (holdings : Holdings) (base after : ℕ → ℕ) (number : ℕ)
     (ds : List LabClient) (xs : List (AtPort × Client)) (es : List LabClient) : Type 0 where
   pub next : List (AtPort × Client)
-  pub may : EachMay (client_kinds session stage) (rules_of session stage lines) (λ n. ops_by (is_client n) lines) number xs next (flat_map rows_of es)
+  pub may : EachMay (client_kinds session stage) (rules_of session stage lines)
+      (λ n. ops_by (is_client n) lines) number xs next (flat_map rows_of es)
   pub are : AreEach (IsClientIn session ring key holdings) number es next
   pub counted : AreCounted base after number next
-  pub laid : (f k : ℕ) → laid_open es f k +ℤ given_by session (segments_from number xs) f k ≡ laid_open ds f k +ℤ given_by session (segments_from number next) f k
+  pub laid : (f k : ℕ)
+      → laid_open es f k +ℤ given_by session (segments_from number xs) f k
+      ≡ laid_open ds f k +ℤ given_by session (segments_from number next) f k
 
 module _ (session : Session) (stage : Stage) (lines : List Line) (ring : TableId) (key : Key) (holdings : Holdings) (base : ℕ → ℕ) (laws : PhaseLaws) {G : Type 0} (stops : G → ℕ)
     (gates after : List G) (c d : Card) (card : CardInPhase session stage lines ring key c d) where
@@ -205,24 +215,28 @@ module _ (session : Session) (stage : Stage) (lines : List Line) (ring : TableId
 
 -- The steps of a phase, one after the other: all clients took room for their lines, met notes of the card, did their lines each behind its
 -- gate, gave notes to the card, and gave their rows to the lab.
-pub record ClientSteps {G : Type 0} (stops : G → ℕ) (gates after : List G) (sounds : List Sound) (phase : ℕ) (lines : List Line) (c d : Card)
+pub record ClientSteps {G : Type 0} (stops : G → ℕ) (gates after : List G)
+    (sounds : List Sound) (phase : ℕ) (lines : List Line) (c d : Card)
     (before heard done : LabClients) : Type 0 where
   pub roomy : LabClients
   pub informed : LabClients
   pub run : LabClients
   pub take_room : AreEach (HasTakenRoom lines) 0 (clients_of before) (clients_of roomy)
   pub inform : AreEach (IsInformedBy c) 0 (clients_of roomy) (clients_of informed)
-  pub run_lines : AreEach (RunsAt stops gates after sounds phase lines) 0 (clients_of informed) (clients_of run)
+  pub run_lines : AreEach (RunsAt stops gates after sounds phase lines) 0
+      (clients_of informed) (clients_of run)
   pub hear : AreEach (IsHeardBy d) 0 (clients_of run) (clients_of heard)
   pub take_rows : AreEach HasClientRows 0 (clients_of heard) (clients_of done)
   pub same_places : places_of done ≡ places_of before
 
 -- A phase of the clients of the lab: the clients of a run may do their lines so, with these rows; they are those of the lab then, whose gates had
 -- stopped them so often since the lab began.
-pub record ClientsPhase (session : Session) (stage : Stage) (lines : List Line) (held : Held) (base after : ℕ → ℕ) (xs : List (AtPort × Client)) (rows : List Row)
+pub record ClientsPhase (session : Session) (stage : Stage) (lines : List Line)
+    (held : Held) (base after : ℕ → ℕ) (xs : List (AtPort × Client)) (rows : List Row)
     (done : LabClients) : Type 0 where
   pub next : List (AtPort × Client)
-  pub may : EachMay (client_kinds session stage) (rules_of session stage lines) (λ n. ops_by (is_client n) lines) 0 xs next rows
+  pub may : EachMay (client_kinds session stage) (rules_of session stage lines)
+      (λ n. ops_by (is_client n) lines) 0 xs next rows
   pub are : AreDone session held next done
   pub counted : AreCounted base after 0 next
 
@@ -311,8 +325,10 @@ module _ (session : Session) (ring : TableId) (key : Key) (holdings : Holdings) 
   held_after-still number (d ∷ ds) [] held are = absurd are
 
 -- A phase in which no client has a line leaves all of them, and none of them is reaped after it.
-pub record ClientsRest (session : Session) (stage : Stage) (lines : List Line) (held : Held) (xs : List (AtPort × Client)) : Type 0 where
-  pub may : EachMay (client_kinds session stage) (rules_of session stage lines) (λ n. ops_by (is_client n) lines) 0 xs xs []
+pub record ClientsRest (session : Session) (stage : Stage) (lines : List Line)
+    (held : Held) (xs : List (AtPort × Client)) : Type 0 where
+  pub may : EachMay (client_kinds session stage) (rules_of session stage lines)
+      (λ n. ops_by (is_client n) lines) 0 xs xs []
   pub same_clients : map (reaped_client session.ring) xs ≡ xs
   pub same_held : held_after session 0 xs held ≡ held
 

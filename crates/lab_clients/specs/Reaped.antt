@@ -27,10 +27,12 @@ pub record AreDoneInRun (cs : LabClients) : Type 0 where
 -- what is held, and the clients of a run, after one of a number was reaped, if it was stopped
 abbrev pub held_reaped : Session → Held → List (AtPort × Client) → ℕ → Held
 held_reaped session held xs number =
-    reaped_one session number (client_among session xs number) (is_stopped (client_among session xs number).1.own) held
+    reaped_one session number (client_among session xs number)
+    (is_stopped (client_among session xs number).1.own) held
 
 abbrev pub clients_reaped : Session → List (AtPort × Client) → ℕ → List (AtPort × Client)
-clients_reaped session xs number = slice_set xs number (reaped_client session.ring (client_among session xs number))
+clients_reaped session xs number =
+    slice_set xs number (reaped_client session.ring (client_among session xs number))
 
 -- after those before one of a number were
 abbrev pub reaped_to : Geometry → ℕ → List (AtPort × Client) → List (AtPort × Client)
@@ -41,7 +43,8 @@ reaped_to ring (suc to) (x ∷ xs) = reaped_client ring x ∷ reaped_to ring to 
 abbrev pub held_to : Session → ℕ → ℕ → List (AtPort × Client) → Held → Held
 held_to session number zero xs held = held
 held_to session number (suc to) [] held = held
-held_to session number (suc to) (x ∷ xs) held = held_to session (number + 1) to xs (reaped_one session number x (is_stopped x.1.own) held)
+held_to session number (suc to) (x ∷ xs) held =
+    held_to session (number + 1) to xs (reaped_one session number x (is_stopped x.1.own) held)
 
 -- ---- from one number to the next
 

@@ -40,7 +40,8 @@ abbrev pub own_segments : ℕ → Client → List (ℕ × Segment)
 own_segments number client = map (with_number number) (segments_of client)
 
 abbrev pub segments_from : ℕ → List (AtPort × Client) → List (ℕ × Segment)
-segments_from number clients = numbered (λ (client : AtPort × Client). segments_of client.1) number clients
+segments_from number clients =
+    numbered (λ (client : AtPort × Client). segments_of client.1) number clients
 
 -- what some segments give to a frame and channel
 abbrev pub given_by : Session → List (ℕ × Segment) → ℕ → ℕ → ℤ

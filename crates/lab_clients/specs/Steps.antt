@@ -37,12 +37,14 @@ pub record HasTakenRoom (lines : List Line) (i : ℕ) (d e : LabClient) : Type 0
   pub rows : rows_of e ≡ rows_of d
 
 -- a client can use its seat with its file, and has the room of its lines
-pub record IsReadyAt (sounds : List Sound) (lines : List Line) (i : ℕ) (d : LabClient) : Type 0 where
+pub record IsReadyAt (sounds : List Sound) (lines : List Line) (i : ℕ)
+    (d : LabClient) : Type 0 where
   pub ready : CanRun (sound_at sounds i) d
   pub room : HasRoom lines d
 
 abbrev pub AreReady : List Sound → List Line → List LabClient → Type 0
-AreReady sounds lines ds = (i : ℕ) (d : LabClient) → i < length ds → IsReadyAt sounds lines i (slice_index_or ds i d)
+AreReady sounds lines ds =
+    (i : ℕ) (d : LabClient) → i < length ds → IsReadyAt sounds lines i (slice_index_or ds i d)
 
 -- a client met a note of the card, which met notes of others before it; or the card met its note
 pub record IsInformedBy (c : Card) (i : ℕ) (d e : LabClient) : Type 0 where
@@ -56,12 +58,15 @@ pub record IsHeardBy (c : Card) (i : ℕ) (d e : LabClient) : Type 0 where
   pub heard : IsClientHeard card d e
 
 -- a client did its lines behind its gate
-abbrev pub RunsAt : {G : Type 0} → (G → ℕ) → List G → List G → List Sound → ℕ → List Line → ℕ → LabClient → LabClient → Type 0
-RunsAt stops gates after sounds phase lines i d e = RunsLines (stops_at stops gates i) (stops_at stops after i) phase (sound_at sounds i) lines d e
+abbrev pub RunsAt : {G : Type 0} → (G → ℕ) → List G → List G → List Sound → ℕ
+    → List Line → ℕ → LabClient → LabClient → Type 0
+RunsAt stops gates after sounds phase lines i d e =
+    RunsLines (stops_at stops gates i) (stops_at stops after i) phase (sound_at sounds i) lines d e
 
 -- the gates from a number on are as they were
 abbrev pub AreSameFrom : {G : Type 0} → ℕ → List G → List G → Type 0
-AreSameFrom {G = G} from gates after = (i : ℕ) (g : G) → from ≤ i → slice_index_or after i g ≡ slice_index_or gates i g
+AreSameFrom {G = G} from gates after =
+    (i : ℕ) (g : G) → from ≤ i → slice_index_or after i g ≡ slice_index_or gates i g
 
 -- a client's rows were taken
 pub record HasClientRows (i : ℕ) (d e : LabClient) : Type 0 where

@@ -39,8 +39,10 @@ impl<'r> LabClients<'r> {
         ensures first { IfOk result (λ clients. (session : Session)
             → IsNewCardOf session seat.entry share → length session.clients ≡ count
             → AreAt session (held_of (first_stage session)) (first_stage session).clients clients) }
-        ensures ring { IfOk result (λ clients. ring_of_places (places_of clients) ≡ ring_of seat.entry) }
-        ensures key { IfOk result (λ clients. key_of_places (places_of clients) ≡ key_of seat.entry) }
+        ensures ring { IfOk result
+            (λ clients. ring_of_places (places_of clients) ≡ ring_of seat.entry) }
+        ensures key { IfOk result
+            (λ clients. key_of_places (places_of clients) ≡ key_of seat.entry) }
         ensures count { IfOk result (λ clients. length (clients_of clients) ≡ count) }
         ensures only { IfErr result (λ e. e ≡ PcmError.Memory) }
     {

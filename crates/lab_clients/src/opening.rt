@@ -51,7 +51,8 @@ impl LabClients<'_> {
         ensures after { IfOk result (λ row. (session : Session) (stage : Stage)
             → AreBeforeOpening session stage number (option_copied opening.entry)
             (position_of_player player.old) phase self.old
-            → AreAfter session stage (after_open session stage (actor.Client number)) row self.new) }
+            → AreAfter session stage (after_open session stage (actor.Client number))
+            row self.new) }
         ensures card { IsSameCard (places_of self.old) (places_of self.new) }
         ensures player { PlayerStays player.old player.new }
         ensures only { IfErr result (λ e. e ≡ PcmError.Memory) }
@@ -86,7 +87,8 @@ impl LabClients<'_> {
         ensures after { IfOk result (λ row. (session : Session) (stage : Stage)
             → AreBeforeOpening session stage number (Some opening.now)
             (position_of_player player.old) phase self.old
-            → AreAfter session stage (after_open session stage (actor.Client number)) row self.new) }
+            → AreAfter session stage (after_open session stage (actor.Client number))
+            row self.new) }
         ensures card { IsSameCard (places_of self.old) (places_of self.new) }
         ensures player { PlayerStays player.old player.new }
         ensures only { IfErr result (λ e. e ≡ PcmError.Memory) }
@@ -113,7 +115,8 @@ impl LabClients<'_> {
         requires number { number < length (clients_of self.old) }
         ensures after { (session : Session) (stage : Stage)
             → AreAtStage session stage phase self.old
-            → AreAfter session stage (after_close session stage (actor.Client number)) result self.new }
+            → AreAfter session stage (after_close session stage (actor.Client number))
+            result self.new }
         ensures card { IsSameCard (places_of self.old) (places_of self.new) }
     {
         let client = &self.clients[number as usize];
@@ -138,7 +141,8 @@ impl LabClients<'_> {
         requires open { IsSome (open_at (clients_of self.old) number) }
         ensures closed { (session : Session) (held : Held) (xs : List (AtPort × Client))
             → AreAt session held xs self.old
-            → AreAt session (held_but session held xs number) (clients_but session xs number) self.new }
+            → AreAt session (held_but session held xs number)
+            (clients_but session xs number) self.new }
         ensures clients { IsClosedAt number (clients_of self.old) (clients_of self.new) }
         ensures card { IsSameCard (places_of self.old) (places_of self.new) }
     {

@@ -21,7 +21,8 @@ impl LabClients<'_> {
         requires { AreDoneInRun self.old }
         ensures reaped { (session : Session) (held : Held) (xs : List (AtPort × Client))
             → AreDone session held xs self.old
-            → AreAt session (held_after session 0 xs held) (map (reaped_client session.ring) xs) self.new }
+            → AreAt session (held_after session 0 xs held)
+            (map (reaped_client session.ring) xs) self.new }
         ensures card { IsSameCard (places_of self.old) (places_of self.new) }
     {
         for number in 0..self.clients.len() {
@@ -35,7 +36,8 @@ impl LabClients<'_> {
         requires inside { number < length (clients_of self.old) }
         ensures reaped { (session : Session) (held : Held) (xs : List (AtPort × Client))
             → AreDone session held xs self.old
-            → AreDone session (held_reaped session held xs number) (clients_reaped session xs number) self.new }
+            → AreDone session (held_reaped session held xs number)
+            (clients_reaped session xs number) self.new }
         ensures len { length (clients_of self.new) ≡ length (clients_of self.old) }
         ensures card { IsSameCard (places_of self.old) (places_of self.new) }
     {
@@ -51,7 +53,8 @@ impl LabClients<'_> {
         requires open { IsSome (open_at (clients_of self.old) number) }
         ensures closed { (session : Session) (held : Held) (xs : List (AtPort × Client))
             → AreDone session held xs self.old
-            → AreDone session (held_but session held xs number) (clients_but session xs number) self.new }
+            → AreDone session (held_but session held xs number)
+            (clients_but session xs number) self.new }
         ensures len { length (clients_of self.new) ≡ length (clients_of self.old) }
         ensures card { IsSameCard (places_of self.old) (places_of self.new) }
     {

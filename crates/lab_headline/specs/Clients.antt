@@ -11,11 +11,15 @@ use Rattle.lab_headline.specs.Mix.{placed}
 
 -- the samples that the segments of one client placed
 abbrev pub placed_by : Session → Report → ℕ → List Entry
-placed_by session report number = flat_map (λ segment. entries_by session (number, segment)) (segments_by number report.segments)
+placed_by session report number =
+    flat_map (λ segment. entries_by session (number, segment)) (segments_by number report.segments)
 
 -- What a report's segments placed is what each client placed, one client after the other. So the sum at a frame and channel is the sum of what each
 -- client has there: a client that is stopped keeps what it placed, and nothing of another is missing.
 pub record IsSumOfClients (session : Session) (report : Report) : Type 0 where
-  pub each : placed session report ≡ flat_map (placed_by session report) (range_with_len 0 (length session.clients))
+  pub each : placed session report
+      ≡ flat_map (placed_by session report) (range_with_len 0 (length session.clients))
   pub sums : (frame channel : ℕ) → total (placed session report) frame channel
-      ≡ sum_of_samples (map (λ number. total (placed_by session report number) frame channel) (range_with_len 0 (length session.clients)))
+      ≡ sum_of_samples
+      (map (λ number. total (placed_by session report number) frame channel)
+      (range_with_len 0 (length session.clients)))

@@ -26,7 +26,8 @@ use Rattle.lab_run.specs.Stage.{Session, Stage, client_at, first_stage}
 
 -- a client's line in a run of a body: the phase that it is in, with the run up to there and the client's lines before it, and then the client
 -- before the line and after it
-pub record IsLineOf (session : Session) (body : List Item) (number : ℕ) (before : AtPort × Client) (asked : Op) (after : AtPort × Client) (answer : Answer) : Type 0 where
+pub record IsLineOf (session : Session) (body : List Item) (number : ℕ) (before : AtPort × Client)
+    (asked : Op) (after : AtPort × Client) (answer : Answer) : Type 0 where
   pub done : List Item
   pub others : List Item
   pub lines : List Line
@@ -37,12 +38,15 @@ pub record IsLineOf (session : Session) (body : List Item) (number : ℕ) (befor
   pub rows : List Row
   pub later : List Op
   pub lines_are : ops_by (is_client number) lines ≡ early ++ asked ∷ later
-  pub lines_so_far : LinesMay (client_kinds session stage number) (rules_of session stage lines) (client_at session stage number) early before rows
-  pub line : LineMay (client_kinds session stage number) (rules_of session stage lines) before asked after answer
+  pub lines_so_far : LinesMay (client_kinds session stage number)
+      (rules_of session stage lines) (client_at session stage number) early before rows
+  pub line : LineMay (client_kinds session stage number) (rules_of session stage lines)
+      before asked after answer
 
 -- the samples that a client has placed in its present stretch: those of the segment that a report has of it
 abbrev pub placed_now : Session → ℕ → Client → List Entry
-placed_now session number client = flat_map (λ segment. entries_by session (number, segment)) (present_of client.own)
+placed_now session number client =
+    flat_map (λ segment. entries_by session (number, segment)) (present_of client.own)
 
 -- a line of a client was answered late, at a frame and channel of the card
 abbrev pub IsLate : Answer → ℕ → ℕ → Type 0
@@ -51,16 +55,20 @@ IsLate answer frame channel = answer ≡ Failed (Xrun (why.Late frame channel 0)
 -- Then none of the samples that the client's stretch has placed by then is at this frame and channel. A rewind that was late names the last sample
 -- of the stretch that is in the card's ring instead: the one that it couldn't take back.
 pub record LateLinesMiss (session : Session) (body : List Item) : Type 0 where
-  pub missed : (number : ℕ) (before after : AtPort × Client) (asked : Op) (answer : Answer) (frame channel : ℕ)
-      → IsLineOf session body number before asked after answer → is_rewind asked ≡ false → IsLate answer frame channel
+  pub missed : (number : ℕ) (before after : AtPort × Client) (asked : Op)
+      (answer : Answer) (frame channel : ℕ)
+      → IsLineOf session body number before asked after answer → is_rewind asked ≡ false
+      → IsLate answer frame channel
       → at (placed_now session number after.1) frame channel ≡ []
-  pub rewinds : (number : ℕ) (before after : AtPort × Client) (n : ℕ) (answer : Answer) (frame channel : ℕ)
+  pub rewinds : (number : ℕ) (before after : AtPort × Client) (n : ℕ) (answer : Answer)
+      (frame channel : ℕ)
       → IsLineOf session body number before (op.Rewind n) after answer → IsLate answer frame channel
       → IfSome after.1.own (λ c. IsLast c frame channel)
 
 -- A row of a client that is answered late is that of a line of the run, after which the client's stretch has no sample at the frame and channel. It
 -- is this run's line: the rows of the report up to its phase are the first ones of all rows.
-pub record RowMisses (session : Session) (body : List Item) (all : List Row) (row : Row) (number frame channel : ℕ) : Type 0 where
+pub record RowMisses (session : Session) (body : List Item) (all : List Row)
+    (row : Row) (number frame channel : ℕ) : Type 0 where
   pub before : AtPort × Client
   pub after : AtPort × Client
   pub asked : Op
@@ -73,7 +81,8 @@ pub record RowMisses (session : Session) (body : List Item) (all : List Row) (ro
 
 abbrev pub MissesWhereLate : Session → List Item → List Row → Row → Type 0
 MissesWhereLate session body all row =
-    (number frame channel : ℕ) → row.actor ≡ actor.Client number → is_rewind row.op ≡ false → IsLate row.answer frame channel
+    (number frame channel : ℕ) → row.actor ≡ actor.Client number → is_rewind row.op ≡ false
+    → IsLate row.answer frame channel
     → RowMisses session body all row number frame channel
 
 -- each row of a report, but those of rewinds

@@ -9,7 +9,10 @@ use Rattle.lab_headline.specs.Mix.{placed}
 
 -- each client that can be opened is bound to 1 to 8 channels of the card, each to another one
 abbrev pub AreBound : Session → Type 0
-AreBound session = (number : ℕ) → IfSome (slice_index_or session.clients number None) (λ (setup : Setup). AreBindings setup.bindings)
+AreBound session =
+    (number : ℕ)
+    → IfSome (slice_index_or session.clients number None)
+    (λ (setup : Setup). AreBindings setup.bindings)
 
 -- the only one of some samples, or silence where there is none
 abbrev pub only_of : List ℤ → ℤ
@@ -20,4 +23,5 @@ only_of (sample ∷ rest) = sample
 abbrev pub HasOneSample : Session → Report → Type 0
 HasOneSample session report = session.card.share ≡ Dshare → (frame channel : ℕ)
     → (count (placed session report) frame channel ≤ 1)
-    × (total (placed session report) frame channel ≡ only_of (at (placed session report) frame channel))
+    × (total (placed session report) frame channel
+    ≡ only_of (at (placed session report) frame channel))

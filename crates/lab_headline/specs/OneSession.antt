@@ -7,4 +7,6 @@ use Rattle.lab_run.specs.Stage.{Session}
 
 -- two sessions of a script on the same files are one
 abbrev pub HaveOneSession : Script → List Sound → Type 0
-HaveOneSession script wavs = (session other : Session) → IsSessionOf script wavs session → IsSessionOf script wavs other → session ≡ other
+HaveOneSession script wavs =
+    (session other : Session) → IsSessionOf script wavs session → IsSessionOf script wavs other
+    → session ≡ other

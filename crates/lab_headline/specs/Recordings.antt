@@ -24,7 +24,8 @@ frames_in_runs ((first, count) ∷ runs) = count + frames_in_runs runs
 -- the captured frames of some runs, interleaved: of each frame the channels that the bindings name, in their order, each with the sample that
 -- the capture file has of that frame and channel, or 0
 abbrev pub recording : Session → Option Sound → List ℕ → List (ℕ × ℕ) → List ℤ
-recording session capture bindings runs = flat_map (λ frame. map (captured session capture frame) bindings) (frames_of_runs runs)
+recording session capture bindings runs =
+    flat_map (λ frame. map (captured session capture frame) bindings) (frames_of_runs runs)
 
 -- the card's channels that a reader's channels are bound to
 abbrev pub bindings_at : Session → ℕ → List ℕ
@@ -32,22 +33,30 @@ bindings_at session number = bindings_of (slice_index_or session.readers number 
 
 -- The samples of a reader are the captured frames of its runs in the report. In each of its stretches, from a start to a row that is answered by an
 -- xrun, a drop, a close or a stop, the frames that its rows read are one slice.
-pub record IsRecordingOf (session : Session) (capture : Option Sound) (report : Report) (number : ℕ) (samples : List ℤ) : Type 0 where
-  pub frames : samples ≡ recording session capture (bindings_at session number) (runs_by number report.runs)
-  pub samples_are : length samples ≡ frames_in_runs (runs_by number report.runs) * length (bindings_at session number)
+pub record IsRecordingOf (session : Session) (capture : Option Sound) (report : Report)
+    (number : ℕ) (samples : List ℤ) : Type 0 where
+  pub frames : samples
+      ≡ recording session capture (bindings_at session number) (runs_by number report.runs)
+  pub samples_are : length samples
+      ≡ frames_in_runs (runs_by number report.runs) * length (bindings_at session number)
   pub after : Option ℕ
-  pub stretches : AreSlices None (rows_by (is_reader number) report.rows) (frames_of_runs (runs_by number report.runs)) after
+  pub stretches : AreSlices None (rows_by (is_reader number) report.rows)
+      (frames_of_runs (runs_by number report.runs)) after
 
 -- each reader has its recording, in the order of the script's lines
-pub record AreRecordingsOf (session : Session) (capture : Option Sound) (report : Report) (recorded : List (List ℤ)) : Type 0 where
+pub record AreRecordingsOf (session : Session) (capture : Option Sound)
+    (report : Report) (recorded : List (List ℤ)) : Type 0 where
   pub readers : length recorded ≡ length session.readers
-  pub each : (number : ℕ) → number < length session.readers → IsRecordingOf session capture report number (slice_index_or recorded number [])
+  pub each : (number : ℕ) → number < length session.readers
+      → IsRecordingOf session capture report number (slice_index_or recorded number [])
 
 -- a reader that could be opened is bound as its line says, or to each of the card's channels; one that couldn't has no samples
 abbrev pub IsBoundBy : Script → Session → ℕ → ReaderLine → Type 0
 IsBoundBy script session number line =
-    (slice_index_or session.readers number None ≡ None) ⊎ (bindings_at session number ≡ read_by script.card line)
+    (slice_index_or session.readers number None ≡ None)
+    ⊎ (bindings_at session number ≡ read_by script.card line)
 
 abbrev pub ReadersAreBound : Script → Session → Type 0
 ReadersAreBound script session =
-    (number : ℕ) (line : ReaderLine) → slice_get script.readers number ≡ Some line → IsBoundBy script session number line
+    (number : ℕ) (line : ReaderLine) → slice_get script.readers number ≡ Some line
+    → IsBoundBy script session number line

@@ -14,10 +14,13 @@ channels_of (Some c) = c.setup.bindings
 
 -- lists without a channel in common
 abbrev pub AreApart : List ℕ → List ℕ → Type 0
-AreApart channels others = (channel : ℕ) → has_channel channels channel ≡ true → has_channel others channel ≡ false
+AreApart channels others =
+    (channel : ℕ) → has_channel channels channel ≡ true → has_channel others channel ≡ false
 
 -- in each stage of a run of a card that is shared by channels, two clients that are open have no channel in common
 abbrev pub HaveOwnChannels : Session → List Item → Stage → Type 0
 HaveOwnChannels session done stage =
-    session.card.share ≡ Dshare → ItemsMay session (first_stage session) done stage → (n m : ℕ) → (n ≡ m → ⊥)
-    → AreApart (channels_of (client_at session stage n).1.own) (channels_of (client_at session stage m).1.own)
+    session.card.share ≡ Dshare → ItemsMay session (first_stage session) done stage
+    → (n m : ℕ) → (n ≡ m → ⊥)
+    → AreApart (channels_of (client_at session stage n).1.own)
+    (channels_of (client_at session stage m).1.own)

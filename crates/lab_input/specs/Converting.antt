@@ -10,7 +10,8 @@ use Rattle.wav_io.specs.Readers.{Reader, IsOfHead, error_of, raw_file, raw_to_co
 
 -- a conversion that has begun: it is that of the file's channels, rate and bits, it has taken these bytes of the samples, what
 -- is known of it is there, and it isn't too long so far
-pub record IsConverted (s : Shape) (reader : Reader) (stage : Stage) (fed : List ℕ) (samples : List ℤ) : Type 0 where
+pub record IsConverted (s : Shape) (reader : Reader) (stage : Stage) (fed : List ℕ)
+    (samples : List ℤ) : Type 0 where
   pub channels : ℕ
   pub rate : ℕ
   pub bits : ℕ
@@ -38,7 +39,8 @@ pub record IsConverting (r : PlugReader) (seen : List ℕ) : Type 0 where
 -- a piece more is read of a file with this head: the bytes of its samples came behind those that are converted
 pub record IsFed (r : PlugReader) (channels rate bits : ℕ) (seen : List ℕ) : Type 0 where
   pub fed : List ℕ
-  pub same : (more : List ℕ) → with_bytes (fed ++ r.body.items) (raw_to_come r.reader more) ≡ raw_file (seen ++ more)
+  pub same : (more : List ℕ)
+      → with_bytes (fed ++ r.body.items) (raw_to_come r.reader more) ≡ raw_file (seen ++ more)
   pub no_error : error_of r.reader ≡ None
   pub taken : r.taken ≡ length fed
   pub shape : IsShape r.shape

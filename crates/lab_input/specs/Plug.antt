@@ -35,21 +35,32 @@ channels_for channels (Some bindings) = length bindings
 -- a client with `plug` takes its file at the card's rate, with as many channels as it binds
 abbrev pub shape_for : CardLine → ClientLine → Option Shape
 shape_for card client =
-    if client.plug then Some (record { channels = channels_for card.channels client.bindings; rate = card.rate }) else None
+    if client.plug
+    then Some (record { channels = channels_for card.channels client.bindings; rate = card.rate })
+    else None
 
 -- how samples of 8, 16, 24 or 32 bits are stored
 abbrev pub wide_of : ℕ → Wide
-wide_of bits = if bits == 8 then U8 else if bits == 16 then S16Le else if bits == 24 then S24Packed else S32Le
+wide_of bits =
+    if bits == 8 then U8 else if bits == 16 then S16Le else if bits == 24 then S24Packed else S32Le
 
 -- how a file of these channels, this rate and these bits is converted: by the usual table of channels
 abbrev pub conversion_to : Shape → (channels rate bits : ℕ) → Conversion
 conversion_to s channels rate bits =
-    record { from = wide_of bits; table = usual_table channels s.channels; rates = record { input = rate; output = s.rate } }
+    record {
+      from = wide_of bits;
+      table = usual_table channels s.channels;
+      rates = record { input = rate; output = s.rate };
+    }
 
 -- the sound that the bytes of a file's samples are converted to
 abbrev pub converted : Shape → Raw → Sound
 converted s raw =
-    record { channels = s.channels; rate = s.rate; samples = plug_of (conversion_to s raw.channels raw.rate raw.bits) raw.body }
+    record {
+      channels = s.channels;
+      rate = s.rate;
+      samples = plug_of (conversion_to s raw.channels raw.rate raw.bits) raw.body;
+    }
 
 -- a sound whose samples have no more bytes than a WAV file may have
 abbrev pub short_enough : Sound → Result Sound WavError

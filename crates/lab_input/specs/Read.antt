@@ -4,4 +4,5 @@ use Rattle.lab_input.specs.Input.{RunInput}
 
 -- the input that was read
 abbrev pub input_of : Input → RunInput
-input_of input = record { script = input.script; capture = input.capture; sounds = input.wavs.items }
+input_of input =
+    record { script = input.script; capture = input.capture; sounds = input.wavs.items }

@@ -82,7 +82,8 @@ impl PlugReader {
         ensures shape { self.new.shape ≡ self.old.shape }
         ensures more { (seen : List ℕ) → IsFed self.old head.channels head.rate head.bits seen
             → OnOk result (IsConverting self.new seen) }
-        ensures refused { (seen rest : List ℕ) → IsFed self.old head.channels head.rate head.bits seen
+        ensures refused { (seen rest : List ℕ)
+            → IsFed self.old head.channels head.rate head.bits seen
             → IfErr result (λ e. IsRefusal e (plug_file self.old.shape (seen ++ rest))) }
     {
         let mut plug = begun(alloc, self.plug.take(), head, self.shape)?;
@@ -106,7 +107,8 @@ impl PlugReader {
         ensures more { (seen : List ℕ) → IsConverting self.old seen
             → OnOk result (IsConverting self.new (seen ++ piece.now)) }
         ensures refused { (seen rest : List ℕ) → IsConverting self.old seen
-            → IfErr result (λ e. IsRefusal e (plug_file self.old.shape ((seen ++ piece.now) ++ rest))) }
+            → IfErr result
+            (λ e. IsRefusal e (plug_file self.old.shape ((seen ++ piece.now) ++ rest))) }
     {
         self.body.clear();
         self.reader.feed(piece, &mut self.body)?;
@@ -119,7 +121,8 @@ impl PlugReader {
     /// The converted sound of the file that ends here, or why it is refused.
     pub(crate) fn finish(self) -> Result<Wav, WavError>
         requires { IsPlugOfFile self }
-        ensures { (seen : List ℕ) → IsConverting self seen → Reads result (plug_file self.shape seen) }
+        ensures { (seen : List ℕ) → IsConverting self seen
+            → Reads result (plug_file self.shape seen) }
     {
         let PlugReader {
             shape,

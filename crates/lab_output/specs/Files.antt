@@ -41,7 +41,8 @@ recorded_file card out reader = record {
 
 -- the files of a run, in the order in which they are written
 abbrev pub output_files : Script → List ℕ → List OutputFile
-output_files script out = played_file script.card out ∷ map (recorded_file script.card out) script.readers
+output_files script out =
+    played_file script.card out ∷ map (recorded_file script.card out) script.readers
 
 -- a file has 1 to 8 channels, and a rate that the head of a WAV file can tell
 pub record IsOutputFile (file : OutputFile) : Type 0 where
@@ -53,7 +54,8 @@ pub record IsOutputFile (file : OutputFile) : Type 0 where
 -- no two files have one name
 abbrev pub AreApart : List OutputFile → Type 0
 AreApart [] = ⊤
-AreApart (file ∷ files) = AllByRecursion (λ (other : OutputFile). file.name ≢ other.name) files × AreApart files
+AreApart (file ∷ files) =
+    AllByRecursion (λ (other : OutputFile). file.name ≢ other.name) files × AreApart files
 
 -- the samples of a file, as a sound
 abbrev pub sound_of : OutputFile → List ℤ → Sound
@@ -76,7 +78,8 @@ abbrev pub finished_file : OutputFile → List ℤ → List ℕ
 finished_file file samples = canonical (sound_of file samples)
 
 -- the files, with each output holding what is made of its samples
-abbrev pub with_outputs : (OutputFile → List ℤ → List ℕ) → List OutputFile → List (List ℤ) → Files → Files
+abbrev pub with_outputs : (OutputFile → List ℤ → List ℕ) → List OutputFile
+    → List (List ℤ) → Files → Files
 with_outputs make [] sounds files = files
 with_outputs make (output ∷ outputs) [] files = files
 with_outputs make (output ∷ outputs) (samples ∷ sounds) files =
@@ -99,7 +102,8 @@ nothing outputs = map (λ _. []) outputs
 abbrev pub IsFormOf : OutputFile → List ℤ → List ℕ → Type 0
 IsFormOf output samples bytes =
     (k : ℕ) × ((bytes ≡ take k (open_file output samples))
-    ⊎ ((k ≤ 44) × (bytes ≡ take k (head_of output (length samples)) ++ drop k (open_file output samples))))
+    ⊎ ((k ≤ 44)
+    × (bytes ≡ take k (head_of output (length samples)) ++ drop k (open_file output samples))))
 
 -- a file of this name is an output of the run, and these bytes are one of the forms that it may have
 abbrev pub MayHold : List OutputFile → List (List ℤ) → List ℕ → List ℕ → Type 0

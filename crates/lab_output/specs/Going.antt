@@ -11,14 +11,16 @@ use Rattle.lab_output.specs.Files.{IsOutputFile, AreApart, output_files, open_he
 -- the files, with each output begun
 abbrev pub opened_files : List OutputFile → Files → Files
 opened_files [] files = files
-opened_files (output ∷ outputs) files = opened_files outputs (with_file files output.name (open_head_of output))
+opened_files (output ∷ outputs) files =
+    opened_files outputs (with_file files output.name (open_head_of output))
 
 -- some of the outputs were begun, and one of them maybe in part
 abbrev pub OpenedInPart : List OutputFile → Option Files → Option Files → Type 0
 OpenedInPart [] before after = after ≡ before
 OpenedInPart (output ∷ outputs) before after =
     IsPartWritten before after output.name (open_head_of output)
-    ⊎ OpenedInPart outputs (option_map (λ files. with_file files output.name (open_head_of output)) before) after
+    ⊎ OpenedInPart outputs
+    (option_map (λ files. with_file files output.name (open_head_of output)) before) after
 
 -- the files, with the true head of so many samples in each output
 abbrev pub closed_files : List OutputFile → List ℕ → Files → Files
@@ -34,15 +36,18 @@ ClosedInPart (output ∷ outputs) [] before after = after ≡ before
 ClosedInPart (output ∷ outputs) (samples ∷ counts) before after =
     IsPartFinished before after output.name (head_of output samples)
     ⊎ ClosedInPart outputs counts
-    (option_map (λ files. changed (overwritten (head_of output samples)) files output.name) before) after
+    (option_map (λ files. changed (overwritten (head_of output samples)) files output.name) before)
+    after
 
 -- a file of this name, where it is told, has room for a head
 abbrev pub HasHeadRoom : Option Files → List ℕ → Type 0
-HasHeadRoom files name = IfSome files (λ m. IfSome (bytes_under m name) (λ content. 44 ≤ length content))
+HasHeadRoom files name =
+    IfSome files (λ m. IfSome (bytes_under m name) (λ content. 44 ≤ length content))
 
 -- each output, where the files are told, has room for a head
 abbrev pub HaveHeadRoom : Option Files → List OutputFile → Type 0
-HaveHeadRoom files outputs = AllByRecursion (λ (output : OutputFile). HasHeadRoom files output.name) outputs
+HaveHeadRoom files outputs =
+    AllByRecursion (λ (output : OutputFile). HasHeadRoom files output.name) outputs
 
 -- the files are told, and one of them has this name
 abbrev pub HasFile : Option Files → List ℕ → Type 0
@@ -50,7 +55,8 @@ HasFile files name = IsSomeAnd files (λ m. IsSome (bytes_under m name))
 
 -- the same of each output
 abbrev pub HaveFiles : Option Files → List OutputFile → Type 0
-HaveFiles files outputs = AllByRecursion (λ (output : OutputFile). HasFile files output.name) outputs
+HaveFiles files outputs =
+    AllByRecursion (λ (output : OutputFile). HasFile files output.name) outputs
 
 -- so many samples fit into a WAV file
 abbrev pub IsFew : ℕ → Type 0
@@ -58,7 +64,8 @@ IsFew samples = samples * 2 + 36 < 2 ^ 32
 
 -- while a run goes on: the shelf holds the files as they were before, but for the outputs, each of which has an open head and
 -- the samples so far, of which there are so many
-pub record IsGoingOn (outputs : List OutputFile) (counts : List ℕ) (sounds : List (List ℤ)) (before now : Option Files) : Type 0 where
+pub record IsGoingOn (outputs : List OutputFile) (counts : List ℕ) (sounds : List (List ℤ))
+    (before now : Option Files) : Type 0 where
   pub counted : map length sounds ≡ counts
   pub number : length sounds ≡ length outputs
   pub files : now ≡ option_map (begun outputs sounds) before

@@ -93,13 +93,15 @@ impl Outputs {
         requires more { slice_index_or self.old.samples.items number 0 ≤ length samples.now }
         requires few { IsFew (length samples.now) }
         ensures going_on { (before : Option Files) (sounds : List (List ℤ))
-            → IsGoingOn self.old.files.items self.old.samples.items sounds before (S.files shelf.old)
+            → IsGoingOn self.old.files.items self.old.samples.items sounds
+            before (S.files shelf.old)
             → slice_index_or sounds number []
             ≡ take (slice_index_or self.old.samples.items number 0) samples.now
             → OnOk result (IsGoingOn self.new.files.items self.new.samples.items
             (slice_set sounds number samples.now) before (S.files shelf.new)) }
         ensures changes { (before : Option Files) (sounds targets : List (List ℤ))
-            → IsGoingOn self.old.files.items self.old.samples.items sounds before (S.files shelf.old)
+            → IsGoingOn self.old.files.items self.old.samples.items sounds
+            before (S.files shelf.old)
             → slice_index_or sounds number []
             ≡ take (slice_index_or self.old.samples.items number 0) samples.now
             → AreLonger (slice_set sounds number samples.now) targets
@@ -114,7 +116,8 @@ impl Outputs {
         ensures faults { WriteFaults result (S.write_faults shelf.old) (S.write_faults shelf.new) }
         ensures reliable { S.is_reliable shelf.old → S.is_reliable shelf.new }
         ensures never { (before : Option Files) (sounds : List (List ℤ))
-            → IsGoingOn self.old.files.items self.old.samples.items sounds before (S.files shelf.old)
+            → IsGoingOn self.old.files.items self.old.samples.items sounds
+            before (S.files shelf.old)
             → IsSome before → S.is_reliable shelf.old → result ≢ Err stops.Write }
     {
         let first = self.samples[number];
@@ -133,17 +136,21 @@ impl Outputs {
         requires outputs { AreOutputs self.now }
         requires going_on { SomeGoOn self.now (S.files shelf.old) }
         ensures stored { (before : Option Files) (sounds : List (List ℤ))
-            → IsGoingOn self.now.files.items self.now.samples.items sounds before (S.files shelf.old)
-            → OnOk result (S.files shelf.new ≡ option_map (stored self.now.files.items sounds) before) }
+            → IsGoingOn self.now.files.items self.now.samples.items sounds
+            before (S.files shelf.old)
+            → OnOk result
+            (S.files shelf.new ≡ option_map (stored self.now.files.items sounds) before) }
         ensures changes { (before : Option Files) (sounds : List (List ℤ))
-            → IsGoingOn self.now.files.items self.now.samples.items sounds before (S.files shelf.old)
+            → IsGoingOn self.now.files.items self.now.samples.items sounds
+            before (S.files shelf.old)
             → Changes (MayHold self.now.files.items sounds) before (S.files shelf.new) }
         ensures only { IfErr result IsWriteStop }
         ensures fetch_faults { S.fetch_faults shelf.new ≡ S.fetch_faults shelf.old }
         ensures faults { WriteFaults result (S.write_faults shelf.old) (S.write_faults shelf.new) }
         ensures reliable { S.is_reliable shelf.old → S.is_reliable shelf.new }
         ensures never { (before : Option Files) (sounds : List (List ℤ))
-            → IsGoingOn self.now.files.items self.now.samples.items sounds before (S.files shelf.old)
+            → IsGoingOn self.now.files.items self.now.samples.items sounds
+            before (S.files shelf.old)
             → IsSome before → S.is_reliable shelf.old → result ≢ Err stops.Write }
     {
         finish_files(shelf, self.files.as_slice(), self.samples.as_slice())

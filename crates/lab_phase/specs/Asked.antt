@@ -23,7 +23,13 @@ use Rattle.lab_phase.specs.declared.steps.Asked.{Asked}
 use Rattle.lab_phase.specs.PhaseSteps.{Asks}
 
 abbrev pub asks_of : Asked → Asks
-asks_of asked = record { sounds = asked.wavs.now; capture = option_copied asked.capture; phase = asked.phase; lines = asked.lines.now }
+asks_of asked =
+    record {
+      sounds = asked.wavs.now;
+      capture = option_copied asked.capture;
+      phase = asked.phase;
+      lines = asked.lines.now;
+    }
 
 -- the card can do its lines, and has the room of them
 pub record CardCanRun (lines : List Line) (a : CardActor) : Type 0 where
@@ -44,7 +50,8 @@ pub record ReadersCanRun (gates : ℕ) (asked : Asked) (rs : LabReaders) : Type 
   pub ready : All (IsReady asked.lines.now) (readers_of rs)
 
 -- all can meet the card, and do their lines then: there are 64 gates for clients, and one for each reader
-pub record CanMeet (gates : ℕ) (asked : Asked) (a : CardActor) (cs : LabClients) (rs : LabReaders) : Type 0 where
+pub record CanMeet (gates : ℕ) (asked : Asked) (a : CardActor) (cs : LabClients)
+    (rs : LabReaders) : Type 0 where
   pub card : CardCanRun asked.lines.now a
   pub clients_of_card : AreOfCard a.card (clients_of cs)
   pub readers_of_card : All (IsOf a.card) (readers_of rs)
@@ -53,9 +60,14 @@ pub record CanMeet (gates : ℕ) (asked : Asked) (a : CardActor) (cs : LabClient
   pub files : length asked.wavs.now ≡ length (clients_of cs)
   pub writes : All (λ (line : Line). IsFew line.op) asked.lines.now
   pub reads : All (λ (line : Line). IsFewRead line.op) asked.lines.now
-  pub clients_ready : (c : Card) (ds : LabClients) → AreEach (IsInformedBy c) 0 (clients_of cs) (clients_of ds) → AreReady asked.wavs.now asked.lines.now (clients_of ds)
-  pub readers_ready : (c : Card) (ss : LabReaders) → EachReader (readers.IsInformedBy c) rs ss → All (IsReady asked.lines.now) (readers_of ss)
+  pub clients_ready : (c : Card) (ds : LabClients)
+      → AreEach (IsInformedBy c) 0 (clients_of cs) (clients_of ds)
+      → AreReady asked.wavs.now asked.lines.now (clients_of ds)
+  pub readers_ready : (c : Card) (ss : LabReaders) → EachReader (readers.IsInformedBy c) rs ss
+      → All (IsReady asked.lines.now) (readers_of ss)
 
 -- how many of the card, the clients and the readers have lines
 abbrev pub busy_in : List Line → LabClients → LabReaders → ℕ
-busy_in lines cs rs = (if nat_lt 0 (length (ops_by is_of_card lines)) then 1 else 0) + count_by (has_lines lines) (clients_of cs) + count_by (is_busy lines) (readers_of rs)
+busy_in lines cs rs =
+    (if nat_lt 0 (length (ops_by is_of_card lines)) then 1 else 0)
+    + count_by (has_lines lines) (clients_of cs) + count_by (is_busy lines) (readers_of rs)

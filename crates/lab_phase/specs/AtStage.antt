@@ -48,14 +48,16 @@ pub record AreOfRings (c : Card) (cs : LabClients) (rs : LabReaders) : Type 0 wh
   pub snoop_geometry : readers.geometry_of rs ≡ writer_geometry (writer_of c)
 
 -- the card of a lab between two items: its rows are the lab's, and its sum ring has as many places as the session's card
-pub record IsCardOf (session : Session) (capture : Option Sound) (stage : Stage) (cs : LabClients) (rs : LabReaders) (a : CardActor) : Type 0 where
+pub record IsCardOf (session : Session) (capture : Option Sound) (stage : Stage)
+    (cs : LabClients) (rs : LabReaders) (a : CardActor) : Type 0 where
   pub is : IsCardIn session capture stage a
   pub rows : a.rows.items ≡ []
   pub rings : AreOfRings a.card cs rs
   pub all_places : (key_of_places (clients.places_of cs)).places ≡ session.card.places
 
 -- the card, the clients and the readers of a lab are those of a stage
-pub record AreActorsOf (session : Session) (capture : Option Sound) (stage : Stage) (card : Option CardActor) (cs : LabClients) (rs : LabReaders) : Type 0 where
+pub record AreActorsOf (session : Session) (capture : Option Sound) (stage : Stage)
+    (card : Option CardActor) (cs : LabClients) (rs : LabReaders) : Type 0 where
   pub card_is : IsSomeAnd card (IsCardOf session capture stage cs rs)
   pub clients_are : clients.AreAt session (held_of stage) stage.clients cs
   pub readers_are : readers.AreAt session capture stage.readers rs
@@ -69,8 +71,10 @@ pub record HasDone (lab : Lab) (stage : Stage) : Type 0 where
 
 -- each client and reader that has an opening can be opened so at the card
 pub record AreSetUp (lab : Lab) : Type 0 where
-  pub clients : AreUsable lab.script.now.card.channels lab.script.now.card.ring lab.openings.clients.items
-  pub readers : AreUsable lab.script.now.card.channels lab.script.now.card.ring lab.openings.readers.items
+  pub clients : AreUsable lab.script.now.card.channels lab.script.now.card.ring
+      lab.openings.clients.items
+  pub readers : AreUsable lab.script.now.card.channels lab.script.now.card.ring
+      lab.openings.readers.items
 
 -- readers at the same ring
 pub record IsSameRing (rs ss : LabReaders) : Type 0 where
@@ -79,7 +83,8 @@ pub record IsSameRing (rs ss : LabReaders) : Type 0 where
 
 -- its actors are those of a stage
 abbrev pub AreActorsAt : Lab → Stage → Type 0
-AreActorsAt lab stage = AreActorsOf (session_of lab) (capture_of lab) stage lab.card lab.clients lab.readers
+AreActorsAt lab stage =
+    AreActorsOf (session_of lab) (capture_of lab) stage lab.card lab.clients lab.readers
 
 pub record IsAtStage (lab : Lab) (stage : Stage) : Type 0 where
   pub actors : AreActorsAt lab stage
@@ -135,7 +140,8 @@ border_after session stage (item.Closes number actor) = after_close session stag
 border_after session stage (item.Phase lines) = stage
 
 -- a lab of a script, over these files
-pub record IsOfScript (script : Script) (wavs : List Sound) (capture : Option Sound) (lab : Lab) : Type 0 where
+pub record IsOfScript (script : Script) (wavs : List Sound) (capture : Option Sound)
+    (lab : Lab) : Type 0 where
   pub script_is : lab.script.now ≡ script
   pub wavs_are : lab.wavs.now ≡ wavs
   pub capture_is : capture_of lab ≡ capture
@@ -161,7 +167,8 @@ pub record IsSameCount (lab after : Lab) : Type 0 where
 
 -- its actors are those of the next stage, which has one row more
 pub record HasRowAt (lab : Lab) (stage next : Stage) (row : Row) (after : Lab) : Type 0 where
-  pub actors : AreActorsOf (session_of lab) (capture_of lab) next after.card after.clients after.readers
+  pub actors : AreActorsOf (session_of lab) (capture_of lab) next after.card
+      after.clients after.readers
   pub rows : next.rows ≡ stage.rows ++ row ∷ []
   pub phases : next.phases ≡ stage.phases
 

@@ -41,8 +41,10 @@ first_word g = at_frame (first_frame g)
 
 -- all words that a card took are what it played, from the first frame on
 pub record PlaysAll (a : CardActor) : Type 0 where
-  pub taken : (track_of (seat_of_card a.card)).taken ≡ words_at (geometry_of_card a.card) (first_word (geometry_of_card a.card)) a.played.items
-  pub next : next_of_player (seat_of_card a.card) ≡ behind_words (geometry_of_card a.card) (first_word (geometry_of_card a.card)) a.played.items
+  pub taken : (track_of (seat_of_card a.card)).taken
+      ≡ words_at (geometry_of_card a.card) (first_word (geometry_of_card a.card)) a.played.items
+  pub next : next_of_player (seat_of_card a.card)
+      ≡ behind_words (geometry_of_card a.card) (first_word (geometry_of_card a.card)) a.played.items
   pub len : length a.played.items ≡ frames_since_first a.card * (geometry_of_card a.card).channels
 
 -- whether a session has a reader
@@ -50,7 +52,8 @@ abbrev pub has_readers : Session → Bool
 has_readers session = nat_lt 0 (length session.readers)
 
 -- the card of a lab between two items: it stores what it captures where the session has a reader
-pub record IsCardIn (session : Session) (capture : Option Sound) (stage : Stage) (a : CardActor) : Type 0 where
+pub record IsCardIn (session : Session) (capture : Option Sound) (stage : Stage)
+    (a : CardActor) : Type 0 where
   pub at : IsCardAt session stage a.card
   pub rests : Rests a.card
   pub records : records_of a.card ≡ has_readers session

@@ -35,13 +35,17 @@ IsAtEnd lab = lab.next ≡ length lab.script.now.body
 
 -- at whatever stage the lab was, this is what a run leaves that ends there
 abbrev pub LeavesStage : Lab → Outcome → Type 0
-LeavesStage lab outcome = (stage : Stage) → IsAtStage lab stage → outcome_in outcome ≡ outcome_of (session_of lab) (capture_of lab) stage
+LeavesStage lab outcome =
+    (stage : Stage) → IsAtStage lab stage
+    → outcome_in outcome ≡ outcome_of (session_of lab) (capture_of lab) stage
 
 -- a run of the script may leave it, where the actors' own gates stop them as often as at that stage
 abbrev pub LeavesRun : Lab → Outcome → Type 0
 LeavesRun lab outcome =
-    (stage : Stage) (client_stops reader_stops : ℕ → ℕ) → IsAtStage lab stage → AreWithin client_stops 0 stage.clients → AreWithin reader_stops 0 stage.readers
-    → LabRun (session_of lab) (capture_of lab) lab.script.now.body client_stops reader_stops (outcome_in outcome)
+    (stage : Stage) (client_stops reader_stops : ℕ → ℕ) → IsAtStage lab stage
+    → AreWithin client_stops 0 stage.clients → AreWithin reader_stops 0 stage.readers
+    → LabRun (session_of lab) (capture_of lab) lab.script.now.body client_stops
+    reader_stops (outcome_in outcome)
 
 -- the clients are those of a run, which has all places of their ring
 pub record HaveAllPlaces (cs : LabClients) : Type 0 where
@@ -60,4 +64,6 @@ pub record IsMixOf (session : Session) (segments : List (ℕ × Segment)) (c : C
 
 -- and the segments are those of clients, of whatever run they are
 abbrev pub IsMixBy : LabClients → Card → Type 0
-IsMixBy cs c = (session : Session) (held : Held) (xs : List (AtPort × Client)) → clients.AreAt session held xs cs → IsMixOf session (all_segments xs) c
+IsMixBy cs c =
+    (session : Session) (held : Held) (xs : List (AtPort × Client))
+    → clients.AreAt session held xs cs → IsMixOf session (all_segments xs) c

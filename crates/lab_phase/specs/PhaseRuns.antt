@@ -29,7 +29,8 @@ pub record Stops : Type 0 where
 
 -- how often gates stopped: the first 64 are the clients', and those after them the readers'
 abbrev pub stops_by : {G : Type 0} → (G → ℕ) → List G → Stops
-stops_by stops gates = record { clients = stops_at stops (take 64 gates); readers = stops_at stops (drop 64 gates) }
+stops_by stops gates =
+    record { clients = stops_at stops (take 64 gates); readers = stops_at stops (drop 64 gates) }
 
 -- the gates stopped the actors as often as a stage counts since the lab began, when they had stopped them so often
 pub record AreStopsOf (base stops : Stops) (stage : Stage) : Type 0 where
@@ -51,34 +52,41 @@ pub record IsLonger (samples after : List ℤ) : Type 0 where
   pub is : after ≡ samples ++ more
 
 -- the lab did a phase as a run may do it
-pub record HasDonePhase (base stops : Stops) (lab : Lab) (stage : Stage) (lines : List Line) (after : Lab) : Type 0 where
+pub record HasDonePhase (base stops : Stops) (lab : Lab) (stage : Stage)
+    (lines : List Line) (after : Lab) : Type 0 where
   pub next : Stage
   pub may : ItemMay (session_of lab) stage (item.Phase lines) next
   pub is : IsAtStage after next
   pub counted : AreStopsOf base stops next
 
 -- the lab did a phase of the script that it runs, at whatever stage it was, and its gates stopped actors so often before it, and so often after it
-pub record DoesPhase (stops stops_after : Stops) (lab : Lab) (lines : List Line) (after : Lab) : Type 0 where
+pub record DoesPhase (stops stops_after : Stops) (lab : Lab) (lines : List Line)
+    (after : Lab) : Type 0 where
   pub same : IsSameScript lab after
   pub next : items_done after ≡ items_done lab + 1
   pub played : IsLonger (played_of lab) (played_of after)
-  pub does : (stage : Stage) (base : Stops) → IsAtStage lab stage → AreStopsOf base stops stage → HasDonePhase base stops_after lab stage lines after
+  pub does : (stage : Stage) (base : Stops) → IsAtStage lab stage
+      → AreStopsOf base stops stage → HasDonePhase base stops_after lab stage lines after
 
 -- its actors are those of the next stage, and its rows that stage's
-pub record HasRunPhase (base stops : Stops) (lab : Lab) (stage : Stage) (lines : List Line) (after : Lab) : Type 0 where
+pub record HasRunPhase (base stops : Stops) (lab : Lab) (stage : Stage)
+    (lines : List Line) (after : Lab) : Type 0 where
   pub next : Stage
   pub may : PhaseMay (session_of lab) stage lines next
-  pub actors : AreActorsOf (session_of lab) (capture_of lab) next after.card after.clients after.readers
+  pub actors : AreActorsOf (session_of lab) (capture_of lab) next after.card
+      after.clients after.readers
   pub rows : after.rows.items ≡ next.rows
   pub counted : AreStopsOf base stops next
 
 -- the actors did the phase, which isn't counted yet
-pub record RunsPhase (stops stops_after : Stops) (lab : Lab) (lines : List Line) (after : Lab) : Type 0 where
+pub record RunsPhase (stops stops_after : Stops) (lab : Lab) (lines : List Line)
+    (after : Lab) : Type 0 where
   pub same : IsSameScript lab after
   pub phases : after.phases ≡ lab.phases
   pub next : after.next ≡ lab.next
   pub played : IsLonger (played_of lab) (played_of after)
-  pub does : (stage : Stage) (base : Stops) → IsAtStage lab stage → AreStopsOf base stops stage → HasRunPhase base stops_after lab stage lines after
+  pub does : (stage : Stage) (base : Stops) → IsAtStage lab stage
+      → AreStopsOf base stops stage → HasRunPhase base stops_after lab stage lines after
 
 -- a phase and an item more is counted; else the lab is as before
 pub record CountsPhase (lab after : Lab) : Type 0 where
@@ -106,7 +114,8 @@ pub record PlaysAlone (asked : Asks) (rows after : List Row) (a b : CardActor) :
   pub all : after ≡ rows ++ played.rows.items
 
 -- the card, the clients and the readers took the room of their lines, met, did the lines, met again, and gave their rows to the lab
-pub record HaveRunLines {G : Type 0} (stops : G → ℕ) (gates gates_after : List G) (asked : Asks) (rows after : List Row) (a b : CardActor) (cs ds : LabClients) (rs ss : LabReaders)
+pub record HaveRunLines {G : Type 0} (stops : G → ℕ) (gates gates_after : List G) (asked : Asks)
+    (rows after : List Row) (a b : CardActor) (cs ds : LabClients) (rs ss : LabReaders)
     : Type 0 where
   pub roomy_card : CardActor
   pub roomy_clients : LabClients
@@ -115,15 +124,24 @@ pub record HaveRunLines {G : Type 0} (stops : G → ℕ) (gates gates_after : Li
   pub met_clients : LabClients
   pub met_readers : LabReaders
   pub room : HaveRoom asked.lines a roomy_card cs roomy_clients rs roomy_readers
-  pub met : HaveMet stops (take 64 gates) (take 64 gates_after) (drop 64 gates) (drop 64 gates_after) asked roomy_card roomy_clients roomy_readers met_card met_clients met_readers
+  pub met : HaveMet stops (take 64 gates) (take 64 gates_after) (drop 64 gates)
+      (drop 64 gates_after) asked roomy_card roomy_clients roomy_readers met_card
+      met_clients met_readers
   pub given : HaveGivenRows rows after met_card b met_clients ds met_readers ss
 
 -- what a lab asks of its actors in its next phase
 abbrev pub asks_of_lab : Lab → List Line → Asks
-asks_of_lab lab lines = record { sounds = lab.wavs.now; capture = capture_of lab; phase = lab.phases + 1; lines = lines }
+asks_of_lab lab lines =
+    record {
+      sounds = lab.wavs.now;
+      capture = capture_of lab;
+      phase = lab.phases + 1;
+      lines = lines;
+    }
 
 -- its actors went through a phase's lines; those that were stopped aren't reaped yet
-pub record HasRunLines {G : Type 0} (stops : G → ℕ) (gates gates_after : List G) (lab : Lab) (lines : List Line) (after : Lab) : Type 0 where
+pub record HasRunLines {G : Type 0} (stops : G → ℕ) (gates gates_after : List G)
+    (lab : Lab) (lines : List Line) (after : Lab) : Type 0 where
   pub same : IsSameScript lab after
   pub phases : after.phases ≡ lab.phases
   pub next : after.next ≡ lab.next
@@ -131,7 +149,8 @@ pub record HasRunLines {G : Type 0} (stops : G → ℕ) (gates gates_after : Lis
   pub card_after : CardActor
   pub card_is : lab.card ≡ Some card
   pub card_then : after.card ≡ Some card_after
-  pub run : HaveRunLines stops gates gates_after (asks_of_lab lab lines) lab.rows.items after.rows.items card card_after lab.clients after.clients lab.readers after.readers
+  pub run : HaveRunLines stops gates gates_after (asks_of_lab lab lines) lab.rows.items
+      after.rows.items card card_after lab.clients after.clients lab.readers after.readers
 
 -- the stopped actors were reaped
 pub record Reaps (lab after : Lab) : Type 0 where
@@ -142,7 +161,10 @@ pub record Reaps (lab after : Lab) : Type 0 where
   pub next : after.next ≡ lab.next
   pub places : IsSameCard (clients.places_of lab.clients) (clients.places_of after.clients)
   pub ring : IsSameRing lab.readers after.readers
-  pub clients : (session : Session) (held : Held) (xs : List (AtPort × Client)) → clients.AreDone session held xs lab.clients
-      → clients.AreAt session (held_after session 0 xs held) (map (reaped_client session.ring) xs) after.clients
-  pub readers : (session : Session) (capture : Option Sound) (xs : List (AtPort × Reader)) → readers.AreDone session capture xs lab.readers
+  pub clients : (session : Session) (held : Held) (xs : List (AtPort × Client))
+      → clients.AreDone session held xs lab.clients
+      → clients.AreAt session (held_after session 0 xs held) (map (reaped_client session.ring) xs)
+      after.clients
+  pub readers : (session : Session) (capture : Option Sound) (xs : List (AtPort × Reader))
+      → readers.AreDone session capture xs lab.readers
       → readers.AreAt session capture (map (reaped_reader session.ring) xs) after.readers

@@ -31,11 +31,13 @@ pub record Asks : Type 0 where
   pub lines : List Line
 
 -- all have the room that the lines want, and are else as they were
-pub record HaveRoom (lines : List Line) (a b : CardActor) (cs ds : LabClients) (rs ss : LabReaders) : Type 0 where
+pub record HaveRoom (lines : List Line) (a b : CardActor) (cs ds : LabClients)
+    (rs ss : LabReaders) : Type 0 where
   pub card : b.card ≡ a.card
   pub played : b.played.items ≡ a.played.items
   pub rows : b.rows.items ≡ a.rows.items
-  pub room : card_room.HasRoom b (Rattle.std.specs.Prelude.length (ops_by is_of_card lines)) (frames_by (ops_by is_of_card lines))
+  pub room : card_room.HasRoom b (Rattle.std.specs.Prelude.length (ops_by is_of_card lines))
+      (frames_by (ops_by is_of_card lines))
   pub clients : AreEach (clients.HasTakenRoom lines) 0 (clients_of cs) (clients_of ds)
   pub places : places_of ds ≡ places_of cs
   pub readers : EachReader (readers.HasTakenRoom lines) rs ss
@@ -44,15 +46,21 @@ pub record HaveRoom (lines : List Line) (a b : CardActor) (cs ds : LabClients) (
 abbrev pub CardHasRun : Asks → CardActor → CardActor → Type 0
 CardHasRun asked a b = CardPart asked.capture asked.phase a b (ops_by is_of_card asked.lines)
 
-pub record ClientsHaveRun {G : Type 0} (stops : G → ℕ) (gates after : List G) (asked : Asks) (cs ds : LabClients) : Type 0 where
-  pub each : AreEach (clients.RunsAt stops gates after asked.sounds asked.phase asked.lines) 0 (clients_of cs) (clients_of ds)
+pub record ClientsHaveRun {G : Type 0} (stops : G → ℕ) (gates after : List G)
+    (asked : Asks) (cs ds : LabClients) : Type 0 where
+  pub each : AreEach (clients.RunsAt stops gates after asked.sounds asked.phase asked.lines)
+      0 (clients_of cs) (clients_of ds)
   pub places : places_of ds ≡ places_of cs
 
-abbrev pub ReadersHaveRun : {G : Type 0} → (G → ℕ) → List G → List G → Asks → LabReaders → LabReaders → Type 0
-ReadersHaveRun stops gates after asked rs ss = EachReader (readers.RunsBehind (stops_at stops gates) (stops_at stops after) asked.phase asked.lines) rs ss
+abbrev pub ReadersHaveRun : {G : Type 0} → (G → ℕ) → List G → List G → Asks
+    → LabReaders → LabReaders → Type 0
+ReadersHaveRun stops gates after asked rs ss =
+    EachReader (readers.RunsBehind (stops_at stops gates) (stops_at stops after)
+    asked.phase asked.lines) rs ss
 
 -- all did their lines
-pub record HaveRun {G : Type 0} (stops : G → ℕ) (near near_after far far_after : List G) (asked : Asks) (a b : CardActor) (cs ds : LabClients) (rs ss : LabReaders) : Type 0 where
+pub record HaveRun {G : Type 0} (stops : G → ℕ) (near near_after far far_after : List G)
+    (asked : Asks) (a b : CardActor) (cs ds : LabClients) (rs ss : LabReaders) : Type 0 where
   pub card : CardHasRun asked a b
   pub clients : ClientsHaveRun stops near near_after asked cs ds
   pub readers : ReadersHaveRun stops far far_after asked rs ss
@@ -65,7 +73,8 @@ pub record IsSameButCard (a b : CardActor) : Type 0 where
   pub captured : b.captured ≡ a.captured
 
 -- The meets before the lines, the lines, and the meets after them.
-pub record HaveMet {G : Type 0} (stops : G → ℕ) (near near_after far far_after : List G) (asked : Asks) (a : CardActor) (cs : LabClients) (rs : LabReaders)
+pub record HaveMet {G : Type 0} (stops : G → ℕ) (near near_after far far_after : List G)
+    (asked : Asks) (a : CardActor) (cs : LabClients) (rs : LabReaders)
     (f : CardActor) (fs : LabClients) (gs : LabReaders) : Type 0 where
   pub between : Card
   pub before : CardActor
@@ -77,18 +86,23 @@ pub record HaveMet {G : Type 0} (stops : G → ℕ) (near near_after far far_aft
   pub run_readers : LabReaders
   pub first : IsSameCard a.card between
   pub second : IsSameButCard a before
-  pub inform_clients : AreEach (clients.IsInformedBy a.card) 0 (clients_of cs) (clients_of informed_clients)
+  pub inform_clients : AreEach (clients.IsInformedBy a.card) 0 (clients_of cs)
+      (clients_of informed_clients)
   pub inform_readers : EachReader (readers.IsInformedBy between) rs informed_readers
-  pub run : HaveRun stops near near_after far far_after asked before after informed_clients run_clients informed_readers run_readers
+  pub run : HaveRun stops near near_after far far_after asked before after
+      informed_clients run_clients informed_readers run_readers
   pub third : IsSameCard after.card heard
   pub last : IsSameButCard after f
-  pub hear_clients : AreEach (clients.IsHeardBy after.card) 0 (clients_of run_clients) (clients_of fs)
+  pub hear_clients : AreEach (clients.IsHeardBy after.card) 0 (clients_of run_clients)
+      (clients_of fs)
   pub hear_readers : EachReader (readers.IsHeardBy heard) run_readers gs
   pub places : places_of fs ≡ places_of cs
 
 -- the rows of all were moved to the end of the lab's
-pub record HaveGivenRows (rows after : List Row) (a b : CardActor) (cs ds : LabClients) (rs ss : LabReaders) : Type 0 where
-  pub all : after ≡ rows ++ a.rows.items ++ flat_map client.rows_of (clients_of cs) ++ flat_map reader.rows_of (readers_of rs)
+pub record HaveGivenRows (rows after : List Row) (a b : CardActor) (cs ds : LabClients)
+    (rs ss : LabReaders) : Type 0 where
+  pub all : after ≡ rows ++ a.rows.items ++ flat_map client.rows_of (clients_of cs)
+      ++ flat_map reader.rows_of (readers_of rs)
   pub card : b.card ≡ a.card
   pub played : b.played ≡ a.played
   pub none : b.rows.items ≡ []

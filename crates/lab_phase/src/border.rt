@@ -34,7 +34,8 @@ impl<'r> Lab<'r, '_> {
         requires next { IsNext self.old item.now }
         requires border { IsBorderItem item.now }
         ensures does { IfOk result
-            (λ row. DoesRow (λ stage. border_after (session_of self.old) stage item.now) self.old row self.new) }
+            (λ row. DoesRow (λ stage. border_after (session_of self.old) stage item.now)
+            self.old row self.new) }
         ensures played { played_of self.new ≡ played_of self.old }
         ensures only { IfErr result (λ e. e ≡ PcmError.Memory) }
     {
@@ -60,9 +61,11 @@ impl<'r> Lab<'r, '_> {
     // Opens a client or a reader.
     fn open(&mut self, actor: Actor) -> Result<Row, PcmError>
         requires at { IsLab self.old }
-        requires actor { IsBorder (length self.old.script.now.clients) (length self.old.script.now.readers) actor }
+        requires actor { IsBorder (length self.old.script.now.clients)
+            (length self.old.script.now.readers) actor }
         ensures does { IfOk result
-            (λ row. DoesRow (λ stage. after_open (session_of self.old) stage actor) self.old row self.new) }
+            (λ row. DoesRow (λ stage. after_open (session_of self.old) stage actor)
+            self.old row self.new) }
         ensures played { played_of self.new ≡ played_of self.old }
         ensures only { IfErr result (λ e. e ≡ PcmError.Memory) }
     {
@@ -78,7 +81,8 @@ impl<'r> Lab<'r, '_> {
         requires at { IsLab self.old }
         requires number { number < length self.old.script.now.clients }
         ensures does { IfOk result
-            (λ row. DoesRow (λ stage. after_open (session_of self.old) stage (whose.Client number)) self.old row self.new) }
+            (λ row. DoesRow (λ stage. after_open (session_of self.old) stage (whose.Client number))
+            self.old row self.new) }
         ensures played { played_of self.new ≡ played_of self.old }
         ensures only { IfErr result (λ e. e ≡ PcmError.Memory) }
     {
@@ -101,7 +105,8 @@ impl<'r> Lab<'r, '_> {
         requires at { IsLab self.old }
         requires number { number < length self.old.script.now.readers }
         ensures does { IfOk result
-            (λ row. DoesRow (λ stage. after_open (session_of self.old) stage (whose.Reader number)) self.old row self.new) }
+            (λ row. DoesRow (λ stage. after_open (session_of self.old) stage (whose.Reader number))
+            self.old row self.new) }
         ensures played { played_of self.new ≡ played_of self.old }
         ensures only { IfErr result (λ e. e ≡ PcmError.Memory) }
     {
@@ -112,8 +117,10 @@ impl<'r> Lab<'r, '_> {
     // Closes a client or a reader.
     fn close(&mut self, actor: Actor) -> Row
         requires at { IsLab self.old }
-        requires actor { IsBorder (length self.old.script.now.clients) (length self.old.script.now.readers) actor }
-        ensures does { DoesRow (λ stage. after_close (session_of self.old) stage actor) self.old result self.new }
+        requires actor { IsBorder (length self.old.script.now.clients)
+            (length self.old.script.now.readers) actor }
+        ensures does { DoesRow (λ stage. after_close (session_of self.old) stage actor)
+            self.old result self.new }
         ensures played { played_of self.new ≡ played_of self.old }
     {
         match actor {

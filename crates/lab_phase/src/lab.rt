@@ -71,7 +71,8 @@ impl<'r, 's> Lab<'r, 's> {
         requires ring { IsRingOf script.now.card (key_of mix).geometry }
         requires one_shape { geometry_of reader ≡ (key_of mix).geometry }
         requires places { (key_of mix).places ≡ script.now.card.places }
-        ensures script { IfOk result (IsOfScript script.now wavs.now (option_copied capture.entry)) }
+        ensures script { IfOk result
+            (IsOfScript script.now wavs.now (option_copied capture.entry)) }
         ensures first { IfOk result (λ lab. IsAtStage lab (first_stage (session_of lab))) }
         ensures none { IfOk result (λ lab. items_done lab ≡ 0) }
         ensures silent { IfOk result (λ lab. played_of lab ≡ []) }

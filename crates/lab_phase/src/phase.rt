@@ -57,7 +57,8 @@ fn run_together<R: Threads + Sync, G: Gate + Send>(
         → HaveRoom asked.now.lines.now card.old a clients.old cs readers.old rs
         → CanMeet (length gates.old) asked.now a cs rs }
     ensures run { OnOk result (HaveRunLines G.stops gates.old gates.new (asks_of asked.now)
-        rows.old.items rows.new.items card.old card.new clients.old clients.new readers.old readers.new) }
+        rows.old.items rows.new.items card.old card.new clients.old clients.new
+        readers.old readers.new) }
     ensures only { IfErr result (λ e. e ≡ PcmError.Memory) }
 {
     take_room(card, clients, readers, asked.lines)?;
@@ -90,7 +91,8 @@ impl<'r> Lab<'r, '_> {
         requires at { IsLabWith (stops_by G.stops gates.old) self.old }
         requires next { IsNext self.old (item.Phase lines.now) }
         requires gates { 128 ≤ length gates.old }
-        ensures does { OnOk result (DoesPhase (stops_by G.stops gates.old) (stops_by G.stops gates.new)
+        ensures does { OnOk result
+            (DoesPhase (stops_by G.stops gates.old) (stops_by G.stops gates.new)
             self.old lines.now self.new) }
         ensures only { IfErr result (λ e. e ≡ PcmError.Memory) }
     {
@@ -110,7 +112,8 @@ impl<'r> Lab<'r, '_> {
         requires at { IsLabWith (stops_by G.stops gates.old) self.old }
         requires next { IsNext self.old (item.Phase lines.now) }
         requires gates { 128 ≤ length gates.old }
-        ensures runs { OnOk result (RunsPhase (stops_by G.stops gates.old) (stops_by G.stops gates.new)
+        ensures runs { OnOk result
+            (RunsPhase (stops_by G.stops gates.old) (stops_by G.stops gates.new)
             self.old lines.now self.new) }
         ensures only { IfErr result (λ e. e ≡ PcmError.Memory) }
     {
@@ -126,7 +129,8 @@ impl<'r> Lab<'r, '_> {
         requires at { IsLab self.old }
         requires next { IsNext self.old (item.Phase lines.now) }
         requires alone { length (ops_by is_of_card lines.now) ≡ length lines.now }
-        ensures runs { OnOk result ((stops : Stops) → RunsPhase stops stops self.old lines.now self.new) }
+        ensures runs { OnOk result
+            ((stops : Stops) → RunsPhase stops stops self.old lines.now self.new) }
         ensures only { IfErr result (λ e. e ≡ PcmError.Memory) }
     {
         runs_are_of_scripts();
@@ -153,7 +157,8 @@ impl<'r> Lab<'r, '_> {
         requires next { IsNext self.old (item.Phase lines.now) }
         requires gates { 128 ≤ length gates.old }
         requires others { length (ops_by is_of_card lines.now) ≢ length lines.now }
-        ensures runs { OnOk result (RunsPhase (stops_by G.stops gates.old) (stops_by G.stops gates.new)
+        ensures runs { OnOk result
+            (RunsPhase (stops_by G.stops gates.old) (stops_by G.stops gates.new)
             self.old lines.now self.new) }
         ensures only { IfErr result (λ e. e ≡ PcmError.Memory) }
     {
@@ -175,7 +180,8 @@ impl<'r> Lab<'r, '_> {
         requires at { IsLab self.old }
         requires next { IsNext self.old (item.Phase lines.now) }
         requires gates { 128 ≤ length gates.old }
-        ensures runs { OnOk result (HasRunLines G.stops gates.old gates.new self.old lines.now self.new) }
+        ensures runs { OnOk result
+            (HasRunLines G.stops gates.old gates.new self.old lines.now self.new) }
         ensures only { IfErr result (λ e. e ≡ PcmError.Memory) }
     {
         runs_are_of_scripts();

@@ -32,7 +32,8 @@ pub(crate) fn open_beside<'r>(
 ) -> (CardActor<'r>, Result<Row, PcmError>)
     requires run { AreOfRun clients.old }
     requires number { number < length (clients_of clients.old) }
-    requires one_ring { OneRing (player_ring (seat_of_card actor.card)) (player_key (seat_of_card actor.card))
+    requires one_ring { OneRing (player_ring (seat_of_card actor.card))
+        (player_key (seat_of_card actor.card))
         (ring_of_places (places_of clients.old)) (key_of_places (places_of clients.old)) }
     requires usable { IfSome (option_copied opening)
         (IsUsable (key_of_places (places_of clients.old)).geometry.channels

@@ -30,33 +30,45 @@ abbrev pub new_held : ℕ → ℕ → Held
 new_held places first = record { lobby = new_lobby places first; claims = [] }
 
 -- a client attaches: where it is given a place, its claim counts
-abbrev pub attached_held : Share → List ℕ → Held → Lobby × Result (Unit {0}) PcmError → Held × Result (Unit {0}) PcmError
-attached_held sharing channels held (lobby, Ok done) = (record { lobby = lobby; claims = with_claim sharing channels held.claims }, Ok done)
+abbrev pub attached_held : Share → List ℕ → Held → Lobby × Result (Unit {0}) PcmError
+    → Held × Result (Unit {0}) PcmError
+attached_held sharing channels held (lobby, Ok done) =
+    (record { lobby = lobby; claims = with_claim sharing channels held.claims }, Ok done)
 attached_held sharing channels held (lobby, Err e) = (record held { lobby = lobby }, Err e)
 
-abbrev pub opened_if : Share → ℕ → List ℕ → ℕ → Held → Option PcmError → Held × Result (Unit {0}) PcmError
+abbrev pub opened_if : Share → ℕ → List ℕ → ℕ → Held → Option PcmError
+    → Held × Result (Unit {0}) PcmError
 opened_if sharing number channels position held (Some e) = (held, Err e)
-opened_if sharing number channels position held None = attached_held sharing channels held (attached number position held.lobby)
+opened_if sharing number channels position held None =
+    attached_held sharing channels held (attached number position held.lobby)
 
 -- a client is opened at a position of the card: it claims its channels, and then attaches
 abbrev pub opened_held : Share → ℕ → List ℕ → ℕ → Held → Held × Result (Unit {0}) PcmError
-opened_held sharing number channels position held = opened_if sharing number channels position held (claim_refusal sharing held.claims channels position)
+opened_held sharing number channels position held =
+    opened_if sharing number channels position held
+    (claim_refusal sharing held.claims channels position)
 
 -- a client that laid its last sample so gives its place and its channels back
 abbrev pub closed_held : Share → ℕ → List ℕ → Option ℕ → Held → Held
 closed_held sharing number channels last held =
-    record { lobby = left_by number last held.lobby; claims = with_release sharing channels last held.claims }
+    record {
+      lobby = left_by number last held.lobby;
+      claims = with_release sharing channels last held.claims;
+    }
 
 -- no place is held by a client
 abbrev pub HoldsNone : ℕ → List Place → Type 0
 HoldsNone client [] = ⊤
-HoldsNone client (first ∷ places) = (is_held_by client first.holder ≡ false) × HoldsNone client places
+HoldsNone client (first ∷ places) =
+    (is_held_by client first.holder ≡ false) × HoldsNone client places
 
 -- a client holds the place of a number, and no other; this is the last frame that was laid by it before
 abbrev pub HoldsPlace : ℕ → ℕ → Option ℕ → List Place → Type 0
 HoldsPlace client place last [] = ⊥
-HoldsPlace client zero last (first ∷ places) = (first ≡ record { holder = Some client; last = last }) × HoldsNone client places
-HoldsPlace client (suc place) last (first ∷ places) = (is_held_by client first.holder ≡ false) × HoldsPlace client place last places
+HoldsPlace client zero last (first ∷ places) =
+    (first ≡ record { holder = Some client; last = last }) × HoldsNone client places
+HoldsPlace client (suc place) last (first ∷ places) =
+    (is_held_by client first.holder ≡ false) × HoldsPlace client place last places
 
 -- ---- at the lobby and the shares
 
@@ -113,7 +125,8 @@ pub record IsSameLobby (p q : Places) : Type 0 where
 pub record IsGiven (p : Places) (position : ℕ) (s : MixSeat) : Type 0 where
   pub place : seats.IsPlace (ring_of_places p) (key_of_places p) (member_of s) s
   pub seen : position ≤ seen_of s
-  pub marks : MarksAlike (key_of_places p).geometry position (marks_of_seat s).high (start_marks (key_of_places p).geometry) (marks_of_seat s)
+  pub marks : MarksAlike (key_of_places p).geometry position (marks_of_seat s).high
+      (start_marks (key_of_places p).geometry) (marks_of_seat s)
 
 -- an answer to a client is that of a run
 abbrev pub IsAnswer : Result MixSeat PcmError → Result (Unit {0}) PcmError → Type 0
@@ -121,30 +134,38 @@ IsAnswer r answer = MatchResult r (λ s. answer ≡ Ok tt) (λ e. answer ≡ Err
 
 -- a client that held no place holds that of the seat that it is given
 abbrev pub HoldsGiven : ℕ → List Place → Result MixSeat PcmError → List Place → Type 0
-HoldsGiven number places r after = HoldsNone number places → IfOk r (λ s. HoldsPlace number (member_of s) (seats.last_of s) after)
+HoldsGiven number places r after =
+    HoldsNone number places → IfOk r (λ s. HoldsPlace number (member_of s) (seats.last_of s) after)
 
 -- the claim of a client, at the claims before it
-abbrev pub IsClaimed : Share → List Row → List ℕ → ℕ → Result (Unit {0}) PcmError → shared.Held → Type 0
+abbrev pub IsClaimed : Share → List Row → List ℕ → ℕ → Result (Unit {0}) PcmError
+    → shared.Held → Type 0
 IsClaimed sharing claims channels position r after =
-    MatchResult r (λ done. (claim_refusal sharing claims channels position ≡ None) × shared.StandsFor after (with_claim sharing channels claims))
+    MatchResult r
+    (λ done. (claim_refusal sharing claims channels position ≡ None)
+    × shared.StandsFor after (with_claim sharing channels claims))
     (λ e. claim_refusal sharing claims channels position ≡ Some e)
 
 -- the attach of a client, at the places before it
-pub record AttachesAt (number position : ℕ) (lobby : Lobby) (r : Result MixSeat PcmError) (q : Places) : Type 0 where
+pub record AttachesAt (number position : ℕ) (lobby : Lobby) (r : Result MixSeat PcmError)
+    (q : Places) : Type 0 where
   pub lobby_then : IsLobby q (attached number position lobby).0
   pub answer : IsAnswer r (attached number position lobby).1
   pub place : HoldsGiven number lobby.places r (attached number position lobby).0.places
 
 -- a client's opening, at what was held: the answer is that of a run, and what is held then
-pub record Opens (sharing : Share) (number : ℕ) (channels : List ℕ) (position : ℕ) (held : Held) (r : Result MixSeat PcmError) (q : Places) : Type 0 where
+pub record Opens (sharing : Share) (number : ℕ) (channels : List ℕ) (position : ℕ)
+    (held : Held) (r : Result MixSeat PcmError) (q : Places) : Type 0 where
   pub held_then : IsHeldBy q (opened_held sharing number channels position held).0
   pub answer : IsAnswer r (opened_held sharing number channels position held).1
-  pub place : HoldsGiven number held.lobby.places r (opened_held sharing number channels position held).0.lobby.places
+  pub place : HoldsGiven number held.lobby.places r
+      (opened_held sharing number channels position held).0.lobby.places
 
 -- a free seat met the player: it has seen the position, and nothing else changed; its marks are in order
 pub record HasMetPlayer (p q : PlayerSeat) (s t : MixSeat) : Type 0 where
   pub player : PlayerStays p q
-  pub place : (ring : TableId) (key : Key) (place : ℕ) → seats.IsPlace ring key place s → seats.IsPlace ring key place t
+  pub place : (ring : TableId) (key : Key) (place : ℕ) → seats.IsPlace ring key place s
+      → seats.IsPlace ring key place t
   pub member : member_of t ≡ member_of s
   pub laid : (view_of t).laid ≡ (view_of s).laid
   pub seen : position_of_player p ≤ seen_of t
@@ -174,5 +195,6 @@ pub record CanClose (p : Places) (s : MixSeat) (channels : List ℕ) : Type 0 wh
 -- a client's closing, at what was held
 abbrev pub Closes : Share → ℕ → List ℕ → ℕ → MixSeat → Held → Places → Type 0
 Closes sharing number channels position s held q =
-    (before own : Option ℕ) → HoldsPlace number (member_of s) before held.lobby.places → IsOwnLast position before own (seats.last_of s)
+    (before own : Option ℕ) → HoldsPlace number (member_of s) before held.lobby.places
+    → IsOwnLast position before own (seats.last_of s)
     → IsHeldBy q (closed_held sharing number channels own held)

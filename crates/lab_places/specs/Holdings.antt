@@ -28,9 +28,12 @@ Holdings = ℕ → Option Holding
 -- Each open client holds its place and owns its channels, no two have a channel in common, and a client that isn't open holds no place.
 pub record AreHeld (sharing : Share) (held : Held) (holdings : Holdings) : Type 0 where
   pub none : (n : ℕ) → holdings n ≡ None → HoldsNone n held.lobby.places
-  pub place : (n : ℕ) (h : Holding) → holdings n ≡ Some h → HoldsPlace n h.place h.before held.lobby.places
-  pub channels : (n : ℕ) (h : Holding) → holdings n ≡ Some h → OwnsChannels sharing held.claims h.channels
-  pub disjoint : (m n : ℕ) (g h : Holding) → m ≢ n → holdings m ≡ Some g → holdings n ≡ Some h → AreDisjoint sharing g.channels h.channels
+  pub place : (n : ℕ) (h : Holding) → holdings n ≡ Some h
+      → HoldsPlace n h.place h.before held.lobby.places
+  pub channels : (n : ℕ) (h : Holding) → holdings n ≡ Some h
+      → OwnsChannels sharing held.claims h.channels
+  pub disjoint : (m n : ℕ) (g h : Holding) → m ≢ n → holdings m ≡ Some g
+      → holdings n ≡ Some h → AreDisjoint sharing g.channels h.channels
 
 -- one client holds something else, and the others what they held
 pub record ChangesAt (client : ℕ) (holdings after : Holdings) (now : Option Holding) : Type 0 where

@@ -26,11 +26,14 @@ IsLaidAlike seats after = (f k : ℕ) → laid_free after f k ≡ laid_free seat
 
 -- the seats of free places with one more, by which nothing was laid in between
 abbrev pub IsLaidWith : List (Option MixSeat) → MixSeat → List (Option MixSeat) → Type 0
-IsLaidWith fewer s more = (f k : ℕ) → laid_free more f k ≡ total (view_of s).laid f k +ℤ laid_free fewer f k
+IsLaidWith fewer s more =
+    (f k : ℕ) → laid_free more f k ≡ total (view_of s).laid f k +ℤ laid_free fewer f k
 
 -- a seat was handed out, or none
-abbrev pub KeepsLaid : List (Option MixSeat) → Result MixSeat PcmError → List (Option MixSeat) → Type 0
-KeepsLaid before r after = MatchResult r (λ s. IsLaidWith after s before) (λ e. IsLaidAlike before after)
+abbrev pub KeepsLaid : List (Option MixSeat) → Result MixSeat PcmError
+    → List (Option MixSeat) → Type 0
+KeepsLaid before r after =
+    MatchResult r (λ s. IsLaidWith after s before) (λ e. IsLaidAlike before after)
 
 -- the seat of a place, or none, is exchanged
 pub laid_free-set : (seats : List (Option MixSeat)) (place : ℕ) (seat : Option MixSeat) (f k : ℕ) → place < length seats

@@ -88,9 +88,11 @@ impl<'a> Places<'a> {
             (ring_of_places self.old) (key_of_places self.old) }
         requires card { AreOfCard (shares_of self.old) bindings.now }
         ensures opens { (number : ℕ) (held : Held) → IsHeldBy self.old held
-            → Opens (share_of self.old) number bindings.now (position_of_player player.old) held result self.new }
+            → Opens (share_of self.old) number bindings.now
+            (position_of_player player.old) held result self.new }
         ensures given { IfOk result (IsGiven self.old (position_of_player player.old)) }
-        ensures laid { KeepsLaid (free_seats (lobby_of self.old)) result (free_seats (lobby_of self.new)) }
+        ensures laid { KeepsLaid (free_seats (lobby_of self.old)) result
+            (free_seats (lobby_of self.new)) }
         ensures player { PlayerStays player.old player.new }
         ensures card { IsSameCard self.old self.new }
         ensures reaped { reaped_of (lobby_of self.new) ≡ reaped_of (lobby_of self.old) }
@@ -170,7 +172,8 @@ impl<'a> Places<'a> {
         requires { CanRelease self.old bindings.now }
         ensures claims { (h : List Row) → StandsFor (shares_of self.old) h
             → StandsFor (shares_of self.new)
-            (with_release (share_of self.old) bindings.now (last_from opened_at (last_of seat.now)) h) }
+            (with_release (share_of self.old) bindings.now
+            (last_from opened_at (last_of seat.now)) h) }
         ensures same { IsSameLobby self.old self.new }
     {
         match self.share {
@@ -201,7 +204,8 @@ impl<'a> Places<'a> {
         ensures attaches { (number : ℕ) (lobby : runs.Lobby) → IsLobby self.old lobby
             → AttachesAt number (position_of_player player.old) lobby result self.new }
         ensures given { IfOk result (IsGiven self.old (position_of_player player.old)) }
-        ensures laid { KeepsLaid (free_seats (lobby_of self.old)) result (free_seats (lobby_of self.new)) }
+        ensures laid { KeepsLaid (free_seats (lobby_of self.old)) result
+            (free_seats (lobby_of self.new)) }
         ensures player { PlayerStays player.old player.new }
         ensures same { IsSameCard self.old self.new }
         ensures shares { shares_of self.new ≡ shares_of self.old }

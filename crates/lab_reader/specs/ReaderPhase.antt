@@ -40,20 +40,24 @@ use Rattle.lab_reader.specs.Seen.{SeesPlayed, sees-played}
 
 -- the steps of a reader in a phase, which its card begins at c and ends at d: it met a note, its lines were done behind a gate that stopped so often
 -- before them and after them, and the card met its note
-pub record Steps (c d : Card) (phase stops after : ℕ) (lines : List Line) (r s t u : LabReader) : Type 0 where
+pub record Steps (c d : Card) (phase stops after : ℕ) (lines : List Line)
+    (r s t u : LabReader) : Type 0 where
   pub informed : IsInformed c r s
   pub ran : HasRun phase stops after lines s t
   pub heard : IsHeard d t u
 
 -- A reader did its part of a run in a phase, and is at its port so after it; its own gate had stopped so many other times before the run began. Where
 -- the card, which stores what it captures, did its lines in between, what the reader found is what the phase allows.
-pub record SeatPart (ring : TableId) (geometry : Geometry) (c d : Card) (phase base after : ℕ) (ops : List Op) (before : AtPort) (x : ReaderActor) (p : Option ReaderSeat)
+pub record SeatPart (ring : TableId) (geometry : Geometry) (c d : Card) (phase base after : ℕ)
+    (ops : List Op) (before : AtPort) (x : ReaderActor) (p : Option ReaderSeat)
     (y : ReaderActor) (q : Option ReaderSeat) : Type 0 where
   pub end : AtPort
   pub rows : List Row
   pub found : Findings
-  pub part : ActorPart (reader_kind phase x.number) geometry ((before, reader_at p x), nothing_found) ops ((end, reader_at q y), found) rows
-  pub allowed : (capture : Option Sound) (number : ℕ) (a b : CardActor) (lines : List Line) → CardPhase capture number c a b d lines → records_of c ≡ true
+  pub part : ActorPart (reader_kind phase x.number) geometry
+      ((before, reader_at p x), nothing_found) ops ((end, reader_at q y), found) rows
+  pub allowed : (capture : Option Sound) (number : ℕ) (a b : CardActor) (lines : List Line)
+      → CardPhase capture number c a b d lines → records_of c ≡ true
       → AreOf (rules_between c b.card lines) found
   pub is : IsSeatedAt ring geometry y q end
   pub gate : end.by_gate + base ≡ after
@@ -61,10 +65,12 @@ pub record SeatPart (ring : TableId) (geometry : Geometry) (c d : Card) (phase b
   pub number : y.number ≡ x.number
 
 -- it did its lines of a phase as a run of the script may have it
-pub record ReaderMay (ring : TableId) (geometry : Geometry) (rules : Rules) (phase base after : ℕ) (lines : List Line) (before : AtPort) (r u : LabReader) : Type 0 where
+pub record ReaderMay (ring : TableId) (geometry : Geometry) (rules : Rules)
+    (phase base after : ℕ) (lines : List Line) (before : AtPort) (r u : LabReader) : Type 0 where
   pub end : AtPort
   pub rows : List Row
-  pub may : LinesMay (reader_kind phase r.actor.number) rules (before, reader_in r) (ops_of r lines) (end, reader_in u) rows
+  pub may : LinesMay (reader_kind phase r.actor.number) rules (before, reader_in r)
+      (ops_of r lines) (end, reader_in u) rows
   pub is : IsAt ring geometry u end
   pub gate : end.by_gate + base ≡ after
   pub rows_are : rows_of u ≡ rows_of r ++ rows

@@ -54,7 +54,14 @@ reader_in r = reader_at r.seat r.actor
 
 -- a reader's seat as a port, as proofs take it
 abbrev pub seat_port : snoopport.Ghosts ReaderSeat
-seat_port = record { view = seat_view; shows = shown; loaded = SeatLoaded; got = SeatGot; finds = SeatFinds }
+seat_port =
+    record {
+      view = seat_view;
+      shows = shown;
+      loaded = SeatLoaded;
+      got = SeatGot;
+      finds = SeatFinds;
+    }
 
 -- a fact of a reader's seat where it is open; and of the seats of one that is open before and after, where it isn't open after
 -- if it wasn't before
@@ -62,7 +69,8 @@ abbrev pub OnSeat : Option ReaderSeat → (ReaderSeat → Type 0) → Type 0
 OnSeat None P = ⊤
 OnSeat (Some seat) P = P seat
 
-abbrev pub OnSeats : Option ReaderSeat → Option ReaderSeat → (ReaderSeat → ReaderSeat → Type 0) → Type 0
+abbrev pub OnSeats : Option ReaderSeat → Option ReaderSeat → (ReaderSeat → ReaderSeat → Type 0)
+    → Type 0
 OnSeats None None P = ⊤
 OnSeats (Some seat) (Some after) P = P seat after
 OnSeats before after P = ⊥
@@ -76,7 +84,8 @@ abbrev pub CanRun : LabReader → Type 0
 CanRun r = OnSeat r.seat (λ seat. CanUse r.actor.reader (seat_view seat))
 
 -- an open reader at its seat of a ring of a geometry: it is like an actor of a run at its port
-pub record IsOpenAt (ring : TableId) (geometry : Geometry) (actor : ReaderActor) (seat : ReaderSeat) (a : AtPort) : Type 0 where
+pub record IsOpenAt (ring : TableId) (geometry : Geometry) (actor : ReaderActor)
+    (seat : ReaderSeat) (a : AtPort) : Type 0 where
   pub of_ring : ring_of seat ≡ ring
   pub of_geometry : geometry_of seat ≡ geometry
   pub usable : CanUse actor.reader (seat_view seat)
@@ -94,7 +103,8 @@ IsAt ring geometry r a = IsSeatedAt ring geometry r.actor r.seat a
 -- it has the room that its lines want in a phase in which the card plays so many frames: a row each, and where it is open what they may read
 abbrev pub HasRoomAt : Option ReaderSeat → ReaderActor → ℕ → List Op → Type 0
 HasRoomAt None actor played ops = HasSpace (length ops) actor.rows
-HasRoomAt (Some seat) actor played ops = actors.HasRoomFor actor (geometry_of seat).frames played ops
+HasRoomAt (Some seat) actor played ops =
+    actors.HasRoomFor actor (geometry_of seat).frames played ops
 
 abbrev pub HasRoom : LabReader → List Line → Type 0
 HasRoom r lines = HasRoomAt r.seat r.actor (played_in lines) (ops_of r lines)

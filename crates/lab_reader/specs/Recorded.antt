@@ -25,14 +25,17 @@ captured_from capture first frame channel = captured_at capture (frame - first) 
 
 -- frames through bindings, interleaved
 abbrev pub recorded : Option Sound → ℕ → List ℕ → List ℕ → List ℤ
-recorded capture first bindings frames = flat_map (λ frame. map (captured_from capture first frame) bindings) frames
+recorded capture first bindings frames =
+    flat_map (λ frame. map (captured_from capture first frame) bindings) frames
 
 -- A reader's samples are the captured ones of its frames, through bindings that each go to a channel of the card; where it is open, these are its
 -- stream's.
-pub record IsRecordedAt (capture : Option Sound) (geometry : Geometry) (bindings : List ℕ) (actor : ReaderActor) (seat : Option ReaderSeat) : Type 0 where
+pub record IsRecordedAt (capture : Option Sound) (geometry : Geometry)
+    (bindings : List ℕ) (actor : ReaderActor) (seat : Option ReaderSeat) : Type 0 where
   pub on_card : All (λ channel. channel < geometry.channels) bindings
   pub bound : OnSeat seat (λ at. actor.reader.setup.bindings ≡ bindings)
-  pub samples : actor.samples.items ≡ recorded capture (first_frame geometry) bindings (frames_in actor.frames.runs)
+  pub samples : actor.samples.items
+      ≡ recorded capture (first_frame geometry) bindings (frames_in actor.frames.runs)
 
 abbrev pub IsRecorded : Option Sound → Geometry → List ℕ → LabReader → Type 0
 IsRecorded capture geometry bindings r = IsRecordedAt capture geometry bindings r.actor r.seat
@@ -40,7 +43,9 @@ IsRecorded capture geometry bindings r = IsRecordedAt capture geometry bindings 
 -- all that a card stored in its snoop ring, where it stores there, is what the capture file has of its frames so far
 abbrev pub IsCapturedUpTo : Option Sound → Card → Type 0
 IsCapturedUpTo capture c =
-    records_of c ≡ true → (writer_track (writer_of c)).stored ≡ captured_frames capture (geometry_of_card c).channels 0 (frames_since_first c)
+    records_of c ≡ true
+    → (writer_track (writer_of c)).stored
+    ≡ captured_frames capture (geometry_of_card c).channels 0 (frames_since_first c)
 
 -- ---- as a run has it
 

@@ -51,8 +51,10 @@ pub record IsNew (number : ℕ) (r : LabReader) : Type 0 where
 
 -- what lines made of an open reader at its seat, behind a gate that stopped so often before them and after them, in a phase in which the card plays so
 -- many frames
-pub record HasRunOpen (phase stops after played : ℕ) (ops : List Op) (a b : ReaderActor) (seat later : ReaderSeat) : Type 0 where
-  pub part : ReaderPart seat_port left_in stops_in (seat, (a.left, stops)) (later, (b.left, after)) phase played a b ops
+pub record HasRunOpen (phase stops after played : ℕ) (ops : List Op) (a b : ReaderActor)
+    (seat later : ReaderSeat) : Type 0 where
+  pub part : ReaderPart seat_port left_in stops_in (seat, (a.left, stops))
+      (later, (b.left, after)) phase played a b ops
   pub same_ring : SameReader seat later
   pub usable : CanUse b.reader (seat_view later)
 
@@ -63,14 +65,17 @@ pub record HasRefused (phase stops after : ℕ) (ops : List Op) (a b : ReaderAct
   pub file : HasSameFile a b
   pub same_stops : after ≡ stops
 
-abbrev pub HasRunAt : ℕ → ℕ → ℕ → ℕ → List Op → ReaderActor → ReaderActor → Option ReaderSeat → Option ReaderSeat → Type 0
+abbrev pub HasRunAt : ℕ → ℕ → ℕ → ℕ → List Op → ReaderActor → ReaderActor
+    → Option ReaderSeat → Option ReaderSeat → Type 0
 HasRunAt phase stops after played ops a b None None = HasRefused phase stops after ops a b
-HasRunAt phase stops after played ops a b (Some seat) (Some later) = HasRunOpen phase stops after played ops a b seat later
+HasRunAt phase stops after played ops a b (Some seat) (Some later) =
+    HasRunOpen phase stops after played ops a b seat later
 HasRunAt phase stops after played ops a b seat later = ⊥
 
 -- it did its lines of a phase
 abbrev pub HasRun : ℕ → ℕ → ℕ → List Line → LabReader → LabReader → Type 0
-HasRun phase stops after lines r s = HasRunAt phase stops after (played_in lines) (ops_of r lines) r.actor s.actor r.seat s.seat
+HasRun phase stops after lines r s =
+    HasRunAt phase stops after (played_in lines) (ops_of r lines) r.actor s.actor r.seat s.seat
 
 -- it is open at a seat, with a stream that is set up so, and with what it read before
 pub record HasOpened (seat : ReaderSeat) (setup : Setup) (r s : LabReader) : Type 0 where

@@ -35,7 +35,8 @@ use Rattle.lab_card.specs.Rests.{Rests, Rests-after}
 -- between the meets of a card before a phase and after it, each seat sees no more frames than the card plays in it
 abbrev pub SeesPlayed : Card → Card → ℕ → Type 0
 SeesPlayed c d played =
-    (s t u v : ReaderSeat) (loads : List Position) → IsInformedReader c s t → SeatLoaded t u loads → IsSameReader u v → KnowsReader d v
+    (s t u v : ReaderSeat) (loads : List Position) → IsInformedReader c s t
+    → SeatLoaded t u loads → IsSameReader u v → KnowsReader d v
     → SeesAtMost played (seat_view t) (seat_view u)
 
 -- the last position is no later than each that is known, unless none was loaded

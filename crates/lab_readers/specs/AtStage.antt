@@ -36,19 +36,23 @@ abbrev pub geometry_of : LabReaders → Geometry
 geometry_of rs = seats.geometry_of rs.seat
 
 -- a reader of the lab is the reader of a number in a run, with what it recorded
-pub record IsReaderIn (session : Session) (capture : Option Sound) (ring : TableId) (geometry : Geometry) (number : ℕ) (r : LabReader) (x : AtPort × Reader) : Type 0 where
+pub record IsReaderIn (session : Session) (capture : Option Sound) (ring : TableId)
+    (geometry : Geometry) (number : ℕ) (r : LabReader) (x : AtPort × Reader) : Type 0 where
   pub numbered : number_of r ≡ number
   pub reader : reader_in r ≡ x.1
   pub at : IsAt ring geometry r x.0
-  pub recorded : IsRecorded capture geometry (bindings_of (slice_index_or session.readers number None)) r
+  pub recorded : IsRecorded capture geometry
+      (bindings_of (slice_index_or session.readers number None)) r
 
 -- the same after the lines of a phase: its rows are the lab's
-pub record IsReaderDone (session : Session) (capture : Option Sound) (ring : TableId) (geometry : Geometry) (number : ℕ) (r : LabReader) (x : AtPort × Reader) : Type 0 where
+pub record IsReaderDone (session : Session) (capture : Option Sound) (ring : TableId)
+    (geometry : Geometry) (number : ℕ) (r : LabReader) (x : AtPort × Reader) : Type 0 where
   pub is : IsReaderIn session capture ring geometry number r x
   pub rows : rows_of r ≡ []
 
 -- the same between two phases: no gate stopped it
-pub record IsReaderAt (session : Session) (capture : Option Sound) (ring : TableId) (geometry : Geometry) (number : ℕ) (r : LabReader) (x : AtPort × Reader) : Type 0 where
+pub record IsReaderAt (session : Session) (capture : Option Sound) (ring : TableId)
+    (geometry : Geometry) (number : ℕ) (r : LabReader) (x : AtPort × Reader) : Type 0 where
   pub is : IsReaderIn session capture ring geometry number r x
   pub goes : is_reader_stopped x.1.own ≡ false
   pub rows : rows_of r ≡ []
@@ -59,7 +63,9 @@ pub record IsCardOf (session : Session) (seat : ReaderSeat) : Type 0 where
   pub first : first_frame session.card ≡ rings.first_frame session.ring
 
 -- each reader of the lab is one of a run
-pub record AreIn (Is : Session → Option Sound → TableId → Geometry → ℕ → LabReader → AtPort × Reader → Type 0) (session : Session) (capture : Option Sound)
+pub record AreIn
+    (Is : Session → Option Sound → TableId → Geometry → ℕ → LabReader → AtPort × Reader → Type 0)
+    (session : Session) (capture : Option Sound)
     (xs : List (AtPort × Reader)) (rs : LabReaders) : Type 0 where
   pub card : IsCardOf session (spare_of rs)
   pub each : AreEach (Is session capture (ring_of rs) session.ring) 0 (readers_of rs) xs
@@ -83,11 +89,13 @@ pub record IsStageBut (stage after : Stage) : Type 0 where
 
 -- The readers of the lab after an item of a body, which has one row. However often their gates had stopped them before the lab began, they have
 -- stopped them no more often since.
-pub record AreAfter (session : Session) (capture : Option Sound) (stage after : Stage) (row : Row) (rs : LabReaders) : Type 0 where
+pub record AreAfter (session : Session) (capture : Option Sound) (stage after : Stage)
+    (row : Row) (rs : LabReaders) : Type 0 where
   pub are : AreAt session capture after.readers rs
   pub rows : after.rows ≡ stage.rows ++ row ∷ []
   pub others : IsStageBut stage after
-  pub counted : (base stops : ℕ → ℕ) → AreCounted base stops 0 stage.readers → AreCounted base stops 0 after.readers
+  pub counted : (base stops : ℕ → ℕ) → AreCounted base stops 0 stage.readers
+      → AreCounted base stops 0 after.readers
 
 -- a session of a new card, by the seat of its snoop ring, with so many readers
 pub record IsNewCardOf (session : Session) (seat : ReaderSeat) (count : ℕ) : Type 0 where

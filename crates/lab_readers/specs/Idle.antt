@@ -20,8 +20,10 @@ use Rattle.lab_readers.specs.AtStage.{AreAt, IsReaderAt, readers_of, ring_of}
 use Rattle.lab_readers.specs.Steps.{is_busy, is_some_op}
 
 -- readers do nothing in a phase, and none of them was stopped before it
-pub record AreStill (session : Session) (stage : Stage) (lines : List Line) (xs : List (AtPort × Reader)) : Type 0 where
-  pub may : EachMay (reader_kinds stage) (rules_of session stage lines) (λ n. ops_by (is_reader n) lines) 0 xs xs []
+pub record AreStill (session : Session) (stage : Stage) (lines : List Line)
+    (xs : List (AtPort × Reader)) : Type 0 where
+  pub may : EachMay (reader_kinds stage) (rules_of session stage lines)
+      (λ n. ops_by (is_reader n) lines) 0 xs xs []
   pub reaped : map (reaped_reader session.ring) xs ≡ xs
 
 -- no reader of a list has a line

@@ -91,7 +91,8 @@ AreAt-new session capture count rs is len new = record {
 -- ---- one item of a body
 
 -- a reader was opened at a new seat of the ring
-pub record OpensAt (spare : ReaderSeat) (setup : Setup) (phase : ℕ) (r s : LabReader) (row : Row) : Type 0 where
+pub record OpensAt (spare : ReaderSeat) (setup : Setup) (phase : ℕ) (r s : LabReader)
+    (row : Row) : Type 0 where
   pub seat : ReaderSeat
   pub of_ring : SameReader spare seat
   pub opened : HasOpened seat setup r s
@@ -99,19 +100,32 @@ pub record OpensAt (spare : ReaderSeat) (setup : Setup) (phase : ℕ) (r s : Lab
 
 -- What an opening makes of a reader, with its row, by its stream where it is open and by what it is opened with: one that is open is refused, and so
 -- is one that can't be opened.
-abbrev pub HasOpening : ReaderSeat → ℕ → LabReader → LabReader → Row → Option CaptureStream → Option Setup → Type 0
-HasOpening spare phase r s row (Some stream) setup = (s ≡ r) × (row ≡ row_by phase (number_of r) op.Opens (Some stream) (Failed BadState))
-HasOpening spare phase r s row None None = (s ≡ r) × (row ≡ row_by phase (number_of r) op.Opens None (Failed (Invalid why.Config)))
+abbrev pub HasOpening : ReaderSeat → ℕ → LabReader → LabReader → Row → Option CaptureStream
+    → Option Setup → Type 0
+HasOpening spare phase r s row (Some stream) setup =
+    (s ≡ r) × (row ≡ row_by phase (number_of r) op.Opens (Some stream) (Failed BadState))
+HasOpening spare phase r s row None None =
+    (s ≡ r) × (row ≡ row_by phase (number_of r) op.Opens None (Failed (Invalid why.Config)))
 HasOpening spare phase r s row None (Some setup) = OpensAt spare setup phase r s row
 
 -- the row of a reader that is closed
 abbrev pub closed_row : ℕ → ℕ → Option ℕ → Row
-closed_row phase number seen = record { phase = phase; actor = actor.Reader number; op = op.Closes; answer = Done; state = state.Open; seen = seen }
+closed_row phase number seen =
+    record {
+      phase = phase;
+      actor = actor.Reader number;
+      op = op.Closes;
+      answer = Done;
+      state = state.Open;
+      seen = seen;
+    }
 
 -- what a closing makes of a reader, likewise
 abbrev pub HasClosing : ℕ → LabReader → LabReader → Row → Option CaptureStream → Type 0
-HasClosing phase r s row None = (s ≡ r) × (row ≡ row_by phase (number_of r) op.Closes None (Failed BadState))
-HasClosing phase r s row (Some stream) = (seat : ReaderSeat) × HasClosed seat r s × (row ≡ closed_row phase (number_of r) stream.seen)
+HasClosing phase r s row None =
+    (s ≡ r) × (row ≡ row_by phase (number_of r) op.Closes None (Failed BadState))
+HasClosing phase r s row (Some stream) =
+    (seat : ReaderSeat) × HasClosed seat r s × (row ≡ closed_row phase (number_of r) stream.seen)
 
 -- one reader of the lab became another one; the spare seat is of the ring of which it was
 pub record Exchanges (rs ss : LabReaders) (number : ℕ) (s : LabReader) : Type 0 where
@@ -119,7 +133,8 @@ pub record Exchanges (rs ss : LabReaders) (number : ℕ) (s : LabReader) : Type 
   pub readers : readers_of ss ≡ slice_set (readers_of rs) number s
 
 -- the readers of the lab are at a stage before an item, with so many phases done
-pub record IsItemAt (session : Session) (capture : Option Sound) (stage : Stage) (phase : ℕ) (rs : LabReaders) : Type 0 where
+pub record IsItemAt (session : Session) (capture : Option Sound) (stage : Stage)
+    (phase : ℕ) (rs : LabReaders) : Type 0 where
   pub are : AreAt session capture stage.readers rs
   pub phases : phase ≡ stage.phases
 

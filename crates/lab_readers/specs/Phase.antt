@@ -42,7 +42,8 @@ use Rattle.lab_readers.specs.Steps.{EachReader, HasRowsTaken, HasTakenRoom, IsHe
 
 -- a reader's part in a phase is what the phase allows to it (lab_run: `parts_are_runs`)
 abbrev pub ReaderPartsAreRuns : Type 0
-ReaderPartsAreRuns = (phase number : ℕ) (rules : Rules) → PartsAreRuns (reader_kind phase number) rules
+ReaderPartsAreRuns =
+    (phase number : ℕ) (rules : Rules) → PartsAreRuns (reader_kind phase number) rules
 
 -- ---- the card
 
@@ -76,7 +77,8 @@ IsOver-phase ring geometry capture phase c a b d lines is over =
 
 -- The steps of all readers in a phase: they took the room of their lines, met notes of the card, did their lines behind their gates, the card met
 -- their notes, and their rows were taken.
-pub record ReadersSteps (c d : Card) (phase : ℕ) (stops after : ℕ → ℕ) (lines : List Line) (before end : LabReaders) (rows : List Row) : Type 0 where
+pub record ReadersSteps (c d : Card) (phase : ℕ) (stops after : ℕ → ℕ)
+    (lines : List Line) (before end : LabReaders) (rows : List Row) : Type 0 where
   pub roomy : LabReaders
   pub informed : LabReaders
   pub run : LabReaders
@@ -90,17 +92,21 @@ pub record ReadersSteps (c d : Card) (phase : ℕ) (stops after : ℕ → ℕ) (
 
 -- Readers may do their lines of a phase so, with these rows, and are so afterwards; their gates had stopped them so often before the lab began, and
 -- have stopped them so often after the phase.
-pub record ReadersMay (session : Session) (stage : Stage) (capture : Option Sound) (lines : List Line) (base after : ℕ → ℕ) (xs : List (AtPort × Reader)) (rows : List Row)
+pub record ReadersMay (session : Session) (stage : Stage) (capture : Option Sound)
+    (lines : List Line) (base after : ℕ → ℕ) (xs : List (AtPort × Reader)) (rows : List Row)
     (rs : LabReaders) : Type 0 where
   pub next : List (AtPort × Reader)
-  pub may : EachMay (reader_kinds stage) (rules_of session stage lines) (λ n. ops_by (is_reader n) lines) 0 xs next rows
+  pub may : EachMay (reader_kinds stage) (rules_of session stage lines)
+      (λ n. ops_by (is_reader n) lines) 0 xs next rows
   pub done : AreDone session capture next rs
   pub counted : AreCounted base after 0 next
 
 -- what a phase does to one reader after the other, up to the meet after its lines
-abbrev StepsOf : Card → Card → ℕ → (ℕ → ℕ) → (ℕ → ℕ) → List Line → ℕ → LabReader → LabReader → Type 0
+abbrev StepsOf : Card → Card → ℕ → (ℕ → ℕ) → (ℕ → ℕ) → List Line → ℕ → LabReader
+    → LabReader → Type 0
 StepsOf c d phase stops after lines =
-    AreJoined (AreJoined (AreJoined (HasTakenRoom lines) (IsInformedBy c)) (RunsBehind stops after phase lines)) (IsHeardBy d)
+    AreJoined (AreJoined (AreJoined (HasTakenRoom lines) (IsInformedBy c))
+    (RunsBehind stops after phase lines)) (IsHeardBy d)
 
 module _ (session : Session) (stage : Stage) (capture : Option Sound) (ring : TableId) (lines : List Line) (base stops after : ℕ → ℕ) (c : Card) (a b : CardActor) (d : Card)
     (is : CardPhase capture (stage.phases + 1) c a b d lines) (card : IsCardAt session stage c) (over : IsOver ring session.ring c) (up_to : IsCapturedUpTo capture c)

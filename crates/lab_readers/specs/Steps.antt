@@ -15,7 +15,8 @@ use Rattle.lab_readers.specs.AtStage.{readers_of, spare_of}
 use Rattle.lab_readers.specs.declared.readers.LabReaders.{LabReaders}
 
 -- each reader is in a relation, which knows its number, to what became of it, and the spare seat is as before
-pub record EachReader (R : ℕ → LabReader → LabReader → Type 0) (before after : LabReaders) : Type 0 where
+pub record EachReader (R : ℕ → LabReader → LabReader → Type 0)
+    (before after : LabReaders) : Type 0 where
   pub spare : spare_of after ≡ spare_of before
   pub each : AreEach R 0 (readers_of before) (readers_of after)
 
@@ -70,5 +71,6 @@ is_busy lines r = is_some_op (ops_of r lines)
 
 -- a reader was closed if it was stopped, and else it is as before
 pub record IsReaped (number : ℕ) (r s : LabReader) : Type 0 where
-  pub stopped : is_reader_stopped (reader_in r).own ≡ true → (seat : ReaderSeat) × HasClosed seat r s
+  pub stopped : is_reader_stopped (reader_in r).own ≡ true
+      → (seat : ReaderSeat) × HasClosed seat r s
   pub goes : is_reader_stopped (reader_in r).own ≡ false → s ≡ r

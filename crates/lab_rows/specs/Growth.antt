@@ -37,28 +37,37 @@ pub record IsGrown (stage next : Stage) : Type 0 where
 
 -- each item of a body
 abbrev pub StagesGrow : Type 0
-StagesGrow = (session : Session) (stage next : Stage) (one : Item) → ItemMay session stage one next → IsGrown stage next
+StagesGrow =
+    (session : Session) (stage next : Stage) (one : Item) → ItemMay session stage one next
+    → IsGrown stage next
 
 -- an opening or a closing of an actor leaves each reader's frames as they are
-pub record KeepsFrames (session : Session) (stage next : Stage) (number : ℕ) (who : Actor) : Type 0 where
-  pub opens : ItemMay session stage (item.Opens number who) next → frames_of next.readers ≡ frames_of stage.readers
-  pub closes : ItemMay session stage (item.Closes number who) next → frames_of next.readers ≡ frames_of stage.readers
+pub record KeepsFrames (session : Session) (stage next : Stage) (number : ℕ)
+    (who : Actor) : Type 0 where
+  pub opens : ItemMay session stage (item.Opens number who) next
+      → frames_of next.readers ≡ frames_of stage.readers
+  pub closes : ItemMay session stage (item.Closes number who) next
+      → frames_of next.readers ≡ frames_of stage.readers
 
 -- each opening and closing
 abbrev pub BordersKeepFrames : Type 0
-BordersKeepFrames = (session : Session) (stage next : Stage) (number : ℕ) (who : Actor) → KeepsFrames session stage next number who
+BordersKeepFrames =
+    (session : Session) (stage next : Stage) (number : ℕ) (who : Actor)
+    → KeepsFrames session stage next number who
 
 -- ---- the samples of readers
 
 -- the samples of a reader that has some frames
 abbrev samples_of : Session → Option Sound → ℕ → List ℕ → List ℤ
 samples_of session capture number frames =
-    flat_map (λ frame. map (captured session capture frame) (bindings_of (slice_index_or session.readers number None))) frames
+    flat_map (λ frame. map (captured session capture frame)
+    (bindings_of (slice_index_or session.readers number None))) frames
 
 -- the samples of each reader, by the frames of each; the first of them has a number
 abbrev samples_from : Session → Option Sound → ℕ → List (List ℕ) → List (List ℤ)
 samples_from session capture number [] = []
-samples_from session capture number (frames ∷ others) = samples_of session capture number frames ∷ samples_from session capture (number + 1) others
+samples_from session capture number (frames ∷ others) =
+    samples_of session capture number frames ∷ samples_from session capture (number + 1) others
 
 module _ (session : Session) (capture : Option Sound) where
   recorded_from-frames : (number : ℕ) (xs : List (AtPort × Reader)) → recorded_from session capture number xs ≡ samples_from session capture number (frames_of xs)

@@ -14,7 +14,8 @@ use Rattle.lab_rows.specs.Sizes.{HasSizes}
 
 -- the rows of a stage are those of the items that are done, in the order of a report, and each has a text in a report of the script; the
 -- segments and runs so far are of the script's clients and readers
-pub record IsReportedIn (script : Script) (session : Session) (done : List Item) (stage : Stage) : Type 0 where
+pub record IsReportedIn (script : Script) (session : Session) (done : List Item)
+    (stage : Stage) : Type 0 where
   pub lines : map request_of_row stage.rows ≡ requests_from 0 done
   pub rows : All (IsRowOf script) stage.rows
   pub tail : IsTailOf script (report_of session stage)
@@ -22,7 +23,8 @@ pub record IsReportedIn (script : Script) (session : Session) (done : List Item)
 -- each stage of a run of a script
 abbrev pub StagesAreReported : Type 0
 StagesAreReported =
-    (script : Script) (wavs : List Sound) (session : Session) (done others : List Item) (stage : Stage)
+    (script : Script) (wavs : List Sound) (session : Session) (done others : List Item)
+    (stage : Stage)
     → IsReached script wavs session done others stage → IsReportedIn script session done stage
 
 -- what a run leaves is of its script: the report is one of that script, and the samples fit WAV files
@@ -33,5 +35,8 @@ pub record IsOutcomeOf (script : Script) (outcome : Outcome) : Type 0 where
 -- each run of a script's body, however often the actors' own gates stop them
 abbrev pub OutcomesAreOfScripts : Type 0
 OutcomesAreOfScripts =
-    (script : Script) (wavs : List Sound) (session : Session) (capture : Option Sound) (client_stops reader_stops : ℕ → ℕ) (outcome : Outcome)
-    → IsScript script → IsSessionOf script wavs session → LabRun session capture script.body client_stops reader_stops outcome → IsOutcomeOf script outcome
+    (script : Script) (wavs : List Sound) (session : Session) (capture : Option Sound)
+    (client_stops reader_stops : ℕ → ℕ) (outcome : Outcome)
+    → IsScript script → IsSessionOf script wavs session
+    → LabRun session capture script.body client_stops reader_stops outcome
+    → IsOutcomeOf script outcome

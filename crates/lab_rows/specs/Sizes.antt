@@ -25,18 +25,24 @@ pub record IsPlayed (script : Script) (outcome : Outcome) : Type 0 where
   pub frames : AreFrames script.card.channels outcome.played
 
 -- what the reader of a number read: whole frames of its line's channels, no more frames than the card played
-pub record IsRecorded (script : Script) (outcome : Outcome) (number : ℕ) (line : ReaderLine) : Type 0 where
-  pub frames : AreFrames (length (read_by script.card line)) (slice_index_or outcome.recorded number [])
-  pub captured : length (slice_index_or outcome.recorded number []) ≤ outcome.report.frames * length (read_by script.card line)
+pub record IsRecorded (script : Script) (outcome : Outcome) (number : ℕ)
+    (line : ReaderLine) : Type 0 where
+  pub frames : AreFrames (length (read_by script.card line))
+      (slice_index_or outcome.recorded number [])
+  pub captured : length (slice_index_or outcome.recorded number []) ≤ outcome.report.frames * length
+      (read_by script.card line)
 
 -- the samples of a card and of its readers fit WAV files
 pub record HasSizes (script : Script) (outcome : Outcome) : Type 0 where
   pub played : IsPlayed script outcome
   pub readers : length outcome.recorded ≡ length script.readers
-  pub recorded : (number : ℕ) (line : ReaderLine) → slice_get script.readers number ≡ Some line → IsRecorded script outcome number line
+  pub recorded : (number : ℕ) (line : ReaderLine) → slice_get script.readers number ≡ Some line
+      → IsRecorded script outcome number line
 
 -- at each stage of a run of a script
 abbrev pub StagesHaveSizes : Type 0
 StagesHaveSizes =
-    (script : Script) (wavs : List Sound) (session : Session) (capture : Option Sound) (done others : List Item) (stage : Stage)
-    → IsReached script wavs session done others stage → HasSizes script (outcome_of session capture stage)
+    (script : Script) (wavs : List Sound) (session : Session) (capture : Option Sound)
+    (done others : List Item) (stage : Stage)
+    → IsReached script wavs session done others stage
+    → HasSizes script (outcome_of session capture stage)

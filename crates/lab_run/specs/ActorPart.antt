@@ -31,7 +31,8 @@ abbrev pub with_late : ℕ → ℕ → Findings → Findings
 with_late frame channel found = record found { late = found.late ++ (frame, channel) ∷ [] }
 
 abbrev pub with_overtaken : ℕ → ℕ → Findings → Findings
-with_overtaken frame channel found = record found { overtaken = found.overtaken ++ (frame, channel) ∷ [] }
+with_overtaken frame channel found =
+    record found { overtaken = found.overtaken ++ (frame, channel) ∷ [] }
 
 -- the steps of an actor at its port, with what it found so far
 abbrev pub Doing : Type 0
@@ -40,34 +41,45 @@ Doing = AtPort × Findings
 abbrev pub DoesLoad : Doing → Option Position → Doing → Type 0
 DoesLoad (a, found) None (b, after) = (b ≡ with_stop a) × (after ≡ found)
 DoesLoad (a, found) (Some position) (b, after) =
-    (lets_pass 1 a.left ≡ true) × (a.seen ≤ position.frame) × (b ≡ with_load position.frame a) × (after ≡ with_position position found)
+    (lets_pass 1 a.left ≡ true) × (a.seen ≤ position.frame) × (b ≡ with_load position.frame a)
+    × (after ≡ with_position position found)
 
 abbrev pub DoesLay : Geometry → Doing → Entry → Ended → Doing → Type 0
-DoesLay ring (a, found) e Whole (b, after) = (a.seen ≤ e.frame) × (lets_pass 2 a.left ≡ true) × (b ≡ with_entry ring e a) × (after ≡ found)
+DoesLay ring (a, found) e Whole (b, after) =
+    (a.seen ≤ e.frame) × (lets_pass 2 a.left ≡ true) × (b ≡ with_entry ring e a) × (after ≡ found)
 DoesLay ring (a, found) e (Late word) (b, after) =
-    (asks : ℕ) × (word ≡ 0) × MayAsk a e asks × (lets_pass (asks + 1) a.left ≡ true) × (b ≡ with_asks (asks + 1) a)
+    (asks : ℕ) × (word ≡ 0) × MayAsk a e asks × (lets_pass (asks + 1) a.left ≡ true)
+    × (b ≡ with_asks (asks + 1) a)
     × (after ≡ with_late e.frame e.channel found)
 DoesLay ring (a, found) e Stopped (b, after) =
-    (((asks : ℕ) × MayAsk a e asks × (lets_pass asks a.left ≡ true) × (b ≡ with_stop (with_asks asks a)))
-    ⊎ ((a.seen ≤ e.frame) × (lets_pass 2 a.left ≡ true) × (b ≡ with_gate_stop (with_asks 2 a)))) × (after ≡ found)
+    (((asks : ℕ) × MayAsk a e asks × (lets_pass asks a.left ≡ true)
+    × (b ≡ with_stop (with_asks asks a)))
+    ⊎ ((a.seen ≤ e.frame) × (lets_pass 2 a.left ≡ true) × (b ≡ with_gate_stop (with_asks 2 a))))
+    × (after ≡ found)
 
 abbrev pub DoesGet : Geometry → Doing → ℕ → Got → Doing → Type 0
 DoesGet ring (a, found) frame got.Whole (b, after) =
-    (a.seen ≤ frame + ring.frames) × (lets_pass ring.channels a.left ≡ true) × (b ≡ with_asks ring.channels a) × (after ≡ found)
+    (a.seen ≤ frame + ring.frames) × (lets_pass ring.channels a.left ≡ true)
+    × (b ≡ with_asks ring.channels a) × (after ≡ found)
 DoesGet ring (a, found) frame (got.Overtaken channel word) (b, after) =
-    (word ≡ 0) × (channel < ring.channels) × ((channel ≡ 0) ⊎ (a.seen ≤ frame + ring.frames)) × (lets_pass (channel + 1) a.left ≡ true)
+    (word ≡ 0) × (channel < ring.channels) × ((channel ≡ 0) ⊎ (a.seen ≤ frame + ring.frames))
+    × (lets_pass (channel + 1) a.left ≡ true)
     × (b ≡ with_asks (channel + 1) a) × (after ≡ with_overtaken frame channel found)
 DoesGet ring (a, found) frame got.Stopped (b, after) =
-    (asks : ℕ) × (asks < ring.channels) × ((asks ≡ 0) ⊎ (a.seen ≤ frame + ring.frames)) × (lets_pass asks a.left ≡ true)
+    (asks : ℕ) × (asks < ring.channels) × ((asks ≡ 0) ⊎ (a.seen ≤ frame + ring.frames))
+    × (lets_pass asks a.left ≡ true)
     × (b ≡ with_stop (with_asks asks a)) × (after ≡ found)
 
 -- a line was done so
-abbrev pub LineDone : {S : Type 0} → Kind S → Geometry → (AtPort × S) × Findings → Op → (AtPort × S) × Findings → Answer → Type 0
+abbrev pub LineDone : {S : Type 0} → Kind S → Geometry → (AtPort × S) × Findings
+    → Op → (AtPort × S) × Findings → Answer → Type 0
 LineDone kind ring ((a, s), found) asked ((b, t), after) answer =
-    Takes DoesLoad (DoesLay ring) (DoesGet ring) (kind.begins s asked a, found) (kind.course (kind.begins s asked a) s asked) (b, after) (t, answer)
+    Takes DoesLoad (DoesLay ring) (DoesGet ring) (kind.begins s asked a, found)
+    (kind.course (kind.begins s asked a) s asked) (b, after) (t, answer)
 
 -- lines were done so, one after the other, with these rows
-abbrev pub ActorPart : {S : Type 0} → Kind S → Geometry → (AtPort × S) × Findings → List Op → (AtPort × S) × Findings → List Row → Type 0
+abbrev pub ActorPart : {S : Type 0} → Kind S → Geometry → (AtPort × S) × Findings
+    → List Op → (AtPort × S) × Findings → List Row → Type 0
 ActorPart kind ring before [] after rows = (after ≡ before) × (rows ≡ [])
 ActorPart {S = S} kind ring before (asked ∷ more) after rows =
     (between : (AtPort × S) × Findings) × (answer : Answer) × (others : List Row)
@@ -77,8 +89,11 @@ ActorPart {S = S} kind ring before (asked ∷ more) after rows =
 -- one line more, and its row
 abbrev pub PartsGrow : {S : Type 0} → Kind S → Geometry → Type 0
 PartsGrow {S = S} kind ring =
-    (before between after : (AtPort × S) × Findings) (ops : List Op) (rows : List Row) (asked : Op) (answer : Answer) → ActorPart kind ring before ops between rows
-    → LineDone kind ring between asked after answer → ActorPart kind ring before (ops ++ asked ∷ []) after (rows ++ kind.row asked after.0.1 answer ∷ [])
+    (before between after : (AtPort × S) × Findings) (ops : List Op) (rows : List Row)
+    (asked : Op) (answer : Answer) → ActorPart kind ring before ops between rows
+    → LineDone kind ring between asked after answer
+    → ActorPart kind ring before (ops ++ asked ∷ []) after
+    (rows ++ kind.row asked after.0.1 answer ∷ [])
 
 -- each member of a list has a fact
 abbrev pub Each : {X : Type 0} → (X → Type 0) → List X → Type 0
@@ -88,12 +103,16 @@ Each P (x ∷ xs) = P x × Each P xs
 -- what is known of an actor's findings after its phase: each position that it loaded was published, each frame that was late is taken by
 -- then, and each that was overtaken is stored over
 pub record AreOf (rules : Rules) (found : Findings) : Type 0 where
-  pub loads : Each (λ (position : Position). Contains rules.published position.frame × (position.gone ≡ rules.at.gone)) found.loads
+  pub loads : Each
+      (λ (position : Position). Contains rules.published position.frame
+      × (position.gone ≡ rules.at.gone)) found.loads
   pub late : Each (λ (place : ℕ × ℕ). place.0 < rules.at.position) found.late
-  pub overtaken : Each (λ (place : ℕ × ℕ). place.0 + rules.at.ring.frames < rules.at.position) found.overtaken
+  pub overtaken : Each (λ (place : ℕ × ℕ). place.0 + rules.at.ring.frames < rules.at.position)
+      found.overtaken
 
 -- then the actor did what the phase allows
 abbrev pub PartsAreRuns : {S : Type 0} → Kind S → Rules → Type 0
 PartsAreRuns {S = S} kind rules =
     (before after : AtPort × S) (found : Findings) (ops : List Op) (rows : List Row)
-    → ActorPart kind rules.at.ring (before, nothing_found) ops (after, found) rows → AreOf rules found → LinesMay kind rules before ops after rows
+    → ActorPart kind rules.at.ring (before, nothing_found) ops (after, found) rows
+    → AreOf rules found → LinesMay kind rules before ops after rows

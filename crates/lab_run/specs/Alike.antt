@@ -38,62 +38,94 @@ IsFromOn from (Some position) = from ≤ position.frame
 -- second; a relation holds between their results
 abbrev pub Alike : {X Y : Type 0} → ℕ → (X → Y → Type 0) → Course X → Course Y → Type 0
 Alike from R (ends x) (ends y) = R x y
-Alike from R (loads m) (loads n) = (load : Option Position) → IsFromOn from load → Alike from R (m load) (n load)
+Alike from R (loads m) (loads n) =
+    (load : Option Position) → IsFromOn from load → Alike from R (m load) (n load)
 Alike from R (lays e m) (lays d n) =
-    IsSamePlace e d × Alike from R (m Whole) (n Whole) × ((word : ℕ) → Alike from R (m (Late word)) (n (Late 0))) × Alike from R (m Stopped) (n Stopped)
+    IsSamePlace e d × Alike from R (m Whole) (n Whole)
+    × ((word : ℕ) → Alike from R (m (Late word)) (n (Late 0)))
+    × Alike from R (m Stopped) (n Stopped)
 Alike from R (gets frame m) (gets other n) =
     (frame ≡ other) × Alike from R (m got.Whole) (n got.Whole)
-    × ((channel word : ℕ) → Alike from R (m (got.Overtaken channel word)) (n (got.Overtaken channel 0))) × Alike from R (m got.Stopped) (n got.Stopped)
+    × ((channel word : ℕ)
+    → Alike from R (m (got.Overtaken channel word)) (n (got.Overtaken channel 0)))
+    × Alike from R (m got.Stopped) (n got.Stopped)
 Alike from R m n = ⊥
 
 -- two marks of a port are one to a client that loads no position below a frame
 abbrev pub SameFrom : ℕ → Cursor → Cursor → Type 0
-SameFrom from one other = (position : ℕ) → from ≤ position → max position (first_free one 0) ≡ max position (first_free other 0)
+SameFrom from one other =
+    (position : ℕ) → from ≤ position
+    → max position (first_free one 0) ≡ max position (first_free other 0)
 
 -- two results of calls leave the same client, and are answered alike in a report
-pub record SameAnswer {X S : Type 0} (answer : Result X PcmError → Answer) (a b : S × Result X PcmError) : Type 0 where
+pub record SameAnswer {X S : Type 0} (answer : Result X PcmError → Answer)
+    (a b : S × Result X PcmError) : Type 0 where
   pub client : a.0 ≡ b.0
   pub answer_is : answer a.1 ≡ answer b.1
 
 -- two results of a client's calls leave the same client but for its member, which is given in the second, and are answered alike in a report
-pub record SameButMember {X : Type 0} (member : ℕ) (answer : Result X PcmError → Answer) (a b : Answered X) : Type 0 where
+pub record SameButMember {X : Type 0} (member : ℕ) (answer : Result X PcmError → Answer)
+    (a b : Answered X) : Type 0 where
   pub client : with_member member a.0 ≡ b.0
   pub answer_is : answer a.1 ≡ answer b.1
 
 -- each call of a client, whatever its ring holds and whatever it is given, is like the call without them of the client with another member, at a
 -- port whose cursor and floor are the same from a frame on
-pub record CallsAreAlike (from member : ℕ) (c : PlaybackStream) (ring : List ℤ) (cursor other floor lower : Cursor) : Type 0 where
+pub record CallsAreAlike (from member : ℕ) (c : PlaybackStream) (ring : List ℤ)
+    (cursor other floor lower : Cursor) : Type 0 where
   pub write : (samples : List ℤ) → Alike from (SameButMember member count_answer)
       (admitted c call.Transfer (client_calls.write_course c ring samples cursor))
-      (admitted (with_member member c) call.Transfer (write_course (with_member member c) other (frames_in c samples)))
-  pub start : Alike from (SameButMember member done_answer) (admitted c call.Start (start_course c ring cursor))
+      (admitted (with_member member c) call.Transfer
+      (write_course (with_member member c) other (frames_in c samples)))
+  pub start : Alike from (SameButMember member done_answer)
+      (admitted c call.Start (start_course c ring cursor))
       (admitted (with_member member c) call.Start (start_course (with_member member c) [] other))
-  pub sync : Alike from (SameButMember member done_answer) (admitted c call.Sync (sync_course c ring))
+  pub sync : Alike from (SameButMember member done_answer)
+      (admitted c call.Sync (sync_course c ring))
       (admitted (with_member member c) call.Sync (sync_course (with_member member c) []))
-  pub drain : Alike from (SameButMember member done_answer) (admitted c call.Drain (drain_course c ring cursor))
+  pub drain : Alike from (SameButMember member done_answer)
+      (admitted c call.Drain (drain_course c ring cursor))
       (admitted (with_member member c) call.Drain (drain_course (with_member member c) [] other))
-  pub pause : (on : Bool) → Alike from (SameButMember member done_answer) (admitted c (pause_call on) (pause_course on c ring cursor))
-      (admitted (with_member member c) (pause_call on) (pause_course on (with_member member c) [] other))
-  pub avail : Alike from (SameButMember member count_answer) (admitted c call.Sync (number_course avail_answer c ring))
-      (admitted (with_member member c) call.Sync (number_course avail_answer (with_member member c) []))
-  pub delay : Alike from (SameButMember member count_answer) (admitted c call.Sync (number_course delay_answer c ring))
-      (admitted (with_member member c) call.Sync (number_course delay_answer (with_member member c) []))
-  pub drop : Alike from (SameButMember member done_answer) (admitted c call.Drop (ends (dropped c, Ok tt)))
+  pub pause : (on : Bool)
+      → Alike from (SameButMember member done_answer)
+      (admitted c (pause_call on) (pause_course on c ring cursor))
+      (admitted (with_member member c) (pause_call on)
+      (pause_course on (with_member member c) [] other))
+  pub avail : Alike from (SameButMember member count_answer)
+      (admitted c call.Sync (number_course avail_answer c ring))
+      (admitted (with_member member c) call.Sync
+      (number_course avail_answer (with_member member c) []))
+  pub delay : Alike from (SameButMember member count_answer)
+      (admitted c call.Sync (number_course delay_answer c ring))
+      (admitted (with_member member c) call.Sync
+      (number_course delay_answer (with_member member c) []))
+  pub drop : Alike from (SameButMember member done_answer)
+      (admitted c call.Drop (ends (dropped c, Ok tt)))
       (admitted (with_member member c) call.Drop (ends (dropped (with_member member c), Ok tt)))
-  pub prepare : Alike from (SameButMember member done_answer) (admitted c call.Prepare (ends (prepared c, Ok tt)))
+  pub prepare : Alike from (SameButMember member done_answer)
+      (admitted c call.Prepare (ends (prepared c, Ok tt)))
       (admitted (with_member member c) call.Prepare (ends (prepared (with_member member c), Ok tt)))
-  pub rewind : (n : ℕ) → Alike from (SameButMember member count_answer) (admitted c call.Transfer (rewind_course c ring floor n))
-      (admitted (with_member member c) call.Transfer (rewind_course (with_member member c) [] lower n))
-  pub rewindable : Alike from (SameButMember member count_answer) (admitted c call.Transfer (rewindable_course c floor))
-      (admitted (with_member member c) call.Transfer (rewindable_course (with_member member c) lower))
+  pub rewind : (n : ℕ)
+      → Alike from (SameButMember member count_answer)
+      (admitted c call.Transfer (rewind_course c ring floor n))
+      (admitted (with_member member c) call.Transfer
+      (rewind_course (with_member member c) [] lower n))
+  pub rewindable : Alike from (SameButMember member count_answer)
+      (admitted c call.Transfer (rewindable_course c floor))
+      (admitted (with_member member c) call.Transfer
+      (rewindable_course (with_member member c) lower))
 
 -- each call of a reader is like itself without its words
 pub record ReadsAreAlike (r : reading.CaptureStream) : Type 0 where
   pub read : (n : ℕ) → Alike 0 (SameAnswer count_answer)
-      (reading_course.admitted r call.Transfer (read_course r n)) (reading_course.admitted r call.Transfer (read_course r n))
+      (reading_course.admitted r call.Transfer (read_course r n))
+      (reading_course.admitted r call.Transfer (read_course r n))
   pub start : Alike 0 (SameAnswer done_answer)
-      (reading_course.admitted r call.Start (reading_course.starts r call.Start)) (reading_course.admitted r call.Start (reading_course.starts r call.Start))
+      (reading_course.admitted r call.Start (reading_course.starts r call.Start))
+      (reading_course.admitted r call.Start (reading_course.starts r call.Start))
   pub sync : Alike 0 (SameAnswer done_answer)
-      (reading_course.admitted r call.Sync (reading_course.sync_course r)) (reading_course.admitted r call.Sync (reading_course.sync_course r))
+      (reading_course.admitted r call.Sync (reading_course.sync_course r))
+      (reading_course.admitted r call.Sync (reading_course.sync_course r))
   pub avail : Alike 0 (SameAnswer count_answer)
-      (reading_course.admitted r call.Sync (avail_course r)) (reading_course.admitted r call.Sync (avail_course r))
+      (reading_course.admitted r call.Sync (avail_course r))
+      (reading_course.admitted r call.Sync (avail_course r))

@@ -9,12 +9,15 @@ use Rattle.lab_script.specs.declared.script.Share.TheVariants.{Dmix, Dshare}
 -- a channel is free at a position: it has no owner, and each earlier owner's last frame is before the position
 abbrev pub is_free_channel : List Row → ℕ → ℕ → Bool
 is_free_channel claims position channel =
-    is_none (owner_of claims channel) && list_all (λ frame. nat_lt frame position) (last_frames claims channel)
+    is_none (owner_of claims channel)
+    && list_all (λ frame. nat_lt frame position) (last_frames claims channel)
 
 -- why a claim of some channels is refused, if it is; clients that are mixed claim nothing
 abbrev pub claim_refusal : Share → List Row → List ℕ → ℕ → Option PcmError
 claim_refusal Dmix claims channels position = None
-claim_refusal Dshare claims channels position = if list_all (is_free_channel claims position) channels then None else Some (busy claims channels position)
+claim_refusal Dshare claims channels position =
+    if list_all (is_free_channel claims position) channels then None
+    else Some (busy claims channels position)
 
 -- the claims after one of some channels, and after their release by an owner that laid up to a frame, if it laid anything
 abbrev pub with_claim : Share → List ℕ → List Row → List Row
@@ -27,6 +30,8 @@ with_release Dshare channels last claims = released channels last ∷ claims
 
 -- a claim is refused exactly where a channel isn't free, and the refusal is that of the channels' owners
 pub record ClaimIsOwners (claims : List Row) (channels : List ℕ) (position : ℕ) : Type 0 where
-  pub granted : claim_refusal Dshare claims channels position ≡ None → AreFree claims position channels
+  pub granted : claim_refusal Dshare claims channels position ≡ None
+      → AreFree claims position channels
   pub free : AreFree claims position channels → claim_refusal Dshare claims channels position ≡ None
-  pub refused : (e : PcmError) → claim_refusal Dshare claims channels position ≡ Some e → e ≡ busy claims channels position
+  pub refused : (e : PcmError) → claim_refusal Dshare claims channels position ≡ Some e
+      → e ≡ busy claims channels position

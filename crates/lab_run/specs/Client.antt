@@ -51,7 +51,8 @@ pub record Client : Type 0 where
 
 -- the segment of a stretch, where at least one of its samples is in the card's ring
 abbrev pub stretch_of : PlaybackStream → List Segment
-stretch_of c = if nat_eq c.stretch.committed 0 && nat_eq c.stretch.part 0 then [] else segment_of c ∷ []
+stretch_of c =
+    if nat_eq c.stretch.committed 0 && nat_eq c.stretch.part 0 then [] else segment_of c ∷ []
 
 abbrev pub present_of : Option PlaybackStream → List Segment
 present_of None = []
@@ -64,43 +65,60 @@ segments_of client = client.ended ++ present_of client.own
 -- after it, isn't paused any more.
 abbrev pub ended_by : Op → Answer → PlaybackStream → PlaybackStream → List Segment
 ended_by op.Prepare Done c d = stretch_of c
-ended_by op.Resume answer c d = if is_paused c.status.state && not (is_paused d.status.state) then stretch_of c else []
+ended_by op.Resume answer c d =
+    if is_paused c.status.state && not (is_paused d.status.state) then stretch_of c else []
 ended_by asked answer c d = []
 
 -- a write of n frames. No sample of them matters to what a run may be, so the course is that of a client with silence.
 abbrev pub write_course : PlaybackStream → Cursor → ℕ → Course (Answered ℕ)
-write_course c cursor n = if is_running c.status.state then writes_on c [] [] n else fills c [] [] cursor n
+write_course c cursor n =
+    if is_running c.status.state then writes_on c [] [] n else fills c [] [] cursor n
 
 -- a call with its answer
-abbrev pub answered : {X : Type 0} → (Result X PcmError → Answer) → Course (Answered X) → Course (PlaybackStream × Answer)
+abbrev pub answered : {X : Type 0} → (Result X PcmError → Answer) → Course (Answered X)
+    → Course (PlaybackStream × Answer)
 answered answer course = course >>= λ done. ends (done.0, answer done.1)
 
 -- the call that a line of an open client names, of a client with a file and with marks at its port
 abbrev pub call_of : Sound → Marks → PlaybackStream → Op → Course (PlaybackStream × Answer)
-call_of wav marks c (op.Write n) = answered count_answer (admitted c call.Transfer (write_course c marks.cursor (min n (frames_of wav - c.fed))))
-call_of wav marks c op.Start = answered done_answer (admitted c call.Start (start_course c [] marks.cursor))
+call_of wav marks c (op.Write n) =
+    answered count_answer
+    (admitted c call.Transfer (write_course c marks.cursor (min n (frames_of wav - c.fed))))
+call_of wav marks c op.Start =
+    answered done_answer (admitted c call.Start (start_course c [] marks.cursor))
 call_of wav marks c op.Sync = answered done_answer (admitted c call.Sync (sync_course c []))
-call_of wav marks c op.Avail = answered count_answer (admitted c call.Sync (number_course avail_answer c []))
-call_of wav marks c op.Delay = answered count_answer (admitted c call.Sync (number_course delay_answer c []))
-call_of wav marks c op.Drain = answered done_answer (admitted c call.Drain (drain_course c [] marks.cursor))
+call_of wav marks c op.Avail =
+    answered count_answer (admitted c call.Sync (number_course avail_answer c []))
+call_of wav marks c op.Delay =
+    answered count_answer (admitted c call.Sync (number_course delay_answer c []))
+call_of wav marks c op.Drain =
+    answered done_answer (admitted c call.Drain (drain_course c [] marks.cursor))
 call_of wav marks c op.Drop = answered done_answer (admitted c call.Drop (ends (dropped c, Ok tt)))
-call_of wav marks c op.Prepare = answered done_answer (admitted c call.Prepare (ends (prepared c, Ok tt)))
-call_of wav marks c op.Pause = answered done_answer (admitted c call.Pause (pause_course true c [] marks.cursor))
-call_of wav marks c op.Resume = answered done_answer (admitted c call.Resume (pause_course false c [] marks.cursor))
-call_of wav marks c (op.Rewind n) = answered count_answer (admitted c call.Transfer (rewind_course c [] marks.floor n))
-call_of wav marks c op.Rewindable = answered count_answer (admitted c call.Transfer (rewindable_course c marks.floor))
+call_of wav marks c op.Prepare =
+    answered done_answer (admitted c call.Prepare (ends (prepared c, Ok tt)))
+call_of wav marks c op.Pause =
+    answered done_answer (admitted c call.Pause (pause_course true c [] marks.cursor))
+call_of wav marks c op.Resume =
+    answered done_answer (admitted c call.Resume (pause_course false c [] marks.cursor))
+call_of wav marks c (op.Rewind n) =
+    answered count_answer (admitted c call.Transfer (rewind_course c [] marks.floor n))
+call_of wav marks c op.Rewindable =
+    answered count_answer (admitted c call.Transfer (rewindable_course c marks.floor))
 call_of wav marks c other = ends (c, Failed BadState)
 
 -- the client after a call
 abbrev pub after_call : Client → PlaybackStream → Op → PlaybackStream × Answer → Client × Answer
-after_call client before asked (after, answer) =
-    (record { own = Some after; ended = client.ended ++ ended_by asked answer before after }, answer)
+after_call client before asked (after, answer) = (
+  record { own = Some after; ended = client.ended ++ ended_by asked answer before after },
+  answer,
+)
 
 -- a line of an open client: after a stop in this phase nothing is done any more
 abbrev pub line_if : Bool → Sound → Marks → Client → PlaybackStream → Op → Course (Client × Answer)
 line_if true wav marks client c asked = ends (client, Failed Stopped)
 line_if false wav marks client c (op.Die k) = ends (client, Done)
-line_if false wav marks client c asked = call_of wav marks c asked >>= λ done. ends (after_call client c asked done)
+line_if false wav marks client c asked =
+    call_of wav marks c asked >>= λ done. ends (after_call client c asked done)
 
 -- a line of a client
 abbrev pub line_by : Sound → Marks → Client → Option PlaybackStream → Op → Course (Client × Answer)
@@ -119,9 +137,23 @@ begins (Some c) asked a = dies_if c.status.stopped asked a
 -- the row of a client's line, by the client after it
 abbrev pub row_by : ℕ → ℕ → Op → Option PlaybackStream → Answer → Row
 row_by phase number asked None answer =
-    record { phase = phase; actor = actor.Client number; op = asked; answer = answer; state = Open; seen = None }
+    record {
+      phase = phase;
+      actor = actor.Client number;
+      op = asked;
+      answer = answer;
+      state = Open;
+      seen = None;
+    }
 row_by phase number asked (Some c) answer =
-    record { phase = phase; actor = actor.Client number; op = asked; answer = answer; state = c.status.state; seen = c.seen }
+    record {
+      phase = phase;
+      actor = actor.Client number;
+      op = asked;
+      answer = answer;
+      state = c.status.state;
+      seen = c.seen;
+    }
 
 -- the client of a number, with its file, in a phase
 abbrev pub client_kind : ℕ → Sound → ℕ → Kind Client

@@ -26,19 +26,32 @@ use Rattle.lab_run.specs.Rules.{AtPort}
 
 -- the call that a line of an open client names, as the client makes it: with what its local ring holds, with the samples that it is given,
 -- and with the marks of its port
-abbrev pub made_call : List ℤ → List ℤ → Marks → PlaybackStream → Op → Course (PlaybackStream × Answer)
-made_call ring samples marks c (op.Write n) = answered count_answer (admitted c call.Transfer (write_course c ring samples marks.cursor))
-made_call ring samples marks c op.Start = answered done_answer (admitted c call.Start (start_course c ring marks.cursor))
-made_call ring samples marks c op.Sync = answered done_answer (admitted c call.Sync (sync_course c ring))
-made_call ring samples marks c op.Avail = answered count_answer (admitted c call.Sync (number_course avail_answer c ring))
-made_call ring samples marks c op.Delay = answered count_answer (admitted c call.Sync (number_course delay_answer c ring))
-made_call ring samples marks c op.Drain = answered done_answer (admitted c call.Drain (drain_course c ring marks.cursor))
-made_call ring samples marks c op.Drop = answered done_answer (admitted c call.Drop (ends (dropped c, Ok tt)))
-made_call ring samples marks c op.Prepare = answered done_answer (admitted c call.Prepare (ends (prepared c, Ok tt)))
-made_call ring samples marks c op.Pause = answered done_answer (admitted c call.Pause (pause_course true c ring marks.cursor))
-made_call ring samples marks c op.Resume = answered done_answer (admitted c call.Resume (pause_course false c ring marks.cursor))
-made_call ring samples marks c (op.Rewind n) = answered count_answer (admitted c call.Transfer (rewind_course c ring marks.floor n))
-made_call ring samples marks c op.Rewindable = answered count_answer (admitted c call.Transfer (rewindable_course c marks.floor))
+abbrev pub made_call : List ℤ → List ℤ → Marks → PlaybackStream → Op
+    → Course (PlaybackStream × Answer)
+made_call ring samples marks c (op.Write n) =
+    answered count_answer (admitted c call.Transfer (write_course c ring samples marks.cursor))
+made_call ring samples marks c op.Start =
+    answered done_answer (admitted c call.Start (start_course c ring marks.cursor))
+made_call ring samples marks c op.Sync =
+    answered done_answer (admitted c call.Sync (sync_course c ring))
+made_call ring samples marks c op.Avail =
+    answered count_answer (admitted c call.Sync (number_course avail_answer c ring))
+made_call ring samples marks c op.Delay =
+    answered count_answer (admitted c call.Sync (number_course delay_answer c ring))
+made_call ring samples marks c op.Drain =
+    answered done_answer (admitted c call.Drain (drain_course c ring marks.cursor))
+made_call ring samples marks c op.Drop =
+    answered done_answer (admitted c call.Drop (ends (dropped c, Ok tt)))
+made_call ring samples marks c op.Prepare =
+    answered done_answer (admitted c call.Prepare (ends (prepared c, Ok tt)))
+made_call ring samples marks c op.Pause =
+    answered done_answer (admitted c call.Pause (pause_course true c ring marks.cursor))
+made_call ring samples marks c op.Resume =
+    answered done_answer (admitted c call.Resume (pause_course false c ring marks.cursor))
+made_call ring samples marks c (op.Rewind n) =
+    answered count_answer (admitted c call.Transfer (rewind_course c ring marks.floor n))
+made_call ring samples marks c op.Rewindable =
+    answered count_answer (admitted c call.Transfer (rewindable_course c marks.floor))
 made_call ring samples marks c other = ends (c, Failed BadState)
 
 -- a write is given the next frames of the client's file, as many as it asks for, or those that are left
@@ -59,29 +72,46 @@ pub record MakesCall (client : Client) (c : PlaybackStream) (asked : Op) : Type 
 -- a client of a run, which has its own number as member, after a call that left the client at its seat so
 abbrev pub after_seat_call : ℕ → Client → PlaybackStream → Op → PlaybackStream → Answer → Client
 after_seat_call number client c asked after answer =
-    record { own = Some (with_member number after); ended = client.ended ++ ended_by asked answer c after }
+    record {
+      own = Some (with_member number after);
+      ended = client.ended ++ ended_by asked answer c after;
+    }
 
 -- a line of a client was done at a port, after which it is so
-pub record IsClientLine {S T : Type 0} (P : mixport.Ghosts S) (left : T → Option ℕ) (by_gate : T → ℕ) (first : S) (ring : Geometry) (from : ℕ) (t : S × T)
-    (phase : ℕ) (wav : Sound) (number : ℕ) (before : Doing) (client : Client) (asked : Op) (after : Client) (answer : Answer) : Type 0 where
+pub record IsClientLine {S T : Type 0} (P : mixport.Ghosts S) (left : T → Option ℕ)
+    (by_gate : T → ℕ) (first : S) (ring : Geometry) (from : ℕ) (t : S × T)
+    (phase : ℕ) (wav : Sound) (number : ℕ) (before : Doing) (client : Client)
+    (asked : Op) (after : Client) (answer : Answer) : Type 0 where
   pub doing : Doing
-  pub done : LineDone (client_kind phase wav number) ring ((before.0, client), before.1) asked ((doing.0, after), doing.1) answer
+  pub done : LineDone (client_kind phase wav number) ring ((before.0, client), before.1)
+      asked ((doing.0, after), doing.1) answer
   pub at : IsAtPort P left by_gate first ring from t doing
 
 -- Each line that makes a call is a part of its client. The client that makes it has the member of its seat; that of the run is the same with its
 -- own number as member, before the call and after it.
-abbrev pub ClientLinesAreParts : {S T : Type 0} → mixport.Ghosts S → gates.Ghosts T → (T → Option ℕ) → (T → ℕ) → S → Geometry → ℕ → Type 0
+abbrev pub ClientLinesAreParts : {S T : Type 0} → mixport.Ghosts S → gates.Ghosts T
+    → (T → Option ℕ) → (T → ℕ) → S → Geometry → ℕ → Type 0
 ClientLinesAreParts {S = S} {T = T} P G left by_gate first ring from =
-    (s t : S × T) (phase : ℕ) (wav : Sound) (number : ℕ) (before : Doing) (client : Client) (c : PlaybackStream) (held samples : List ℤ) (asked : Op)
-    (after : PlaybackStream) (answer : Answer) → MakesCall client (with_member number c) asked → IsOffered wav c samples asked
-    → IsAtPort P left by_gate first ring from s before → TakesAt P G s (made_call held samples (P.view s.0).marks c asked) t (after, answer)
-    → IsClientLine P left by_gate first ring from t phase wav number before client asked (after_seat_call number client c asked after answer) answer
+    (s t : S × T) (phase : ℕ) (wav : Sound) (number : ℕ) (before : Doing)
+    (client : Client) (c : PlaybackStream) (held samples : List ℤ) (asked : Op)
+    (after : PlaybackStream) (answer : Answer) → MakesCall client (with_member number c) asked
+    → IsOffered wav c samples asked
+    → IsAtPort P left by_gate first ring from s before
+    → TakesAt P G s (made_call held samples (P.view s.0).marks c asked) t (after, answer)
+    → IsClientLine P left by_gate first ring from t phase wav number before client
+    asked (after_seat_call number client c asked after answer) answer
 
 -- the lines that make no call: of a client that isn't open, of one that was stopped in this phase, and a `die`
-pub record ClientLinesWithoutCall (ring : Geometry) (phase : ℕ) (wav : Sound) (number : ℕ) : Type 0 where
+pub record ClientLinesWithoutCall (ring : Geometry) (phase : ℕ) (wav : Sound)
+    (number : ℕ) : Type 0 where
   pub closed : (a : AtPort) (found : Findings) (client : Client) (asked : Op) → client.own ≡ None
-      → LineDone (client_kind phase wav number) ring ((a, client), found) asked ((a, client), found) (Failed BadState)
-  pub stopped : (a : AtPort) (found : Findings) (client : Client) (c : PlaybackStream) (asked : Op) → client.own ≡ Some c → c.status.stopped ≡ true
-      → LineDone (client_kind phase wav number) ring ((a, client), found) asked ((a, client), found) (Failed Stopped)
-  pub dies : (a : AtPort) (found : Findings) (client : Client) (c : PlaybackStream) (k : ℕ) → client.own ≡ Some c → c.status.stopped ≡ false
-      → LineDone (client_kind phase wav number) ring ((a, client), found) (op.Die k) ((record a { left = Some k }, client), found) Done
+      → LineDone (client_kind phase wav number) ring ((a, client), found) asked
+      ((a, client), found) (Failed BadState)
+  pub stopped : (a : AtPort) (found : Findings) (client : Client) (c : PlaybackStream) (asked : Op)
+      → client.own ≡ Some c → c.status.stopped ≡ true
+      → LineDone (client_kind phase wav number) ring ((a, client), found) asked
+      ((a, client), found) (Failed Stopped)
+  pub dies : (a : AtPort) (found : Findings) (client : Client) (c : PlaybackStream) (k : ℕ)
+      → client.own ≡ Some c → c.status.stopped ≡ false
+      → LineDone (client_kind phase wav number) ring ((a, client), found) (op.Die k)
+      ((record a { left = Some k }, client), found) Done

@@ -20,11 +20,15 @@ use Rattle.lab_run.specs.Stage.{Session, Stage, after_close, after_open, claims_
 
 -- what a phase allows
 abbrev pub card_end : Session → Stage → List Line → CardEnd
-card_end session stage lines = record { ring = session.ring; position = stage.position + played_in lines; gone = stage.gone }
+card_end session stage lines =
+    record { ring = session.ring; position = stage.position + played_in lines; gone = stage.gone }
 
 abbrev pub rules_of : Session → Stage → List Line → Rules
 rules_of session stage lines =
-    record { at = card_end session stage lines; published = published session.card.period stage.position lines }
+    record {
+      at = card_end session stage lines;
+      published = published session.card.period stage.position lines;
+    }
 
 -- an actor that was stopped ends with the phase
 abbrev pub is_stopped : Option PlaybackStream → Bool
@@ -73,10 +77,12 @@ reaped_one session number client false held = held
 abbrev pub held_after : Session → ℕ → List (AtPort × Client) → Held → Held
 held_after session number [] held = held
 held_after session number (client ∷ clients) held =
-    held_after session (number + 1) clients (reaped_one session number client (is_stopped client.1.own) held)
+    held_after session (number + 1) clients
+    (reaped_one session number client (is_stopped client.1.own) held)
 
 -- a phase, by what its clients and readers are after their lines, and by their rows
-abbrev pub phase_end : Session → Stage → List Line → List (AtPort × Client) × List Row → List (AtPort × Reader) × List Row → Stage
+abbrev pub phase_end : Session → Stage → List Line → List (AtPort × Client) × List Row
+    → List (AtPort × Reader) × List Row → Stage
 phase_end session stage lines (clients, client_rows) (readers, reader_rows) = record {
   phases = stage.phases + 1;
   position = stage.position + played_in lines;
@@ -85,39 +91,49 @@ phase_end session stage lines (clients, client_rows) (readers, reader_rows) = re
   claims = (held_after session 0 clients (held_of stage)).claims;
   clients = map (reaped_client session.ring) clients;
   readers = map (reaped_reader session.ring) readers;
-  rows = stage.rows ++ card_rows (stage.phases + 1) stage.position (ops_by is_of_card lines) ++ client_rows ++ reader_rows;
+  rows =
+      stage.rows ++ card_rows (stage.phases + 1) stage.position (ops_by is_of_card lines)
+      ++ client_rows ++ reader_rows;
 }
 
 abbrev pub no_sound : Sound
 no_sound = record { channels = 1; rate = 1; samples = [] }
 
 abbrev pub client_kinds : Session → Stage → ℕ → Kind Client
-client_kinds session stage number = client_kind (stage.phases + 1) (slice_index_or session.sounds number no_sound) number
+client_kinds session stage number =
+    client_kind (stage.phases + 1) (slice_index_or session.sounds number no_sound) number
 
 abbrev pub reader_kinds : Stage → ℕ → Kind Reader
 reader_kinds stage number = reader_kind (stage.phases + 1) number
 
 -- a phase may go so
-pub record PhaseMay (session : Session) (stage : Stage) (lines : List Line) (after : Stage) : Type 0 where
+pub record PhaseMay (session : Session) (stage : Stage) (lines : List Line)
+    (after : Stage) : Type 0 where
   pub clients : List (AtPort × Client)
   pub client_rows : List Row
   pub readers : List (AtPort × Reader)
   pub reader_rows : List Row
-  pub clients_may : EachMay (client_kinds session stage) (rules_of session stage lines) (λ n. ops_by (is_client n) lines) 0 stage.clients clients client_rows
-  pub readers_may : EachMay (reader_kinds stage) (rules_of session stage lines) (λ n. ops_by (is_reader n) lines) 0 stage.readers readers reader_rows
+  pub clients_may : EachMay (client_kinds session stage) (rules_of session stage lines)
+      (λ n. ops_by (is_client n) lines) 0 stage.clients clients client_rows
+  pub readers_may : EachMay (reader_kinds stage) (rules_of session stage lines)
+      (λ n. ops_by (is_reader n) lines) 0 stage.readers readers reader_rows
   pub is : after ≡ phase_end session stage lines (clients, client_rows) (readers, reader_rows)
 
 -- what a phase makes of its clients, and of its readers, where it leaves no choice
 abbrev pub clients_text : Session → Stage → List Line → List (AtPort × Client) × List Row
 clients_text session stage lines =
-    each_text (client_kinds session stage) (card_end session stage lines) (λ n. ops_by (is_client n) lines) 0 stage.clients
+    each_text (client_kinds session stage) (card_end session stage lines)
+    (λ n. ops_by (is_client n) lines) 0 stage.clients
 
 abbrev pub readers_text : Session → Stage → List Line → List (AtPort × Reader) × List Row
 readers_text session stage lines =
-    each_text (reader_kinds stage) (card_end session stage lines) (λ n. ops_by (is_reader n) lines) 0 stage.readers
+    each_text (reader_kinds stage) (card_end session stage lines)
+    (λ n. ops_by (is_reader n) lines) 0 stage.readers
 
 abbrev pub phase_text : Session → Stage → List Line → Stage
-phase_text session stage lines = phase_end session stage lines (clients_text session stage lines) (readers_text session stage lines)
+phase_text session stage lines =
+    phase_end session stage lines (clients_text session stage lines)
+    (readers_text session stage lines)
 
 -- an item may go so
 abbrev pub ItemMay : Session → Stage → Item → Stage → Type 0
@@ -133,7 +149,8 @@ item_text session stage (item.Phase lines) = phase_text session stage lines
 -- items may go so, one after the other
 abbrev pub ItemsMay : Session → Stage → List Item → Stage → Type 0
 ItemsMay session stage [] after = after ≡ stage
-ItemsMay session stage (item ∷ items) after = (between : Stage) × ItemMay session stage item between × ItemsMay session between items after
+ItemsMay session stage (item ∷ items) after =
+    (between : Stage) × ItemMay session stage item between × ItemsMay session between items after
 
 abbrev pub items_text : Session → Stage → List Item → Stage
 items_text session stage [] = stage

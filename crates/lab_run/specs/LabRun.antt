@@ -28,7 +28,8 @@ numbered of number (x ∷ xs) = map (λ y. (number, y)) (of x) ++ numbered of (n
 abbrev pub joined : ℕ → List (ℕ × ℕ) → List (ℕ × ℕ)
 joined frame [] = (frame, 1) ∷ []
 joined frame ((first, count) ∷ runs) =
-    if nat_eq (frame + 1) first then (frame, count + 1) ∷ runs else (frame, 1) ∷ (first, count) ∷ runs
+    if nat_eq (frame + 1) first then (frame, count + 1) ∷ runs
+    else (frame, 1) ∷ (first, count) ∷ runs
 
 abbrev pub runs_of : List ℕ → List (ℕ × ℕ)
 runs_of [] = []
@@ -56,7 +57,8 @@ report_of session stage = record {
 
 -- what the segments of clients' files are of entries
 abbrev pub entries_by : Session → ℕ × Segment → List Entry
-entries_by session (client, segment) = of_file (slice_get session.sounds client) (slice_index_or session.clients client None)
+entries_by session (client, segment) =
+    of_file (slice_get session.sounds client) (slice_index_or session.clients client None)
   where
     of_file : Option Sound → Option Setup → List Entry
     of_file (Some wav) (Some setup) = expand client segment wav.samples setup.bindings
@@ -78,7 +80,8 @@ mix_of session segments frames =
 abbrev pub captured : Session → Option Sound → ℕ → ℕ → ℤ
 captured session None frame channel = pos 0
 captured session (Some wav) frame channel =
-    if nat_lt channel wav.channels then sample_at wav.samples wav.channels (frame - first_frame session.card) channel else pos 0
+    if nat_lt channel wav.channels
+    then sample_at wav.samples wav.channels (frame - first_frame session.card) channel else pos 0
 
 abbrev pub bindings_of : Option Setup → List ℕ
 bindings_of None = []
@@ -87,7 +90,8 @@ bindings_of (Some setup) = setup.bindings
 -- a reader's samples, interleaved: its frames through its bindings
 abbrev pub recorded_by : Session → Option Sound → ℕ → Reader → List ℤ
 recorded_by session capture number reader =
-    flat_map (λ frame. map (captured session capture frame) (bindings_of (slice_index_or session.readers number None))) reader.frames
+    flat_map (λ frame. map (captured session capture frame)
+    (bindings_of (slice_index_or session.readers number None))) reader.frames
 
 abbrev pub recorded_from : Session → Option Sound → ℕ → List (AtPort × Reader) → List (List ℤ)
 recorded_from session capture number [] = []
@@ -110,10 +114,12 @@ outcome_of session capture stage = record {
 -- each actor's own gate stopped it so often at most
 abbrev pub AreWithin : {S : Type 0} → (ℕ → ℕ) → ℕ → List (AtPort × S) → Type 0
 AreWithin most number [] = ⊤
-AreWithin most number (actor ∷ actors) = (actor.0.by_gate ≤ most number) × AreWithin most (number + 1) actors
+AreWithin most number (actor ∷ actors) =
+    (actor.0.by_gate ≤ most number) × AreWithin most (number + 1) actors
 
 -- the run of a session may leave this, where the gates of clients and readers stop them so often at most
-pub record LabRun (session : Session) (capture : Option Sound) (body : List Item) (client_stops reader_stops : ℕ → ℕ) (outcome : Outcome) : Type 0 where
+pub record LabRun (session : Session) (capture : Option Sound) (body : List Item)
+    (client_stops reader_stops : ℕ → ℕ) (outcome : Outcome) : Type 0 where
   pub end : Stage
   pub may : ItemsMay session (first_stage session) body end
   pub clients : AreWithin client_stops 0 end.clients
@@ -122,18 +128,25 @@ pub record LabRun (session : Session) (capture : Option Sound) (body : List Item
 
 -- what it leaves where each load gives the position at its phase's end, and a frame is in time exactly where it isn't below that
 abbrev pub lab_text : Session → Option Sound → List Item → Outcome
-lab_text session capture body = outcome_of session capture (items_text session (first_stage session) body)
+lab_text session capture body =
+    outcome_of session capture (items_text session (first_stage session) body)
 
 -- this is one of the runs, and where no phase is mixed and no actor's own gate stops it, it is the only one
 pub record IsOneRun (session : Session) (capture : Option Sound) (body : List Item) : Type 0 where
-  pub one : (client_stops reader_stops : ℕ → ℕ) → LabRun session capture body client_stops reader_stops (lab_text session capture body)
-  pub only : AreUnmixed body → (outcome : Outcome) → LabRun session capture body (λ n. 0) (λ n. 0) outcome → outcome ≡ lab_text session capture body
+  pub one : (client_stops reader_stops : ℕ → ℕ)
+      → LabRun session capture body client_stops reader_stops (lab_text session capture body)
+  pub only : AreUnmixed body → (outcome : Outcome)
+      → LabRun session capture body (λ n. 0) (λ n. 0) outcome
+      → outcome ≡ lab_text session capture body
 
 -- a stage that the first items of a body may reach is one from which the others can go on: with the rows so far and more behind them, and
 -- with no more stops by an actor's own gate
 pub record GoesOn (session : Session) (done others : List Item) (stage : Stage) : Type 0 where
-  pub may : ItemsMay session (first_stage session) (done ++ others) (items_text session stage others)
+  pub may : ItemsMay session (first_stage session) (done ++ others)
+      (items_text session stage others)
   pub more : List Row
   pub rows : (items_text session stage others).rows ≡ stage.rows ++ more
-  pub clients : (most : ℕ → ℕ) → AreWithin most 0 stage.clients → AreWithin most 0 (items_text session stage others).clients
-  pub readers : (most : ℕ → ℕ) → AreWithin most 0 stage.readers → AreWithin most 0 (items_text session stage others).readers
+  pub clients : (most : ℕ → ℕ) → AreWithin most 0 stage.clients
+      → AreWithin most 0 (items_text session stage others).clients
+  pub readers : (most : ℕ → ℕ) → AreWithin most 0 stage.readers
+      → AreWithin most 0 (items_text session stage others).readers

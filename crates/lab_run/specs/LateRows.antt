@@ -16,7 +16,10 @@ use Rattle.lab_run.specs.Rules.{AtPort, Rules}
 
 -- a frame and channel are those of the first sample that a client hasn't laid
 abbrev pub IsNext : PlaybackStream → ℕ → ℕ → Type 0
-IsNext c frame channel = (frame ≡ c.stretch.card + c.stretch.committed) × (channel ≡ slice_index c.setup.bindings (slice_index (rising c.setup.bindings) c.stretch.part))
+IsNext c frame channel =
+    (frame ≡ c.stretch.card + c.stretch.committed)
+    × (channel ≡ slice_index c.setup.bindings
+    (slice_index (rising c.setup.bindings) c.stretch.part))
 
 -- a rewind names the last sample that it couldn't take back instead
 abbrev pub is_rewind : Op → Bool
@@ -27,26 +30,33 @@ is_rewind other = false
 pub record NamesNext (after : Client) (answer : Answer) : Type 0 where
   pub own : PlaybackStream
   pub is_own : after.own ≡ Some own
-  pub late : (frame channel : ℕ) → answer ≡ Failed (Xrun (Late frame channel 0)) → IsNext own frame channel
+  pub late : (frame channel : ℕ) → answer ≡ Failed (Xrun (Late frame channel 0))
+      → IsNext own frame channel
 
 -- each line but a rewind that a phase allows to an open client
 abbrev pub LateRowsNameNext : Rules → ℕ → Sound → ℕ → Type 0
 LateRowsNameNext rules phase wav number =
-    (a b : AtPort) (client after : Client) (c : PlaybackStream) (asked : Op) (answer : Answer) → client.own ≡ Some c → is_rewind asked ≡ false
-    → LineMay (client_kind phase wav number) rules (a, client) asked (b, after) answer → NamesNext after answer
+    (a b : AtPort) (client after : Client) (c : PlaybackStream) (asked : Op) (answer : Answer)
+    → client.own ≡ Some c → is_rewind asked ≡ false
+    → LineMay (client_kind phase wav number) rules (a, client) asked (b, after) answer
+    → NamesNext after answer
 
 -- a frame and channel are those of the last sample of its stretch that a client has in the card's ring
 abbrev pub IsLast : PlaybackStream → ℕ → ℕ → Type 0
-IsLast c frame channel = (frame ≡ last_laid c) × (channel ≡ last_channel c) × (0 < c.stretch.committed + c.stretch.part)
+IsLast c frame channel =
+    (frame ≡ last_laid c) × (channel ≡ last_channel c) × (0 < c.stretch.committed + c.stretch.part)
 
 -- an open client after a rewind: where it was late, the row names the last sample that it couldn't take back
 pub record NamesLast (after : Client) (answer : Answer) : Type 0 where
   pub own : PlaybackStream
   pub is_own : after.own ≡ Some own
-  pub late : (frame channel : ℕ) → answer ≡ Failed (Xrun (Late frame channel 0)) → IsLast own frame channel
+  pub late : (frame channel : ℕ) → answer ≡ Failed (Xrun (Late frame channel 0))
+      → IsLast own frame channel
 
 -- each rewind that a phase allows to an open client
 abbrev pub LateRewindsNameLast : Rules → ℕ → Sound → ℕ → Type 0
 LateRewindsNameLast rules phase wav number =
-    (a b : AtPort) (client after : Client) (c : PlaybackStream) (n : ℕ) (answer : Answer) → client.own ≡ Some c
-    → LineMay (client_kind phase wav number) rules (a, client) (op.Rewind n) (b, after) answer → NamesLast after answer
+    (a b : AtPort) (client after : Client) (c : PlaybackStream) (n : ℕ) (answer : Answer)
+    → client.own ≡ Some c
+    → LineMay (client_kind phase wav number) rules (a, client) (op.Rewind n) (b, after) answer
+    → NamesLast after answer

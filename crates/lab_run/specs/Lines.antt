@@ -20,7 +20,8 @@ LineMay kind rules (a, s) asked (b, t) answer =
     May rules (kind.begins s asked a) (kind.course (kind.begins s asked a) s asked) b (t, answer)
 
 -- lines may be done so, one after the other, with these rows
-abbrev pub LinesMay : {S : Type 0} → Kind S → Rules → AtPort × S → List Op → AtPort × S → List Row → Type 0
+abbrev pub LinesMay : {S : Type 0} → Kind S → Rules → AtPort × S → List Op
+    → AtPort × S → List Row → Type 0
 LinesMay kind rules before [] after rows = (after ≡ before) × (rows ≡ [])
 LinesMay {S = S} kind rules before (asked ∷ more) after rows =
     (between : AtPort × S) × (answer : Answer) × (others : List Row)
@@ -32,7 +33,8 @@ abbrev pub line_text : {S : Type 0} → Kind S → CardEnd → AtPort × S → O
 line_text kind card (a, s) asked =
     let end = course_text card (kind.begins s asked a) (kind.course (kind.begins s asked a) s asked) in ((end.0, end.1.0), end.1.1)
 
-abbrev pub lines_text : {S : Type 0} → Kind S → CardEnd → AtPort × S → List Op → (AtPort × S) × List Row
+abbrev pub lines_text : {S : Type 0} → Kind S → CardEnd → AtPort × S → List Op
+    → (AtPort × S) × List Row
 lines_text kind card before [] = (before, [])
 lines_text kind card before (asked ∷ more) =
     let done = line_text kind card before asked in
@@ -40,14 +42,18 @@ lines_text kind card before (asked ∷ more) =
     (others.0, kind.row asked done.0.1 done.1 ∷ others.1)
 
 -- the actors of a kind, each with its lines; the first of them has a number
-abbrev pub EachMay : {S : Type 0} → (ℕ → Kind S) → Rules → (ℕ → List Op) → ℕ → List (AtPort × S) → List (AtPort × S) → List Row → Type 0
+abbrev pub EachMay : {S : Type 0} → (ℕ → Kind S) → Rules → (ℕ → List Op) → ℕ
+    → List (AtPort × S) → List (AtPort × S) → List Row → Type 0
 EachMay kind rules ops number [] after rows = (after ≡ []) × (rows ≡ [])
 EachMay {S = S} kind rules ops number (actor ∷ actors) after rows =
-    (own : AtPort × S) × (others : List (AtPort × S)) × (own_rows : List Row) × (other_rows : List Row)
-    × LinesMay (kind number) rules actor (ops number) own own_rows × EachMay kind rules ops (number + 1) actors others other_rows
+    (own : AtPort × S) × (others : List (AtPort × S)) × (own_rows : List Row)
+    × (other_rows : List Row)
+    × LinesMay (kind number) rules actor (ops number) own own_rows
+    × EachMay kind rules ops (number + 1) actors others other_rows
     × (after ≡ own ∷ others) × (rows ≡ own_rows ++ other_rows)
 
-abbrev pub each_text : {S : Type 0} → (ℕ → Kind S) → CardEnd → (ℕ → List Op) → ℕ → List (AtPort × S) → List (AtPort × S) × List Row
+abbrev pub each_text : {S : Type 0} → (ℕ → Kind S) → CardEnd → (ℕ → List Op) → ℕ
+    → List (AtPort × S) → List (AtPort × S) × List Row
 each_text kind card ops number [] = ([], [])
 each_text kind card ops number (actor ∷ actors) =
     let own = lines_text (kind number) card actor (ops number) in

@@ -25,17 +25,21 @@ pub record MembersAreUnreported (member : ℕ) : Type 0 where
   pub opening : (ring : Geometry) (other : ℕ) (setup : Setup)
       → with_member member (opened_client ring other setup) ≡ opened_client ring member setup
   pub row : (phase number : ℕ) (asked : Op) (c : PlaybackStream) (answer : Answer)
-      → row_by phase number asked (Some (with_member member c)) answer ≡ row_by phase number asked (Some c) answer
+      → row_by phase number asked (Some (with_member member c)) answer
+      ≡ row_by phase number asked (Some c) answer
   pub stretch : (c : PlaybackStream) → stretch_of (with_member member c) ≡ stretch_of c
   pub ended : (asked : Op) (answer : Answer) (c d : PlaybackStream)
-      → ended_by asked answer (with_member member c) (with_member member d) ≡ ended_by asked answer c d
+      → ended_by asked answer (with_member member c) (with_member member d)
+      ≡ ended_by asked answer c d
 
 -- the entries of one member have the frames, channels, samples and kinds of those of another: those of a segment and its file, and those of
 -- any samples that a client lays from frame to frame; and they give each frame and channel the same total
 pub record MembersLayAlike (member other : ℕ) : Type 0 where
   pub segment : (segment : Segment) (samples : List ℤ) (bindings : List ℕ)
-      → expand member segment samples bindings ≡ map (of_member member) (expand other segment samples bindings)
+      → expand member segment samples bindings
+      ≡ map (of_member member) (expand other segment samples bindings)
   pub run : (bindings : List ℕ) (sample_of : ℕ → ℕ → ℤ) (card first whole part : ℕ)
       → run_entries member bindings sample_of card first whole part
       ≡ map (of_member member) (run_entries other bindings sample_of card first whole part)
-  pub totals : (es : List Entry) (frame channel : ℕ) → total (map (of_member member) es) frame channel ≡ total es frame channel
+  pub totals : (es : List Entry) (frame channel : ℕ)
+      → total (map (of_member member) es) frame channel ≡ total es frame channel

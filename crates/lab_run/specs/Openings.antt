@@ -32,15 +32,18 @@ IsNarrowed b [] left = left ≡ Some b
 IsNarrowed b ((param, value) ∷ more) (Some left) =
     (d : ParamBox) × Leaves (with_value b param value) (Some d) × IsNarrowed d more (Some left)
 IsNarrowed b ((param, value) ∷ more) None =
-    Leaves (with_value b param value) None ⊎ ((d : ParamBox) × Leaves (with_value b param value) (Some d) × IsNarrowed d more None)
+    Leaves (with_value b param value) None
+    ⊎ ((d : ParamBox) × Leaves (with_value b param value) (Some d) × IsNarrowed d more None)
 
 -- the configuration that the card's space leaves by choice to a stream with these values, or that there is none
 abbrev pub IsChosen : CardLine → Values → Result Config Empty → Type 0
 IsChosen card values (Ok config) =
-    (left : ParamBox) × IsNarrowed (widest card.channels card.rate card.ring) values (Some left) × IsChoice left card.period (Ok config)
+    (left : ParamBox) × IsNarrowed (widest card.channels card.rate card.ring) values (Some left)
+    × IsChoice left card.period (Ok config)
 IsChosen card values (Err e) =
     IsNarrowed (widest card.channels card.rate card.ring) values None
-    ⊎ ((left : ParamBox) × IsNarrowed (widest card.channels card.rate card.ring) values (Some left) × IsChoice left card.period (Err e))
+    ⊎ ((left : ParamBox) × IsNarrowed (widest card.channels card.rate card.ring) values (Some left)
+    × IsChoice left card.period (Err e))
 
 -- the value of a key, where its line gives it
 abbrev pub value_if : Param → Option ℕ → Values
@@ -50,7 +53,8 @@ value_if param (Some value) = (param, value) ∷ []
 -- the values of a stream of so many channels and a rate, in the order in which they narrow
 abbrev pub values_of : ℕ → ℕ → Option ℕ → Option ℕ → Values
 values_of channels rate period buffer =
-    (Channels, channels) ∷ (Rate, rate) ∷ [] ++ value_if PeriodSize period ++ value_if BufferSize buffer
+    (Channels, channels) ∷ (Rate, rate) ∷ [] ++ value_if PeriodSize period
+    ++ value_if BufferSize buffer
 
 -- the stop threshold of a line: the buffer size where it gives none, or the boundary
 abbrev pub IsStop : Config → Option Stop → ℕ → Type 0
@@ -59,7 +63,8 @@ IsStop config (Some (At frames)) stop = stop ≡ frames
 IsStop config (Some Never) stop = IsBoundary config.buffer_size stop
 
 -- the software parameters of a line
-pub record AreParams (config : Config) (starts_at : ℕ) (stops_at : Option Stop) (params : SwParams) : Type 0 where
+pub record AreParams (config : Config) (starts_at : ℕ) (stops_at : Option Stop)
+    (params : SwParams) : Type 0 where
   pub start : params.start_threshold ≡ starts_at
   pub stop : IsStop config stops_at params.stop_threshold
   pub avail_min : params.avail_min ≡ config.period_size
@@ -72,7 +77,8 @@ abbrev pub client_values : ClientLine → Sound → Values
 client_values line wav = values_of wav.channels wav.rate line.period line.buffer
 
 -- a client with its file is opened with a setup
-pub record IsClientSetup (card : CardLine) (line : ClientLine) (wav : Sound) (setup : Setup) : Type 0 where
+pub record IsClientSetup (card : CardLine) (line : ClientLine) (wav : Sound)
+    (setup : Setup) : Type 0 where
   pub config : IsChosen card (client_values line wav) (Ok setup.config)
   pub bindings : setup.bindings ≡ bound_by line wav
   pub channels : length setup.bindings ≡ wav.channels
@@ -82,7 +88,9 @@ pub record IsClientSetup (card : CardLine) (line : ClientLine) (wav : Sound) (se
 -- or with none: the card has no configuration for its file and line, or its line binds another number of channels than its file has
 abbrev pub IsClientOpening : CardLine → ClientLine → Sound → Option Setup → Type 0
 IsClientOpening card line wav (Some setup) = IsClientSetup card line wav setup
-IsClientOpening card line wav None = ((e : Empty) × IsChosen card (client_values line wav) (Err e)) ⊎ (length (bound_by line wav) ≢ wav.channels)
+IsClientOpening card line wav None =
+    ((e : Empty) × IsChosen card (client_values line wav) (Err e))
+    ⊎ (length (bound_by line wav) ≢ wav.channels)
 
 -- a reader's bindings: those of its line, or each of the card's channels
 abbrev pub read_by : CardLine → ReaderLine → List ℕ
@@ -103,7 +111,8 @@ IsReaderOpening card line (Some setup) = IsReaderSetup card line setup
 IsReaderOpening card line None = (e : Empty) × IsChosen card (reader_values card line) (Err e)
 
 -- each client of a list, with its file
-abbrev pub AreClientOpenings : CardLine → List ClientLine → List Sound → List (Option Setup) → Type 0
+abbrev pub AreClientOpenings : CardLine → List ClientLine → List Sound
+    → List (Option Setup) → Type 0
 AreClientOpenings card [] [] [] = ⊤
 AreClientOpenings card (line ∷ lines) (wav ∷ wavs) (setup ∷ setups) =
     IsClientOpening card line wav setup × AreClientOpenings card lines wavs setups
@@ -112,7 +121,8 @@ AreClientOpenings card lines wavs setups = ⊥
 -- each reader of a list
 abbrev pub AreReaderOpenings : CardLine → List ReaderLine → List (Option Setup) → Type 0
 AreReaderOpenings card [] [] = ⊤
-AreReaderOpenings card (line ∷ lines) (setup ∷ setups) = IsReaderOpening card line setup × AreReaderOpenings card lines setups
+AreReaderOpenings card (line ∷ lines) (setup ∷ setups) =
+    IsReaderOpening card line setup × AreReaderOpenings card lines setups
 AreReaderOpenings card lines setups = ⊥
 
 -- the shape of a card's ring

@@ -35,7 +35,8 @@ pub data OwnItem : Type 0 where
 abbrev pub own_item : (Actor → Bool) → Item → List OwnItem
 own_item is_theirs (item.Opens number who) = if is_theirs who then own_open ∷ [] else []
 own_item is_theirs (item.Closes number who) = if is_theirs who then own_close ∷ [] else []
-own_item is_theirs (item.Phase lines) = own_phase (played_in lines) (unplugs lines) (ops_by is_theirs lines) ∷ []
+own_item is_theirs (item.Phase lines) =
+    own_phase (played_in lines) (unplugs lines) (ops_by is_theirs lines) ∷ []
 
 abbrev pub own_items : (Actor → Bool) → List Item → List OwnItem
 own_items is_theirs [] = []
@@ -62,16 +63,21 @@ pub record Alone (S : Type 0) : Type 0 where
 -- with a row of its own, by what the actor is after it
 abbrev pub with_own : {S : Type 0} → Given S → Op → AtPort × S → Answer → Alone S → Alone S
 with_own given asked actor answer alone =
-    record alone { actor = actor; rows = alone.rows ++ (given.kind alone.phases).row asked actor.1 answer ∷ [] }
+    record alone {
+      actor = actor;
+      rows = alone.rows ++ (given.kind alone.phases).row asked actor.1 answer ∷ [];
+    }
 
 -- an actor that isn't open is opened, with the answer of its opening
 abbrev pub open_by : {S : Type 0} → Given S → Alone S → Bool → Option S → Answer → Alone S
 open_by given alone true opened answer = with_own given op.Opens alone.actor (Failed BadState) alone
-open_by given alone false (Some s) Done = with_own given op.Opens (renewed given.ring alone.actor.0, s) Done alone
+open_by given alone false (Some s) Done =
+    with_own given op.Opens (renewed given.ring alone.actor.0, s) Done alone
 open_by given alone false opened answer = with_own given op.Opens alone.actor answer alone
 
 abbrev pub open_alone : {S : Type 0} → Given S → Alone S → Answer → Alone S
-open_alone given alone answer = open_by given alone (given.is_open alone.actor.1) (given.opened alone.actor.1) answer
+open_alone given alone answer =
+    open_by given alone (given.is_open alone.actor.1) (given.opened alone.actor.1) answer
 
 -- an actor that ends
 abbrev pub ended_actor : {S : Type 0} → Given S → AtPort × S → AtPort × S
@@ -82,7 +88,10 @@ abbrev pub close_by : {S : Type 0} → Given S → Alone S → Bool → Alone S
 close_by given alone false = with_own given op.Closes alone.actor (Failed BadState) alone
 close_by given alone true = record alone {
   actor = ended_actor given alone.actor;
-  rows = alone.rows ++ record ((given.kind alone.phases).row op.Closes alone.actor.1 Done) { state = state.Open } ∷ [];
+  rows =
+      alone.rows
+      ++ record ((given.kind alone.phases).row op.Closes alone.actor.1 Done) { state = state.Open }
+      ∷ [];
 }
 
 abbrev pub close_alone : {S : Type 0} → Given S → Alone S → Alone S
@@ -108,20 +117,28 @@ phase_alone given alone frames pulled ops =
 abbrev pub alone_by : {S : Type 0} → Given S → Alone S → List OwnItem → List Answer → Alone S
 alone_by given alone [] answers = alone
 alone_by given alone (own_open ∷ items) [] = alone
-alone_by given alone (own_open ∷ items) (answer ∷ answers) = alone_by given (open_alone given alone answer) items answers
-alone_by given alone (own_close ∷ items) answers = alone_by given (close_alone given alone) items answers
-alone_by given alone (own_phase frames pulled ops ∷ items) answers = alone_by given (phase_alone given alone frames pulled ops) items answers
+alone_by given alone (own_open ∷ items) (answer ∷ answers) =
+    alone_by given (open_alone given alone answer) items answers
+alone_by given alone (own_close ∷ items) answers =
+    alone_by given (close_alone given alone) items answers
+alone_by given alone (own_phase frames pulled ops ∷ items) answers =
+    alone_by given (phase_alone given alone frames pulled ops) items answers
 
 -- an actor by itself before the first item
 abbrev pub alone_at : {S : Type 0} → ℕ → AtPort × S → Alone S
-alone_at first actor = record { phases = 0; position = first; gone = false; actor = actor; rows = [] }
+alone_at first actor =
+    record { phases = 0; position = first; gone = false; actor = actor; rows = [] }
 
 -- a client of a number, by its setup and its file
 abbrev pub given_client : Geometry → ℕ → Option Setup → Sound → Given Client
 given_client ring number setup wav = record {
   ring = ring;
   kind = λ phase. client_kind phase wav number;
-  opened = λ client. option_map (λ (s : Setup). let opened : Client = record client { own = Some (opened_client ring number s) } in opened) setup;
+  opened =
+      λ client. option_map
+      (λ (s : Setup).
+      let opened : Client = record client { own = Some (opened_client ring number s) } in opened)
+      setup;
   ended = λ client. record { own = None; ended = segments_of client };
   is_open = λ client. is_some client.own;
   is_stopped = λ client. is_stopped client.own;
@@ -132,19 +149,24 @@ abbrev pub given_reader : Geometry → ℕ → Option Setup → Given Reader
 given_reader ring number setup = record {
   ring = ring;
   kind = λ phase. reader_kind phase number;
-  opened = λ reader. option_map (λ (s : Setup). let opened : Reader = record reader { own = Some (opened_reader ring s) } in opened) setup;
+  opened =
+      λ reader. option_map
+      (λ (s : Setup). let opened : Reader = record reader { own = Some (opened_reader ring s) }
+      in opened) setup;
   ended = λ reader. record reader { own = None };
   is_open = λ reader. is_some reader.own;
   is_stopped = λ reader. is_reader_stopped reader.own;
 }
 
 -- the rows and the segments of a client by itself, and the rows and the runs of a reader by itself
-abbrev pub client_alone : Geometry → ℕ → Option Setup → Sound → ℕ → List OwnItem → List Answer → List Row × List Segment
+abbrev pub client_alone : Geometry → ℕ → Option Setup → Sound → ℕ → List OwnItem
+    → List Answer → List Row × List Segment
 client_alone ring number setup wav first items answers =
     let end = alone_by (given_client ring number setup wav) (alone_at first (no_client ring)) items answers in
     (end.rows, segments_of end.actor.1)
 
-abbrev pub reader_alone : Geometry → ℕ → Option Setup → ℕ → List OwnItem → List Answer → List Row × List (ℕ × ℕ)
+abbrev pub reader_alone : Geometry → ℕ → Option Setup → ℕ → List OwnItem → List Answer
+    → List Row × List (ℕ × ℕ)
 reader_alone ring number setup first items answers =
     let end = alone_by (given_reader ring number setup) (alone_at first (no_reader ring)) items answers in
     (end.rows, runs_of end.actor.1.frames)
@@ -161,10 +183,14 @@ abbrev pub answers_of : List Row → List Answer
 answers_of rows = map (λ (row : Row). row.answer) (filter (λ (row : Row). is_opening row.op) rows)
 
 abbrev pub segments_by : ℕ → List (ℕ × Segment) → List Segment
-segments_by number segments = map (λ (pair : ℕ × Segment). pair.1) (filter (λ (pair : ℕ × Segment). nat_eq pair.0 number) segments)
+segments_by number segments =
+    map (λ (pair : ℕ × Segment). pair.1)
+    (filter (λ (pair : ℕ × Segment). nat_eq pair.0 number) segments)
 
 abbrev pub runs_by : ℕ → List (ℕ × ℕ × ℕ) → List (ℕ × ℕ)
-runs_by number runs = map (λ (run : ℕ × ℕ × ℕ). (run.1, run.2)) (filter (λ (run : ℕ × ℕ × ℕ). nat_eq run.0 number) runs)
+runs_by number runs =
+    map (λ (run : ℕ × ℕ × ℕ). (run.1, run.2))
+    (filter (λ (run : ℕ × ℕ × ℕ). nat_eq run.0 number) runs)
 
 -- no line of a phase opens an actor, as in every script
 abbrev pub NoneOpen : List Op → Type 0
@@ -183,23 +209,31 @@ HaveLines is_theirs (item ∷ items) = HasLines is_theirs item × HaveLines is_t
 -- what a client of a session, and a reader, does by itself
 abbrev pub client_part : Session → List Item → ℕ → List Answer → List Row × List Segment
 client_part session body number answers =
-    client_alone session.ring number (slice_index_or session.clients number None) (slice_index_or session.sounds number no_sound)
+    client_alone session.ring number (slice_index_or session.clients number None)
+    (slice_index_or session.sounds number no_sound)
     (first_frame session.card) (own_items (is_client number) body) answers
 
 abbrev pub reader_part : Session → List Item → ℕ → List Answer → List Row × List (ℕ × ℕ)
 reader_part session body number answers =
-    reader_alone session.ring number (slice_index_or session.readers number None) (first_frame session.card)
+    reader_alone session.ring number (slice_index_or session.readers number None)
+    (first_frame session.card)
     (own_items (is_reader number) body) answers
 
 -- in a report a client has the rows and segments that it has by itself, with the answers of its opens there
-pub record IsClientAlone (session : Session) (body : List Item) (report : Report) (number : ℕ) : Type 0 where
-  pub rows : rows_by (is_client number) report.rows ≡ (client_part session body number (answers_of (rows_by (is_client number) report.rows))).0
-  pub segments : segments_by number report.segments ≡ (client_part session body number (answers_of (rows_by (is_client number) report.rows))).1
+pub record IsClientAlone (session : Session) (body : List Item) (report : Report)
+    (number : ℕ) : Type 0 where
+  pub rows : rows_by (is_client number) report.rows
+      ≡ (client_part session body number (answers_of (rows_by (is_client number) report.rows))).0
+  pub segments : segments_by number report.segments
+      ≡ (client_part session body number (answers_of (rows_by (is_client number) report.rows))).1
 
 -- and a reader the rows and runs
-pub record IsReaderAlone (session : Session) (body : List Item) (report : Report) (number : ℕ) : Type 0 where
-  pub rows : rows_by (is_reader number) report.rows ≡ (reader_part session body number (answers_of (rows_by (is_reader number) report.rows))).0
-  pub runs : runs_by number report.runs ≡ (reader_part session body number (answers_of (rows_by (is_reader number) report.rows))).1
+pub record IsReaderAlone (session : Session) (body : List Item) (report : Report)
+    (number : ℕ) : Type 0 where
+  pub rows : rows_by (is_reader number) report.rows
+      ≡ (reader_part session body number (answers_of (rows_by (is_reader number) report.rows))).0
+  pub runs : runs_by number report.runs
+      ≡ (reader_part session body number (answers_of (rows_by (is_reader number) report.rows))).1
 
 -- where no phase leaves a choice, each actor that no line of a phase opens is in the report as it is by itself
 pub record AreAlone (session : Session) (capture : Option Sound) (body : List Item) : Type 0 where

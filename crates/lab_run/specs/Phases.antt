@@ -24,11 +24,13 @@ played_in lines = sum_by played_at lines
 -- the positions that the card publishes while it plays so many frames from a position on: each multiple of its period, and the
 -- position after the last of them
 abbrev pub on_the_way : ℕ → ℕ → ℕ → List ℕ
-on_the_way period from frames = filter (λ q. q % period == 0) (range_with_len (from + 1) frames) ++ (from + frames) ∷ []
+on_the_way period from frames =
+    filter (λ q. q % period == 0) (range_with_len (from + 1) frames) ++ (from + frames) ∷ []
 
 abbrev pub published_by : ℕ → ℕ → List Line → List ℕ
 published_by period from [] = []
-published_by period from (line ∷ lines) = on_the_way period from (played_at line) ++ published_by period (from + played_at line) lines
+published_by period from (line ∷ lines) = on_the_way period from (played_at line)
+    ++ published_by period (from + played_at line) lines
 
 -- the position at which a phase begins, and those that the card publishes in it
 abbrev pub published : ℕ → ℕ → List Line → List ℕ
@@ -56,12 +58,20 @@ is_reader number other = false
 -- what a phase asks of an actor, in order
 abbrev pub ops_by : (Actor → Bool) → List Line → List Op
 ops_by is_theirs [] = []
-ops_by is_theirs (line ∷ lines) = (if is_theirs line.actor then line.op ∷ [] else []) ++ ops_by is_theirs lines
+ops_by is_theirs (line ∷ lines) =
+    (if is_theirs line.actor then line.op ∷ [] else []) ++ ops_by is_theirs lines
 
 -- the rows of the card's lines, of a card that is at a position before them
 abbrev pub card_row : ℕ → ℕ → Op → Row
 card_row phase position op.Unplug =
-    record { phase = phase; actor = Card; op = op.Unplug; answer = Done; state = state.Disconnected; seen = Some position }
+    record {
+      phase = phase;
+      actor = Card;
+      op = op.Unplug;
+      answer = Done;
+      state = state.Disconnected;
+      seen = Some position;
+    }
 card_row phase position asked = record {
   phase = phase;
   actor = Card;
@@ -73,4 +83,5 @@ card_row phase position asked = record {
 
 abbrev pub card_rows : ℕ → ℕ → List Op → List Row
 card_rows phase position [] = []
-card_rows phase position (asked ∷ more) = card_row phase position asked ∷ card_rows phase (position + played_by asked) more
+card_rows phase position (asked ∷ more) =
+    card_row phase position asked ∷ card_rows phase (position + played_by asked) more

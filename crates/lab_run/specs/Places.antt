@@ -16,7 +16,8 @@ pub record Lobby : Type 0 where
 
 -- so many places, at the first frame
 abbrev pub new_lobby : ℕ → ℕ → Lobby
-new_lobby places first = record { places = replicate places (record { holder = None; last = None }); seen = first }
+new_lobby places first =
+    record { places = replicate places (record { holder = None; last = None }); seen = first }
 
 abbrev pub is_free : Place → Bool
 is_free place = is_none place.holder
@@ -55,12 +56,15 @@ held_by client (suc place) (first ∷ places) = first ∷ held_by client place p
 
 -- a client attaches at a position: it gets the first place that can be handed out; where none is free no position is loaded
 abbrev pub attached_by : Option ℕ → ℕ → ℕ → Lobby → Lobby × Result (Unit {0}) PcmError
-attached_by (Some place) client position lobby = (record { places = held_by client place lobby.places; seen = position }, Ok tt)
-attached_by None client position lobby = (record lobby { seen = position }, Err (Busy (next_of (least_last lobby.places)) position))
+attached_by (Some place) client position lobby =
+    (record { places = held_by client place lobby.places; seen = position }, Ok tt)
+attached_by None client position lobby =
+    (record lobby { seen = position }, Err (Busy (next_of (least_last lobby.places)) position))
 
 abbrev pub attached : ℕ → ℕ → Lobby → Lobby × Result (Unit {0}) PcmError
 attached client at lobby =
-    if list_any is_free lobby.places then attached_by (position (is_silent at) lobby.places) client at lobby
+    if list_any is_free lobby.places
+    then attached_by (position (is_silent at) lobby.places) client at lobby
     else (lobby, Err (Busy None lobby.seen))
 
 -- a client that laid so gives its place back
@@ -74,7 +78,8 @@ last_of (Some last) before = Some last
 
 abbrev pub left_place : ℕ → Option ℕ → Place → Place
 left_place client last place =
-    if is_held_by client place.holder then record { holder = None; last = last_of last place.last } else place
+    if is_held_by client place.holder then record { holder = None; last = last_of last place.last }
+    else place
 
 abbrev pub left_by : ℕ → Option ℕ → Lobby → Lobby
 left_by client last lobby = record lobby { places = map (left_place client last) lobby.places }

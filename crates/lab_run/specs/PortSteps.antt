@@ -39,16 +39,19 @@ stop_at other a = with_stop a
 
 -- what asks that were answered so make of an actor at its port
 abbrev pub IsAnswered : List StepKind → Pass → AtPort → AtPort → Type 0
-IsAnswered kinds Go a b = (lets_pass (ask_count kinds) a.left ≡ true) × (b ≡ with_asks (ask_count kinds) a)
+IsAnswered kinds Go a b =
+    (lets_pass (ask_count kinds) a.left ≡ true) × (b ≡ with_asks (ask_count kinds) a)
 IsAnswered kinds Stop a b =
-    (lets_pass (ask_count (without_last kinds)) a.left ≡ true) × (b ≡ stop_at (last_kind kinds) (with_asks (ask_count (without_last kinds)) a))
+    (lets_pass (ask_count (without_last kinds)) a.left ≡ true)
+    × (b ≡ stop_at (last_kind kinds) (with_asks (ask_count (without_last kinds)) a))
 
 -- an actor at its port, by its gate
 abbrev pub with_gate : {T : Type 0} → (T → Option ℕ) → (T → ℕ) → T → AtPort → AtPort
 with_gate left by_gate g a = record a { left = left g; by_gate = by_gate g }
 
 -- a gate that counts asks down for a `die` in front of an actor's own gate
-pub record CountsDown {T : Type 0} (asked : T → T → List StepKind → Pass → Type 0) (left : T → Option ℕ) (by_gate : T → ℕ) : Type 0 where
+pub record CountsDown {T : Type 0} (asked : T → T → List StepKind → Pass → Type 0)
+    (left : T → Option ℕ) (by_gate : T → ℕ) : Type 0 where
   pub tells : (g h : T) (kinds : List StepKind) (pass : Pass) (a : AtPort) → asked g h kinds pass
       → IsAnswered kinds pass (with_gate left by_gate g a) (with_gate left by_gate h a)
 
@@ -58,7 +61,8 @@ IsLow from at = first_free at 0 ≤ from
 
 -- an actor laid no sample: its own high is still that of a new port, and its port's is where it was before; neither of these nor a floor is past
 -- a frame
-pub record HasLaidNone (ring : Geometry) (from : ℕ) (before : Cursor) (own port : Marks) : Type 0 where
+pub record HasLaidNone (ring : Geometry) (from : ℕ) (before : Cursor)
+    (own port : Marks) : Type 0 where
   pub own_high : own.high ≡ start_of ring
   pub port_high : port.high ≡ before
   pub own_low : IsLow from own.high
@@ -95,11 +99,13 @@ pub record HasOwnLast (ring : Geometry) (from : ℕ) (before own port : Marks) :
   pub port_last : high_frame ring port ≡ last_of (high_frame ring own) (high_frame ring before)
   pub own_last : high_frame ring own ≡ last_from from (high_frame ring port)
   pub again : MarksAlike ring from port.high own port
-  pub since : (opening : Option ℕ) → IsLastSince from opening (high_frame ring before) → IsLastSince from opening (high_frame ring port)
+  pub since : (opening : Option ℕ) → IsLastSince from opening (high_frame ring before)
+      → IsLastSince from opening (high_frame ring port)
 
 -- An actor at a port, which others used up to a frame, with what it found since a first state of the port. Where it laid no sample yet, the port's
 -- high is that of the first state.
-pub record IsAtPort {S T : Type 0} (P : mixport.Ghosts S) (left : T → Option ℕ) (by_gate : T → ℕ) (first : S) (ring : Geometry) (from : ℕ) (s : S × T) (doing : Doing) : Type 0 where
+pub record IsAtPort {S T : Type 0} (P : mixport.Ghosts S) (left : T → Option ℕ) (by_gate : T → ℕ)
+    (first : S) (ring : Geometry) (from : ℕ) (s : S × T) (doing : Doing) : Type 0 where
   pub geometry : (P.view s.0).geometry ≡ ring
   pub after : from ≤ (P.view s.0).seen
   pub seen : doing.0.seen ≤ (P.view s.0).seen
@@ -107,11 +113,13 @@ pub record IsAtPort {S T : Type 0} (P : mixport.Ghosts S) (left : T → Option �
   pub left_is : doing.0.left ≡ left s.1
   pub by_gate_is : doing.0.by_gate ≡ by_gate s.1
   pub loads : P.loaded first s.0 doing.1.loads
-  pub late : Each (λ (place : ℕ × ℕ). (word : ℕ) × IsPast P.view P.shows s.0 place.0 place.1 word) doing.1.late
+  pub late : Each (λ (place : ℕ × ℕ). (word : ℕ) × IsPast P.view P.shows s.0 place.0 place.1 word)
+      doing.1.late
   pub overtaken : doing.1.overtaken ≡ []
 
 -- a course that was taken at a port and its gate is a part of an actor: one that is like it was done so, from how the actor was to how it is
-pub record IsPart {S T X Y : Type 0} (P : mixport.Ghosts S) (left : T → Option ℕ) (by_gate : T → ℕ) (first : S) (ring : Geometry) (from : ℕ) (R : X → Y → Type 0)
+pub record IsPart {S T X Y : Type 0} (P : mixport.Ghosts S) (left : T → Option ℕ)
+    (by_gate : T → ℕ) (first : S) (ring : Geometry) (from : ℕ) (R : X → Y → Type 0)
     (t : S × T) (before : Doing) (n : Course Y) (x : X) : Type 0 where
   pub after : Doing
   pub result : Y

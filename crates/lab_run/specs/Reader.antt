@@ -25,7 +25,8 @@ pub record Reader : Type 0 where
   pub frames : List ℕ
 
 -- a call with its answer
-abbrev pub answered : {X : Type 0} → (Result X PcmError → Answer) → Course (Answered X) → Course (CaptureStream × Answer)
+abbrev pub answered : {X : Type 0} → (Result X PcmError → Answer) → Course (Answered X)
+    → Course (CaptureStream × Answer)
 answered answer course = course >>= λ done. ends (done.0, answer done.1)
 
 -- the call that a line of an open reader names
@@ -35,7 +36,8 @@ call_of r op.Start = answered done_answer (admitted r call.Start (starts r call.
 call_of r op.Sync = answered done_answer (admitted r call.Sync (sync_course r))
 call_of r op.Avail = answered count_answer (admitted r call.Sync (avail_course r))
 call_of r op.Drop = answered done_answer (admitted r call.Drop (ends (in_state r Setup, Ok tt)))
-call_of r op.Prepare = answered done_answer (admitted r call.Prepare (ends (in_state r Prepared, Ok tt)))
+call_of r op.Prepare =
+    answered done_answer (admitted r call.Prepare (ends (in_state r Prepared, Ok tt)))
 call_of r op.Pause = ends (r, Failed NotSupported)
 call_of r other = ends (r, Failed BadState)
 
@@ -67,9 +69,23 @@ begins (Some r) asked a = dies_if r.status.stopped asked a
 -- the row of a reader's line, by the reader after it
 abbrev pub row_by : ℕ → ℕ → Op → Option CaptureStream → Answer → Row
 row_by phase number asked None answer =
-    record { phase = phase; actor = actor.Reader number; op = asked; answer = answer; state = Open; seen = None }
+    record {
+      phase = phase;
+      actor = actor.Reader number;
+      op = asked;
+      answer = answer;
+      state = Open;
+      seen = None;
+    }
 row_by phase number asked (Some r) answer =
-    record { phase = phase; actor = actor.Reader number; op = asked; answer = answer; state = r.status.state; seen = r.seen }
+    record {
+      phase = phase;
+      actor = actor.Reader number;
+      op = asked;
+      answer = answer;
+      state = r.status.state;
+      seen = r.seen;
+    }
 
 -- the reader of a number in a phase
 abbrev pub reader_kind : ℕ → ℕ → Kind Reader

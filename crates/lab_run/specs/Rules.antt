@@ -68,7 +68,8 @@ with_entry ring e a = record (with_asks 2 a) { marks = marks_after ring a.marks 
 abbrev pub MayLoad : Rules → AtPort → Option Position → AtPort → Type 0
 MayLoad rules a None after = after ≡ with_stop a
 MayLoad rules a (Some position) after =
-    (lets_pass 1 a.left ≡ true) × Contains rules.published position.frame × (a.seen ≤ position.frame)
+    (lets_pass 1 a.left ≡ true) × Contains rules.published position.frame
+    × (a.seen ≤ position.frame)
     × (position.gone ≡ rules.at.gone) × (after ≡ with_load position.frame a)
 
 -- how many asks are made of an entry before the last one of a step that isn't whole: at most one where its frame isn't below the
@@ -80,12 +81,15 @@ MayAsk a e asks = (asks ≡ 0) ⊎ ((asks ≡ 1) × (a.seen ≤ e.frame))
 -- phase; the word that shows it isn't part of a report, and is 0 here. A stop is at the look, at the exchange, or at a further
 -- exchange, which a `die` doesn't count.
 abbrev pub MayLay : Rules → AtPort → Entry → Ended → AtPort → Type 0
-MayLay rules a e Whole after = (a.seen ≤ e.frame) × (lets_pass 2 a.left ≡ true) × (after ≡ with_entry rules.at.ring e a)
+MayLay rules a e Whole after =
+    (a.seen ≤ e.frame) × (lets_pass 2 a.left ≡ true) × (after ≡ with_entry rules.at.ring e a)
 MayLay rules a e (Late word) after =
-    (asks : ℕ) × (word ≡ 0) × (e.frame < rules.at.position) × MayAsk a e asks × (lets_pass (asks + 1) a.left ≡ true)
+    (asks : ℕ) × (word ≡ 0) × (e.frame < rules.at.position) × MayAsk a e asks
+    × (lets_pass (asks + 1) a.left ≡ true)
     × (after ≡ with_asks (asks + 1) a)
 MayLay rules a e Stopped after =
-    ((asks : ℕ) × MayAsk a e asks × (lets_pass asks a.left ≡ true) × (after ≡ with_stop (with_asks asks a)))
+    ((asks : ℕ) × MayAsk a e asks × (lets_pass asks a.left ≡ true)
+    × (after ≡ with_stop (with_asks asks a)))
     ⊎ ((a.seen ≤ e.frame) × (lets_pass 2 a.left ≡ true) × (after ≡ with_gate_stop (with_asks 2 a)))
 
 -- A captured frame is got, one ask a channel, unless the frame that takes its slot is below the position seen. It may be overtaken
@@ -96,13 +100,17 @@ MayGet rules a frame got.Whole after =
     (a.seen ≤ frame + rules.at.ring.frames) × (lets_pass rules.at.ring.channels a.left ≡ true)
     × (after ≡ with_asks rules.at.ring.channels a)
 MayGet rules a frame (got.Overtaken channel word) after =
-    (word ≡ 0) × (frame + rules.at.ring.frames < rules.at.position) × (channel < rules.at.ring.channels)
-    × ((channel ≡ 0) ⊎ (a.seen ≤ frame + rules.at.ring.frames)) × (lets_pass (channel + 1) a.left ≡ true)
+    (word ≡ 0) × (frame + rules.at.ring.frames < rules.at.position)
+    × (channel < rules.at.ring.channels)
+    × ((channel ≡ 0) ⊎ (a.seen ≤ frame + rules.at.ring.frames))
+    × (lets_pass (channel + 1) a.left ≡ true)
     × (after ≡ with_asks (channel + 1) a)
 MayGet rules a frame got.Stopped after =
-    (asks : ℕ) × (asks < rules.at.ring.channels) × ((asks ≡ 0) ⊎ (a.seen ≤ frame + rules.at.ring.frames))
+    (asks : ℕ) × (asks < rules.at.ring.channels)
+    × ((asks ≡ 0) ⊎ (a.seen ≤ frame + rules.at.ring.frames))
     × (lets_pass asks a.left ≡ true) × (after ≡ with_stop (with_asks asks a))
 
 -- a course may be taken so in a phase
 abbrev pub May : {X : Type 0} → Rules → AtPort → Course X → AtPort → X → Type 0
-May rules before course after result = Takes (MayLoad rules) (MayLay rules) (MayGet rules) before course after result
+May rules before course after result =
+    Takes (MayLoad rules) (MayLay rules) (MayGet rules) before course after result

@@ -13,7 +13,8 @@ use Rattle.lab_run.specs.Rules.{Rules}
 use Rattle.lab_run.specs.Stage.{Session, Stage, first_stage}
 
 -- a stage that the first items of a script's body may reach, where the others come after it
-pub record IsReached (script : Script) (wavs : List Sound) (session : Session) (done others : List Item) (stage : Stage) : Type 0 where
+pub record IsReached (script : Script) (wavs : List Sound) (session : Session)
+    (done others : List Item) (stage : Stage) : Type 0 where
   pub script_is : IsScript script
   pub session_is : IsSessionOf script wavs session
   pub body : script.body ≡ done ++ others
@@ -27,7 +28,8 @@ pub record IsAfterPhases (script : Script) (done : List Item) (stage : Stage) : 
 
 -- what a phase allows is what the script has of the phase of this number: its lines, the position at its end, whether the card is gone, and
 -- the positions that the card publishes in it
-pub record AreRulesOf (script : Script) (phase : ℕ) (lines : List Line) (rules : Rules) : Type 0 where
+pub record AreRulesOf (script : Script) (phase : ℕ) (lines : List Line)
+    (rules : Rules) : Type 0 where
   pub lines_are : phase_at script phase ≡ lines
   pub position : rules.at.position ≡ position_after script phase
   pub gone : rules.at.gone ≡ is_gone script phase
@@ -37,12 +39,14 @@ pub record AreRulesOf (script : Script) (phase : ℕ) (lines : List Line) (rules
 -- each stage of a run of a script
 abbrev pub StagesAreOfScripts : Type 0
 StagesAreOfScripts =
-    (script : Script) (wavs : List Sound) (session : Session) (done others : List Item) (stage : Stage)
+    (script : Script) (wavs : List Sound) (session : Session) (done others : List Item)
+    (stage : Stage)
     → IsReached script wavs session done others stage → IsAfterPhases script done stage
 
 -- each phase of a run of a script
 abbrev pub PhasesAreOfScripts : Type 0
 PhasesAreOfScripts =
-    (script : Script) (wavs : List Sound) (session : Session) (done others : List Item) (lines : List Line) (stage : Stage)
+    (script : Script) (wavs : List Sound) (session : Session) (done others : List Item)
+    (lines : List Line) (stage : Stage)
     → IsReached script wavs session done (item.Phase lines ∷ others) stage
     → AreRulesOf script (stage.phases + 1) lines (rules_of session stage lines)

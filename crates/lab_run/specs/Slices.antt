@@ -27,7 +27,8 @@ ends_stretch asked answer = false
 
 -- a line of a reader that runs got so many frames, from the reader's next one on, and the next one is then the one after them; the reader
 -- runs on, or the line ends the stretch
-pub record ReadsOn (reader : Reader) (r : CaptureStream) (asked : Op) (after : Reader) (answer : Answer) : Type 0 where
+pub record ReadsOn (reader : Reader) (r : CaptureStream) (asked : Op) (after : Reader)
+    (answer : Answer) : Type 0 where
   pub own : CaptureStream
   pub is_own : after.own ≡ Some own
   pub count : ℕ
@@ -38,8 +39,10 @@ pub record ReadsOn (reader : Reader) (r : CaptureStream) (asked : Op) (after : R
 -- each line that a phase allows to a reader that runs
 abbrev pub ReadersReadOn : Rules → ℕ → ℕ → Type 0
 ReadersReadOn rules phase number =
-    (a b : AtPort) (reader after : Reader) (r : CaptureStream) (asked : Op) (answer : Answer) → reader.own ≡ Some r → r.status.state ≡ Running
-    → LineMay (reader_kind phase number) rules (a, reader) asked (b, after) answer → ReadsOn reader r asked after answer
+    (a b : AtPort) (reader after : Reader) (r : CaptureStream) (asked : Op) (answer : Answer)
+    → reader.own ≡ Some r → r.status.state ≡ Running
+    → LineMay (reader_kind phase number) rules (a, reader) asked (b, after) answer
+    → ReadsOn reader r asked after answer
 
 -- a line got one slice of frames, if it got any
 pub record GetsSlice (reader after : Reader) : Type 0 where
@@ -50,5 +53,6 @@ pub record GetsSlice (reader after : Reader) : Type 0 where
 -- each line that a phase allows to a reader
 abbrev pub LinesGetSlices : Rules → ℕ → ℕ → Type 0
 LinesGetSlices rules phase number =
-    (a b : AtPort) (reader after : Reader) (asked : Op) (answer : Answer) → LineMay (reader_kind phase number) rules (a, reader) asked (b, after) answer
+    (a b : AtPort) (reader after : Reader) (asked : Op) (answer : Answer)
+    → LineMay (reader_kind phase number) rules (a, reader) asked (b, after) answer
     → GetsSlice reader after

@@ -85,7 +85,14 @@ first_stage session = record {
 
 abbrev pub row_at : Stage → Actor → Op → Answer → State → Option ℕ → Row
 row_at stage actor asked answer after seen =
-    record { phase = stage.phases; actor = actor; op = asked; answer = answer; state = after; seen = seen }
+    record {
+      phase = stage.phases;
+      actor = actor;
+      op = asked;
+      answer = answer;
+      state = after;
+      seen = seen;
+    }
 
 -- with one row more
 abbrev pub with_row : Row → Stage → Stage
@@ -112,11 +119,14 @@ renewed ring a = new_port ring a.by_gate
 -- the client of a number that is opened
 abbrev pub opened_client : Geometry → ℕ → Setup → PlaybackStream
 opened_client ring number setup =
-    with_params (configured_with (new_client ring number setup.lead) setup.config setup.bindings) setup.params
+    with_params (configured_with (new_client ring number setup.lead) setup.config setup.bindings)
+    setup.params
 
 abbrev pub opened_reader : Geometry → Setup → reading.CaptureStream
 opened_reader ring setup =
-    reading_calls.with_params (reading_calls.configured_with (reading_calls.new_reader ring) setup.config setup.bindings) setup.params
+    reading_calls.with_params
+    (reading_calls.configured_with (reading_calls.new_reader ring) setup.config setup.bindings)
+    setup.params
 
 -- an opening that is refused
 abbrev pub refused_open : Actor → PcmError → Stage → Stage
@@ -127,36 +137,53 @@ abbrev pub done_open : Actor → Stage → Stage
 done_open who stage = with_row (row_at stage who op.Opens Done state.Prepared None) stage
 
 -- a client with a configuration that claimed its channels attaches; where that is refused it claimed none
-abbrev pub attached_client : Session → Stage → ℕ → Setup → AtPort × Client → Lobby × Result (Unit {0}) PcmError → Stage
+abbrev pub attached_client : Session → Stage → ℕ → Setup → AtPort × Client
+    → Lobby × Result (Unit {0}) PcmError → Stage
 attached_client session stage number setup (a, client) (lobby, Ok done) =
-    done_open (actor.Client number) (with_client number (renewed session.ring a, record client { own = Some (opened_client session.ring number setup) })
-    (record stage { lobby = lobby; claims = with_claim session.card.share setup.bindings stage.claims }))
-attached_client session stage number setup actor_before (lobby, Err e) = refused_open (actor.Client number) e (record stage { lobby = lobby })
+    done_open (actor.Client number)
+    (with_client number
+    (renewed session.ring a, record client { own = Some (opened_client session.ring number setup) })
+    (record stage {
+      lobby = lobby;
+      claims = with_claim session.card.share setup.bindings stage.claims;
+    }))
+attached_client session stage number setup actor_before (lobby, Err e) =
+    refused_open (actor.Client number) e (record stage { lobby = lobby })
 
 abbrev pub claimed_client : Session → Stage → ℕ → Setup → AtPort × Client → Option PcmError → Stage
-claimed_client session stage number setup client (Some e) = refused_open (actor.Client number) e stage
+claimed_client session stage number setup client (Some e) =
+    refused_open (actor.Client number) e stage
 claimed_client session stage number setup client None =
     attached_client session stage number setup client (attached number stage.position stage.lobby)
 
 -- a client that isn't open is opened: first its configuration, then its claim, then its place
 abbrev pub open_client_with : Session → Stage → ℕ → Option Setup → AtPort × Client → Stage
-open_client_with session stage number None client = refused_open (actor.Client number) (Invalid why.Config) stage
+open_client_with session stage number None client =
+    refused_open (actor.Client number) (Invalid why.Config) stage
 open_client_with session stage number (Some setup) client =
-    claimed_client session stage number setup client (claim_refusal session.card.share stage.claims setup.bindings stage.position)
+    claimed_client session stage number setup client
+    (claim_refusal session.card.share stage.claims setup.bindings stage.position)
 
 abbrev pub open_client : Session → Stage → ℕ → AtPort × Client → Option PlaybackStream → Stage
-open_client session stage number client (Some c) = with_row (row_by stage.phases number op.Opens (Some c) (Failed BadState)) stage
-open_client session stage number client None = open_client_with session stage number (slice_index_or session.clients number None) client
+open_client session stage number client (Some c) =
+    with_row (row_by stage.phases number op.Opens (Some c) (Failed BadState)) stage
+open_client session stage number client None =
+    open_client_with session stage number (slice_index_or session.clients number None) client
 
 abbrev pub open_reader_with : Session → Stage → ℕ → Option Setup → AtPort × Reader → Stage
-open_reader_with session stage number None reader = refused_open (actor.Reader number) (Invalid why.Config) stage
+open_reader_with session stage number None reader =
+    refused_open (actor.Reader number) (Invalid why.Config) stage
 open_reader_with session stage number (Some setup) (a, reader) =
     done_open (actor.Reader number)
-    (with_reader number (renewed session.ring a, record reader { own = Some (opened_reader session.ring setup) }) stage)
+    (with_reader number
+    (renewed session.ring a, record reader { own = Some (opened_reader session.ring setup) }) stage)
 
-abbrev pub open_reader : Session → Stage → ℕ → AtPort × Reader → Option reading.CaptureStream → Stage
-open_reader session stage number reader (Some r) = with_row (readers.row_by stage.phases number op.Opens (Some r) (Failed BadState)) stage
-open_reader session stage number reader None = open_reader_with session stage number (slice_index_or session.readers number None) reader
+abbrev pub open_reader : Session → Stage → ℕ → AtPort × Reader → Option reading.CaptureStream
+    → Stage
+open_reader session stage number reader (Some r) =
+    with_row (readers.row_by stage.phases number op.Opens (Some r) (Failed BadState)) stage
+open_reader session stage number reader None =
+    open_reader_with session stage number (slice_index_or session.readers number None) reader
 
 -- ---- close
 
@@ -172,28 +199,44 @@ abbrev pub lobby_without : Geometry → ℕ → AtPort → Lobby → Lobby
 lobby_without ring number a lobby = left_by number (high_frame ring a.marks) lobby
 
 abbrev pub claims_without : Session → AtPort → PlaybackStream → List owners.Row → List owners.Row
-claims_without session a c claims = with_release session.card.share c.setup.bindings (high_frame session.ring a.marks) claims
+claims_without session a c claims =
+    with_release session.card.share c.setup.bindings (high_frame session.ring a.marks) claims
 
 abbrev pub close_client : Session → Stage → ℕ → AtPort × Client → Option PlaybackStream → Stage
-close_client session stage number client None = with_row (row_at stage (actor.Client number) op.Closes (Failed BadState) state.Open None) stage
+close_client session stage number client None =
+    with_row (row_at stage (actor.Client number) op.Closes (Failed BadState) state.Open None) stage
 close_client session stage number client (Some c) =
     with_row (row_at stage (actor.Client number) op.Closes Done state.Open c.seen)
     (with_client number (ended_client session.ring client)
-    (record stage { lobby = lobby_without session.ring number client.0 stage.lobby; claims = claims_without session client.0 c stage.claims }))
+    (record stage {
+      lobby = lobby_without session.ring number client.0 stage.lobby;
+      claims = claims_without session client.0 c stage.claims;
+    }))
 
-abbrev pub close_reader : Session → Stage → ℕ → AtPort × Reader → Option reading.CaptureStream → Stage
-close_reader session stage number reader None = with_row (row_at stage (actor.Reader number) op.Closes (Failed BadState) state.Open None) stage
+abbrev pub close_reader : Session → Stage → ℕ → AtPort × Reader → Option reading.CaptureStream
+    → Stage
+close_reader session stage number reader None =
+    with_row (row_at stage (actor.Reader number) op.Closes (Failed BadState) state.Open None) stage
 close_reader session stage number reader (Some r) =
-    with_row (row_at stage (actor.Reader number) op.Closes Done state.Open r.seen) (with_reader number (ended_reader session.ring reader) stage)
+    with_row (row_at stage (actor.Reader number) op.Closes Done state.Open r.seen)
+    (with_reader number (ended_reader session.ring reader) stage)
 
 -- ---- of an actor
 
 abbrev pub after_open : Session → Stage → Actor → Stage
-after_open session stage (actor.Client number) = open_client session stage number (client_at session stage number) (client_at session stage number).1.own
-after_open session stage (actor.Reader number) = open_reader session stage number (reader_at session stage number) (reader_at session stage number).1.own
+after_open session stage (actor.Client number) =
+    open_client session stage number (client_at session stage number)
+    (client_at session stage number).1.own
+after_open session stage (actor.Reader number) =
+    open_reader session stage number (reader_at session stage number)
+    (reader_at session stage number).1.own
 after_open session stage actor.Card = stage
 
 abbrev pub after_close : Session → Stage → Actor → Stage
-after_close session stage (actor.Client number) = close_client session stage number (client_at session stage number) (client_at session stage number).1.own
-after_close session stage (actor.Reader number) = close_reader session stage number (reader_at session stage number) (reader_at session stage number).1.own
+after_close session stage (actor.Client number) =
+    close_client session stage number (client_at session stage number)
+    (client_at session stage number).1.own
+after_close session stage (actor.Reader number) =
+    close_reader session stage number (reader_at session stage number)
+    (reader_at session stage number).1.own
 after_close session stage actor.Card = stage

@@ -42,20 +42,25 @@ IsFirstOf (Some next) first = first ≡ next
 abbrev pub AreSlices : Option ℕ → List Row → List ℕ → Option ℕ → Type 0
 AreSlices at [] frames after = (frames ≡ []) × (after ≡ at)
 AreSlices at (row ∷ rows) frames after =
-    (first : ℕ) × (others : List ℕ) × IsFirstOf at first × (frames ≡ range_with_len first (got_by row.op row.answer) ++ others)
-    × AreSlices (goes_on_after (ends_by_row row.op row.answer) at first (got_by row.op row.answer)) rows others after
+    (first : ℕ) × (others : List ℕ) × IsFirstOf at first
+    × (frames ≡ range_with_len first (got_by row.op row.answer) ++ others)
+    × AreSlices (goes_on_after (ends_by_row row.op row.answer) at first (got_by row.op row.answer))
+    rows others after
 
 -- a reader's frames: its runs in the report, its samples, and the slices of its rows
-pub record ReadsInSlices (session : Session) (capture : Option Sound) (outcome : Outcome) (number : ℕ) : Type 0 where
+pub record ReadsInSlices (session : Session) (capture : Option Sound) (outcome : Outcome)
+    (number : ℕ) : Type 0 where
   pub frames : List ℕ
   pub runs : runs_by number outcome.report.runs ≡ runs_of frames
   pub samples : slice_index_or outcome.recorded number []
-      ≡ flat_map (λ frame. map (captured session capture frame) (bindings_of (slice_index_or session.readers number None))) frames
+      ≡ flat_map (λ frame. map (captured session capture frame)
+      (bindings_of (slice_index_or session.readers number None))) frames
   pub after : Option ℕ
   pub slices : AreSlices None (rows_by (is_reader number) outcome.report.rows) frames after
 
 -- each reader of each run
 abbrev pub ReadersReadInSlices : Session → Option Sound → List Item → Type 0
 ReadersReadInSlices session capture body =
-    (client_stops reader_stops : ℕ → ℕ) (outcome : Outcome) → LabRun session capture body client_stops reader_stops outcome
+    (client_stops reader_stops : ℕ → ℕ) (outcome : Outcome)
+    → LabRun session capture body client_stops reader_stops outcome
     → (number : ℕ) → number < length session.readers → ReadsInSlices session capture outcome number

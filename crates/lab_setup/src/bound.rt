@@ -12,7 +12,8 @@ use wav_io::Wav;
 /// to the card's of the same number.
 pub(crate) fn client_bindings(line: &ClientLine, wav: &Wav) -> Option<Bindings>
     ensures some { IfSome result
-        (λ bindings. (bindings ≡ bound_by line.now wav.now) × (length bindings ≡ wav.now.channels)) }
+        (λ bindings. (bindings ≡ bound_by line.now wav.now)
+        × (length bindings ≡ wav.now.channels)) }
     ensures none { IfNone result (length (bound_by line.now wav.now) ≢ wav.now.channels) }
 {
     match line.bindings {

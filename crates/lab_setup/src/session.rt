@@ -30,7 +30,8 @@ fn client_openings(
     requires card { IsCardLine card.now }
     requires lines { All (IsClientLine card.now) lines.now }
     requires files { length wavs.now ≡ length lines.now }
-    ensures openings { IfOk result (λ all. AreClientOpenings card.now lines.now wavs.now all.items) }
+    ensures openings { IfOk result
+        (λ all. AreClientOpenings card.now lines.now wavs.now all.items) }
     ensures usable { IfOk result (λ all. AreUsable card.now.channels card.now.ring all.items) }
     ensures only { IfErr result (λ e. e ≡ PcmError.Memory) }
 {

@@ -35,7 +35,8 @@ made_report w outcome = report_text (made_script w.clients w.phases) outcome.rep
 -- the files, with a workload stored, and then what a run of it writes
 abbrev pub with_run : Workload → Outcome → Files → Files
 with_run w outcome files =
-    stored (output_files (made_script w.clients w.phases) output_name) (sounds_of outcome) (with_workload w files)
+    stored (output_files (made_script w.clients w.phases) output_name)
+    (sounds_of outcome) (with_workload w files)
 
 -- the files, with the report stored as well
 abbrev pub with_made : Workload → Outcome → Files → Files
@@ -46,21 +47,26 @@ abbrev pub made_outcome : Workload → Session → Outcome
 made_outcome w session = lab_text session None (made_script w.clients w.phases).body
 
 -- what is left is the only thing that can be: that of the one run of a workload whose clients no gate stops, since none of its phases is mixed
-pub record IsOnlyMade (w : Workload) (before after : Option Files) (taken taken_after : Option (List ℕ)) : Type 0 where
-  pub files : (session : Session) → IsSessionOf (made_script w.clients w.phases) (made_input w).sounds session
+pub record IsOnlyMade (w : Workload) (before after : Option Files)
+    (taken taken_after : Option (List ℕ)) : Type 0 where
+  pub files : (session : Session)
+      → IsSessionOf (made_script w.clients w.phases) (made_input w).sounds session
       → after ≡ option_map (with_made w (made_outcome w session)) before
-  pub text : (session : Session) (summary : Summary) → IsSessionOf (made_script w.clients w.phases) (made_input w).sounds session
+  pub text : (session : Session) (summary : Summary)
+      → IsSessionOf (made_script w.clients w.phases) (made_input w).sounds session
       → IsSummaryOf w (made_outcome w session).report (made_outcome w session).played summary
       → taken_after ≡ option_map (λ t. t ++ summary_text summary) taken
 
 -- the text of a run's summary was put
-pub record HasPutSummary (w : Workload) (outcome : Outcome) (taken taken_after : Option (List ℕ)) : Type 0 where
+pub record HasPutSummary (w : Workload) (outcome : Outcome)
+    (taken taken_after : Option (List ℕ)) : Type 0 where
   pub summary : Summary
   pub is_summary : IsSummaryOf w outcome.report outcome.played summary
   pub text : taken_after ≡ option_map (λ t. t ++ summary_text summary) taken
 
 -- the first bytes of it were put
-pub record HasPutSummaryPart (w : Workload) (outcome : Outcome) (taken taken_after : Option (List ℕ)) : Type 0 where
+pub record HasPutSummaryPart (w : Workload) (outcome : Outcome)
+    (taken taken_after : Option (List ℕ)) : Type 0 where
   pub summary : Summary
   pub is_summary : IsSummaryOf w outcome.report outcome.played summary
   pub text : TookPart taken taken_after (summary_text summary)
@@ -69,10 +75,12 @@ pub record HasPutSummaryPart (w : Workload) (outcome : Outcome) (taken taken_aft
 -- of it, in which each gate stopped its client at most so often (`IsRunOf`); made.wav is the WAV file of the samples, made.report has the text of the
 -- report, no other file changed, and the output took the text of their summary. Where no gate stopped a client, that is the only thing that can be left,
 -- and each client does in the run what it does by itself.
-pub record IsMade (w : Workload) (stops : Stops) (before after : Option Files) (taken taken_after : Option (List ℕ)) : Type 0 where
+pub record IsMade (w : Workload) (stops : Stops) (before after : Option Files)
+    (taken taken_after : Option (List ℕ)) : Type 0 where
   pub session : Session
   pub outcome : Outcome
-  pub read : ForSome before (λ files. input_in (with_workload w files) script_name ≡ Ok (made_input w))
+  pub read : ForSome before
+      (λ files. input_in (with_workload w files) script_name ≡ Ok (made_input w))
   pub is : IsRunOf (made_input w) session stops outcome
   pub own : HaveNoStops stops → IsOwnRun (made_script w.clients w.phases) session outcome
   pub only : HaveNoStops stops → IsOnlyMade w before after taken taken_after
@@ -80,26 +88,32 @@ pub record IsMade (w : Workload) (stops : Stops) (before after : Option Files) (
   pub text : HasPutSummary w outcome taken taken_after
 
 -- the command stopped while it stored the workload
-pub record StoppedBefore (w : Workload) (before after : Option Files) (taken taken_after : Option (List ℕ)) : Type 0 where
+pub record StoppedBefore (w : Workload) (before after : Option Files)
+    (taken taken_after : Option (List ℕ)) : Type 0 where
   pub files : WorkloadInPart w before after
   pub text : taken_after ≡ taken
 
 -- it stopped in the run of the workload, which is stored; the report's text so far isn't
-pub record StoppedInRun (w : Workload) (before after : Option Files) (taken taken_after : Option (List ℕ)) : Type 0 where
+pub record StoppedInRun (w : Workload) (before after : Option Files)
+    (taken taken_after : Option (List ℕ)) : Type 0 where
   pub report : List ℕ
-  pub run : HasPlayedPart (made_input w) output_name (option_map (with_workload w) before) after (Some []) (Some report)
+  pub run : HasPlayedPart (made_input w) output_name (option_map (with_workload w) before)
+      after (Some []) (Some report)
   pub text : taken_after ≡ taken
 
 -- it stopped after the run, which is done, while it stored the report or before
-pub record StoppedAfterRun (w : Workload) (stops : Stops) (before after : Option Files) (taken taken_after : Option (List ℕ)) : Type 0 where
+pub record StoppedAfterRun (w : Workload) (stops : Stops) (before after : Option Files)
+    (taken taken_after : Option (List ℕ)) : Type 0 where
   pub session : Session
   pub outcome : Outcome
   pub is : IsRunOf (made_input w) session stops outcome
-  pub files : IsPartWritten (option_map (with_run w outcome) before) after report_name (made_report w outcome)
+  pub files : IsPartWritten (option_map (with_run w outcome) before) after
+      report_name (made_report w outcome)
   pub text : taken_after ≡ taken
 
 -- it stopped while it put the summary, or before; everything is stored
-pub record StoppedAtEnd (w : Workload) (stops : Stops) (before after : Option Files) (taken taken_after : Option (List ℕ)) : Type 0 where
+pub record StoppedAtEnd (w : Workload) (stops : Stops) (before after : Option Files)
+    (taken taken_after : Option (List ℕ)) : Type 0 where
   pub session : Session
   pub outcome : Outcome
   pub is : IsRunOf (made_input w) session stops outcome
@@ -107,8 +121,10 @@ pub record StoppedAtEnd (w : Workload) (stops : Stops) (before after : Option Fi
   pub text : HasPutSummaryPart w outcome taken taken_after
 
 -- the command stopped in its output: in one of its four parts, each of which begins when the one before it is done
-abbrev pub IsMadePart : Workload → Stops → Option Files → Option Files → Option (List ℕ) → Option (List ℕ) → Type 0
+abbrev pub IsMadePart : Workload → Stops → Option Files → Option Files → Option (List ℕ)
+    → Option (List ℕ) → Type 0
 IsMadePart w stops before after taken taken_after =
     StoppedBefore w before after taken taken_after
     ⊎ (StoppedInRun w before after taken taken_after
-    ⊎ (StoppedAfterRun w stops before after taken taken_after ⊎ StoppedAtEnd w stops before after taken taken_after))
+    ⊎ (StoppedAfterRun w stops before after taken taken_after
+    ⊎ StoppedAtEnd w stops before after taken taken_after))

@@ -66,8 +66,10 @@ InputInPart sounds text before after =
 
 -- the files, with a workload stored: a WAV file for each client, and the script
 abbrev pub with_workload : Workload → Files → Files
-with_workload w files = with_input (made_sounds w.seed w.clients) (made_text w.clients w.phases) files
+with_workload w files =
+    with_input (made_sounds w.seed w.clients) (made_text w.clients w.phases) files
 
 -- a workload is stored in part
 abbrev pub WorkloadInPart : Workload → Option Files → Option Files → Type 0
-WorkloadInPart w before after = InputInPart (made_sounds w.seed w.clients) (made_text w.clients w.phases) before after
+WorkloadInPart w before after =
+    InputInPart (made_sounds w.seed w.clients) (made_text w.clients w.phases) before after

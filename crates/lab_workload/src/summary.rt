@@ -22,7 +22,8 @@ pub(crate) fn put_summary<K: Sink>(
     ensures done { OnOk result
         (HasPutSummary workload.now (outcome_in outcome.now) (K.taken out.old) (K.taken out.new)) }
     ensures part { OnErr result
-        (HasPutSummaryPart workload.now (outcome_in outcome.now) (K.taken out.old) (K.taken out.new)) }
+        (HasPutSummaryPart workload.now (outcome_in outcome.now) (K.taken out.old)
+        (K.taken out.new)) }
     ensures only { IfErr result IsWriteStop }
     ensures faults { WriteFaults result (K.faults out.old) (K.faults out.new) }
     ensures reliable { K.is_reliable out.old → result ≢ Err stops.Write }

@@ -6,7 +6,8 @@ use Rattle.plug_chain.specs.Held.{samples_of}
 use Rattle.plug_chain.specs.Rates.{RatePair, IsAt, IsCourse, known, resampled}
 
 -- whichever frames came before, after these frames more the course is that of them all, and what is known grew by what was appended
-pub record IsAdvance (r : RatePair) (channels : ℕ) (before after : List (List ℤ)) (course : Course) (old new : List ℤ) : Type 0 where
+pub record IsAdvance (r : RatePair) (channels : ℕ) (before after : List (List ℤ))
+    (course : Course) (old new : List ℤ) : Type 0 where
   pub at : IsAt r channels after (samples_of course.last) course.place
   pub appends : Appends (known r before) (known r after) old new
 
@@ -21,9 +22,11 @@ IsAfter r channels frames course = IsAt r channels frames (samples_of course.las
 -- frames more led from a course to another, and to what was appended, whichever frames came before
 abbrev pub Advances : RatePair → ℕ → List (List ℤ) → Course → Course → List ℤ → List ℤ → Type 0
 Advances r channels more start course old new =
-    (frames : List (List ℤ)) → IsAfter r channels frames start → IsAdvance r channels frames (frames ++ more) course old new
+    (frames : List (List ℤ)) → IsAfter r channels frames start
+    → IsAdvance r channels frames (frames ++ more) course old new
 
 -- what is left of a conversion was appended, whichever frames led to its course
 abbrev pub Ends : RatePair → ℕ → Course → List ℤ → List ℤ → Type 0
 Ends r channels course old new =
-    (frames : List (List ℤ)) → IsAfter r channels frames course → Appends (known r frames) (resampled r frames) old new
+    (frames : List (List ℤ)) → IsAfter r channels frames course
+    → Appends (known r frames) (resampled r frames) old new

@@ -18,7 +18,8 @@ frame_bytes c = c.table.inputs * bytes_of c.from
 -- the first n samples
 abbrev pub samples_in : Wide → ℕ → List ℕ → List ℤ
 samples_in from zero bytes = []
-samples_in from (suc n) bytes = wide_sample from (take (bytes_of from) bytes) ∷ samples_in from n (drop (bytes_of from) bytes)
+samples_in from (suc n) bytes =
+    wide_sample from (take (bytes_of from) bytes) ∷ samples_in from n (drop (bytes_of from) bytes)
 
 -- the output channels of one frame's bytes
 abbrev pub frame_of : Conversion → List ℕ → List ℤ
@@ -27,7 +28,8 @@ frame_of c bytes = output_samples c.table (samples_in c.from c.table.inputs byte
 -- the first n frames
 abbrev pub frames_in : Conversion → ℕ → List ℕ → List (List ℤ)
 frames_in c zero bytes = []
-frames_in c (suc n) bytes = frame_of c (take (frame_bytes c) bytes) ∷ frames_in c n (drop (frame_bytes c) bytes)
+frames_in c (suc n) bytes =
+    frame_of c (take (frame_bytes c) bytes) ∷ frames_in c n (drop (frame_bytes c) bytes)
 
 -- how many whole frames there are
 abbrev pub frame_count : Conversion → List ℕ → ℕ

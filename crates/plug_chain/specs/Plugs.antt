@@ -23,7 +23,8 @@ pub record Stage : Type 0 where
 -- the stage to which these bytes lead, however they were cut
 pub record HasTaken (s : Stage) (bytes : List ℕ) : Type 0 where
   pub part : s.part ≡ rest_of s.conversion bytes
-  pub course : IsAt s.conversion.rates s.conversion.table.outputs (frames_of s.conversion bytes) s.last s.place
+  pub course : IsAt s.conversion.rates s.conversion.table.outputs
+      (frames_of s.conversion bytes) s.last s.place
 
 -- a stage that can be reached: a conversion in range, less than a frame begun, and a course
 pub record IsStage (s : Stage) : Type 0 where
@@ -37,11 +38,14 @@ pub record Continues (old new : Stage) (bytes : List ℕ) (old_out new_out : Lis
   pub conversion : new.conversion ≡ old.conversion
   pub stage : (fed : List ℕ) → HasTaken old fed → HasTaken new (fed ++ bytes)
   pub appends : (fed : List ℕ) → HasTaken old fed
-      → Appends (known_of old.conversion fed) (known_of old.conversion (fed ++ bytes)) old_out new_out
+      → Appends (known_of old.conversion fed) (known_of old.conversion (fed ++ bytes))
+      old_out new_out
 
 -- whatever bytes led to the stage, what is left of the whole conversion was appended
 abbrev pub Completes : Stage → List ℤ → List ℤ → Type 0
-Completes s old_out new_out = (fed : List ℕ) → HasTaken s fed → Appends (known_of s.conversion fed) (plug_of s.conversion fed) old_out new_out
+Completes s old_out new_out =
+    (fed : List ℕ) → HasTaken s fed
+    → Appends (known_of s.conversion fed) (plug_of s.conversion fed) old_out new_out
 
 -- a stage to which no bytes have led yet
 pub record IsBeginning (s : Stage) (c : Conversion) : Type 0 where

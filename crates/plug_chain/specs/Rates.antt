@@ -65,9 +65,11 @@ abbrev pub silence : ℕ → List ℤ
 silence channels = replicate channels (pos 0)
 
 -- after these frames this frame is the last, and the next output frame lies so many parts past the frame before it
-pub record IsAt (r : RatePair) (channels : ℕ) (frames : List (List ℤ)) (last : List ℤ) (place : ℕ) : Type 0 where
+pub record IsAt (r : RatePair) (channels : ℕ) (frames : List (List ℤ)) (last : List ℤ)
+    (place : ℕ) : Type 0 where
   pub last_is : last ≡ slice_index_or frames (length frames - 1) (silence channels)
-  pub place_is : known_count r (length frames) * r.input + r.output ≡ length frames * r.output + place
+  pub place_is : known_count r (length frames) * r.input + r.output
+      ≡ length frames * r.output + place
 
 -- a frame of so many channels, and a place that the next frame or the one after it reaches
 pub record IsCourse (r : RatePair) (channels : ℕ) (last : List ℤ) (place : ℕ) : Type 0 where
@@ -76,7 +78,8 @@ pub record IsCourse (r : RatePair) (channels : ℕ) (last : List ℤ) (place : �
   pub near : place < r.input + r.output
 
 -- a list grew by output frames, from the first that wasn't known of the first `before` frames on; the next lies at this place
-pub record IsUnderway (r : RatePair) (frames : List (List ℤ)) (before place : ℕ) (old new : List ℤ) : Type 0 where
+pub record IsUnderway (r : RatePair) (frames : List (List ℤ)) (before place : ℕ)
+    (old new : List ℤ) : Type 0 where
   pub count : ℕ
   pub new_is : new ≡ old ++ output_frames r frames (known_count r before) count
   pub place_is : (known_count r before + count) * r.input + r.output ≡ before * r.output + place

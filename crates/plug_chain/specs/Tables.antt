@@ -40,7 +40,8 @@ pub record IsSumOf (n : ℕ) (z : ℤ) : Type 0 where
 
 -- one output channel of a frame: the whole sum is divided, rounded down, and saturated once
 unfoldable pub output_channel : ChannelTable → List ℤ → ℕ → ℤ
-output_channel t samples output = saturate_signed w16 (int_div_euclid (weighted_sum (row t output) samples) (pos 65536))
+output_channel t samples output =
+    saturate_signed w16 (int_div_euclid (weighted_sum (row t output) samples) (pos 65536))
 
 -- all output channels of a frame
 unfoldable pub output_samples : ChannelTable → List ℤ → List ℤ
@@ -60,7 +61,10 @@ usual_weight inputs outputs output input =
 
 -- the usual table between these numbers of channels
 abbrev pub usual_weights : ℕ → ℕ → List ℤ
-usual_weights inputs outputs = map (λ place. usual_weight inputs outputs (place / inputs) (place % inputs)) (range_with_len 0 (inputs * outputs))
+usual_weights inputs outputs =
+    map (λ place. usual_weight inputs outputs (place / inputs) (place % inputs))
+    (range_with_len 0 (inputs * outputs))
 
 abbrev pub usual_table : ℕ → ℕ → ChannelTable
-usual_table inputs outputs = record { inputs = inputs; outputs = outputs; weights = usual_weights inputs outputs }
+usual_table inputs outputs =
+    record { inputs = inputs; outputs = outputs; weights = usual_weights inputs outputs }

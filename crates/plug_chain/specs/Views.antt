@@ -11,4 +11,10 @@ conversion_of c = record { from = c.from; table = c.table; rates = c.rates }
 
 -- how far it has come
 abbrev pub stage_of : Converter → Progress → Stage
-stage_of c p = record { conversion = conversion_of c; part = part_of p.part; last = samples_of p.course.last; place = p.course.place }
+stage_of c p =
+    record {
+      conversion = conversion_of c;
+      part = part_of p.part;
+      last = samples_of p.course.last;
+      place = p.course.place;
+    }

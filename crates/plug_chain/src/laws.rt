@@ -20,5 +20,6 @@ pub fn conversions_have_whole_frames()
         → length (plug_of c bytes) ≡ output_count c.rates (frame_count c bytes) * c.table.outputs }
     ensures longer { (c : Conversion) → (bytes more : List ℕ) → AreRates c.rates → IsTable c.table
         → length (plug_of c bytes) ≤ length (plug_of c (bytes ++ more)) }
-    ensures none { (c : Conversion) → AreRates c.rates → (plug_of c [] ≡ []) × (known_of c [] ≡ []) }
+    ensures none { (c : Conversion) → AreRates c.rates
+        → (plug_of c [] ≡ []) × (known_of c [] ≡ []) }
 {}
