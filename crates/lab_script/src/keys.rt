@@ -3,12 +3,13 @@ ghost use Rattle.std.specs.Prelude.{◌≡◌, ◌<◌, ◌≤◌, [], map, opti
 ghost use Rattle.std.specs.List.{list_any};
 ghost use Rattle.std.specs.Prelude.{bytes_eq};
 ghost use Rattle.lab_script.specs.Causes.{Gives};
-ghost use Rattle.lab_script.specs.Keys.{row_of, card_keys, client_keys, reader_keys, keys_of, key_of, keys_from, given};
+ghost use Rattle.lab_script.specs.Keys.{row_of, keys_of, key_of, keys_from, given};
 ghost use Rattle.lab_script.specs.Lexing.{words_between};
 
 use crate::causes::refuse_if;
 use crate::error::ScriptWhy;
 use crate::lexing::next_word;
+use crate::table::row_of;
 use crate::values::check_value;
 use std::alloc::Global;
 
@@ -35,81 +36,46 @@ pub enum Kind {
 /// The greatest number of 19 digits, where a number has no limit of its own.
 const ANY: u64 = 9_999_999_999_999_999_999;
 
-/// A key of the card's line. A period above half the ring is no matter of its range.
-fn card_key(key: &[u8]) -> Option<Takes>
-    ensures { result ≡ row_of card_keys key.now }
-{
-    if key == b"channels".as_slice() {
-        Some(Takes::Number(1, 8))
-    } else if key == b"rate".as_slice() {
-        Some(Takes::Number(4000, 192_000))
-    } else if key == b"period".as_slice() {
-        Some(Takes::Number(16, ANY))
-    } else if key == b"ring".as_slice() {
-        Some(Takes::Number(64, 16_384))
-    } else if key == b"places".as_slice() {
-        Some(Takes::Number(1, 64))
-    } else if key == b"lap".as_slice() {
-        Some(Takes::Number(0, 4_294_967_294))
-    } else if key == b"capture".as_slice() {
-        Some(Takes::File)
-    } else if key == b"share".as_slice() {
-        Some(Takes::Share)
-    } else {
-        None
-    }
-}
+/// The keys of the card's line. A period above half the ring is no matter of its range.
+const CARD_KEYS: [(&[u8], Takes); 8] = [
+    (b"channels", Takes::Number(1, 8)),
+    (b"rate", Takes::Number(4000, 192_000)),
+    (b"period", Takes::Number(16, ANY)),
+    (b"ring", Takes::Number(64, 16_384)),
+    (b"places", Takes::Number(1, 64)),
+    (b"lap", Takes::Number(0, 4_294_967_294)),
+    (b"capture", Takes::File),
+    (b"share", Takes::Share),
+];
 
-/// A key of a client's line. A lead that isn't below the ring is no matter of its range.
-fn client_key(key: &[u8]) -> Option<Takes>
-    ensures { result ≡ row_of client_keys key.now }
-{
-    if key == b"bindings".as_slice() {
-        Some(Takes::Bindings)
-    } else if key == b"buffer".as_slice() {
-        Some(Takes::Number(32, 16_384))
-    } else if key == b"period".as_slice() {
-        Some(Takes::Number(16, 8192))
-    } else if key == b"start".as_slice() {
-        Some(Takes::Number(1, 65_536))
-    } else if key == b"stop".as_slice() {
-        Some(Takes::NumberOrNever(1, 65_536))
-    } else if key == b"lead".as_slice() {
-        Some(Takes::Number(0, ANY))
-    } else if key == b"plug".as_slice() {
-        Some(Takes::Plug)
-    } else {
-        None
-    }
-}
+/// The keys of a client's line. A lead that isn't below the ring is no matter of its range.
+const CLIENT_KEYS: [(&[u8], Takes); 7] = [
+    (b"bindings", Takes::Bindings),
+    (b"buffer", Takes::Number(32, 16_384)),
+    (b"period", Takes::Number(16, 8192)),
+    (b"start", Takes::Number(1, 65_536)),
+    (b"stop", Takes::NumberOrNever(1, 65_536)),
+    (b"lead", Takes::Number(0, ANY)),
+    (b"plug", Takes::Plug),
+];
 
-/// A key of a reader's line.
-fn reader_key(key: &[u8]) -> Option<Takes>
-    ensures { result ≡ row_of reader_keys key.now }
-{
-    if key == b"bindings".as_slice() {
-        Some(Takes::Bindings)
-    } else if key == b"buffer".as_slice() {
-        Some(Takes::Number(32, 16_384))
-    } else if key == b"period".as_slice() {
-        Some(Takes::Number(16, 8192))
-    } else if key == b"start".as_slice() {
-        Some(Takes::Number(1, 65_536))
-    } else if key == b"stop".as_slice() {
-        Some(Takes::NumberOrNever(1, 65_536))
-    } else {
-        None
-    }
-}
+/// The keys of a reader's line.
+const READER_KEYS: [(&[u8], Takes); 5] = [
+    (b"bindings", Takes::Bindings),
+    (b"buffer", Takes::Number(32, 16_384)),
+    (b"period", Takes::Number(16, 8192)),
+    (b"start", Takes::Number(1, 65_536)),
+    (b"stop", Takes::NumberOrNever(1, 65_536)),
+];
 
 /// A key of a line of this kind.
 fn value_taken(kind: Kind, key: &[u8]) -> Option<Takes>
     ensures { result ≡ row_of (keys_of kind) key.now }
 {
     match kind {
-        Kind::Card => card_key(key),
-        Kind::Client => client_key(key),
-        Kind::Reader => reader_key(key),
+        Kind::Card => row_of(&CARD_KEYS, key),
+        Kind::Client => row_of(&CLIENT_KEYS, key),
+        Kind::Reader => row_of(&READER_KEYS, key),
     }
 }
 

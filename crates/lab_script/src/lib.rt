@@ -16,6 +16,7 @@ mod ops;
 mod reader;
 mod script;
 mod steps;
+mod table;
 mod values;
 mod word;
 
@@ -26,4 +27,5 @@ pub use name::{FileName, Name};
 pub use ops::{print_op, push_op};
 pub use reader::read_script;
 pub use script::{Body, CardLine, ClientLine, Clients, ReaderLine, Readers, Script, Share, Stop};
+pub use table::row_of;
 pub use word::read_number;

@@ -3,11 +3,12 @@ ghost use Rattle.std.specs.Prelude.{◌≡◌, ◌≤◌, ◌++◌, OnOk, string
 ghost use Rattle.lab_script.specs.Causes.{Gives};
 ghost use Rattle.lab_script.specs.Keys.{row_of};
 ghost use Rattle.lab_script.specs.Lexing.{words_between};
-ghost use Rattle.lab_script.specs.Ops.{card_ops, client_ops, reader_ops, ops_of, with_count, op_with, op_of, op_text, played_by};
+ghost use Rattle.lab_script.specs.Ops.{ops_of, with_count, op_with, op_of, op_text, played_by};
 
 use crate::causes::{end_of, first_of};
 use crate::error::ScriptWhy;
 use crate::line::{Actor, Op};
+use crate::table::row_of;
 use crate::values::number_in;
 use snd_base::PcmError;
 use std::alloc::AllocError;
@@ -23,87 +24,52 @@ pub enum Form {
 /// How many frames an op can ask for.
 const FRAMES: u32 = 4_194_304;
 
+/// After how many steps an actor can die.
+const STEPS: u32 = 1_000_000;
+
 /// What the card can be asked for.
-fn card_op(word: &[u8]) -> Option<Form>
-    ensures { result ≡ row_of card_ops word.now }
-{
-    if word == b"play".as_slice() {
-        Some(Form::Counted(Op::Play(0), FRAMES))
-    } else if word == b"unplug".as_slice() {
-        Some(Form::Plain(Op::Unplug))
-    } else {
-        None
-    }
-}
+const CARD_OPS: [(&[u8], Form); 2] = [
+    (b"play", Form::Counted(Op::Play(0), FRAMES)),
+    (b"unplug", Form::Plain(Op::Unplug)),
+];
 
 /// What a client can be asked for.
-fn client_op(word: &[u8]) -> Option<Form>
-    ensures { result ≡ row_of client_ops word.now }
-{
-    if word == b"write".as_slice() {
-        Some(Form::Counted(Op::Write(0), FRAMES))
-    } else if word == b"start".as_slice() {
-        Some(Form::Plain(Op::Start))
-    } else if word == b"sync".as_slice() {
-        Some(Form::Plain(Op::Sync))
-    } else if word == b"avail".as_slice() {
-        Some(Form::Plain(Op::Avail))
-    } else if word == b"delay".as_slice() {
-        Some(Form::Plain(Op::Delay))
-    } else if word == b"drain".as_slice() {
-        Some(Form::Plain(Op::Drain))
-    } else if word == b"drop".as_slice() {
-        Some(Form::Plain(Op::Drop))
-    } else if word == b"prepare".as_slice() {
-        Some(Form::Plain(Op::Prepare))
-    } else if word == b"pause".as_slice() {
-        Some(Form::Plain(Op::Pause))
-    } else if word == b"resume".as_slice() {
-        Some(Form::Plain(Op::Resume))
-    } else if word == b"rewind".as_slice() {
-        Some(Form::Counted(Op::Rewind(0), FRAMES))
-    } else if word == b"rewindable".as_slice() {
-        Some(Form::Plain(Op::Rewindable))
-    } else if word == b"die".as_slice() {
-        Some(Form::Counted(Op::Die(0), 1_000_000))
-    } else {
-        None
-    }
-}
+const CLIENT_OPS: [(&[u8], Form); 13] = [
+    (b"write", Form::Counted(Op::Write(0), FRAMES)),
+    (b"start", Form::Plain(Op::Start)),
+    (b"sync", Form::Plain(Op::Sync)),
+    (b"avail", Form::Plain(Op::Avail)),
+    (b"delay", Form::Plain(Op::Delay)),
+    (b"drain", Form::Plain(Op::Drain)),
+    (b"drop", Form::Plain(Op::Drop)),
+    (b"prepare", Form::Plain(Op::Prepare)),
+    (b"pause", Form::Plain(Op::Pause)),
+    (b"resume", Form::Plain(Op::Resume)),
+    (b"rewind", Form::Counted(Op::Rewind(0), FRAMES)),
+    (b"rewindable", Form::Plain(Op::Rewindable)),
+    (b"die", Form::Counted(Op::Die(0), STEPS)),
+];
 
 /// What a reader can be asked for.
-fn reader_op(word: &[u8]) -> Option<Form>
-    ensures { result ≡ row_of reader_ops word.now }
-{
-    if word == b"read".as_slice() {
-        Some(Form::Counted(Op::Read(0), FRAMES))
-    } else if word == b"start".as_slice() {
-        Some(Form::Plain(Op::Start))
-    } else if word == b"sync".as_slice() {
-        Some(Form::Plain(Op::Sync))
-    } else if word == b"avail".as_slice() {
-        Some(Form::Plain(Op::Avail))
-    } else if word == b"drop".as_slice() {
-        Some(Form::Plain(Op::Drop))
-    } else if word == b"prepare".as_slice() {
-        Some(Form::Plain(Op::Prepare))
-    } else if word == b"pause".as_slice() {
-        Some(Form::Plain(Op::Pause))
-    } else if word == b"die".as_slice() {
-        Some(Form::Counted(Op::Die(0), 1_000_000))
-    } else {
-        None
-    }
-}
+const READER_OPS: [(&[u8], Form); 8] = [
+    (b"read", Form::Counted(Op::Read(0), FRAMES)),
+    (b"start", Form::Plain(Op::Start)),
+    (b"sync", Form::Plain(Op::Sync)),
+    (b"avail", Form::Plain(Op::Avail)),
+    (b"drop", Form::Plain(Op::Drop)),
+    (b"prepare", Form::Plain(Op::Prepare)),
+    (b"pause", Form::Plain(Op::Pause)),
+    (b"die", Form::Counted(Op::Die(0), STEPS)),
+];
 
 /// What an actor can be asked for by a word.
 fn form_of(actor: Actor, word: &[u8]) -> Option<Form>
     ensures { result ≡ row_of (ops_of actor) word.now }
 {
     match actor {
-        Actor::Card => card_op(word),
-        Actor::Client(_) => client_op(word),
-        Actor::Reader(_) => reader_op(word),
+        Actor::Card => row_of(&CARD_OPS, word),
+        Actor::Client(_) => row_of(&CLIENT_OPS, word),
+        Actor::Reader(_) => row_of(&READER_OPS, word),
     }
 }
 
