@@ -1,5 +1,6 @@
 pub mod Words
 pub mod LineWords
+pub mod OpTexts
 pub mod Pairs
 pub mod Ranges
 pub mod Kept

@@ -1,5 +1,5 @@
 -- The lines of a phase: what each actor can be asked for, by which words.
-use Rattle.std.specs.Prelude.{ℕ, List, [], ◌∷◌, ◌++◌, codes, Result, Ok}
+use Rattle.std.specs.Prelude.{ℕ, List, [], ◌∷◌, ◌++◌, codes, Option, Some, None, Result, Ok}
 use Rattle.std.specs.Fmt.{decimal}
 use Rattle.lab_script.specs.declared.error.ScriptWhy.{ScriptWhy}
 use Rattle.lab_script.specs.declared.error.ScriptWhy.TheVariants as why
@@ -107,3 +107,38 @@ op_text op.Rewindable = codes "rewindable"
 op_text (op.Die n) = counted (codes "die") n
 op_text op.Opens = codes "open"
 op_text op.Closes = codes "close"
+
+-- the word of an op
+abbrev pub op_word : Op → List ℕ
+op_word (op.Play n) = codes "play"
+op_word op.Unplug = codes "unplug"
+op_word (op.Write n) = codes "write"
+op_word (op.Read n) = codes "read"
+op_word op.Start = codes "start"
+op_word op.Sync = codes "sync"
+op_word op.Avail = codes "avail"
+op_word op.Delay = codes "delay"
+op_word op.Drain = codes "drain"
+op_word op.Drop = codes "drop"
+op_word op.Prepare = codes "prepare"
+op_word op.Pause = codes "pause"
+op_word op.Resume = codes "resume"
+op_word (op.Rewind n) = codes "rewind"
+op_word op.Rewindable = codes "rewindable"
+op_word (op.Die n) = codes "die"
+op_word op.Opens = codes "open"
+op_word op.Closes = codes "close"
+
+-- the number after an op's word, where it has one
+abbrev pub op_count : Op → Option ℕ
+op_count (op.Play n) = Some n
+op_count (op.Write n) = Some n
+op_count (op.Read n) = Some n
+op_count (op.Rewind n) = Some n
+op_count (op.Die n) = Some n
+op_count other = None
+
+-- a space and a number, where there is one
+abbrev pub count_text : Option ℕ → List ℕ
+count_text None = []
+count_text (Some n) = 32 ∷ decimal n

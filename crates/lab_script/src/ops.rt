@@ -3,7 +3,7 @@ ghost use Rattle.std.specs.Prelude.{◌≡◌, ◌≤◌, ◌++◌, OnOk, string
 ghost use Rattle.lab_script.specs.Causes.{Gives};
 ghost use Rattle.lab_script.specs.Keys.{row_of};
 ghost use Rattle.lab_script.specs.Lexing.{words_between};
-ghost use Rattle.lab_script.specs.Ops.{ops_of, with_count, op_with, op_of, op_text, played_by};
+ghost use Rattle.lab_script.specs.Ops.{ops_of, with_count, op_with, op_of, op_word, op_count, count_text, op_text, played_by};
 
 use crate::causes::{end_of, first_of};
 use crate::error::ScriptWhy;
@@ -127,32 +127,61 @@ pub fn played_by(op: Op) -> u32
     }
 }
 
+/// The word of an op, as a script has it.
+fn op_word(op: Op) -> &'static str
+    ensures { result.now ≡ op_word op }
+{
+    match op {
+        Op::Play(_) => "play",
+        Op::Unplug => "unplug",
+        Op::Write(_) => "write",
+        Op::Read(_) => "read",
+        Op::Start => "start",
+        Op::Sync => "sync",
+        Op::Avail => "avail",
+        Op::Delay => "delay",
+        Op::Drain => "drain",
+        Op::Drop => "drop",
+        Op::Prepare => "prepare",
+        Op::Pause => "pause",
+        Op::Resume => "resume",
+        Op::Rewind(_) => "rewind",
+        Op::Rewindable => "rewindable",
+        Op::Die(_) => "die",
+        Op::Opens => "open",
+        Op::Closes => "close",
+    }
+}
+
+/// The number after an op's word, where it has one.
+fn op_count(op: Op) -> Option<u32>
+    ensures { result ≡ op_count op }
+{
+    match op {
+        Op::Play(n) | Op::Write(n) | Op::Read(n) | Op::Rewind(n) | Op::Die(n) => Some(n),
+        _ => None,
+    }
+}
+
+/// Appends a space and a number to a text, where there is one.
+fn push_count(count: Option<u32>, text: &mut String) -> Result<(), AllocError>
+    ensures { OnOk result (string_bytes text.new ≡ string_bytes text.old ++ count_text count) }
+{
+    match count {
+        Some(n) => write!(text, " {n}"),
+        None => Ok(()),
+    }
+}
+
 /// Appends the words of an op to a text, as a script has them.
 ///
 /// The one error is that memory ran out.
+#[tactic(auto, using(crate::proofs::OpTexts::op_text_appended))]
 pub fn push_op(op: Op, text: &mut String) -> Result<(), AllocError>
     ensures { OnOk result (string_bytes text.new ≡ string_bytes text.old ++ op_text op) }
 {
-    match op {
-        Op::Play(n) => write!(text, "play {n}"),
-        Op::Unplug => write!(text, "unplug"),
-        Op::Write(n) => write!(text, "write {n}"),
-        Op::Read(n) => write!(text, "read {n}"),
-        Op::Start => write!(text, "start"),
-        Op::Sync => write!(text, "sync"),
-        Op::Avail => write!(text, "avail"),
-        Op::Delay => write!(text, "delay"),
-        Op::Drain => write!(text, "drain"),
-        Op::Drop => write!(text, "drop"),
-        Op::Prepare => write!(text, "prepare"),
-        Op::Pause => write!(text, "pause"),
-        Op::Resume => write!(text, "resume"),
-        Op::Rewind(n) => write!(text, "rewind {n}"),
-        Op::Rewindable => write!(text, "rewindable"),
-        Op::Die(n) => write!(text, "die {n}"),
-        Op::Opens => write!(text, "open"),
-        Op::Closes => write!(text, "close"),
-    }
+    text.push_str(op_word(op))?;
+    push_count(op_count(op), text)
 }
 
 /// Appends the words of an op to the bytes of a text, as a script has them.
