@@ -8,55 +8,45 @@ use crate::error::ReportWhy;
 use crate::numbers::{decimal_of, next_number, number_or_dash_at};
 use crate::row::Answer;
 use crate::words::{space_of, word_of};
+use lab_script::row_of;
 use pcm_states::State;
 use snd_base::{PcmError, Why, XrunWhy};
+
+/// The answers of one word.
+const PLAIN_ANSWERS: [(&[u8], Answer); 7] = [
+    (b"ok", Answer::Done),
+    (b"EBADFD", Answer::Failed(PcmError::BadState)),
+    (b"EAGAIN", Answer::Failed(PcmError::Again)),
+    (b"ENODEV", Answer::Failed(PcmError::NoDevice)),
+    (b"EINVAL", Answer::Failed(PcmError::Invalid(Why::Config))),
+    (b"EIO", Answer::Failed(PcmError::NotSupported)),
+    (b"stopped", Answer::Failed(PcmError::Stopped)),
+];
+
+/// The states that a row can have, by their names.
+const STATES: [(&[u8], State); 8] = [
+    (b"OPEN", State::Open),
+    (b"SETUP", State::Setup),
+    (b"PREPARED", State::Prepared),
+    (b"RUNNING", State::Running),
+    (b"XRUN", State::Xrun),
+    (b"DRAINING", State::Draining),
+    (b"PAUSED", State::Paused),
+    (b"DISCONNECTED", State::Disconnected),
+];
 
 /// An answer of one word.
 fn plain_answer(word: &[u8]) -> Option<Answer>
     ensures { result ≡ row_of plain_answers word.now }
 {
-    if word == b"ok".as_slice() {
-        Some(Answer::Done)
-    } else if word == b"EBADFD".as_slice() {
-        Some(Answer::Failed(PcmError::BadState))
-    } else if word == b"EAGAIN".as_slice() {
-        Some(Answer::Failed(PcmError::Again))
-    } else if word == b"ENODEV".as_slice() {
-        Some(Answer::Failed(PcmError::NoDevice))
-    } else if word == b"EINVAL".as_slice() {
-        Some(Answer::Failed(PcmError::Invalid(Why::Config)))
-    } else if word == b"EIO".as_slice() {
-        Some(Answer::Failed(PcmError::NotSupported))
-    } else if word == b"stopped".as_slice() {
-        Some(Answer::Failed(PcmError::Stopped))
-    } else {
-        None
-    }
+    row_of(&PLAIN_ANSWERS, word)
 }
 
 /// The state of this name.
 fn state_of(word: &[u8]) -> Option<State>
     ensures { result ≡ row_of states word.now }
 {
-    if word == b"OPEN".as_slice() {
-        Some(State::Open)
-    } else if word == b"SETUP".as_slice() {
-        Some(State::Setup)
-    } else if word == b"PREPARED".as_slice() {
-        Some(State::Prepared)
-    } else if word == b"RUNNING".as_slice() {
-        Some(State::Running)
-    } else if word == b"XRUN".as_slice() {
-        Some(State::Xrun)
-    } else if word == b"DRAINING".as_slice() {
-        Some(State::Draining)
-    } else if word == b"PAUSED".as_slice() {
-        Some(State::Paused)
-    } else if word == b"DISCONNECTED".as_slice() {
-        Some(State::Disconnected)
-    } else {
-        None
-    }
+    row_of(&STATES, word)
 }
 
 /// `avail A`, after its word.
