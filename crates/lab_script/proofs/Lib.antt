@@ -1,6 +1,7 @@
 pub mod Words
 pub mod LineWords
 pub mod OpTexts
+pub mod Checks
 pub mod Pairs
 pub mod Ranges
 pub mod Kept

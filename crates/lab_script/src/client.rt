@@ -1,44 +1,52 @@
 //! The lines of clients and readers.
 ghost use Rattle.std.specs.Prelude.{◌≡◌, ◌<◌, IfOk, vec_len};
 ghost use Rattle.lab_script.specs.Causes.{Gives};
-ghost use Rattle.lab_script.specs.Draft.{client_of, reader_of, view};
+ghost use Rattle.lab_script.specs.Draft.{client_of, client_allowed, client_line, reader_of, reader_allowed, reader_line, view};
 ghost use Rattle.lab_script.specs.Lexing.{words_between};
 
 use crate::causes::{first_of, refuse_if};
 use crate::draft::Draft;
 use crate::error::ScriptWhy;
 use crate::keys::{Kind, check_keys, given};
+use crate::name::{FileName, Name};
 use crate::named::named;
-use crate::script::{ClientLine, ReaderLine};
+use crate::script::{CardLine, ClientLine, ReaderLine};
 use crate::values::{bindings_where, number_given, read_file, read_name, small_where, stop_given};
 use std::alloc::Global;
 
-/// The client of what follows `client`, on the line of this number.
-#[tactic(auto, unfolding(crate::specs::Draft::client_of))]
-pub fn read_client(
-    alloc: Global,
-    draft: &Draft,
-    number: u32,
-    words: &[u8],
-) -> Result<ClientLine, ScriptWhy>
-    ensures value { Gives (λ c. c) result
-        (client_of (view draft.now) number (words_between words.now)) }
-    ensures room { IfOk result (λ c. vec_len draft.now.clients < 64) }
+/// Checks the keys of a client's line, and that one more client of this name can be declared.
+#[tactic(auto, unfolding(crate::specs::Draft::client_allowed))]
+fn check_client(alloc: Global, draft: &Draft, word: &[u8], keys: &[u8]) -> Result<(), ScriptWhy>
+    ensures value { Gives (λ u. u) result
+        (client_allowed (view draft.now) word.now (words_between keys.now)) }
+    ensures room { IfOk result (λ u. vec_len draft.now.clients < 64) }
 {
-    let (word, words) = first_of(words)?;
-    let name = read_name(alloc, word)?;
-    let (path, keys) = first_of(words)?;
-    let file = read_file(alloc, path)?;
     check_keys(alloc, Kind::Client, keys)?;
     refuse_if(named(draft, word).is_some(), ScriptWhy::NameTwice)?;
     if draft.clients.len() >= 64 {
         return Err(ScriptWhy::TooMany);
     }
-    let lead = number_given(b"lead", u64::from(draft.card.period), keys);
-    if lead >= u64::from(draft.card.ring) {
+    Ok(())
+}
+
+/// The client of this name, file and keys on a card.
+#[tactic(auto, unfolding(crate::specs::Draft::client_line))]
+fn client_line(
+    alloc: Global,
+    card: &CardLine,
+    number: u32,
+    name: Name,
+    file: FileName,
+    keys: &[u8],
+) -> Result<ClientLine, ScriptWhy>
+    ensures { Gives (λ c. c) result
+        (client_line card.now number name file (words_between keys.now)) }
+{
+    let lead = number_given(b"lead", u64::from(card.period), keys);
+    if lead >= u64::from(card.ring) {
         return Err(ScriptWhy::Fit);
     }
-    let bindings = bindings_where(alloc, draft.card.channels, given(b"bindings", keys))?;
+    let bindings = bindings_where(alloc, card.channels, given(b"bindings", keys))?;
     Ok(ClientLine {
         number,
         name,
@@ -53,8 +61,67 @@ pub fn read_client(
     })
 }
 
+/// The client of what follows `client`, on the line of this number.
+#[tactic(auto, using(crate::proofs::Checks::client_of_steps))]
+pub fn read_client(
+    alloc: Global,
+    draft: &Draft,
+    number: u32,
+    words: &[u8],
+) -> Result<ClientLine, ScriptWhy>
+    ensures value { Gives (λ c. c) result
+        (client_of (view draft.now) number (words_between words.now)) }
+    ensures room { IfOk result (λ c. vec_len draft.now.clients < 64) }
+{
+    let (word, words) = first_of(words)?;
+    let name = read_name(alloc, word)?;
+    let (path, keys) = first_of(words)?;
+    let file = read_file(alloc, path)?;
+    check_client(alloc, draft, word, keys)?;
+    client_line(alloc, &draft.card, number, name, file, keys)
+}
+
+/// Checks the keys of a reader's line, and that one more reader of this name can be declared.
+#[tactic(auto, unfolding(crate::specs::Draft::reader_allowed))]
+fn check_reader(alloc: Global, draft: &Draft, word: &[u8], keys: &[u8]) -> Result<(), ScriptWhy>
+    ensures value { Gives (λ u. u) result
+        (reader_allowed (view draft.now) word.now (words_between keys.now)) }
+    ensures room { IfOk result (λ u. vec_len draft.now.readers < 64) }
+{
+    check_keys(alloc, Kind::Reader, keys)?;
+    refuse_if(named(draft, word).is_some(), ScriptWhy::NameTwice)?;
+    if draft.readers.len() >= 64 {
+        return Err(ScriptWhy::TooMany);
+    }
+    Ok(())
+}
+
+/// The reader of this name and keys, on a card of so many channels.
+#[tactic(auto, unfolding(crate::specs::Draft::reader_line))]
+fn reader_line(
+    alloc: Global,
+    channels: u8,
+    number: u32,
+    name: Name,
+    keys: &[u8],
+) -> Result<ReaderLine, ScriptWhy>
+    ensures { Gives (λ r. r) result
+        (reader_line channels number name (words_between keys.now)) }
+{
+    let bindings = bindings_where(alloc, channels, given(b"bindings", keys))?;
+    Ok(ReaderLine {
+        number,
+        name,
+        bindings,
+        buffer: small_where(b"buffer", keys),
+        period: small_where(b"period", keys),
+        start: number_given(b"start", 1, keys),
+        stop: stop_given(keys),
+    })
+}
+
 /// The reader of what follows `reader`, on the line of this number.
-#[tactic(auto, unfolding(crate::specs::Draft::reader_of))]
+#[tactic(auto, using(crate::proofs::Checks::reader_of_steps))]
 pub fn read_reader(
     alloc: Global,
     draft: &Draft,
@@ -67,19 +134,6 @@ pub fn read_reader(
 {
     let (word, keys) = first_of(words)?;
     let name = read_name(alloc, word)?;
-    check_keys(alloc, Kind::Reader, keys)?;
-    refuse_if(named(draft, word).is_some(), ScriptWhy::NameTwice)?;
-    if draft.readers.len() >= 64 {
-        return Err(ScriptWhy::TooMany);
-    }
-    let bindings = bindings_where(alloc, draft.card.channels, given(b"bindings", keys))?;
-    Ok(ReaderLine {
-        number,
-        name,
-        bindings,
-        buffer: small_where(b"buffer", keys),
-        period: small_where(b"period", keys),
-        start: number_given(b"start", 1, keys),
-        stop: stop_given(keys),
-    })
+    check_reader(alloc, draft, word, keys)?;
+    reader_line(alloc, draft.card.channels, number, name, keys)
 }

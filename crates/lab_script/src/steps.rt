@@ -1,7 +1,7 @@
 //! What one more line makes of a script that is read as far as that line.
-ghost use Rattle.std.specs.Prelude.{◌≡◌, ◌≤◌};
+ghost use Rattle.std.specs.Prelude.{◌≡◌, ◌≤◌, IfOk};
 ghost use Rattle.lab_script.specs.Causes.{Gives};
-ghost use Rattle.lab_script.specs.Draft.{view, with_client, with_reader, border_of, with_open, with_close, with_phase, with_end, with_line, with_words, outside, inside, is_beside, ends_lap};
+ghost use Rattle.lab_script.specs.Draft.{view, with_client, with_reader, border_of, with_open, with_close, with_phase, with_end, line_allowed, with_line, with_words, outside, inside, is_beside, ends_lap};
 ghost use Rattle.lab_script.specs.Keys.{row_of};
 ghost use Rattle.lab_script.specs.Draft.{keywords};
 ghost use Rattle.lab_script.specs.Script.{is_of_card, is_unplug};
@@ -137,19 +137,28 @@ fn ends_lap(card: &CardLine, played: u64) -> bool
     4_294_967_295 * ring < first + played + ring
 }
 
-/// `ACTOR OP`, in a phase.
-#[tactic(auto, unfolding(crate::specs::Draft::with_line))]
-fn add_line(draft: &mut Draft, number: u32, actor: Actor, words: &[u8]) -> Result<(), ScriptWhy>
-    ensures { Gives (λ u. view draft.new) result (with_line (view draft.old) number actor (words_between words.now)) }
+/// Checks that a line of a phase is allowed, after which the card plays so many frames.
+#[tactic(auto, unfolding(crate::specs::Draft::line_allowed))]
+fn check_line(draft: &Draft, actor: Actor, op: Op, played: u64) -> Result<(), ScriptWhy>
+    ensures value { Gives (λ u. u) result (line_allowed (view draft.now) actor op played) }
+    ensures frames { IfOk result (λ u. played ≤ 4194304) }
 {
-    let op = op_of(actor, words)?;
-    let played = u64::from(draft.played) + u64::from(played_by(op));
     refuse_if(is_beside(draft.lines.as_slice(), op), ScriptWhy::Alone)?;
     refuse_if(draft.gone && is_of_card(actor), ScriptWhy::Unplugged)?;
     if played > 4_194_304 {
         return Err(ScriptWhy::Frames);
     }
-    refuse_if(ends_lap(&draft.card, played), ScriptWhy::LapEnd)?;
+    refuse_if(ends_lap(&draft.card, played), ScriptWhy::LapEnd)
+}
+
+/// `ACTOR OP`, in a phase.
+#[tactic(auto, using(crate::proofs::Checks::with_line_steps))]
+fn add_line(draft: &mut Draft, number: u32, actor: Actor, words: &[u8]) -> Result<(), ScriptWhy>
+    ensures { Gives (λ u. view draft.new) result (with_line (view draft.old) number actor (words_between words.now)) }
+{
+    let op = op_of(actor, words)?;
+    let played = u64::from(draft.played) + u64::from(played_by(op));
+    check_line(draft, actor, op, played)?;
     draft.lines.push(Line { number, actor, op })?;
     draft.played = played as u32;
     draft.gone = draft.gone || is_unplug(op);

@@ -87,29 +87,44 @@ fn check_number_or_never(least: u64, most: u64, word: &[u8]) -> Result<(), Scrip
     Ok(())
 }
 
+/// A word that must be a number from least to most.
+fn check_number(least: u64, most: u64, word: &[u8]) -> Result<(), ScriptWhy>
+    ensures { result ≡ value_of (takes.Number least most) word.now }
+{
+    number_in(least, most, word)?;
+    Ok(())
+}
+
+/// A word that must be numbers of channels, joined by commas.
+fn check_numbers(alloc: Global, word: &[u8]) -> Result<(), ScriptWhy>
+    ensures { Gives (λ u. u) result (value_of takes.Bindings word.now) }
+{
+    read_numbers(alloc, word)?;
+    Ok(())
+}
+
+/// A word that must be `dmix` or `dshare`.
+fn check_share(word: &[u8]) -> Result<(), ScriptWhy>
+    ensures { result ≡ value_of takes.Share word.now }
+{
+    if word == b"dmix".as_slice() {
+        return Ok(());
+    }
+    refuse_if(word != b"dshare".as_slice(), ScriptWhy::Word)
+}
+
 /// Whether a word can follow a key that takes this.
 pub fn check_value(alloc: Global, takes: Takes, word: &[u8]) -> Result<(), ScriptWhy>
     ensures { Gives (λ u. u) result (value_of takes word.now) }
 {
     match takes {
-        Takes::Number(least, most) => {
-            number_in(least, most, word)?;
-        }
-        Takes::NumberOrNever(least, most) => {
-            check_number_or_never(least, most, word)?;
-        }
-        Takes::File => refuse_if(!is_file(word), ScriptWhy::File)?,
-        Takes::Bindings => {
-            read_numbers(alloc, word)?;
-        }
-        Takes::Share => {
-            if word != b"dmix".as_slice() {
-                refuse_if(word != b"dshare".as_slice(), ScriptWhy::Word)?;
-            }
-        }
-        Takes::Plug => refuse_if(word != b"linear".as_slice(), ScriptWhy::Word)?,
+        Takes::Number(least, most) => check_number(least, most, word),
+        Takes::NumberOrNever(least, most) => check_number_or_never(least, most, word),
+        Takes::File => refuse_if(!is_file(word), ScriptWhy::File),
+        Takes::Bindings => check_numbers(alloc, word),
+        Takes::Share => check_share(word),
+        Takes::Plug => refuse_if(word != b"linear".as_slice(), ScriptWhy::Word),
     }
-    Ok(())
 }
 
 /// The number that a word means, or 0.

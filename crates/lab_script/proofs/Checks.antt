@@ -1,0 +1,69 @@
+-- A line that is checked in steps, with one check for some of them, is read as by all of them in turn.
+use Rattle.std.proofs.Common.{◌≡◌, ℕ, ◌+◌, List, [], ◌∷◌, ◌++◌, length, refl, ◌&&◌, ◌||◌, is_some, nat_le, nat_lt, Result, Ok, Err}
+use Rattle.lab_script.specs.declared.error.ScriptWhy.{ScriptWhy}
+use Rattle.lab_script.specs.declared.error.ScriptWhy.TheVariants as why
+use Rattle.lab_script.specs.declared.keys.Kind.TheVariants as kind
+use Rattle.lab_script.specs.declared.line.Actor.{Actor}
+use Rattle.lab_script.specs.declared.line.Op.{Op}
+use Rattle.lab_script.specs.Causes.{◌>>=◌, refuse_if, first_of}
+use Rattle.lab_script.specs.Draft.{State, client_of, client_allowed, client_line, reader_of, reader_allowed, reader_line, line_allowed, with_line, named, is_beside, ends_lap}
+use Rattle.lab_script.specs.Keys.{keys_from, name_of, file_of}
+use Rattle.lab_script.specs.Ops.{op_of, played_by}
+use Rattle.lab_script.specs.Script.{is_of_card, is_unplug}
+
+-- after a value, what follows may be said in another way
+same_after : {A B : Type 0} (r : Result A ScriptWhy) (f g : A → Result B ScriptWhy) → ((x : A) → f x ≡ g x) → (r >>= f) ≡ (r >>= g)
+same_after (Ok x) f g same = same x
+same_after (Err w) f g same = refl
+
+-- what follows three checks
+after_three : {A : Type 0} (a b c : Result (Unit {0}) ScriptWhy) (g : Unit {0} → Result A ScriptWhy)
+    → (a >>= (λ u. b >>= (λ v. c >>= g))) ≡ ((a >>= (λ u. b >>= (λ v. c))) >>= g)
+after_three (Ok u) (Ok v) c g = refl
+after_three (Ok u) (Err w) c g = refl
+after_three (Err w) b c g = refl
+
+-- what follows four checks
+after_four : {A : Type 0} (a b c d : Result (Unit {0}) ScriptWhy) (g : Unit {0} → Result A ScriptWhy)
+    → (a >>= (λ u. b >>= (λ v. c >>= (λ w. d >>= g)))) ≡ ((a >>= (λ u. b >>= (λ v. c >>= (λ w. d)))) >>= g)
+after_four (Ok u) b c d g = after_three b c d g
+after_four (Err w) b c d g = refl
+
+-- a client's line is its name and file, what is allowed, and its keys
+pub client_of_steps : (s : State) (number : ℕ) (words : List (List ℕ))
+    → client_of s number words
+    ≡ (first_of words >>= (λ first. name_of first.0 >>= (λ name. first_of first.1 >>= (λ second. file_of second.0 >>= (λ file.
+    client_allowed s first.0 second.1 >>= (λ u. client_line s.card number name file second.1))))))
+unfolding client_of client_allowed client_line
+client_of_steps s number words =
+    same_after (first_of words) _ _ (λ first. same_after (name_of first.0) _ _ (λ name.
+    same_after (first_of first.1) _ _ (λ second. same_after (file_of second.0) _ _ (λ file.
+    after_three (keys_from kind.Client [] second.1) (refuse_if (is_some (named s first.0)) why.NameTwice)
+    (refuse_if (nat_le 64 (length s.clients)) why.TooMany) (λ u. client_line s.card number name file second.1)))))
+
+-- a reader's line is its name, what is allowed, and its keys
+pub reader_of_steps : (s : State) (number : ℕ) (words : List (List ℕ))
+    → reader_of s number words
+    ≡ (first_of words >>= (λ first. name_of first.0 >>= (λ name.
+    reader_allowed s first.0 first.1 >>= (λ u. reader_line s.card.channels number name first.1))))
+unfolding reader_of reader_allowed reader_line
+reader_of_steps s number words =
+    same_after (first_of words) _ _ (λ first. same_after (name_of first.0) _ _ (λ name.
+    after_three (keys_from kind.Reader [] first.1) (refuse_if (is_some (named s first.0)) why.NameTwice)
+    (refuse_if (nat_le 64 (length s.readers)) why.TooMany) (λ u. reader_line s.card.channels number name first.1)))
+
+-- the state after a line of a phase that is allowed
+abbrev pub line_added : State → ℕ → Actor → Op → State
+line_added s number actor asked =
+    record s { lines = s.lines ++ (record { number = number; actor = actor; op = asked }) ∷ []; played = s.played + played_by asked; gone = s.gone || is_unplug asked }
+
+-- a line of a phase is what is asked for, and what is allowed
+pub with_line_steps : (s : State) (number : ℕ) (actor : Actor) (words : List (List ℕ))
+    → with_line s number actor words
+    ≡ (op_of actor words >>= (λ asked. line_allowed s actor asked (s.played + played_by asked) >>= (λ u. Ok (line_added s number actor asked))))
+unfolding with_line line_allowed
+with_line_steps s number actor words =
+    same_after (op_of actor words) _ _ (λ asked.
+    after_four (refuse_if (is_beside s.lines asked) why.Alone) (refuse_if (s.gone && is_of_card actor) why.Unplugged)
+    (refuse_if (nat_lt 4194304 (s.played + played_by asked)) why.Frames) (refuse_if (ends_lap s.card (s.played + played_by asked)) why.LapEnd)
+    (λ u. Ok (line_added s number actor asked)))
