@@ -2,6 +2,7 @@ pub mod Parts
 pub mod Actors
 pub mod Marks
 pub mod RowLine
+pub mod Ends
 pub mod Read
 pub mod Printed
 pub mod PrintedRows

@@ -1,6 +1,7 @@
 -- The report that a text is, or its first refusal.
 use Rattle.std.specs.Prelude.{◌≡◌, ℕ, ◌+◌, ◌==◌, ◌&&◌, Bool, true, false, List, [], ◌∷◌, ◌++◌, length, codes, bytes_eq, Option, Some, None, Result, Ok, Err, min, if◌then◌else◌, slice_get}
 use Rattle.std.specs.List.{slice_split, position}
+use Rattle.pcm_states.specs.declared.states.State.{State as RowState}
 use Rattle.snd_base.specs.declared.places.Segment.{Segment}
 use Rattle.lab_script.specs.declared.script.Script.{Script}
 use Rattle.lab_script.specs.Draft.{is_client, is_reader}
@@ -34,6 +35,15 @@ view d = record { head = d.head; rows = d.rows.items; segments = d.segments.item
 abbrev pub nothing : State
 nothing = record { head = false; rows = []; segments = []; runs = []; played = None; ended = false }
 
+-- the state and the position at the end of a row
+unfoldable pub row_end : List ℕ → Result (RowState × Option ℕ) ReportWhy
+row_end rest = do
+  state ← state_at rest
+  more ← space_of state.1
+  seen ← number_or_dash_at more
+  end ← feed_of seen.1
+  Ok (state.0, seen.0)
+
 -- the row of a line that tells of this request
 unfoldable pub row_at : Script → Request → List ℕ → Result Row ReportWhy
 row_at script request line = do
@@ -53,6 +63,16 @@ client_at script rest = (space_of rest) >>= (λ more. (word_of more) >>= (λ wor
 -- the reader that is named after a space, by its number, and the rest
 abbrev pub reader_at : Script → List ℕ → Result (ℕ × List ℕ) ReportWhy
 reader_at script rest = (space_of rest) >>= (λ more. (word_of more) >>= (λ word. (some_or why.Word (position (is_reader word.0) script.readers)) >>= (λ n. Ok (n, word.1))))
+
+-- the numbers of a segment, at the end of its line
+unfoldable pub segment_end : List ℕ → Result Segment ReportWhy
+segment_end rest = do
+  source ← next_number most_frames rest
+  card ← next_number most_frames source.1
+  whole ← next_number most_frames card.1
+  part ← next_number 255 whole.1
+  end ← feed_of part.1
+  Ok (record { source = source.0; card = card.0; whole = whole.0; part = part.0 })
 
 -- `segment NAME SOURCE CARD WHOLE PART`, after its first word
 unfoldable pub segment_at : Script → List ℕ → Result (ℕ × Segment) ReportWhy

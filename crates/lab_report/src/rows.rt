@@ -3,7 +3,7 @@ ghost use Rattle.std.specs.Prelude.{◌≡◌, length};
 ghost use Rattle.std.specs.List.{slice_split};
 ghost use Rattle.lab_script.specs.Limits.{IsActor};
 ghost use Rattle.lab_report.specs.Causes.{Gives};
-ghost use Rattle.lab_report.specs.Reading.{row_at};
+ghost use Rattle.lab_report.specs.Reading.{row_at, row_end};
 ghost use Rattle.lab_report.specs.Text.{front_text};
 ghost use Rattle.lab_report.specs.Words.{is_space, expect_words};
 
@@ -15,6 +15,7 @@ use crate::row::Row;
 use crate::text::push_front;
 use crate::words::{expect_words, feed_of, space_of};
 use lab_script::Script;
+use pcm_states::State;
 
 /// What is left of a line after the front of a row that tells of this request. The front is printed in a text whose
 /// memory is used again from row to row.
@@ -33,8 +34,20 @@ fn after_front<'a>(
     expect_words(front.as_bytes(), line)
 }
 
+/// The state and the position at the end of a row, which the line feed must follow.
+#[tactic(auto, unfolding(crate::specs::Reading::row_end))]
+fn row_end(rest: &[u8]) -> Result<(State, Option<u64>), ReportWhy>
+    ensures { Gives (λ e. e) result (row_end rest.now) }
+{
+    let (state, rest) = state_at(rest)?;
+    let rest = space_of(rest)?;
+    let (seen, rest) = number_or_dash_at(rest)?;
+    feed_of(rest)?;
+    Ok((state, seen))
+}
+
 /// The row of a line that tells of this request.
-#[tactic(auto, unfolding(crate::specs::Reading::row_at))]
+#[tactic(auto, using(crate::proofs::Ends::row_at_steps))]
 pub fn row_at(
     front: &mut String,
     script: &Script,
@@ -47,10 +60,7 @@ pub fn row_at(
     let rest = after_front(front, script, request, line)?;
     let (answer, rest) = answer_at(rest)?;
     let rest = space_of(rest)?;
-    let (state, rest) = state_at(rest)?;
-    let rest = space_of(rest)?;
-    let (seen, rest) = number_or_dash_at(rest)?;
-    feed_of(rest)?;
+    let (state, seen) = row_end(rest)?;
     Ok(Row {
         phase: request.phase,
         actor: request.actor,

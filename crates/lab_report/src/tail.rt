@@ -3,7 +3,7 @@ ghost use Rattle.std.specs.Prelude.{◌≡◌, ◌≤◌, ◌<◌, length, IfOk}
 ghost use Rattle.std.specs.List.{position};
 ghost use Rattle.lab_script.specs.Draft.{is_client, is_reader};
 ghost use Rattle.lab_report.specs.Causes.{Gives};
-ghost use Rattle.lab_report.specs.Reading.{client_at, reader_at, segment_at, run_at, played_at};
+ghost use Rattle.lab_report.specs.Reading.{client_at, reader_at, segment_at, segment_end, run_at, played_at};
 
 use crate::error::ReportWhy;
 use crate::numbers::next_number;
@@ -55,40 +55,33 @@ fn reader_at<'a>(script: &Script, rest: &'a [u8]) -> Result<(usize, &'a [u8]), R
     }
 }
 
-/// The client and segment of `segment NAME SOURCE CARD WHOLE PART`, after its first word.
-#[tactic(auto, unfolding(crate::specs::Reading::segment_at))]
-pub fn segment_at(script: &Script, rest: &[u8]) -> Result<(u32, Segment), ReportWhy>
-    requires { length script.now.clients ≤ 64 }
-    ensures { Gives (λ s. s) result (segment_at script.now rest.now) }
+/// The segment of `SOURCE CARD WHOLE PART`, at the end of a line.
+#[tactic(auto, unfolding(crate::specs::Reading::segment_end))]
+fn segment_end(rest: &[u8]) -> Result<Segment, ReportWhy>
+    ensures { Gives (λ s. s) result (segment_end rest.now) }
 {
-    let (client, rest) = client_at(script, rest)?;
     let (source, rest) = next_number(u64::MAX, rest)?;
     let (card, rest) = next_number(u64::MAX, rest)?;
     let (whole, rest) = next_number(u64::MAX, rest)?;
     let (part, rest) = next_number(255, rest)?;
     feed_of(rest)?;
-    Ok((
-        client as u32,
-        Segment {
-            source,
-            card,
-            whole,
-            part: part as u8,
-        },
-    ))
+    Ok(Segment {
+        source,
+        card,
+        whole,
+        part: part as u8,
+    })
 }
 
-/// The reader, the first frame and the number of frames of `run NAME FIRST COUNT`, after its first word.
-#[tactic(auto, unfolding(crate::specs::Reading::run_at))]
-pub fn run_at(script: &Script, rest: &[u8]) -> Result<(u32, u64, u64), ReportWhy>
-    requires { length script.now.readers ≤ 64 }
-    ensures { Gives (λ r. r) result (run_at script.now rest.now) }
+/// The client and segment of `segment NAME SOURCE CARD WHOLE PART`, after its first word.
+#[tactic(auto, using(crate::proofs::Ends::segment_at_steps))]
+pub fn segment_at(script: &Script, rest: &[u8]) -> Result<(u32, Segment), ReportWhy>
+    requires { length script.now.clients ≤ 64 }
+    ensures { Gives (λ s. s) result (segment_at script.now rest.now) }
 {
-    let (reader, rest) = reader_at(script, rest)?;
-    let (first, rest) = next_number(u64::MAX, rest)?;
-    let (count, rest) = next_number(u64::MAX, rest)?;
-    feed_of(rest)?;
-    Ok((reader as u32, first, count))
+    let (client, rest) = client_at(script, rest)?;
+    let segment = segment_end(rest)?;
+    Ok((client as u32, segment))
 }
 
 /// The first frame and the number of frames of `played FIRST COUNT`, after its first word.
@@ -100,4 +93,15 @@ pub fn played_at(rest: &[u8]) -> Result<(u64, u64), ReportWhy>
     let (count, rest) = next_number(u64::MAX, rest)?;
     feed_of(rest)?;
     Ok((first, count))
+}
+
+/// The reader, the first frame and the number of frames of `run NAME FIRST COUNT`, after its first word.
+#[tactic(auto, using(crate::proofs::Ends::run_at_steps))]
+pub fn run_at(script: &Script, rest: &[u8]) -> Result<(u32, u64, u64), ReportWhy>
+    requires { length script.now.readers ≤ 64 }
+    ensures { Gives (λ r. r) result (run_at script.now rest.now) }
+{
+    let (reader, rest) = reader_at(script, rest)?;
+    let (first, count) = played_at(rest)?;
+    Ok((reader as u32, first, count))
 }
