@@ -9,6 +9,7 @@ use mir.Val.{SFits}
 use Rattle.std.proofs.lemmas.List.{get_or-set_other, get_or-set_same, length-set}
 use Rattle.std.proofs.lemmas.Bool.{cases_eq}
 use Rattle.std.proofs.Common.{append_assoc}
+use Rattle.atomic_table.specs.Seated.{TableId}
 use Rattle.atomic_table.specs.Table.{Allows, Me, step}
 use Rattle.snd_base.specs.declared.geometry.Geometry.{Geometry}
 use Rattle.snd_base.specs.PlaceLaws.{suc-le-end_frame}
@@ -24,13 +25,14 @@ use Rattle.mix_core.specs.Laid.{EndsIn, an_add, marked, marks_after, signed, sta
 use Rattle.mix_core.specs.Marks.{added_at, withdrawn_at}
 use Rattle.mix_core.specs.History.{Row}
 use Rattle.sum_table.specs.declared.seats.mix.MixSeat.{MixSeat}
+use Rattle.sum_table.specs.declared.seats.mix.RingSpot.{RingSpot}
 use Rattle.sum_table.specs.declared.view.Key.{Key}
 use Rattle.sum_table.specs.declared.view.View.{View}
 use Rattle.sum_table.specs.Exact.{BeginsWith, Exact, IsLaid}
 use Rattle.sum_table.specs.Known.{IsKnown, IsReach, IsNoted, greater, last_frame}
-use Rattle.sum_table.specs.Seats.{HasLaid, HasLocated, HasLost, HasNoted, MayLay, NotesRise, NotesRise-same, entry_by, view_of}
+use Rattle.sum_table.specs.Seats.{HasLaid, HasLocated, HasLost, HasNoted, IsRingSpot, MayLay, NotesRise, NotesRise-same, entry_by, view_of}
 use Rattle.sum_table.specs.Steps.{Finds, HoldsLast, IsStep, IsSumOf, IsWord, Lays, Makes, MakesLook, Notes, exchanged, in_row, located, looked, with_entry, with_note, with_position}
-use Rattle.ring_rule.specs.Words.{NotPast, index_of}
+use Rattle.ring_rule.specs.Words.{NotPast, index_of, words_of}
 use Rattle.sum_table.proofs.Keeps.{MayPut, exchanges, locates, looks, may_put}
 use Rattle.sum_table.proofs.Highs.{IsReach-added, IsReach-withdrawn, last_frame-has}
 use Rattle.sum_table.proofs.Kept.{IsHeldAt, IsLaid-later, held_each, held_laid, laid_more}
@@ -186,6 +188,16 @@ may_look s slots i f c in_range index =
     subst (λ x. Allows (Exact x) slots s.seat.id s.seat.me i (λ n. n) (looked (step slots i 0 0 none) s.seat.me)) s.same_ring.1
     (looks_at s.key slots s.seat.id s.seat.me i f c s.known.same_key s.known.lasts in_range index)
 
+-- the same, where the word is found in the ring that a seat's step is given
+pub ring_spot_room : (s : MixSeat) (f c : ℕ) (r : RingSpot) → IsRingSpot s f c r → r.ring.now.table_id.words ≡ words_of s.key.geometry
+ring_spot_room s f c r is = ap (λ (t : TableId). t.words) (is.table ∙ s.same_ring.0) ∙ s.same_ring.3
+
+pub ring_spot_looks : (s : MixSeat) (r : RingSpot) (f c : ℕ) → c < s.key.geometry.channels → IsRingSpot s f c r
+    → Allows (Exact r.ring.now.key) r.ring.now.table_id.slots s.seat.id s.seat.me r.spot.index (λ n. n) (looked (step r.ring.now.table_id.slots r.spot.index 0 0 none) s.seat.me)
+ring_spot_looks s r f c in_range is =
+    subst (λ x. Allows (Exact x) r.ring.now.table_id.slots s.seat.id s.seat.me r.spot.index (λ n. n) (looked (step r.ring.now.table_id.slots r.spot.index 0 0 none) s.seat.me))
+    (sym s.same_ring.1 ∙ sym is.key) (may_look s r.ring.now.table_id.slots r.spot.index f c in_range is.spot.index_is)
+
 -- a word that has room for one more sample
 pub record HasRoom (w : ℕ) (sample : ℤ) : Type 0 where
   pub count : count_of w < 255
@@ -305,6 +317,12 @@ may_exchange s kind slots i f c old new sample may stands index =
     let at_own : Goes (view_of s).key (index_of (view_of s).key.geometry f c) = exchanges slots s.seat.id s.seat.me (entry_by s kind f c sample) old new (to_put s kind f c old new sample may stands) in
     let at_key : Goes s.key (index_of s.key.geometry f c) = subst (λ (k : Key). Goes k (index_of k.geometry f c)) s.known.same_key at_own in
     subst (λ k. Goes k i) s.same_ring.1 (subst (Goes s.key) (sym index) at_key)
+
+pub ring_spot_exchanges : (s : MixSeat) (r : RingSpot) (kind : Kind) (f c old new : ℕ) (sample : ℤ) → IsRingSpot s f c r → MayExchange s kind f c old sample → StandsFor new (lap_of old) (count_of old + 1) (sum_of old +ℤ signed kind sample)
+    → Allows (Exact r.ring.now.key) r.ring.now.table_id.slots s.seat.id s.seat.me r.spot.index (λ n. either (n == old) new n) (exchanged (step r.ring.now.table_id.slots r.spot.index old new (some (entry_by s kind f c sample))) s.seat.me)
+ring_spot_exchanges s r kind f c old new sample is may stands =
+    subst (λ x. Allows (Exact x) r.ring.now.table_id.slots s.seat.id s.seat.me r.spot.index (λ n. either (n == old) new n) (exchanged (step r.ring.now.table_id.slots r.spot.index old new (some (entry_by s kind f c sample))) s.seat.me))
+    (sym s.same_ring.1 ∙ sym is.key) (may_exchange s kind r.ring.now.table_id.slots r.spot.index f c old new sample may stands is.spot.index_is)
 
 -- the greatest frame of joined lists
 greater-assoc : (a b c : Option ℕ) → greater (greater a b) c ≡ greater a (greater b c)

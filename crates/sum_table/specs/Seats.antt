@@ -27,12 +27,14 @@ use Rattle.mix_core.specs.OwnLaws.{standing-more}
 use Rattle.mix_core.specs.PortLaws.{AreRisingFrom-append, last_frame-append, standing-append_adds}
 use Rattle.mix_core.specs.Port.{AreRisingFrom, Lays, OnLate, OnWhole, PortView, ShowsFrom, last_frame}
 use Rattle.sum_table.specs.declared.seats.mix.MixSeat.{MixSeat}
+use Rattle.sum_table.specs.declared.seats.mix.RingSpot.{RingSpot}
 use Rattle.sum_table.specs.declared.view.Key.{Key}
 use Rattle.sum_table.specs.declared.view.View.{View}
 use Rattle.sum_table.specs.Exact.{BeginsWith}
 use Rattle.sum_table.specs.Known.{greater}
 use Rattle.sum_table.specs.Laid.{by_member, own}
 use Rattle.sum_table.specs.Steps.{Finds, IsStep, IsSumOf, Makes, MakesLook, in_row, sighting, with_entry, with_note, with_position}
+use Rattle.ring_rule.specs.Spots.{IsSpot}
 use Rattle.ring_rule.specs.Words.{index_of, rank}
 use Rattle.ring_rule.specs.NoteLaws.{NeverFall-joined, NeverFall-same}
 use Rattle.ring_rule.specs.Notes.{NeverFall}
@@ -91,6 +93,12 @@ pub record IsTurned (s t : MixSeat) (frame : ℕ) : Type 0 where
   pub places : t.places ≡ s.places
   pub marks : t.reach.marks ≡ s.reach.marks
   pub seen : t.seen ≡ s.seen
+
+-- a seat finds the word of a frame and channel there: it is the seat's ring, and the word's spot
+pub record IsRingSpot (s : MixSeat) (frame channel : ℕ) (r : RingSpot) : Type 0 where
+  pub table : r.ring.now.table_id ≡ ring_of s
+  pub key : r.ring.now.key ≡ s.key
+  pub spot : IsSpot s.key.geometry frame channel r.spot
 
 -- what is plain of a seat
 abbrev pub seat_view : MixSeat → PortView

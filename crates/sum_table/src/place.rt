@@ -3,12 +3,10 @@ ghost use Rattle.std.specs.Prelude.{◌≡◌, ◌+◌, ◌<◌, ◌≤◌, ◌�
 ghost use Rattle.snd_base.specs.Places.{IsFrom, lap};
 ghost use Rattle.mix_core.specs.Laid.{an_add};
 ghost use Rattle.mix_core.specs.Port.{ended_of};
-ghost use Rattle.ring_rule.specs.Spots.{IsSpot};
-ghost use Rattle.sum_table.specs.Seats.{CanAdd, LaysCounted, MayLay, SeatLays, cursor_of_seat, entry_by, geometry_of, member_of, seen_of};
+ghost use Rattle.sum_table.specs.Seats.{CanAdd, IsRingSpot, LaysCounted, MayLay, SeatLays, cursor_of_seat, entry_by, geometry_of, member_of, seen_of};
 
-use crate::seats::MixSeat;
+use crate::seats::{MixSeat, RingSpot};
 use mix_core::{Ended, Gate, Kind, Placed, StepKind, ask};
-use ring_rule::Spot;
 use snd_base::{PcmError, Steps};
 use std::sync::ledger::{Blank, Ledger};
 
@@ -43,8 +41,8 @@ impl MixSeat<'_> {
         if !self.turn_to_frame(frame) {
             return Err(PcmError::LapEnd);
         }
-        let spot = self.near_spot(frame, channel);
-        let ended = self.lay(gate, Kind::Added, spot, frame, channel, sample, steps);
+        let ring_spot = self.near_spot(frame, channel);
+        let ended = self.lay(gate, Kind::Added, ring_spot, frame, channel, sample, steps);
         answer(ended)
     }
 
@@ -85,21 +83,22 @@ impl MixSeat<'_> {
         &mut self,
         gate: &mut G,
         kind: Kind,
-        spot: Spot,
+        ring_spot: RingSpot<'_>,
         frame: u64,
         channel: u8,
         sample: i16,
         steps: &mut Steps<L>,
     ) -> Ended
         requires may { MayLay kind self.old frame channel sample }
-        requires spot { IsSpot (geometry_of self.old) frame channel spot }
+        requires spot { IsRingSpot self.old frame channel ring_spot }
         ensures { LaysCounted G.stops G.asked self.old gate.old steps.old
             (entry_by self.old kind frame channel sample) result self.new gate.new steps.new }
     {
+        let spot = ring_spot.spot;
         let Ok(()) = ask(gate, StepKind::Look) else {
             return Ended::Stopped;
         };
-        let mut word = self.look(frame, channel, spot, steps);
+        let mut word = self.look(frame, channel, ring_spot, steps);
         if lap_word::lap(word) as u64 != spot.lap {
             return Ended::Late { seen: word };
         }
@@ -107,7 +106,8 @@ impl MixSeat<'_> {
             return Ended::Stopped;
         };
         loop {
-            let Err(found) = self.exchange(kind, spot, frame, channel, word, sample, steps) else {
+            let Err(found) = self.exchange(kind, ring_spot, frame, channel, word, sample, steps)
+            else {
                 return Ended::Whole;
             };
             if lap_word::lap(found) as u64 != spot.lap {

@@ -17,6 +17,7 @@ use crate::rule::{Seat, Shared};
 use crate::view::Key;
 pub use join::Closed;
 pub use mix::MixSeat;
+pub(crate) use mix::RingSpot;
 pub use note::SeatNote;
 use parts::Deal;
 pub use player::PlayerSeat;

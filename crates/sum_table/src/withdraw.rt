@@ -33,8 +33,16 @@ impl MixSeat<'_> {
         if !self.turn_to_frame(frame) {
             unreachable!()
         }
-        let spot = self.near_spot(frame, channel);
-        let ended = self.lay(gate, Kind::Withdrawn, spot, frame, channel, sample, steps);
+        let ring_spot = self.near_spot(frame, channel);
+        let ended = self.lay(
+            gate,
+            Kind::Withdrawn,
+            ring_spot,
+            frame,
+            channel,
+            sample,
+            steps,
+        );
         answer(ended)
     }
 

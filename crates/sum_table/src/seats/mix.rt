@@ -35,15 +35,22 @@ pub struct MixSeat<'a> {
     ghost lap_start: { IsLapStart key.geometry start },
 }
 
-impl MixSeat<'_> {
+/// Where a seat's steps find a word: the ring, and the word's spot there. The steps of one placement share it, so that the seat's
+/// ring isn't loaded again for each of them.
+#[derive(Clone, Copy)]
+pub(crate) struct RingSpot<'a> {
+    ring: &'a Shared,
+    pub(crate) spot: Spot,
+}
+
+impl<'a> MixSeat<'a> {
     ghost use Rattle.std.specs.Prelude.{◌≡◌, ◌≢◌, ℕ, ◌+◌, ◌<◌, ◌≤◌, ◌↔◌, true, false, [], ◌∷◌, Option, Some, OnOk, IfErr, IfSome};
     ghost use Rattle.snd_base.specs.Places.{IsFrom, end_frame, lap};
     ghost use Rattle.lap_word.specs.Word.{lap_of};
     ghost use Rattle.mix_core.specs.Laid.{a_withdrawal, an_add};
     ghost use Rattle.sum_table.specs.Known.{free_from, last_frame};
     ghost use Rattle.mix_core.specs.Marks.{high_frame};
-    ghost use Rattle.sum_table.specs.Seats.{CanAdd, HasLaid, HasLocated, HasLost, HasNoted, IsTurned, MayLay, SeatEndsIn, cursor_of_seat, entry_by, geometry_of, history_of, last_of_seat, marks_of_seat, member_of, places_of_seat, seen_of, shown, view_of};
-    ghost use Rattle.ring_rule.specs.Spots.{IsSpot};
+    ghost use Rattle.sum_table.specs.Seats.{CanAdd, HasLaid, HasLocated, HasLost, HasNoted, IsRingSpot, IsTurned, MayLay, SeatEndsIn, cursor_of_seat, entry_by, geometry_of, history_of, last_of_seat, marks_of_seat, member_of, places_of_seat, seen_of, shown, view_of};
     ghost use Rattle.sum_table.specs.Steps.{IsSumOf};
 
     /// How many places the seat has.
@@ -89,23 +96,31 @@ impl MixSeat<'_> {
 
     // Where the word of a frame of the seat's lap and a channel is.
     #[inline(always)]
-    pub(crate) fn near_spot(&self, frame: u64, channel: u8) -> Spot
+    pub(crate) fn near_spot(&self, frame: u64, channel: u8) -> RingSpot<'a>
         requires channel { channel < (geometry_of self.now).channels }
         requires in_lap { lap (geometry_of self.now) frame ≡ self.now.start.lap }
-        ensures { IsSpot (geometry_of self.now) frame channel result }
+        ensures { IsRingSpot self.now frame channel result }
     {
         let geometry = self.key.geometry;
-        self.start.near_spot(&geometry, frame, channel)
+        let spot = self.start.near_spot(&geometry, frame, channel);
+        RingSpot {
+            ring: self.ring,
+            spot,
+        }
     }
 
     // Where the word of a frame and channel is.
     #[inline(always)]
-    pub(crate) fn spot(&self, frame: u64, channel: u8) -> Spot
+    pub(crate) fn spot(&self, frame: u64, channel: u8) -> RingSpot<'a>
         requires channel { channel < (geometry_of self.now).channels }
-        ensures { IsSpot (geometry_of self.now) frame channel result }
+        ensures { IsRingSpot self.now frame channel result }
     {
         let geometry = self.key.geometry;
-        self.start.spot(&geometry, frame, channel)
+        let spot = self.start.spot(&geometry, frame, channel);
+        RingSpot {
+            ring: self.ring,
+            spot,
+        }
     }
 
     // Loads the position, in one step.
@@ -129,8 +144,8 @@ impl MixSeat<'_> {
         ensures sum { IsSumOf (geometry_of self.old) (history_of self.new) frame channel result }
         ensures ticks { steps.new ≡ steps.old + 1 }
     {
-        let spot = self.spot(frame, channel);
-        self.look(frame, channel, spot, steps)
+        let ring_spot = self.spot(frame, channel);
+        self.look(frame, channel, ring_spot, steps)
     }
 
     // The same, where the word is known to be.
@@ -139,17 +154,19 @@ impl MixSeat<'_> {
         &mut self,
         frame: u64,
         channel: u8,
-        spot: Spot,
+        ring_spot: RingSpot<'_>,
         steps: &mut Steps<L>,
     ) -> u64
         requires channel { channel < (geometry_of self.old).channels }
-        requires spot { IsSpot (geometry_of self.old) frame channel spot }
+        requires spot { IsRingSpot self.old frame channel ring_spot }
         ensures noted { HasNoted self.old self.new frame channel result }
         ensures sum { IsSumOf (geometry_of self.old) (history_of self.new) frame channel result }
         ensures ticks { steps.new ≡ steps.old + 1 }
     {
         steps.tick();
-        self.ring.load::<Look>(&mut self.seat, spot.index)
+        ring_spot
+            .ring
+            .load::<Look>(&mut self.seat, ring_spot.spot.index)
     }
 
     /// Adds a sample to the word `old`, which the seat noted at this frame and channel and which has the frame's lap, by
@@ -176,8 +193,8 @@ impl MixSeat<'_> {
         ensures err { IfErr result (λ n. HasLost self.old self.new frame channel old n) }
         ensures ticks { steps.new ≡ steps.old + 1 }
     {
-        let spot = self.spot(frame, channel);
-        self.exchange(Kind::Added, spot, frame, channel, old, sample, steps)
+        let ring_spot = self.spot(frame, channel);
+        self.exchange(Kind::Added, ring_spot, frame, channel, old, sample, steps)
     }
 
     /// Withdraws the sample of the seat's last standing add from the word `old`, which the seat noted at this frame and
@@ -202,8 +219,16 @@ impl MixSeat<'_> {
         ensures err { IfErr result (λ n. HasLost self.old self.new frame channel old n) }
         ensures ticks { steps.new ≡ steps.old + 1 }
     {
-        let spot = self.spot(frame, channel);
-        self.exchange(Kind::Withdrawn, spot, frame, channel, old, sample, steps)
+        let ring_spot = self.spot(frame, channel);
+        self.exchange(
+            Kind::Withdrawn,
+            ring_spot,
+            frame,
+            channel,
+            old,
+            sample,
+            steps,
+        )
     }
 
     // One compare-exchange that lays an entry of this kind, which `steps` counts, at the word of its frame and channel.
@@ -211,7 +236,7 @@ impl MixSeat<'_> {
     pub(crate) fn exchange<L: Ledger>(
         &mut self,
         kind: Kind,
-        spot: Spot,
+        ring_spot: RingSpot<'_>,
         frame: u64,
         channel: u8,
         old: u64,
@@ -221,7 +246,7 @@ impl MixSeat<'_> {
         requires may { MayLay kind self.old frame channel sample }
         requires noted { shown self.old frame channel ≡ Some old }
         requires of_lap { lap_of old ≡ lap (geometry_of self.old) frame }
-        requires spot { IsSpot (geometry_of self.old) frame channel spot }
+        requires spot { IsRingSpot self.old frame channel ring_spot }
         ensures ok { OnOk result
             (HasLaid self.old self.new (entry_by self.old kind frame channel sample)) }
         ensures err { IfErr result (λ n. HasLost self.old self.new frame channel old n) }
@@ -236,9 +261,10 @@ impl MixSeat<'_> {
             kind,
         };
         let new = changed(kind, old, sample);
-        let found = self
+        let index = ring_spot.spot.index;
+        let found = ring_spot
             .ring
-            .compare_exchange_with::<Exchange>(&mut self.seat, spot.index, old, new, &entry);
+            .compare_exchange_with::<Exchange>(&mut self.seat, index, old, new, &entry);
         if found != old {
             return Err(found);
         }

@@ -24,14 +24,14 @@ look-word-requires g c = record { channel = (at_lay c.args.self.now c.args.kind 
 pub returns-then-lap-spot : goal.returns-then-lap-spot
 returns-then-lap-spot g c =
     let s : MixSeat = c.args.self.now in
-    let other : lap_of c.look-word.result ≢ lap s.key.geometry c.args.frame = λ same. c.if-lap-spot.true (c.lap.ensures.lap ∙ (same ∙ sym c.requires.spot.lap_is)) in
+    let other : lap_of c.look-word.result ≢ lap s.key.geometry c.args.frame = λ same. c.if-lap-spot.true (c.lap.ensures.lap ∙ (same ∙ sym c.requires.spot.spot.lap_is)) in
     late_lays g.G.Gate.stops g.G.Gate.asked s s c.look-word.new.self c.args.gate.now c.ask.new.gate c.args.kind c.args.frame c.args.channel c.args.sample [] c.look-word.result 1 c.args.steps.now c.look-word.new.steps
     (found_none s c.args.frame c.args.channel) c.look-word.ensures.noted c.requires.may other refl (λ _. refl) c.in-Ok.ensures.asked c.in-Ok.ensures.answer c.look-word.ensures.ticks (omega arith)
 
 pub returns-in_default-ask : goal.returns-in_default-ask
 returns-in_default-ask g c =
     let s : MixSeat = c.args.self.now in
-    let same : lap_of c.look-word.result ≡ lap s.key.geometry c.args.frame = sym c.lap.ensures.lap ∙ (c.if-lap-spot.false ∙ c.requires.spot.lap_is) in
+    let same : lap_of c.look-word.result ≡ lap s.key.geometry c.args.frame = sym c.lap.ensures.lap ∙ (c.if-lap-spot.false ∙ c.requires.spot.spot.lap_is) in
     let trying = first_trying s c.look-word.new.self c.args.frame c.args.channel c.look-word.result c.args.steps.now c.look-word.new.steps c.look-word.ensures.noted
     (at_lay s c.args.kind c.args.frame c.args.channel c.args.sample c.requires.may) same c.look-word.ensures.ticks in
     stopped_lays g.G.Gate.stops g.G.Gate.asked s c.look-word.new.self c.args.gate.now c.ask-2.new.gate (entry_by s c.args.kind c.args.frame c.args.channel c.args.sample) trying.words 2 c.args.steps.now c.look-word.new.steps
@@ -41,7 +41,7 @@ returns-in_default-ask g c =
 pub loop-found-init : goal.loop-found-init
 loop-found-init g c =
     let s : MixSeat = c.args.self.now in
-    let same : lap_of c.look-word.result ≡ lap s.key.geometry c.args.frame = sym c.lap.ensures.lap ∙ (c.if-lap-spot.false ∙ c.requires.spot.lap_is) in
+    let same : lap_of c.look-word.result ≡ lap s.key.geometry c.args.frame = sym c.lap.ensures.lap ∙ (c.if-lap-spot.false ∙ c.requires.spot.spot.lap_is) in
     record {
       lost = 0;
       trying = first_trying s c.look-word.new.self c.args.frame c.args.channel c.look-word.result c.args.steps.now c.look-word.new.steps c.look-word.ensures.noted
@@ -62,7 +62,7 @@ pub returns-then-lap-spot-2 : goal.returns-then-lap-spot-2
 returns-then-lap-spot-2 g c =
     let s : MixSeat = c.args.self.now in
     let is = c.loop-found.invariant.trying in
-    let other : lap_of c.in-Err.found ≢ lap s.key.geometry c.args.frame = λ same. c.if-lap-spot-2.true (c.lap-in-loop-found.ensures.lap ∙ (same ∙ sym c.requires.spot.lap_is)) in
+    let other : lap_of c.in-Err.found ≢ lap s.key.geometry c.args.frame = λ same. c.if-lap-spot-2.true (c.lap-in-loop-found.ensures.lap ∙ (same ∙ sym c.requires.spot.spot.lap_is)) in
     late_lays g.G.Gate.stops g.G.Gate.asked s c.loop-found.self c.exchange.new.self c.args.gate.now c.loop-found.gate c.args.kind c.args.frame c.args.channel c.args.sample is.words c.in-Err.found (suc (suc c.loop-found.invariant.lost)) c.args.steps.now c.exchange.new.steps
     is.found c.in-Err.ensures.err.noted c.requires.may other (omega (arith, is.number)) (λ before. absurd (omega (arith, before, is.not_before))) c.loop-found.invariant.asked c.loop-found.invariant.unstopped
     (omega (arith, c.exchange.ensures.ticks, is.ticked)) (omega (arith, is.counted, is.room))
@@ -80,7 +80,7 @@ returns-in_default-ask-2 g c =
 pub loop-found-preserved : goal.loop-found-preserved
 loop-found-preserved g c =
     let s : MixSeat = c.args.self.now in
-    let same : lap_of c.in-Err.found ≡ lap s.key.geometry c.args.frame = sym c.lap-in-loop-found.ensures.lap ∙ (c.if-lap-spot-2.false ∙ c.requires.spot.lap_is) in
+    let same : lap_of c.in-Err.found ≡ lap s.key.geometry c.args.frame = sym c.lap-in-loop-found.ensures.lap ∙ (c.if-lap-spot-2.false ∙ c.requires.spot.spot.lap_is) in
     record {
       lost = c.loop-found.invariant.lost + 1;
       trying = trying_on s c.loop-found.self c.exchange.new.self c.args.frame c.args.channel c.loop-found.word c.in-Err.found c.loop-found.invariant.lost c.args.steps.now c.loop-found.steps c.exchange.new.steps c.loop-found.invariant.trying c.in-Err.ensures.err
