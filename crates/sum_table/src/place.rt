@@ -76,8 +76,8 @@ impl MixSeat<'_> {
         self.place_counted(gate, frame, channel, sample, &mut steps)
     }
 
-    // Lays an entry of a kind at its word's spot: looks at the word, and exchanges it until the entry is laid, or a word of a later lap was found,
-    // or the gate stops a step. Each word that an exchange finds has a greater count than the one before.
+    // Lays an entry of a kind at its word's spot: looks at the word, and exchanges it until the entry is laid, or a word of a later
+    // lap was found, or the gate stops a step. Each word that an exchange finds has a greater count than the one before.
     #[inline(always)]
     pub(crate) fn lay<G: Gate, L: Ledger>(
         &mut self,
