@@ -5,4 +5,3 @@ pub mod Leasts
 pub mod Loading
 pub mod Placed
 pub mod Splitting
-pub mod Trying

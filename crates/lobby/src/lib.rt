@@ -6,6 +6,3 @@ mod lobby;
 mod seats;
 
 pub use lobby::Lobby;
-
-#[cfg(test)]
-mod tests;

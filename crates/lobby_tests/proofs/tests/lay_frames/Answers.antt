@@ -1,5 +1,5 @@
 use Rattle.sum_table.specs.Seats.{IsLaterSeat-joined, IsLaterSeat-same}
-use Rattle.lobby.proofs.tests.lay_frames.Goals as goal
+use Rattle.lobby_tests.proofs.tests.lay_frames.Goals as goal
 
 pub loop-frame-init : goal.loop-frame-init
 loop-frame-init c = IsLaterSeat-same c.args.seat.now

@@ -1,6 +1,6 @@
-use Rattle.lobby.specs.declared.tests.Hall.{Hall}
-use Rattle.lobby.proofs.Trying.{seat_put_back}
-use Rattle.lobby.proofs.tests.Hall.lay.Goals as goal
+use Rattle.lobby_tests.specs.declared.tests.Hall.{Hall}
+use Rattle.lobby_tests.proofs.Trying.{seat_put_back}
+use Rattle.lobby_tests.proofs.tests.Hall.lay.Goals as goal
 
 pub invariant_of-self-2 : goal.invariant_of-self-2
 invariant_of-self-2 c =

@@ -8,7 +8,7 @@ ghost use Rattle.lobby.specs.Lobbies.{key_of_lobby, places_of_lobby, ring_of_lob
 
 mod threads;
 
-use super::*;
+use lobby::Lobby;
 use mix_core::{MixPort, NeverStops, Placed};
 use snd_base::{Cursor, Geometry, PcmError};
 use std::alloc::Global;

@@ -1,8 +1,8 @@
 use Rattle.std.proofs.Common.{◌∙◌, ap, sym}
 use Rattle.sum_table.specs.declared.view.Key.{Key}
-use Rattle.lobby.specs.declared.tests.Hall.{Hall}
-use Rattle.lobby.proofs.Trying.{seats_out}
-use Rattle.lobby.proofs.tests.Hall.attach_beside.Goals as goal
+use Rattle.lobby_tests.specs.declared.tests.Hall.{Hall}
+use Rattle.lobby_tests.proofs.Trying.{seats_out}
+use Rattle.lobby_tests.proofs.tests.Hall.attach_beside.Goals as goal
 
 pub invariant_of-self : goal.invariant_of-self
 invariant_of-self c =
