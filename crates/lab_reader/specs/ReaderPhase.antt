@@ -1,5 +1,5 @@
 -- A reader in a phase: what its steps were is what a run of the script may have of it.
-use Rattle.std.specs.Prelude.{◌≡◌, ℕ, ◌+◌, ◌≤◌, true, List, [], ◌++◌, Option, Some, None}
+use Rattle.std.specs.Prelude.{◌≡◌, ℕ, ◌+◌, ◌≤◌, true, List, ◌++◌, Option, Some, None}
 use Rattle.std.proofs.Common.{refl, sym, ap, subst, ◌∙◌, arith}
 use Rattle.atomic_table.specs.Seated.{TableId}
 use Rattle.snd_base.specs.declared.geometry.Geometry.{Geometry}
@@ -207,25 +207,6 @@ module _ (ring : TableId) (geometry : Geometry) (c d : Card) (over : IsOver ring
         end = did.end;
         rows = did.rows;
         may = runs (before, reader_in r) (did.end, reader_in u) did.found (ops_of r lines) did.rows part (did.allowed capture phase a b lines is records);
-        is = did.is;
-        gate = did.gate;
-        rows_are = did.rows_are;
-        number = did.number;
-      }
-
-  -- It does nothing in a phase that has no line of it, also where the card is unplugged in it.
-  pub reader-idle : (rules : Rules) (lines : List Line) (r s t u : LabReader) → ops_of r lines ≡ [] → IsAt ring geometry r before → SeesPlayed c d (played_in lines) → Steps c d phase stops after lines r s t u
-      → ReaderMay ring geometry rules phase base after lines before r u
-  reader-idle rules lines r s t u none at sees steps =
-      let did = reader-part lines r s t u at sees steps in
-      let kind = reader_kind phase r.actor.number in
-      let part =
-      subst (λ (ops : List Op). ActorPart kind geometry ((before, reader_in r), nothing_found) ops ((did.end, reader_in u), did.found) did.rows) none did.part in
-      record {
-        end = did.end;
-        rows = did.rows;
-        may = subst (λ (ops : List Op). LinesMay kind rules (before, reader_in r) ops (did.end, reader_in u) did.rows) (sym none)
-            (ap (λ (z : (AtPort × Reader) × Findings). z.0) part.0, part.1);
         is = did.is;
         gate = did.gate;
         rows_are = did.rows_are;
