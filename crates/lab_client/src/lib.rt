@@ -9,6 +9,3 @@ mod stream;
 
 pub use client::LabClient;
 pub use open_client::OpenClient;
-
-#[cfg(test)]
-mod tests;

@@ -2,7 +2,7 @@ use Rattle.std.proofs.Common.{◌≡◌, ap, arith, length}
 use Rattle.wav_io.specs.Sound.{Sound}
 use Rattle.lab_run.specs.Stage.{Setup}
 use Rattle.lab_client.specs.OpeningLaws.{CanRun-opened}
-use Rattle.lab_client.proofs.tests.opened.Goals as goal
+use Rattle.lab_client_tests.proofs.tests.opened.Goals as goal
 
 pub returns-clause-can : goal.returns-clause-can
 returns-clause-can c =

@@ -1,5 +1,5 @@
 use Rattle.lab_client.specs.Keeps.{CanRun-heard, CanRun-informed, CanRun-run, CanRun-same, HasRoom-informed}
-use Rattle.lab_client.proofs.tests.run.Goals as goal
+use Rattle.lab_client_tests.proofs.tests.run.Goals as goal
 
 pub run_lines-requires-clause-ready : goal.run_lines-requires-clause-ready
 run_lines-requires-clause-ready c =

@@ -12,10 +12,10 @@ ghost use Rattle.sum_table.specs.Players.{player_key, player_ring};
 ghost use Rattle.sum_table.specs.Rings.{GaveNone, key_of_ring};
 ghost use Rattle.sum_table.specs.Seats.{geometry_of, key_of, places_of_seat, ring_of};
 
-use super::*;
 use card_player::CardPlayer;
 use card_sim::Card;
 use lab_card::CardActor;
+use lab_client::LabClient;
 use lab_report::{Answer, Row};
 use lab_script::{Actor, Line, Op, read_script};
 use lab_setup::{Opening, client_opening, ring_of};
