@@ -4,6 +4,3 @@
 mod reader;
 
 pub use reader::LabReader;
-
-#[cfg(test)]
-mod tests;

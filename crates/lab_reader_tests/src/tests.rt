@@ -8,13 +8,13 @@ ghost use Rattle.snoop_table.specs.Writers.{writer_geometry, writer_ring};
 ghost use Rattle.lab_setup.specs.Usable.{IsUsable};
 ghost use Rattle.lab_reader.specs.Readers.{IsOf, seat_of};
 
-use super::*;
 use bindings::Bindings;
 use card_player::CardPlayer;
 use card_sim::Card;
 use hw_space::Config;
 use lab_actor::reads_are_few;
 use lab_card::CardActor;
+use lab_reader::LabReader;
 use lab_report::{Answer, Row};
 use lab_script::{Actor, Line, Op};
 use lab_setup::Opening;
