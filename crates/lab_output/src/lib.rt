@@ -7,8 +7,6 @@ mod begin;
 mod file;
 mod finish;
 mod outputs;
-#[cfg(test)]
-mod tests;
 mod text;
 
 pub use file::{OutputFile, OutputName, output_files};

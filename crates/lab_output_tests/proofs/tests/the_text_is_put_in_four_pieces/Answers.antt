@@ -3,7 +3,7 @@ use Rattle.std.specs.Prelude.{List}
 use Rattle.std.proofs.lemmas.List.Elements.{All-take}
 use Rattle.lab_report.specs.declared.row.Row.{Row}
 use Rattle.lab_report.specs.Text.{IsRowOf}
-use Rattle.lab_output.proofs.tests.the_text_is_put_in_four_pieces.Goals as goal
+use Rattle.lab_output_tests.proofs.tests.the_text_is_put_in_four_pieces.Goals as goal
 
 pub put_rows-requires-clause-rows : goal.put_rows-requires-clause-rows
 put_rows-requires-clause-rows g c =

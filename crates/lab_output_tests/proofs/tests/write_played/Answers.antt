@@ -3,7 +3,7 @@ use Rattle.std.specs.Prelude.{All}
 use Rattle.std.proofs.Math.ListN.{set}
 use Rattle.lab_output.specs.declared.file.OutputFile.{OutputFile}
 use Rattle.lab_output.specs.Files.{nothing}
-use Rattle.lab_output.proofs.tests.write_played.Goals as goal
+use Rattle.lab_output_tests.proofs.tests.write_played.Goals as goal
 
 -- no output has a sample yet, also the first
 none-first : (outputs : List OutputFile) → get_or (nothing outputs) 0 [] ≡ []

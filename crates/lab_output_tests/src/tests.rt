@@ -5,7 +5,7 @@ ghost use Rattle.lab_script.specs.Limits.{IsScript};
 ghost use Rattle.lab_report.specs.Text.{IsReportOf};
 ghost use Rattle.lab_output.specs.Going.{AreOutputs};
 
-use super::*;
+use lab_output::{Outputs, outputs_of};
 use lab_report::{Report, read_report};
 use lab_script::{Script, read_script};
 use lab_shelf::{MemoryShelf, MemorySink, Shelf};
