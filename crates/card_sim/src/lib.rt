@@ -8,6 +8,3 @@ mod watch;
 
 pub use card::Card;
 pub use watch::{NoWatch, Watch};
-
-#[cfg(test)]
-mod tests;

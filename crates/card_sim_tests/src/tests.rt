@@ -7,8 +7,8 @@ mod capturing;
 mod dice;
 mod mixing;
 
-use super::*;
 use card_player::CardPlayer;
+use card_sim::{Card, Watch};
 use mix_core::{MixPort, NeverStops, Placed};
 use snd_base::{Geometry, PcmError};
 use snoop_core::{Loaded, SnoopPort};
@@ -72,6 +72,20 @@ fn new_card<'p, 'w>(
         return Err("out of step".into());
     }
     Ok(Card::new(player, writer, period))
+}
+
+// The same of a card that doesn't record.
+fn new_playback_card<'p, 'w>(
+    player: CardPlayer<'p>,
+    writer: WriterSeat<'w>,
+    period: u32,
+) -> Result<Card<'p, 'w>, Fail>
+    requires { 1 ≤ period }
+{
+    if !Card::can_use(&player, &writer) {
+        return Err("out of step".into());
+    }
+    Ok(Card::with_records(player, writer, period, false))
 }
 
 // Places a sample where the seat may, as seen at run time.
@@ -201,6 +215,30 @@ fn captured_frames_are_stored_and_played_ones_taken(rt: HostRuntime) -> Result<(
     assert!(rt; reader.position(&mut NeverStops)?.gone);
     let (player, writer) = card.into_seats();
     assert_eq!(rt; [player.next().frame, writer.next()], [20, 20]);
+    Ok(())
+}
+
+// It plays what is placed, and the snoop ring stays as it was, but for the card's end.
+#[test]
+fn a_card_that_does_not_record_plays_alone(rt: HostRuntime) -> Result<(), Fail> {
+    let mut ring = new_ring(rt.alloc(), mono(0))?;
+    let mut snoop = new_snoop_ring(rt.alloc(), mono(0))?;
+    let (player, mut mix) = ring.seats();
+    let (writer, mut reader) = snoop.seats();
+    let mut card = new_playback_card(CardPlayer::new(player, 5), writer, 16)?;
+    assert!(rt; !card.records());
+    assert_eq!(rt; place(&mut mix, 19, 9)?, Placed::In);
+    let mut out = [1i16; 20];
+    assert_eq!(rt; run(&mut card, &[7i16; 20], &mut out)?, Ok(()));
+    assert_eq!(rt; [out[0], out[18], out[19]], [0, 0, 9]);
+    assert_eq!(rt; card.position(), 20);
+    assert_eq!(rt; mix.position(&mut NeverStops)?.frame, 20);
+    assert_eq!(rt; reader.position(&mut NeverStops)?.frame, 0);
+    card.unplug();
+    assert!(rt; mix.position(&mut NeverStops)?.gone);
+    assert!(rt; reader.position(&mut NeverStops)?.gone);
+    let (player, writer) = card.into_seats();
+    assert_eq!(rt; [player.next().frame, writer.next()], [20, 0]);
     Ok(())
 }
 
