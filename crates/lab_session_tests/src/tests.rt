@@ -1,6 +1,7 @@
 // What no clause says: that runs succeed where there is memory, and what is in the report and in the files
 // byte for byte.
 mod calls;
+mod idle;
 mod plugs;
 mod readers;
 mod runs;
@@ -178,12 +179,13 @@ struct Run<'a> {
     stored: &'a [(&'a str, &'a [u8], &'a [(u16, i16, i16)])],
 }
 
-// The script of a run.
-fn script_of_run(alloc: Global, run: &Run<'_>) -> Result<Vec<u8>, AllocError> {
+// The script of a run, with more lines behind those of its actors.
+fn script_of_run(alloc: Global, run: &Run<'_>, more: &str) -> Result<Vec<u8>, AllocError> {
     let mut text = String::new(alloc);
     for line in run.declared {
         writeln!(text, "{line}")?;
     }
+    text.push_str(more)?;
     for act in run.body {
         match act {
             Act::Opens(name, _) => writeln!(text, "open {name}")?,
@@ -216,10 +218,17 @@ fn report_of_run(alloc: Global, run: &Run<'_>) -> Result<Vec<u8>, AllocError> {
     Ok(text.into_bytes())
 }
 
-// The files that a run reads: the script `s`, and the WAV files.
-fn files_of_run(alloc: Global, run: &Run<'_>) -> Result<Vec<(Vec<u8>, Vec<u8>)>, AllocError> {
+// The files that a run reads: the script `s`, with more lines behind those of its actors, and the WAV files.
+fn files_of_run(
+    alloc: Global,
+    run: &Run<'_>,
+    more: &str,
+) -> Result<Vec<(Vec<u8>, Vec<u8>)>, AllocError> {
     let mut files = Vec::new(alloc);
-    files.push((Vec::from_slice(alloc, b"s")?, script_of_run(alloc, run)?))?;
+    files.push((
+        Vec::from_slice(alloc, b"s")?,
+        script_of_run(alloc, run, more)?,
+    ))?;
     for (name, head, runs) in run.wavs {
         let samples = steps_of(alloc, runs)?;
         files.push((
@@ -235,7 +244,7 @@ fn runs_leave_their_report_and_files(rt: HostRuntime) -> Result<(), Fail> {
     let alloc = rt.alloc();
     for run in RUNS.iter().chain(READERS.iter()) {
         let report = report_of_run(alloc, run)?;
-        let files = files_of_run(alloc, run)?;
+        let files = files_of_run(alloc, run, "")?;
         let left = call(&rt, alloc, &["run", "s", "o"], files, (&[], &[]))?;
         assert_eq!(rt; text_in(left.errors.bytes()), "", "{}", run.name);
         assert_eq!(rt; left.status, 0, "{}", run.name);
