@@ -3,8 +3,10 @@
 
 usage: bench/whole_run.py [PROGRAM]        from the top of the repository; builds the program if none is given
 
-- 64 clients write files of 60 s in rounds of one write each and one play: processor time for each input sample, beside
-  `sox -m -v 1`, `ffmpeg` with `amix` and a plain C program (bench/plain_sum.c), which mix the same files, where they are there.
+- 64 clients write files of 60 s in rounds of one write each and one play, all writes of a round in one phase, so on 64 threads: processor time for
+  each input sample and time on the clock, beside `sox -m -v 1`, `ffmpeg` with `amix` and a plain C program (bench/plain_sum.c), which mix the same
+  files, where they are there. The same with each write in a phase of its own, so without threads; its files have half the rate, since a
+  script has at most 4,096 phases.
 - A card that plays alone: processor time for each word that it takes, saturates and writes.
 - 4,096 phases in which one client has a line, and 1,000 in which 64 clients have one: processor time for each phase, and time on the clock.
 - `dmixlab make 1 64 1000`, which makes a script of 64 clients and 1,000 phases and runs it.
@@ -28,22 +30,32 @@ RATE, SECONDS, CLIENTS, ROUND, PLAYS = 32000, 60, 64, 15360, 270
 SETTINGS = "glibc.pthread.stack_cache_size=1073741824:glibc.malloc.hugetlb=1"
 
 
-def write_wav(path, samples):
+def write_wav(path, rate, samples):
     data = samples.tobytes()
     head = b"RIFF" + struct.pack("<I", 36 + len(data)) + b"WAVEfmt " + struct.pack(
-        "<IHHIIHH", 16, 1, 1, RATE, RATE * 2, 2, 16) + b"data" + struct.pack("<I", len(data))
+        "<IHHIIHH", 16, 1, 1, rate, rate * 2, 2, 16) + b"data" + struct.pack("<I", len(data))
     path.write_bytes(head + data)
+
+
+def write_files(folder, rate):
+    """A file of 60 s for each client; each begins 1,000 frames later in the same noise."""
+    noise = array.array("h", [random.randint(-3000, 3000) for _ in range(rate * SECONDS)])
+    for k in range(CLIENTS):
+        write_wav(folder / f"c{k}.wav", rate, noise[k * 1000:] + noise[:k * 1000])
 
 
 def clients(count):
     return [f"client c{k} c{k}.wav" for k in range(count)] + [f"open c{k}" for k in range(count)]
 
 
-def mix_script(frames):
-    lines = [f"card channels 1 rate {RATE} period 1024 ring 16384"] + clients(CLIENTS)
-    for _ in range(-(-frames // ROUND)):
-        lines += ["phase"] + [f"c{k} write {ROUND}" for k in range(CLIENTS)] + ["end"]
-        lines += ["phase", f"card play {ROUND}", "end"]
+def mix_script(rate, at_once):
+    """Rounds of one write of each client and one play, with all writes in one phase or each in one of its own."""
+    lines = [f"card channels 1 rate {rate} period 1024 ring 16384"] + clients(CLIENTS)
+    between = [] if at_once else ["end", "phase"]
+    for _ in range(-(-rate * SECONDS // ROUND)):
+        for k in range(CLIENTS):
+            lines += (["phase"] if k == 0 else between) + [f"c{k} write {ROUND}"]
+        lines += ["end", "phase", f"card play {ROUND}", "end"]
     return "\n".join(lines) + "\n"
 
 
@@ -118,6 +130,17 @@ def others(folder):
         yield "a plain C sum", [str(folder / "plain_sum"), "plain.wav", *names]
 
 
+def mix(program, folder, rate, at_once):
+    """Prints what an input sample takes where all clients write at once, or one after the other, and of the programs beside."""
+    write_files(folder, rate)
+    samples = CLIENTS * rate * SECONDS
+    cost = run_cost(program, folder, mix_script(rate, at_once), 5)
+    print(f"64 clients {'at once' if at_once else 'in turn'}: {cost.spent * 1e9 / samples:.1f} ns an input sample, {cost.clock:.2f} s on the clock, peak memory {cost.peak} KiB")
+    for name, command in others(folder):
+        cost = least_cost(command, folder, 3)
+        print(f"  {name}: {cost.spent * 1e9 / samples:.1f} ns an input sample, {cost.clock:.2f} s on the clock")
+
+
 def main():
     if len(sys.argv) > 1:
         program = str(Path(sys.argv[1]).resolve())
@@ -125,17 +148,10 @@ def main():
         subprocess.run([str(TOP / "dmixlab"), "--version"], check=True)
         program = str(TOP / "crates/dmixlab/out/dmixlab")
     random.seed(1)
-    frames = RATE * SECONDS
-    noise = array.array("h", [random.randint(-3000, 3000) for _ in range(frames)])
     with tempfile.TemporaryDirectory() as name:
         folder = Path(name)
-        for k in range(CLIENTS):
-            write_wav(folder / f"c{k}.wav", noise[k * 1000:] + noise[:k * 1000])
-        samples = CLIENTS * frames
-        mixed = run_cost(program, folder, mix_script(frames))
-        print(f"64 clients: {mixed.spent * 1e9 / samples:.1f} ns an input sample, peak memory {mixed.peak} KiB")
-        for name, command in others(folder):
-            print(f"{name}: {least_cost(command, folder, 3).spent * 1e9 / samples:.1f} ns an input sample")
+        mix(program, folder, RATE // 2, at_once=False)
+        mix(program, folder, RATE, at_once=True)
         played, begun = (run_cost(program, folder, play_script(rounds), 25).spent for rounds in (PLAYS, 1))
         print(f"a card alone: {(played - begun) * 1e9 / ((PLAYS - 1) * ROUND):.1f} ns a played word")
         for count, phases in ((1, 4096), (64, 1000)):
