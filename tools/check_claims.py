@@ -1,12 +1,17 @@
 #!/usr/bin/env python3
-"""Checks that each clause which docs/CLAIMS.md names is at the call that it names.
+"""Checks that each clause which docs/CLAIMS.md names is at the call that it names, and that each public call which changes a value
+is named there.
 
-    check_claims.py             checks each line of each crate's table
+    check_claims.py             checks each line of each crate's table, and the calls of each crate
     check_claims.py CRATE..     of these crates alone
 
 A call is a function of the crate's src, and its clause one of its lines `ensures NAME { .. }`; `-` is a clause without a name. A
 `law` is a `pub NAME :` of the crate's specs, and a `rule` a type of its src. What a clause says isn't checked here: its words are in
-the source. Each crate of crates.txt has to be named, too. The status is 0 where all is as it should be, and otherwise 1.
+the source. Each crate of crates.txt has to be named, too.
+
+A public call is a `pub fn`, by itself or of a type, that the crate's lib.rt hands on. Where it takes a value by `&mut` and has a
+clause, a line of its crate has to name it. Crates without a table are left out, as those of tests and benchmarks are. The status is
+0 where all is as it should be, and otherwise 1.
 """
 from __future__ import annotations
 
@@ -20,6 +25,9 @@ OWNER = re.compile(r"^(?:pub )?(?:impl|trait)\b")
 FUNCTION = re.compile(r"^(\s*)(?:pub(?:\([^)]*\))? )?(?:const )?fn (\w+)")
 CONTRACT = re.compile(r"^\s*(?:requires|ensures)\*? ")
 CLAUSE = re.compile(r"^\s*ensures\*?(?: (\w+))? \{")
+PUBLIC = re.compile(r"^\s*pub (?:const )?fn ")
+CHANGED = re.compile(r"&(?:'\w+ )?mut ")
+EXPORT = re.compile(r"^pub use [\w:]+::(\{[^}]*\}|\w+);", re.M)
 
 
 def text_of(path):
@@ -67,6 +75,42 @@ def functions_of(lines):
         function = FUNCTION.match(line)
         if function:
             yield owner if function.group(1) else None, function.group(2), number, function.group(1)
+
+
+def head_of(lines, first):
+    """The text of a function's head, without its clauses and its body."""
+    head = []
+    for line in lines[first:]:
+        if CONTRACT.match(line) or line.strip() == "{":
+            break
+        head.append(line.strip())
+        if line.endswith("{"):
+            break
+    return " ".join(head)
+
+
+def changing_calls(lines, exports):
+    """The public calls of a file with a clause that take a value by `&mut`."""
+    for owner, name, number, indent in functions_of(lines):
+        takes = head_of(lines, number).split("->")[0]
+        is_public = PUBLIC.match(lines[number]) and (owner or name) in exports
+        if is_public and CHANGED.search(takes) and clauses_of(lines, number, indent):
+            yield f"{owner}::{name}" if owner else name
+
+
+def exports_of(text):
+    """The names that a crate's root file hands on."""
+    return {name for listed in EXPORT.findall(text) for name in re.findall(r"\w+", listed)}
+
+
+def unlisted_of(crate, listed):
+    """The public calls of a crate that change a value, and that no line names."""
+    source = f"{ROOT}/crates/{crate}/src"
+    if not os.path.exists(f"{source}/lib.rt"):
+        return []
+    exports = exports_of(text_of(f"{source}/lib.rt"))
+    paths = sorted(glob.glob(f"{source}/**/*.rt", recursive=True))
+    return [call for path in paths for call in changing_calls(text_of(path).split("\n"), exports) if call not in listed]
 
 
 def calls_of(crate):
@@ -130,24 +174,29 @@ def is_there(crate, call, clause, calls):
 
 
 def main():
-    """Checks the lines, and prints those whose clause isn't there."""
+    """Checks the lines, and prints those whose clause isn't there, and the calls that have no line."""
     wanted = sys.argv[1:]
     text = text_of(f"{ROOT}/docs/CLAIMS.md")
-    calls, count, missing = {}, 0, []
+    calls, listed, count, missing = {}, {}, 0, []
     for crate, call, clause in rows_of(text):
         if wanted and crate not in wanted:
             continue
-        calls.setdefault(crate, calls_of(crate))
+        if crate not in calls:
+            calls[crate] = calls_of(crate)
+        listed.setdefault(crate, set()).add(call)
         count += 1
         if not is_there(crate, call, clause, calls[crate]):
             missing.append(f"{crate}: {call}: {clause}")
     unnamed = [crate for crate in crates_of(text_of(f"{ROOT}/crates.txt")) if f"`{crate}`" not in text]
+    unlisted = [f"{crate}: {call}" for crate in listed for call in unlisted_of(crate, listed[crate])]
     for line in missing:
         print(f"not there: {line}")
+    for line in unlisted:
+        print(f"no line: {line}")
     for crate in unnamed:
         print(f"not named: {crate}")
-    print(f"{count} clauses, {len(missing)} of them not there")
-    return 1 if missing or unnamed or not count else 0
+    print(f"{count} clauses, {len(missing)} of them not there; {len(unlisted)} calls without a line")
+    return 1 if missing or unlisted or unnamed or not count else 0
 
 
 if __name__ == "__main__":

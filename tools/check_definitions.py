@@ -20,9 +20,9 @@ ROOT = os.path.dirname(HERE)
 sys.path.insert(0, HERE)
 
 import check_claims
+from check_claims import exports_of
 
 IMPORT = re.compile(r"^\s*ghost use Rattle\.(\w+)\.specs\.(\S+)\.\{([^}]*)\};", re.M)
-EXPORT = re.compile(r"^pub use [\w:]+::(\{[^}]*\}|\w+);", re.M)
 PART = re.compile(r"^(?:\w+_)?(?:geometry|key|ring)(?:_of\w*)?$|^(?:seat|view|member|position)_of\w*$")
 
 
@@ -35,11 +35,6 @@ def imports_of(text, crates):
             for name in listed.split(","):
                 names[name.split(" as ")[-1].strip()] = name.split(" as ")[0].strip()
     return names
-
-
-def exports_of(text):
-    """The names that a crate's root file hands on."""
-    return {name for listed in EXPORT.findall(text) for name in re.findall(r"\w+", listed)}
 
 
 def clauses_of(lines, first, indent):

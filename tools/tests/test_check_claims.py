@@ -65,7 +65,61 @@ class Source(unittest.TestCase):
         self.assertEqual(check_claims.owner_of("pub trait Gate: Sized {"), "Gate")
 
 
+CALLS = """impl<'a> Ring<'a> {
+    pub fn put(&mut self, sample: i16)
+        ensures put { HasPut self.old self.new sample }
+    {
+    }
+
+    pub fn fill(
+        &self,
+        out: &'a mut [i16],
+    ) -> usize
+        ensures { IsFilled out.new }
+    {
+        0
+    }
+
+    pub fn len(&self) -> usize
+        ensures { result ≡ length self.now }
+    {
+        0
+    }
+
+    pub fn words(&self) -> &mut [u64]
+        ensures { IsPart result }
+    {
+        0
+    }
+
+    pub fn touch(&mut self) {
+    }
+
+    fn clear(&mut self)
+        ensures { self.new ≡ [] }
+    {
+    }
+}
+
+pub fn inner(ring: &mut Ring)
+    ensures { ring.new ≡ [] }
+{
+}
+""".split("\n")
+
+
+class Calls(unittest.TestCase):
+    def test_a_public_call_changes_a_value_that_it_takes_by_a_mutable_reference(self):
+        self.assertEqual(list(check_claims.changing_calls(CALLS, {"Ring"})), ["Ring::put", "Ring::fill"])
+
+    def test_a_function_that_the_root_file_doesn_t_hand_on_isn_t_public(self):
+        self.assertEqual(list(check_claims.changing_calls(CALLS, {"inner"})), ["inner"])
+
+
 class Whole(unittest.TestCase):
+    def test_a_call_without_a_line_is_found(self):
+        self.assertEqual(check_claims.unlisted_of("card_player", {"CardPlayer::play"})[0], "CardPlayer::take_frame")
+
     def test_a_clause_that_isn_t_there_is_not_found(self):
         calls = check_claims.calls_of("lap_word")
         self.assertTrue(check_claims.is_there("lap_word", "clamp", "nearest", calls))
