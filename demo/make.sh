@@ -27,8 +27,8 @@ tune() {
 }
 
 # two tones of a chime, a spoken announcement, and a traveller's question, which the card captures
-sox -n -r 48000 -c 1 -b 16 high.wav synth 0.6 sine 1318.5 fade l 0.002 0.6 0.5 norm -9
-sox -n -r 48000 -c 1 -b 16 low.wav synth 0.6 sine 1046.5 fade l 0.002 0.6 0.5 norm -9
+sox -R -D -n -r 48000 -c 1 -b 16 high.wav synth 0.6 sine 1318.5 fade l 0.002 0.6 0.5 norm -9
+sox -R -D -n -r 48000 -c 1 -b 16 low.wav synth 0.6 sine 1046.5 fade l 0.002 0.6 0.5 norm -9
 speak announcer.wav 22050 -4 en 165 "The train to Newton is now arriving at platform two."
 speak gap.wav 22050 -6 en 150 "Mind the gap."
 speak "$work/asked.wav" 48000 -6 en+f3 165 "Excuse me, when does the train to Newton leave?"
