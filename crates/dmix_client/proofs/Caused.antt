@@ -18,7 +18,7 @@ use Rattle.dmix_client.specs.declared.commit.Commit.{Commit}
 use Rattle.mix_core.specs.declared.port.Ended.{Ended}
 use Rattle.mix_core.specs.declared.port.Ended.TheVariants as ended
 use Rattle.dmix_client.specs.declared.stream.PlaybackStream.{PlaybackStream}
-use Rattle.dmix_client.specs.Calls.{Answered, accepted, accepted_if, commit_count, committed_by, end_channel, end_of_commit, is_running, is_stop, late_at, late_of, over_of, seen_at, with_outcome, after_start, started_in, sync_count, after_sync, taken_of, with_number, written_on}
+use Rattle.dmix_client.specs.Calls.{Answered, with_accepted, accepted_if, commit_count, committed_by, end_channel, end_of_commit, is_running, is_stop, late_at, late_of, over_of, seen_at, with_outcome, after_start, started_in, sync_count, after_sync, taken_of, with_number, written_on}
 use Rattle.dmix_client.specs.Causes.{IsCaused, IsGone, IsOfSteps, Reaches}
 use Rattle.mix_core.specs.Port.{IsPast, OnLate, PortView}
 use Rattle.dmix_client.specs.Port.{IsCommit, IsFound, IsStep}
@@ -166,7 +166,7 @@ module _ {S : Type 0} (view : S → PortView) (shows : S → ℕ → ℕ → Opt
 
   pub caused-accepted : (load : Option Position) (c : PlaybackStream) (m : ℕ) (a : Answered (Unit {0})) → IsCaused {X = Unit {0}} view shows q c a.0 load a.1
       → IsCaused {X = ℕ} view shows q c (accepted_if m a).0 load (accepted_if m a).1
-  caused-accepted load c m (d, Ok done) why = caused-other c (accepted d m) load (Ok m) (free-by c d load why) (other-ok m)
+  caused-accepted load c m (d, Ok done) why = caused-other c (with_accepted d m) load (Ok m) (free-by c d load why) (other-ok m)
   caused-accepted load c m (d, Err e) why = caused-error load c d e why
 
 -- ---- a sync

@@ -14,7 +14,7 @@ use Rattle.snd_base.specs.declared.errors.PcmError.TheVariants as error
 use Rattle.snd_base.specs.declared.errors.XrunWhy.TheVariants as why
 use Rattle.snd_base.specs.declared.errors.XrunWhy.{XrunWhy}
 use Rattle.snd_base.specs.declared.places.Cursor.{Cursor}
-use Rattle.dmix_client.specs.Calls.{Answered, accepted, accepted_if, committed_by, found_at, going_on, in_state, is_stop, late_of, seen_at, with_outcome, after_start, started_in, stopped_in, after_sync, taken_of, written_after}
+use Rattle.dmix_client.specs.Calls.{Answered, with_accepted, accepted_if, committed_by, found_at, going_on, in_state, is_stop, late_of, seen_at, with_outcome, after_start, started_in, stopped_in, after_sync, taken_of, written_after}
 use Rattle.dmix_client.specs.Growth.{KeepsAccepted}
 use Rattle.dmix_client.specs.Port.{IsStep}
 use Rattle.dmix_client.specs.View.{avail_of}
@@ -97,7 +97,7 @@ after_start-ends X c state cursor position x at_gone at_stop at_late begins =
 
 -- the commit of a write
 accepted-ends : (X : Answered ℕ → Type 0) (d : PlaybackStream) (m : ℕ) (late : Option XrunWhy) → ((w : XrunWhy) → late ≡ Some w → X (in_state d Xrun, Err (error.Xrun w)))
-    → (late ≡ None → X (accepted (in_state d Running) m, Ok m))
+    → (late ≡ None → X (with_accepted (in_state d Running) m, Ok m))
     → X (accepted_if m (with_outcome d (next_of Running call.Transfer (found_at (record { frame = 0; gone = false }) late))))
 accepted-ends X d m (Some w) at_late goes = at_late w refl
 accepted-ends X d m None at_late goes = goes refl
@@ -113,7 +113,7 @@ pub written-ends : (X : Answered ℕ → Type 0) (c : PlaybackStream) (n : ℕ) 
     → (0 < n → avail_of c ≡ 0 → X (c, Err error.Again))
     → ((0 < n → avail_of c ≡ 0 → ⊥) → is_stop x.ended ≡ true → X (stopped_in (committed_by c x)))
     → ((w : XrunWhy) → (0 < n → avail_of c ≡ 0 → ⊥) → is_stop x.ended ≡ false → late_of c x ≡ Some w → X (in_state (committed_by c x) Xrun, Err (error.Xrun w)))
-    → ((0 < n → avail_of c ≡ 0 → ⊥) → is_stop x.ended ≡ false → late_of c x ≡ None → X (accepted (in_state (committed_by c x) Running) (taken_of c n), Ok (taken_of c n)))
+    → ((0 < n → avail_of c ≡ 0 → ⊥) → is_stop x.ended ≡ false → late_of c x ≡ None → X (with_accepted (in_state (committed_by c x) Running) (taken_of c n), Ok (taken_of c n)))
     → X (written_after c n x)
 written-ends X c n x again at_stop at_late goes =
     by-test X (nat_lt 0 n && nat_eq (avail_of c) 0) _ _ (λ is. let full = full-of n (avail_of c) is in again full.0 full.1)

@@ -39,7 +39,7 @@ use Rattle.dmix_client.proofs.Growing.{StandsFor-after, StandsUpTo-filled, accep
 use Rattle.dmix_client.proofs.Looking.{starts-by}
 use Rattle.dmix_client.proofs.Sound.{CanUse-still, CommitsAs, min-none, CommitsAs-seen, CommitsAs-started, CommitsAs-written, IsLoaded, IsMoving-after, IsMoving-seen, IsMoving-written, IsSound-after, IsSound-status, IsSound-stopped, after, configured-moving, configured-prepared, count-whole, hw-started, if-le, next-GoesOn, none-of, not_paused-moving, not_prepared-moving, taken-none, taken_fits, whole-of, whole_least, window_end-above}
 use Rattle.dmix_client.proofs.Storing.{StandsUpTo-written}
-use Rattle.dmix_client.specs.Calls.{Answered, accepted, accepted_if, base_of, commit_count, committed_by, dropped, end_channel, end_of_commit, facts_of, is_paused, is_stop, late_of, over_of, paused, pending_of, rebased, resumed, seen_at, start_count, after_start, started_in, stopped_in, sync_count, after_sync, taken_of, with_number, written_after, written_on}
+use Rattle.dmix_client.specs.Calls.{Answered, with_accepted, accepted_if, base_of, commit_count, committed_by, after_drop, end_channel, end_of_commit, facts_of, is_paused, is_stop, late_of, over_of, after_pause, pending_of, with_new_base, after_resume, seen_at, start_count, after_start, started_in, stopped_in, sync_count, after_sync, taken_of, with_number, written_after, written_on}
 use Rattle.dmix_client.specs.Causes.{Explains, ExplainsWrite, IsCaused}
 use Rattle.dmix_client.specs.Course.{commits, looks, resumes, starts, starts_taking, syncs, takes_more, write_on}
 use Rattle.dmix_client.specs.CourseLaws.{LaysFrames, TakesAt-frames, TakesAt-looks, TakesAt-step}
@@ -90,7 +90,7 @@ taken-room n b w fits = grind (arith, nat_tests)
 taken-waiting : (c : PlaybackStream) (n : ℕ) → c.stretch.started ≡ false → taken_of c n ≡ min n (min (c.setup.config.buffer_size + 0 - c.stretch.written) c.setup.config.buffer_size)
 taken-waiting c n waits = ap (λ (b : Bool). min n (min (c.setup.config.buffer_size + (if b then unwrap_or c.seen 0 - c.stretch.card else 0) - c.stretch.written) c.setup.config.buffer_size)) waits
 
-IsSound-filled : (c : PlaybackStream) (ring : List ℤ) (m : ℕ) → IsSound c ring → c.status.state ≡ Prepared → c.stretch.written + m ≤ c.setup.config.buffer_size → IsSound (accepted c m) ring
+IsSound-filled : (c : PlaybackStream) (ring : List ℤ) (m : ℕ) → IsSound c ring → c.status.state ≡ Prepared → c.stretch.written + m ≤ c.setup.config.buffer_size → IsSound (with_accepted c m) ring
 IsSound-filled c ring m sound waits fits = record {
   lead = sound.lead;
   seen = sound.seen;
@@ -484,11 +484,11 @@ module _ {S T : Type 0} (P : mixport.Ghosts S) (G : gates.Ghosts T) (laid_compos
   -- a write into a prepared stream that doesn't start it
   pub stored-kept : (s : S × T) (c : PlaybackStream) (ring stored samples : List ℤ) (n m : ℕ) → m ≡ taken_of c n → stored ≡ ring_with c ring samples m → IsSound c ring → IsSound c stored → c.status.state ≡ Prepared
       → n * length c.setup.bindings ≤ length samples → CanUse c (P.view s.0)
-      → Keeps P G s s (client c ring) (client (accepted c m) stored) (let r : Result ℕ PcmError = Ok m in r) (λ all. Follows c all samples n)
+      → Keeps P G s s (client c ring) (client (with_accepted c m) stored) (let r : Result ℕ PcmError = Ok m in r) (λ all. Follows c all samples n)
   stored-kept s c ring stored samples n m is is_stored sound sound_stored waits held_all port =
-      Keeps-still s s c (accepted c m) ring stored (Ok m) (λ all. Follows c all samples n)
+      Keeps-still s s c (with_accepted c m) ring stored (Ok m) (λ all. Follows c all samples n)
       (IsSound-filled c stored m sound_stored waits (omega (arith, is, taken-room n c.setup.config.buffer_size c.stretch.written (sound.prepared waits).fits, taken-waiting c n (sound.prepared waits).waiting)))
-      (CanUse-still c (accepted c m) (P.view s.0) (P.view s.0) port (IsSamePort-refl (P.view s.0)) refl (λ moves going. not_prepared-moving c.status.state moves waits)) (laid_composes.none s.0) (λ unstopped. refl) (λ all stands. refl) refl refl
+      (CanUse-still c (with_accepted c m) (P.view s.0) (P.view s.0) port (IsSamePort-refl (P.view s.0)) refl (λ moves going. not_prepared-moving c.status.state moves waits)) (laid_composes.none s.0) (λ unstopped. refl) (λ all stands. refl) refl refl
       (λ all stands for. filled-stands c ring stored samples all n m is is_stored sound waits held_all stands for)
 
   -- a write into a prepared stream that starts it
@@ -550,7 +550,7 @@ module _ {S T : Type 0} (P : mixport.Ghosts S) (G : gates.Ghosts T) (laid_compos
 
   -- a drain with nothing to play
   pub dropped-kept : (s : S × T) (c : PlaybackStream) (ring : List ℤ) → IsSound c ring → refusal_of Playback c.status call.Drain ≡ None → CanUse c (P.view s.0)
-      → Keeps P G s s (client c ring) (client (dropped c) ring) (let r : Result (Unit {0}) PcmError = Ok tt in r) AnySamples
+      → Keeps P G s s (client c ring) (client (after_drop c) ring) (let r : Result (Unit {0}) PcmError = Ok tt in r) AnySamples
   dropped-kept s c ring sound admitted port =
       left-kept s c ring Setup (IsSound-status c (record c.status { state = Setup }) c.seen ring sound sound.seen (λ is. sound.set_up (drain-set_up c.status.stopped c.status.state admitted)) (λ is. absurd (cc)) (λ moves going. absurd (cc)) (λ is. absurd (cc))) port refl
 
@@ -574,18 +574,18 @@ stays-based true true c d is = refl
 stays-based true false c d is = absurd (let no = is refl in cc)
 
 pub base-kept : (c d : PlaybackStream) → (is_paused c.status.state ≡ true → is_paused d.status.state ≡ true) → base_of c d ≡ c
-base-kept c d is = stays-based (is_paused c.status.state) (is_paused d.status.state) c (rebased c) is
+base-kept c d is = stays-based (is_paused c.status.state) (is_paused d.status.state) c (with_new_base c) is
 
 anew-based : (a b : Bool) (c d : PlaybackStream) → a ≡ true → b ≡ false → (if a && not b then d else c) ≡ d
 anew-based false b c d is_paused is = absurd (cc)
 anew-based true true c d is_paused is = absurd (cc)
 anew-based true false c d is_paused is = refl
 
-pub base-anew : (c d : PlaybackStream) → c.status.state ≡ Paused → is_paused d.status.state ≡ false → base_of c d ≡ rebased c
-base-anew c d is goes = anew-based (is_paused c.status.state) (is_paused d.status.state) c (rebased c) (ap is_paused is) goes
+pub base-anew : (c d : PlaybackStream) → c.status.state ≡ Paused → is_paused d.status.state ≡ false → base_of c d ≡ with_new_base c
+base-anew c d is goes = anew-based (is_paused c.status.state) (is_paused d.status.state) c (with_new_base c) (ap is_paused is) goes
 
 -- the counts of a paused client, based anew, are those of a prepared one
-pub IsSound-rebased : (c : PlaybackStream) (ring : List ℤ) → IsSound c ring → c.status.state ≡ Paused → IsSound (rebased c) ring
+pub IsSound-rebased : (c : PlaybackStream) (ring : List ℤ) → IsSound c ring → c.status.state ≡ Paused → IsSound (with_new_base c) ring
 IsSound-rebased c ring sound is =
     let m = sound.paused is in
     record {
@@ -602,7 +602,7 @@ IsSound-rebased c ring sound is =
     }
 
 -- a client that is paused
-IsSound-paused : (c : PlaybackStream) (ring : List ℤ) → IsSound c ring → c.status.state ≡ Running → c.status.stopped ≡ false → IsSound (paused c) ring
+IsSound-paused : (c : PlaybackStream) (ring : List ℤ) → IsSound c ring → c.status.state ≡ Running → c.status.stopped ≡ false → IsSound (after_pause c) ring
 IsSound-paused c ring sound runs going =
     IsSound-status c (record c.status { state = Paused }) c.seen ring sound sound.seen (λ set. sound.set_up (ap is_set_up runs)) (λ waits. absurd (cc)) (λ moves still. absurd (cc)) (λ still. sound.moving (ap is_moving runs) going)
 
@@ -614,66 +614,66 @@ not_paused-after_start c cursor position commit =
 module _ {S T : Type 0} (P : mixport.Ghosts S) (G : gates.Ghosts T) (laid_composes : Composes P.laid) (loaded_composes : Composes P.loaded) where
   -- a pause
   pub paused-kept : (s : S × T) (c : PlaybackStream) (ring : List ℤ) → IsSound c ring → refusal_of Playback c.status call.Pause ≡ None → CanUse c (P.view s.0)
-      → Keeps P G s s (client (base_of c (paused c)) ring) (client (paused c) ring) (let r : Result (Unit {0}) PcmError = Ok tt in r) AnySamples
+      → Keeps P G s s (client (base_of c (after_pause c)) ring) (client (after_pause c) ring) (let r : Result (Unit {0}) PcmError = Ok tt in r) AnySamples
   paused-kept s c ring sound admitted port =
       let is = pause-runs c.status.stopped c.status.state admitted in
-      subst (λ (b : PlaybackStream). Keeps P G s s (client b ring) (client (paused c) ring) (let r : Result (Unit {0}) PcmError = Ok tt in r) AnySamples) (sym (base-kept c (paused c) (λ is. refl)))
+      subst (λ (b : PlaybackStream). Keeps P G s s (client b ring) (client (after_pause c) ring) (let r : Result (Unit {0}) PcmError = Ok tt in r) AnySamples) (sym (base-kept c (after_pause c) (λ is. refl)))
       (left-kept P G laid_composes loaded_composes s c ring Paused (IsSound-paused c ring sound is.0 is.1) port refl)
 
-  CanUse-rebased : (c : PlaybackStream) (v : PortView) → CanUse c v → CanUse (rebased c) v
-  CanUse-rebased c v port = CanUse-still c (rebased c) v v port (IsSamePort-refl v) refl (λ moves going. cc)
+  CanUse-rebased : (c : PlaybackStream) (v : PortView) → CanUse c v → CanUse (with_new_base c) v
+  CanUse-rebased c v port = CanUse-still c (with_new_base c) v v port (IsSamePort-refl v) refl (λ moves going. cc)
 
   -- a resume without pending frames
   pub rebased-kept : (s : S × T) (c : PlaybackStream) (ring : List ℤ) → IsSound c ring → refusal_of Playback c.status call.Resume ≡ None → CanUse c (P.view s.0)
-      → Keeps P G s s (client (base_of c (rebased c)) ring) (client (rebased c) ring) (let r : Result (Unit {0}) PcmError = Ok tt in r) AnySamples
+      → Keeps P G s s (client (base_of c (with_new_base c)) ring) (client (with_new_base c) ring) (let r : Result (Unit {0}) PcmError = Ok tt in r) AnySamples
   rebased-kept s c ring sound admitted port =
       let is = resume-paused c.status.stopped c.status.state admitted in
-      subst (λ (b : PlaybackStream). Keeps P G s s (client b ring) (client (rebased c) ring) (let r : Result (Unit {0}) PcmError = Ok tt in r) AnySamples) (sym (base-anew c (rebased c) is refl))
-      (Keeps-none P G laid_composes loaded_composes s (client (rebased c) ring) (Ok tt) AnySamples (IsSound-rebased c ring sound is) (CanUse-rebased c (P.view s.0) port) (λ unstopped. refl))
+      subst (λ (b : PlaybackStream). Keeps P G s s (client b ring) (client (with_new_base c) ring) (let r : Result (Unit {0}) PcmError = Ok tt in r) AnySamples) (sym (base-anew c (with_new_base c) is refl))
+      (Keeps-none P G laid_composes loaded_composes s (client (with_new_base c) ring) (Ok tt) AnySamples (IsSound-rebased c ring sound is) (CanUse-rebased c (P.view s.0) port) (λ unstopped. refl))
 
   -- a resume with pending frames
   resumed-by : (s t : S × T) (c : PlaybackStream) (ring : List ℤ) (cursor : Cursor) (load : Option Position) (commit : Commit) → IsSound c ring → c.status.state ≡ Paused → CanUse c (P.view s.0) → IsSamePort (P.view s.0) (P.view t.0)
-      → P.laid s.0 t.0 (entries_at load (λ position. started_in (rebased c) Running position cursor) ring commit)
-      → Keeps P G s t (client (rebased c) ring) (client (after_start (rebased c) Running cursor load commit).0 ring) (after_start (rebased c) Running cursor load commit).1 AnySamples
-      → Keeps P G s t (client (base_of c (resumed c cursor load commit).0) ring) (client (resumed c cursor load commit).0 ring) (resumed c cursor load commit).1 AnySamples
+      → P.laid s.0 t.0 (entries_at load (λ position. started_in (with_new_base c) Running position cursor) ring commit)
+      → Keeps P G s t (client (with_new_base c) ring) (client (after_start (with_new_base c) Running cursor load commit).0 ring) (after_start (with_new_base c) Running cursor load commit).1 AnySamples
+      → Keeps P G s t (client (base_of c (after_resume c cursor load commit).0) ring) (client (after_resume c cursor load commit).0 ring) (after_resume c cursor load commit).1 AnySamples
   resumed-by s t c ring cursor None commit sound is port same laid_nothing keeps =
       let d : PlaybackStream = record c { status = record c.status { stopped = true } } in
       subst (λ (b : PlaybackStream). Keeps P G s t (client b ring) (client d ring) (let r : Result (Unit {0}) PcmError = Err error.Stopped in r) AnySamples) (sym (base-kept c d (λ is. is)))
       (Keeps-still P G laid_composes loaded_composes s t c d ring ring (Err error.Stopped) AnySamples (IsSound-stopped c ring sound) (CanUse-still c d (P.view s.0) (P.view t.0) port same refl (λ moves going. cc)) laid_nothing keeps.told (λ samples stands. refl) refl refl (λ samples stands any. stands))
   resumed-by s t c ring cursor (Some position) commit sound is port same laid_nothing keeps =
-      subst (λ (b : PlaybackStream). Keeps P G s t (client b ring) (client (after_start (rebased c) Running cursor (Some position) commit).0 ring) (after_start (rebased c) Running cursor (Some position) commit).1 AnySamples)
-      (sym (base-anew c (after_start (rebased c) Running cursor (Some position) commit).0 is (not_paused-after_start (rebased c) cursor position commit))) keeps
+      subst (λ (b : PlaybackStream). Keeps P G s t (client b ring) (client (after_start (with_new_base c) Running cursor (Some position) commit).0 ring) (after_start (with_new_base c) Running cursor (Some position) commit).1 AnySamples)
+      (sym (base-anew c (after_start (with_new_base c) Running cursor (Some position) commit).0 is (not_paused-after_start (with_new_base c) cursor position commit))) keeps
 
   pub resumes-kept : (s t : S × T) (c : PlaybackStream) (ring : List ℤ) (a : Answered (Unit {0})) → IsSound c ring → c.status.state ≡ Paused → (P.view s.0).marks.cursor.frame ≤ end_frame c.identity.geometry → CanUse c (P.view s.0)
       → TakesAt P G s (resumes c (P.view s.0).marks.cursor ring) t a → Keeps P G s t (client (base_of c a.0) ring) (client a.0 ring) a.1 AnySamples
   unfolding resumes
   resumes-kept s t c ring a sound is near port takes =
       let cursor = (P.view s.0).marks.cursor in
-      let at : Position → PlaybackStream = λ position. started_in (rebased c) Running position cursor in
-      let count : Position → ℕ = λ position. start_count (rebased c) cursor position (pending_of c) in
+      let at : Position → PlaybackStream = λ position. started_in (with_new_base c) Running position cursor in
+      let count : Position → ℕ = λ position. start_count (with_new_base c) cursor position (pending_of c) in
       let bound = (sound.configured (sound.set_up (ap is_set_up is))).bound in
-      let parts = Takes-parts (LoadsAt P G) (LaysAt P G) NoGet s t (looks at count ring) (λ found. ends (resumed c cursor found.0 found.1)) a takes in
-      let begun : Answered (Unit {0}) = after_start (rebased c) Running cursor parts.1.0 parts.1.1 in
-      let keeps = (start-kept P G laid_composes loaded_composes s parts.0 (rebased c) ring Running begun (IsSound-rebased c ring sound is) refl refl near (CanUse-rebased c (P.view s.0) port)
-      (starts-by P G s parts.0 (rebased c) Running cursor (pending_of c) ring parts.1.0 parts.1.1 begun parts.2 refl)).0 in
+      let parts = Takes-parts (LoadsAt P G) (LaysAt P G) NoGet s t (looks at count ring) (λ found. ends (after_resume c cursor found.0 found.1)) a takes in
+      let begun : Answered (Unit {0}) = after_start (with_new_base c) Running cursor parts.1.0 parts.1.1 in
+      let keeps = (start-kept P G laid_composes loaded_composes s parts.0 (with_new_base c) ring Running begun (IsSound-rebased c ring sound is) refl refl near (CanUse-rebased c (P.view s.0) port)
+      (starts-by P G s parts.0 (with_new_base c) Running cursor (pending_of c) ring parts.1.0 parts.1.1 begun parts.2 refl)).0 in
       let looked = TakesAt-looks P G laid_composes loaded_composes at count ring c.setup.bindings s parts.0 parts.1.0 parts.1.1 bound (λ position. refl) parts.2 in
       subst (λ (u : S × T). Keeps P G s u (client (base_of c a.0) ring) (client a.0 ring) a.1 AnySamples) (sym parts.3.there)
       (subst (λ (b : Answered (Unit {0})). Keeps P G s parts.0 (client (base_of c b.0) ring) (client b.0 ring) b.1 AnySamples) (sym parts.3.result)
       (resumed-by s parts.0 c ring cursor parts.1.0 parts.1.1 sound is port (TakesAt-same P G s parts.0 (looks at count ring) parts.1 parts.2) looked.laid_them keeps))
 
   why-resumed : (t : S × T) (c : PlaybackStream) (cursor : Cursor) (load : Option Position) (commit : Commit)
-      → IfSome load (λ position. OnLate commit.ended (λ word. IsPast P.view P.shows t.0 (end_of_commit (started_in (rebased c) Running position cursor) commit) (end_channel (started_in (rebased c) Running position cursor) commit) word))
-      → IsCaused {X = Unit {0}} P.view P.shows t.0 (rebased c) (resumed c cursor load commit).0 load (resumed c cursor load commit).1
-  why-resumed t c cursor None commit shown = caused-none P.view P.shows t.0 (rebased c) (record c { status = record c.status { stopped = true } })
-  why-resumed t c cursor (Some position) commit shown = IsCaused-after_start P.view P.shows t.0 (rebased c) Running cursor (Some position) commit refl shown
+      → IfSome load (λ position. OnLate commit.ended (λ word. IsPast P.view P.shows t.0 (end_of_commit (started_in (with_new_base c) Running position cursor) commit) (end_channel (started_in (with_new_base c) Running position cursor) commit) word))
+      → IsCaused {X = Unit {0}} P.view P.shows t.0 (with_new_base c) (after_resume c cursor load commit).0 load (after_resume c cursor load commit).1
+  why-resumed t c cursor None commit shown = caused-none P.view P.shows t.0 (with_new_base c) (record c { status = record c.status { stopped = true } })
+  why-resumed t c cursor (Some position) commit shown = IsCaused-after_start P.view P.shows t.0 (with_new_base c) Running cursor (Some position) commit refl shown
 
   pub resumes-explained : (s t : S × T) (c : PlaybackStream) (ring : List ℤ) (cursor : Cursor) (a : Answered (Unit {0})) → IsSound c ring → c.status.state ≡ Paused → TakesAt P G s (resumes c cursor ring) t a
-      → Explains P G s t (client (rebased c) ring) (λ position. started_in (rebased c) Running position cursor) (λ position. start_count (rebased c) cursor position (pending_of c)) (resumed c cursor) a
+      → Explains P G s t (client (with_new_base c) ring) (λ position. started_in (with_new_base c) Running position cursor) (λ position. start_count (with_new_base c) cursor position (pending_of c)) (after_resume c cursor) a
   unfolding resumes
   resumes-explained s t c ring cursor a sound is takes =
       let bound = (sound.configured (sound.set_up (ap is_set_up is))).bound in
-      let st = TakesAt-step P G laid_composes loaded_composes (λ position. started_in (rebased c) Running position cursor) (λ position. start_count (rebased c) cursor position (pending_of c)) ring c.setup.bindings (resumed c cursor) s t a bound (λ position. refl) takes in
+      let st = TakesAt-step P G laid_composes loaded_composes (λ position. started_in (with_new_base c) Running position cursor) (λ position. start_count (with_new_base c) cursor position (pending_of c)) ring c.setup.bindings (after_resume c cursor) s t a bound (λ position. refl) takes in
       record {
         step = st;
-        why = subst (λ (d : Answered (Unit {0})). IsCaused P.view P.shows t.0 (rebased c) d.0 st.load d.1) st.outcome (why-resumed t c cursor st.load st.commit st.looked.shown);
+        why = subst (λ (d : Answered (Unit {0})). IsCaused P.view P.shows t.0 (with_new_base c) d.0 st.load d.1) st.outcome (why-resumed t c cursor st.load st.commit st.looked.shown);
       }

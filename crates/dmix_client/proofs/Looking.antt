@@ -17,7 +17,7 @@ use Rattle.dmix_client.specs.declared.commit.Commit.{Commit}
 use Rattle.dmix_client.specs.declared.stream.PlaybackStream.{PlaybackStream}
 use Rattle.pcm_stream.specs.Status.{is_moving, refusal_of, refused_by}
 use Rattle.pcm_stream.specs.declared.direction.Direction.TheVariants.{Playback}
-use Rattle.dmix_client.specs.Calls.{Answered, is_running, pending_of, rebased, resumed, start_count, after_start, started_in, sync_count, after_sync, taken_of, with_number, written_after}
+use Rattle.dmix_client.specs.Calls.{Answered, is_running, pending_of, with_new_base, after_resume, start_count, after_start, started_in, sync_count, after_sync, taken_of, with_number, written_after}
 use Rattle.dmix_client.specs.Course.{admitted, admitted_by, commits, drain_on, drains, fills, looks, nothing, number_course, numbered, resumes, starts, syncs, takes_more, write_course, write_on, writes_on}
 use Rattle.dmix_client.specs.Rewind.{rewind_course, rewinds}
 use Rattle.dmix_client.specs.Writes.{count_with, frames_in, ring_with}
@@ -55,11 +55,11 @@ module _ {S T : Type 0} (P : mixport.Ghosts S) (G : gates.Ghosts T) where
       Takes-map (LoadsAt P G) (LaysAt P G) NoGet s t (looks (λ position. started_in c Running position cursor) (λ position. start_count c cursor position upto) ring) (λ found. after_start c state cursor found.0 found.1) (load, commit) done takes is
 
   pub resumes-by : (s t : S × T) (c : PlaybackStream) (cursor : Cursor) (ring : List ℤ) (load : Option Position) (commit : Commit) (done : Answered (Unit {0}))
-      → TakesAt P G s (looks (λ position. started_in (rebased c) Running position cursor) (λ position. start_count (rebased c) cursor position (pending_of c)) ring) t (load, commit)
-      → resumed c cursor load commit ≡ done → TakesAt P G s (resumes c cursor ring) t done
+      → TakesAt P G s (looks (λ position. started_in (with_new_base c) Running position cursor) (λ position. start_count (with_new_base c) cursor position (pending_of c)) ring) t (load, commit)
+      → after_resume c cursor load commit ≡ done → TakesAt P G s (resumes c cursor ring) t done
   unfolding resumes
   resumes-by s t c cursor ring load commit done takes is =
-      Takes-map (LoadsAt P G) (LaysAt P G) NoGet s t (looks (λ position. started_in (rebased c) Running position cursor) (λ position. start_count (rebased c) cursor position (pending_of c)) ring) (λ found. resumed c cursor found.0 found.1) (load, commit) done takes is
+      Takes-map (LoadsAt P G) (LaysAt P G) NoGet s t (looks (λ position. started_in (with_new_base c) Running position cursor) (λ position. start_count (with_new_base c) cursor position (pending_of c)) ring) (λ found. after_resume c cursor found.0 found.1) (load, commit) done takes is
 
   -- the drain of a client that is prepared, by its start and what follows
   pub drains-by : (s t u : S × T) (c : PlaybackStream) (ring : List ℤ) (cursor : Cursor) (begun done : Answered (Unit {0}))

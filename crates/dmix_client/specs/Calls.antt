@@ -73,24 +73,24 @@ new_client g member lead = record {
 }
 
 -- nothing is written, and nothing is laid since now
-abbrev pub prepared : PlaybackStream → PlaybackStream
-prepared c = record (in_state c Prepared) { stretch = waiting 0 c.fed }
+abbrev pub after_prepare : PlaybackStream → PlaybackStream
+after_prepare c = record (in_state c Prepared) { stretch = waiting 0 c.fed }
 
 -- the client runs with a configuration, with the default thresholds
 abbrev pub configured_with : PlaybackStream → Config → List ℕ → PlaybackStream
-configured_with c config bindings = prepared (record c { setup = setup.setup_with config bindings })
+configured_with c config bindings = after_prepare (record c { setup = setup.setup_with config bindings })
 
 -- the client gives its configuration up
-abbrev pub freed : PlaybackStream → PlaybackStream
-freed c = in_state (record c { setup = setup.freed c.setup }) Open
+abbrev pub after_hw_free : PlaybackStream → PlaybackStream
+after_hw_free c = in_state (record c { setup = setup.freed c.setup }) Open
 
 -- the client has other software parameters
 abbrev pub with_params : PlaybackStream → SwParams → PlaybackStream
 with_params c params = record c { setup = setup.with_params c.setup params }
 
 -- what is pending is given up
-abbrev pub dropped : PlaybackStream → PlaybackStream
-dropped c = in_state c Setup
+abbrev pub after_drop : PlaybackStream → PlaybackStream
+after_drop c = in_state c Setup
 
 -- the segment since the last prepare
 abbrev pub segment_of : PlaybackStream → Segment
@@ -255,8 +255,8 @@ after_start c state cursor (Some position) commit =
     )
 
 -- a running stream is paused
-abbrev pub paused : PlaybackStream → PlaybackStream
-paused c = in_state c Paused
+abbrev pub after_pause : PlaybackStream → PlaybackStream
+after_pause c = in_state c Paused
 
 abbrev pub is_paused : State → Bool
 is_paused Paused = true
@@ -267,19 +267,19 @@ abbrev pub pending_of : PlaybackStream → ℕ
 pending_of c = c.stretch.written - c.stretch.committed
 
 -- the counts based anew: what is pending is all that is written, and nothing is laid since now
-abbrev pub rebased : PlaybackStream → PlaybackStream
-rebased c = record (in_state c Prepared) { stretch = waiting (pending_of c) (c.fed - pending_of c) }
+abbrev pub with_new_base : PlaybackStream → PlaybackStream
+with_new_base c = record (in_state c Prepared) { stretch = waiting (pending_of c) (c.fed - pending_of c) }
 
 -- a client that a call found as the first of these and left as the second begins with its counts based anew where it is no
 -- longer paused
 abbrev pub base_of : PlaybackStream → PlaybackStream → PlaybackStream
-base_of c d = if is_paused c.status.state && not (is_paused d.status.state) then rebased c else c
+base_of c d = if is_paused c.status.state && not (is_paused d.status.state) then with_new_base c else c
 
 -- the resume of a client with pending frames: a start of these, once the position was loaded
-abbrev pub resumed : PlaybackStream → Cursor → Option Position → Commit → Answered (Unit {0})
-resumed c cursor None commit = stopped_in c
-resumed c cursor (Some position) commit =
-    after_start (rebased c) Running cursor (Some position) commit
+abbrev pub after_resume : PlaybackStream → Cursor → Option Position → Commit → Answered (Unit {0})
+after_resume c cursor None commit = stopped_in c
+after_resume c cursor (Some position) commit =
+    after_start (with_new_base c) Running cursor (Some position) commit
 
 -- an answer's number, where there is one
 abbrev pub with_number : (PlaybackStream → ℕ) → Answered (Unit {0}) → Answered ℕ
@@ -316,13 +316,13 @@ abbrev pub taken_of : PlaybackStream → ℕ → ℕ
 taken_of c n = min n (min (avail_of c) c.setup.config.buffer_size)
 
 -- frames were accepted
-abbrev pub accepted : PlaybackStream → ℕ → PlaybackStream
-accepted c n =
+abbrev pub with_accepted : PlaybackStream → ℕ → PlaybackStream
+with_accepted c n =
     record c { stretch = record c.stretch { written = c.stretch.written + n }; fed = c.fed + n }
 
 -- frames that were taken are accepted where the call goes well
 abbrev pub accepted_if : ℕ → Answered (Unit {0}) → Answered ℕ
-accepted_if n (c, Ok done) = (accepted c n, Ok n)
+accepted_if n (c, Ok done) = (with_accepted c n, Ok n)
 accepted_if n (c, Err e) = (c, Err e)
 
 -- a write into a stream that runs, after its sync: nothing can be taken, or some frames are taken and committed

@@ -17,7 +17,7 @@ use Rattle.dmix_client.specs.declared.commit.Commit.{Commit}
 use Rattle.dmix_client.specs.declared.stream.PlaybackStream.{PlaybackStream}
 use Rattle.pcm_stream.specs.Status.{is_moving, nothing_found, refusal_of}
 use Rattle.pcm_stream.specs.declared.direction.Direction.TheVariants.{Playback}
-use Rattle.dmix_client.specs.Calls.{Answered, accepted, accepted_if, draining, dropped, has_frames, is_running, paused, pending_of, rebased, resumed, with_outcome, start_count, after_start, started_in, sync_count, after_sync, taken_of, with_number, written_after}
+use Rattle.dmix_client.specs.Calls.{Answered, with_accepted, accepted_if, draining, after_drop, has_frames, is_running, after_pause, pending_of, with_new_base, after_resume, with_outcome, start_count, after_start, started_in, sync_count, after_sync, taken_of, with_number, written_after}
 use Rattle.dmix_client.specs.View.{ring_sample}
 use Rattle.dmix_client.specs.Writes.{count_with, frames_in, ring_with, starts_with}
 
@@ -111,18 +111,18 @@ drains c ring cursor = starts c Draining cursor c.stretch.written ring >>= drain
 abbrev pub drain_course : PlaybackStream → List ℤ → Cursor → Course (Answered (Unit {0}))
 drain_course c ring cursor =
     if is_moving c.status.state then syncs (draining c) call.Drain ring else
-    (if has_frames c then drains c ring cursor else ends (dropped c, Ok tt))
+    (if has_frames c then drains c ring cursor else ends (after_drop c, Ok tt))
 
 -- the resume of a client with pending frames: the load, and the commit of these from where the stream starts
 unfoldable pub resumes : PlaybackStream → Cursor → List ℤ → Course (Answered (Unit {0}))
 resumes c cursor ring =
-    looks (λ position. started_in (rebased c) Running position cursor)
-    (λ position. start_count (rebased c) cursor position (pending_of c)) ring
-    >>= λ found. ends (resumed c cursor found.0 found.1)
+    looks (λ position. started_in (with_new_base c) Running position cursor)
+    (λ position. start_count (with_new_base c) cursor position (pending_of c)) ring
+    >>= λ found. ends (after_resume c cursor found.0 found.1)
 
 abbrev pub pause_course : Bool → PlaybackStream → List ℤ → Cursor → Course (Answered (Unit {0}))
-pause_course on c ring cursor = if on then ends (paused c, Ok tt) else
-    (if nat_eq (pending_of c) 0 then ends (rebased c, Ok tt) else resumes c cursor ring)
+pause_course on c ring cursor = if on then ends (after_pause c, Ok tt) else
+    (if nat_eq (pending_of c) 0 then ends (with_new_base c, Ok tt) else resumes c cursor ring)
 
 abbrev pub pause_call : Bool → Call
 pause_call on = if on then call.Pause else call.Resume
@@ -166,7 +166,7 @@ starts_taking c ring cursor taken = starts c Running cursor (c.stretch.written +
 abbrev pub fills : PlaybackStream → List ℤ → List ℤ → Cursor → ℕ → Course (Answered ℕ)
 fills c ring samples cursor n = if starts_with c n
     then starts_taking c (ring_with c ring samples (taken_of c n)) cursor (taken_of c n)
-    else ends (accepted c (taken_of c n), Ok (taken_of c n))
+    else ends (with_accepted c (taken_of c n), Ok (taken_of c n))
 
 abbrev pub write_course : PlaybackStream → List ℤ → List ℤ → Cursor → Course (Answered ℕ)
 write_course c ring samples cursor =

@@ -6,7 +6,7 @@ use Rattle.snd_base.specs.Relations.{Composes}
 use Rattle.mix_core.specs.declared.port.Entry.{Entry}
 use Rattle.dmix_client.specs.declared.stream.PlaybackStream.{PlaybackStream}
 use Rattle.pcm_states.specs.declared.states.State.TheVariants.{Paused}
-use Rattle.dmix_client.specs.Calls.{rebased}
+use Rattle.dmix_client.specs.Calls.{with_new_base}
 use Rattle.dmix_client.specs.Expansion.{sample_at}
 use Rattle.dmix_client.specs.Growth.{Grows, StandsFor, segment_entries}
 use Rattle.dmix_client.specs.View.{IsSound}
@@ -18,7 +18,7 @@ StandsFor-nothing c ring samples none j q low high in_range = absurd (omega (ari
 
 -- a paused client that stands for some samples does so with its counts based anew
 pub StandsFor-rebased : (c : PlaybackStream) (ring samples : List ℤ) → IsSound c ring
-    → c.status.state ≡ Paused → StandsFor c ring samples → StandsFor (rebased c) ring samples
+    → c.status.state ≡ Paused → StandsFor c ring samples → StandsFor (with_new_base c) ring samples
 StandsFor-rebased c ring samples sound is stands j q low high in_range =
     let most = (sound.paused is).laid_most in
     let at : c.fed - (c.stretch.written - c.stretch.committed) + j ≡ c.stretch.source + (c.stretch.committed + j) = omega (arith, sound.fed, most, high) in

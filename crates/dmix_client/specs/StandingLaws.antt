@@ -13,7 +13,7 @@ use Rattle.mix_core.specs.Laid.{AreAdds}
 use Rattle.bindings.specs.Bound.{rising}
 use Rattle.pcm_states.specs.declared.states.State.TheVariants.{Paused, Running}
 use Rattle.dmix_client.specs.declared.stream.PlaybackStream.{PlaybackStream}
-use Rattle.dmix_client.specs.Calls.{rebased}
+use Rattle.dmix_client.specs.Calls.{with_new_base}
 use Rattle.dmix_client.specs.Expansion.{frame_entries, run_entries, sample_at}
 use Rattle.dmix_client.specs.ExpansionLaws.{run_entries-append, run_entries-same}
 use Rattle.dmix_client.specs.Growth.{IsBacked, Keeps, KeepsBack, segment_entries}
@@ -93,7 +93,7 @@ module _ {S T : Type 0} (P : mixport.Ghosts S) (G : gates.Ghosts T) where
       → ((q : S) (xs ys : List Entry) → P.ends_in q (xs ++ ys) → P.ends_in q ys) → IsSound c ring
       → c.status.state ≡ Paused
       → IsBacked P.ends_in p (record { stream = c; ring = ring }) samples
-      → IsBacked P.ends_in p (record { stream = rebased c; ring = ring }) samples
+      → IsBacked P.ends_in p (record { stream = with_new_base c; ring = ring }) samples
   IsBacked-rebased p c ring samples part sound pauses is = record {
     stands = StandsFor-rebased c ring samples sound pauses is.stands;
     segment = part p (segment_entries c samples) [] (subst (P.ends_in p) (sym (append-nil (segment_entries c samples))) is.segment);

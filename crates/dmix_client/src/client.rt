@@ -4,7 +4,7 @@ ghost use Rattle.pcm_states.specs.declared.calls.Call.TheVariants as call;
 ghost use Rattle.pcm_stream.specs.Setup.{Checks, config_of};
 ghost use Rattle.pcm_stream.specs.Status.{refusal_of};
 ghost use Rattle.pcm_stream.specs.declared.direction.Direction.{Direction};
-ghost use Rattle.dmix_client.specs.Calls.{configured_with, dropped, freed, new_client, prepared, segment_of, with_params};
+ghost use Rattle.dmix_client.specs.Calls.{configured_with, after_drop, after_hw_free, new_client, after_prepare, segment_of, with_params};
 ghost use Rattle.dmix_client.specs.View.{ClientView, IsSound};
 ghost use Rattle.sw_limits.specs.Boundary.{IsBoundary};
 
@@ -154,7 +154,7 @@ impl Client {
             refusal_of Direction.Playback self.old.stream.status call.HwFree ≡ Some e →
             (result ≡ Err e) × (self.new ≡ self.old) }
         ensures freed { refusal_of Direction.Playback self.old.stream.status call.HwFree ≡ None →
-            (result ≡ Ok tt) × (self.new ≡ record { stream = freed self.old.stream; ring = [] }) }
+            (result ≡ Ok tt) × (self.new ≡ record { stream = after_hw_free self.old.stream; ring = [] }) }
     {
         self.stream.status.admit(Direction::Playback, Call::HwFree)?;
         self.stream = self.stream.freed();
@@ -189,7 +189,7 @@ impl Client {
             (result ≡ Err e) × (self.new ≡ self.old) }
         ensures prepared { refusal_of Direction.Playback self.old.stream.status call.Prepare ≡ None
             → (result ≡ Ok tt)
-            × (self.new ≡ record { stream = prepared self.old.stream; ring = self.old.ring }) }
+            × (self.new ≡ record { stream = after_prepare self.old.stream; ring = self.old.ring }) }
     {
         self.stream
             .status
@@ -207,7 +207,7 @@ impl Client {
             (result ≡ Err e) × (self.new ≡ self.old) }
         ensures dropped { refusal_of Direction.Playback self.old.stream.status call.Drop ≡ None →
             (result ≡ Ok tt)
-            × (self.new ≡ record { stream = dropped self.old.stream; ring = self.old.ring }) }
+            × (self.new ≡ record { stream = after_drop self.old.stream; ring = self.old.ring }) }
     {
         self.stream.status.admit(Direction::Playback, Call::Drop)?;
         self.stream = self.stream.dropped();

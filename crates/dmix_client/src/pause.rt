@@ -4,7 +4,7 @@ ghost use Rattle.pcm_states.specs.declared.calls.Call.TheVariants as call;
 ghost use Rattle.course.specs.AtPort.{TakesAt};
 ghost use Rattle.pcm_stream.specs.Status.{refusal_of};
 ghost use Rattle.pcm_stream.specs.declared.direction.Direction.{Direction};
-ghost use Rattle.dmix_client.specs.Calls.{base_of, paused, pending_of, rebased, resumed, start_count, started_in};
+ghost use Rattle.dmix_client.specs.Calls.{base_of, after_pause, pending_of, with_new_base, after_resume, start_count, started_in};
 ghost use Rattle.dmix_client.specs.Causes.{Explains};
 ghost use Rattle.dmix_client.specs.Course.{admitted, pause_call, pause_course, resumes};
 ghost use Rattle.dmix_client.specs.Growth.{AnySamples, Keeps};
@@ -37,11 +37,11 @@ fn resume<P: MixPort, G: Gate>(
         (record { stream = base_of stream.old stream.new; ring = ring.now })
         (record { stream = stream.new; ring = ring.now }) result AnySamples }
     ensures explains { Explains P.MixPort G.Gate (port.old, gate.old) (port.new, gate.new)
-        (record { stream = rebased stream.old; ring = ring.now })
-        (λ position. started_in (rebased stream.old) State.Running position
+        (record { stream = with_new_base stream.old; ring = ring.now })
+        (λ position. started_in (with_new_base stream.old) State.Running position
         (P.view port.old).marks.cursor)
-        (λ position. start_count (rebased stream.old) (P.view port.old).marks.cursor position
-        (pending_of stream.old)) (resumed stream.old (P.view port.old).marks.cursor)
+        (λ position. start_count (with_new_base stream.old) (P.view port.old).marks.cursor position
+        (pending_of stream.old)) (after_resume stream.old (P.view port.old).marks.cursor)
         (stream.new, result) }
 {
     let cursor = port.cursor();
@@ -83,7 +83,7 @@ impl Client {
             × (gate.new ≡ gate.old) }
         ensures pauses { on ≡ true → refusal_of Direction.Playback self.old.stream.status call.Pause
             ≡ None → (result ≡ Ok tt)
-            × (self.new ≡ record { stream = paused self.old.stream; ring = self.old.ring })
+            × (self.new ≡ record { stream = after_pause self.old.stream; ring = self.old.ring })
             × (port.new ≡ port.old) × (gate.new ≡ gate.old) }
         ensures ring { self.new.ring ≡ self.old.ring }
         ensures keeps { Keeps P.MixPort G.Gate (port.old, gate.old) (port.new, gate.new)
@@ -92,12 +92,12 @@ impl Client {
         ensures causes { refusal_of Direction.Playback self.old.stream.status (pause_call on)
             ≡ None → on ≡ false → 0 < pending_of self.old.stream →
             Explains P.MixPort G.Gate (port.old, gate.old) (port.new, gate.new)
-            (record { stream = rebased self.old.stream; ring = self.old.ring })
-            (λ position. started_in (rebased self.old.stream) State.Running position
+            (record { stream = with_new_base self.old.stream; ring = self.old.ring })
+            (λ position. started_in (with_new_base self.old.stream) State.Running position
             (P.view port.old).marks.cursor)
-            (λ position. start_count (rebased self.old.stream) (P.view port.old).marks.cursor
+            (λ position. start_count (with_new_base self.old.stream) (P.view port.old).marks.cursor
             position (pending_of self.old.stream))
-            (resumed self.old.stream (P.view port.old).marks.cursor) (self.new.stream, result) }
+            (after_resume self.old.stream (P.view port.old).marks.cursor) (self.new.stream, result) }
     {
         if on {
             self.stream.status.admit(Direction::Playback, Call::Pause)?;

@@ -1,6 +1,6 @@
 //! What a client is after each part of a call, by what the part found.
 ghost use Rattle.std.specs.Prelude.{◌≡◌, ℕ, ◌+◌, ◌*◌, ◌^◌, ◌<◌, ◌≤◌, IfSome, OnOk, length, unwrap_or};
-ghost use Rattle.dmix_client.specs.Calls.{in_state, waiting, draining, has_frames, with_number, configured_with, dropped, freed, new_client, accepted, accepted_if, written_after, avail_answer, commit_count, committed_by, delay_answer, facts_of, found_at, going_on, is_stop, late_of, over_of, paused, pending_of, prepared, rebased, resumed, seen_at, segment_of, with_outcome, start_count, start_frame, after_start, started_in, stopped_in, sync_count, after_sync, taken_of, window_end};
+ghost use Rattle.dmix_client.specs.Calls.{in_state, waiting, draining, has_frames, with_number, configured_with, after_drop, after_hw_free, new_client, with_accepted, accepted_if, written_after, avail_answer, commit_count, committed_by, delay_answer, facts_of, found_at, going_on, is_stop, late_of, over_of, after_pause, pending_of, after_prepare, with_new_base, after_resume, seen_at, segment_of, with_outcome, start_count, start_frame, after_start, started_in, stopped_in, sync_count, after_sync, taken_of, window_end};
 ghost use Rattle.dmix_client.specs.Asked.{number_of};
 ghost use Rattle.mix_core.specs.Port.{OnLate};
 ghost use Rattle.dmix_client.specs.Writes.{count_with};
@@ -169,7 +169,7 @@ impl PlaybackStream {
 
     /// The client is prepared: nothing is written, and nothing is laid since now.
     pub(crate) fn prepared(&self) -> PlaybackStream
-        ensures { result ≡ prepared self.now }
+        ensures { result ≡ after_prepare self.now }
     {
         PlaybackStream {
             stretch: Stretch::waiting(0, self.fed),
@@ -331,7 +331,7 @@ impl PlaybackStream {
     pub(crate) fn accepted(&self, frames: u64) -> PlaybackStream
         requires written { self.now.stretch.written + frames < 2 ^ 64 }
         requires fed { self.now.fed + frames < 2 ^ 64 }
-        ensures { result ≡ accepted self.now frames }
+        ensures { result ≡ with_accepted self.now frames }
     {
         PlaybackStream {
             stretch: Stretch {
@@ -405,7 +405,7 @@ pub(crate) fn after_start(
 impl PlaybackStream {
     /// The stream is paused.
     pub(crate) fn paused(&self) -> PlaybackStream
-        ensures { result ≡ paused self.now }
+        ensures { result ≡ after_pause self.now }
     {
         self.in_state(State::Paused)
     }
@@ -419,7 +419,7 @@ impl PlaybackStream {
 
     /// What is pending is all that is written, and nothing is laid since now.
     pub(crate) fn rebased(&self) -> PlaybackStream
-        ensures { result ≡ rebased self.now }
+        ensures { result ≡ with_new_base self.now }
     {
         let pending = self.pending();
         PlaybackStream {
@@ -440,7 +440,7 @@ pub(crate) fn resumed(
     requires cursor { cursor.frame < 2 ^ 63 }
     requires fits { commit.frames < 2 ^ 62 }
     requires part { OnLate commit.ended (λ _. commit.part < length stream.setup.bindings) }
-    ensures { result ≡ resumed stream cursor load commit }
+    ensures { result ≡ after_resume stream cursor load commit }
 {
     match load {
         None => stopped_in(stream),
@@ -525,7 +525,7 @@ impl PlaybackStream {
 
     /// The client gives its configuration up.
     pub(crate) fn freed(&self) -> PlaybackStream
-        ensures { result ≡ freed self.now }
+        ensures { result ≡ after_hw_free self.now }
     {
         PlaybackStream {
             setup: self.setup.freed(),
@@ -535,7 +535,7 @@ impl PlaybackStream {
 
     /// What is pending is given up.
     pub(crate) fn dropped(&self) -> PlaybackStream
-        ensures { result ≡ dropped self.now }
+        ensures { result ≡ after_drop self.now }
     {
         self.in_state(State::Setup)
     }

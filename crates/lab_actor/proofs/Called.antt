@@ -22,7 +22,7 @@ use Rattle.pcm_states.specs.declared.calls.Call.TheVariants as call
 use Rattle.pcm_stream.specs.Status.{is_moving, refusal_of}
 use Rattle.pcm_stream.specs.declared.direction.Direction.TheVariants.{Playback}
 use Rattle.dmix_client.specs.declared.stream.PlaybackStream.{PlaybackStream}
-use Rattle.dmix_client.specs.Calls.{Answered, base_of, dropped, in_state, is_paused, paused, prepared, rebased}
+use Rattle.dmix_client.specs.Calls.{Answered, base_of, after_drop, in_state, is_paused, after_pause, after_prepare, with_new_base}
 use Rattle.dmix_client.specs.Course.{admitted, admitted_by}
 use Rattle.dmix_client.specs.Growth.{AnySamples, IsBacked, Keeps, KeepsBack, segment_entries}
 use Rattle.dmix_client.specs.StandingLaws.{IsBacked-back, IsBacked-grows, IsBacked-new, IsBacked-rebased}
@@ -96,9 +96,9 @@ module _ {S T : Type 0} (P : mixport.Ghosts S) (G : gates.Ghosts T) (composes : 
 
       by_test : (test : Bool) → (is_paused c.stream.status.state && not (is_paused d.stream.status.state)) ≡ test → HasCalled P G s t wav c d op.Resume answer
       by_test true is =
-          let base_is : base_of c.stream d.stream ≡ rebased c.stream = ap (λ (test : Bool). if test then rebased c.stream else c.stream) is in
+          let base_is : base_of c.stream d.stream ≡ with_new_base c.stream = ap (λ (test : Bool). if test then with_new_base c.stream else c.stream) is in
           let ended_is : ended_by op.Resume answer c.stream d.stream ≡ stretch_of c.stream = ap (λ (test : Bool). if test then stretch_of c.stream else []) is in
-          let base : ClientView = record { stream = rebased c.stream; ring = c.ring } in
+          let base : ClientView = record { stream = with_new_base c.stream; ring = c.ring } in
           let since : Keeps P G s t base d result AnySamples = subst (λ (b : PlaybackStream). Keeps P G s t (record { stream = b; ring = c.ring }) d result AnySamples) base_is keeps in
           let backed : IsBacked P.ends_in s.0 base wav.samples = IsBacked-rebased P G s.0 c.stream c.ring wav.samples ends_in_part sound (in_pause c.stream.status.state _ is) ready.backed in
           let grows = since.grows wav.samples backed.stands tt in
@@ -120,7 +120,7 @@ module _ {S T : Type 0} (P : mixport.Ghosts S) (G : gates.Ghosts T) (composes : 
                 (Extends-grows P composes s.0 t.0 base.stream d.stream wav.samples held_laid grows));
           }
       by_test false is =
-          let base_is : base_of c.stream d.stream ≡ c.stream = ap (λ (test : Bool). if test then rebased c.stream else c.stream) is in
+          let base_is : base_of c.stream d.stream ≡ c.stream = ap (λ (test : Bool). if test then with_new_base c.stream else c.stream) is in
           let ended_is : ended_by op.Resume answer c.stream d.stream ≡ [] = ap (λ (test : Bool). if test then stretch_of c.stream else []) is in
           called-keeps s t wav c d op.Resume answer result AnySamples [] ready tt takes
           (subst (λ (b : PlaybackStream). Keeps P G s t (record { stream = b; ring = c.ring }) d result AnySamples) base_is keeps) tt ended_is fed
@@ -152,7 +152,7 @@ module _ {S T : Type 0} (P : mixport.Ghosts S) (G : gates.Ghosts T) (composes : 
   }
 
   -- a client that is prepared anew
-  IsReady-prepared : (wav : Sound) (p : S) (c : ClientView) → IsReady P wav p c → IsReady P wav p (record { stream = prepared c.stream; ring = c.ring })
+  IsReady-prepared : (wav : Sound) (p : S) (c : ClientView) → IsReady P wav p c → IsReady P wav p (record { stream = after_prepare c.stream; ring = c.ring })
   IsReady-prepared wav p c ready = record {
     usable = record {
       same_geometry = ready.usable.same_geometry;
@@ -161,7 +161,7 @@ module _ {S T : Type 0} (P : mixport.Ghosts S) (G : gates.Ghosts T) (composes : 
       behind = λ moves going. absurd (cc);
       newer = λ moves going. absurd (cc);
     };
-    backed = IsBacked-new P G p (record { stream = prepared c.stream; ring = c.ring }) wav.samples refl refl refl
+    backed = IsBacked-new P G p (record { stream = after_prepare c.stream; ring = c.ring }) wav.samples refl refl refl
         (ends_in_part p (segment_entries c.stream wav.samples) [] (subst (P.ends_in p) (sym (append-nil (segment_entries c.stream wav.samples))) ready.backed.segment));
     channels = ready.channels;
     fed = ready.fed;
@@ -181,13 +181,13 @@ module _ {S T : Type 0} (P : mixport.Ghosts S) (G : gates.Ghosts T) (composes : 
 
   pub called-drop : (s : S × T) (wav : Sound) (c d : ClientView) (answer : Answer) (result : Result (Unit {0}) PcmError) → IsReady P wav s.0 c
       → ((e : PcmError) → refusal_of Playback c.stream.status call.Drop ≡ Some e → (result ≡ Err e) × (d ≡ c))
-      → (refusal_of Playback c.stream.status call.Drop ≡ None → (result ≡ Ok tt) × (d ≡ record { stream = dropped c.stream; ring = c.ring }))
+      → (refusal_of Playback c.stream.status call.Drop ≡ None → (result ≡ Ok tt) × (d ≡ record { stream = after_drop c.stream; ring = c.ring }))
       → answer ≡ done_answer result → HasCalled P G s s wav c d op.Drop answer
   called-drop s wav c d answer result ready refused drops is = by_refusal (refusal_of Playback c.stream.status call.Drop) refl
     where
       takes : TakesAt P G s (made_call c.ring [] (P.view s.0).marks c.stream op.Drop) s (d.stream, answer)
       takes = answer-taken done_answer s s _ d.stream result answer
-          (admitted-taken s c.stream call.Drop (dropped c.stream, Ok tt) d.stream result
+          (admitted-taken s c.stream call.Drop (after_drop c.stream, Ok tt) d.stream result
           (λ e found. let r = refused e found in (r.0, ap (λ (v : ClientView). v.stream) r.1)) (λ found. let r = drops found in (r.0, ap (λ (v : ClientView). v.stream) r.1))) is
 
       called : (ready_now : IsReady P wav s.0 d) → segment_entries c.stream wav.samples ≡ segment_entries d.stream wav.samples
@@ -212,13 +212,13 @@ module _ {S T : Type 0} (P : mixport.Ghosts S) (G : gates.Ghosts T) (composes : 
 
   pub called-prepare : (s : S × T) (wav : Sound) (c d : ClientView) (answer : Answer) (result : Result (Unit {0}) PcmError) → IsReady P wav s.0 c
       → ((e : PcmError) → refusal_of Playback c.stream.status call.Prepare ≡ Some e → (result ≡ Err e) × (d ≡ c))
-      → (refusal_of Playback c.stream.status call.Prepare ≡ None → (result ≡ Ok tt) × (d ≡ record { stream = prepared c.stream; ring = c.ring }))
+      → (refusal_of Playback c.stream.status call.Prepare ≡ None → (result ≡ Ok tt) × (d ≡ record { stream = after_prepare c.stream; ring = c.ring }))
       → answer ≡ done_answer result → HasCalled P G s s wav c d op.Prepare answer
   called-prepare s wav c d answer result ready refused prepares is = by_refusal (refusal_of Playback c.stream.status call.Prepare) refl
     where
       takes : TakesAt P G s (made_call c.ring [] (P.view s.0).marks c.stream op.Prepare) s (d.stream, answer)
       takes = answer-taken done_answer s s _ d.stream result answer
-          (admitted-taken s c.stream call.Prepare (prepared c.stream, Ok tt) d.stream result
+          (admitted-taken s c.stream call.Prepare (after_prepare c.stream, Ok tt) d.stream result
           (λ e found. let r = refused e found in (r.0, ap (λ (v : ClientView). v.stream) r.1)) (λ found. let r = prepares found in (r.0, ap (λ (v : ClientView). v.stream) r.1))) is
 
       called : (e : PlaybackStream) (ring : List ℤ) (a : Answer) → d ≡ record { stream = e; ring = ring } → answer ≡ a → IsReady P wav s.0 (record { stream = e; ring = ring })
@@ -235,8 +235,8 @@ module _ {S T : Type 0} (P : mixport.Ghosts S) (G : gates.Ghosts T) (composes : 
       by_refusal : (refusal : Option PcmError) → refusal_of Playback c.stream.status call.Prepare ≡ refusal → HasCalled P G s s wav c d op.Prepare answer
       by_refusal None found =
           let r = prepares found in
-          called (prepared c.stream) c.ring Done r.1 (is ∙ ap done_answer r.0) (IsReady-prepared wav s.0 c ready)
-          (Extends-still P composes s.0 c.stream (prepared c.stream) wav.samples (stretch_of c.stream)
+          called (after_prepare c.stream) c.ring Done r.1 (is ∙ ap done_answer r.0) (IsReady-prepared wav s.0 c ready)
+          (Extends-still P composes s.0 c.stream (after_prepare c.stream) wav.samples (stretch_of c.stream)
           (sym (append-nil (flat_map (entries_by c.stream wav.samples) (stretch_of c.stream)) ∙ stretch-entries c.stream wav.samples)) refl refl)
       by_refusal (Some e) found =
           let r = refused e found in
@@ -248,7 +248,7 @@ module _ {S T : Type 0} (P : mixport.Ghosts S) (G : gates.Ghosts T) (composes : 
       → TakesAt P G s (made_call c.ring [] (P.view s.0).marks c.stream op.Pause) t (d.stream, answer)
       → Keeps P G s t (record { stream = base_of c.stream d.stream; ring = c.ring }) d result AnySamples
       → ((e : PcmError) → refusal_of Playback c.stream.status call.Pause ≡ Some e → d ≡ c)
-      → (refusal_of Playback c.stream.status call.Pause ≡ None → d ≡ record { stream = paused c.stream; ring = c.ring })
+      → (refusal_of Playback c.stream.status call.Pause ≡ None → d ≡ record { stream = after_pause c.stream; ring = c.ring })
       → d.stream.fed ≤ frames_of wav → HasCalled P G s t wav c d op.Pause answer
   called-pause s t wav c d answer result ready takes keeps refused pauses fed =
       called-keeps s t wav c d op.Pause answer result AnySamples [] ready tt takes
@@ -265,10 +265,10 @@ module _ {S T : Type 0} (P : mixport.Ghosts S) (G : gates.Ghosts T) (composes : 
       base_is : (refusal : Option PcmError) → refusal_of Playback c.stream.status call.Pause ≡ refusal → base_of c.stream d.stream ≡ c.stream
       base_is None found =
           ap (λ (v : ClientView). base_of c.stream v.stream) (pauses found)
-          ∙ ap (λ (test : Bool). if test then rebased c.stream else c.stream) (not_now (is_paused c.stream.status.state))
+          ∙ ap (λ (test : Bool). if test then with_new_base c.stream else c.stream) (not_now (is_paused c.stream.status.state))
       base_is (Some e) found =
           ap (λ (v : ClientView). base_of c.stream v.stream) (refused e found)
-          ∙ ap (λ (test : Bool). if test then rebased c.stream else c.stream) (not_both (is_paused c.stream.status.state))
+          ∙ ap (λ (test : Bool). if test then with_new_base c.stream else c.stream) (not_both (is_paused c.stream.status.state))
 
   -- a line that isn't a client's, and a `die`, which makes no call
   pub called-refused : (s : S × T) (wav : Sound) (c : ClientView) (asked : Op) → IsReady P wav s.0 c

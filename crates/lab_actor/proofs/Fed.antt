@@ -19,7 +19,7 @@ use Rattle.pcm_stream.specs.Status.{refusal_of, is_moving}
 use Rattle.pcm_stream.specs.declared.direction.Direction.TheVariants.{Playback}
 use Rattle.dmix_client.specs.declared.commit.Commit.{Commit}
 use Rattle.dmix_client.specs.declared.stream.PlaybackStream.{PlaybackStream}
-use Rattle.dmix_client.specs.Calls.{Answered, accepted_if, committed_by, draining, found_at, going_on, going_on_by, has_frames, is_running, is_stop, late_at, late_of, pending_of, rebased, resumed, seen_at, with_outcome, after_start, started_in, stopped_in, after_sync, taken_of, with_number, written_after}
+use Rattle.dmix_client.specs.Calls.{Answered, accepted_if, committed_by, draining, found_at, going_on, going_on_by, has_frames, is_running, is_stop, late_at, late_of, pending_of, with_new_base, after_resume, seen_at, with_outcome, after_start, started_in, stopped_in, after_sync, taken_of, with_number, written_after}
 use Rattle.dmix_client.specs.Course.{admitted, admitted_by, drain_course, drain_on, drains, fills, number_course, numbered, pause_course, resumes, start_course, starts, starts_taking, sync_course, syncs, takes_more, write_course, write_on, writes_on}
 use Rattle.dmix_client.specs.Rewind.{back_of, back_on, checks, last_channel, last_laid, left_of, rewind_course, rewind_on, rewindable_course, rewindable_of, rewinds, rewound, take_frames, taken_back, takes_back, without}
 use Rattle.dmix_client.specs.View.{IsSound, avail_of}
@@ -60,9 +60,9 @@ after_start-fed c state cursor (Some position) commit =
     by_test c.fed position.gone (going_on (seen_at c position) state lost) (if is_stop commit.ended then stopped else going_on done state begun) (going_on-fed (seen_at c position) state lost)
     (by_test c.fed (is_stop commit.ended) stopped (going_on done state begun) (record { same = refl }) (going_on-fed done state begun))
 
-resumed-fed : (c : PlaybackStream) (cursor : Cursor) (load : Option Position) (commit : Commit) → IsSame c.fed (resumed c cursor load commit)
+resumed-fed : (c : PlaybackStream) (cursor : Cursor) (load : Option Position) (commit : Commit) → IsSame c.fed (after_resume c cursor load commit)
 resumed-fed c cursor None commit = record { same = refl }
-resumed-fed c cursor (Some position) commit = after_start-fed (rebased c) _ cursor (Some position) commit
+resumed-fed c cursor (Some position) commit = after_start-fed (with_new_base c) _ cursor (Some position) commit
 
 with_number-fed : (number : PlaybackStream → ℕ) (n : ℕ) (done : Answered (Unit {0})) → IsSame n done → IsSame n (with_number number done)
 with_number-fed number n (c, Ok done) is = record { same = is.same }

@@ -21,7 +21,7 @@ use Rattle.dmix_client.specs.declared.commit.Commit.{Commit}
 use Rattle.dmix_client.specs.declared.stream.PlaybackStream.{PlaybackStream}
 use Rattle.pcm_stream.specs.declared.direction.Direction.TheVariants.{Playback}
 use Rattle.pcm_stream.specs.Status.{is_moving, is_refusal, nothing_found, refusal_in, refusal_of}
-use Rattle.dmix_client.specs.Calls.{Answered, accepted, accepted_if, avail_answer, committed_by, delay_answer, dropped, end_channel, end_of_commit, facts_of, found_at, going_on, going_on_by, is_running, is_stop, late_at, late_of, over_of, paused, pending_of, prepared, rebased, resumed, seen_at, with_outcome, after_start, started_in, start_count, stopped_in, sync_count, after_sync, taken_of, with_number, written_after}
+use Rattle.dmix_client.specs.Calls.{Answered, with_accepted, accepted_if, avail_answer, committed_by, delay_answer, after_drop, end_channel, end_of_commit, facts_of, found_at, going_on, going_on_by, is_running, is_stop, late_at, late_of, over_of, after_pause, pending_of, after_prepare, with_new_base, after_resume, seen_at, with_outcome, after_start, started_in, start_count, stopped_in, sync_count, after_sync, taken_of, with_number, written_after}
 use Rattle.dmix_client.specs.Calls as calls
 use Rattle.dmix_client.specs.Course.{admitted, admitted_by, commits, drain_course, drain_on, drains, fills, commit_at, go_on, lay_each, lay_frame, lay_frames, lay_on, looks, nothing, number_course, numbered, one_frame_more, one_more, pause_course, resumes, start_course, starts, starts_taking, syncs, takes_more, write_on, writes_on}
 use Rattle.dmix_client.specs.Rewind.{back_of, checks, last_channel, last_laid, rewind_course, rewind_on, rewindable_course, rewindable_of, rewinds, rewound, take_frames, taken_back, takes_back}
@@ -144,9 +144,9 @@ after_start-kept b c state cursor (Some p) x is short = by_gone p.gone
         (next-late (λ frame channel. c.stretch.part < length (rising b)) Prepared call.Start (found_at p None) tt)
     by_gone false = by_stop (is_stop x.ended)
 
-resumed-kept : (b : List ℕ) (c : PlaybackStream) (cursor : Cursor) (load : Option Position) (x : Commit) → c.setup.bindings ≡ b → Short b x → Kept b (resumed c cursor load x)
+resumed-kept : (b : List ℕ) (c : PlaybackStream) (cursor : Cursor) (load : Option Position) (x : Commit) → c.setup.bindings ≡ b → Short b x → Kept b (after_resume c cursor load x)
 resumed-kept b c cursor None x is short = (is, tt)
-resumed-kept b c cursor (Some p) x is short = after_start-kept b (rebased c) Running cursor (Some p) x is short
+resumed-kept b c cursor (Some p) x is short = after_start-kept b (with_new_base c) Running cursor (Some p) x is short
 
 accepted-kept : (b : List ℕ) (n : ℕ) (done : Answered (Unit {0})) → Kept b done → Kept b (accepted_if n done)
 accepted-kept b n (c, Ok done) kept = (kept.0, tt)
@@ -196,9 +196,9 @@ starts-kept b c state cursor upto ring is = All-then (λ (x : Option Position ×
 resumes-kept : (b : List ℕ) (c : PlaybackStream) (cursor : Cursor) (ring : List ℤ) → c.setup.bindings ≡ b → All (Kept b) (resumes c cursor ring)
 unfolding resumes
 resumes-kept b c cursor ring is = All-then (λ (x : Option Position × Commit). Short b x.1) (Kept b)
-    (looks (λ position. started_in (rebased c) Running position cursor) (λ position. start_count (rebased c) cursor position (pending_of c)) ring)
-    (λ found. ends (resumed c cursor found.0 found.1))
-    (looks-short b (λ position. started_in (rebased c) Running position cursor) (λ position. start_count (rebased c) cursor position (pending_of c)) ring (λ p. is))
+    (looks (λ position. started_in (with_new_base c) Running position cursor) (λ position. start_count (with_new_base c) cursor position (pending_of c)) ring)
+    (λ found. ends (after_resume c cursor found.0 found.1))
+    (looks-short b (λ position. started_in (with_new_base c) Running position cursor) (λ position. start_count (with_new_base c) cursor position (pending_of c)) ring (λ p. is))
     (λ found short. resumed-kept b c cursor found.0 found.1 is short)
 
 numbered-kept : (b : List ℕ) (number : PlaybackStream → ℕ) (m : Course (Answered (Unit {0}))) → All (Kept b) m → All (Kept b) (numbered number m)
@@ -216,7 +216,7 @@ write-kept : (b : List ℕ) (c : PlaybackStream) (cursor : Cursor) (n : ℕ) →
 unfolding writes_on starts_taking
 write-kept b c cursor n is = All-if (Kept b) (is_running c.status.state) (writes_on c [] [] n) (fills c [] [] cursor n)
     (All-then (Kept b) (Kept b) (syncs c call.Transfer []) (write_on [] [] n) (syncs-kept b c call.Transfer [] is) (write_on-kept b [] n))
-    (All-if (Kept b) (starts_with c n) (starts_taking c (ring_with c [] [] (taken_of c n)) cursor (taken_of c n)) (ends (accepted c (taken_of c n), Ok (taken_of c n)))
+    (All-if (Kept b) (starts_with c n) (starts_taking c (ring_with c [] [] (taken_of c n)) cursor (taken_of c n)) (ends (with_accepted c (taken_of c n), Ok (taken_of c n)))
     (All-then (Kept b) (Kept b) (starts c Running cursor (c.stretch.written + taken_of c n) (ring_with c [] [] (taken_of c n))) (λ done. ends (accepted_if (taken_of c n) done))
     (starts-kept b c Running cursor (c.stretch.written + taken_of c n) (ring_with c [] [] (taken_of c n)) is) (accepted-kept b (taken_of c n)))
     (is, tt))
@@ -235,12 +235,12 @@ drain_on-kept b (c, Err e) kept = kept
 drain-kept : (b : List ℕ) (c : PlaybackStream) (cursor : Cursor) → c.setup.bindings ≡ b → All (Kept b) (drain_course c [] cursor)
 unfolding drains
 drain-kept b c cursor is = All-if (Kept b) (is_moving c.status.state) (syncs (calls.draining c) call.Drain []) _ (syncs-kept b (calls.draining c) call.Drain [] is)
-    (All-if (Kept b) (calls.has_frames c) (drains c [] cursor) (ends (dropped c, Ok tt))
+    (All-if (Kept b) (calls.has_frames c) (drains c [] cursor) (ends (after_drop c, Ok tt))
     (All-then (Kept b) (Kept b) (starts c Draining cursor c.stretch.written []) (drain_on []) (starts-kept b c Draining cursor c.stretch.written [] is) (drain_on-kept b)) (is, tt))
 
 pause-kept : (b : List ℕ) (on : Bool) (c : PlaybackStream) (cursor : Cursor) → c.setup.bindings ≡ b → All (Kept b) (pause_course on c [] cursor)
-pause-kept b on c cursor is = All-if (Kept b) on (ends (paused c, Ok tt)) _ (is, tt)
-    (All-if (Kept b) (nat_eq (pending_of c) 0) (ends (rebased c, Ok tt)) (resumes c cursor []) (is, tt) (resumes-kept b c cursor [] is))
+pause-kept b on c cursor is = All-if (Kept b) on (ends (after_pause c, Ok tt)) _ (is, tt)
+    (All-if (Kept b) (nat_eq (pending_of c) 0) (ends (with_new_base c, Ok tt)) (resumes c cursor []) (is, tt) (resumes-kept b c cursor [] is))
 
 number_course-kept : (b : List ℕ) (number : PlaybackStream → ℕ) (c : PlaybackStream) → c.setup.bindings ≡ b → All (Kept b) (number_course number c [])
 number_course-kept b number c is = All-if (Kept b) (is_moving c.status.state) (numbered number (syncs c call.Sync [])) (ends (c, Ok (number c)))
@@ -308,8 +308,8 @@ call-named b wav marks c op.Sync not is = done-named b _ (admitted-kept b c call
 call-named b wav marks c op.Avail not is = count-named b _ (admitted-kept b c call.Sync _ is (number_course-kept b avail_answer c is))
 call-named b wav marks c op.Delay not is = count-named b _ (admitted-kept b c call.Sync _ is (number_course-kept b delay_answer c is))
 call-named b wav marks c op.Drain not is = done-named b _ (admitted-kept b c call.Drain _ is (drain-kept b c marks.cursor is))
-call-named b wav marks c op.Drop not is = done-named b _ (admitted-kept b c call.Drop (ends (dropped c, Ok tt)) is (is, tt))
-call-named b wav marks c op.Prepare not is = done-named b _ (admitted-kept b c call.Prepare (ends (prepared c, Ok tt)) is (is, tt))
+call-named b wav marks c op.Drop not is = done-named b _ (admitted-kept b c call.Drop (ends (after_drop c, Ok tt)) is (is, tt))
+call-named b wav marks c op.Prepare not is = done-named b _ (admitted-kept b c call.Prepare (ends (after_prepare c, Ok tt)) is (is, tt))
 call-named b wav marks c op.Pause not is = done-named b _ (admitted-kept b c call.Pause _ is (pause-kept b true c marks.cursor is))
 call-named b wav marks c op.Resume not is = done-named b _ (admitted-kept b c call.Resume _ is (pause-kept b false c marks.cursor is))
 call-named b wav marks c op.Rewindable not is = count-named b _ (admitted-kept b c call.Transfer _ is (rewindable-kept b c marks.floor is))

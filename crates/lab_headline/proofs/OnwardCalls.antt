@@ -19,7 +19,7 @@ use Rattle.pcm_stream.specs.Status.{is_moving, nothing_found, refusal_of}
 use Rattle.course.specs.Course.{Course, ends}
 use Rattle.dmix_client.specs.declared.commit.Commit.{Commit}
 use Rattle.dmix_client.specs.declared.stream.PlaybackStream.{PlaybackStream}
-use Rattle.dmix_client.specs.Calls.{Answered, committed_by, found_at, is_prepared, is_stop, late_of, with_outcome, start_count, after_start, started_in, stopped_in, accepted_if, avail_answer, delay_answer, draining, dropped, has_frames, in_state, is_running, late_at, pending_of, prepared, rebased, resumed, taken_of, with_number, written_after}
+use Rattle.dmix_client.specs.Calls.{Answered, committed_by, found_at, is_prepared, is_stop, late_of, with_outcome, start_count, after_start, started_in, stopped_in, accepted_if, avail_answer, delay_answer, draining, after_drop, has_frames, in_state, is_running, late_at, pending_of, after_prepare, with_new_base, after_resume, taken_of, with_number, written_after}
 use Rattle.dmix_client.specs.Course.{commits, looks, nothing, starts, syncs, admitted, admitted_by, drain_course, drain_on, drains, fills, number_course, numbered, pause_course, resumes, start_course, starts_taking, sync_course, takes_more, write_on, writes_on}
 use Rattle.dmix_client.specs.Port.{IsStep}
 use Rattle.dmix_client.specs.Rewind.{back_of, checks, last_channel, last_laid, rewind_course, rewind_on, rewindable_course, rewindable_of, rewinds, rewound, take_frames, taken_back, takes_back, without}
@@ -191,7 +191,7 @@ module _ (p : ℕ) (g : Geometry) (x y : ℕ) where
       drains-go waits = Leads-then p g (Started p g x y Draining) (OnwardAfter p x y) m (starts c Draining m.cursor c.stretch.written []) (drain_on [])
           (starts-go p g x y c Draining c.stretch.written [] m refl waits) drain_on-goes
 
-      by_frames : (prepared some : Bool) → is_prepared c.status.state ≡ prepared → Leads p g (OnwardAfter p x y) m (if prepared && some then drains c [] m.cursor else ends (dropped c, Ok tt))
+      by_frames : (prepared some : Bool) → is_prepared c.status.state ≡ prepared → Leads p g (OnwardAfter p x y) m (if prepared && some then drains c [] m.cursor else ends (after_drop c, Ok tt))
       by_frames true true is_so = drains-go (prepared-waits m c is_so is)
       by_frames true false is_so = in-state Setup m c refl refl is
       by_frames false some is_so = in-state Setup m c refl refl is
@@ -200,32 +200,32 @@ module _ (p : ℕ) (g : Geometry) (x y : ℕ) where
       draining-begun begun = record { bound = begun.bound; started = begun.started; unprepared = refl; past = begun.past; lies = begun.lies }
 
       by_test : (moves : Bool) → is_moving c.status.state ≡ moves → Leads p g (OnwardAfter p x y) m (if moves then syncs (draining c) call.Drain []
-          else (if has_frames c then drains c [] m.cursor else ends (dropped c, Ok tt)))
+          else (if has_frames c then drains c [] m.cursor else ends (after_drop c, Ok tt)))
       by_test true moves = syncs-goes (draining c) call.Drain m tt (draining-begun (moving-begun p x y m c moves is))
       by_test false moves = by_frames (is_prepared c.status.state) (nat_lt 0 c.stretch.written) refl
 
   -- ---- a resume
 
-  pub based-waits : (m : Marks) (c : PlaybackStream) → Channels c.setup.bindings → x ≤ max p (free_frame m) → free_frame m ≤ high_end m → y ≤ high_end m → Waits p x y m (rebased c)
+  pub based-waits : (m : Marks) (c : PlaybackStream) → Channels c.setup.bindings → x ≤ max p (free_frame m) → free_frame m ≤ high_end m → y ≤ high_end m → Waits p x y m (with_new_base c)
   based-waits m c bound low top high = record { bound = bound; still = refl; none = refl; no_part = refl; low = low; top = top; high = high }
 
-  pub resumes-go : (Q : Marks → Answered (Unit {0}) → Type 0) (c : PlaybackStream) (m : Marks) → Waits p x y m (rebased c) → Q m (stopped_in c)
+  pub resumes-go : (Q : Marks → Answered (Unit {0}) → Type 0) (c : PlaybackStream) (m : Marks) → Waits p x y m (with_new_base c) → Q m (stopped_in c)
       → ((n : Marks) (done : Answered (Unit {0})) → OnwardAfter p x y n done → Q n done) → Leads p g Q m (resumes c m.cursor [])
   unfolding resumes
-  resumes-go Q c m waits stop on = Leads-then p g (λ n found. Q n (resumed c m.cursor found.0 found.1)) Q m
-      (looks (λ position. started_in (rebased c) Running position m.cursor) (λ position. start_count (rebased c) m.cursor position (pending_of c)) [])
-      (λ found. ends (resumed c m.cursor found.0 found.1))
-      (looks-lead p g x y (λ n found. Q n (resumed c m.cursor found.0 found.1)) (λ position. started_in (rebased c) Running position m.cursor)
-      (λ position. start_count (rebased c) m.cursor position (pending_of c)) [] m stop
-      (λ position least. Leads-map p g (λ n commit. Started p g x y Running n (after_start (rebased c) Running m.cursor (Some position) commit))
-      (λ n commit. Q n (resumed c m.cursor (Some position) commit)) m (commits (started_in (rebased c) Running position m.cursor) [] _)
-      (start-commits p g x y (rebased c) Running (start_count (rebased c) m.cursor position (pending_of c)) [] m refl waits position least)
-      (λ n commit started. on n (resumed c m.cursor (Some position) commit) started.0)))
+  resumes-go Q c m waits stop on = Leads-then p g (λ n found. Q n (after_resume c m.cursor found.0 found.1)) Q m
+      (looks (λ position. started_in (with_new_base c) Running position m.cursor) (λ position. start_count (with_new_base c) m.cursor position (pending_of c)) [])
+      (λ found. ends (after_resume c m.cursor found.0 found.1))
+      (looks-lead p g x y (λ n found. Q n (after_resume c m.cursor found.0 found.1)) (λ position. started_in (with_new_base c) Running position m.cursor)
+      (λ position. start_count (with_new_base c) m.cursor position (pending_of c)) [] m stop
+      (λ position least. Leads-map p g (λ n commit. Started p g x y Running n (after_start (with_new_base c) Running m.cursor (Some position) commit))
+      (λ n commit. Q n (after_resume c m.cursor (Some position) commit)) m (commits (started_in (with_new_base c) Running position m.cursor) [] _)
+      (start-commits p g x y (with_new_base c) Running (start_count (with_new_base c) m.cursor position (pending_of c)) [] m refl waits position least)
+      (λ n commit started. on n (after_resume c m.cursor (Some position) commit) started.0)))
       (λ n found is. is)
 
-  pub resume-leads : (Q : Marks → Answered (Unit {0}) → Type 0) (c : PlaybackStream) (m : Marks) → Waits p x y m (rebased c) → Q m (stopped_in c)
+  pub resume-leads : (Q : Marks → Answered (Unit {0}) → Type 0) (c : PlaybackStream) (m : Marks) → Waits p x y m (with_new_base c) → Q m (stopped_in c)
       → ((n : Marks) (done : Answered (Unit {0})) → OnwardAfter p x y n done → Q n done) → Leads p g Q m (pause_course false c [] m.cursor)
-  resume-leads Q c m waits stop on = Leads-if p g Q m (nat_eq (pending_of c) 0) (ends (rebased c, Ok tt)) (resumes c m.cursor []) (on m (rebased c, Ok tt) (inr waits))
+  resume-leads Q c m waits stop on = Leads-if p g Q m (nat_eq (pending_of c) 0) (ends (with_new_base c, Ok tt)) (resumes c m.cursor []) (on m (with_new_base c, Ok tt) (inr waits))
       (resumes-go Q c m waits stop on)
 
   pub reached : (m : Marks) (c : PlaybackStream) → Onward p x y m c → (x ≤ max p (free_frame m)) × (free_frame m ≤ high_end m) × (y ≤ high_end m) × Channels c.setup.bindings
@@ -333,8 +333,8 @@ module _ (p : ℕ) (g : Geometry) (x y : ℕ) where
   call-goes wav c op.Avail m is = answered-goes count_answer m _ (admitted-goes c call.Sync _ m is (λ admits. number_course-goes avail_answer c m is))
   call-goes wav c op.Delay m is = answered-goes count_answer m _ (admitted-goes c call.Sync _ m is (λ admits. number_course-goes delay_answer c m is))
   call-goes wav c op.Drain m is = answered-goes done_answer m _ (admitted-goes c call.Drain _ m is (λ admits. drain-goes c m is))
-  call-goes wav c op.Drop m is = answered-goes done_answer m _ (admitted-goes c call.Drop (ends (dropped c, Ok tt)) m is (λ admits. in-state Setup m c refl refl is))
-  call-goes wav c op.Prepare m is = answered-goes done_answer m _ (admitted-goes c call.Prepare (ends (prepared c, Ok tt)) m is (λ admits. let at = reached m c is in inr (record {
+  call-goes wav c op.Drop m is = answered-goes done_answer m _ (admitted-goes c call.Drop (ends (after_drop c, Ok tt)) m is (λ admits. in-state Setup m c refl refl is))
+  call-goes wav c op.Prepare m is = answered-goes done_answer m _ (admitted-goes c call.Prepare (ends (after_prepare c, Ok tt)) m is (λ admits. let at = reached m c is in inr (record {
     bound = at.3;
     still = refl;
     none = refl;

@@ -14,7 +14,7 @@ use Rattle.pcm_stream.specs.declared.direction.Direction.TheVariants.{Playback}
 use Rattle.pcm_stream.specs.Status.{refusal_of}
 use Rattle.course.specs.Course.{◌>>=◌, Course, ends, gets, lays, loads}
 use Rattle.dmix_client.specs.declared.stream.PlaybackStream.{PlaybackStream}
-use Rattle.dmix_client.specs.Calls.{Answered, is_paused, paused, prepared, segment_of}
+use Rattle.dmix_client.specs.Calls.{Answered, is_paused, after_pause, after_prepare, segment_of}
 use Rattle.dmix_client.specs.Course.{admitted, admitted_by, pause_course}
 use Rattle.lab_script.specs.declared.line.Op.{Op}
 use Rattle.lab_script.specs.declared.line.Op.TheVariants as op
@@ -94,12 +94,12 @@ module _ (p : ℕ) (g : Geometry) (x y : ℕ) where
       at : (x ≤ max p (free_frame m)) × (free_frame m ≤ high_end m) × (y ≤ high_end m) × Channels c.setup.bindings
       at = reached p g x y m c is
 
-      waits : (low high : ℕ) → low ≤ max p (free_frame m) → high ≤ high_end m → Onward p low high m (prepared c)
+      waits : (low high : ℕ) → low ≤ max p (free_frame m) → high ≤ high_end m → Onward p low high m (after_prepare c)
       waits low high first second = inr (record { bound = at.3; still = refl; none = refl; no_part = refl; low = first; top = at.1; high = second })
 
       by_refusal : (refusal : Option PcmError) → Leads p g (λ n (done : Client × Answer). After p x y client c n done.0) m
-          (answered done_answer (admitted_by refusal c (ends (prepared c, Ok tt))) >>= λ done. ends (after_call client c op.Prepare done))
-      by_refusal None = stretch-ends client c m m (Some (prepared c)) is (waits x y at.0 at.2)
+          (answered done_answer (admitted_by refusal c (ends (after_prepare c, Ok tt))) >>= λ done. ends (after_call client c op.Prepare done))
+      by_refusal None = stretch-ends client c m m (Some (after_prepare c)) is (waits x y at.0 at.2)
           (λ end top. waits (end_of c) (end_of c) (max-least (end_of c) (free_frame m) p end) (omega (arith, end, top)))
       by_refusal (Some e) = (is, inl (append-nil client.ended))
 

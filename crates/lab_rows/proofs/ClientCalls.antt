@@ -18,7 +18,7 @@ use Rattle.course.specs.Course.{◌>>=◌, Course, ends}
 use Rattle.wav_io.specs.Sound.{Sound}
 use Rattle.dmix_client.specs.declared.commit.Commit.{Commit}
 use Rattle.dmix_client.specs.declared.stream.PlaybackStream.{PlaybackStream}
-use Rattle.dmix_client.specs.Calls.{Answered, accepted, accepted_if, avail_answer, committed_by, delay_answer, dropped, facts_of, found_at, going_on, going_on_by, is_running, is_stop, late_at, late_of, over_of, paused, pending_of, prepared, rebased, resumed, seen_at, with_outcome, after_start, started_in, start_count, stopped_in, sync_count, after_sync, taken_of, with_number, written_after}
+use Rattle.dmix_client.specs.Calls.{Answered, with_accepted, accepted_if, avail_answer, committed_by, delay_answer, after_drop, facts_of, found_at, going_on, going_on_by, is_running, is_stop, late_at, late_of, over_of, after_pause, pending_of, after_prepare, with_new_base, after_resume, seen_at, with_outcome, after_start, started_in, start_count, stopped_in, sync_count, after_sync, taken_of, with_number, written_after}
 use Rattle.dmix_client.specs.Calls as calls
 use Rattle.dmix_client.specs.Course.{admitted, admitted_by, commits, drain_course, drain_on, drains, fills, looks, nothing, number_course, numbered, pause_course, resumes, start_course, starts, starts_taking, sync_course, syncs, takes_more, write_on, writes_on}
 use Rattle.dmix_client.specs.Rewind.{back_of, checks, last_channel, last_laid, rewind_course, rewind_on, rewindable_course, rewindable_of, rewinds, rewound, take_frames, taken_back, takes_back, without}
@@ -79,9 +79,9 @@ after_start-reports c s cursor (Some p) x is there = by_gone p.gone
     by_gone true = begun-reports (seen_at c p) s (found_at p None) there
     by_gone false = by_stop (is_stop x.ended)
 
-resumed-reports : (c : PlaybackStream) (cursor : Cursor) (load : Option Position) (x : Commit) → HasState c → Reports (resumed c cursor load x)
+resumed-reports : (c : PlaybackStream) (cursor : Cursor) (load : Option Position) (x : Commit) → HasState c → Reports (after_resume c cursor load x)
 resumed-reports c cursor None x is = (tt, is)
-resumed-reports c cursor (Some p) x is = after_start-reports (rebased c) Running cursor (Some p) x tt tt
+resumed-reports c cursor (Some p) x is = after_start-reports (with_new_base c) Running cursor (Some p) x tt tt
 
 accepted-reports : (n : ℕ) (done : Answered (Unit {0})) → Reports done → Reports (accepted_if n done)
 accepted-reports n (c, Ok done) reports = (tt, reports.1)
@@ -140,8 +140,8 @@ starts-reports c s cursor upto ring is there =
 resumes-reports : (c : PlaybackStream) (cursor : Cursor) (ring : List ℤ) → HasState c → All Reports (resumes c cursor ring)
 unfolding resumes
 resumes-reports c cursor ring is =
-    All-after Reports (looks (λ position. started_in (rebased c) Running position cursor) (λ position. start_count (rebased c) cursor position (pending_of c)) ring)
-    (λ found. ends (resumed c cursor found.0 found.1)) (λ found. resumed-reports c cursor found.0 found.1 is)
+    All-after Reports (looks (λ position. started_in (with_new_base c) Running position cursor) (λ position. start_count (with_new_base c) cursor position (pending_of c)) ring)
+    (λ found. ends (after_resume c cursor found.0 found.1)) (λ found. resumed-reports c cursor found.0 found.1 is)
 
 numbered-reports : (number : PlaybackStream → ℕ) (m : Course (Answered (Unit {0}))) → All Reports m → All Reports (numbered number m)
 unfolding numbered
@@ -158,7 +158,7 @@ write-reports : (c : PlaybackStream) (cursor : Cursor) (n : ℕ) → HasState c 
 unfolding writes_on starts_taking
 write-reports c cursor n is = All-if Reports (is_running c.status.state) (writes_on c [] [] n) (fills c [] [] cursor n)
     (All-then Reports Reports (syncs c call.Transfer []) (write_on [] [] n) (syncs-reports c call.Transfer [] is) (write_on-reports [] [] n))
-    (All-if Reports (starts_with c n) (starts_taking c (ring_with c [] [] (taken_of c n)) cursor (taken_of c n)) (ends (accepted c (taken_of c n), Ok (taken_of c n)))
+    (All-if Reports (starts_with c n) (starts_taking c (ring_with c [] [] (taken_of c n)) cursor (taken_of c n)) (ends (with_accepted c (taken_of c n), Ok (taken_of c n)))
     (All-then Reports Reports (starts c Running cursor (c.stretch.written + taken_of c n) (ring_with c [] [] (taken_of c n))) (λ done. ends (accepted_if (taken_of c n) done))
     (starts-reports c Running cursor (c.stretch.written + taken_of c n) (ring_with c [] [] (taken_of c n)) is tt) (accepted-reports (taken_of c n)))
     (tt, is))
@@ -180,12 +180,12 @@ drain_on-reports (c, Err e) reports = reports
 drain-reports : (c : PlaybackStream) (cursor : Cursor) → HasState c → All Reports (drain_course c [] cursor)
 unfolding drains
 drain-reports c cursor is = All-if Reports (is_moving c.status.state) (syncs (calls.draining c) call.Drain []) _ (syncs-reports (calls.draining c) call.Drain [] tt)
-    (All-if Reports (calls.has_frames c) (drains c [] cursor) (ends (dropped c, Ok tt))
+    (All-if Reports (calls.has_frames c) (drains c [] cursor) (ends (after_drop c, Ok tt))
     (All-then Reports Reports (starts c Draining cursor c.stretch.written []) (drain_on []) (starts-reports c Draining cursor c.stretch.written [] is tt) drain_on-reports) (tt, tt))
 
 pause-reports : (on : Bool) (c : PlaybackStream) (cursor : Cursor) → HasState c → All Reports (pause_course on c [] cursor)
-pause-reports on c cursor is = All-if Reports on (ends (paused c, Ok tt)) _ (tt, tt)
-    (All-if Reports (nat_eq (pending_of c) 0) (ends (rebased c, Ok tt)) (resumes c cursor []) (tt, tt) (resumes-reports c cursor [] is))
+pause-reports on c cursor is = All-if Reports on (ends (after_pause c, Ok tt)) _ (tt, tt)
+    (All-if Reports (nat_eq (pending_of c) 0) (ends (with_new_base c, Ok tt)) (resumes c cursor []) (tt, tt) (resumes-reports c cursor [] is))
 
 number_course-reports : (number : PlaybackStream → ℕ) (c : PlaybackStream) → HasState c → All Reports (number_course number c [])
 number_course-reports number c is = All-if Reports (is_moving c.status.state) (numbered number (syncs c call.Sync [])) (ends (c, Ok (number c)))
@@ -246,8 +246,8 @@ call-said wav marks c op.Sync is = done-said c call.Sync _ is (sync-reports c is
 call-said wav marks c op.Avail is = count-said c call.Sync _ is (number_course-reports avail_answer c is)
 call-said wav marks c op.Delay is = count-said c call.Sync _ is (number_course-reports delay_answer c is)
 call-said wav marks c op.Drain is = done-said c call.Drain _ is (drain-reports c marks.cursor is)
-call-said wav marks c op.Drop is = done-said c call.Drop (ends (dropped c, Ok tt)) is (tt, tt)
-call-said wav marks c op.Prepare is = done-said c call.Prepare (ends (prepared c, Ok tt)) is (tt, tt)
+call-said wav marks c op.Drop is = done-said c call.Drop (ends (after_drop c, Ok tt)) is (tt, tt)
+call-said wav marks c op.Prepare is = done-said c call.Prepare (ends (after_prepare c, Ok tt)) is (tt, tt)
 call-said wav marks c op.Pause is = done-said c call.Pause _ is (pause-reports true c marks.cursor is)
 call-said wav marks c op.Resume is = done-said c call.Resume _ is (pause-reports false c marks.cursor is)
 call-said wav marks c (op.Rewind n) is = count-said c call.Transfer _ is (rewind-reports c marks.floor n is)

@@ -17,7 +17,7 @@ use Rattle.dmix_client.specs.declared.commit.Commit.{Commit}
 use Rattle.dmix_client.specs.declared.stream.PlaybackStream.{PlaybackStream}
 use Rattle.pcm_stream.specs.declared.direction.Direction.TheVariants.{Playback}
 use Rattle.pcm_stream.specs.Status.{is_moving, refusal_of}
-use Rattle.dmix_client.specs.Calls.{Answered, accepted, accepted_if, avail_answer, avail_in, commit_count, delay_answer, delay_in, draining, dropped, has_frames, is_running, paused, pending_of, prepared, rebased, resumed, start_count, after_start, started_in, sync_count, after_sync, taken_of, with_number, written_after}
+use Rattle.dmix_client.specs.Calls.{Answered, with_accepted, accepted_if, avail_answer, avail_in, commit_count, delay_answer, delay_in, draining, after_drop, has_frames, is_running, after_pause, pending_of, after_prepare, with_new_base, after_resume, start_count, after_start, started_in, sync_count, after_sync, taken_of, with_number, written_after}
 use Rattle.dmix_client.specs.Course.{admitted, admitted_by, commit_at, commits, drain_course, drain_on, drains, fills, go_on, lay_each, lay_frame, lay_frames, lay_on, looks, nothing, number_course, numbered, one_frame_more, one_more, pause_call, pause_course, resumes, start_course, starts, starts_taking, sync_course, syncs, takes_more, write_on, writes_on}
 use Rattle.dmix_client.specs.Course as client_calls
 use Rattle.dmix_client.specs.Rewind.{back_of, back_on, checks, left_of, rewind_course, rewind_on, rewindable_course, rewindable_of, rewinds, rewound, take_each, take_frames, takes_back, without}
@@ -161,18 +161,18 @@ module _ (from member : ℕ) where
       (λ load x after. subst (SameButMember member done_answer (after_start c state cursor load x)) (sym (after_start-same (other_of c) state cursor other same load (commit_without_word x) after)) (after_start-word member c state cursor load x))
 
   resumed-same : (c : PlaybackStream) (cursor other : Cursor) → SameFrom from cursor other → (load : Option Position) (x : Commit) → IsFromOn from load
-      → resumed c other load x ≡ resumed c cursor load x
+      → after_resume c other load x ≡ after_resume c cursor load x
   resumed-same c cursor other same None x after = refl
-  resumed-same c cursor other same (Some p) x after = after_start-same (rebased c) Running cursor other same (Some p) x after
+  resumed-same c cursor other same (Some p) x after = after_start-same (with_new_base c) Running cursor other same (Some p) x after
 
   resumes-alike : (c : PlaybackStream) (cursor other : Cursor) (ring more : List ℤ) → SameFrom from cursor other
       → Alike from (SameButMember member done_answer) (resumes c cursor ring) (resumes (other_of c) other more)
   unfolding resumes
   resumes-alike c cursor other ring more same =
-      found-alike (λ p. started_in (rebased c) Running p cursor) (λ p. started_in (other_of (rebased c)) Running p other)
-      (λ p. start_count (rebased c) cursor p (pending_of c)) (λ p. start_count (other_of (rebased c)) other p (pending_of c)) ring more (resumed c cursor) (resumed (other_of c) other)
-      (started_in-same (rebased c) cursor other same) (start_count-same (rebased c) cursor other (pending_of c) same)
-      (λ load x after. subst (SameButMember member done_answer (resumed c cursor load x)) (sym (resumed-same (other_of c) cursor other same load (commit_without_word x) after)) (resumed-word member c cursor load x))
+      found-alike (λ p. started_in (with_new_base c) Running p cursor) (λ p. started_in (other_of (with_new_base c)) Running p other)
+      (λ p. start_count (with_new_base c) cursor p (pending_of c)) (λ p. start_count (other_of (with_new_base c)) other p (pending_of c)) ring more (after_resume c cursor) (after_resume (other_of c) other)
+      (started_in-same (with_new_base c) cursor other same) (start_count-same (with_new_base c) cursor other (pending_of c) same)
+      (λ load x after. subst (SameButMember member done_answer (after_resume c cursor load x)) (sym (resumed-same (other_of c) cursor other same load (commit_without_word x) after)) (resumed-word member c cursor load x))
 
   -- ---- the calls
 
@@ -210,12 +210,12 @@ module _ (from member : ℕ) where
       → Alike from (SameButMember member done_answer) (drain_course c ring cursor) (drain_course (other_of c) [] other)
   drain-alike c ring cursor other same = Alike-if from (SameButMember member done_answer) (is_moving c.status.state) (syncs (draining c) call.Drain ring) _ (syncs (draining (other_of c)) call.Drain []) _
       (syncs-alike (draining c) call.Drain ring [])
-      (Alike-if from (SameButMember member done_answer) (has_frames c) (drains c ring cursor) (ends _) (drains (other_of c) [] other) (ends _) (drains-alike c ring [] cursor other same) (at-once done_answer (dropped c, Ok tt)))
+      (Alike-if from (SameButMember member done_answer) (has_frames c) (drains c ring cursor) (ends _) (drains (other_of c) [] other) (ends _) (drains-alike c ring [] cursor other same) (at-once done_answer (after_drop c, Ok tt)))
 
   pause-alike : (on : Bool) (c : PlaybackStream) (ring : List ℤ) (cursor other : Cursor) → SameFrom from cursor other
       → Alike from (SameButMember member done_answer) (pause_course on c ring cursor) (pause_course on (other_of c) [] other)
-  pause-alike on c ring cursor other same = Alike-if from (SameButMember member done_answer) on (ends _) _ (ends _) _ (at-once done_answer (paused c, Ok tt))
-      (Alike-if from (SameButMember member done_answer) (nat_eq (pending_of c) 0) (ends _) (resumes c cursor ring) (ends _) (resumes (other_of c) other []) (at-once done_answer (rebased c, Ok tt)) (resumes-alike c cursor other ring [] same))
+  pause-alike on c ring cursor other same = Alike-if from (SameButMember member done_answer) on (ends _) _ (ends _) _ (at-once done_answer (after_pause c, Ok tt))
+      (Alike-if from (SameButMember member done_answer) (nat_eq (pending_of c) 0) (ends _) (resumes c cursor ring) (ends _) (resumes (other_of c) other []) (at-once done_answer (with_new_base c, Ok tt)) (resumes-alike c cursor other ring [] same))
 
   numbered-alike : (number other : PlaybackStream → ℕ) (Q : Answered (Unit {0}) → Answered (Unit {0}) → Type 0) (m n : Course (Answered (Unit {0})))
       → ((x y : Answered (Unit {0})) → Q x y → SameButMember member count_answer (with_number number x) (with_number other y))
@@ -268,7 +268,7 @@ module _ (from member : ℕ) where
       (Alike-if from (SameButMember member count_answer) (starts_with c (frames_in c samples)) (starts_taking c (ring_with c ring samples (taken_of c (frames_in c samples))) cursor (taken_of c (frames_in c samples))) (ends _)
       (starts_taking (other_of c) (ring_with c [] [] (taken_of c (frames_in c samples))) other (taken_of c (frames_in c samples))) (ends _)
       (starts_taking-alike c (ring_with c ring samples (taken_of c (frames_in c samples))) (ring_with c [] [] (taken_of c (frames_in c samples))) cursor other (taken_of c (frames_in c samples)) same)
-      (at-once count_answer (accepted c (taken_of c (frames_in c samples)), Ok (taken_of c (frames_in c samples)))))
+      (at-once count_answer (with_accepted c (taken_of c (frames_in c samples)), Ok (taken_of c (frames_in c samples)))))
 
   -- ---- rewinds
 
@@ -362,8 +362,8 @@ module _ (from member : ℕ) where
     pause = λ on. admitted-alike done_answer c (pause_call on) _ _ (pause-alike on c ring cursor other same);
     avail = admitted-alike count_answer c call.Sync _ _ (number-alike avail_answer (avail-member member) c ring);
     delay = admitted-alike count_answer c call.Sync _ _ (number-alike delay_answer (delay-member member) c ring);
-    drop = admitted-alike done_answer c call.Drop (ends (dropped c, Ok tt)) (ends (dropped (other_of c), Ok tt)) (at-once done_answer (dropped c, Ok tt));
-    prepare = admitted-alike done_answer c call.Prepare (ends (prepared c, Ok tt)) (ends (prepared (other_of c), Ok tt)) (at-once done_answer (prepared c, Ok tt));
+    drop = admitted-alike done_answer c call.Drop (ends (after_drop c, Ok tt)) (ends (after_drop (other_of c), Ok tt)) (at-once done_answer (after_drop c, Ok tt));
+    prepare = admitted-alike done_answer c call.Prepare (ends (after_prepare c, Ok tt)) (ends (after_prepare (other_of c), Ok tt)) (at-once done_answer (after_prepare c, Ok tt));
     rewind = λ n. admitted-alike count_answer c call.Transfer _ _ (rewind-alike c ring floor lower n same_floor);
     rewindable = admitted-alike count_answer c call.Transfer _ _ (rewindable-alike c floor lower same_floor);
   }

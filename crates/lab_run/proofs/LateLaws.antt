@@ -24,7 +24,7 @@ use Rattle.dmix_client.specs.declared.commit.Commit.{Commit}
 use Rattle.dmix_client.specs.declared.stream.PlaybackStream.{PlaybackStream}
 use Rattle.pcm_stream.specs.declared.direction.Direction.TheVariants.{Playback}
 use Rattle.pcm_stream.specs.Status.{is_moving, is_refusal, nothing_found, refusal_in, refusal_of}
-use Rattle.dmix_client.specs.Calls.{Answered, accepted, accepted_if, avail_answer, committed_by, delay_answer, dropped, end_channel, end_of_commit, facts_of, found_at, going_on, going_on_by, is_running, is_stop, late_at, late_of, over_of, paused, pending_of, prepared, rebased, resumed, seen_at, with_outcome, after_start, started_in, start_count, stopped_in, sync_count, after_sync, taken_of, with_number, written_after}
+use Rattle.dmix_client.specs.Calls.{Answered, with_accepted, accepted_if, avail_answer, committed_by, delay_answer, after_drop, end_channel, end_of_commit, facts_of, found_at, going_on, going_on_by, is_running, is_stop, late_at, late_of, over_of, after_pause, pending_of, after_prepare, with_new_base, after_resume, seen_at, with_outcome, after_start, started_in, start_count, stopped_in, sync_count, after_sync, taken_of, with_number, written_after}
 use Rattle.dmix_client.specs.Calls as calls
 use Rattle.dmix_client.specs.Course.{admitted, admitted_by, commits, drain_course, drain_on, drains, fills, looks, nothing, number_course, numbered, pause_course, resumes, start_course, starts, starts_taking, syncs, takes_more, write_on, writes_on}
 use Rattle.dmix_client.specs.Rewind.{checks, rewindable_course, rewindable_of}
@@ -180,9 +180,9 @@ after_start-missed c state cursor (Some p) x = by_gone p.gone
         (next-late (IsNext (seen_at c p)) Prepared call.Start (found_at p None) tt)
     by_gone false = by_stop (is_stop x.ended)
 
-resumed-missed : (c : PlaybackStream) (cursor : Cursor) (load : Option Position) (x : Commit) → Missed (resumed c cursor load x)
+resumed-missed : (c : PlaybackStream) (cursor : Cursor) (load : Option Position) (x : Commit) → Missed (after_resume c cursor load x)
 resumed-missed c cursor None x = tt
-resumed-missed c cursor (Some p) x = after_start-missed (rebased c) Running cursor (Some p) x
+resumed-missed c cursor (Some p) x = after_start-missed (with_new_base c) Running cursor (Some p) x
 
 accepted-missed : (n : ℕ) (done : Answered (Unit {0})) → Missed done → Missed (accepted_if n done)
 accepted-missed n (c, Ok done) late = tt
@@ -229,8 +229,8 @@ starts-missed c state cursor upto ring =
 resumes-missed : (c : PlaybackStream) (cursor : Cursor) (ring : List ℤ) → All Missed (resumes c cursor ring)
 unfolding resumes
 resumes-missed c cursor ring =
-    All-after Missed (looks (λ position. started_in (rebased c) Running position cursor) (λ position. start_count (rebased c) cursor position (pending_of c)) ring)
-    (λ found. ends (resumed c cursor found.0 found.1)) (λ found. resumed-missed c cursor found.0 found.1)
+    All-after Missed (looks (λ position. started_in (with_new_base c) Running position cursor) (λ position. start_count (with_new_base c) cursor position (pending_of c)) ring)
+    (λ found. ends (after_resume c cursor found.0 found.1)) (λ found. resumed-missed c cursor found.0 found.1)
 
 numbered-missed : (number : PlaybackStream → ℕ) (m : Course (Answered (Unit {0}))) → All Missed m → All Missed (numbered number m)
 unfolding numbered
@@ -246,7 +246,7 @@ write-missed : (c : PlaybackStream) (cursor : Cursor) (n : ℕ) → All Missed (
 unfolding writes_on starts_taking
 write-missed c cursor n = All-if Missed (is_running c.status.state) (writes_on c [] [] n) (fills c [] [] cursor n)
     (All-then Missed Missed (syncs c call.Transfer []) (write_on [] [] n) (syncs-missed c call.Transfer []) (write_on-missed [] [] n))
-    (All-if Missed (starts_with c n) (starts_taking c (ring_with c [] [] (taken_of c n)) cursor (taken_of c n)) (ends (accepted c (taken_of c n), Ok (taken_of c n)))
+    (All-if Missed (starts_with c n) (starts_taking c (ring_with c [] [] (taken_of c n)) cursor (taken_of c n)) (ends (with_accepted c (taken_of c n), Ok (taken_of c n)))
     (All-then Missed Missed (starts c Running cursor (c.stretch.written + taken_of c n) (ring_with c [] [] (taken_of c n))) (λ done. ends (accepted_if (taken_of c n) done))
     (starts-missed c Running cursor (c.stretch.written + taken_of c n) (ring_with c [] [] (taken_of c n))) (accepted-missed (taken_of c n)))
     tt)
@@ -265,12 +265,12 @@ drain_on-missed (c, Err e) late = late
 drain-missed : (c : PlaybackStream) (cursor : Cursor) → All Missed (drain_course c [] cursor)
 unfolding drains
 drain-missed c cursor = All-if Missed (is_moving c.status.state) (syncs (calls.draining c) call.Drain []) _ (syncs-missed (calls.draining c) call.Drain [])
-    (All-if Missed (calls.has_frames c) (drains c [] cursor) (ends (dropped c, Ok tt))
+    (All-if Missed (calls.has_frames c) (drains c [] cursor) (ends (after_drop c, Ok tt))
     (All-then Missed Missed (starts c Draining cursor c.stretch.written []) (drain_on []) (starts-missed c Draining cursor c.stretch.written []) drain_on-missed) tt)
 
 pause-missed : (on : Bool) (c : PlaybackStream) (cursor : Cursor) → All Missed (pause_course on c [] cursor)
-pause-missed on c cursor = All-if Missed on (ends (paused c, Ok tt)) _ tt
-    (All-if Missed (nat_eq (pending_of c) 0) (ends (rebased c, Ok tt)) (resumes c cursor []) tt (resumes-missed c cursor []))
+pause-missed on c cursor = All-if Missed on (ends (after_pause c, Ok tt)) _ tt
+    (All-if Missed (nat_eq (pending_of c) 0) (ends (with_new_base c, Ok tt)) (resumes c cursor []) tt (resumes-missed c cursor []))
 
 number_course-missed : (number : PlaybackStream → ℕ) (c : PlaybackStream) → All Missed (number_course number c [])
 number_course-missed number c = All-if Missed (is_moving c.status.state) (numbered number (syncs c call.Sync [])) (ends (c, Ok (number c)))
@@ -337,8 +337,8 @@ call-named wav marks c op.Sync not = done-named _ (admitted-missed c call.Sync _
 call-named wav marks c op.Avail not = count-named _ (admitted-missed c call.Sync _ (number_course-missed avail_answer c))
 call-named wav marks c op.Delay not = count-named _ (admitted-missed c call.Sync _ (number_course-missed delay_answer c))
 call-named wav marks c op.Drain not = done-named _ (admitted-missed c call.Drain _ (drain-missed c marks.cursor))
-call-named wav marks c op.Drop not = done-named _ (admitted-missed c call.Drop (ends (dropped c, Ok tt)) tt)
-call-named wav marks c op.Prepare not = done-named _ (admitted-missed c call.Prepare (ends (prepared c, Ok tt)) tt)
+call-named wav marks c op.Drop not = done-named _ (admitted-missed c call.Drop (ends (after_drop c, Ok tt)) tt)
+call-named wav marks c op.Prepare not = done-named _ (admitted-missed c call.Prepare (ends (after_prepare c, Ok tt)) tt)
 call-named wav marks c op.Pause not = done-named _ (admitted-missed c call.Pause _ (pause-missed true c marks.cursor))
 call-named wav marks c op.Resume not = done-named _ (admitted-missed c call.Resume _ (pause-missed false c marks.cursor))
 call-named wav marks c op.Rewindable not = count-named _ (admitted-missed c call.Transfer _ (rewindable-missed c marks.floor))

@@ -16,7 +16,7 @@ use Rattle.pcm_states.specs.declared.calls.Outcome.{Outcome}
 use Rattle.pcm_states.specs.Table.{Cell, already, done_in, draining, ebadfd, eio, enodev, filling, first_of, if_empty, if_gone, if_none_left, if_over, moving, next_of, outcome_of, resuming, row_of, starting, stopped_by, to}
 use Rattle.dmix_client.specs.declared.commit.Commit.{Commit}
 use Rattle.dmix_client.specs.declared.stream.PlaybackStream.{PlaybackStream}
-use Rattle.dmix_client.specs.Calls.{Answered, accepted, accepted_if, committed_by, end_channel, end_of_commit, facts_of, found_at, going_on, going_on_by, over_of, rebased, resumed, seen_at, with_outcome, after_start, after_sync, taken_of, with_number, written_after}
+use Rattle.dmix_client.specs.Calls.{Answered, with_accepted, accepted_if, committed_by, end_channel, end_of_commit, facts_of, found_at, going_on, going_on_by, over_of, with_new_base, after_resume, seen_at, with_outcome, after_start, after_sync, taken_of, with_number, written_after}
 use Rattle.dmix_client.specs.Rewind.{rewound}
 use Rattle.dmix_client.specs.View.{avail_of}
 use Rattle.lab_run.specs.Alike.{SameButMember}
@@ -114,12 +114,12 @@ module _ (member : ℕ) where
       by_gone false is (Late w) = rw is (record { client = refl; answer_is = refl })
 
   pub resumed-word : (c : PlaybackStream) (cursor : Cursor) (load : Option Position) (x : Commit)
-      → SameButMember member done_answer (resumed c cursor load x) (resumed (with_member member c) cursor load (commit_without_word x))
+      → SameButMember member done_answer (after_resume c cursor load x) (after_resume (with_member member c) cursor load (commit_without_word x))
   resumed-word c cursor None x = record { client = refl; answer_is = refl }
-  resumed-word c cursor (Some p) x = after_start-word (rebased c) Running cursor (Some p) x
+  resumed-word c cursor (Some p) x = after_start-word (with_new_base c) Running cursor (Some p) x
 
   pub accepted_if-alike : (n : ℕ) (a b : Answered (Unit {0})) → SameButMember member done_answer a b → SameButMember member count_answer (accepted_if n a) (accepted_if n b)
-  accepted_if-alike n (c, Ok x) (d, Ok y) is = record { client = ap (λ e. accepted e n) is.client; answer_is = refl }
+  accepted_if-alike n (c, Ok x) (d, Ok y) is = record { client = ap (λ e. with_accepted e n) is.client; answer_is = refl }
   accepted_if-alike n (c, Err e) (d, Err f) is = record { client = is.client; answer_is = is.answer_is }
   accepted_if-alike n (c, Ok x) (d, Err f) is = let wrong = is.answer_is in absurd (cc)
   accepted_if-alike n (c, Err e) (d, Ok y) is = let wrong = is.answer_is in absurd (cc)

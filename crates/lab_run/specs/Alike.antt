@@ -11,7 +11,7 @@ use Rattle.pcm_states.specs.declared.calls.Call.TheVariants as call
 use Rattle.snoop_core.specs.declared.port.Got.TheVariants as got
 use Rattle.course.specs.Course.{Course, ends, gets, lays, loads}
 use Rattle.dmix_client.specs.declared.stream.PlaybackStream.{PlaybackStream}
-use Rattle.dmix_client.specs.Calls.{Answered, avail_answer, delay_answer, dropped, prepared}
+use Rattle.dmix_client.specs.Calls.{Answered, avail_answer, delay_answer, after_drop, after_prepare}
 use Rattle.dmix_client.specs.Course.{admitted, drain_course, number_course, pause_call, pause_course, start_course, sync_course}
 use Rattle.dmix_client.specs.Course as client_calls
 use Rattle.dmix_client.specs.Rewind.{rewind_course, rewindable_course}
@@ -100,11 +100,11 @@ pub record CallsAreAlike (from member : ℕ) (c : PlaybackStream) (ring : List �
       (admitted (with_member member c) call.Sync
       (number_course delay_answer (with_member member c) []))
   pub drop : Alike from (SameButMember member done_answer)
-      (admitted c call.Drop (ends (dropped c, Ok tt)))
-      (admitted (with_member member c) call.Drop (ends (dropped (with_member member c), Ok tt)))
+      (admitted c call.Drop (ends (after_drop c, Ok tt)))
+      (admitted (with_member member c) call.Drop (ends (after_drop (with_member member c), Ok tt)))
   pub prepare : Alike from (SameButMember member done_answer)
-      (admitted c call.Prepare (ends (prepared c, Ok tt)))
-      (admitted (with_member member c) call.Prepare (ends (prepared (with_member member c), Ok tt)))
+      (admitted c call.Prepare (ends (after_prepare c, Ok tt)))
+      (admitted (with_member member c) call.Prepare (ends (after_prepare (with_member member c), Ok tt)))
   pub rewind : (n : ℕ)
       → Alike from (SameButMember member count_answer)
       (admitted c call.Transfer (rewind_course c ring floor n))

@@ -12,7 +12,7 @@ use Rattle.pcm_states.specs.declared.calls.Call.TheVariants as call
 use Rattle.wav_io.specs.Sound.{Sound}
 use Rattle.course.specs.Course.{◌>>=◌, Course, ends}
 use Rattle.dmix_client.specs.declared.stream.PlaybackStream.{PlaybackStream}
-use Rattle.dmix_client.specs.Calls.{Answered, avail_answer, delay_answer, dropped, is_paused, is_running, prepared, segment_of}
+use Rattle.dmix_client.specs.Calls.{Answered, avail_answer, delay_answer, after_drop, is_paused, is_running, after_prepare, segment_of}
 use Rattle.dmix_client.specs.Course.{admitted, drain_course, fills, number_course, pause_course, start_course, sync_course, writes_on}
 use Rattle.dmix_client.specs.Rewind.{rewind_course, rewindable_course}
 use Rattle.lab_script.specs.declared.line.Actor.TheVariants as actor
@@ -93,9 +93,9 @@ call_of wav marks c op.Delay =
     answered count_answer (admitted c call.Sync (number_course delay_answer c []))
 call_of wav marks c op.Drain =
     answered done_answer (admitted c call.Drain (drain_course c [] marks.cursor))
-call_of wav marks c op.Drop = answered done_answer (admitted c call.Drop (ends (dropped c, Ok tt)))
+call_of wav marks c op.Drop = answered done_answer (admitted c call.Drop (ends (after_drop c, Ok tt)))
 call_of wav marks c op.Prepare =
-    answered done_answer (admitted c call.Prepare (ends (prepared c, Ok tt)))
+    answered done_answer (admitted c call.Prepare (ends (after_prepare c, Ok tt)))
 call_of wav marks c op.Pause =
     answered done_answer (admitted c call.Pause (pause_course true c [] marks.cursor))
 call_of wav marks c op.Resume =

@@ -9,7 +9,7 @@ use Rattle.wav_io.specs.Sound.{Sound}
 use Rattle.course.specs.AtPort.{TakesAt}
 use Rattle.course.specs.Course.{Course, ends}
 use Rattle.dmix_client.specs.declared.stream.PlaybackStream.{PlaybackStream}
-use Rattle.dmix_client.specs.Calls.{avail_answer, delay_answer, dropped, prepared}
+use Rattle.dmix_client.specs.Calls.{avail_answer, delay_answer, after_drop, after_prepare}
 use Rattle.dmix_client.specs.Course.{admitted, drain_course, number_course, pause_course, start_course, sync_course, write_course}
 use Rattle.dmix_client.specs.Rewind.{rewind_course, rewindable_course}
 use Rattle.dmix_client.specs.Writes.{frames_in}
@@ -41,9 +41,9 @@ made_call ring samples marks c op.Delay =
 made_call ring samples marks c op.Drain =
     answered done_answer (admitted c call.Drain (drain_course c ring marks.cursor))
 made_call ring samples marks c op.Drop =
-    answered done_answer (admitted c call.Drop (ends (dropped c, Ok tt)))
+    answered done_answer (admitted c call.Drop (ends (after_drop c, Ok tt)))
 made_call ring samples marks c op.Prepare =
-    answered done_answer (admitted c call.Prepare (ends (prepared c, Ok tt)))
+    answered done_answer (admitted c call.Prepare (ends (after_prepare c, Ok tt)))
 made_call ring samples marks c op.Pause =
     answered done_answer (admitted c call.Pause (pause_course true c ring marks.cursor))
 made_call ring samples marks c op.Resume =
