@@ -18,7 +18,7 @@ use Rattle.dmix_client.specs.declared.stream.PlaybackStream.{PlaybackStream}
 use Rattle.pcm_stream.specs.Status.{is_moving, refusal_of, refused_by}
 use Rattle.pcm_stream.specs.declared.direction.Direction.TheVariants.{Playback}
 use Rattle.dmix_client.specs.Calls.{Answered, is_running, pending_of, with_new_base, after_resume, start_count, after_start, started_in, sync_count, after_sync, taken_of, with_number, written_after}
-use Rattle.dmix_client.specs.Course.{admitted, admitted_by, commits, drain_on, drains, fills, looks, nothing, number_course, numbered, resumes, starts, syncs, takes_more, write_course, write_on, writes_on}
+use Rattle.dmix_client.specs.Course.{if_admitted, admitted_by, commits, drain_on, drains, fills, looks, nothing, number_course, course_with_number, resumes, starts, syncs, takes_more, write_course, write_on, writes_on}
 use Rattle.dmix_client.specs.Rewind.{rewind_course, rewinds}
 use Rattle.dmix_client.specs.Writes.{count_with, frames_in, ring_with}
 
@@ -73,13 +73,13 @@ module _ {S T : Type 0} (P : mixport.Ghosts S) (G : gates.Ghosts T) where
 
   -- a call that is admitted
   pub admitted-ok : {X : Type 0} (s t : S × T) (c : PlaybackStream) (call : Call) (m : Course (Answered X)) (done : Answered X) (r : Result (Unit {0}) PcmError)
-      → r ≡ refused_by (refusal_of Playback c.status call) → r ≡ Ok tt → TakesAt P G s m t done → TakesAt P G s (admitted c call m) t done
+      → r ≡ refused_by (refusal_of Playback c.status call) → r ≡ Ok tt → TakesAt P G s m t done → TakesAt P G s (if_admitted c call m) t done
   admitted-ok s t c call m done r is ok takes = admitted_by-ok s t (refusal_of Playback c.status call) c m done (sym is ∙ ok) takes
 
   -- the number of a client that moves frames
   pub number-moving : (s t : S × T) (number : PlaybackStream → ℕ) (c : PlaybackStream) (ring : List ℤ) (done : Answered (Unit {0})) (x : Answered ℕ) → is_moving c.status.state ≡ true
       → TakesAt P G s (syncs c call.Sync ring) t done → with_number number done ≡ x → TakesAt P G s (number_course number c ring) t x
-  unfolding numbered
+  unfolding course_with_number
   number-moving s t number c ring done x moves takes is = rw moves (Takes-map (LoadsAt P G) (LaysAt P G) NoGet s t (syncs c call.Sync ring) (λ z. with_number number z) done x takes is)
 
   -- the parts of a write

@@ -37,12 +37,12 @@ use Rattle.dmix_client.proofs.Sound.{CanUse-still, CommitsAs-seen, IsMoving-seen
 use Rattle.dmix_client.proofs.Withdrawing.{AreLeft, HoldsBy, TakesAt-back, TakesAway-behind, TakesAway-joined, TakesAway-none, TookFrames, last_frame, last_place}
 use Rattle.dmix_client.specs.Calls.{Answered, committed_by, over_of, seen_at, after_sync, with_number}
 use Rattle.dmix_client.specs.Causes.{IsCaused}
-use Rattle.dmix_client.specs.Course.{nothing, numbered}
+use Rattle.dmix_client.specs.Course.{nothing, course_with_number}
 use Rattle.dmix_client.specs.Expansion.{run_entries, sample_at}
 use Rattle.dmix_client.specs.ExpansionLaws.{frames_used, run_entries-append, run_entries-same}
 use Rattle.dmix_client.specs.Growth.{AnySamples, Keeps, KeepsBack, Loses, StandsFor, TakesAway, segment_entries}
 use Rattle.dmix_client.specs.Port.{CanUse, IsStep, least_channel}
-use Rattle.dmix_client.specs.Rewind.{back_of, checks, held_entries, last_channel, last_laid, rewind_on, rewindable_of, rewinds, rewound, take_frames, taken_back, takes_back, without}
+use Rattle.dmix_client.specs.Rewind.{back_of, checks, held_entries, last_channel, last_laid, rewind_on, rewindable_of, rewinds, rewound, take_frames, taken_back, takes_back, without_frames}
 use Rattle.dmix_client.specs.RewindCauses.{ExplainsCheck, ExplainsRewind, IsKeptCause}
 use Rattle.dmix_client.specs.View.{ClientView, IsGoing, IsMoving, IsSound, hw_of, queued_of, ring_sample}
 use Rattle.dmix_client.specs.declared.commit.Commit.{Commit}
@@ -529,8 +529,8 @@ module _ {S T : Type 0} (P : mixport.Ghosts S) (G : gates.Ghosts T) (holds : Hol
   unfolding rewinds
   rewinds-by s m t c ring floor n middle a one two = Takes-then (LoadsAt P G) (LaysAt P G) NoGet s m t (checks c) (rewind_on floor ring n) middle a one two
 
-  pub numbered-by : (s t : S × T) (c : PlaybackStream) (number : PlaybackStream → ℕ) (a : Answered (Unit {0})) (b : Answered ℕ) → TakesAt P G s (checks c) t a → with_number number a ≡ b → TakesAt P G s (numbered number (checks c)) t b
-  unfolding numbered
+  pub numbered-by : (s t : S × T) (c : PlaybackStream) (number : PlaybackStream → ℕ) (a : Answered (Unit {0})) (b : Answered ℕ) → TakesAt P G s (checks c) t a → with_number number a ≡ b → TakesAt P G s (course_with_number number (checks c)) t b
+  unfolding course_with_number
   numbered-by s t c number a b takes is = Takes-map (LoadsAt P G) (LaysAt P G) NoGet s t (checks c) (λ done. with_number number done) a b takes is
 
   -- a call that does no more than the load, and answers a number
@@ -539,8 +539,8 @@ module _ {S T : Type 0} (P : mixport.Ghosts S) (G : gates.Ghosts T) (holds : Hol
     pub explains : ExplainsCheck P G s t c (λ load. with_number number (after_sync c call.Transfer load nothing)) b
 
   pub numbered-kept : (s t : S × T) (c : PlaybackStream) (ring : List ℤ) (number : PlaybackStream → ℕ) (b : Answered ℕ) → IsSound c ring → c.status.state ≡ Running → c.status.stopped ≡ false → CanUse c (P.view s.0)
-      → TakesAt P G s (numbered number (checks c)) t b → Numbered s t c ring number b
-  unfolding numbered
+      → TakesAt P G s (course_with_number number (checks c)) t b → Numbered s t c ring number b
+  unfolding course_with_number
   numbered-kept s t c ring number b sound runs going port takes =
       let parts = Takes-parts (LoadsAt P G) (LaysAt P G) NoGet s t (checks c) (λ done. ends (with_number number done)) b takes in
       let a = parts.1 in
@@ -568,7 +568,7 @@ module _ {S T : Type 0} (P : mixport.Ghosts S) (G : gates.Ghosts T) (holds : Hol
   }
 
   pub without-kept : (s : S × T) (c : PlaybackStream) (ring : List ℤ) (n : ℕ) → IsSound c ring → c.status.state ≡ Prepared → n ≤ c.stretch.written → CanUse c (P.view s.0)
-      → KeepsBack P G s s (client c ring) (client (without c n) ring) (let r : Result ℕ PcmError = Ok n in r)
+      → KeepsBack P G s s (client c ring) (client (without_frames c n) ring) (let r : Result ℕ PcmError = Ok n in r)
   without-kept s c ring n sound waits few port =
       let p = sound.prepared waits in
       record {
@@ -584,7 +584,7 @@ module _ {S T : Type 0} (P : mixport.Ghosts S) (G : gates.Ghosts T) (holds : Hol
           moving = λ moves going. absurd (not_prepared-moving c.status.state moves waits);
           paused = λ is. absurd (cc);
         };
-        port = CanUse-still c (without c n) (P.view s.0) (P.view s.0) port (IsSamePort-refl (P.view s.0)) refl (λ moves going. not_prepared-moving c.status.state moves waits);
+        port = CanUse-still c (without_frames c n) (P.view s.0) (P.view s.0) port (IsSamePort-refl (P.view s.0)) refl (λ moves going. not_prepared-moving c.status.state moves waits);
         told = λ unstopped. refl;
         loses = λ samples stands. record { away = TakesAway-none P G holds s.0 s.0 (segment_entries c samples) (holds.laid_composes.none s.0); same_member = refl; same_bindings = refl };
         stands = λ samples stands j q low high in_range. stands j q low (omega (arith, high)) in_range;

@@ -82,7 +82,7 @@ configured_with c config bindings = after_prepare (record c { setup = setup.setu
 
 -- the client gives its configuration up
 abbrev pub after_hw_free : PlaybackStream → PlaybackStream
-after_hw_free c = in_state (record c { setup = setup.freed c.setup }) Open
+after_hw_free c = in_state (record c { setup = setup.without_config c.setup }) Open
 
 -- the client has other software parameters
 abbrev pub with_params : PlaybackStream → SwParams → PlaybackStream

@@ -133,17 +133,17 @@ abbrev pub admitted_by : {X : Type 0} → Option PcmError → PlaybackStream →
 admitted_by None c course = course
 admitted_by (Some e) c course = ends (c, Err e)
 
-abbrev pub admitted : {X : Type 0} → PlaybackStream → Call → Course (Answered X)
+abbrev pub if_admitted : {X : Type 0} → PlaybackStream → Call → Course (Answered X)
     → Course (Answered X)
-admitted c call course = admitted_by (refusal_of Playback c.status call) c course
+if_admitted c call course = admitted_by (refusal_of Playback c.status call) c course
 
 -- a call's answer with a number
-unfoldable pub numbered : (PlaybackStream → ℕ) → Course (Answered (Unit {0})) → Course (Answered ℕ)
-numbered number course = course >>= λ done. ends (with_number number done)
+unfoldable pub course_with_number : (PlaybackStream → ℕ) → Course (Answered (Unit {0})) → Course (Answered ℕ)
+course_with_number number course = course >>= λ done. ends (with_number number done)
 
 abbrev pub number_course : (PlaybackStream → ℕ) → PlaybackStream → List ℤ → Course (Answered ℕ)
 number_course number c ring = if is_moving c.status.state
-    then numbered number (syncs c call.Sync ring) else ends (c, Ok (number c))
+    then course_with_number number (syncs c call.Sync ring) else ends (c, Ok (number c))
 
 -- a write behind its sync: frames are taken, stored and committed
 unfoldable pub takes_more : PlaybackStream → List ℤ → List ℤ → ℕ → Course (Answered ℕ)

@@ -14,7 +14,7 @@ use Rattle.pcm_states.specs.Table.{next_of}
 use Rattle.dmix_client.specs.declared.commit.Commit.{Commit}
 use Rattle.dmix_client.specs.declared.stream.PlaybackStream.{PlaybackStream}
 use Rattle.dmix_client.specs.Calls.{Answered, found_at, is_running, is_stop, late_at, pending_of, with_outcome, stopped_in, after_sync, with_number}
-use Rattle.dmix_client.specs.Course.{nothing, numbered}
+use Rattle.dmix_client.specs.Course.{nothing, course_with_number}
 use Rattle.dmix_client.specs.Expansion.{run_entries}
 use Rattle.dmix_client.specs.View.{hw_of, ring_sample}
 
@@ -30,8 +30,8 @@ abbrev pub back_of : PlaybackStream → ℕ → ℕ
 back_of c n = n - pending_of c
 
 -- a client without its last n frames, which were pending
-abbrev pub without : PlaybackStream → ℕ → PlaybackStream
-without c n =
+abbrev pub without_frames : PlaybackStream → ℕ → PlaybackStream
+without_frames c n =
     record c { stretch = record c.stretch { written = c.stretch.written - n }; fed = c.fed - n }
 
 -- a client of whose last n frames the pending ones were taken back, and of the committed ones all but what is left
@@ -107,7 +107,7 @@ checks c = loads (λ load. ends (after_sync c call.Transfer load nothing))
 
 abbrev pub rewindable_course : PlaybackStream → Cursor → Course (Answered ℕ)
 rewindable_course c floor = if is_running c.status.state
-    then numbered (rewindable_of floor) (checks c) else ends (c, Ok c.stretch.written)
+    then course_with_number (rewindable_of floor) (checks c) else ends (c, Ok c.stretch.written)
 
 -- the withdrawals of a rewind of n frames
 unfoldable pub takes_back : PlaybackStream → List ℤ → ℕ → Course (Answered ℕ)
@@ -124,7 +124,7 @@ rewinds c ring floor n = checks c >>= rewind_on floor ring n
 
 abbrev pub rewind_course : PlaybackStream → List ℤ → Cursor → ℕ → Course (Answered ℕ)
 rewind_course c ring floor n = if is_running c.status.state then rewinds c ring floor n
-    else ends (without c (min n c.stretch.written), Ok (min n c.stretch.written))
+    else ends (without_frames c (min n c.stretch.written), Ok (min n c.stretch.written))
 
 -- the committed frames of a client that its local ring still has: those that aren't played, as far as it saw
 abbrev pub held_entries : PlaybackStream → List ℤ → List Entry

@@ -6,8 +6,8 @@ abbrev pub written_over : List ℤ → ℕ → List ℤ → List ℤ
 written_over ring place part = take place ring ++ part ++ drop (place + length part) ring
 
 -- the ring with the first n of some interleaved frames, as the frames from a number on
-abbrev pub stored : ℕ → ℕ → List ℤ → ℕ → List ℤ → ℕ → List ℤ
-stored buffer channels ring from samples zero = ring
-stored buffer channels ring from samples (suc n) =
-    written_over (stored buffer channels ring from samples n) ((from + n) % buffer * channels)
+abbrev pub with_frames : ℕ → ℕ → List ℤ → ℕ → List ℤ → ℕ → List ℤ
+with_frames buffer channels ring from samples zero = ring
+with_frames buffer channels ring from samples (suc n) =
+    written_over (with_frames buffer channels ring from samples n) ((from + n) % buffer * channels)
     (take channels (drop (n * channels) samples))

@@ -6,7 +6,7 @@ use Rattle.std.proofs.lemmas.Bool.{cases_eq, cases_lt}
 use Rattle.std.proofs.lemmas.List.{append-nil, drop-drop, get_or-append-add, get_or-append_right, get_or-drop, get_or-take, get_or_append_left, length-append, length-drop, length-take, take-append-drop}
 use Rattle.std.specs.Prelude.{ℤ, pos, ◌-◌}
 use Rattle.snd_base.specs.PlaceLaws.{mod-same}
-use Rattle.dmix_client.specs.Ring.{stored, written_over}
+use Rattle.dmix_client.specs.Ring.{with_frames, written_over}
 
 -- a list with a part written over, in three parts
 in_parts : (ring part : List ℤ) (place : ℕ) → written_over ring place part ≡ take place ring
@@ -83,7 +83,7 @@ frame-length samples channels n room = omega (arith, length-take channels (drop 
 
 pub stored-HasRoom : (buffer channels : ℕ) (ring : List ℤ) (from : ℕ) (samples : List ℤ) (n : ℕ)
     → HasRoom buffer channels ring → n * channels ≤ length samples
-    → HasRoom buffer channels (stored buffer channels ring from samples n)
+    → HasRoom buffer channels (with_frames buffer channels ring from samples n)
 stored-HasRoom buffer channels ring from samples zero has room = has
 stored-HasRoom buffer channels ring from samples (suc n) has room =
     let before = stored-HasRoom buffer channels ring from samples n has (omega arith) in
@@ -92,7 +92,7 @@ stored-HasRoom buffer channels ring from samples (suc n) has room =
     let fits = slot-within buffer channels (from + n) has.some in
     record {
       some = has.some;
-      room = length-written_over (stored buffer channels ring from samples n) part ((from + n) % buffer * channels) (omega (arith, one, fits, before.room)) ∙ before.room;
+      room = length-written_over (with_frames buffer channels ring from samples n) part ((from + n) % buffer * channels) (omega (arith, one, fits, before.room)) ∙ before.room;
     }
 
 -- a frame written over leaves the other slots
@@ -114,7 +114,7 @@ elsewhere ring part channels a b q room one in_range apart = elim (cases_lt a b)
 pub stored-new : (buffer channels : ℕ) (ring : List ℤ) (from : ℕ) (samples : List ℤ) (n k q : ℕ)
     → HasRoom buffer channels ring → n * channels ≤ length samples → n ≤ buffer
     → k < n → q < channels
-    → get_or (stored buffer channels ring from samples n) ((from + k) % buffer * channels + q)
+    → get_or (with_frames buffer channels ring from samples n) ((from + k) % buffer * channels + q)
     (pos 0) ≡ get_or samples (k * channels + q) (pos 0)
 stored-new buffer channels ring from samples zero k q has room few within in_range = absurd (omega (arith, within))
 stored-new buffer channels ring from samples (suc n) k q has room few within in_range =
@@ -122,17 +122,17 @@ stored-new buffer channels ring from samples (suc n) k q has room few within in_
     let part : List ℤ = take channels (drop (n * channels) samples) in
     let one : length part ≡ channels = frame-length samples channels n (omega arith) in
     let fits = slot-within buffer channels (from + n) has.some in
-    let room_here : (from + n) % buffer * channels + length part ≤ length (stored buffer channels ring from samples n) = omega (arith, one, fits, before.room) in
+    let room_here : (from + n) % buffer * channels + length part ≤ length (with_frames buffer channels ring from samples n) = omega (arith, one, fits, before.room) in
     elim (cases_eq k n) [
       | inl same ↦
-          ap (λ (i : ℕ). get_or (stored buffer channels ring from samples (suc n)) ((from + i) % buffer * channels + q) (pos 0)) same
-          ∙ written_over-here (stored buffer channels ring from samples n) part ((from + n) % buffer * channels) q room_here (omega (arith, one))
+          ap (λ (i : ℕ). get_or (with_frames buffer channels ring from samples (suc n)) ((from + i) % buffer * channels + q) (pos 0)) same
+          ∙ written_over-here (with_frames buffer channels ring from samples n) part ((from + n) % buffer * channels) q room_here (omega (arith, one))
           ∙ frame-sample samples channels n q in_range
           ∙ ap (λ (i : ℕ). get_or samples (i * channels + q) (pos 0)) (sym same)
       | inr other ↦
           let apart : (from + k) % buffer ≡ (from + n) % buffer → ⊥ =
           λ same. absurd (omega (arith, mod-same buffer (from + k) (from + k) (from + n) (omega arith) (omega arith) (omega arith) (omega arith) same)) in
-          elsewhere (stored buffer channels ring from samples n) part channels ((from + k) % buffer) ((from + n) % buffer) q room_here one in_range apart
+          elsewhere (with_frames buffer channels ring from samples n) part channels ((from + k) % buffer) ((from + n) % buffer) q room_here one in_range apart
           ∙ stored-new buffer channels ring from samples n k q has (omega arith) (omega arith) (omega arith) in_range
     ]
 
@@ -140,7 +140,7 @@ stored-new buffer channels ring from samples (suc n) k q has room few within in_
 pub stored-old : (buffer channels : ℕ) (ring : List ℤ) (from : ℕ) (samples : List ℤ) (n j q : ℕ)
     → HasRoom buffer channels ring → n * channels ≤ length samples
     → j < from → from + n ≤ j + buffer → q < channels
-    → get_or (stored buffer channels ring from samples n) (j % buffer * channels + q) (pos 0)
+    → get_or (with_frames buffer channels ring from samples n) (j % buffer * channels + q) (pos 0)
     ≡ get_or ring (j % buffer * channels + q) (pos 0)
 stored-old buffer channels ring from samples zero j q has room before near in_range = refl
 stored-old buffer channels ring from samples (suc n) j q has room before near in_range =
@@ -150,7 +150,7 @@ stored-old buffer channels ring from samples (suc n) j q has room before near in
     let fits = slot-within buffer channels (from + n) has.some in
     let apart : j % buffer ≡ (from + n) % buffer → ⊥ =
     λ same. absurd (omega (arith, mod-same buffer j j (from + n) (omega arith) (omega arith) (omega arith) (omega arith) same)) in
-    elsewhere (stored buffer channels ring from samples n) part channels (j % buffer) ((from + n) % buffer) q (omega (arith, one, fits, earlier.room)) one in_range apart
+    elsewhere (with_frames buffer channels ring from samples n) part channels (j % buffer) ((from + n) % buffer) q (omega (arith, one, fits, earlier.room)) one in_range apart
     ∙ stored-old buffer channels ring from samples n j q has (omega arith) before (omega arith) in_range
 
 -- a list with nothing written over is as it was
@@ -184,17 +184,17 @@ slot-behind buffer n k before = sym (mod-add-mod n buffer k) ∙ mod-eq_of_lt be
 pub stored-run : (buffer channels : ℕ) (ring : List ℤ) (from : ℕ) (samples : List ℤ) (n k : ℕ)
     → HasRoom buffer channels ring → (n + k) * channels ≤ length samples
     → (from + n) % buffer + k ≤ buffer
-    → stored buffer channels ring from samples (n + k)
-    ≡ written_over (stored buffer channels ring from samples n) ((from + n) % buffer * channels)
+    → with_frames buffer channels ring from samples (n + k)
+    ≡ written_over (with_frames buffer channels ring from samples n) ((from + n) % buffer * channels)
     (take (k * channels) (drop (n * channels) samples))
 stored-run buffer channels ring from samples n zero has held fits =
-    let so_far : List ℤ = stored buffer channels ring from samples n in
+    let so_far : List ℤ = with_frames buffer channels ring from samples n in
     let place : ℕ = (from + n) % buffer * channels in
-    ap (stored buffer channels ring from samples) (let same : n + 0 ≡ n = omega arith in same)
+    ap (with_frames buffer channels ring from samples) (let same : n + 0 ≡ n = omega arith in same)
     ∙ sym (written_over-none so_far place)
     ∙ ap (λ (m : ℕ). written_over so_far place (take m (drop (n * channels) samples))) (let none : 0 ≡ 0 * channels = omega arith in none)
 stored-run buffer channels ring from samples n (suc k) has held fits =
-    let so_far : List ℤ = stored buffer channels ring from samples n in
+    let so_far : List ℤ = with_frames buffer channels ring from samples n in
     let place : ℕ = (from + n) % buffer * channels in
     let behind : List ℤ = drop (n * channels) samples in
     let run : List ℤ = take (k * channels) behind in
@@ -213,7 +213,7 @@ stored-run buffer channels ring from samples n (suc k) has held fits =
     let before = stored-HasRoom buffer channels ring from samples n has (omega (arith, shorter)) in
     let scaled : ((from + n) % buffer + suc k) * channels ≤ buffer * channels = mul-le-mul_right channels fits in
     let room : place + (length run + length last) ≤ length so_far = omega (arith, scaled, long, one, before.room) in
-    ap (stored buffer channels ring from samples) (let same : n + suc k ≡ suc (n + k) = omega arith in same)
+    ap (with_frames buffer channels ring from samples) (let same : n + suc k ≡ suc (n + k) = omega arith in same)
     ∙ ap (λ (xs : List ℤ). written_over xs ((from + (n + k)) % buffer * channels) last)
     (stored-run buffer channels ring from samples n k has shorter (omega (arith, fits)))
     ∙ ap (λ (m : ℕ). written_over (written_over so_far place run) m last) at

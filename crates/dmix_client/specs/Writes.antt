@@ -2,7 +2,7 @@
 use Rattle.std.specs.Prelude.{◌≡◌, ℕ, ◌+◌, ◌/◌, ◌%◌, ◌^◌, ◌<◌, ◌≤◌, Bool, nat_eq, nat_le, if◌then◌else◌, ℤ, List, length, Ok, Err, unwrap_or}
 use Rattle.dmix_client.specs.declared.stream.PlaybackStream.{PlaybackStream}
 use Rattle.dmix_client.specs.Calls.{Answered, commit_count, taken_of}
-use Rattle.dmix_client.specs.Ring.{stored}
+use Rattle.dmix_client.specs.Ring.{with_frames}
 
 -- the whole frames of some interleaved samples
 abbrev pub frames_in : PlaybackStream → List ℤ → ℕ
@@ -11,7 +11,7 @@ frames_in c samples = length samples / length c.setup.bindings
 -- the ring of a client with frames behind what is written
 abbrev pub ring_with : PlaybackStream → List ℤ → List ℤ → ℕ → List ℤ
 ring_with c ring samples n =
-    stored c.setup.config.buffer_size (length c.setup.bindings) ring
+    with_frames c.setup.config.buffer_size (length c.setup.bindings) ring
     (c.stretch.source + c.stretch.written) samples n
 
 -- how many frames a write of n takes after its sync

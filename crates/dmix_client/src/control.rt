@@ -7,7 +7,7 @@ ghost use Rattle.pcm_stream.specs.Status.{is_moving, refusal_of};
 ghost use Rattle.pcm_stream.specs.declared.direction.Direction.{Direction};
 ghost use Rattle.dmix_client.specs.Calls.{draining, start_count, after_start, started_in, sync_count, after_sync};
 ghost use Rattle.dmix_client.specs.Causes.{Explains};
-ghost use Rattle.dmix_client.specs.Course.{admitted, drain_course, drains, start_course, starts};
+ghost use Rattle.dmix_client.specs.Course.{if_admitted, drain_course, drains, start_course, starts};
 ghost use Rattle.dmix_client.specs.Growth.{AnySamples, Keeps, KeepsAccepted};
 ghost use Rattle.dmix_client.specs.Port.{CanUse};
 ghost use Rattle.dmix_client.specs.View.{IsSound};
@@ -118,7 +118,7 @@ impl Client {
     pub fn start<P: MixPort, G: Gate>(&mut self, port: &mut P, gate: &mut G) -> Result<(), PcmError>
         requires { CanUse self.old.stream (P.view port.old) }
         ensures takes { TakesAt P.MixPort G.Gate (port.old, gate.old)
-            (admitted self.old.stream call.Start
+            (if_admitted self.old.stream call.Start
             (start_course self.old.stream self.old.ring (P.view port.old).marks.cursor))
             (port.new, gate.new) (self.new.stream, result) }
         ensures refused { (e : PcmError) →
@@ -155,7 +155,7 @@ impl Client {
     pub fn drain<P: MixPort, G: Gate>(&mut self, port: &mut P, gate: &mut G) -> Result<(), PcmError>
         requires { CanUse self.old.stream (P.view port.old) }
         ensures takes { TakesAt P.MixPort G.Gate (port.old, gate.old)
-            (admitted self.old.stream call.Drain
+            (if_admitted self.old.stream call.Drain
             (drain_course self.old.stream self.old.ring (P.view port.old).marks.cursor))
             (port.new, gate.new) (self.new.stream, result) }
         ensures refused { (e : PcmError) →

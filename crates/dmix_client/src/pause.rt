@@ -6,7 +6,7 @@ ghost use Rattle.pcm_stream.specs.Status.{refusal_of};
 ghost use Rattle.pcm_stream.specs.declared.direction.Direction.{Direction};
 ghost use Rattle.dmix_client.specs.Calls.{base_of, after_pause, pending_of, with_new_base, after_resume, start_count, started_in};
 ghost use Rattle.dmix_client.specs.Causes.{Explains};
-ghost use Rattle.dmix_client.specs.Course.{admitted, pause_call, pause_course, resumes};
+ghost use Rattle.dmix_client.specs.Course.{if_admitted, pause_call, pause_course, resumes};
 ghost use Rattle.dmix_client.specs.Growth.{AnySamples, Keeps};
 ghost use Rattle.dmix_client.specs.Port.{CanUse};
 ghost use Rattle.dmix_client.specs.View.{IsSound};
@@ -74,7 +74,7 @@ impl Client {
     ) -> Result<(), PcmError>
         requires { CanUse self.old.stream (P.view port.old) }
         ensures takes { TakesAt P.MixPort G.Gate (port.old, gate.old)
-            (admitted self.old.stream (pause_call on)
+            (if_admitted self.old.stream (pause_call on)
             (pause_course on self.old.stream self.old.ring (P.view port.old).marks.cursor))
             (port.new, gate.new) (self.new.stream, result) }
         ensures refused { (e : PcmError) →

@@ -6,7 +6,7 @@ ghost use Rattle.course.specs.AtPort.{LoadsAt, TakesAt};
 ghost use Rattle.pcm_stream.specs.Status.{refusal_of};
 ghost use Rattle.pcm_stream.specs.declared.direction.Direction.{Direction};
 ghost use Rattle.dmix_client.specs.Calls.{after_sync, with_number};
-ghost use Rattle.dmix_client.specs.Course.{admitted, nothing, numbered};
+ghost use Rattle.dmix_client.specs.Course.{if_admitted, nothing, course_with_number};
 ghost use Rattle.dmix_client.specs.Growth.{AnySamples, Keeps, KeepsBack};
 ghost use Rattle.dmix_client.specs.Port.{CanUse};
 ghost use Rattle.dmix_client.specs.Rewind.{checks, held_entries, rewindable_course, rewindable_of, rewind_course, rewinds, takes_back};
@@ -87,7 +87,7 @@ fn rewindable_running<P: MixPort, G: Gate>(
     requires unstopped { stream.old.status.stopped ≡ false }
     requires port { CanUse stream.old (P.view port.old) }
     ensures takes { TakesAt P.MixPort G.Gate (port.old, gate.old)
-        (numbered (rewindable_of (P.view port.old).marks.floor) (checks stream.old))
+        (course_with_number (rewindable_of (P.view port.old).marks.floor) (checks stream.old))
         (port.new, gate.new) (stream.new, result) }
     ensures keeps { (ring : List ℤ) → IsSound stream.old ring →
         Keeps P.MixPort G.Gate (port.old, gate.old) (port.new, gate.new)
@@ -149,7 +149,7 @@ impl Client {
     ) -> Result<u64, PcmError>
         requires { CanUse self.old.stream (P.view port.old) }
         ensures takes { TakesAt P.MixPort G.Gate (port.old, gate.old)
-            (admitted self.old.stream call.Transfer
+            (if_admitted self.old.stream call.Transfer
             (rewindable_course self.old.stream (P.view port.old).marks.floor)) (port.new, gate.new)
             (self.new.stream, result) }
         ensures refused { (e : PcmError) →
@@ -198,7 +198,7 @@ impl Client {
             self.old.stream.status.stopped ≡ false →
             P.ends_in port.old (held_entries self.old.stream self.old.ring) }
         ensures takes { TakesAt P.MixPort G.Gate (port.old, gate.old)
-            (admitted self.old.stream call.Transfer
+            (if_admitted self.old.stream call.Transfer
             (rewind_course self.old.stream self.old.ring (P.view port.old).marks.floor frames))
             (port.new, gate.new) (self.new.stream, result) }
         ensures refused { (e : PcmError) →

@@ -2,7 +2,7 @@
 ghost use Rattle.std.specs.Prelude.{◌≡◌, ℕ, ◌+◌, ◌-◌, ◌^◌, ◌<◌, ◌≤◌, length};
 ghost use Rattle.mix_core.specs.Port.{OnLate};
 ghost use Rattle.dmix_client.specs.Calls.{late_at, with_number};
-ghost use Rattle.dmix_client.specs.Rewind.{back_of, last_channel, last_laid, rewindable_of, rewound, taken_back, without};
+ghost use Rattle.dmix_client.specs.Rewind.{back_of, last_channel, last_laid, rewindable_of, rewound, taken_back, without_frames};
 
 use crate::commit::Commit;
 use crate::steps::{Answered, found_at, is_stop, stopped_in, with_outcome};
@@ -36,7 +36,7 @@ impl PlaybackStream {
 
     /// The last `frames` frames, which were pending, are taken back.
     pub(crate) fn without(&self, frames: u64) -> PlaybackStream
-        ensures { result ≡ without self.now frames }
+        ensures { result ≡ without_frames self.now frames }
     {
         PlaybackStream {
             stretch: Stretch {

@@ -1,6 +1,6 @@
 //! The local ring: the frame with a number is in the slot of that number mod the buffer size.
 ghost use Rattle.std.specs.Prelude.{◌≡◌, ℕ, ◌+◌, ◌*◌, ◌%◌, ◌^◌, ◌<◌, ◌≤◌, drop, length, take};
-ghost use Rattle.dmix_client.specs.Ring.{stored, written_over};
+ghost use Rattle.dmix_client.specs.Ring.{with_frames, written_over};
 
 use crate::commit::slot_of;
 
@@ -38,7 +38,7 @@ pub(crate) fn store(
     requires some { 1 ≤ buffer_size }
     requires room { length ring.old ≡ buffer_size * channels }
     requires held { frames * channels ≤ length samples.now }
-    ensures stored { ring.new ≡ stored buffer_size channels ring.old from samples.now frames }
+    ensures stored { ring.new ≡ with_frames buffer_size channels ring.old from samples.now frames }
 {
     let mut done = 0;
     while done < frames {

@@ -7,7 +7,7 @@ ghost use Rattle.pcm_stream.specs.declared.direction.Direction.{Direction};
 ghost use Rattle.dmix_client.specs.Asked.{number_of};
 ghost use Rattle.dmix_client.specs.Calls.{avail_answer, delay_answer, sync_count, after_sync, with_number};
 ghost use Rattle.dmix_client.specs.Causes.{Explains};
-ghost use Rattle.dmix_client.specs.Course.{admitted, number_course, sync_course, syncs};
+ghost use Rattle.dmix_client.specs.Course.{if_admitted, number_course, sync_course, syncs};
 ghost use Rattle.dmix_client.specs.Growth.{AnySamples, Keeps, KeepsAccepted};
 ghost use Rattle.dmix_client.specs.Port.{CanUse, IsStep};
 ghost use Rattle.dmix_client.specs.View.{IsGoing, IsSound};
@@ -76,7 +76,7 @@ impl Client {
     pub fn sync<P: MixPort, G: Gate>(&mut self, port: &mut P, gate: &mut G) -> Result<(), PcmError>
         requires { CanUse self.old.stream (P.view port.old) }
         ensures takes { TakesAt P.MixPort G.Gate (port.old, gate.old)
-            (admitted self.old.stream call.Sync (sync_course self.old.stream self.old.ring))
+            (if_admitted self.old.stream call.Sync (sync_course self.old.stream self.old.ring))
             (port.new, gate.new) (self.new.stream, result) }
         ensures refused { (e : PcmError) →
             refusal_of Direction.Playback self.old.stream.status call.Sync ≡ Some e →
@@ -108,7 +108,7 @@ impl Client {
     ) -> Result<u64, PcmError>
         requires { CanUse self.old.stream (P.view port.old) }
         ensures takes { TakesAt P.MixPort G.Gate (port.old, gate.old)
-            (admitted self.old.stream call.Sync
+            (if_admitted self.old.stream call.Sync
             (number_course (number_of asked) self.old.stream self.old.ring)) (port.new, gate.new)
             (self.new.stream, result) }
         ensures refused { (e : PcmError) →
@@ -145,7 +145,7 @@ impl Client {
     ) -> Result<u64, PcmError>
         requires { CanUse self.old.stream (P.view port.old) }
         ensures takes { TakesAt P.MixPort G.Gate (port.old, gate.old)
-            (admitted self.old.stream call.Sync
+            (if_admitted self.old.stream call.Sync
             (number_course avail_answer self.old.stream self.old.ring)) (port.new, gate.new)
             (self.new.stream, result) }
         ensures refused { (e : PcmError) →
@@ -176,7 +176,7 @@ impl Client {
     ) -> Result<u64, PcmError>
         requires { CanUse self.old.stream (P.view port.old) }
         ensures takes { TakesAt P.MixPort G.Gate (port.old, gate.old)
-            (admitted self.old.stream call.Sync
+            (if_admitted self.old.stream call.Sync
             (number_course delay_answer self.old.stream self.old.ring)) (port.new, gate.new)
             (self.new.stream, result) }
         ensures refused { (e : PcmError) →

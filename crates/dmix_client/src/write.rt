@@ -7,7 +7,7 @@ ghost use Rattle.pcm_stream.specs.Status.{is_moving, refusal_of};
 ghost use Rattle.pcm_stream.specs.declared.direction.Direction.{Direction};
 ghost use Rattle.dmix_client.specs.Calls.{accepted_if, start_count, after_start, started_in, taken_of};
 ghost use Rattle.dmix_client.specs.Causes.{Explains, ExplainsWrite};
-ghost use Rattle.dmix_client.specs.Course.{admitted, commits, fills, starts_taking, takes_more, write_course, writes_on};
+ghost use Rattle.dmix_client.specs.Course.{if_admitted, commits, fills, starts_taking, takes_more, write_course, writes_on};
 ghost use Rattle.dmix_client.specs.Growth.{Follows, Keeps};
 ghost use Rattle.dmix_client.specs.Port.{CanUse, IsCommit};
 ghost use Rattle.dmix_client.specs.View.{IsSound};
@@ -246,7 +246,7 @@ impl Client {
             IsOffer self.old.stream samples.now }
         requires port { CanUse self.old.stream (P.view port.old) }
         ensures takes { TakesAt P.MixPort G.Gate (port.old, gate.old)
-            (admitted self.old.stream call.Transfer
+            (if_admitted self.old.stream call.Transfer
             (write_course self.old.stream self.old.ring samples.now (P.view port.old).marks.cursor))
             (port.new, gate.new) (self.new.stream, result) }
         ensures refused { (e : PcmError) →

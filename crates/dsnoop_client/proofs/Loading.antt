@@ -15,7 +15,7 @@ use Rattle.course.specs.Course.{Course}
 use Rattle.course.specs.CourseLaws.{Takes-map, Takes-then}
 use Rattle.dsnoop_client.specs.declared.stream.CaptureStream.{CaptureStream}
 use Rattle.dsnoop_client.specs.Calls.{Answered, read_after, after_start, after_sync, taken_of, with_avail}
-use Rattle.dsnoop_client.specs.Course.{admitted, admitted_by, counts, gets_frames, reads_first, reads_on, starts, syncs, transfer_on, transfers}
+use Rattle.dsnoop_client.specs.Course.{if_admitted, admitted_by, counts, gets_frames, reads_first, reads_on, starts, syncs, transfer_on, transfers}
 
 module _ {S T : Type 0} (P : snoopport.Ghosts S) (G : gates.Ghosts T) where
   -- a start and a sync, by their loads
@@ -53,7 +53,7 @@ module _ {S T : Type 0} (P : snoopport.Ghosts S) (G : gates.Ghosts T) where
 
 -- a call that was admitted
 pub admitted-ok : {S T X : Type 0} (P : snoopport.Ghosts S) (G : gates.Ghosts T) (s t : S × T) (c : CaptureStream) (k : Call) (m : Course (Answered X)) (done : Answered X) → refusal_of Capture c.status k ≡ None
-    → TakesAtSnoop P G s m t done → TakesAtSnoop P G s (admitted c k m) t done
+    → TakesAtSnoop P G s m t done → TakesAtSnoop P G s (if_admitted c k m) t done
 admitted-ok P G s t c k m done is takes = subst (λ (o : Option PcmError). TakesAtSnoop P G s (admitted_by o c m) t done) (sym is) takes
 
 -- a test that was passed says that the call isn't refused

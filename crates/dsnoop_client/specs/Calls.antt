@@ -44,8 +44,8 @@ configured_with c config bindings =
     in_state (record c { setup = setup.setup_with config bindings }) state.Prepared
 
 -- the reader gives its configuration up
-abbrev pub freed : CaptureStream → CaptureStream
-freed c = in_state (record c { setup = setup.freed c.setup }) state.Open
+abbrev pub after_hw_free : CaptureStream → CaptureStream
+after_hw_free c = in_state (record c { setup = setup.without_config c.setup }) state.Open
 
 -- the reader has other software parameters
 abbrev pub with_params : CaptureStream → SwParams → CaptureStream
@@ -110,15 +110,15 @@ abbrev pub taken_of : CaptureStream → ℕ → ℕ
 taken_of c n = min n (avail_of c)
 
 -- a number in place of a good answer
-abbrev pub numbered : ℕ → Answered (Unit {0}) → Answered ℕ
-numbered n (c, Ok done) = (c, Ok n)
-numbered n (c, Err e) = (c, Err e)
+abbrev pub with_answer : ℕ → Answered (Unit {0}) → Answered ℕ
+with_answer n (c, Ok done) = (c, Ok n)
+with_answer n (c, Err e) = (c, Err e)
 
 -- a read that loaded so many frames, and how the last load ended: only where all were loaded do they count
 abbrev pub read_to : CaptureStream → ℕ → Got → Answered ℕ
 read_to c done Whole = (record c { next = c.next + done }, Ok done)
 read_to c done (Overtaken channel word) =
-    numbered 0 (with_outcome c
+    with_answer 0 (with_outcome c
     (next_of state.Running call.Transfer
     (found false None (Some (why.Overtaken (c.next + done) channel word)))))
 read_to c done Stopped = stopped_in c

@@ -70,6 +70,6 @@ abbrev pub admitted_by : {X : Type 0} → Option PcmError → CaptureStream
 admitted_by None c course = course
 admitted_by (Some e) c course = ends (c, Err e)
 
-abbrev pub admitted : {X : Type 0} → CaptureStream → Call → Course (Answered X)
+abbrev pub if_admitted : {X : Type 0} → CaptureStream → Call → Course (Answered X)
     → Course (Answered X)
-admitted c call course = admitted_by (refusal_of Capture c.status call) c course
+if_admitted c call course = admitted_by (refusal_of Capture c.status call) c course

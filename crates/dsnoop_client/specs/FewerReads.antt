@@ -20,7 +20,7 @@ use Rattle.course.specs.Course.{ends}
 use Rattle.course.specs.CourseLaws.{Takes-parts, Takes-then}
 use Rattle.dsnoop_client.specs.declared.stream.CaptureStream.{CaptureStream}
 use Rattle.dsnoop_client.specs.Calls.{Answered, read_after, read_to, seen_at, taken_of, waits}
-use Rattle.dsnoop_client.specs.Course.{admitted, admitted_by, gets_frames, read_course, reads_first, reads_on, starts, syncs, transfer_on, transfers}
+use Rattle.dsnoop_client.specs.Course.{if_admitted, admitted_by, gets_frames, read_course, reads_first, reads_on, starts, syncs, transfer_on, transfers}
 use Rattle.dsnoop_client.specs.View.{avail_of, is_running}
 
 -- as many frames as a ring has at most, or as start a reader
@@ -139,7 +139,7 @@ module _ {S T : Type 0} (P : snoopport.Ghosts S) (G : gates.Ghosts T) where
 
   -- a read of n frames does what one of no more than `most_read` does
   pub read_course-fewer : (s t : S × T) (c : CaptureStream) (n k : ℕ) (y : Answered ℕ) → most_read c ≤ k
-      → TakesAtSnoop P G s (admitted c call.Transfer (read_course c (min n k))) t y → TakesAtSnoop P G s (admitted c call.Transfer (read_course c n)) t y
+      → TakesAtSnoop P G s (if_admitted c call.Transfer (read_course c (min n k))) t y → TakesAtSnoop P G s (if_admitted c call.Transfer (read_course c n)) t y
   read_course-fewer s t c n k y most takes = by_refusal (refusal_of Capture c.status call.Transfer) takes
     where
       few_frames : (P.view s.0).geometry.frames ≤ k

@@ -33,9 +33,9 @@ pub record Fills {S : Type 0} (P : snoopport.Ghosts S) (p q : S) (bindings : Lis
       (after ≡ through_all bindings frames ++ drop (done * length bindings) before)
 
 -- how many frames an answer counts
-abbrev pub counted : {X : Type 0} → Result ℕ X → ℕ
-counted (Ok n) = n
-counted (Err e) = 0
+abbrev pub count_of_answer : {X : Type 0} → Result ℕ X → ℕ
+count_of_answer (Ok n) = n
+count_of_answer (Err e) = 0
 
 -- what a read answers: the frames that its port got, one after the other from a first one on, are the samples that it gives, through
 -- the bindings, and the rest of the room is as it was; only a read that is Ok counts frames, and the reader's next frame is behind
@@ -44,7 +44,7 @@ pub record Reads {S : Type 0} (P : snoopport.Ghosts S) (p q : S) (c d : CaptureS
     (before after : List ℤ) (answer : Result ℕ PcmError) : Type 0 where
   pub first : ℕ
   pub begins : c.status.state ≡ Running → first ≡ c.next
-  pub next_is : d.next ≡ first + counted answer
+  pub next_is : d.next ≡ first + count_of_answer answer
   pub frames : List Frame
   pub got_them : P.got p q frames
   pub are : AreFrames frames first c.geometry.channels

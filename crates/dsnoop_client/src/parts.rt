@@ -1,6 +1,6 @@
 //! What a reader is after each part of a call, by what the part found.
 ghost use Rattle.std.specs.Prelude.{◌≡◌, ◌+◌, ◌^◌, ◌<◌};
-ghost use Rattle.dsnoop_client.specs.Calls.{configured_with, found, freed, in_state, numbered, new_reader, over_of, read_after, read_to, seen_at, with_outcome, after_start, started_at, stopped_in, after_sync, taken_of, waits, with_avail};
+ghost use Rattle.dsnoop_client.specs.Calls.{configured_with, found, after_hw_free, in_state, with_answer, new_reader, over_of, read_after, read_to, seen_at, with_outcome, after_start, started_at, stopped_in, after_sync, taken_of, waits, with_avail};
 ghost use Rattle.dsnoop_client.specs.View.{IsReady, IsReadyAt, IsReadyIf, avail_of, is_running};
 
 use crate::stream::CaptureStream;
@@ -53,7 +53,7 @@ impl CaptureStream {
 
     /// The reader gives its configuration up.
     pub(crate) fn freed(&self) -> CaptureStream
-        ensures { result ≡ freed self.now }
+        ensures { result ≡ after_hw_free self.now }
     {
         CaptureStream {
             setup: self.setup.freed(),
@@ -214,7 +214,7 @@ pub(crate) fn waits(frames: u64) -> Result<u64, PcmError>
 
 /// A number in place of a good answer.
 fn numbered(number: u64, answered: Answered<()>) -> Answered<u64>
-    ensures { result ≡ numbered number answered }
+    ensures { result ≡ with_answer number answered }
 {
     let (stream, answer) = answered;
     match answer {

@@ -6,7 +6,7 @@ ghost use Rattle.pcm_stream.specs.Status.{refusal_of};
 ghost use Rattle.pcm_stream.specs.declared.direction.Direction.{Direction};
 ghost use Rattle.course.specs.AtSnoopPort.{LoadsAtSnoop, TakesAtSnoop};
 ghost use Rattle.dsnoop_client.specs.Causes.{Explains};
-ghost use Rattle.dsnoop_client.specs.Course.{admitted, avail_course, starts, sync_course, syncs};
+ghost use Rattle.dsnoop_client.specs.Course.{if_admitted, avail_course, starts, sync_course, syncs};
 ghost use Rattle.dsnoop_client.specs.Port.{Keeps};
 ghost use Rattle.dsnoop_client.specs.View.{CanUse, IsGoing, IsReadyIf, IsSound, IsStart, IsSync, is_running};
 
@@ -97,7 +97,7 @@ impl Reader {
     ) -> Result<(), PcmError>
         requires { CanUse self.old (P.view port.old) }
         ensures takes { TakesAtSnoop P.SnoopPort G.Gate (port.old, gate.old)
-            (admitted self.old call.Start (starts self.old call.Start))
+            (if_admitted self.old call.Start (starts self.old call.Start))
             (port.new, gate.new) (self.new, result) }
         ensures refused { (e : PcmError)
             → refusal_of Direction.Capture self.old.status call.Start ≡ Some e
@@ -125,7 +125,7 @@ impl Reader {
     ) -> Result<(), PcmError>
         requires { CanUse self.old (P.view port.old) }
         ensures takes { TakesAtSnoop P.SnoopPort G.Gate (port.old, gate.old)
-            (admitted self.old call.Sync (sync_course self.old)) (port.new, gate.new)
+            (if_admitted self.old call.Sync (sync_course self.old)) (port.new, gate.new)
             (self.new, result) }
         ensures refused { (e : PcmError)
             → refusal_of Direction.Capture self.old.status call.Sync ≡ Some e
@@ -153,7 +153,7 @@ impl Reader {
     ) -> Result<u64, PcmError>
         requires { CanUse self.old (P.view port.old) }
         ensures takes { TakesAtSnoop P.SnoopPort G.Gate (port.old, gate.old)
-            (admitted self.old call.Sync (avail_course self.old))
+            (if_admitted self.old call.Sync (avail_course self.old))
             (port.new, gate.new) (self.new, result) }
         ensures refused { (e : PcmError)
             → refusal_of Direction.Capture self.old.status call.Sync ≡ Some e

@@ -6,7 +6,7 @@ ghost use Rattle.pcm_stream.specs.declared.direction.Direction.{Direction};
 ghost use Rattle.course.specs.AtSnoopPort.{TakesAtSnoop};
 ghost use Rattle.dsnoop_client.specs.Calls.{waits};
 ghost use Rattle.dsnoop_client.specs.Causes.{ExplainsRead};
-ghost use Rattle.dsnoop_client.specs.Course.{admitted, read_course, reads_first, reads_on, transfers};
+ghost use Rattle.dsnoop_client.specs.Course.{if_admitted, read_course, reads_first, reads_on, transfers};
 ghost use Rattle.dsnoop_client.specs.Port.{Asks, Keeps};
 ghost use Rattle.dsnoop_client.specs.Reads.{Reads};
 ghost use Rattle.dsnoop_client.specs.View.{CanRead, CanUse, HasRoom, IsGoing, IsSound, LoadsFor, frames_in, is_running};
@@ -188,7 +188,7 @@ impl Reader {
         requires room { CanRead self.old out.old }
         requires port { CanUse self.old (P.view port.old) }
         ensures takes { TakesAtSnoop P.SnoopPort G.Gate (port.old, gate.old)
-            (admitted self.old call.Transfer (read_course self.old (frames_in self.old out.old)))
+            (if_admitted self.old call.Transfer (read_course self.old (frames_in self.old out.old)))
             (port.new, gate.new) (self.new, result) }
         ensures refused { (e : PcmError)
             → refusal_of Direction.Capture self.old.status call.Transfer ≡ Some e

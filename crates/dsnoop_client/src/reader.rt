@@ -5,7 +5,7 @@ ghost use Rattle.pcm_stream.specs.Setup.{CanRunWith, Checks, config_of};
 ghost use Rattle.pcm_stream.specs.Status.{refusal_of};
 ghost use Rattle.pcm_stream.specs.declared.direction.Direction.{Direction};
 ghost use Rattle.sw_limits.specs.Boundary.{IsBoundary};
-ghost use Rattle.dsnoop_client.specs.Calls.{configured_with, freed, in_state, new_reader, with_params};
+ghost use Rattle.dsnoop_client.specs.Calls.{configured_with, after_hw_free, in_state, new_reader, with_params};
 ghost use Rattle.dsnoop_client.specs.View.{IsSound};
 
 use crate::stream::CaptureStream;
@@ -140,7 +140,7 @@ impl Reader {
             → refusal_of Direction.Capture self.old.status call.HwFree ≡ Some e
             → (result ≡ Err e) × (self.new ≡ self.old) }
         ensures freed { refusal_of Direction.Capture self.old.status call.HwFree ≡ None
-            → (result ≡ Ok tt) × (self.new ≡ freed self.old) }
+            → (result ≡ Ok tt) × (self.new ≡ after_hw_free self.old) }
     {
         self.stream.status.admit(Direction::Capture, Call::HwFree)?;
         self.stream = self.stream.freed();

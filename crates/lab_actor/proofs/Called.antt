@@ -23,7 +23,7 @@ use Rattle.pcm_stream.specs.Status.{is_moving, refusal_of}
 use Rattle.pcm_stream.specs.declared.direction.Direction.TheVariants.{Playback}
 use Rattle.dmix_client.specs.declared.stream.PlaybackStream.{PlaybackStream}
 use Rattle.dmix_client.specs.Calls.{Answered, base_of, after_drop, in_state, is_paused, after_pause, after_prepare, with_new_base}
-use Rattle.dmix_client.specs.Course.{admitted, admitted_by}
+use Rattle.dmix_client.specs.Course.{if_admitted, admitted_by}
 use Rattle.dmix_client.specs.Growth.{AnySamples, IsBacked, Keeps, KeepsBack, segment_entries}
 use Rattle.dmix_client.specs.StandingLaws.{IsBacked-back, IsBacked-grows, IsBacked-new, IsBacked-rebased}
 use Rattle.dmix_client.specs.View.{ClientView, IsSound}
@@ -128,7 +128,7 @@ module _ {S T : Type 0} (P : mixport.Ghosts S) (G : gates.Ghosts T) (composes : 
   -- a call without steps, unless it is refused
   admitted-taken : {X : Type 0} (s : S × T) (c : PlaybackStream) (what : Call) (end : Answered X) (d : PlaybackStream) (result : Result X PcmError)
       → ((e : PcmError) → refusal_of Playback c.status what ≡ Some e → (result ≡ Err e) × (d ≡ c)) → (refusal_of Playback c.status what ≡ None → (result ≡ end.1) × (d ≡ end.0))
-      → TakesAt P G s (admitted c what (ends end)) s (d, result)
+      → TakesAt P G s (if_admitted c what (ends end)) s (d, result)
   admitted-taken s c what end d result refused admits = by_refusal (refusal_of Playback c.status what) refl
     where
       by_refusal : (refusal : Option PcmError) → refusal_of Playback c.status what ≡ refusal → TakesAt P G s (admitted_by refusal c (ends end)) s (d, result)

@@ -20,8 +20,8 @@ use Rattle.pcm_stream.specs.declared.direction.Direction.TheVariants.{Playback}
 use Rattle.dmix_client.specs.declared.commit.Commit.{Commit}
 use Rattle.dmix_client.specs.declared.stream.PlaybackStream.{PlaybackStream}
 use Rattle.dmix_client.specs.Calls.{Answered, accepted_if, committed_by, draining, found_at, going_on, going_on_by, has_frames, is_running, is_stop, late_at, late_of, pending_of, with_new_base, after_resume, seen_at, with_outcome, after_start, started_in, stopped_in, after_sync, taken_of, with_number, written_after}
-use Rattle.dmix_client.specs.Course.{admitted, admitted_by, drain_course, drain_on, drains, fills, number_course, numbered, pause_course, resumes, start_course, starts, starts_taking, sync_course, syncs, takes_more, write_course, write_on, writes_on}
-use Rattle.dmix_client.specs.Rewind.{back_of, back_on, checks, last_channel, last_laid, left_of, rewind_course, rewind_on, rewindable_course, rewindable_of, rewinds, rewound, take_frames, taken_back, takes_back, without}
+use Rattle.dmix_client.specs.Course.{if_admitted, admitted_by, drain_course, drain_on, drains, fills, number_course, course_with_number, pause_course, resumes, start_course, starts, starts_taking, sync_course, syncs, takes_more, write_course, write_on, writes_on}
+use Rattle.dmix_client.specs.Rewind.{back_of, back_on, checks, last_channel, last_laid, left_of, rewind_course, rewind_on, rewindable_course, rewindable_of, rewinds, rewound, take_frames, taken_back, takes_back, without_frames}
 use Rattle.dmix_client.specs.View.{IsSound, avail_of}
 use Rattle.dmix_client.specs.Writes.{frames_in, starts_with}
 use Rattle.lab_actor.proofs.Gives.{Gives, Gives-behind, Gives-then, Gives-weaker}
@@ -93,8 +93,8 @@ drains-fed : (c : PlaybackStream) (ring : List ℤ) (cursor : Cursor) → Gives 
 unfolding drains
 drains-fed c ring cursor = Gives-then (IsSame c.fed) (IsSame c.fed) _ _ (starts-fed c _ cursor _ ring) (drain_on-fed c.fed ring)
 
-numbered-fed : (number : PlaybackStream → ℕ) (n : ℕ) (course : Course (Answered (Unit {0}))) → Gives (IsSame n) course → Gives (IsSame n) (numbered number course)
-unfolding numbered
+numbered-fed : (number : PlaybackStream → ℕ) (n : ℕ) (course : Course (Answered (Unit {0}))) → Gives (IsSame n) course → Gives (IsSame n) (course_with_number number course)
+unfolding course_with_number
 numbered-fed number n course gives = Gives-then (IsSame n) (IsSame n) course _ gives (with_number-fed number n)
 
 by_course : {X : Type 0} (Q : X → Type 0) (test : Bool) (one other : Course X) → Gives Q one → Gives Q other → Gives Q (if test then one else other)
@@ -142,34 +142,34 @@ fills-fed c ring samples cursor n = by_course (IsFed (c.fed + n)) (starts_with c
 
 -- the calls
 
-admitted-gives : {X : Type 0} (c : PlaybackStream) (what : Call) (course : Course (Answered X)) (Q : Answered X → Type 0) → Gives Q course → ((e : PcmError) → Q (c, Err e)) → Gives Q (admitted c what course)
+admitted-gives : {X : Type 0} (c : PlaybackStream) (what : Call) (course : Course (Answered X)) (Q : Answered X → Type 0) → Gives Q course → ((e : PcmError) → Q (c, Err e)) → Gives Q (if_admitted c what course)
 admitted-gives c what course Q gives refused = by_refusal (refusal_of Playback c.status what)
   where
     by_refusal : (refusal : Option PcmError) → Gives Q (admitted_by refusal c course)
     by_refusal None = gives
     by_refusal (Some e) = refused e
 
-pub sync-fed : (c : PlaybackStream) (ring : List ℤ) → Gives (IsSame c.fed) (admitted c call.Sync (sync_course c ring))
+pub sync-fed : (c : PlaybackStream) (ring : List ℤ) → Gives (IsSame c.fed) (if_admitted c call.Sync (sync_course c ring))
 sync-fed c ring = admitted-gives c call.Sync _ (IsSame c.fed) (by_course (IsSame c.fed) (is_moving c.status.state) _ _ (syncs-fed c call.Sync ring) (record { same = refl })) (λ e. record { same = refl })
 
-pub start-fed : (c : PlaybackStream) (ring : List ℤ) (cursor : Cursor) → Gives (IsSame c.fed) (admitted c call.Start (start_course c ring cursor))
+pub start-fed : (c : PlaybackStream) (ring : List ℤ) (cursor : Cursor) → Gives (IsSame c.fed) (if_admitted c call.Start (start_course c ring cursor))
 start-fed c ring cursor = admitted-gives c call.Start _ (IsSame c.fed) (by_course (IsSame c.fed) (nat_eq c.stretch.written 0) _ _ (record { same = refl }) (starts-fed c _ cursor _ ring)) (λ e. record { same = refl })
 
-pub drain-fed : (c : PlaybackStream) (ring : List ℤ) (cursor : Cursor) → Gives (IsSame c.fed) (admitted c call.Drain (drain_course c ring cursor))
+pub drain-fed : (c : PlaybackStream) (ring : List ℤ) (cursor : Cursor) → Gives (IsSame c.fed) (if_admitted c call.Drain (drain_course c ring cursor))
 drain-fed c ring cursor = admitted-gives c call.Drain _ (IsSame c.fed)
     (by_course (IsSame c.fed) (is_moving c.status.state) _ _ (syncs-fed (draining c) call.Drain ring) (by_course (IsSame c.fed) (has_frames c) _ _ (drains-fed c ring cursor) (record { same = refl }))) (λ e. record { same = refl })
 
-pub number-fed : (number : PlaybackStream → ℕ) (c : PlaybackStream) (ring : List ℤ) → Gives (IsSame c.fed) (admitted c call.Sync (number_course number c ring))
+pub number-fed : (number : PlaybackStream → ℕ) (c : PlaybackStream) (ring : List ℤ) → Gives (IsSame c.fed) (if_admitted c call.Sync (number_course number c ring))
 number-fed number c ring = admitted-gives c call.Sync _ (IsSame c.fed)
     (by_course (IsSame c.fed) (is_moving c.status.state) _ _ (numbered-fed number c.fed _ (syncs-fed c call.Sync ring)) (record { same = refl })) (λ e. record { same = refl })
 
-pub pause-fed : (c : PlaybackStream) (ring : List ℤ) (cursor : Cursor) → Gives (IsSame c.fed) (admitted c call.Pause (pause_course true c ring cursor))
+pub pause-fed : (c : PlaybackStream) (ring : List ℤ) (cursor : Cursor) → Gives (IsSame c.fed) (if_admitted c call.Pause (pause_course true c ring cursor))
 pause-fed c ring cursor = admitted-gives c call.Pause _ (IsSame c.fed) (record { same = refl }) (λ e. record { same = refl })
 
-pub resume-fed : (c : PlaybackStream) (ring : List ℤ) (cursor : Cursor) → Gives (IsSame c.fed) (admitted c call.Resume (pause_course false c ring cursor))
+pub resume-fed : (c : PlaybackStream) (ring : List ℤ) (cursor : Cursor) → Gives (IsSame c.fed) (if_admitted c call.Resume (pause_course false c ring cursor))
 resume-fed c ring cursor = admitted-gives c call.Resume _ (IsSame c.fed) (by_course (IsSame c.fed) (nat_eq (pending_of c) 0) _ _ (record { same = refl }) (resumes-fed c cursor ring)) (λ e. record { same = refl })
 
-pub write-fed : (c : PlaybackStream) (ring samples : List ℤ) (cursor : Cursor) → Gives (IsFed (c.fed + frames_in c samples)) (admitted c call.Transfer (write_course c ring samples cursor))
+pub write-fed : (c : PlaybackStream) (ring samples : List ℤ) (cursor : Cursor) → Gives (IsFed (c.fed + frames_in c samples)) (if_admitted c call.Transfer (write_course c ring samples cursor))
 write-fed c ring samples cursor = admitted-gives c call.Transfer _ (IsFed (c.fed + frames_in c samples))
     (by_course (IsFed (c.fed + frames_in c samples)) (is_running c.status.state) _ _ (writes_on-fed c ring samples (frames_in c samples)) (fills-fed c ring samples cursor (frames_in c samples)))
     (λ e. record { most = omega arith })
@@ -178,7 +178,7 @@ checks-fed : (c : PlaybackStream) → Gives (IsSame c.fed) (checks c)
 unfolding checks
 checks-fed c = λ load. after_sync-fed c call.Transfer load _
 
-pub rewindable-fed : (c : PlaybackStream) (floor : Cursor) → Gives (IsSame c.fed) (admitted c call.Transfer (rewindable_course c floor))
+pub rewindable-fed : (c : PlaybackStream) (floor : Cursor) → Gives (IsSame c.fed) (if_admitted c call.Transfer (rewindable_course c floor))
 rewindable-fed c floor = admitted-gives c call.Transfer _ (IsSame c.fed) (by_course (IsSame c.fed) (is_running c.status.state) _ _ (numbered-fed _ c.fed _ (checks-fed c)) (record { same = refl })) (λ e. record { same = refl })
 
 -- a rewind: what is left of the frames that it was to withdraw is no more than these, and these the client had accepted
@@ -245,7 +245,7 @@ running-moves : (state : State) → is_running state ≡ true → is_moving stat
 running-moves Running runs = refl
 running-moves other runs = absurd (cc)
 
-pub rewind-fed : (c : PlaybackStream) (ring : List ℤ) (floor : Cursor) (n : ℕ) → IsSound c ring → c.status.stopped ≡ false → Gives (IsFed c.fed) (admitted c call.Transfer (rewind_course c ring floor n))
+pub rewind-fed : (c : PlaybackStream) (ring : List ℤ) (floor : Cursor) (n : ℕ) → IsSound c ring → c.status.stopped ≡ false → Gives (IsFed c.fed) (if_admitted c call.Transfer (rewind_course c ring floor n))
 unfolding rewinds
 rewind-fed c ring floor n sound going = admitted-gives c call.Transfer _ (IsFed c.fed) (by_running (is_running c.status.state) refl) (λ e. record { most = omega arith })
   where
@@ -256,6 +256,6 @@ rewind-fed c ring floor n sound going = admitted-gives c call.Transfer _ (IsFed 
     laid runs = (sound.moving (running-moves c.status.state runs) going).laid_most
 
     by_running : (test : Bool) → is_running c.status.state ≡ test
-        → Gives (IsFed c.fed) (if test then rewinds c ring floor n else ends (without c (min n c.stretch.written), Ok (min n c.stretch.written)))
+        → Gives (IsFed c.fed) (if test then rewinds c ring floor n else ends (without_frames c (min n c.stretch.written), Ok (min n c.stretch.written)))
     by_running true runs = Gives-then (HasChecked c) (IsFed c.fed) _ _ (checks-same c) (λ done is. rewind_on-fed c floor ring n done (laid runs) written is)
     by_running false rests = record { most = omega arith }

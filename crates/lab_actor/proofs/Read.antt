@@ -25,7 +25,7 @@ use Rattle.pcm_stream.specs.Status.{refusal_of}
 use Rattle.pcm_stream.specs.declared.direction.Direction.TheVariants.{Capture}
 use Rattle.dsnoop_client.specs.declared.stream.CaptureStream.{CaptureStream}
 use Rattle.dsnoop_client.specs.Calls.{Answered, in_state}
-use Rattle.dsnoop_client.specs.Course.{admitted, admitted_by, read_course}
+use Rattle.dsnoop_client.specs.Course.{if_admitted, admitted_by, read_course}
 use Rattle.dsnoop_client.specs.FewerReads.{most_read, read_course-fewer}
 use Rattle.dsnoop_client.specs.Port.{Keeps}
 use Rattle.dsnoop_client.specs.Reads.{Reads, through, through_all}
@@ -188,7 +188,7 @@ module _ {S T : Type 0} (P : snoopport.Ghosts S) (G : gates.Ghosts T) (composes 
   -- a call that only changes the reader's state
   admitted-taken : (s : S × T) (r : CaptureStream) (what : Call) (end : Answered (Unit {0})) (d : CaptureStream) (result : Result (Unit {0}) PcmError)
       → ((e : PcmError) → refusal_of Capture r.status what ≡ Some e → (result ≡ Err e) × (d ≡ r)) → (refusal_of Capture r.status what ≡ None → (result ≡ end.1) × (d ≡ end.0))
-      → TakesAtSnoop P G s (admitted r what (ends end)) s (d, result)
+      → TakesAtSnoop P G s (if_admitted r what (ends end)) s (d, result)
   admitted-taken s r what end d result refused admits = by_refusal (refusal_of Capture r.status what) refl
     where
       by_refusal : (refusal : Option PcmError) → refusal_of Capture r.status what ≡ refusal → TakesAtSnoop P G s (admitted_by refusal r (ends end)) s (d, result)
@@ -196,7 +196,7 @@ module _ {S T : Type 0} (P : snoopport.Ghosts S) (G : gates.Ghosts T) (composes 
       by_refusal (Some e) found = let now = refused e found in record { there = refl; result = λ i. (now.1 i, now.0 i) }
 
   pub called-state : (s : S × T) (r d : CaptureStream) (before : List ℤ) (asked : Op) (what : Call) (state : State) (result : Result (Unit {0}) PcmError) (answer : Answer)
-      → call_of r asked ≡ answered done_answer (admitted r what (ends (in_state r state, Ok tt)))
+      → call_of r asked ≡ answered done_answer (if_admitted r what (ends (in_state r state, Ok tt)))
       → ((e : PcmError) → refusal_of Capture r.status what ≡ Some e → (result ≡ Err e) × (d ≡ r))
       → (refusal_of Capture r.status what ≡ None → (result ≡ Ok tt) × (d ≡ in_state r state))
       → answer ≡ done_answer result → CanUse r (P.view s.0) → got_by asked answer ≡ 0 → frames_by asked answer d ≡ []
@@ -226,14 +226,14 @@ module _ {S T : Type 0} (P : snoopport.Ghosts S) (G : gates.Ghosts T) (composes 
   -- a read of n frames into room for as many of them as a read gets or starts by; the samples that it gave are kept
   pub called-read : (s t : S × T) (r d : CaptureStream) (before samples room filled : List ℤ) (n : ℕ) (result : Result ℕ PcmError) (answer : Answer)
       → 1 ≤ length r.setup.bindings → length room ≡ min n (most_read r) * length r.setup.bindings
-      → TakesAtSnoop P G s (admitted r call.Transfer (read_course r (frames_in r room))) t (d, result) → Reads P s.0 t.0 r d room filled result
+      → TakesAtSnoop P G s (if_admitted r call.Transfer (read_course r (frames_in r room))) t (d, result) → Reads P s.0 t.0 r d room filled result
       → Keeps P G s t r d result → answer ≡ count_answer result → samples ≡ before ++ take (result_unwrap_or result 0 * length r.setup.bindings) filled
       → HasCalled P G s t r d before samples (op.Read n) answer
   called-read s t r d before samples room filled n result answer some size takes reads keeps is kept = record {
-    takes = Takes-map (LoadsAtSnoop P G) NoLay (GetsAtSnoop P G) s t (admitted r call.Transfer (read_course r n)) (λ (done : Answered ℕ). (done.0, count_answer done.1))
+    takes = Takes-map (LoadsAtSnoop P G) NoLay (GetsAtSnoop P G) s t (if_admitted r call.Transfer (read_course r n)) (λ (done : Answered ℕ). (done.0, count_answer done.1))
         (d, result) (d, answer)
         (read_course-fewer P G s t r n (most_read r) (d, result) (omega arith)
-        (subst (λ (k : ℕ). TakesAtSnoop P G s (admitted r call.Transfer (read_course r k)) t (d, result)) (frames_in-whole r room (min n (most_read r)) some size) takes))
+        (subst (λ (k : ℕ). TakesAtSnoop P G s (if_admitted r call.Transfer (read_course r k)) t (d, result)) (frames_in-whole r room (min n (most_read r)) some size) takes))
         (ap (λ (a : Answer). (d, a)) (sym is));
     has_read = record {
       usable = keeps.port;

@@ -15,7 +15,7 @@ use Rattle.course.specs.CourseLaws.{Takes-parts, Takes-then}
 use Rattle.pcm_states.specs.declared.calls.Call.TheVariants as call
 use Rattle.dsnoop_client.specs.declared.stream.CaptureStream.{CaptureStream}
 use Rattle.dsnoop_client.specs.Calls.{Answered}
-use Rattle.dsnoop_client.specs.Course.{admitted, read_course}
+use Rattle.dsnoop_client.specs.Course.{if_admitted, read_course}
 use Rattle.dsnoop_client.specs.FewerReads.{most_read, read_course-fewer}
 use Rattle.dsnoop_client.specs.View.{CanUse}
 use Rattle.lab_script.specs.declared.line.Op.{Op}
@@ -70,9 +70,9 @@ call-fitting P G s t r d (op.Read n) spare answer fits takes = by_order (nat_le 
         subst (λ (k : ℕ). TakesAtSnoop P G s (call_of r (op.Read k)) t (d, answer)) all takes
     by_order false is =
         let many : spare < n = grind (arith, nat_tests) in
-        let parts = Takes-parts (LoadsAtSnoop P G) NoLay (GetsAtSnoop P G) s t (admitted r call.Transfer (read_course r (min n spare)))
+        let parts = Takes-parts (LoadsAtSnoop P G) NoLay (GetsAtSnoop P G) s t (if_admitted r call.Transfer (read_course r (min n spare)))
         (λ (done : Answered ℕ). ends (done.0, count_answer done.1)) (d, answer) takes in
-        Takes-then (LoadsAtSnoop P G) NoLay (GetsAtSnoop P G) s parts.0 t (admitted r call.Transfer (read_course r n))
+        Takes-then (LoadsAtSnoop P G) NoLay (GetsAtSnoop P G) s parts.0 t (if_admitted r call.Transfer (read_course r n))
         (λ (done : Answered ℕ). ends (done.0, count_answer done.1)) parts.1 (d, answer)
         (read_course-fewer P G s parts.0 r n spare parts.1 (omega (arith, fits, many)) parts.2) parts.3
 call-fitting P G s t r d other spare answer fits takes = takes

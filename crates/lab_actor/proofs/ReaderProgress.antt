@@ -25,7 +25,7 @@ use Rattle.pcm_stream.specs.declared.direction.Direction.TheVariants.{Capture}
 use Rattle.dsnoop_client.specs.declared.stream.CaptureStream.{CaptureStream}
 use Rattle.dsnoop_client.specs.Calls.{Answered, found, in_state, read_after, read_to, seen_at, taken_of, waits, with_avail, with_outcome}
 use Rattle.dsnoop_client.specs.Course.{admitted_by, counts, gets_frames, one_more, read_course, reads_first, reads_on, starts, syncs, transfer_on, transfers}
-use Rattle.dsnoop_client.specs.Reads.{counted}
+use Rattle.dsnoop_client.specs.Reads.{count_of_answer}
 use Rattle.dsnoop_client.specs.View.{avail_of, is_running}
 use Rattle.lab_script.specs.declared.line.Op.{Op}
 use Rattle.lab_script.specs.declared.line.Op.TheVariants as op
@@ -126,15 +126,15 @@ record Reads (c d : CaptureStream) (got done : ℕ) : Type 0 where
   next : d.next ≡ c.next + got
   runs : is_running d.status.state ≡ true → is_running c.status.state ≡ true
 
-reads-to : (c : CaptureStream) (done : ℕ) (ended : Got) → Reads c (read_to c done ended).0 (counted (read_to c done ended).1) done
+reads-to : (c : CaptureStream) (done : ℕ) (ended : Got) → Reads c (read_to c done ended).0 (count_of_answer (read_to c done ended).1) done
 reads-to c done Whole = record { few = omega arith; next = refl; runs = λ is. is }
 reads-to c done (Overtaken channel word) = record { few = omega arith; next = omega arith; runs = λ is. absurd (false≢true is) }
 reads-to c done Stopped = record { few = omega arith; next = omega arith; runs = λ is. is }
 
-reads-after : (c : CaptureStream) (n done : ℕ) (ended : Got) → Reads c (read_after c n done ended).0 (counted (read_after c n done ended).1) done
+reads-after : (c : CaptureStream) (n done : ℕ) (ended : Got) → Reads c (read_after c n done ended).0 (count_of_answer (read_after c n done ended).1) done
 reads-after c n done ended = by_none (nat_lt 0 n && nat_eq (avail_of c) 0)
   where
-    by_none : (none : Bool) → let y = if none then (c, Err Again) else read_to c done ended in Reads c y.0 (counted y.1) done
+    by_none : (none : Bool) → let y = if none then (c, Err Again) else read_to c done ended in Reads c y.0 (count_of_answer y.1) done
     by_none true = record { few = omega arith; next = omega arith; runs = λ is. is }
     by_none false = reads-to c done ended
 
@@ -183,13 +183,13 @@ module _ {S T : Type 0} (P : snoopport.Ghosts S) (G : gates.Ghosts T) where
     next : d.next ≡ c.next + got
     runs : is_running d.status.state ≡ true → is_running c.status.state ≡ true
 
-  transfers-got : (s t : S × T) (c : CaptureStream) (n : ℕ) (y : Answered ℕ) → TakesAtSnoop P G s (transfers c n) t y → Transfers s t c y.0 n (counted y.1)
+  transfers-got : (s t : S × T) (c : CaptureStream) (n : ℕ) (y : Answered ℕ) → TakesAtSnoop P G s (transfers c n) t y → Transfers s t c y.0 n (count_of_answer y.1)
   unfolding transfers
   transfers-got s t c n y takes =
       let parts = Takes-parts (LoadsAtSnoop P G) NoLay (GetsAtSnoop P G) s t (gets_frames (taken_of c n) c.next) (λ (end : ℕ × Got). ends (read_after c n end.0 end.1)) y takes in
       let gets = gets-frames (taken_of c n) c.next s parts.0 parts.1.0 parts.1.1 parts.2 in
-      let reads : Reads c y.0 (counted y.1) parts.1.0 =
-      subst (λ (x : Answered ℕ). Reads c x.0 (counted x.1) parts.1.0) (sym parts.3.result) (reads-after c n parts.1.0 parts.1.1) in
+      let reads : Reads c y.0 (count_of_answer y.1) parts.1.0 =
+      subst (λ (x : Answered ℕ). Reads c x.0 (count_of_answer x.1) parts.1.0) (sym parts.3.result) (reads-after c n parts.1.0 parts.1.1) in
       let all = gets.few in
       let few = reads.few in
       record {
@@ -318,7 +318,7 @@ module _ {S T : Type 0} (P : snoopport.Ghosts S) (G : gates.Ghosts T) where
 
   -- the frames of a read of a reader that runs
   transfers-on : (s u t : S × T) (r c : CaptureStream) (n : ℕ) (y : Answered ℕ) → is_running r.status.state ≡ true → Went s u r c → c.next ≡ r.next
-      → (P.view u.0).seen ≡ unwrap_or c.seen 0 → TakesAtSnoop P G u (transfers c n) t y → Makes s t r y.0 n (counted y.1)
+      → (P.view u.0).seen ≡ unwrap_or c.seen 0 → TakesAtSnoop P G u (transfers c n) t y → Makes s t r y.0 n (count_of_answer y.1)
   transfers-on s u t r c n y running went next saw takes =
       let did = transfers-got u t c n y takes in
       let few = did.few in
@@ -326,53 +326,53 @@ module _ {S T : Type 0} (P : snoopport.Ghosts S) (G : gates.Ghosts T) where
       let seen : (P.view t.0).seen ≡ (P.view u.0).seen = ap (λ (v : SnoopView). v.seen) did.view_is in
       let frames : (P.view u.0).geometry.frames ≡ (P.view s.0).geometry.frames = ap (λ (ring : Geometry). ring.frames) went.ring in
       let ring : (P.view t.0).geometry ≡ (P.view s.0).geometry = ap (λ (v : SnoopView). v.geometry) did.view_is ∙ went.ring in
-      let after : y.0.next ≡ r.next + counted y.1 = did.next ∙ ap (λ (k : ℕ). k + counted y.1) next in
+      let after : y.0.next ≡ r.next + count_of_answer y.1 = did.next ∙ ap (λ (k : ℕ). k + count_of_answer y.1) next in
       elim did.had [
-        | inl none ↦ Makes-none s t r y.0 n (counted y.1) none (record {
+        | inl none ↦ Makes-none s t r y.0 n (count_of_answer y.1) none (record {
           ring = ring;
           rising = omega (arith, rising, seen);
           on = λ is. inr (running, omega (arith, after, none));
         })
-        | inr had ↦ by_none (nat_eq (counted y.1) 0) refl did few rising seen frames ring after had
+        | inr had ↦ by_none (nat_eq (count_of_answer y.1) 0) refl did few rising seen frames ring after had
       ]
     where
-      by_none : (none : Bool) → nat_eq (counted y.1) 0 ≡ none → Transfers u t c y.0 n (counted y.1) → counted y.1 ≤ taken_of c n → (P.view s.0).seen ≤ (P.view u.0).seen
+      by_none : (none : Bool) → nat_eq (count_of_answer y.1) 0 ≡ none → Transfers u t c y.0 n (count_of_answer y.1) → count_of_answer y.1 ≤ taken_of c n → (P.view s.0).seen ≤ (P.view u.0).seen
           → (P.view t.0).seen ≡ (P.view u.0).seen → (P.view u.0).geometry.frames ≡ (P.view s.0).geometry.frames → (P.view t.0).geometry ≡ (P.view s.0).geometry
-          → y.0.next ≡ r.next + counted y.1 → (P.view u.0).seen ≤ c.next + (P.view u.0).geometry.frames → Makes s t r y.0 n (counted y.1)
+          → y.0.next ≡ r.next + count_of_answer y.1 → (P.view u.0).seen ≤ c.next + (P.view u.0).geometry.frames → Makes s t r y.0 n (count_of_answer y.1)
       by_none true is did few rising seen frames ring after had =
-          let none : counted y.1 ≡ 0 = grind (arith, nat_tests) in
-          Makes-none s t r y.0 n (counted y.1) none (record {
+          let none : count_of_answer y.1 ≡ 0 = grind (arith, nat_tests) in
+          Makes-none s t r y.0 n (count_of_answer y.1) none (record {
             ring = ring;
             rising = omega (arith, rising, seen);
             on = λ runs. inr (running, omega (arith, after, none));
           })
       by_none false is did few rising seen frames ring after had =
-          let some : 1 ≤ counted y.1 = grind (arith, nat_tests) in
+          let some : 1 ≤ count_of_answer y.1 = grind (arith, nat_tests) in
           record {
-            progress = Progress-some (counted y.1) r y.0 (P.view s.0) (P.view t.0) ring (omega (arith, rising, seen)) running after
+            progress = Progress-some (count_of_answer y.1) r y.0 (P.view s.0) (P.view t.0) ring (omega (arith, rising, seen)) running after
                 (omega (arith, after, few, some, saw, next, seen)) (omega (arith, rising, had, next, frames));
             few = omega (arith, few);
           }
 
-  reads-on : (s t : S × T) (r : CaptureStream) (n : ℕ) (y : Answered ℕ) → is_running r.status.state ≡ true → TakesAtSnoop P G s (reads_on r n) t y → Makes s t r y.0 n (counted y.1)
+  reads-on : (s t : S × T) (r : CaptureStream) (n : ℕ) (y : Answered ℕ) → is_running r.status.state ≡ true → TakesAtSnoop P G s (reads_on r n) t y → Makes s t r y.0 n (count_of_answer y.1)
   unfolding reads_on
   reads-on s t r n y running takes =
       let parts = Takes-parts (LoadsAtSnoop P G) NoLay (GetsAtSnoop P G) s t (syncs r call.Transfer) (transfer_on n) y takes in
       by_sync parts.0 parts.1 (syncs-went s parts.0 r call.Transfer parts.1 running parts.2) parts.3
     where
-      by_sync : (u : S × T) (x : Answered (Unit {0})) → Syncs s u r x → TakesAtSnoop P G u (transfer_on n x) t y → Makes s t r y.0 n (counted y.1)
+      by_sync : (u : S × T) (x : Answered (Unit {0})) → Syncs s u r x → TakesAtSnoop P G u (transfer_on n x) t y → Makes s t r y.0 n (count_of_answer y.1)
       by_sync u (c, Ok done) did rest = transfers-on s u t r c n y running did.went did.next (did.saw done refl) rest
       by_sync u (c, Err e) did rest =
-          Makes-none s t r y.0 n (counted y.1) (ap (λ (z : Answered ℕ). counted z.1) rest.result)
+          Makes-none s t r y.0 n (count_of_answer y.1) (ap (λ (z : Answered ℕ). count_of_answer z.1) rest.result)
           (Went-there s u t r c y.0 rest.there (ap (λ (z : Answered ℕ). z.0) rest.result) did.went)
 
-  reads-first : (s t : S × T) (r : CaptureStream) (n : ℕ) (y : Answered ℕ) → TakesAtSnoop P G s (reads_first r n) t y → Makes s t r y.0 n (counted y.1)
+  reads-first : (s t : S × T) (r : CaptureStream) (n : ℕ) (y : Answered ℕ) → TakesAtSnoop P G s (reads_first r n) t y → Makes s t r y.0 n (count_of_answer y.1)
   unfolding reads_first
   reads-first s t r n y takes =
       let parts = Takes-parts (LoadsAtSnoop P G) NoLay (GetsAtSnoop P G) s t (starts r call.Transfer) (transfer_on n) y takes in
       by_start parts.0 parts.1 (reads-started s parts.0 r parts.1 parts.2) parts.3
     where
-      by_start : (u : S × T) (x : Answered (Unit {0})) → Starts s u r x → TakesAtSnoop P G u (transfer_on n x) t y → Makes s t r y.0 n (counted y.1)
+      by_start : (u : S × T) (x : Answered (Unit {0})) → Starts s u r x → TakesAtSnoop P G u (transfer_on n x) t y → Makes s t r y.0 n (count_of_answer y.1)
       by_start u (c, Ok done) did rest =
           let got = transfers-got u t c n y rest in
           let few = got.few in
@@ -382,35 +382,35 @@ module _ {S T : Type 0} (P : snoopport.Ghosts S) (G : gates.Ghosts T) where
           let rising = did.went.rising in
           let next = got.next in
           let seen : (P.view t.0).seen ≡ (P.view u.0).seen = ap (λ (v : SnoopView). v.seen) got.view_is in
-          let none : counted y.1 ≡ 0 = omega (arith, few, empty) in
-          Makes-none s t r y.0 n (counted y.1) none (record {
+          let none : count_of_answer y.1 ≡ 0 = omega (arith, few, empty) in
+          Makes-none s t r y.0 n (count_of_answer y.1) none (record {
             ring = ap (λ (v : SnoopView). v.geometry) got.view_is ∙ did.went.ring;
             rising = omega (arith, rising, seen);
             on = λ is. inl (omega (arith, next, none, here, seen));
           })
       by_start u (c, Err e) did rest =
-          Makes-none s t r y.0 n (counted y.1) (ap (λ (z : Answered ℕ). counted z.1) rest.result)
+          Makes-none s t r y.0 n (count_of_answer y.1) (ap (λ (z : Answered ℕ). count_of_answer z.1) rest.result)
           (Went-there s u t r c y.0 rest.there (ap (λ (z : Answered ℕ). z.0) rest.result) did.went)
 
-  counted-waits : (n : ℕ) → counted (waits n) ≡ 0
+  counted-waits : (n : ℕ) → count_of_answer (waits n) ≡ 0
   counted-waits n = by_none (nat_eq n 0)
     where
-      by_none : (none : Bool) → counted (let x : Result ℕ PcmError = if none then Ok 0 else Err Again in x) ≡ 0
+      by_none : (none : Bool) → count_of_answer (let x : Result ℕ PcmError = if none then Ok 0 else Err Again in x) ≡ 0
       by_none true = refl
       by_none false = refl
 
-  reads-course : (s t : S × T) (r : CaptureStream) (n : ℕ) (y : Answered ℕ) → TakesAtSnoop P G s (read_course r n) t y → Makes s t r y.0 n (counted y.1)
+  reads-course : (s t : S × T) (r : CaptureStream) (n : ℕ) (y : Answered ℕ) → TakesAtSnoop P G s (read_course r n) t y → Makes s t r y.0 n (count_of_answer y.1)
   reads-course s t r n y takes = by_running (is_running r.status.state) refl takes
     where
-      by_start : (enough : Bool) → TakesAtSnoop P G s (if enough then reads_first r n else ends (r, waits n)) t y → Makes s t r y.0 n (counted y.1)
+      by_start : (enough : Bool) → TakesAtSnoop P G s (if enough then reads_first r n else ends (r, waits n)) t y → Makes s t r y.0 n (count_of_answer y.1)
       by_start true takes = reads-first s t r n y takes
       by_start false takes =
-          Makes-none s t r y.0 n (counted y.1) (ap (λ (z : Answered ℕ). counted z.1) takes.result ∙ counted-waits n)
+          Makes-none s t r y.0 n (count_of_answer y.1) (ap (λ (z : Answered ℕ). count_of_answer z.1) takes.result ∙ counted-waits n)
           (Went-there s s t r r y.0 takes.there (ap (λ (z : Answered ℕ). z.0) takes.result) (Went-none s r))
 
       by_running : (running : Bool) → is_running r.status.state ≡ running
           → TakesAtSnoop P G s (if running then reads_on r n else (if nat_le r.setup.params.start_threshold n then reads_first r n else ends (r, waits n))) t y
-          → Makes s t r y.0 n (counted y.1)
+          → Makes s t r y.0 n (count_of_answer y.1)
       by_running true is takes = reads-on s t r n y is takes
       by_running false is takes = by_start (nat_le r.setup.params.start_threshold n) takes
 
@@ -461,13 +461,13 @@ module _ {S T : Type 0} (P : snoopport.Ghosts S) (G : gates.Ghosts T) where
       (subst (λ (z : CaptureStream × Answer). Makes s parts.0 r z.0 n (got_by (op.Read n) z.1)) (sym parts.3.result)
       (by_answer parts.0 parts.1 (by_refusal (refusal_of Capture r.status call.Transfer) parts.0 parts.1 parts.2)))
     where
-      by_refusal : (refusal : Option PcmError) (u : S × T) (y : Answered ℕ) → TakesAtSnoop P G s (admitted_by refusal r (read_course r n)) u y → Makes s u r y.0 n (counted y.1)
+      by_refusal : (refusal : Option PcmError) (u : S × T) (y : Answered ℕ) → TakesAtSnoop P G s (admitted_by refusal r (read_course r n)) u y → Makes s u r y.0 n (count_of_answer y.1)
       by_refusal None u y takes = reads-course s u r n y takes
       by_refusal (Some e) u y takes =
-          Makes-none s u r y.0 n (counted y.1) (ap (λ (z : Answered ℕ). counted z.1) takes.result)
+          Makes-none s u r y.0 n (count_of_answer y.1) (ap (λ (z : Answered ℕ). count_of_answer z.1) takes.result)
           (Went-there s s u r r y.0 takes.there (ap (λ (z : Answered ℕ). z.0) takes.result) (Went-none s r))
 
-      by_answer : (u : S × T) (y : Answered ℕ) → Makes s u r y.0 n (counted y.1) → Makes s u r y.0 n (got_by (op.Read n) (count_answer y.1))
+      by_answer : (u : S × T) (y : Answered ℕ) → Makes s u r y.0 n (count_of_answer y.1) → Makes s u r y.0 n (got_by (op.Read n) (count_answer y.1))
       by_answer u (c, Ok count) makes = makes
       by_answer u (c, Err e) makes = makes
 

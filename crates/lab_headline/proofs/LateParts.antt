@@ -23,7 +23,7 @@ use Rattle.pcm_stream.specs.declared.direction.Direction.TheVariants.{Playback}
 use Rattle.pcm_stream.specs.Status.{is_moving, is_refusal, nothing_found, refusal_in, refusal_of}
 use Rattle.dmix_client.specs.Calls.{Answered, with_accepted, accepted_if, avail_answer, committed_by, delay_answer, after_drop, end_channel, end_of_commit, facts_of, found_at, going_on, going_on_by, is_running, is_stop, late_at, late_of, over_of, after_pause, pending_of, after_prepare, with_new_base, after_resume, seen_at, with_outcome, after_start, started_in, start_count, stopped_in, sync_count, after_sync, taken_of, with_number, written_after}
 use Rattle.dmix_client.specs.Calls as calls
-use Rattle.dmix_client.specs.Course.{admitted, admitted_by, commits, drain_course, drain_on, drains, fills, commit_at, go_on, lay_each, lay_frame, lay_frames, lay_on, looks, nothing, number_course, numbered, one_frame_more, one_more, pause_course, resumes, start_course, starts, starts_taking, syncs, takes_more, write_on, writes_on}
+use Rattle.dmix_client.specs.Course.{if_admitted, admitted_by, commits, drain_course, drain_on, drains, fills, commit_at, go_on, lay_each, lay_frame, lay_frames, lay_on, looks, nothing, number_course, course_with_number, one_frame_more, one_more, pause_course, resumes, start_course, starts, starts_taking, syncs, takes_more, write_on, writes_on}
 use Rattle.dmix_client.specs.Rewind.{back_of, checks, last_channel, last_laid, rewind_course, rewind_on, rewindable_course, rewindable_of, rewinds, rewound, take_frames, taken_back, takes_back}
 use Rattle.dmix_client.specs.View.{avail_of, ring_sample}
 use Rattle.dmix_client.specs.Writes.{count_with, ring_with, starts_with}
@@ -201,8 +201,8 @@ resumes-kept b c cursor ring is = All-then (λ (x : Option Position × Commit). 
     (looks-short b (λ position. started_in (with_new_base c) Running position cursor) (λ position. start_count (with_new_base c) cursor position (pending_of c)) ring (λ p. is))
     (λ found short. resumed-kept b c cursor found.0 found.1 is short)
 
-numbered-kept : (b : List ℕ) (number : PlaybackStream → ℕ) (m : Course (Answered (Unit {0}))) → All (Kept b) m → All (Kept b) (numbered number m)
-unfolding numbered
+numbered-kept : (b : List ℕ) (number : PlaybackStream → ℕ) (m : Course (Answered (Unit {0}))) → All (Kept b) m → All (Kept b) (course_with_number number m)
+unfolding course_with_number
 numbered-kept b number m all = All-then (Kept b) (Kept b) m (λ done. ends (with_number number done)) all (number-kept b number)
 
 write_on-kept : (b : List ℕ) (samples : List ℤ) (n : ℕ) (done : Answered (Unit {0})) → Kept b done → All (Kept b) (write_on [] samples n done)
@@ -243,7 +243,7 @@ pause-kept b on c cursor is = All-if (Kept b) on (ends (after_pause c, Ok tt)) _
     (All-if (Kept b) (nat_eq (pending_of c) 0) (ends (with_new_base c, Ok tt)) (resumes c cursor []) (is, tt) (resumes-kept b c cursor [] is))
 
 number_course-kept : (b : List ℕ) (number : PlaybackStream → ℕ) (c : PlaybackStream) → c.setup.bindings ≡ b → All (Kept b) (number_course number c [])
-number_course-kept b number c is = All-if (Kept b) (is_moving c.status.state) (numbered number (syncs c call.Sync [])) (ends (c, Ok (number c)))
+number_course-kept b number c is = All-if (Kept b) (is_moving c.status.state) (course_with_number number (syncs c call.Sync [])) (ends (c, Ok (number c)))
     (numbered-kept b number (syncs c call.Sync []) (syncs-kept b c call.Sync [] is)) (is, tt)
 
 checks-kept : (b : List ℕ) (c : PlaybackStream) → c.setup.bindings ≡ b → All (Kept b) (checks c)
@@ -251,7 +251,7 @@ unfolding checks
 checks-kept b c is = λ load. after_sync-kept b c call.Transfer load nothing is tt
 
 rewindable-kept : (b : List ℕ) (c : PlaybackStream) (floor : Cursor) → c.setup.bindings ≡ b → All (Kept b) (rewindable_course c floor)
-rewindable-kept b c floor is = All-if (Kept b) (is_running c.status.state) (numbered (rewindable_of floor) (checks c)) _
+rewindable-kept b c floor is = All-if (Kept b) (is_running c.status.state) (course_with_number (rewindable_of floor) (checks c)) _
     (numbered-kept b (rewindable_of floor) (checks c) (checks-kept b c is)) (is, tt)
 
 -- a call's refusal isn't late
@@ -273,7 +273,7 @@ refusal-early c asked P = by_stop c.status.stopped
     by_stop true = tt
     by_stop false = by_answer (next_of c.status.state asked (nothing_found Playback)).answer (next-late Q c.status.state asked (nothing_found Playback) tt)
 
-admitted-kept : {T : Type 0} (b : List ℕ) (c : PlaybackStream) (asked : Call) (m : Course (Answered T)) → c.setup.bindings ≡ b → All (Kept b) m → All (Kept b) (admitted c asked m)
+admitted-kept : {T : Type 0} (b : List ℕ) (c : PlaybackStream) (asked : Call) (m : Course (Answered T)) → c.setup.bindings ≡ b → All (Kept b) m → All (Kept b) (if_admitted c asked m)
 admitted-kept {T = T} b c asked m is all = by_refusal (refusal_of Playback c.status asked) (refusal-early c asked (c.stretch.part < length (rising b)))
   where
     by_refusal : (refusal : Option PcmError) → IfSome refusal (LateErr (λ frame channel. c.stretch.part < length (rising b))) → All (Kept b) (admitted_by refusal c m)
@@ -346,7 +346,7 @@ rewind-bound b c floor n is = All-if (Bound b) (is_running c.status.state) (rewi
     (All-then (Kept b) (Bound b) (checks c) (rewind_on floor [] n) (checks-kept b c is) (rewind_on-bound b floor n)) is
 
 pub rewind-named : (b : List ℕ) (wav : Sound) (marks : Marks) (c : PlaybackStream) (n : ℕ) → c.setup.bindings ≡ b → All (Bound b) (call_of wav marks c (op.Rewind n))
-rewind-named b wav marks c n is = All-then (Bound b) (Bound b) (admitted c call.Transfer (rewind_course c [] marks.floor n)) (λ done. ends (done.0, count_answer done.1))
+rewind-named b wav marks c n is = All-then (Bound b) (Bound b) (if_admitted c call.Transfer (rewind_course c [] marks.floor n)) (λ done. ends (done.0, count_answer done.1))
     (by_refusal (refusal_of Playback c.status call.Transfer)) (λ x bound. bound)
   where
     by_refusal : (refusal : Option PcmError) → All (Bound b) (admitted_by refusal c (rewind_course c [] marks.floor n))

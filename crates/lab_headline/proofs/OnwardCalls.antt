@@ -20,9 +20,9 @@ use Rattle.course.specs.Course.{Course, ends}
 use Rattle.dmix_client.specs.declared.commit.Commit.{Commit}
 use Rattle.dmix_client.specs.declared.stream.PlaybackStream.{PlaybackStream}
 use Rattle.dmix_client.specs.Calls.{Answered, committed_by, found_at, is_prepared, is_stop, late_of, with_outcome, start_count, after_start, started_in, stopped_in, accepted_if, avail_answer, delay_answer, draining, after_drop, has_frames, in_state, is_running, late_at, pending_of, after_prepare, with_new_base, after_resume, taken_of, with_number, written_after}
-use Rattle.dmix_client.specs.Course.{commits, looks, nothing, starts, syncs, admitted, admitted_by, drain_course, drain_on, drains, fills, number_course, numbered, pause_course, resumes, start_course, starts_taking, sync_course, takes_more, write_on, writes_on}
+use Rattle.dmix_client.specs.Course.{commits, looks, nothing, starts, syncs, if_admitted, admitted_by, drain_course, drain_on, drains, fills, number_course, course_with_number, pause_course, resumes, start_course, starts_taking, sync_course, takes_more, write_on, writes_on}
 use Rattle.dmix_client.specs.Port.{IsStep}
-use Rattle.dmix_client.specs.Rewind.{back_of, checks, last_channel, last_laid, rewind_course, rewind_on, rewindable_course, rewindable_of, rewinds, rewound, take_frames, taken_back, takes_back, without}
+use Rattle.dmix_client.specs.Rewind.{back_of, checks, last_channel, last_laid, rewind_course, rewind_on, rewindable_course, rewindable_of, rewinds, rewound, take_frames, taken_back, takes_back, without_frames}
 use Rattle.dmix_client.specs.View.{avail_of, ring_sample}
 use Rattle.dmix_client.specs.Writes.{count_with, ring_with, starts_with}
 use Rattle.lab_script.specs.declared.line.Op.{Op}
@@ -88,8 +88,8 @@ module _ (p : ℕ) (g : Geometry) (x y : ℕ) where
   accepted-goes n m (c, Ok done) goes = goes
   accepted-goes n m (c, Err e) goes = goes
 
-  pub numbered-goes : (number : PlaybackStream → ℕ) (m : Marks) (course : Course (Answered (Unit {0}))) → Leads p g (OnwardAfter p x y) m course → Leads p g (OnwardAfter p x y) m (numbered number course)
-  unfolding numbered
+  pub numbered-goes : (number : PlaybackStream → ℕ) (m : Marks) (course : Course (Answered (Unit {0}))) → Leads p g (OnwardAfter p x y) m course → Leads p g (OnwardAfter p x y) m (course_with_number number course)
+  unfolding course_with_number
   numbered-goes number m course leads = Leads-then p g (OnwardAfter p x y) (OnwardAfter p x y) m course (λ done. ends (with_number number done)) leads (number-goes number)
 
   pub syncs-goes : (c : PlaybackStream) (asked : Call) (m : Marks) → IsStep c.status.state asked → Begun p x y m c → Leads p g (OnwardAfter p x y) m (syncs c asked [])
@@ -106,7 +106,7 @@ module _ (p : ℕ) (g : Geometry) (x y : ℕ) where
   number_course-goes number c m is = by_test (is_moving c.status.state) refl
     where
       by_test : (moves : Bool) → is_moving c.status.state ≡ moves
-          → Leads p g (OnwardAfter p x y) m (if moves then numbered number (syncs c call.Sync []) else ends (c, Ok (number c)))
+          → Leads p g (OnwardAfter p x y) m (if moves then course_with_number number (syncs c call.Sync []) else ends (c, Ok (number c)))
       by_test true moves = numbered-goes number m (syncs c call.Sync []) (syncs-goes c call.Sync m (moving-syncs c.status.state moves) (moving-begun p x y m c moves is))
       by_test false moves = is
 
@@ -250,7 +250,7 @@ module _ (p : ℕ) (g : Geometry) (x y : ℕ) where
   rewindable-goes floor c m is = by_test (is_running c.status.state) refl
     where
       by_test : (runs : Bool) → is_running c.status.state ≡ runs
-          → Leads p g (OnwardAfter p x y) m (if runs then numbered (rewindable_of floor) (checks c) else ends (c, Ok c.stretch.written))
+          → Leads p g (OnwardAfter p x y) m (if runs then course_with_number (rewindable_of floor) (checks c) else ends (c, Ok c.stretch.written))
       by_test true runs = numbered-goes (rewindable_of floor) m (checks c) (Leads-map p g (λ n done. Begun p x y n done.0) (OnwardAfter p x y) m (checks c)
           (checks-go c m runs (moving-begun p x y m c (running-moves c.status.state runs) is)) (λ n done begun. inl begun))
       by_test false runs = is
@@ -307,7 +307,7 @@ module _ (p : ℕ) (g : Geometry) (x y : ℕ) where
       rewinds-go begun runs = Leads-then p g (λ k done. Begun p x y k done.0) (OnwardAfter p x y) m (checks c) (rewind_on floor [] n) (checks-go c m runs begun) (rewind_on-goes floor n)
 
       by_test : (runs : Bool) → is_running c.status.state ≡ runs → Leads p g (OnwardAfter p x y) m (if runs then rewinds c [] floor n
-          else ends (without c (min n c.stretch.written), Ok (min n c.stretch.written)))
+          else ends (without_frames c (min n c.stretch.written), Ok (min n c.stretch.written)))
       by_test true runs = rewinds-go (moving-begun p x y m c (running-moves c.status.state runs) is) runs
       by_test false runs = is
 
@@ -318,7 +318,7 @@ module _ (p : ℕ) (g : Geometry) (x y : ℕ) where
   answered-goes answer m course leads = Leads-then p g (OnwardAfter p x y) (OnwardAfter p x y) m course (λ done. ends (done.0, answer done.1)) leads (λ n done goes. goes)
 
   pub admitted-goes : {T : Type 0} (c : PlaybackStream) (asked : Call) (course : Course (Answered T)) (m : Marks) → Onward p x y m c
-      → (refusal_of Playback c.status asked ≡ None → Leads p g (OnwardAfter p x y) m course) → Leads p g (OnwardAfter p x y) m (admitted c asked course)
+      → (refusal_of Playback c.status asked ≡ None → Leads p g (OnwardAfter p x y) m course) → Leads p g (OnwardAfter p x y) m (if_admitted c asked course)
   admitted-goes {T = T} c asked course m is leads = by_refusal (refusal_of Playback c.status asked) refl
     where
       by_refusal : (refusal : Option PcmError) → refusal_of Playback c.status asked ≡ refusal → Leads p g (OnwardAfter p x y) m (admitted_by refusal c course)

@@ -15,7 +15,7 @@ use Rattle.pcm_stream.specs.Status.{refusal_of}
 use Rattle.course.specs.Course.{◌>>=◌, Course, ends, gets, lays, loads}
 use Rattle.dmix_client.specs.declared.stream.PlaybackStream.{PlaybackStream}
 use Rattle.dmix_client.specs.Calls.{Answered, is_paused, after_pause, after_prepare, segment_of}
-use Rattle.dmix_client.specs.Course.{admitted, admitted_by, pause_course}
+use Rattle.dmix_client.specs.Course.{if_admitted, admitted_by, pause_course}
 use Rattle.lab_script.specs.declared.line.Op.{Op}
 use Rattle.lab_script.specs.declared.line.Op.TheVariants as op
 use Rattle.lab_report.specs.declared.row.Answer.{Answer}
@@ -108,7 +108,7 @@ module _ (p : ℕ) (g : Geometry) (x y : ℕ) where
       → free_frame m ≤ high_end m → y ≤ high_end m
       → Leads p g (λ n (done : PlaybackStream × Answer). is_paused done.0.status.state ≡ false → Onward p x y n done.0) m (call_of wav m c op.Resume)
   resume-past wav c m bound paused low top high = Leads-then p g Q (λ n (done : PlaybackStream × Answer). is_paused done.0.status.state ≡ false → Onward p x y n done.0) m
-      (admitted c call.Resume (pause_course false c [] m.cursor)) (λ done. ends (done.0, done_answer done.1)) (by_refusal (refusal_of Playback c.status call.Resume)) (λ n done is. is)
+      (if_admitted c call.Resume (pause_course false c [] m.cursor)) (λ done. ends (done.0, done_answer done.1)) (by_refusal (refusal_of Playback c.status call.Resume)) (λ n done is. is)
     where
       Q : Marks → Answered (Unit {0}) → Type 0
       Q n done = is_paused done.0.status.state ≡ false → Onward p x y n done.0

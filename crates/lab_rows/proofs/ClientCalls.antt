@@ -20,8 +20,8 @@ use Rattle.dmix_client.specs.declared.commit.Commit.{Commit}
 use Rattle.dmix_client.specs.declared.stream.PlaybackStream.{PlaybackStream}
 use Rattle.dmix_client.specs.Calls.{Answered, with_accepted, accepted_if, avail_answer, committed_by, delay_answer, after_drop, facts_of, found_at, going_on, going_on_by, is_running, is_stop, late_at, late_of, over_of, after_pause, pending_of, after_prepare, with_new_base, after_resume, seen_at, with_outcome, after_start, started_in, start_count, stopped_in, sync_count, after_sync, taken_of, with_number, written_after}
 use Rattle.dmix_client.specs.Calls as calls
-use Rattle.dmix_client.specs.Course.{admitted, admitted_by, commits, drain_course, drain_on, drains, fills, looks, nothing, number_course, numbered, pause_course, resumes, start_course, starts, starts_taking, sync_course, syncs, takes_more, write_on, writes_on}
-use Rattle.dmix_client.specs.Rewind.{back_of, checks, last_channel, last_laid, rewind_course, rewind_on, rewindable_course, rewindable_of, rewinds, rewound, take_frames, taken_back, takes_back, without}
+use Rattle.dmix_client.specs.Course.{if_admitted, admitted_by, commits, drain_course, drain_on, drains, fills, looks, nothing, number_course, course_with_number, pause_course, resumes, start_course, starts, starts_taking, sync_course, syncs, takes_more, write_on, writes_on}
+use Rattle.dmix_client.specs.Rewind.{back_of, checks, last_channel, last_laid, rewind_course, rewind_on, rewindable_course, rewindable_of, rewinds, rewound, take_frames, taken_back, takes_back, without_frames}
 use Rattle.dmix_client.specs.View.{avail_of, ring_sample}
 use Rattle.dmix_client.specs.Writes.{count_with, ring_with, starts_with}
 use Rattle.lab_script.specs.declared.line.Op.{Op}
@@ -143,8 +143,8 @@ resumes-reports c cursor ring is =
     All-after Reports (looks (λ position. started_in (with_new_base c) Running position cursor) (λ position. start_count (with_new_base c) cursor position (pending_of c)) ring)
     (λ found. ends (after_resume c cursor found.0 found.1)) (λ found. resumed-reports c cursor found.0 found.1 is)
 
-numbered-reports : (number : PlaybackStream → ℕ) (m : Course (Answered (Unit {0}))) → All Reports m → All Reports (numbered number m)
-unfolding numbered
+numbered-reports : (number : PlaybackStream → ℕ) (m : Course (Answered (Unit {0}))) → All Reports m → All Reports (course_with_number number m)
+unfolding course_with_number
 numbered-reports number m all = All-then Reports Reports m (λ done. ends (with_number number done)) all (number-reports number)
 
 write_on-reports : (ring samples : List ℤ) (n : ℕ) (done : Answered (Unit {0})) → Reports done → All Reports (write_on ring samples n done)
@@ -188,7 +188,7 @@ pause-reports on c cursor is = All-if Reports on (ends (after_pause c, Ok tt)) _
     (All-if Reports (nat_eq (pending_of c) 0) (ends (with_new_base c, Ok tt)) (resumes c cursor []) (tt, tt) (resumes-reports c cursor [] is))
 
 number_course-reports : (number : PlaybackStream → ℕ) (c : PlaybackStream) → HasState c → All Reports (number_course number c [])
-number_course-reports number c is = All-if Reports (is_moving c.status.state) (numbered number (syncs c call.Sync [])) (ends (c, Ok (number c)))
+number_course-reports number c is = All-if Reports (is_moving c.status.state) (course_with_number number (syncs c call.Sync [])) (ends (c, Ok (number c)))
     (numbered-reports number (syncs c call.Sync []) (syncs-reports c call.Sync [] is)) (tt, is)
 
 checks-reports : (c : PlaybackStream) → HasState c → All Reports (checks c)
@@ -196,7 +196,7 @@ unfolding checks
 checks-reports c is = λ load. after_sync-reports c call.Transfer load nothing is
 
 rewindable-reports : (c : PlaybackStream) (floor : Cursor) → HasState c → All Reports (rewindable_course c floor)
-rewindable-reports c floor is = All-if Reports (is_running c.status.state) (numbered (rewindable_of floor) (checks c)) _
+rewindable-reports c floor is = All-if Reports (is_running c.status.state) (course_with_number (rewindable_of floor) (checks c)) _
     (numbered-reports (rewindable_of floor) (checks c) (checks-reports c is)) (tt, is)
 
 rewind_on-reports : (floor : Cursor) (n : ℕ) (done : Answered (Unit {0})) → Reports done → All Reports (rewind_on floor [] n done)
@@ -209,10 +209,10 @@ rewind_on-reports floor n (c, Ok done) reports =
 
 rewind-reports : (c : PlaybackStream) (floor : Cursor) (n : ℕ) → HasState c → All Reports (rewind_course c [] floor n)
 unfolding rewinds
-rewind-reports c floor n is = All-if Reports (is_running c.status.state) (rewinds c [] floor n) (ends (without c (min n c.stretch.written), Ok (min n c.stretch.written)))
+rewind-reports c floor n is = All-if Reports (is_running c.status.state) (rewinds c [] floor n) (ends (without_frames c (min n c.stretch.written), Ok (min n c.stretch.written)))
     (All-then Reports Reports (checks c) (rewind_on floor [] n) (checks-reports c is) (rewind_on-reports floor n)) (tt, is)
 
-admitted-reports : {T : Type 0} (c : PlaybackStream) (asked : Call) (m : Course (Answered T)) → HasState c → All Reports m → All Reports (admitted c asked m)
+admitted-reports : {T : Type 0} (c : PlaybackStream) (asked : Call) (m : Course (Answered T)) → HasState c → All Reports m → All Reports (if_admitted c asked m)
 admitted-reports {T = T} c asked m is all = by_refusal (refusal_of Playback c.status asked) (refusal-reports Playback c.status asked is)
   where
     by_refusal : (refusal : Option PcmError) → IfSome refusal CanReport → All Reports (admitted_by refusal c m)
@@ -225,15 +225,15 @@ admitted-reports {T = T} c asked m is all = by_refusal (refusal_of Playback c.st
 abbrev IsSaid : PlaybackStream × Answer → Type 0
 IsSaid (d, answer) = HasText answer × HasState d
 
-done-said : (c : PlaybackStream) (asked : Call) (m : Course (Answered (Unit {0}))) → HasState c → All Reports m → All IsSaid (answered done_answer (admitted c asked m))
-done-said c asked m is all = All-then Reports IsSaid (admitted c asked m) (λ done. ends (done.0, done_answer done.1)) (admitted-reports c asked m is all) said
+done-said : (c : PlaybackStream) (asked : Call) (m : Course (Answered (Unit {0}))) → HasState c → All Reports m → All IsSaid (answered done_answer (if_admitted c asked m))
+done-said c asked m is all = All-then Reports IsSaid (if_admitted c asked m) (λ done. ends (done.0, done_answer done.1)) (admitted-reports c asked m is all) said
   where
     said : (x : Answered (Unit {0})) → Reports x → IsSaid (x.0, done_answer x.1)
     said (d, Ok done) reports = (tt, reports.1)
     said (d, Err e) reports = (reported-reports e reports.0, reports.1)
 
-count-said : (c : PlaybackStream) (asked : Call) (m : Course (Answered ℕ)) → HasState c → All Reports m → All IsSaid (answered count_answer (admitted c asked m))
-count-said c asked m is all = All-then Reports IsSaid (admitted c asked m) (λ done. ends (done.0, count_answer done.1)) (admitted-reports c asked m is all) said
+count-said : (c : PlaybackStream) (asked : Call) (m : Course (Answered ℕ)) → HasState c → All Reports m → All IsSaid (answered count_answer (if_admitted c asked m))
+count-said c asked m is all = All-then Reports IsSaid (if_admitted c asked m) (λ done. ends (done.0, count_answer done.1)) (admitted-reports c asked m is all) said
   where
     said : (x : Answered ℕ) → Reports x → IsSaid (x.0, count_answer x.1)
     said (d, Ok n) reports = (tt, reports.1)

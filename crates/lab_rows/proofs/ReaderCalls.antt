@@ -15,8 +15,8 @@ use Rattle.course.specs.Course.{◌>>=◌, Course, ends}
 use Rattle.snoop_core.specs.declared.port.Got.{Got}
 use Rattle.snoop_core.specs.declared.port.Got.TheVariants as got
 use Rattle.dsnoop_client.specs.declared.stream.CaptureStream.{CaptureStream}
-use Rattle.dsnoop_client.specs.Calls.{Answered, found, in_state, numbered, over_of, read_after, read_to, seen_at, with_outcome, after_start, after_sync, taken_of, waits, with_avail}
-use Rattle.dsnoop_client.specs.Course.{admitted, admitted_by, avail_course, counts, gets_frames, read_course, reads_first, reads_on, starts, sync_course, syncs, transfer_on, transfers}
+use Rattle.dsnoop_client.specs.Calls.{Answered, found, in_state, with_answer, over_of, read_after, read_to, seen_at, with_outcome, after_start, after_sync, taken_of, waits, with_avail}
+use Rattle.dsnoop_client.specs.Course.{if_admitted, admitted_by, avail_course, counts, gets_frames, read_course, reads_first, reads_on, starts, sync_course, syncs, transfer_on, transfers}
 use Rattle.dsnoop_client.specs.View.{avail_of, is_running}
 use Rattle.lab_script.specs.declared.line.Op.{Op}
 use Rattle.lab_script.specs.declared.line.Op.TheVariants as op
@@ -50,7 +50,7 @@ avail-reports : (done : Answered (Unit {0})) → Reports done → Reports (with_
 avail-reports (r, Ok done) reports = (tt, reports.1)
 avail-reports (r, Err e) reports = reports
 
-number-reports : (n : ℕ) (done : Answered (Unit {0})) → Reports done → Reports (numbered n done)
+number-reports : (n : ℕ) (done : Answered (Unit {0})) → Reports done → Reports (with_answer n done)
 number-reports n (r, Ok done) reports = (tt, reports.1)
 number-reports n (r, Err e) reports = reports
 
@@ -106,7 +106,7 @@ read_course-reports r n is = All-if Reports (is_running r.status.state) (reads_o
     (All-if Reports (nat_le r.setup.params.start_threshold n) (reads_first r n) (ends (r, waits n))
     (All-then Reports Reports (starts r call.Transfer) (transfer_on n) (starts-reports r call.Transfer is) (transfer_on-reports n)) (waits-reports r n is))
 
-admitted-reports : {T : Type 0} (r : CaptureStream) (asked : Call) (m : Course (Answered T)) → HasState r → All Reports m → All Reports (admitted r asked m)
+admitted-reports : {T : Type 0} (r : CaptureStream) (asked : Call) (m : Course (Answered T)) → HasState r → All Reports m → All Reports (if_admitted r asked m)
 admitted-reports {T = T} r asked m is all = by_refusal (refusal_of Capture r.status asked) (refusal-reports Capture r.status asked is)
   where
     by_refusal : (refusal : Option PcmError) → IfSome refusal CanReport → All Reports (admitted_by refusal r m)
@@ -119,15 +119,15 @@ admitted-reports {T = T} r asked m is all = by_refusal (refusal_of Capture r.sta
 abbrev IsSaid : CaptureStream × Answer → Type 0
 IsSaid (d, answer) = HasText answer × HasState d
 
-done-said : (r : CaptureStream) (asked : Call) (m : Course (Answered (Unit {0}))) → HasState r → All Reports m → All IsSaid (answered done_answer (admitted r asked m))
-done-said r asked m is all = All-then Reports IsSaid (admitted r asked m) (λ done. ends (done.0, done_answer done.1)) (admitted-reports r asked m is all) said
+done-said : (r : CaptureStream) (asked : Call) (m : Course (Answered (Unit {0}))) → HasState r → All Reports m → All IsSaid (answered done_answer (if_admitted r asked m))
+done-said r asked m is all = All-then Reports IsSaid (if_admitted r asked m) (λ done. ends (done.0, done_answer done.1)) (admitted-reports r asked m is all) said
   where
     said : (x : Answered (Unit {0})) → Reports x → IsSaid (x.0, done_answer x.1)
     said (d, Ok done) reports = (tt, reports.1)
     said (d, Err e) reports = (reported-reports e reports.0, reports.1)
 
-count-said : (r : CaptureStream) (asked : Call) (m : Course (Answered ℕ)) → HasState r → All Reports m → All IsSaid (answered count_answer (admitted r asked m))
-count-said r asked m is all = All-then Reports IsSaid (admitted r asked m) (λ done. ends (done.0, count_answer done.1)) (admitted-reports r asked m is all) said
+count-said : (r : CaptureStream) (asked : Call) (m : Course (Answered ℕ)) → HasState r → All Reports m → All IsSaid (answered count_answer (if_admitted r asked m))
+count-said r asked m is all = All-then Reports IsSaid (if_admitted r asked m) (λ done. ends (done.0, count_answer done.1)) (admitted-reports r asked m is all) said
   where
     said : (x : Answered ℕ) → Reports x → IsSaid (x.0, count_answer x.1)
     said (d, Ok n) reports = (tt, reports.1)

@@ -20,7 +20,7 @@ use Rattle.snoop_core.specs.declared.port.Got.{Got}
 use Rattle.snoop_core.specs.declared.port.Got.TheVariants as got
 use Rattle.dsnoop_client.specs.declared.stream.CaptureStream.{CaptureStream}
 use Rattle.dsnoop_client.specs.Calls.{Answered, found, in_state, over_of, read_after, read_to, seen_at, with_outcome, after_sync, taken_of, waits, with_avail}
-use Rattle.dsnoop_client.specs.Course.{admitted, admitted_by, avail_course, counts, get_on, gets_frames, one_more, read_course, reads_first, reads_on, starts, sync_course, syncs, transfer_on, transfers}
+use Rattle.dsnoop_client.specs.Course.{if_admitted, admitted_by, avail_course, counts, get_on, gets_frames, one_more, read_course, reads_first, reads_on, starts, sync_course, syncs, transfer_on, transfers}
 use Rattle.dsnoop_client.specs.View.{avail_of, is_running}
 use Rattle.lab_script.specs.declared.line.Op.{Op}
 use Rattle.lab_script.specs.declared.line.Op.TheVariants as op
@@ -201,9 +201,9 @@ IsLeft base known asked (d, answer) = (base + length (frames_by asked answer d) 
 
 admitted-left : {T : Type 0} (base known : ℕ) (r : CaptureStream) (asked : Op) (c : Call) (answer : Result T PcmError → Answer) (R : ℕ → Answered T → Type 0) (m : Course (Answered T))
     → ((later : ℕ) (x : Answered T) → R later x → IsLeft base later asked (x.0, answer x.1)) → ((e : PcmError) → R known (r, Err e)) → AllKnown R known m
-    → AllKnown (λ later x. IsLeft base later asked x) known (answered answer (admitted r c m))
+    → AllKnown (λ later x. IsLeft base later asked x) known (answered answer (if_admitted r c m))
 admitted-left {T = T} base known r asked c answer R m leaves refused all =
-    AllKnown-then R (λ later x. IsLeft base later asked x) known (admitted r c m) (λ done. ends (done.0, answer done.1)) (by_refusal (refusal_of Capture r.status c)) leaves
+    AllKnown-then R (λ later x. IsLeft base later asked x) known (if_admitted r c m) (λ done. ends (done.0, answer done.1)) (by_refusal (refusal_of Capture r.status c)) leaves
   where
     by_refusal : (refusal : Option PcmError) → AllKnown R known (admitted_by refusal r m)
     by_refusal None = all

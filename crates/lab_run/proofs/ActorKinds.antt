@@ -9,7 +9,7 @@ use Rattle.wav_io.specs.Sound.{Sound}
 use Rattle.course.specs.Course.{Course, ends}
 use Rattle.dmix_client.specs.declared.stream.PlaybackStream.{PlaybackStream}
 use Rattle.dmix_client.specs.Calls.{Answered, avail_answer, delay_answer}
-use Rattle.dmix_client.specs.Course.{admitted}
+use Rattle.dmix_client.specs.Course.{if_admitted}
 use Rattle.dsnoop_client.specs.declared.stream.CaptureStream as reading
 use Rattle.dsnoop_client.specs.Calls as reading_calls
 use Rattle.dsnoop_client.specs.Course as reading_course
@@ -35,9 +35,9 @@ pub record IsKind {S : Type 0} (kind : Kind S) : Type 0 where
 -- ---- clients
 
 answered-first : {X : Type 0} (answer : Result X PcmError → Answer) (c : PlaybackStream) (call : Call) (course : Course (Answered X)) → LoadsFirst false course
-    → LoadsFirst false (answered answer (admitted c call course))
+    → LoadsFirst false (answered answer (if_admitted c call course))
 answered-first answer c call course led =
-    first-then false (admitted c call course) (λ done. ends (done.0, answer done.1)) (client_leads.admitted-first c call course led) (λ l x. tt)
+    first-then false (if_admitted c call course) (λ done. ends (done.0, answer done.1)) (client_leads.admitted-first c call course led) (λ l x. tt)
 
 call-first : (wav : Sound) (marks : Marks) (c : PlaybackStream) (asked : Op) → LoadsFirst false (call_of wav marks c asked)
 call-first wav marks c (op.Write n) = answered-first count_answer c call.Transfer _ (client_leads.write-first c marks.cursor (min n (frames_of wav - c.fed)))
@@ -92,9 +92,9 @@ client-IsKind phase wav number = record {
 -- ---- readers
 
 read-first : {X : Type 0} (answer : Result X PcmError → Answer) (r : reading.CaptureStream) (call : Call) (course : Course (reading_calls.Answered X)) → LoadsFirst false course
-    → LoadsFirst false (readers.answered answer (reading_course.admitted r call course))
+    → LoadsFirst false (readers.answered answer (reading_course.if_admitted r call course))
 read-first answer r call course led =
-    first-then false (reading_course.admitted r call course) (λ done. ends (done.0, answer done.1)) (reader_leads.admitted-first r call course led) (λ l x. tt)
+    first-then false (reading_course.if_admitted r call course) (λ done. ends (done.0, answer done.1)) (reader_leads.admitted-first r call course led) (λ l x. tt)
 
 reader_call-first : (r : reading.CaptureStream) (asked : Op) → LoadsFirst false (readers.call_of r asked)
 reader_call-first r (op.Read n) = read-first count_answer r call.Transfer _ (reader_leads.read-first r n)

@@ -18,9 +18,9 @@ use Rattle.dmix_client.specs.declared.stream.PlaybackStream.{PlaybackStream}
 use Rattle.pcm_stream.specs.declared.direction.Direction.TheVariants.{Playback}
 use Rattle.pcm_stream.specs.Status.{is_moving, refusal_of}
 use Rattle.dmix_client.specs.Calls.{Answered, with_accepted, accepted_if, avail_answer, avail_in, commit_count, delay_answer, delay_in, draining, after_drop, has_frames, is_running, after_pause, pending_of, after_prepare, with_new_base, after_resume, start_count, after_start, started_in, sync_count, after_sync, taken_of, with_number, written_after}
-use Rattle.dmix_client.specs.Course.{admitted, admitted_by, commit_at, commits, drain_course, drain_on, drains, fills, go_on, lay_each, lay_frame, lay_frames, lay_on, looks, nothing, number_course, numbered, one_frame_more, one_more, pause_call, pause_course, resumes, start_course, starts, starts_taking, sync_course, syncs, takes_more, write_on, writes_on}
+use Rattle.dmix_client.specs.Course.{if_admitted, admitted_by, commit_at, commits, drain_course, drain_on, drains, fills, go_on, lay_each, lay_frame, lay_frames, lay_on, looks, nothing, number_course, course_with_number, one_frame_more, one_more, pause_call, pause_course, resumes, start_course, starts, starts_taking, sync_course, syncs, takes_more, write_on, writes_on}
 use Rattle.dmix_client.specs.Course as client_calls
-use Rattle.dmix_client.specs.Rewind.{back_of, back_on, checks, left_of, rewind_course, rewind_on, rewindable_course, rewindable_of, rewinds, rewound, take_each, take_frames, takes_back, without}
+use Rattle.dmix_client.specs.Rewind.{back_of, back_on, checks, left_of, rewind_course, rewind_on, rewindable_course, rewindable_of, rewinds, rewound, take_each, take_frames, takes_back, without_frames}
 use Rattle.dmix_client.specs.View.{ring_sample}
 use Rattle.dmix_client.specs.Writes.{count_with, frames_in, ring_with, starts_with}
 use Rattle.lab_report.specs.declared.row.Answer.{Answer}
@@ -177,7 +177,7 @@ module _ (from member : ℕ) where
   -- ---- the calls
 
   pub admitted-alike : {X : Type 0} (answer : Result X PcmError → Answer) (c : PlaybackStream) (call : Call) (m n : Course (Answered X)) → Alike from (SameButMember member answer) m n
-      → Alike from (SameButMember member answer) (admitted c call m) (admitted (other_of c) call n)
+      → Alike from (SameButMember member answer) (if_admitted c call m) (if_admitted (other_of c) call n)
   admitted-alike answer c call m n alike = by_refusal (refusal_of Playback c.status call)
     where
       by_refusal : (refusal : Option PcmError) → Alike from (SameButMember member answer) (admitted_by refusal c m) (admitted_by refusal (other_of c) n)
@@ -219,15 +219,15 @@ module _ (from member : ℕ) where
 
   numbered-alike : (number other : PlaybackStream → ℕ) (Q : Answered (Unit {0}) → Answered (Unit {0}) → Type 0) (m n : Course (Answered (Unit {0})))
       → ((x y : Answered (Unit {0})) → Q x y → SameButMember member count_answer (with_number number x) (with_number other y))
-      → Alike from Q m n → Alike from (SameButMember member count_answer) (numbered number m) (numbered other n)
-  unfolding numbered
+      → Alike from Q m n → Alike from (SameButMember member count_answer) (course_with_number number m) (course_with_number other n)
+  unfolding course_with_number
   numbered-alike number other Q m n same alike = Alike-then from Q (SameButMember member count_answer) m n (λ done. ends (with_number number done)) (λ done. ends (with_number other done)) alike same
 
   number-alike : (number : PlaybackStream → ℕ) → ((c : PlaybackStream) → number (other_of c) ≡ number c) → (c : PlaybackStream) (ring : List ℤ)
       → Alike from (SameButMember member count_answer) (number_course number c ring) (number_course number (other_of c) [])
   number-alike number same c ring =
-      Alike-if from (SameButMember member count_answer) (is_moving c.status.state) (numbered number (syncs c call.Sync ring)) (ends (c, Ok (number c)))
-      (numbered number (syncs (other_of c) call.Sync [])) (ends (other_of c, Ok (number (other_of c))))
+      Alike-if from (SameButMember member count_answer) (is_moving c.status.state) (course_with_number number (syncs c call.Sync ring)) (ends (c, Ok (number c)))
+      (course_with_number number (syncs (other_of c) call.Sync [])) (ends (other_of c, Ok (number (other_of c))))
       (numbered-alike number number (SameButMember member done_answer) (syncs c call.Sync ring) (syncs (other_of c) call.Sync []) (with_number-alike member number same) (syncs-alike c call.Sync ring []))
       (record { client = refl; answer_is = ap (λ n. count_answer (Ok n)) (sym (same c)) })
 
@@ -335,7 +335,7 @@ module _ (from member : ℕ) where
   rewind-alike : (c : PlaybackStream) (ring : List ℤ) (floor lower : Cursor) (n : ℕ) → SameFrom from floor lower
       → Alike from (SameButMember member count_answer) (rewind_course c ring floor n) (rewind_course (other_of c) [] lower n)
   rewind-alike c ring floor lower n same = Alike-if from (SameButMember member count_answer) (is_running c.status.state) (rewinds c ring floor n) (ends _) (rewinds (other_of c) [] lower n) (ends _)
-      (rewinds-alike c ring [] floor lower n same) (at-once count_answer (without c (min n c.stretch.written), Ok (min n c.stretch.written)))
+      (rewinds-alike c ring [] floor lower n same) (at-once count_answer (without_frames c (min n c.stretch.written), Ok (min n c.stretch.written)))
 
   rewindable_number : (floor lower : Cursor) → SameFrom from floor lower → (x y : Answered (Unit {0})) → SameLook from member x y
       → SameButMember member count_answer (with_number (rewindable_of floor) x) (with_number (rewindable_of lower) y)
@@ -349,7 +349,7 @@ module _ (from member : ℕ) where
 
   rewindable-alike : (c : PlaybackStream) (floor lower : Cursor) → SameFrom from floor lower
       → Alike from (SameButMember member count_answer) (rewindable_course c floor) (rewindable_course (other_of c) lower)
-  rewindable-alike c floor lower same = Alike-if from (SameButMember member count_answer) (is_running c.status.state) (numbered (rewindable_of floor) (checks c)) (ends _) (numbered (rewindable_of lower) (checks (other_of c))) (ends _)
+  rewindable-alike c floor lower same = Alike-if from (SameButMember member count_answer) (is_running c.status.state) (course_with_number (rewindable_of floor) (checks c)) (ends _) (course_with_number (rewindable_of lower) (checks (other_of c))) (ends _)
       (numbered-alike (rewindable_of floor) (rewindable_of lower) (SameLook from member) (checks c) (checks (other_of c)) (rewindable_number floor lower same) (checks-alike c)) (at-once count_answer (c, Ok c.stretch.written))
 
   pub calls-alike : (c : PlaybackStream) (ring : List ℤ) (cursor other floor lower : Cursor) → SameFrom from cursor other → SameFrom from floor lower

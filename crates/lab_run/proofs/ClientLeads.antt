@@ -17,7 +17,7 @@ use Rattle.dmix_client.specs.declared.stream.PlaybackStream.{PlaybackStream}
 use Rattle.pcm_stream.specs.declared.direction.Direction.TheVariants.{Playback}
 use Rattle.pcm_stream.specs.Status.{is_moving, refusal_of}
 use Rattle.dmix_client.specs.Calls.{Answered, accepted_if, draining, has_frames, is_running, pending_of, with_new_base, after_resume, start_count, after_start, started_in, sync_count, after_sync, taken_of, with_number, written_after}
-use Rattle.dmix_client.specs.Course.{admitted, admitted_by, commit_at, commits, drain_course, drain_on, drains, fills, go_on, lay_each, lay_frame, lay_frames, lay_on, looks, number_course, numbered, one_frame_more, one_more, pause_course, resumes, start_course, starts, starts_taking, sync_course, syncs, takes_more, write_on, writes_on}
+use Rattle.dmix_client.specs.Course.{if_admitted, admitted_by, commit_at, commits, drain_course, drain_on, drains, fills, go_on, lay_each, lay_frame, lay_frames, lay_on, looks, number_course, course_with_number, one_frame_more, one_more, pause_course, resumes, start_course, starts, starts_taking, sync_course, syncs, takes_more, write_on, writes_on}
 use Rattle.dmix_client.specs.View.{ring_sample}
 use Rattle.dmix_client.specs.Writes.{count_with, ring_with, starts_with}
 use Rattle.lab_run.specs.Client.{write_course}
@@ -118,12 +118,12 @@ pub pause-first : (on : Bool) (c : PlaybackStream) (ring : List ℤ) (cursor : C
 pause-first on c ring cursor = Led-if Anything false on (ends _) _ tt
     (Led-if Anything false (nat_eq (pending_of c) 0) (ends _) (resumes c cursor ring) tt (first-of OkLed false _ (resumes-led c cursor ring false)))
 
-numbered-first : (number : PlaybackStream → ℕ) (course : Course (Answered (Unit {0}))) → LoadsFirst false course → LoadsFirst false (numbered number course)
-unfolding numbered
+numbered-first : (number : PlaybackStream → ℕ) (course : Course (Answered (Unit {0}))) → LoadsFirst false course → LoadsFirst false (course_with_number number course)
+unfolding course_with_number
 numbered-first number course led = first-then false course (λ done. ends (with_number number done)) led (λ l x. tt)
 
 pub number-first : (number : PlaybackStream → ℕ) (c : PlaybackStream) (ring : List ℤ) → LoadsFirst false (number_course number c ring)
-number-first number c ring = Led-if Anything false (is_moving c.status.state) (numbered number (syncs c call.Sync ring)) (ends _)
+number-first number c ring = Led-if Anything false (is_moving c.status.state) (course_with_number number (syncs c call.Sync ring)) (ends _)
     (numbered-first number (syncs c call.Sync ring) (first-of OkLed false _ (syncs-led c call.Sync ring false))) tt
 
 takes_more-first : (c : PlaybackStream) (ring samples : List ℤ) (n : ℕ) → LoadsFirst true (takes_more c ring samples n)
@@ -152,7 +152,7 @@ write-first c cursor n = Led-if Anything false (is_running c.status.state) (writ
     (Led-if Anything false (starts_with c n) (starts_taking c (ring_with c [] [] (taken_of c n)) cursor (taken_of c n)) (ends _)
     (starts_taking-first c (ring_with c [] [] (taken_of c n)) cursor (taken_of c n)) tt)
 
-pub admitted-first : {X : Type 0} (c : PlaybackStream) (call : Call) (course : Course (Answered X)) → LoadsFirst false course → LoadsFirst false (admitted c call course)
+pub admitted-first : {X : Type 0} (c : PlaybackStream) (call : Call) (course : Course (Answered X)) → LoadsFirst false course → LoadsFirst false (if_admitted c call course)
 admitted-first {X = X} c call course led = by_refusal (refusal_of Playback c.status call)
   where
     by_refusal : (refusal : Option PcmError) → LoadsFirst false (admitted_by {X = X} refusal c course)

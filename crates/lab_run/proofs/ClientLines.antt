@@ -18,7 +18,7 @@ use Rattle.course.specs.Course.{◌>>=◌, Course, Takes, ends}
 use Rattle.course.specs.CourseLaws.{Takes-map}
 use Rattle.dmix_client.specs.declared.stream.PlaybackStream.{PlaybackStream}
 use Rattle.dmix_client.specs.Calls.{Answered}
-use Rattle.dmix_client.specs.Course.{admitted}
+use Rattle.dmix_client.specs.Course.{if_admitted}
 use Rattle.dmix_client.specs.Course as client_calls
 use Rattle.lab_script.specs.declared.line.Op.{Op}
 use Rattle.lab_script.specs.declared.line.Op.TheVariants as op
@@ -62,7 +62,7 @@ call-alike ring from member before wav held samples own port c asked marks = by_
 
     by_op : (asked : Op) → IsOffered wav c samples asked → Alike from (IsRenumbered member) (made_call held samples port c asked) (call_of wav own (with_member member c) asked)
     by_op (op.Write n) offered = answered-alike from member count_answer _ _
-        (subst (λ k. Alike from (SameButMember member count_answer) (admitted c call.Transfer (client_calls.write_course c held samples port.cursor)) (admitted (with_member member c) call.Transfer (write_course (with_member member c) own.cursor k))) offered (calls.write samples))
+        (subst (λ k. Alike from (SameButMember member count_answer) (if_admitted c call.Transfer (client_calls.write_course c held samples port.cursor)) (if_admitted (with_member member c) call.Transfer (write_course (with_member member c) own.cursor k))) offered (calls.write samples))
     by_op op.Start offered = answered-alike from member done_answer _ _ calls.start
     by_op op.Sync offered = answered-alike from member done_answer _ _ calls.sync
     by_op op.Avail offered = answered-alike from member count_answer _ _ calls.avail

@@ -65,7 +65,7 @@ plays_report : (lab_text one None plays).report ≡ record {
   first = 0;
   frames = 256;
 }
-unfolding plays one course_text ◌>>=◌ Bound.rising client_calls.lay_each client_calls.lay_frames client_calls.looks client_calls.syncs client_calls.starts client_calls.drains client_calls.numbered client_calls.takes_more client_calls.writes_on client_calls.starts_taking client_calls.resumes reader_calls.gets_frames reader_calls.starts reader_calls.syncs reader_calls.transfers reader_calls.reads_on reader_calls.reads_first reader_calls.counts rewinding.take_each rewinding.take_frames rewinding.checks rewinding.takes_back rewinding.rewinds a b c r card mono stereo row setup silence some the_card line
+unfolding plays one course_text ◌>>=◌ Bound.rising client_calls.lay_each client_calls.lay_frames client_calls.looks client_calls.syncs client_calls.starts client_calls.drains client_calls.course_with_number client_calls.takes_more client_calls.writes_on client_calls.starts_taking client_calls.resumes reader_calls.gets_frames reader_calls.starts reader_calls.syncs reader_calls.transfers reader_calls.reads_on reader_calls.reads_first reader_calls.counts rewinding.take_each rewinding.take_frames rewinding.checks rewinding.takes_back rewinding.rewinds a b c r card mono stereo row setup silence some the_card line
 plays_report = refl
 
 -- a client has nothing more to play
@@ -88,7 +88,7 @@ runs_dry_report : (lab_text one None runs_dry).report ≡ record {
   first = 0;
   frames = 128;
 }
-unfolding runs_dry one course_text ◌>>=◌ Bound.rising client_calls.lay_each client_calls.lay_frames client_calls.looks client_calls.syncs client_calls.starts client_calls.drains client_calls.numbered client_calls.takes_more client_calls.writes_on client_calls.starts_taking client_calls.resumes reader_calls.gets_frames reader_calls.starts reader_calls.syncs reader_calls.transfers reader_calls.reads_on reader_calls.reads_first reader_calls.counts rewinding.take_each rewinding.take_frames rewinding.checks rewinding.takes_back rewinding.rewinds a b c r card mono stereo row setup silence some the_card line
+unfolding runs_dry one course_text ◌>>=◌ Bound.rising client_calls.lay_each client_calls.lay_frames client_calls.looks client_calls.syncs client_calls.starts client_calls.drains client_calls.course_with_number client_calls.takes_more client_calls.writes_on client_calls.starts_taking client_calls.resumes reader_calls.gets_frames reader_calls.starts reader_calls.syncs reader_calls.transfers reader_calls.reads_on reader_calls.reads_first reader_calls.counts rewinding.take_each rewinding.take_frames rewinding.checks rewinding.takes_back rewinding.rewinds a b c r card mono stereo row setup silence some the_card line
 runs_dry_report = refl
 
 -- a client starts again behind what it laid
@@ -114,7 +114,7 @@ restarts_report : (lab_text long None restarts).report ≡ record {
   first = 0;
   frames = 512;
 }
-unfolding restarts long course_text ◌>>=◌ Bound.rising client_calls.lay_each client_calls.lay_frames client_calls.looks client_calls.syncs client_calls.starts client_calls.drains client_calls.numbered client_calls.takes_more client_calls.writes_on client_calls.starts_taking client_calls.resumes reader_calls.gets_frames reader_calls.starts reader_calls.syncs reader_calls.transfers reader_calls.reads_on reader_calls.reads_first reader_calls.counts rewinding.take_each rewinding.take_frames rewinding.checks rewinding.takes_back rewinding.rewinds a b c r card mono stereo row setup silence some the_card line
+unfolding restarts long course_text ◌>>=◌ Bound.rising client_calls.lay_each client_calls.lay_frames client_calls.looks client_calls.syncs client_calls.starts client_calls.drains client_calls.course_with_number client_calls.takes_more client_calls.writes_on client_calls.starts_taking client_calls.resumes reader_calls.gets_frames reader_calls.starts reader_calls.syncs reader_calls.transfers reader_calls.reads_on reader_calls.reads_first reader_calls.counts rewinding.take_each rewinding.take_frames rewinding.checks rewinding.takes_back rewinding.rewinds a b c r card mono stereo row setup silence some the_card line
 restarts_report = refl
 
 -- a commit comes too late
@@ -139,7 +139,7 @@ late_report : (lab_text endless None late).report ≡ record {
   first = 0;
   frames = 192;
 }
-unfolding late endless course_text ◌>>=◌ Bound.rising client_calls.lay_each client_calls.lay_frames client_calls.looks client_calls.syncs client_calls.starts client_calls.drains client_calls.numbered client_calls.takes_more client_calls.writes_on client_calls.starts_taking client_calls.resumes reader_calls.gets_frames reader_calls.starts reader_calls.syncs reader_calls.transfers reader_calls.reads_on reader_calls.reads_first reader_calls.counts rewinding.take_each rewinding.take_frames rewinding.checks rewinding.takes_back rewinding.rewinds a b c r card mono stereo row setup silence some the_card line
+unfolding late endless course_text ◌>>=◌ Bound.rising client_calls.lay_each client_calls.lay_frames client_calls.looks client_calls.syncs client_calls.starts client_calls.drains client_calls.course_with_number client_calls.takes_more client_calls.writes_on client_calls.starts_taking client_calls.resumes reader_calls.gets_frames reader_calls.starts reader_calls.syncs reader_calls.transfers reader_calls.reads_on reader_calls.reads_first reader_calls.counts rewinding.take_each rewinding.take_frames rewinding.checks rewinding.takes_back rewinding.rewinds a b c r card mono stereo row setup silence some the_card line
 late_report = refl
 
 -- of the two runs of a mixed phase, the one where the client sees the phase's end
@@ -159,5 +159,5 @@ mixed_report : (lab_text one None mixed).report ≡ record {
   first = 0;
   frames = 256;
 }
-unfolding mixed one course_text ◌>>=◌ Bound.rising client_calls.lay_each client_calls.lay_frames client_calls.looks client_calls.syncs client_calls.starts client_calls.drains client_calls.numbered client_calls.takes_more client_calls.writes_on client_calls.starts_taking client_calls.resumes reader_calls.gets_frames reader_calls.starts reader_calls.syncs reader_calls.transfers reader_calls.reads_on reader_calls.reads_first reader_calls.counts rewinding.take_each rewinding.take_frames rewinding.checks rewinding.takes_back rewinding.rewinds a b c r card mono stereo row setup silence some the_card line
+unfolding mixed one course_text ◌>>=◌ Bound.rising client_calls.lay_each client_calls.lay_frames client_calls.looks client_calls.syncs client_calls.starts client_calls.drains client_calls.course_with_number client_calls.takes_more client_calls.writes_on client_calls.starts_taking client_calls.resumes reader_calls.gets_frames reader_calls.starts reader_calls.syncs reader_calls.transfers reader_calls.reads_on reader_calls.reads_first reader_calls.counts rewinding.take_each rewinding.take_frames rewinding.checks rewinding.takes_back rewinding.rewinds a b c r card mono stereo row setup silence some the_card line
 mixed_report = refl

@@ -26,7 +26,7 @@ use Rattle.pcm_stream.specs.declared.direction.Direction.TheVariants.{Playback}
 use Rattle.pcm_stream.specs.Status.{is_moving, is_refusal, nothing_found, refusal_in, refusal_of}
 use Rattle.dmix_client.specs.Calls.{Answered, with_accepted, accepted_if, avail_answer, committed_by, delay_answer, after_drop, end_channel, end_of_commit, facts_of, found_at, going_on, going_on_by, is_running, is_stop, late_at, late_of, over_of, after_pause, pending_of, after_prepare, with_new_base, after_resume, seen_at, with_outcome, after_start, started_in, start_count, stopped_in, sync_count, after_sync, taken_of, with_number, written_after}
 use Rattle.dmix_client.specs.Calls as calls
-use Rattle.dmix_client.specs.Course.{admitted, admitted_by, commits, drain_course, drain_on, drains, fills, looks, nothing, number_course, numbered, pause_course, resumes, start_course, starts, starts_taking, syncs, takes_more, write_on, writes_on}
+use Rattle.dmix_client.specs.Course.{if_admitted, admitted_by, commits, drain_course, drain_on, drains, fills, looks, nothing, number_course, course_with_number, pause_course, resumes, start_course, starts, starts_taking, syncs, takes_more, write_on, writes_on}
 use Rattle.dmix_client.specs.Rewind.{checks, rewindable_course, rewindable_of}
 use Rattle.dmix_client.specs.View.{avail_of}
 use Rattle.dmix_client.specs.Writes.{count_with, ring_with, starts_with}
@@ -232,8 +232,8 @@ resumes-missed c cursor ring =
     All-after Missed (looks (λ position. started_in (with_new_base c) Running position cursor) (λ position. start_count (with_new_base c) cursor position (pending_of c)) ring)
     (λ found. ends (after_resume c cursor found.0 found.1)) (λ found. resumed-missed c cursor found.0 found.1)
 
-numbered-missed : (number : PlaybackStream → ℕ) (m : Course (Answered (Unit {0}))) → All Missed m → All Missed (numbered number m)
-unfolding numbered
+numbered-missed : (number : PlaybackStream → ℕ) (m : Course (Answered (Unit {0}))) → All Missed m → All Missed (course_with_number number m)
+unfolding course_with_number
 numbered-missed number m all = All-then Missed Missed m (λ done. ends (with_number number done)) all (number-missed number)
 
 write_on-missed : (ring samples : List ℤ) (n : ℕ) (done : Answered (Unit {0})) → Missed done → All Missed (write_on ring samples n done)
@@ -273,7 +273,7 @@ pause-missed on c cursor = All-if Missed on (ends (after_pause c, Ok tt)) _ tt
     (All-if Missed (nat_eq (pending_of c) 0) (ends (with_new_base c, Ok tt)) (resumes c cursor []) tt (resumes-missed c cursor []))
 
 number_course-missed : (number : PlaybackStream → ℕ) (c : PlaybackStream) → All Missed (number_course number c [])
-number_course-missed number c = All-if Missed (is_moving c.status.state) (numbered number (syncs c call.Sync [])) (ends (c, Ok (number c)))
+number_course-missed number c = All-if Missed (is_moving c.status.state) (course_with_number number (syncs c call.Sync [])) (ends (c, Ok (number c)))
     (numbered-missed number (syncs c call.Sync []) (syncs-missed c call.Sync [])) tt
 
 checks-missed : (c : PlaybackStream) → All Missed (checks c)
@@ -281,7 +281,7 @@ unfolding checks
 checks-missed c = λ load. after_sync-missed c call.Transfer load nothing
 
 rewindable-missed : (c : PlaybackStream) (floor : Cursor) → All Missed (rewindable_course c floor)
-rewindable-missed c floor = All-if Missed (is_running c.status.state) (numbered (rewindable_of floor) (checks c)) _
+rewindable-missed c floor = All-if Missed (is_running c.status.state) (course_with_number (rewindable_of floor) (checks c)) _
     (numbered-missed (rewindable_of floor) (checks c) (checks-missed c)) tt
 
 -- a call's refusal isn't late
@@ -303,7 +303,7 @@ refusal-missed c asked = by_stop c.status.stopped
     by_stop true = tt
     by_stop false = by_answer (next_of c.status.state asked (nothing_found Playback)).answer (next-late Q c.status.state asked (nothing_found Playback) tt)
 
-admitted-missed : {T : Type 0} (c : PlaybackStream) (asked : Call) (m : Course (Answered T)) → All Missed m → All Missed (admitted c asked m)
+admitted-missed : {T : Type 0} (c : PlaybackStream) (asked : Call) (m : Course (Answered T)) → All Missed m → All Missed (if_admitted c asked m)
 admitted-missed {T = T} c asked m all = by_refusal (refusal_of Playback c.status asked) (refusal-missed c asked)
   where
     by_refusal : (refusal : Option PcmError) → IfSome refusal (LateErr (IsNext c)) → All Missed (admitted_by refusal c m)

@@ -19,8 +19,8 @@ use Rattle.pcm_stream.specs.Status.{is_refusal, nothing_found, refusal_in, refus
 use Rattle.dmix_client.specs.declared.commit.Commit.{Commit}
 use Rattle.dmix_client.specs.declared.stream.PlaybackStream.{PlaybackStream}
 use Rattle.dmix_client.specs.Calls.{Answered, committed_by, facts_of, found_at, is_running, is_stop, late_at, over_of, seen_at, with_outcome, stopped_in, after_sync, with_number}
-use Rattle.dmix_client.specs.Course.{admitted, admitted_by, nothing}
-use Rattle.dmix_client.specs.Rewind.{back_of, back_on, checks, last_channel, last_laid, left_of, rewind_course, rewind_on, rewindable_of, rewinds, rewound, take_each, take_frames, take_on, taken_back, takes_back, without}
+use Rattle.dmix_client.specs.Course.{if_admitted, admitted_by, nothing}
+use Rattle.dmix_client.specs.Rewind.{back_of, back_on, checks, last_channel, last_laid, left_of, rewind_course, rewind_on, rewindable_of, rewinds, rewound, take_each, take_frames, take_on, taken_back, takes_back, without_frames}
 use Rattle.dmix_client.specs.View.{ring_sample}
 use Rattle.lab_script.specs.declared.line.Op.{Op}
 use Rattle.lab_script.specs.declared.line.Op.TheVariants as op
@@ -131,7 +131,7 @@ checks-kept c = λ load. after_sync-kept c load
 
 rewind-kept : (c : PlaybackStream) (floor : Cursor) (n : ℕ) → All Kept (rewind_course c [] floor n)
 unfolding rewinds
-rewind-kept c floor n = All-if Kept (is_running c.status.state) (rewinds c [] floor n) (ends (without c (min n c.stretch.written), Ok (min n c.stretch.written)))
+rewind-kept c floor n = All-if Kept (is_running c.status.state) (rewinds c [] floor n) (ends (without_frames c (min n c.stretch.written), Ok (min n c.stretch.written)))
     (All-then Kept Kept (checks c) (rewind_on floor [] n) (checks-kept c) (rewind_on-kept floor n)) tt
 
 -- a refusal isn't late
@@ -153,7 +153,7 @@ refusal-kept c = by_stop c.status.stopped
     by_stop true = tt
     by_stop false = by_answer (next_of c.status.state call.Transfer (nothing_found Playback)).answer (next-late Q c.status.state call.Transfer (nothing_found Playback) tt)
 
-admitted-kept : (c : PlaybackStream) (m : Course (Answered ℕ)) → All Kept m → All Kept (admitted c call.Transfer m)
+admitted-kept : (c : PlaybackStream) (m : Course (Answered ℕ)) → All Kept m → All Kept (if_admitted c call.Transfer m)
 admitted-kept c m all = by_refusal (refusal_of Playback c.status call.Transfer) (refusal-kept c)
   where
     by_refusal : (refusal : Option PcmError) → IfSome refusal (LateErr (IsLast c)) → All Kept (admitted_by refusal c m)
@@ -164,7 +164,7 @@ abbrev Named : PlaybackStream × Answer → Type 0
 Named (d, answer) = LateAnswer (IsLast d) answer
 
 call-named : (wav : Sound) (marks : Marks) (c : PlaybackStream) (n : ℕ) → All Named (call_of wav marks c (op.Rewind n))
-call-named wav marks c n = All-then Kept Named (admitted c call.Transfer (rewind_course c [] marks.floor n)) (λ done. ends (done.0, count_answer done.1))
+call-named wav marks c n = All-then Kept Named (if_admitted c call.Transfer (rewind_course c [] marks.floor n)) (λ done. ends (done.0, count_answer done.1))
     (admitted-kept c _ (rewind-kept c marks.floor n)) named
   where
     named : (x : Answered ℕ) → Kept x → Named (x.0, count_answer x.1)

@@ -70,7 +70,7 @@ silent_report : (lab_text one_place None silent).report ≡ record {
   first = 0;
   frames = 128;
 }
-unfolding silent one_place course_text ◌>>=◌ Bound.rising client_calls.lay_each client_calls.lay_frames client_calls.looks client_calls.syncs client_calls.starts client_calls.drains client_calls.numbered client_calls.takes_more client_calls.writes_on client_calls.starts_taking client_calls.resumes reader_calls.gets_frames reader_calls.starts reader_calls.syncs reader_calls.transfers reader_calls.reads_on reader_calls.reads_first reader_calls.counts rewinding.take_each rewinding.take_frames rewinding.checks rewinding.takes_back rewinding.rewinds a b c r card mono stereo row setup silence some the_card line
+unfolding silent one_place course_text ◌>>=◌ Bound.rising client_calls.lay_each client_calls.lay_frames client_calls.looks client_calls.syncs client_calls.starts client_calls.drains client_calls.course_with_number client_calls.takes_more client_calls.writes_on client_calls.starts_taking client_calls.resumes reader_calls.gets_frames reader_calls.starts reader_calls.syncs reader_calls.transfers reader_calls.reads_on reader_calls.reads_first reader_calls.counts rewinding.take_each rewinding.take_frames rewinding.checks rewinding.takes_back rewinding.rewinds a b c r card mono stereo row setup silence some the_card line
 silent_report = refl
 
 -- so is that of a client that was reaped
@@ -98,7 +98,7 @@ reaped_report : (lab_text two_places None reaped).report ≡ record {
   first = 0;
   frames = 128;
 }
-unfolding reaped two_places course_text ◌>>=◌ Bound.rising client_calls.lay_each client_calls.lay_frames client_calls.looks client_calls.syncs client_calls.starts client_calls.drains client_calls.numbered client_calls.takes_more client_calls.writes_on client_calls.starts_taking client_calls.resumes reader_calls.gets_frames reader_calls.starts reader_calls.syncs reader_calls.transfers reader_calls.reads_on reader_calls.reads_first reader_calls.counts rewinding.take_each rewinding.take_frames rewinding.checks rewinding.takes_back rewinding.rewinds a b c r card mono stereo row setup silence some the_card line
+unfolding reaped two_places course_text ◌>>=◌ Bound.rising client_calls.lay_each client_calls.lay_frames client_calls.looks client_calls.syncs client_calls.starts client_calls.drains client_calls.course_with_number client_calls.takes_more client_calls.writes_on client_calls.starts_taking client_calls.resumes reader_calls.gets_frames reader_calls.starts reader_calls.syncs reader_calls.transfers reader_calls.reads_on reader_calls.reads_first reader_calls.counts rewinding.take_each rewinding.take_frames rewinding.checks rewinding.takes_back rewinding.rewinds a b c r card mono stereo row setup silence some the_card line
 reaped_report = refl
 
 -- no place is free
@@ -119,7 +119,7 @@ full_report : (lab_text one_place None full).report ≡ record {
   first = 0;
   frames = 64;
 }
-unfolding full one_place course_text ◌>>=◌ Bound.rising client_calls.lay_each client_calls.lay_frames client_calls.looks client_calls.syncs client_calls.starts client_calls.drains client_calls.numbered client_calls.takes_more client_calls.writes_on client_calls.starts_taking client_calls.resumes reader_calls.gets_frames reader_calls.starts reader_calls.syncs reader_calls.transfers reader_calls.reads_on reader_calls.reads_first reader_calls.counts rewinding.take_each rewinding.take_frames rewinding.checks rewinding.takes_back rewinding.rewinds a b c r card mono stereo row setup silence some the_card line
+unfolding full one_place course_text ◌>>=◌ Bound.rising client_calls.lay_each client_calls.lay_frames client_calls.looks client_calls.syncs client_calls.starts client_calls.drains client_calls.course_with_number client_calls.takes_more client_calls.writes_on client_calls.starts_taking client_calls.resumes reader_calls.gets_frames reader_calls.starts reader_calls.syncs reader_calls.transfers reader_calls.reads_on reader_calls.reads_first reader_calls.counts rewinding.take_each rewinding.take_frames rewinding.checks rewinding.takes_back rewinding.rewinds a b c r card mono stereo row setup silence some the_card line
 full_report = refl
 
 -- a channel has one owner
@@ -138,7 +138,7 @@ owned_report : (lab_text owners None owned).report ≡ record {
   first = 0;
   frames = 0;
 }
-unfolding owned owners course_text ◌>>=◌ Bound.rising client_calls.lay_each client_calls.lay_frames client_calls.looks client_calls.syncs client_calls.starts client_calls.drains client_calls.numbered client_calls.takes_more client_calls.writes_on client_calls.starts_taking client_calls.resumes reader_calls.gets_frames reader_calls.starts reader_calls.syncs reader_calls.transfers reader_calls.reads_on reader_calls.reads_first reader_calls.counts rewinding.take_each rewinding.take_frames rewinding.checks rewinding.takes_back rewinding.rewinds a b c r card mono stereo row setup silence some the_card line
+unfolding owned owners course_text ◌>>=◌ Bound.rising client_calls.lay_each client_calls.lay_frames client_calls.looks client_calls.syncs client_calls.starts client_calls.drains client_calls.course_with_number client_calls.takes_more client_calls.writes_on client_calls.starts_taking client_calls.resumes reader_calls.gets_frames reader_calls.starts reader_calls.syncs reader_calls.transfers reader_calls.reads_on reader_calls.reads_first reader_calls.counts rewinding.take_each rewinding.take_frames rewinding.checks rewinding.takes_back rewinding.rewinds a b c r card mono stereo row setup silence some the_card line
 owned_report = refl
 
 -- a released channel can be claimed once it is silent
@@ -165,5 +165,5 @@ released_report : (lab_text owners None released).report ≡ record {
   first = 0;
   frames = 128;
 }
-unfolding released owners course_text ◌>>=◌ Bound.rising client_calls.lay_each client_calls.lay_frames client_calls.looks client_calls.syncs client_calls.starts client_calls.drains client_calls.numbered client_calls.takes_more client_calls.writes_on client_calls.starts_taking client_calls.resumes reader_calls.gets_frames reader_calls.starts reader_calls.syncs reader_calls.transfers reader_calls.reads_on reader_calls.reads_first reader_calls.counts rewinding.take_each rewinding.take_frames rewinding.checks rewinding.takes_back rewinding.rewinds a b c r card mono stereo row setup silence some the_card line
+unfolding released owners course_text ◌>>=◌ Bound.rising client_calls.lay_each client_calls.lay_frames client_calls.looks client_calls.syncs client_calls.starts client_calls.drains client_calls.course_with_number client_calls.takes_more client_calls.writes_on client_calls.starts_taking client_calls.resumes reader_calls.gets_frames reader_calls.starts reader_calls.syncs reader_calls.transfers reader_calls.reads_on reader_calls.reads_first reader_calls.counts rewinding.take_each rewinding.take_frames rewinding.checks rewinding.takes_back rewinding.rewinds a b c r card mono stereo row setup silence some the_card line
 released_report = refl

@@ -12,7 +12,7 @@ use Rattle.snoop_core.specs.declared.port.Got.TheVariants.{Whole, Overtaken, Sto
 use Rattle.course.specs.Course.{Course, ends}
 use Rattle.dsnoop_client.specs.declared.stream.CaptureStream.{CaptureStream}
 use Rattle.dsnoop_client.specs.Calls.{Answered, read_after, after_start, after_sync, taken_of, with_avail}
-use Rattle.dsnoop_client.specs.Course.{admitted, admitted_by, avail_course, counts, get_on, gets_frames, one_more, read_course, reads_first, reads_on, starts, sync_course, syncs, transfer_on, transfers}
+use Rattle.dsnoop_client.specs.Course.{if_admitted, admitted_by, avail_course, counts, get_on, gets_frames, one_more, read_course, reads_first, reads_on, starts, sync_course, syncs, transfer_on, transfers}
 use Rattle.dsnoop_client.specs.View.{is_running}
 use Rattle.lab_run.proofs.Leads.{Anything, Led, Led-if, Led-then, LoadsFirst, OkLed, first-of, first-then, is_loaded, on-ok}
 
@@ -76,7 +76,7 @@ pub avail-first : (c : CaptureStream) → LoadsFirst false (avail_course c)
 avail-first c = Led-if Anything false (is_running c.status.state) (counts (syncs c call.Sync)) (ends _)
     (counts-first (syncs c call.Sync) (first-of OkLed false _ (syncs-led c call.Sync false))) tt
 
-pub admitted-first : {X : Type 0} (c : CaptureStream) (call : Call) (course : Course (Answered X)) → LoadsFirst false course → LoadsFirst false (admitted c call course)
+pub admitted-first : {X : Type 0} (c : CaptureStream) (call : Call) (course : Course (Answered X)) → LoadsFirst false course → LoadsFirst false (if_admitted c call course)
 admitted-first {X = X} c call course led = by_refusal (refusal_of Capture c.status call)
   where
     by_refusal : (refusal : Option PcmError) → LoadsFirst false (admitted_by {X = X} refusal c course)

@@ -11,7 +11,7 @@ use Rattle.snoop_core.specs.declared.port.Got.TheVariants.{Whole, Overtaken, Sto
 use Rattle.course.specs.Course.{Course, ends}
 use Rattle.dsnoop_client.specs.declared.stream.CaptureStream.{CaptureStream}
 use Rattle.dsnoop_client.specs.Calls.{Answered, read_after, after_start, after_sync, taken_of, with_avail}
-use Rattle.dsnoop_client.specs.Course.{admitted, admitted_by, avail_course, counts, gets_frames, one_more, read_course, reads_first, reads_on, starts, sync_course, syncs, transfer_on, transfers}
+use Rattle.dsnoop_client.specs.Course.{if_admitted, admitted_by, avail_course, counts, gets_frames, one_more, read_course, reads_first, reads_on, starts, sync_course, syncs, transfer_on, transfers}
 use Rattle.dsnoop_client.specs.View.{avail_of, is_running}
 use Rattle.lab_report.specs.declared.row.Answer.{Answer}
 use Rattle.lab_run.specs.Alike.{Alike, ReadsAreAlike, SameAnswer}
@@ -98,7 +98,7 @@ avail-alike c = Alike-if 0 (SameAnswer count_answer) (is_running c.status.state)
     (counts-alike (syncs c call.Sync) (syncs c call.Sync) (syncs-alike c call.Sync)) (at-once count_answer _)
 
 pub admitted-alike : {X : Type 0} (answer : Result X PcmError → Answer) (c : CaptureStream) (call : Call) (m n : Course (Answered X)) → Alike 0 (SameAnswer answer) m n
-    → Alike 0 (SameAnswer answer) (admitted c call m) (admitted c call n)
+    → Alike 0 (SameAnswer answer) (if_admitted c call m) (if_admitted c call n)
 admitted-alike answer c call m n alike = by_refusal (refusal_of Capture c.status call)
   where
     by_refusal : (refusal : Option PcmError) → Alike 0 (SameAnswer answer) (admitted_by refusal c m) (admitted_by refusal c n)

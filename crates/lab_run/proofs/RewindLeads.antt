@@ -10,7 +10,7 @@ use Rattle.course.specs.Course.{Course, ends}
 use Rattle.dmix_client.specs.declared.commit.Commit.{Commit}
 use Rattle.dmix_client.specs.declared.stream.PlaybackStream.{PlaybackStream}
 use Rattle.dmix_client.specs.Calls.{Answered, is_running, after_sync, with_number}
-use Rattle.dmix_client.specs.Course.{nothing, numbered}
+use Rattle.dmix_client.specs.Course.{nothing, course_with_number}
 use Rattle.dmix_client.specs.Rewind.{back_of, back_on, checks, rewind_course, rewind_on, rewindable_course, rewindable_of, rewinds, rewound, take_each, take_frames, take_on, takes_back}
 use Rattle.dmix_client.specs.View.{ring_sample}
 use Rattle.lab_run.proofs.Leads.{Anything, IsLed, Led, Led-if, Led-then, LoadsFirst, OkLed, first-of, first-then, is_loaded, on-ok}
@@ -23,12 +23,12 @@ checks-led c loaded = by_load
     by_load None = tt
     by_load (Some position) = on-ok true (after_sync c call.Transfer (Some position) nothing).1 refl
 
-numbered-first : (number : PlaybackStream → ℕ) (course : Course (Answered (Unit {0}))) → LoadsFirst false course → LoadsFirst false (numbered number course)
-unfolding numbered
+numbered-first : (number : PlaybackStream → ℕ) (course : Course (Answered (Unit {0}))) → LoadsFirst false course → LoadsFirst false (course_with_number number course)
+unfolding course_with_number
 numbered-first number course led = first-then false course (λ done. ends (with_number number done)) led (λ l x. tt)
 
 pub rewindable-first : (c : PlaybackStream) (floor : Cursor) → LoadsFirst false (rewindable_course c floor)
-rewindable-first c floor = Led-if Anything false (is_running c.status.state) (numbered (rewindable_of floor) (checks c)) (ends _)
+rewindable-first c floor = Led-if Anything false (is_running c.status.state) (course_with_number (rewindable_of floor) (checks c)) (ends _)
     (numbered-first (rewindable_of floor) (checks c) (first-of OkLed false _ (checks-led c false))) tt
 
 take_on-led : (ended : Ended) (n : ℕ) (rest : Course (ℕ × Ended)) → Led IsLed true rest → Led IsLed true (take_on ended n rest)

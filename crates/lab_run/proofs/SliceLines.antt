@@ -22,7 +22,7 @@ use Rattle.course.specs.Course.{◌>>=◌, Course, ends}
 use Rattle.dsnoop_client.specs.declared.stream.CaptureStream.{CaptureStream}
 use Rattle.dsnoop_client.specs.Calls.{Answered, found, over_of, read_after, read_to, seen_at, with_outcome, after_start, started_at, after_sync, taken_of, waits, with_avail}
 use Rattle.dsnoop_client.specs.View.{avail_of, is_running}
-use Rattle.dsnoop_client.specs.Course.{admitted, admitted_by, counts, gets_frames, read_course, reads_first, reads_on, starts, syncs, transfer_on, transfers}
+use Rattle.dsnoop_client.specs.Course.{if_admitted, admitted_by, counts, gets_frames, read_course, reads_first, reads_on, starts, syncs, transfer_on, transfers}
 use Rattle.lab_script.specs.declared.line.Op.{Op}
 use Rattle.lab_script.specs.declared.line.Op.TheVariants as op
 use Rattle.lab_report.specs.declared.row.Answer.{Answer}
@@ -285,7 +285,7 @@ reads-well r n goes = by_running (is_running r.status.state) (runs-of r.status.s
     by_running true runs = All-then Opens ReadsWell (syncs r call.Transfer) (transfer_on n) (syncs-well r goes (runs refl)) (transfer-well n)
     by_running false runs = by_start (nat_le r.setup.params.start_threshold n)
 
-admitted-well : (r : CaptureStream) (n : ℕ) → All ReadsWell (admitted r call.Transfer (read_course r n))
+admitted-well : (r : CaptureStream) (n : ℕ) → All ReadsWell (if_admitted r call.Transfer (read_course r n))
 admitted-well r n = by_stop r.status.stopped refl
   where
     by_refusal : (refusal : Option PcmError) → r.status.stopped ≡ false → All ReadsWell (admitted_by refusal r (read_course r n))
@@ -306,7 +306,7 @@ idle d asked answer no_frames none = record {
 }
 
 calls-first : (r : CaptureStream) (asked : Op) → All (Gets None asked) (call_of r asked)
-calls-first r (op.Read n) = answers-on None (op.Read n) count_answer _ (All-map ReadsWell _ (admitted r call.Transfer (read_course r n)) (admitted-well r n) by_read)
+calls-first r (op.Read n) = answers-on None (op.Read n) count_answer _ (All-map ReadsWell _ (if_admitted r call.Transfer (read_course r n)) (admitted-well r n) by_read)
   where
     goes : (d : CaptureStream) (count : ℕ) → (count ≡ 0) ⊎ ((count ≤ d.next) × IsOn d) → IsGoing (goes_on_after false None (d.next - count) count) (Some d)
     goes d zero well = tt

@@ -49,7 +49,7 @@ dies_at_0_report : (lab_text two None dies_at_0).report ≡ record {
   first = 0;
   frames = 128;
 }
-unfolding dies_at_0 two course_text ◌>>=◌ Bound.rising client_calls.lay_each client_calls.lay_frames client_calls.looks client_calls.syncs client_calls.starts client_calls.drains client_calls.numbered client_calls.takes_more client_calls.writes_on client_calls.starts_taking client_calls.resumes reader_calls.gets_frames reader_calls.starts reader_calls.syncs reader_calls.transfers reader_calls.reads_on reader_calls.reads_first reader_calls.counts rewinding.take_each rewinding.take_frames rewinding.checks rewinding.takes_back rewinding.rewinds a b c r card mono stereo row setup silence some the_card line
+unfolding dies_at_0 two course_text ◌>>=◌ Bound.rising client_calls.lay_each client_calls.lay_frames client_calls.looks client_calls.syncs client_calls.starts client_calls.drains client_calls.course_with_number client_calls.takes_more client_calls.writes_on client_calls.starts_taking client_calls.resumes reader_calls.gets_frames reader_calls.starts reader_calls.syncs reader_calls.transfers reader_calls.reads_on reader_calls.reads_first reader_calls.counts rewinding.take_each rewinding.take_frames rewinding.checks rewinding.takes_back rewinding.rewinds a b c r card mono stereo row setup silence some the_card line
 dies_at_0_report = refl
 
 -- a client may make 1 steps
@@ -73,7 +73,7 @@ dies_at_1_report : (lab_text two None dies_at_1).report ≡ record {
   first = 0;
   frames = 128;
 }
-unfolding dies_at_1 two course_text ◌>>=◌ Bound.rising client_calls.lay_each client_calls.lay_frames client_calls.looks client_calls.syncs client_calls.starts client_calls.drains client_calls.numbered client_calls.takes_more client_calls.writes_on client_calls.starts_taking client_calls.resumes reader_calls.gets_frames reader_calls.starts reader_calls.syncs reader_calls.transfers reader_calls.reads_on reader_calls.reads_first reader_calls.counts rewinding.take_each rewinding.take_frames rewinding.checks rewinding.takes_back rewinding.rewinds a b c r card mono stereo row setup silence some the_card line
+unfolding dies_at_1 two course_text ◌>>=◌ Bound.rising client_calls.lay_each client_calls.lay_frames client_calls.looks client_calls.syncs client_calls.starts client_calls.drains client_calls.course_with_number client_calls.takes_more client_calls.writes_on client_calls.starts_taking client_calls.resumes reader_calls.gets_frames reader_calls.starts reader_calls.syncs reader_calls.transfers reader_calls.reads_on reader_calls.reads_first reader_calls.counts rewinding.take_each rewinding.take_frames rewinding.checks rewinding.takes_back rewinding.rewinds a b c r card mono stereo row setup silence some the_card line
 dies_at_1_report = refl
 
 -- a client may make 2 steps
@@ -97,7 +97,7 @@ dies_at_2_report : (lab_text two None dies_at_2).report ≡ record {
   first = 0;
   frames = 128;
 }
-unfolding dies_at_2 two course_text ◌>>=◌ Bound.rising client_calls.lay_each client_calls.lay_frames client_calls.looks client_calls.syncs client_calls.starts client_calls.drains client_calls.numbered client_calls.takes_more client_calls.writes_on client_calls.starts_taking client_calls.resumes reader_calls.gets_frames reader_calls.starts reader_calls.syncs reader_calls.transfers reader_calls.reads_on reader_calls.reads_first reader_calls.counts rewinding.take_each rewinding.take_frames rewinding.checks rewinding.takes_back rewinding.rewinds a b c r card mono stereo row setup silence some the_card line
+unfolding dies_at_2 two course_text ◌>>=◌ Bound.rising client_calls.lay_each client_calls.lay_frames client_calls.looks client_calls.syncs client_calls.starts client_calls.drains client_calls.course_with_number client_calls.takes_more client_calls.writes_on client_calls.starts_taking client_calls.resumes reader_calls.gets_frames reader_calls.starts reader_calls.syncs reader_calls.transfers reader_calls.reads_on reader_calls.reads_first reader_calls.counts rewinding.take_each rewinding.take_frames rewinding.checks rewinding.takes_back rewinding.rewinds a b c r card mono stereo row setup silence some the_card line
 dies_at_2_report = refl
 
 -- a client may make 3 steps
@@ -121,7 +121,7 @@ dies_at_3_report : (lab_text two None dies_at_3).report ≡ record {
   first = 0;
   frames = 128;
 }
-unfolding dies_at_3 two course_text ◌>>=◌ Bound.rising client_calls.lay_each client_calls.lay_frames client_calls.looks client_calls.syncs client_calls.starts client_calls.drains client_calls.numbered client_calls.takes_more client_calls.writes_on client_calls.starts_taking client_calls.resumes reader_calls.gets_frames reader_calls.starts reader_calls.syncs reader_calls.transfers reader_calls.reads_on reader_calls.reads_first reader_calls.counts rewinding.take_each rewinding.take_frames rewinding.checks rewinding.takes_back rewinding.rewinds a b c r card mono stereo row setup silence some the_card line
+unfolding dies_at_3 two course_text ◌>>=◌ Bound.rising client_calls.lay_each client_calls.lay_frames client_calls.looks client_calls.syncs client_calls.starts client_calls.drains client_calls.course_with_number client_calls.takes_more client_calls.writes_on client_calls.starts_taking client_calls.resumes reader_calls.gets_frames reader_calls.starts reader_calls.syncs reader_calls.transfers reader_calls.reads_on reader_calls.reads_first reader_calls.counts rewinding.take_each rewinding.take_frames rewinding.checks rewinding.takes_back rewinding.rewinds a b c r card mono stereo row setup silence some the_card line
 dies_at_3_report = refl
 
 -- a client may make 4 steps
@@ -145,7 +145,7 @@ dies_at_4_report : (lab_text two None dies_at_4).report ≡ record {
   first = 0;
   frames = 128;
 }
-unfolding dies_at_4 two course_text ◌>>=◌ Bound.rising client_calls.lay_each client_calls.lay_frames client_calls.looks client_calls.syncs client_calls.starts client_calls.drains client_calls.numbered client_calls.takes_more client_calls.writes_on client_calls.starts_taking client_calls.resumes reader_calls.gets_frames reader_calls.starts reader_calls.syncs reader_calls.transfers reader_calls.reads_on reader_calls.reads_first reader_calls.counts rewinding.take_each rewinding.take_frames rewinding.checks rewinding.takes_back rewinding.rewinds a b c r card mono stereo row setup silence some the_card line
+unfolding dies_at_4 two course_text ◌>>=◌ Bound.rising client_calls.lay_each client_calls.lay_frames client_calls.looks client_calls.syncs client_calls.starts client_calls.drains client_calls.course_with_number client_calls.takes_more client_calls.writes_on client_calls.starts_taking client_calls.resumes reader_calls.gets_frames reader_calls.starts reader_calls.syncs reader_calls.transfers reader_calls.reads_on reader_calls.reads_first reader_calls.counts rewinding.take_each rewinding.take_frames rewinding.checks rewinding.takes_back rewinding.rewinds a b c r card mono stereo row setup silence some the_card line
 dies_at_4_report = refl
 
 -- a client may make 5 steps
@@ -169,7 +169,7 @@ dies_at_5_report : (lab_text two None dies_at_5).report ≡ record {
   first = 0;
   frames = 128;
 }
-unfolding dies_at_5 two course_text ◌>>=◌ Bound.rising client_calls.lay_each client_calls.lay_frames client_calls.looks client_calls.syncs client_calls.starts client_calls.drains client_calls.numbered client_calls.takes_more client_calls.writes_on client_calls.starts_taking client_calls.resumes reader_calls.gets_frames reader_calls.starts reader_calls.syncs reader_calls.transfers reader_calls.reads_on reader_calls.reads_first reader_calls.counts rewinding.take_each rewinding.take_frames rewinding.checks rewinding.takes_back rewinding.rewinds a b c r card mono stereo row setup silence some the_card line
+unfolding dies_at_5 two course_text ◌>>=◌ Bound.rising client_calls.lay_each client_calls.lay_frames client_calls.looks client_calls.syncs client_calls.starts client_calls.drains client_calls.course_with_number client_calls.takes_more client_calls.writes_on client_calls.starts_taking client_calls.resumes reader_calls.gets_frames reader_calls.starts reader_calls.syncs reader_calls.transfers reader_calls.reads_on reader_calls.reads_first reader_calls.counts rewinding.take_each rewinding.take_frames rewinding.checks rewinding.takes_back rewinding.rewinds a b c r card mono stereo row setup silence some the_card line
 dies_at_5_report = refl
 
 -- a client may make 128 steps
@@ -193,7 +193,7 @@ dies_at_128_report : (lab_text two None dies_at_128).report ≡ record {
   first = 0;
   frames = 128;
 }
-unfolding dies_at_128 two course_text ◌>>=◌ Bound.rising client_calls.lay_each client_calls.lay_frames client_calls.looks client_calls.syncs client_calls.starts client_calls.drains client_calls.numbered client_calls.takes_more client_calls.writes_on client_calls.starts_taking client_calls.resumes reader_calls.gets_frames reader_calls.starts reader_calls.syncs reader_calls.transfers reader_calls.reads_on reader_calls.reads_first reader_calls.counts rewinding.take_each rewinding.take_frames rewinding.checks rewinding.takes_back rewinding.rewinds a b c r card mono stereo row setup silence some the_card line
+unfolding dies_at_128 two course_text ◌>>=◌ Bound.rising client_calls.lay_each client_calls.lay_frames client_calls.looks client_calls.syncs client_calls.starts client_calls.drains client_calls.course_with_number client_calls.takes_more client_calls.writes_on client_calls.starts_taking client_calls.resumes reader_calls.gets_frames reader_calls.starts reader_calls.syncs reader_calls.transfers reader_calls.reads_on reader_calls.reads_first reader_calls.counts rewinding.take_each rewinding.take_frames rewinding.checks rewinding.takes_back rewinding.rewinds a b c r card mono stereo row setup silence some the_card line
 dies_at_128_report = refl
 
 -- a client may make 255 steps
@@ -217,7 +217,7 @@ dies_at_255_report : (lab_text two None dies_at_255).report ≡ record {
   first = 0;
   frames = 128;
 }
-unfolding dies_at_255 two course_text ◌>>=◌ Bound.rising client_calls.lay_each client_calls.lay_frames client_calls.looks client_calls.syncs client_calls.starts client_calls.drains client_calls.numbered client_calls.takes_more client_calls.writes_on client_calls.starts_taking client_calls.resumes reader_calls.gets_frames reader_calls.starts reader_calls.syncs reader_calls.transfers reader_calls.reads_on reader_calls.reads_first reader_calls.counts rewinding.take_each rewinding.take_frames rewinding.checks rewinding.takes_back rewinding.rewinds a b c r card mono stereo row setup silence some the_card line
+unfolding dies_at_255 two course_text ◌>>=◌ Bound.rising client_calls.lay_each client_calls.lay_frames client_calls.looks client_calls.syncs client_calls.starts client_calls.drains client_calls.course_with_number client_calls.takes_more client_calls.writes_on client_calls.starts_taking client_calls.resumes reader_calls.gets_frames reader_calls.starts reader_calls.syncs reader_calls.transfers reader_calls.reads_on reader_calls.reads_first reader_calls.counts rewinding.take_each rewinding.take_frames rewinding.checks rewinding.takes_back rewinding.rewinds a b c r card mono stereo row setup silence some the_card line
 dies_at_255_report = refl
 
 -- a client may make 256 steps
@@ -241,7 +241,7 @@ dies_at_256_report : (lab_text two None dies_at_256).report ≡ record {
   first = 0;
   frames = 128;
 }
-unfolding dies_at_256 two course_text ◌>>=◌ Bound.rising client_calls.lay_each client_calls.lay_frames client_calls.looks client_calls.syncs client_calls.starts client_calls.drains client_calls.numbered client_calls.takes_more client_calls.writes_on client_calls.starts_taking client_calls.resumes reader_calls.gets_frames reader_calls.starts reader_calls.syncs reader_calls.transfers reader_calls.reads_on reader_calls.reads_first reader_calls.counts rewinding.take_each rewinding.take_frames rewinding.checks rewinding.takes_back rewinding.rewinds a b c r card mono stereo row setup silence some the_card line
+unfolding dies_at_256 two course_text ◌>>=◌ Bound.rising client_calls.lay_each client_calls.lay_frames client_calls.looks client_calls.syncs client_calls.starts client_calls.drains client_calls.course_with_number client_calls.takes_more client_calls.writes_on client_calls.starts_taking client_calls.resumes reader_calls.gets_frames reader_calls.starts reader_calls.syncs reader_calls.transfers reader_calls.reads_on reader_calls.reads_first reader_calls.counts rewinding.take_each rewinding.take_frames rewinding.checks rewinding.takes_back rewinding.rewinds a b c r card mono stereo row setup silence some the_card line
 dies_at_256_report = refl
 
 -- a client may make 257 steps
@@ -265,7 +265,7 @@ dies_at_257_report : (lab_text two None dies_at_257).report ≡ record {
   first = 0;
   frames = 128;
 }
-unfolding dies_at_257 two course_text ◌>>=◌ Bound.rising client_calls.lay_each client_calls.lay_frames client_calls.looks client_calls.syncs client_calls.starts client_calls.drains client_calls.numbered client_calls.takes_more client_calls.writes_on client_calls.starts_taking client_calls.resumes reader_calls.gets_frames reader_calls.starts reader_calls.syncs reader_calls.transfers reader_calls.reads_on reader_calls.reads_first reader_calls.counts rewinding.take_each rewinding.take_frames rewinding.checks rewinding.takes_back rewinding.rewinds a b c r card mono stereo row setup silence some the_card line
+unfolding dies_at_257 two course_text ◌>>=◌ Bound.rising client_calls.lay_each client_calls.lay_frames client_calls.looks client_calls.syncs client_calls.starts client_calls.drains client_calls.course_with_number client_calls.takes_more client_calls.writes_on client_calls.starts_taking client_calls.resumes reader_calls.gets_frames reader_calls.starts reader_calls.syncs reader_calls.transfers reader_calls.reads_on reader_calls.reads_first reader_calls.counts rewinding.take_each rewinding.take_frames rewinding.checks rewinding.takes_back rewinding.rewinds a b c r card mono stereo row setup silence some the_card line
 dies_at_257_report = refl
 
 -- after a stop no line of the phase does anything, and the actor is not open from the next phase on
@@ -294,5 +294,5 @@ after_a_stop_report : (lab_text two None after_a_stop).report ≡ record {
   first = 0;
   frames = 0;
 }
-unfolding after_a_stop two course_text ◌>>=◌ Bound.rising client_calls.lay_each client_calls.lay_frames client_calls.looks client_calls.syncs client_calls.starts client_calls.drains client_calls.numbered client_calls.takes_more client_calls.writes_on client_calls.starts_taking client_calls.resumes reader_calls.gets_frames reader_calls.starts reader_calls.syncs reader_calls.transfers reader_calls.reads_on reader_calls.reads_first reader_calls.counts rewinding.take_each rewinding.take_frames rewinding.checks rewinding.takes_back rewinding.rewinds a b c r card mono stereo row setup silence some the_card line
+unfolding after_a_stop two course_text ◌>>=◌ Bound.rising client_calls.lay_each client_calls.lay_frames client_calls.looks client_calls.syncs client_calls.starts client_calls.drains client_calls.course_with_number client_calls.takes_more client_calls.writes_on client_calls.starts_taking client_calls.resumes reader_calls.gets_frames reader_calls.starts reader_calls.syncs reader_calls.transfers reader_calls.reads_on reader_calls.reads_first reader_calls.counts rewinding.take_each rewinding.take_frames rewinding.checks rewinding.takes_back rewinding.rewinds a b c r card mono stereo row setup silence some the_card line
 after_a_stop_report = refl

@@ -12,7 +12,7 @@ use Rattle.snoop_core.specs.declared.port.Got.TheVariants as got
 use Rattle.course.specs.Course.{Course, ends, gets, lays, loads}
 use Rattle.dmix_client.specs.declared.stream.PlaybackStream.{PlaybackStream}
 use Rattle.dmix_client.specs.Calls.{Answered, avail_answer, delay_answer, after_drop, after_prepare}
-use Rattle.dmix_client.specs.Course.{admitted, drain_course, number_course, pause_call, pause_course, start_course, sync_course}
+use Rattle.dmix_client.specs.Course.{if_admitted, drain_course, number_course, pause_call, pause_course, start_course, sync_course}
 use Rattle.dmix_client.specs.Course as client_calls
 use Rattle.dmix_client.specs.Rewind.{rewind_course, rewindable_course}
 use Rattle.dmix_client.specs.Writes.{frames_in}
@@ -74,58 +74,58 @@ pub record SameButMember {X : Type 0} (member : ℕ) (answer : Result X PcmError
 pub record CallsAreAlike (from member : ℕ) (c : PlaybackStream) (ring : List ℤ)
     (cursor other floor lower : Cursor) : Type 0 where
   pub write : (samples : List ℤ) → Alike from (SameButMember member count_answer)
-      (admitted c call.Transfer (client_calls.write_course c ring samples cursor))
-      (admitted (with_member member c) call.Transfer
+      (if_admitted c call.Transfer (client_calls.write_course c ring samples cursor))
+      (if_admitted (with_member member c) call.Transfer
       (write_course (with_member member c) other (frames_in c samples)))
   pub start : Alike from (SameButMember member done_answer)
-      (admitted c call.Start (start_course c ring cursor))
-      (admitted (with_member member c) call.Start (start_course (with_member member c) [] other))
+      (if_admitted c call.Start (start_course c ring cursor))
+      (if_admitted (with_member member c) call.Start (start_course (with_member member c) [] other))
   pub sync : Alike from (SameButMember member done_answer)
-      (admitted c call.Sync (sync_course c ring))
-      (admitted (with_member member c) call.Sync (sync_course (with_member member c) []))
+      (if_admitted c call.Sync (sync_course c ring))
+      (if_admitted (with_member member c) call.Sync (sync_course (with_member member c) []))
   pub drain : Alike from (SameButMember member done_answer)
-      (admitted c call.Drain (drain_course c ring cursor))
-      (admitted (with_member member c) call.Drain (drain_course (with_member member c) [] other))
+      (if_admitted c call.Drain (drain_course c ring cursor))
+      (if_admitted (with_member member c) call.Drain (drain_course (with_member member c) [] other))
   pub pause : (on : Bool)
       → Alike from (SameButMember member done_answer)
-      (admitted c (pause_call on) (pause_course on c ring cursor))
-      (admitted (with_member member c) (pause_call on)
+      (if_admitted c (pause_call on) (pause_course on c ring cursor))
+      (if_admitted (with_member member c) (pause_call on)
       (pause_course on (with_member member c) [] other))
   pub avail : Alike from (SameButMember member count_answer)
-      (admitted c call.Sync (number_course avail_answer c ring))
-      (admitted (with_member member c) call.Sync
+      (if_admitted c call.Sync (number_course avail_answer c ring))
+      (if_admitted (with_member member c) call.Sync
       (number_course avail_answer (with_member member c) []))
   pub delay : Alike from (SameButMember member count_answer)
-      (admitted c call.Sync (number_course delay_answer c ring))
-      (admitted (with_member member c) call.Sync
+      (if_admitted c call.Sync (number_course delay_answer c ring))
+      (if_admitted (with_member member c) call.Sync
       (number_course delay_answer (with_member member c) []))
   pub drop : Alike from (SameButMember member done_answer)
-      (admitted c call.Drop (ends (after_drop c, Ok tt)))
-      (admitted (with_member member c) call.Drop (ends (after_drop (with_member member c), Ok tt)))
+      (if_admitted c call.Drop (ends (after_drop c, Ok tt)))
+      (if_admitted (with_member member c) call.Drop (ends (after_drop (with_member member c), Ok tt)))
   pub prepare : Alike from (SameButMember member done_answer)
-      (admitted c call.Prepare (ends (after_prepare c, Ok tt)))
-      (admitted (with_member member c) call.Prepare (ends (after_prepare (with_member member c), Ok tt)))
+      (if_admitted c call.Prepare (ends (after_prepare c, Ok tt)))
+      (if_admitted (with_member member c) call.Prepare (ends (after_prepare (with_member member c), Ok tt)))
   pub rewind : (n : ℕ)
       → Alike from (SameButMember member count_answer)
-      (admitted c call.Transfer (rewind_course c ring floor n))
-      (admitted (with_member member c) call.Transfer
+      (if_admitted c call.Transfer (rewind_course c ring floor n))
+      (if_admitted (with_member member c) call.Transfer
       (rewind_course (with_member member c) [] lower n))
   pub rewindable : Alike from (SameButMember member count_answer)
-      (admitted c call.Transfer (rewindable_course c floor))
-      (admitted (with_member member c) call.Transfer
+      (if_admitted c call.Transfer (rewindable_course c floor))
+      (if_admitted (with_member member c) call.Transfer
       (rewindable_course (with_member member c) lower))
 
 -- each call of a reader is like itself without its words
 pub record ReadsAreAlike (r : reading.CaptureStream) : Type 0 where
   pub read : (n : ℕ) → Alike 0 (SameAnswer count_answer)
-      (reading_course.admitted r call.Transfer (read_course r n))
-      (reading_course.admitted r call.Transfer (read_course r n))
+      (reading_course.if_admitted r call.Transfer (read_course r n))
+      (reading_course.if_admitted r call.Transfer (read_course r n))
   pub start : Alike 0 (SameAnswer done_answer)
-      (reading_course.admitted r call.Start (reading_course.starts r call.Start))
-      (reading_course.admitted r call.Start (reading_course.starts r call.Start))
+      (reading_course.if_admitted r call.Start (reading_course.starts r call.Start))
+      (reading_course.if_admitted r call.Start (reading_course.starts r call.Start))
   pub sync : Alike 0 (SameAnswer done_answer)
-      (reading_course.admitted r call.Sync (reading_course.sync_course r))
-      (reading_course.admitted r call.Sync (reading_course.sync_course r))
+      (reading_course.if_admitted r call.Sync (reading_course.sync_course r))
+      (reading_course.if_admitted r call.Sync (reading_course.sync_course r))
   pub avail : Alike 0 (SameAnswer count_answer)
-      (reading_course.admitted r call.Sync (avail_course r))
-      (reading_course.admitted r call.Sync (avail_course r))
+      (reading_course.if_admitted r call.Sync (avail_course r))
+      (reading_course.if_admitted r call.Sync (avail_course r))

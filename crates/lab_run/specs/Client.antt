@@ -13,7 +13,7 @@ use Rattle.wav_io.specs.Sound.{Sound}
 use Rattle.course.specs.Course.{◌>>=◌, Course, ends}
 use Rattle.dmix_client.specs.declared.stream.PlaybackStream.{PlaybackStream}
 use Rattle.dmix_client.specs.Calls.{Answered, avail_answer, delay_answer, after_drop, is_paused, is_running, after_prepare, segment_of}
-use Rattle.dmix_client.specs.Course.{admitted, drain_course, fills, number_course, pause_course, start_course, sync_course, writes_on}
+use Rattle.dmix_client.specs.Course.{if_admitted, drain_course, fills, number_course, pause_course, start_course, sync_course, writes_on}
 use Rattle.dmix_client.specs.Rewind.{rewind_course, rewindable_course}
 use Rattle.lab_script.specs.declared.line.Actor.TheVariants as actor
 use Rattle.lab_script.specs.declared.line.Op.{Op}
@@ -83,27 +83,27 @@ answered answer course = course >>= λ done. ends (done.0, answer done.1)
 abbrev pub call_of : Sound → Marks → PlaybackStream → Op → Course (PlaybackStream × Answer)
 call_of wav marks c (op.Write n) =
     answered count_answer
-    (admitted c call.Transfer (write_course c marks.cursor (min n (frames_of wav - c.fed))))
+    (if_admitted c call.Transfer (write_course c marks.cursor (min n (frames_of wav - c.fed))))
 call_of wav marks c op.Start =
-    answered done_answer (admitted c call.Start (start_course c [] marks.cursor))
-call_of wav marks c op.Sync = answered done_answer (admitted c call.Sync (sync_course c []))
+    answered done_answer (if_admitted c call.Start (start_course c [] marks.cursor))
+call_of wav marks c op.Sync = answered done_answer (if_admitted c call.Sync (sync_course c []))
 call_of wav marks c op.Avail =
-    answered count_answer (admitted c call.Sync (number_course avail_answer c []))
+    answered count_answer (if_admitted c call.Sync (number_course avail_answer c []))
 call_of wav marks c op.Delay =
-    answered count_answer (admitted c call.Sync (number_course delay_answer c []))
+    answered count_answer (if_admitted c call.Sync (number_course delay_answer c []))
 call_of wav marks c op.Drain =
-    answered done_answer (admitted c call.Drain (drain_course c [] marks.cursor))
-call_of wav marks c op.Drop = answered done_answer (admitted c call.Drop (ends (after_drop c, Ok tt)))
+    answered done_answer (if_admitted c call.Drain (drain_course c [] marks.cursor))
+call_of wav marks c op.Drop = answered done_answer (if_admitted c call.Drop (ends (after_drop c, Ok tt)))
 call_of wav marks c op.Prepare =
-    answered done_answer (admitted c call.Prepare (ends (after_prepare c, Ok tt)))
+    answered done_answer (if_admitted c call.Prepare (ends (after_prepare c, Ok tt)))
 call_of wav marks c op.Pause =
-    answered done_answer (admitted c call.Pause (pause_course true c [] marks.cursor))
+    answered done_answer (if_admitted c call.Pause (pause_course true c [] marks.cursor))
 call_of wav marks c op.Resume =
-    answered done_answer (admitted c call.Resume (pause_course false c [] marks.cursor))
+    answered done_answer (if_admitted c call.Resume (pause_course false c [] marks.cursor))
 call_of wav marks c (op.Rewind n) =
-    answered count_answer (admitted c call.Transfer (rewind_course c [] marks.floor n))
+    answered count_answer (if_admitted c call.Transfer (rewind_course c [] marks.floor n))
 call_of wav marks c op.Rewindable =
-    answered count_answer (admitted c call.Transfer (rewindable_course c marks.floor))
+    answered count_answer (if_admitted c call.Transfer (rewindable_course c marks.floor))
 call_of wav marks c other = ends (c, Failed BadState)
 
 -- the client after a call

@@ -10,7 +10,7 @@ use Rattle.course.specs.AtPort.{TakesAt}
 use Rattle.course.specs.Course.{Course, ends}
 use Rattle.dmix_client.specs.declared.stream.PlaybackStream.{PlaybackStream}
 use Rattle.dmix_client.specs.Calls.{avail_answer, delay_answer, after_drop, after_prepare}
-use Rattle.dmix_client.specs.Course.{admitted, drain_course, number_course, pause_course, start_course, sync_course, write_course}
+use Rattle.dmix_client.specs.Course.{if_admitted, drain_course, number_course, pause_course, start_course, sync_course, write_course}
 use Rattle.dmix_client.specs.Rewind.{rewind_course, rewindable_course}
 use Rattle.dmix_client.specs.Writes.{frames_in}
 use Rattle.lab_script.specs.declared.line.Op.{Op}
@@ -29,29 +29,29 @@ use Rattle.lab_run.specs.Rules.{AtPort}
 abbrev pub made_call : List ℤ → List ℤ → Marks → PlaybackStream → Op
     → Course (PlaybackStream × Answer)
 made_call ring samples marks c (op.Write n) =
-    answered count_answer (admitted c call.Transfer (write_course c ring samples marks.cursor))
+    answered count_answer (if_admitted c call.Transfer (write_course c ring samples marks.cursor))
 made_call ring samples marks c op.Start =
-    answered done_answer (admitted c call.Start (start_course c ring marks.cursor))
+    answered done_answer (if_admitted c call.Start (start_course c ring marks.cursor))
 made_call ring samples marks c op.Sync =
-    answered done_answer (admitted c call.Sync (sync_course c ring))
+    answered done_answer (if_admitted c call.Sync (sync_course c ring))
 made_call ring samples marks c op.Avail =
-    answered count_answer (admitted c call.Sync (number_course avail_answer c ring))
+    answered count_answer (if_admitted c call.Sync (number_course avail_answer c ring))
 made_call ring samples marks c op.Delay =
-    answered count_answer (admitted c call.Sync (number_course delay_answer c ring))
+    answered count_answer (if_admitted c call.Sync (number_course delay_answer c ring))
 made_call ring samples marks c op.Drain =
-    answered done_answer (admitted c call.Drain (drain_course c ring marks.cursor))
+    answered done_answer (if_admitted c call.Drain (drain_course c ring marks.cursor))
 made_call ring samples marks c op.Drop =
-    answered done_answer (admitted c call.Drop (ends (after_drop c, Ok tt)))
+    answered done_answer (if_admitted c call.Drop (ends (after_drop c, Ok tt)))
 made_call ring samples marks c op.Prepare =
-    answered done_answer (admitted c call.Prepare (ends (after_prepare c, Ok tt)))
+    answered done_answer (if_admitted c call.Prepare (ends (after_prepare c, Ok tt)))
 made_call ring samples marks c op.Pause =
-    answered done_answer (admitted c call.Pause (pause_course true c ring marks.cursor))
+    answered done_answer (if_admitted c call.Pause (pause_course true c ring marks.cursor))
 made_call ring samples marks c op.Resume =
-    answered done_answer (admitted c call.Resume (pause_course false c ring marks.cursor))
+    answered done_answer (if_admitted c call.Resume (pause_course false c ring marks.cursor))
 made_call ring samples marks c (op.Rewind n) =
-    answered count_answer (admitted c call.Transfer (rewind_course c ring marks.floor n))
+    answered count_answer (if_admitted c call.Transfer (rewind_course c ring marks.floor n))
 made_call ring samples marks c op.Rewindable =
-    answered count_answer (admitted c call.Transfer (rewindable_course c marks.floor))
+    answered count_answer (if_admitted c call.Transfer (rewindable_course c marks.floor))
 made_call ring samples marks c other = ends (c, Failed BadState)
 
 -- a write is given the next frames of the client's file, as many as it asks for, or those that are left

@@ -8,7 +8,7 @@ use Rattle.pcm_states.specs.declared.calls.Call.TheVariants as call
 use Rattle.course.specs.Course.{◌>>=◌, Course, ends}
 use Rattle.dsnoop_client.specs.declared.stream.CaptureStream.{CaptureStream}
 use Rattle.dsnoop_client.specs.Calls.{Answered, in_state}
-use Rattle.dsnoop_client.specs.Course.{admitted, avail_course, read_course, starts, sync_course}
+use Rattle.dsnoop_client.specs.Course.{if_admitted, avail_course, read_course, starts, sync_course}
 use Rattle.lab_script.specs.declared.line.Actor.TheVariants as actor
 use Rattle.lab_script.specs.declared.line.Op.{Op}
 use Rattle.lab_script.specs.declared.line.Op.TheVariants as op
@@ -31,13 +31,13 @@ answered answer course = course >>= λ done. ends (done.0, answer done.1)
 
 -- the call that a line of an open reader names
 abbrev pub call_of : CaptureStream → Op → Course (CaptureStream × Answer)
-call_of r (op.Read n) = answered count_answer (admitted r call.Transfer (read_course r n))
-call_of r op.Start = answered done_answer (admitted r call.Start (starts r call.Start))
-call_of r op.Sync = answered done_answer (admitted r call.Sync (sync_course r))
-call_of r op.Avail = answered count_answer (admitted r call.Sync (avail_course r))
-call_of r op.Drop = answered done_answer (admitted r call.Drop (ends (in_state r Setup, Ok tt)))
+call_of r (op.Read n) = answered count_answer (if_admitted r call.Transfer (read_course r n))
+call_of r op.Start = answered done_answer (if_admitted r call.Start (starts r call.Start))
+call_of r op.Sync = answered done_answer (if_admitted r call.Sync (sync_course r))
+call_of r op.Avail = answered count_answer (if_admitted r call.Sync (avail_course r))
+call_of r op.Drop = answered done_answer (if_admitted r call.Drop (ends (in_state r Setup, Ok tt)))
 call_of r op.Prepare =
-    answered done_answer (admitted r call.Prepare (ends (in_state r Prepared, Ok tt)))
+    answered done_answer (if_admitted r call.Prepare (ends (in_state r Prepared, Ok tt)))
 call_of r op.Pause = ends (r, Failed NotSupported)
 call_of r other = ends (r, Failed BadState)
 

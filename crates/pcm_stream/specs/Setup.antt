@@ -31,8 +31,8 @@ abbrev pub config_of : Setup → Option Config
 config_of setup = if setup.configured then Some setup.config else None
 
 -- the setup without its configuration
-abbrev pub freed : Setup → Setup
-freed setup = record setup { configured = false }
+abbrev pub without_config : Setup → Setup
+without_config setup = record setup { configured = false }
 
 -- the setup with other software parameters
 abbrev pub with_params : Setup → SwParams → Setup

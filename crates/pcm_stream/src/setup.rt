@@ -21,7 +21,7 @@ pub struct Setup {
 
 impl Setup {
     ghost use Rattle.std.specs.Prelude.{OnErr, OnOk};
-    ghost use Rattle.pcm_stream.specs.Setup.{Checks, config_of, freed, no_setup, setup_with, with_params};
+    ghost use Rattle.pcm_stream.specs.Setup.{Checks, config_of, without_config, no_setup, setup_with, with_params};
     ghost use Rattle.sw_limits.specs.Boundary.{IsBoundary};
 
     /// The setup of a stream that was just opened: it isn't configured.
@@ -72,7 +72,7 @@ impl Setup {
 
     /// The setup without its configuration (`snd_pcm_hw_free`).
     pub fn freed(&self) -> Setup
-        ensures { result ≡ freed self.now }
+        ensures { result ≡ without_config self.now }
     {
         Setup {
             configured: false,

@@ -2,7 +2,7 @@ use Rattle.std.proofs.Common.{◌≡◌, ℕ, ◌+◌, ◌-◌, ◌*◌, ◌%◌
 use Rattle.std.proofs.Math.Nat.{mul-le-mul_right}
 use Rattle.std.proofs.lemmas.Bool.Decides.{nat_tests}
 use Rattle.std.specs.Prelude.{ℤ}
-use Rattle.dmix_client.specs.Ring.{stored, written_over}
+use Rattle.dmix_client.specs.Ring.{with_frames, written_over}
 use Rattle.dmix_client.specs.RingLaws.{stored-run}
 use Rattle.dmix_client.proofs.ring.store.Goals as goal
 
@@ -15,7 +15,7 @@ loop-done-preserved c =
     let fits : run ≤ c.args.buffer_size - c.slot_of-slot.result = grind (arith, nat_tests, c.min-run.ensures) in
     let within : done + run ≤ c.args.frames = omega (arith, few, c.loop-done.invariant.within) in
     let scaled : (done + run) * c.args.channels ≤ c.args.frames * c.args.channels = mul-le-mul_right c.args.channels within in
-    let before : List ℤ = stored c.args.buffer_size c.args.channels c.args.ring.now c.args.from c.args.samples.now done in
+    let before : List ℤ = with_frames c.args.buffer_size c.args.channels c.args.ring.now c.args.from c.args.samples.now done in
     let part : List ℤ = take (run * c.args.channels) (drop (done * c.args.channels) c.args.samples.now) in
     record {
       within = within;

@@ -3,7 +3,7 @@ use Rattle.snd_base.specs.declared.errors.PcmError.TheVariants.{BadState, NotSup
 use Rattle.pcm_states.specs.declared.calls.Call.TheVariants as call
 use Rattle.pcm_states.specs.declared.states.State.TheVariants.{Prepared, Setup}
 use Rattle.dsnoop_client.specs.declared.stream.CaptureStream.{CaptureStream}
-use Rattle.dsnoop_client.specs.Course.{admitted, avail_course, starts, sync_course}
+use Rattle.dsnoop_client.specs.Course.{if_admitted, avail_course, starts, sync_course}
 use Rattle.lab_script.specs.declared.line.Op.{Op}
 use Rattle.lab_script.specs.declared.line.Op.TheVariants as op
 use Rattle.lab_report.specs.declared.row.Answer.{Answer}
@@ -22,7 +22,7 @@ returns-in-Start-clause-called g c =
     let t = both c.start.new.port c.start.new.gate in
     let samples = c.args.samples.now.items in
     subst (λ (asked : Op). HasCalled P G s t c.args.reader.now c.start.new.self samples samples asked c.done.result) (sym c.in-Start.is)
-    (called-keeps P G g.met.P.SnoopPort.got_composes done_answer s t c.args.reader.now c.start.new.self samples op.Start (admitted c.args.reader.now call.Start (starts c.args.reader.now call.Start)) c.start.result c.done.result refl
+    (called-keeps P G g.met.P.SnoopPort.got_composes done_answer s t c.args.reader.now c.start.new.self samples op.Start (if_admitted c.args.reader.now call.Start (starts c.args.reader.now call.Start)) c.start.result c.done.result refl
     c.start.ensures.takes c.start.ensures.keeps c.done.ensures refl refl)
 
 pub returns-in-Sync-clause-called : goal.returns-in-Sync-clause-called
@@ -33,7 +33,7 @@ returns-in-Sync-clause-called g c =
     let t = both c.sync.new.port c.sync.new.gate in
     let samples = c.args.samples.now.items in
     subst (λ (asked : Op). HasCalled P G s t c.args.reader.now c.sync.new.self samples samples asked c.done-in-Sync.result) (sym c.in-Sync.is)
-    (called-keeps P G g.met.P.SnoopPort.got_composes done_answer s t c.args.reader.now c.sync.new.self samples op.Sync (admitted c.args.reader.now call.Sync (sync_course c.args.reader.now)) c.sync.result c.done-in-Sync.result refl
+    (called-keeps P G g.met.P.SnoopPort.got_composes done_answer s t c.args.reader.now c.sync.new.self samples op.Sync (if_admitted c.args.reader.now call.Sync (sync_course c.args.reader.now)) c.sync.result c.done-in-Sync.result refl
     c.sync.ensures.takes c.sync.ensures.keeps c.done-in-Sync.ensures refl refl)
 
 pub returns-in-Avail-clause-called : goal.returns-in-Avail-clause-called
@@ -44,7 +44,7 @@ returns-in-Avail-clause-called g c =
     let t = both c.avail_update.new.port c.avail_update.new.gate in
     let samples = c.args.samples.now.items in
     subst (λ (asked : Op). HasCalled P G s t c.args.reader.now c.avail_update.new.self samples samples asked c.counted.result) (sym c.in-Avail.is)
-    (called-keeps P G g.met.P.SnoopPort.got_composes count_answer s t c.args.reader.now c.avail_update.new.self samples op.Avail (admitted c.args.reader.now call.Sync (avail_course c.args.reader.now)) c.avail_update.result c.counted.result refl
+    (called-keeps P G g.met.P.SnoopPort.got_composes count_answer s t c.args.reader.now c.avail_update.new.self samples op.Avail (if_admitted c.args.reader.now call.Sync (avail_course c.args.reader.now)) c.avail_update.result c.counted.result refl
     c.avail_update.ensures.takes c.avail_update.ensures.keeps c.counted.ensures refl refl)
 
 pub returns-in-Drop-clause-called : goal.returns-in-Drop-clause-called
