@@ -2,9 +2,9 @@
 use Rattle.std.proofs.Common.{◌≡◌, ℕ, Bool, true, false, cond, ◌&&◌, ◌||◌, not, List, [], ◌∷◌, ◌++◌, Option, Some, None, Result, Ok, Err, refl, sym, ap, ap₂, ◌∙◌}
 use Rattle.asound_conf.specs.declared.error.ConfWhy.{ConfWhy}
 use Rattle.asound_conf.specs.declared.error.ConfWhy.TheVariants as why
-use Rattle.asound_conf.specs.Key.{Part, named}
-use Rattle.asound_conf.specs.Answer.{seen}
-use Rattle.asound_conf.specs.Place.{base, clashes, is_last, meets_text, met, node_at, placed, put}
+use Rattle.asound_conf.specs.Key.{Part, part_named}
+use Rattle.asound_conf.specs.Answer.{answer_view}
+use Rattle.asound_conf.specs.Place.{base, clashes, is_last, meets_text, met, node_at, put_or_clash, put}
 use Rattle.asound_conf.specs.Tree.{Tree, text, group, Entries, empty, get, group_in, has}
 use Rattle.asound_conf.specs.Tree as tree
 use Rattle.asound_conf.proofs.Places.{get-set, set-set}
@@ -46,7 +46,7 @@ met-set : (part : Part) (g : Entries) (old new : Tree) → met part g ≡ Some o
 met-set part g old new is = ap (λ b. cond b None (get part.name (tree.set part.name new g))) (meets part g old is).stays ∙ get-set part.name new g
 
 base-met : (part : Part) (g : Entries) (old : Tree) → met part g ≡ Some old → base part g ≡ g
-base-met part g old is = ap (λ b. cond b (tree.without part.name g) g) (meets part g old is).stays
+base-met part g old is = ap (λ b. cond b (tree.without_name part.name g) g) (meets part g old is).stays
 
 -- the group that the first part of a key meets on its way to another one
 record Under (part : Part) (parts : List Part) (g list : Entries) : Type 0 where
@@ -148,16 +148,16 @@ meets_text-below (first ∷ path) parts g list is =
     ∙ meets_text-last (path ++ parts) u.inner
     ∙ meets_text-below path parts u.inner list u.leads
 
-pub seen-cond : {X Y : Type 0} (f : X → Y) (b : Bool) (cause : ConfWhy) (x : X) → seen f (cond b (Err cause) (Ok x)) ≡ cond b (Err cause) (Ok (f x))
+pub seen-cond : {X Y : Type 0} (f : X → Y) (b : Bool) (cause : ConfWhy) (x : X) → answer_view f (cond b (Err cause) (Ok x)) ≡ cond b (Err cause) (Ok (f x))
 seen-cond f true cause x = refl
 seen-cond f false cause x = refl
 
-pub seen-seen : {X Y Z : Type 0} (f : Y → Z) (h : X → Y) (r : Result X ConfWhy) → seen f (seen h r) ≡ seen (λ x. f (h x)) r
+pub seen-seen : {X Y Z : Type 0} (f : Y → Z) (h : X → Y) (r : Result X ConfWhy) → answer_view f (answer_view h r) ≡ answer_view (λ x. f (h x)) r
 seen-seen f h (Ok x) = refl
 seen-seen f h (Err cause) = refl
 
 -- an item is put into the group at a place
-pub placed-below : (value : Option (List ℕ)) (path parts : List Part) (g list : Entries) → group_at path g ≡ Some list → is_last parts ≡ false → placed value (path ++ parts) g ≡ seen (λ h. with_group path h g) (placed value parts list)
+pub placed-below : (value : Option (List ℕ)) (path parts : List Part) (g list : Entries) → group_at path g ≡ Some list → is_last parts ≡ false → put_or_clash value (path ++ parts) g ≡ answer_view (λ h. with_group path h g) (put_or_clash value parts list)
 placed-below value path parts g list is some =
     ap₂ (λ m root. cond (clashes value m) (Err why.Kind) (Ok root)) (node_at-below path parts g list is some) (put-below value path parts g list is some)
     ∙ sym (seen-cond (λ h. with_group path h g) (clashes value (node_at parts list)) why.Kind (put value parts list))
@@ -165,7 +165,7 @@ placed-below value path parts g list is some =
 -- an item is put into the group that a part of its key, which isn't the last, meets once it has cleared its place
 placed-next : (value : Option (List ℕ)) (part : Part) (parts : List Part) (g cleared inner : Entries) → is_last parts ≡ false → group_in (met part g) ≡ inner
     → ((h : Entries) → tree.set part.name (group h) cleared ≡ tree.set part.name (group h) (base part g))
-    → placed value (part ∷ parts) g ≡ seen (λ h. tree.set part.name (group h) cleared) (placed value parts inner)
+    → put_or_clash value (part ∷ parts) g ≡ answer_view (λ h. tree.set part.name (group h) cleared) (put_or_clash value parts inner)
 placed-next value part parts g cleared inner some meets_it same =
     ap₂ (λ m root. cond (clashes value m) (Err why.Kind) (Ok root)) (node_at-further part parts g some ∙ ap (node_at parts) meets_it)
     (put-further value part parts g some ∙ ap (λ h. tree.set part.name (group (put value parts h)) (base part g)) meets_it ∙ sym (same (put value parts inner)))
@@ -174,18 +174,18 @@ placed-next value part parts g cleared inner some meets_it same =
 -- the same below the place of a group, of which the part that was met is then the last part of the way
 pub placed-down : (value : Option (List ℕ)) (path : List Part) (part : Part) (parts : List Part) (root g cleared inner : Entries) → group_at path root ≡ Some g → is_last parts ≡ false
     → group_in (met part g) ≡ inner → ((h : Entries) → tree.set part.name (group h) cleared ≡ tree.set part.name (group h) (base part g)) → get part.name cleared ≡ Some (group inner)
-    → placed value (path ++ part ∷ parts) root ≡ placed value ((path ++ named part.name ∷ []) ++ parts) (with_group path cleared root)
+    → put_or_clash value (path ++ part ∷ parts) root ≡ put_or_clash value ((path ++ part_named part.name ∷ []) ++ parts) (with_group path cleared root)
 placed-down value path part parts root g cleared inner at some meets_it same there =
     let more = with_group path cleared root in
     let nearer : group_at path more ≡ Some cleared = group_at-with_group path root g cleared at in
-    let next : group_at (path ++ named part.name ∷ []) more ≡ Some inner = group_at-below path (named part.name ∷ []) more cleared nearer ∙ ap (λ m. found_in (inner_group m) (group_at [])) there in
-    let set_there : (h : Entries) → with_group (path ++ named part.name ∷ []) h more ≡ with_group path (tree.set part.name (group h) cleared) root =
-    λ h. with_group-below path (named part.name ∷ []) more cleared h nearer ∙ with_group-with_group path root g (tree.set part.name (group h) cleared) cleared at in
+    let next : group_at (path ++ part_named part.name ∷ []) more ≡ Some inner = group_at-below path (part_named part.name ∷ []) more cleared nearer ∙ ap (λ m. found_in (inner_group m) (group_at [])) there in
+    let set_there : (h : Entries) → with_group (path ++ part_named part.name ∷ []) h more ≡ with_group path (tree.set part.name (group h) cleared) root =
+    λ h. with_group-below path (part_named part.name ∷ []) more cleared h nearer ∙ with_group-with_group path root g (tree.set part.name (group h) cleared) cleared at in
     placed-below value path (part ∷ parts) root g at refl
-    ∙ ap (seen (λ h. with_group path h root)) (placed-next value part parts g cleared inner some meets_it same)
-    ∙ seen-seen (λ h. with_group path h root) (λ h. tree.set part.name (group h) cleared) (placed value parts inner)
-    ∙ sym (placed-below value (path ++ named part.name ∷ []) parts more inner next some
-    ∙ seen-along (placed value parts inner) (λ h. with_group (path ++ named part.name ∷ []) h more) (λ h. with_group path (tree.set part.name (group h) cleared) root) set_there)
+    ∙ ap (answer_view (λ h. with_group path h root)) (placed-next value part parts g cleared inner some meets_it same)
+    ∙ seen-seen (λ h. with_group path h root) (λ h. tree.set part.name (group h) cleared) (put_or_clash value parts inner)
+    ∙ sym (placed-below value (path ++ part_named part.name ∷ []) parts more inner next some
+    ∙ seen-along (put_or_clash value parts inner) (λ h. with_group (path ++ part_named part.name ∷ []) h more) (λ h. with_group path (tree.set part.name (group h) cleared) root) set_there)
   where
     group_at-below : (path parts : List Part) (g list : Entries) → group_at path g ≡ Some list → group_at (path ++ parts) g ≡ group_at parts list
     group_at-below [] parts g list is = let same : g ≡ list = cc in ap (group_at parts) same
@@ -193,6 +193,6 @@ placed-down value path part parts root g cleared inner at some meets_it same the
         let u = under first path g list is in
         ap (λ m. found_in (inner_group m) (group_at (path ++ parts))) u.meets_it ∙ group_at-below path parts u.inner list u.leads
 
-    seen-along : (r : Result Entries ConfWhy) (f k : Entries → Entries) → ((h : Entries) → f h ≡ k h) → seen f r ≡ seen k r
+    seen-along : (r : Result Entries ConfWhy) (f k : Entries → Entries) → ((h : Entries) → f h ≡ k h) → answer_view f r ≡ answer_view k r
     seen-along (Ok x) f k same = ap Ok (same x)
     seen-along (Err cause) f k same = refl

@@ -16,7 +16,7 @@ use Rattle.asound_conf.specs.declared.cell.Content.{Content}
 use Rattle.asound_conf.specs.declared.cell.Content.TheVariants as contents
 use Rattle.asound_conf.specs.declared.cell.Cell.{Cell}
 use Rattle.asound_conf.specs.Rows.{Contents, Row, row_at, with_row}
-use Rattle.asound_conf.specs.Table.{HasBelow, IsIndexed, IsLink, IsTable, bucket_at, bucket_of, cell_at, content_of, contents_of, fits, is_live, name_in, new_row, no_cell, no_number, noted, parent_of, removed_row, row_of, span_in, value_in}
+use Rattle.asound_conf.specs.Table.{HasBelow, IsIndexed, IsLink, IsTable, bucket_at, bucket_of, cell_at, content_of, contents_of, fits, is_live, name_in, new_row, no_cell, no_number, content_with, parent_of, removed_row, row_of, span_in, value_in}
 use Rattle.asound_conf.proofs.Tables.{IsLink-along, IsNew, IsNoted, IsSame, IsTable-push, IsTable-set, cell_at-push, is_live-noted, row_at-map, row_is, rows-push, rows-set}
 
 -- numbers are the same where their decimal texts are
@@ -127,7 +127,7 @@ contents-added text cells more heads p name value n b e c g it =
 pub IsAdded-steps : (text : List ℕ) (cells more : List Cell) (heads : List ℕ) (p : ℕ) (name : Name) (value : Option Span) (n size b e : ℕ) (keyed : List ℕ) (content note : Content) (c c2 c3 g : Cell)
     → p < length cells → n ≡ length cells → n < no_number → size ≡ length heads → b < size → b ≡ bucket_of size p keyed → keyed ≡ name_in text name → content ≡ content_of value → e ≡ get_or heads b e
     → c ≡ record { parent = p; name = name; content = content; earlier = e } → more ≡ cells ++ c ∷ []
-    → c2 ≡ get_or more p c2 → note ≡ noted c2.content name → c3 ≡ get_or more p c3 → g ≡ record c3 { content = note }
+    → c2 ≡ get_or more p c2 → note ≡ content_with c2.content name → c3 ≡ get_or more p c3 → g ≡ record c3 { content = note }
     → IsAdded text cells more heads p name value n b e c g
 IsAdded-steps text cells more heads p name value n size b e keyed content note c c2 c3 g inside number room wide within bucket key content_is earlier made all read2 noted_is read3 made3 =
     let width : b < length heads = omega (arith, wide, within) in
@@ -138,8 +138,8 @@ IsAdded-steps text cells more heads p name value n size b e keyed content note c
     let group2 : c2 ≡ cell_at cells p = get_or_read more p c2 in_more read2 no_cell ∙ at_more in
     let group3 : c3 ≡ cell_at cells p = get_or_read more p c3 in_more read3 no_cell ∙ at_more in
     let at : cell_at cells p ≡ cell_at cells c.parent = ap (cell_at cells) (sym parent) in
-    let content_noted : g.content ≡ noted (cell_at cells c.parent).content c.name =
-    ap (λ (d : Cell). d.content) made3 ∙ noted_is ∙ ap (λ (d : Cell). noted d.content name) (group2 ∙ at) ∙ ap (noted (cell_at cells c.parent).content) (sym name_is) in
+    let content_noted : g.content ≡ content_with (cell_at cells c.parent).content c.name =
+    ap (λ (d : Cell). d.content) made3 ∙ noted_is ∙ ap (λ (d : Cell). content_with d.content name) (group2 ∙ at) ∙ ap (content_with (cell_at cells c.parent).content) (sym name_is) in
     record {
       new = record {
         room = omega (arith, room, number);

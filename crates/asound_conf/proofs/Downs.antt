@@ -6,9 +6,9 @@ use Rattle.asound_conf.specs.declared.cell.Span.{Span}
 use Rattle.asound_conf.specs.declared.error.ConfWhy.{ConfWhy}
 use Rattle.asound_conf.specs.declared.part.Part as code
 use Rattle.asound_conf.specs.Answer.{Leads, Refuses}
-use Rattle.asound_conf.specs.Key.{Part, named, settled}
+use Rattle.asound_conf.specs.Key.{Part, part_named, without_marks}
 use Rattle.asound_conf.specs.Parts.{part_in, parts_in, text_in}
-use Rattle.asound_conf.specs.Place.{base, is_last, meets_text, met, placed}
+use Rattle.asound_conf.specs.Place.{base, is_last, meets_text, met, put_or_clash}
 use Rattle.asound_conf.specs.Rows.{Contents, Row, Alters, IsAbsent, IsNode, group_of, node, row_at}
 use Rattle.asound_conf.specs.Table.{name_in}
 use Rattle.asound_conf.specs.Tree.{Tree, group, Entries, get, group_in, is_text}
@@ -34,21 +34,21 @@ is_last-some text (p ∷ parts) some = refl
 -- the last part
 pub here-placed : (d : code.Part) (r : Result ℕ ConfWhy) (first mid new : Contents) (q : ℕ) (parts : List code.Part) (value : Option Span) (path : List Part) → 1 ≤ length parts → length (take (length parts - 1) (drop 1 parts)) ≡ 0 → IsWay first.rows 0 path q
     → Alters q first.rows mid.rows → mid.text ≡ first.text → Alters q mid.rows new.rows → group_of q mid.rows ≡ base (part_in first.text (get_or parts 0 d)) (group_of q first.rows)
-    → Leads r (group_of q new.rows) (placed (text_in mid.text value) (named (name_in mid.text (get_or parts 0 d).name) ∷ []) (group_of q mid.rows))
-    → Leads r (group_of 0 new.rows) (placed (text_in first.text value) (path ++ parts_in first.text parts) (group_of 0 first.rows))
+    → Leads r (group_of q new.rows) (put_or_clash (text_in mid.text value) (part_named (name_in mid.text (get_or parts 0 d).name) ∷ []) (group_of q mid.rows))
+    → Leads r (group_of 0 new.rows) (put_or_clash (text_in first.text value) (path ++ parts_in first.text parts) (group_of 0 first.rows))
 here-placed d r first mid new q [] value path some none way clears same puts cleared leads = absurd (omega arith)
 here-placed d r first mid new q (p ∷ []) value path some none way clears same puts cleared leads =
     put-last r first.rows mid.rows new.rows q (part_in first.text p) (text_in first.text value) path way clears puts cleared
-    (subst (λ t. Leads r (group_of q new.rows) (placed (text_in t value) (named (name_in t p.name) ∷ []) (group_of q mid.rows))) same leads)
+    (subst (λ t. Leads r (group_of q new.rows) (put_or_clash (text_in t value) (part_named (name_in t p.name) ∷ []) (group_of q mid.rows))) same leads)
 here-placed d r first mid new q (p ∷ next ∷ parts) value path some none way clears same puts cleared leads =
     let rest : length (next ∷ parts) ≡ 0 = sym (ap length (rest-cons p (next ∷ parts))) ∙ none in
     absurd (omega arith)
 
 pub here-way : (d : code.Part) (r : Result ℕ ConfWhy) (first mid new : Contents) (q : ℕ) (parts : List code.Part) (W : Type 0) (path : List Part) → 1 ≤ length parts → length (take (length parts - 1) (drop 1 parts)) ≡ 0 → IsWay first.rows 0 path q
-    → Alters q first.rows new.rows → mid.text ≡ first.text → IfOk r (λ n. W → IsStep new.rows q (named (name_in mid.text (get_or parts 0 d).name)) n) → IfOk r (λ n. W → IsWay new.rows 0 (path ++ settled (parts_in first.text parts)) n)
+    → Alters q first.rows new.rows → mid.text ≡ first.text → IfOk r (λ n. W → IsStep new.rows q (part_named (name_in mid.text (get_or parts 0 d).name)) n) → IfOk r (λ n. W → IsWay new.rows 0 (path ++ without_marks (parts_in first.text parts)) n)
 here-way d r first mid new q [] W path some none way alters same step = absurd (omega arith)
 here-way d r first mid new q (p ∷ []) W path some none way alters same step =
-    put-last-way r first.rows new.rows q (part_in first.text p) W path way alters (subst (λ t. IfOk r (λ n. W → IsStep new.rows q (named (name_in t p.name)) n)) same step)
+    put-last-way r first.rows new.rows q (part_in first.text p) W path way alters (subst (λ t. IfOk r (λ n. W → IsStep new.rows q (part_named (name_in t p.name)) n)) same step)
 here-way d r first mid new q (p ∷ next ∷ parts) W path some none way alters same step =
     let rest : length (next ∷ parts) ≡ 0 = sym (ap length (rest-cons p (next ∷ parts))) ∙ none in
     absurd (omega arith)
@@ -70,16 +70,16 @@ pub record IsDown (first mid : Contents) (q n : ℕ) (parts : List code.Part) : 
   pub more : 1 ≤ length rest
   pub same : mid.text ≡ first.text
   pub alters : Alters q first.rows mid.rows
-  pub step : IsStep mid.rows q (named (name_in first.text part.name)) n
+  pub step : IsStep mid.rows q (part_named (name_in first.text part.name)) n
   pub leads : IsLed first.rows mid.rows q (part_in first.text part) n
 
 pub is_down : (d : code.Part) (first cleared mid : Contents) (q n : ℕ) (parts : List code.Part) → 1 ≤ length parts → 1 ≤ length (take (length parts - 1) (drop 1 parts)) → Alters q first.rows cleared.rows → cleared.text ≡ first.text → group_of q cleared.rows ≡ base (part_in first.text (get_or parts 0 d)) (group_of q first.rows)
-    → Alters q cleared.rows mid.rows → mid.text ≡ cleared.text → placed None (named (name_in cleared.text (get_or parts 0 d).name) ∷ []) (group_of q cleared.rows) ≡ Ok (group_of q mid.rows)
-    → IsStep mid.rows q (named (name_in cleared.text (get_or parts 0 d).name)) n → IsDown first mid q n parts
+    → Alters q cleared.rows mid.rows → mid.text ≡ cleared.text → put_or_clash None (part_named (name_in cleared.text (get_or parts 0 d).name) ∷ []) (group_of q cleared.rows) ≡ Ok (group_of q mid.rows)
+    → IsStep mid.rows q (part_named (name_in cleared.text (get_or parts 0 d).name)) n → IsDown first mid q n parts
 is_down d first cleared mid q n [] some more clears same is puts also put_it step = absurd (omega arith)
 is_down d first cleared mid q n (p ∷ parts) some more clears same is puts also put_it step =
-    let step_there : IsStep mid.rows q (named (name_in first.text p.name)) n = subst (λ t. IsStep mid.rows q (named (name_in t p.name)) n) same step in
-    let put_there : placed None (named (name_in first.text p.name) ∷ []) (group_of q cleared.rows) ≡ Ok (group_of q mid.rows) = subst (λ t. placed None (named (name_in t p.name) ∷ []) (group_of q cleared.rows) ≡ Ok (group_of q mid.rows)) same put_it in
+    let step_there : IsStep mid.rows q (part_named (name_in first.text p.name)) n = subst (λ t. IsStep mid.rows q (part_named (name_in t p.name)) n) same step in
+    let put_there : put_or_clash None (part_named (name_in first.text p.name) ∷ []) (group_of q cleared.rows) ≡ Ok (group_of q mid.rows) = subst (λ t. put_or_clash None (part_named (name_in t p.name) ∷ []) (group_of q cleared.rows) ≡ Ok (group_of q mid.rows)) same put_it in
     record {
       part = p;
       rest = parts;
@@ -102,28 +102,28 @@ pub down-some : (first mid : Contents) (q n : ℕ) (parts : List code.Part) → 
 down-some first mid q n parts down = subst (λ (ps : List code.Part). 1 ≤ length ps) (sym down.rest_is) down.more
 
 pub down-placed : (r : Result ℕ ConfWhy) (first mid new : Contents) (q n : ℕ) (parts : List code.Part) (value : Option Span) (path : List Part) → IsDown first mid q n parts → IsWay first.rows 0 path q
-    → ((way : List Part) → IsWay mid.rows 0 way n → Leads r (group_of 0 new.rows) (placed (text_in mid.text value) (way ++ parts_in mid.text (take (length parts - 1) (drop 1 parts))) (group_of 0 mid.rows)))
-    → Leads r (group_of 0 new.rows) (placed (text_in first.text value) (path ++ parts_in first.text parts) (group_of 0 first.rows))
+    → ((way : List Part) → IsWay mid.rows 0 way n → Leads r (group_of 0 new.rows) (put_or_clash (text_in mid.text value) (way ++ parts_in mid.text (take (length parts - 1) (drop 1 parts))) (group_of 0 mid.rows)))
+    → Leads r (group_of 0 new.rows) (put_or_clash (text_in first.text value) (path ++ parts_in first.text parts) (group_of 0 first.rows))
 down-placed r first mid new q n parts value path down way more =
     let part = part_in first.text down.part in
-    let next = path ++ named part.name ∷ [] in
-    let way_there : IsWay mid.rows 0 next n = IsWay-more mid.rows 0 path q (named part.name) n (IsWay-kept q first.rows mid.rows 0 path q down.alters (omega arith) way) down.step in
-    let leads = subst (λ (ps : List code.Part). Leads r (group_of 0 new.rows) (placed (text_in first.text value) (next ++ parts_in first.text ps) (group_of 0 mid.rows))) down.rest_is
-    (subst (λ (t : List ℕ). Leads r (group_of 0 new.rows) (placed (text_in t value) (next ++ parts_in t (take (length parts - 1) (drop 1 parts))) (group_of 0 mid.rows))) down.same (more next way_there)) in
-    subst (λ (ps : List code.Part). Leads r (group_of 0 new.rows) (placed (text_in first.text value) (path ++ parts_in first.text ps) (group_of 0 first.rows))) (sym down.whole)
+    let next = path ++ part_named part.name ∷ [] in
+    let way_there : IsWay mid.rows 0 next n = IsWay-more mid.rows 0 path q (part_named part.name) n (IsWay-kept q first.rows mid.rows 0 path q down.alters (omega arith) way) down.step in
+    let leads = subst (λ (ps : List code.Part). Leads r (group_of 0 new.rows) (put_or_clash (text_in first.text value) (next ++ parts_in first.text ps) (group_of 0 mid.rows))) down.rest_is
+    (subst (λ (t : List ℕ). Leads r (group_of 0 new.rows) (put_or_clash (text_in t value) (next ++ parts_in t (take (length parts - 1) (drop 1 parts))) (group_of 0 mid.rows))) down.same (more next way_there)) in
+    subst (λ (ps : List code.Part). Leads r (group_of 0 new.rows) (put_or_clash (text_in first.text value) (path ++ parts_in first.text ps) (group_of 0 first.rows))) (sym down.whole)
     (put-down r first.rows mid.rows new.rows q n part (parts_in first.text down.rest) (text_in first.text value) path way down.alters (is_last-some first.text down.rest down.more) down.leads leads)
 
 pub down-way : (r : Result ℕ ConfWhy) (first mid new : Contents) (q n : ℕ) (parts : List code.Part) (W : Type 0) (path : List Part) → IsDown first mid q n parts → IsWay first.rows 0 path q
-    → ((way : List Part) → IsWay mid.rows 0 way n → IfOk r (λ m. W → IsWay new.rows 0 (way ++ settled (parts_in mid.text (take (length parts - 1) (drop 1 parts)))) m))
-    → IfOk r (λ m. W → IsWay new.rows 0 (path ++ settled (parts_in first.text parts)) m)
+    → ((way : List Part) → IsWay mid.rows 0 way n → IfOk r (λ m. W → IsWay new.rows 0 (way ++ without_marks (parts_in mid.text (take (length parts - 1) (drop 1 parts)))) m))
+    → IfOk r (λ m. W → IsWay new.rows 0 (path ++ without_marks (parts_in first.text parts)) m)
 down-way r first mid new q n parts W path down way more =
     let part = part_in first.text down.part in
-    let next = path ++ named part.name ∷ [] in
-    let way_there : IsWay mid.rows 0 next n = IsWay-more mid.rows 0 path q (named part.name) n (IsWay-kept q first.rows mid.rows 0 path q down.alters (omega arith) way) down.step in
-    let ways : next ++ settled (parts_in mid.text (take (length parts - 1) (drop 1 parts))) ≡ path ++ settled (parts_in first.text parts) =
-    ap₂ (λ (t : List ℕ) (ps : List code.Part). next ++ settled (parts_in t ps)) down.same down.rest_is
-    ∙ append_assoc path (named part.name ∷ []) (settled (parts_in first.text down.rest))
-    ∙ ap (λ (ps : List code.Part). path ++ settled (parts_in first.text ps)) (sym down.whole) in
+    let next = path ++ part_named part.name ∷ [] in
+    let way_there : IsWay mid.rows 0 next n = IsWay-more mid.rows 0 path q (part_named part.name) n (IsWay-kept q first.rows mid.rows 0 path q down.alters (omega arith) way) down.step in
+    let ways : next ++ without_marks (parts_in mid.text (take (length parts - 1) (drop 1 parts))) ≡ path ++ without_marks (parts_in first.text parts) =
+    ap₂ (λ (t : List ℕ) (ps : List code.Part). next ++ without_marks (parts_in t ps)) down.same down.rest_is
+    ∙ append_assoc path (part_named part.name ∷ []) (without_marks (parts_in first.text down.rest))
+    ∙ ap (λ (ps : List code.Part). path ++ without_marks (parts_in first.text ps)) (sym down.whole) in
     subst (λ (w : List Part). IfOk r (λ m. W → IsWay new.rows 0 w m)) ways (more next way_there)
 
 pub down-kept : (first mid new : Contents) (q n : ℕ) (parts : List code.Part) → IsDown first mid q n parts → ((way : List Part) (last : ℕ) → last ≤ n → IsWay mid.rows 0 way last → IsWay new.rows 0 way last)
@@ -134,11 +134,11 @@ down-kept first mid new q n parts down more path last low way =
 
 -- a part that isn't the last is refused by want of memory alone
 pub down-refused : {X : Type 0} (d : code.Part) (cause : ConfWhy) (first cleared : Contents) (q : ℕ) (parts : List code.Part) (given : Result X ConfWhy) → 1 ≤ length parts → 1 ≤ length (take (length parts - 1) (drop 1 parts)) → cleared.text ≡ first.text → group_of q cleared.rows ≡ base (part_in first.text (get_or parts 0 d)) (group_of q first.rows)
-    → meets_text (parts_in first.text parts) (group_of q first.rows) ≡ false → Refuses cause (placed None (named (name_in cleared.text (get_or parts 0 d).name) ∷ []) (group_of q cleared.rows)) → Refuses cause given
+    → meets_text (parts_in first.text parts) (group_of q first.rows) ≡ false → Refuses cause (put_or_clash None (part_named (name_in cleared.text (get_or parts 0 d).name) ∷ []) (group_of q cleared.rows)) → Refuses cause given
 down-refused d cause first cleared q [] given some more same is clear refuses = absurd (omega arith)
 down-refused d cause first cleared q (p ∷ parts) given some more same is clear refuses =
     put-refused cause (part_in first.text p) (parts_in first.text parts) (group_of q first.rows) (group_of q cleared.rows) given (is_last-some first.text parts (subst (λ (ps : List code.Part). 1 ≤ length ps) (rest-cons p parts) more)) clear is
-    (subst (λ (t : List ℕ). Refuses cause (placed None (named (name_in t p.name) ∷ []) (group_of q cleared.rows))) same refuses)
+    (subst (λ (t : List ℕ). Refuses cause (put_or_clash None (part_named (name_in t p.name) ∷ []) (group_of q cleared.rows))) same refuses)
 
 -- the texts that parts before the last meet
 pub meets-last : (text : List ℕ) (parts : List code.Part) (g : Entries) → 1 ≤ length parts → length (take (length parts - 1) (drop 1 parts)) ≡ 0 → meets_text (parts_in text parts) g ≡ false

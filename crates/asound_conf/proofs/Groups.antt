@@ -3,7 +3,7 @@ use Rattle.std.proofs.Common.{◌≡◌, ℕ, zero, suc, ◌+◌, ◌<◌, ◌�
 use Rattle.std.proofs.Common as common
 use Rattle.std.specs.Str.{bytes_eq}
 use Rattle.std.proofs.lemmas.List.{get_or-drop, length-drop, drop-drop, drop-append-le, drop-set-add, drop_all}
-use Rattle.asound_conf.specs.Tree.{Tree, text, group, Entries, empty, has, get, without}
+use Rattle.asound_conf.specs.Tree.{Tree, text, group, Entries, empty, has, get, without_name}
 use Rattle.asound_conf.specs.Tree as tree
 use Rattle.asound_conf.specs.Rows.{Row, Alters, IsAbsent, IsNode, IsOnlyIn, group_of, is_in, no_row, node, row_at, within}
 use Rattle.asound_conf.proofs.Places.{get-none}
@@ -77,9 +77,9 @@ group-set rows q name n s t is parent same value =
     ∙ within-set q name n (suc q) (n - suc q) s t (drop (suc q) rows) (at-IsNode rows q name n is) (omega arith) parent (same ∙ sym (ap (λ (r : Row). r.name) (row-after rows q n low))) value
 
 -- a row that is taken out
-pub group-removed : (rows : List Row) (q : ℕ) (name : List ℕ) (n : ℕ) (s : Row) → IsNode rows q name n → s.parent ≡ None → without name (group_of q (common.set rows n s)) ≡ without name (group_of q rows)
+pub group-removed : (rows : List Row) (q : ℕ) (name : List ℕ) (n : ℕ) (s : Row) → IsNode rows q name n → s.parent ≡ None → without_name name (group_of q (common.set rows n s)) ≡ without_name name (group_of q rows)
 group-removed rows q name n s is parent =
-    ap (λ (rs : List Row). without name (within q (suc q) rs)) (set-after rows q n s is.falls)
+    ap (λ (rs : List Row). without_name name (within q (suc q) rs)) (set-after rows q n s is.falls)
     ∙ without-removed q name n (suc q) (n - suc q) s (drop (suc q) rows) (at-IsNode rows q name n is) (omega arith) parent
 
 alters-drop : (q n : ℕ) (old new : List Row) → Alters q old new → Alters q (drop n old) (drop n new)

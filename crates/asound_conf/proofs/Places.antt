@@ -2,18 +2,18 @@
 use Rattle.std.proofs.Common.{◌≡◌, ℕ, Bool, true, false, cond, ◌||◌, List, Some, None, refl, ap}
 use Rattle.std.specs.Str.{bytes_eq}
 use Rattle.std.proofs.lemmas.Slice.Eq.{bytes_eq-Decides}
-use Rattle.asound_conf.specs.Tree.{Tree, group, text, Entries, empty, entry, has, get, without}
+use Rattle.asound_conf.specs.Tree.{Tree, group, text, Entries, empty, entry, has, get, without_name}
 use Rattle.asound_conf.specs.Tree as tree
 
 -- the place where a name is found from the end
 -- a name that is somewhere behind an item
 -- what is left of a group without the last of a name
 -- a group without a name that it hasn't
-pub without-none : (name : List ℕ) (g : Entries) → has name g ≡ false → without name g ≡ g
+pub without-none : (name : List ℕ) (g : Entries) → has name g ≡ false → without_name name g ≡ g
 without-none name empty none = refl
 without-none name (entry other tree rest) none = without-entry name other tree rest (bytes_eq other name) refl none (without-none name rest)
   where
-    without-entry : (name other : List ℕ) (tree : Tree) (rest : Entries) (b : Bool) → bytes_eq other name ≡ b → (b || has name rest) ≡ false → (has name rest ≡ false → without name rest ≡ rest) → cond b (without name rest) (entry other tree (without name rest)) ≡ entry other tree rest
+    without-entry : (name other : List ℕ) (tree : Tree) (rest : Entries) (b : Bool) → bytes_eq other name ≡ b → (b || has name rest) ≡ false → (has name rest ≡ false → without_name name rest ≡ rest) → cond b (without_name name rest) (entry other tree (without_name name rest)) ≡ entry other tree rest
     without-entry name other tree rest true is none later = cc
     without-entry name other tree rest false is none later = ap (entry other tree) (later none)
 
@@ -48,11 +48,11 @@ has-set name new (entry other old rest) = set-entry name other new old rest (byt
     set-entry name other new old rest false false is same later = rw later (or-true (bytes_eq other name))
 
 -- a group without a name hasn't it
-pub has-without : (name : List ℕ) (g : Entries) → has name (without name g) ≡ false
+pub has-without : (name : List ℕ) (g : Entries) → has name (without_name name g) ≡ false
 has-without name empty = refl
 has-without name (entry other old rest) = without-entry name other old rest (bytes_eq other name) refl (has-without name rest)
   where
-    without-entry : (name other : List ℕ) (old : Tree) (rest : Entries) (b : Bool) → bytes_eq other name ≡ b → has name (without name rest) ≡ false → has name (cond b (without name rest) (entry other old (without name rest))) ≡ false
+    without-entry : (name other : List ℕ) (old : Tree) (rest : Entries) (b : Bool) → bytes_eq other name ≡ b → has name (without_name name rest) ≡ false → has name (cond b (without_name name rest) (entry other old (without_name name rest))) ≡ false
     without-entry name other old rest true is later = later
     without-entry name other old rest false is later = rw (is, later) refl
 

@@ -3,11 +3,11 @@ use Rattle.std.proofs.Common.{◌≡◌, ℕ, ◌<◌, Bool, true, false, cond, 
 use Rattle.std.proofs.lemmas.List.{get_or_past}
 use Rattle.asound_conf.specs.declared.error.ConfWhy.{ConfWhy}
 use Rattle.asound_conf.specs.declared.error.ConfWhy.TheVariants as why
-use Rattle.asound_conf.specs.Answer.{Leads, Refuses, seen}
-use Rattle.asound_conf.specs.Key.{Part, named, settled}
-use Rattle.asound_conf.specs.Place.{base, clashes, is_last, meets_text, met, placed, put, put_there, node_at}
+use Rattle.asound_conf.specs.Answer.{Leads, Refuses, answer_view}
+use Rattle.asound_conf.specs.Key.{Part, part_named, without_marks}
+use Rattle.asound_conf.specs.Place.{base, clashes, is_last, meets_text, met, put_or_clash, put, put_there, node_at}
 use Rattle.asound_conf.specs.Rows.{Contents, Row, Alters, IsAbsent, IsNode, group_of, no_row, node, row_at, with_row}
-use Rattle.asound_conf.specs.Tree.{Tree, text, group, Entries, empty, get, group_in, is_text, without}
+use Rattle.asound_conf.specs.Tree.{Tree, text, group, Entries, empty, get, group_in, is_text, without_name}
 use Rattle.asound_conf.specs.Tree as tree
 use Rattle.asound_conf.specs.Way.{IsStep, IsWay}
 use Rattle.asound_conf.proofs.Below.{placed-below, placed-down, with_group}
@@ -20,32 +20,32 @@ use Rattle.asound_conf.proofs.Ways.{IsWay-kept, IsWay-more, group_at-IsWay, met-
 pub get-base : (part : Part) (g : Entries) → get part.name (base part g) ≡ met part g
 get-base part g = base-get part.name g part.removes
   where
-    base-get : (name : List ℕ) (g : Entries) (removes : Bool) → get name (cond removes (without name g) g) ≡ cond removes None (get name g)
-    base-get name g true = get-none name (without name g) (has-without name g)
+    base-get : (name : List ℕ) (g : Entries) (removes : Bool) → get name (cond removes (without_name name g) g) ≡ cond removes None (get name g)
+    base-get name g true = get-none name (without_name name g) (has-without name g)
     base-get name g false = refl
 
 -- what is put under a name
-placed-one : (value : Option (List ℕ)) (name : List ℕ) (g : Entries) → placed value (named name ∷ []) g ≡ cond (clashes value (get name g)) (Err why.Kind) (Ok (tree.set name (put_there value (get name g)) g))
+placed-one : (value : Option (List ℕ)) (name : List ℕ) (g : Entries) → put_or_clash value (part_named name ∷ []) g ≡ cond (clashes value (get name g)) (Err why.Kind) (Ok (tree.set name (put_there value (get name g)) g))
 unfolding node_at put
 placed-one value name g = refl
 
-placed-last : (value : Option (List ℕ)) (part : Part) (g : Entries) → placed value (part ∷ []) g ≡ cond (clashes value (met part g)) (Err why.Kind) (Ok (tree.set part.name (put_there value (met part g)) (base part g)))
+placed-last : (value : Option (List ℕ)) (part : Part) (g : Entries) → put_or_clash value (part ∷ []) g ≡ cond (clashes value (met part g)) (Err why.Kind) (Ok (tree.set part.name (put_there value (met part g)) (base part g)))
 unfolding node_at put
 placed-last value part g = refl
 
 -- what the last part of a key puts once it has cleared its group
-placed-base : (value : Option (List ℕ)) (part : Part) (g : Entries) → placed value (part ∷ []) g ≡ placed value (named part.name ∷ []) (base part g)
+placed-base : (value : Option (List ℕ)) (part : Part) (g : Entries) → put_or_clash value (part ∷ []) g ≡ put_or_clash value (part_named part.name ∷ []) (base part g)
 placed-base value part g =
     placed-last value part g
     ∙ ap (λ m. cond (clashes value m) (Err why.Kind) (Ok (tree.set part.name (put_there value m) (base part g)))) (sym (get-base part g))
     ∙ sym (placed-one value part.name (base part g))
 
 -- what is put under a name that a group hasn't, or has
-placed-new : (value : Option (List ℕ)) (name : List ℕ) (g : Entries) → get name g ≡ None → placed value (named name ∷ []) g ≡ Ok (tree.set name (node value empty) g)
+placed-new : (value : Option (List ℕ)) (name : List ℕ) (g : Entries) → get name g ≡ None → put_or_clash value (part_named name ∷ []) g ≡ Ok (tree.set name (node value empty) g)
 placed-new (Some t) name g none = placed-one (Some t) name g ∙ ap (λ m. cond (clashes (Some t) m) (Err why.Kind) (Ok (tree.set name (put_there (Some t) m) g))) none
 placed-new None name g none = placed-one None name g ∙ ap (λ m. cond (clashes None m) (Err why.Kind) (Ok (tree.set name (put_there None m) g))) none
 
-placed-old : (value : Option (List ℕ)) (name : List ℕ) (g : Entries) (old : Tree) → get name g ≡ Some old → placed value (named name ∷ []) g ≡ cond (clashes value (Some old)) (Err why.Kind) (Ok (tree.set name (put_there value (Some old)) g))
+placed-old : (value : Option (List ℕ)) (name : List ℕ) (g : Entries) (old : Tree) → get name g ≡ Some old → put_or_clash value (part_named name ∷ []) g ≡ cond (clashes value (Some old)) (Err why.Kind) (Ok (tree.set name (put_there value (Some old)) g))
 placed-old value name g old is = placed-one value name g ∙ ap (λ m. cond (clashes value m) (Err why.Kind) (Ok (tree.set name (put_there value m) g))) is
 
 -- the value of a row that is a group, or a text
@@ -54,33 +54,33 @@ is_none-true None is = refl
 is_none-true (Some x) is = cc
 
 -- a text where a group is
-pub text-Kind : (rows : List Row) (q : ℕ) (name : List ℕ) (n : ℕ) (t : List ℕ) → IsNode rows q name n → is_none (row_at rows n).value ≡ true → placed (Some t) (named name ∷ []) (group_of q rows) ≡ Err why.Kind
+pub text-Kind : (rows : List Row) (q : ℕ) (name : List ℕ) (n : ℕ) (t : List ℕ) → IsNode rows q name n → is_none (row_at rows n).value ≡ true → put_or_clash (Some t) (part_named name ∷ []) (group_of q rows) ≡ Err why.Kind
 text-Kind rows q name n t is is_group =
     let there : get name (group_of q rows) ≡ Some (group (group_of n rows)) = get-IsNode rows q name n is ∙ ap (λ v. Some (node v (group_of n rows))) (is_none-true (row_at rows n).value is_group) in
     placed-old (Some t) name (group_of q rows) (group (group_of n rows)) there
 
 -- a text where a text is
 pub text-set : (rows new : List Row) (q : ℕ) (name : List ℕ) (n : ℕ) (t : List ℕ) → IsNode rows q name n → is_none (row_at rows n).value ≡ false → new ≡ set rows n (record { parent = (row_at rows n).parent; name = (row_at rows n).name; value = Some t })
-    → placed (Some t) (named name ∷ []) (group_of q rows) ≡ Ok (group_of q new)
+    → put_or_clash (Some t) (part_named name ∷ []) (group_of q rows) ≡ Ok (group_of q new)
 text-set rows new q name n t is is_text new_is = by_value (row_at rows n).value is_text (get-IsNode rows q name n is)
   where
-    by_value : (v : Option (List ℕ)) → is_none v ≡ false → get name (group_of q rows) ≡ Some (node v (group_of n rows)) → placed (Some t) (named name ∷ []) (group_of q rows) ≡ Ok (group_of q new)
+    by_value : (v : Option (List ℕ)) → is_none v ≡ false → get name (group_of q rows) ≡ Some (node v (group_of n rows)) → put_or_clash (Some t) (part_named name ∷ []) (group_of q rows) ≡ Ok (group_of q new)
     by_value None is_text there = cc
     by_value (Some old) is_text there =
         placed-old (Some t) name (group_of q rows) (text old) there
         ∙ sym (ap (λ rs. Ok (group_of q rs)) new_is ∙ ap Ok (group-set rows q name n (record { parent = (row_at rows n).parent; name = (row_at rows n).name; value = Some t }) t is is.parent refl refl))
 
 -- a group where a group is
-pub group-same : (rows : List Row) (q : ℕ) (name : List ℕ) (n : ℕ) → IsNode rows q name n → is_none (row_at rows n).value ≡ true → placed None (named name ∷ []) (group_of q rows) ≡ Ok (group_of q rows)
+pub group-same : (rows : List Row) (q : ℕ) (name : List ℕ) (n : ℕ) → IsNode rows q name n → is_none (row_at rows n).value ≡ true → put_or_clash None (part_named name ∷ []) (group_of q rows) ≡ Ok (group_of q rows)
 group-same rows q name n is is_group =
     let there : get name (group_of q rows) ≡ Some (group (group_of n rows)) = get-IsNode rows q name n is ∙ ap (λ v. Some (node v (group_of n rows))) (is_none-true (row_at rows n).value is_group) in
     placed-old None name (group_of q rows) (group (group_of n rows)) there ∙ ap Ok (set-get name (group (group_of n rows)) (group_of q rows) there)
 
 -- a group where a text is
-pub group-Kind : (rows : List Row) (q : ℕ) (name : List ℕ) (n : ℕ) → IsNode rows q name n → is_none (row_at rows n).value ≡ false → placed None (named name ∷ []) (group_of q rows) ≡ Err why.Kind
+pub group-Kind : (rows : List Row) (q : ℕ) (name : List ℕ) (n : ℕ) → IsNode rows q name n → is_none (row_at rows n).value ≡ false → put_or_clash None (part_named name ∷ []) (group_of q rows) ≡ Err why.Kind
 group-Kind rows q name n is is_text = by_value (row_at rows n).value is_text (get-IsNode rows q name n is)
   where
-    by_value : (v : Option (List ℕ)) → is_none v ≡ false → get name (group_of q rows) ≡ Some (node v (group_of n rows)) → placed None (named name ∷ []) (group_of q rows) ≡ Err why.Kind
+    by_value : (v : Option (List ℕ)) → is_none v ≡ false → get name (group_of q rows) ≡ Some (node v (group_of n rows)) → put_or_clash None (part_named name ∷ []) (group_of q rows) ≡ Err why.Kind
     by_value None is_text there = cc
     by_value (Some old) is_text there = placed-old None name (group_of q rows) (text old) there
 
@@ -90,12 +90,12 @@ new_row q name value = record { parent = Some q; name = name; value = value }
 
 -- what adds a row for a name that isn't there, unless memory runs out
 pub push-Leads : (r : Result ℕ ConfWhy) (q : ℕ) (name : List ℕ) (value : Option (List ℕ)) (old new : Contents) → IsAbsent old.rows q name → q < length old.rows → OnOk r (new ≡ with_row (new_row q name value) old) → IfErr r (λ w. w ≡ why.Memory)
-    → Leads r (group_of q new.rows) (placed value (named name ∷ []) (group_of q old.rows))
+    → Leads r (group_of q new.rows) (put_or_clash value (part_named name ∷ []) (group_of q old.rows))
 push-Leads (Ok n) q name value old new none inside pushed memory =
     placed-new value name (group_of q old.rows) (get-IsAbsent old.rows q name none)
     ∙ ap Ok (sym (group-push old.rows q (new_row q name value) inside refl (has-IsAbsent old.rows q name none)))
     ∙ ap (λ (c : Contents). Ok (group_of q c.rows)) (sym pushed)
-push-Leads (Err cause) q name value old new none inside pushed memory = subst (λ w. Refuses w (placed value (named name ∷ []) (group_of q old.rows))) (sym memory) tt
+push-Leads (Err cause) q name value old new none inside pushed memory = subst (λ w. Refuses w (put_or_clash value (part_named name ∷ []) (group_of q old.rows))) (sym memory) tt
 
 pub push-text : (r : Result ℕ ConfWhy) (q : ℕ) (name : List ℕ) (value : Option (List ℕ)) (old new : Contents) → OnOk r (new ≡ with_row (new_row q name value) old) → OnErr r (new ≡ old) → new.text ≡ old.text
 push-text (Ok n) q name value old new pushed kept = ap (λ (c : Contents). c.text) pushed
@@ -124,9 +124,9 @@ IsNode-push q name value rows inside =
     past : (rows : List Row) (j : ℕ) → length rows < j → row_at (rows ++ new_row q name value ∷ []) j ≡ no_row
     past rows j later = get_or_past (rows ++ new_row q name value ∷ []) j no_row (omega (arith, length-append rows (new_row q name value ∷ [])))
 
-pub IsStep-push : (r : Result ℕ ConfWhy) (q : ℕ) (name : List ℕ) (old new : Contents) → q < length old.rows → OnOk r (new ≡ with_row (new_row q name None) old) → IfOk r (λ n. n ≡ length old.rows) → IfOk r (λ n. IsStep new.rows q (named name) n)
+pub IsStep-push : (r : Result ℕ ConfWhy) (q : ℕ) (name : List ℕ) (old new : Contents) → q < length old.rows → OnOk r (new ≡ with_row (new_row q name None) old) → IfOk r (λ n. n ≡ length old.rows) → IfOk r (λ n. IsStep new.rows q (part_named name) n)
 IsStep-push (Ok n) q name old new inside pushed number =
-    subst (λ (c : Contents). IsStep c.rows q (named name) n) (sym pushed) (subst (λ m. IsStep (old.rows ++ new_row q name None ∷ []) q (named name) m) (sym number)
+    subst (λ (c : Contents). IsStep c.rows q (part_named name) n) (sym pushed) (subst (λ m. IsStep (old.rows ++ new_row q name None ∷ []) q (part_named name) m) (sym number)
     (record { stays = refl; is_node = IsNode-push q name None old.rows inside; is_group = ap (λ (r : Row). r.value) (at-length old.rows) }))
   where
     at-length : (rows : List Row) → row_at (rows ++ new_row q name None ∷ []) (length rows) ≡ new_row q name None
@@ -134,35 +134,35 @@ IsStep-push (Ok n) q name old new inside pushed number =
     at-length (r ∷ rows) = at-length rows
 IsStep-push (Err cause) q name old new inside pushed number = tt
 
-pub IsStep-IsNode : (rows : List Row) (q : ℕ) (name : List ℕ) (n : ℕ) → IsNode rows q name n → is_none (row_at rows n).value ≡ true → IsStep rows q (named name) n
+pub IsStep-IsNode : (rows : List Row) (q : ℕ) (name : List ℕ) (n : ℕ) → IsNode rows q name n → is_none (row_at rows n).value ≡ true → IsStep rows q (part_named name) n
 IsStep-IsNode rows q name n is is_group = record { stays = refl; is_node = is; is_group = is_none-true (row_at rows n).value is_group }
 
 -- an answer that was made of another one
-pub Leads-seen : {X S T : Type 0} (r : Result X ConfWhy) (new : S) (f : S → T) (given : Result S ConfWhy) → Leads r new given → Leads r (f new) (seen f given)
-Leads-seen (Ok x) new f given leads = ap (seen f) leads
+pub Leads-seen : {X S T : Type 0} (r : Result X ConfWhy) (new : S) (f : S → T) (given : Result S ConfWhy) → Leads r new given → Leads r (f new) (answer_view f given)
+Leads-seen (Ok x) new f given leads = ap (answer_view f) leads
 Leads-seen (Err cause) new f given leads = refused cause f given leads
   where
-    refused : {S T : Type 0} (cause : ConfWhy) (f : S → T) (given : Result S ConfWhy) → Refuses cause given → Refuses cause (seen f given)
+    refused : {S T : Type 0} (cause : ConfWhy) (f : S → T) (given : Result S ConfWhy) → Refuses cause given → Refuses cause (answer_view f given)
     refused why.Memory f given refuses = tt
-    refused cause f given refuses = ap (seen f) refuses
+    refused cause f given refuses = ap (answer_view f) refuses
 
 pub Leads-along : {X S : Type 0} (r : Result X ConfWhy) (new other : S) (given wanted : Result S ConfWhy) → new ≡ other → given ≡ wanted → Leads r new given → Leads r other wanted
 Leads-along r new other given wanted same is leads = subst (λ n. Leads r n wanted) same (subst (λ w. Leads r new w) is leads)
 
 -- what the last part of a key puts into the group at the end of a way
 pub put-last : (r : Result ℕ ConfWhy) (first mid new : List Row) (q : ℕ) (part : Part) (value : Option (List ℕ)) (path : List Part) → IsWay first 0 path q → Alters q first mid → Alters q mid new → group_of q mid ≡ base part (group_of q first)
-    → Leads r (group_of q new) (placed value (named part.name ∷ []) (group_of q mid)) → Leads r (group_of 0 new) (placed value (path ++ part ∷ []) (group_of 0 first))
+    → Leads r (group_of q new) (put_or_clash value (part_named part.name ∷ []) (group_of q mid)) → Leads r (group_of 0 new) (put_or_clash value (path ++ part ∷ []) (group_of 0 first))
 put-last r first mid new q part value path way clears puts cleared leads =
     let root = group_of 0 first in
     let f = λ (h : Entries). with_group path h root in
-    Leads-along r (f (group_of q new)) (group_of 0 new) (seen f (placed value (named part.name ∷ []) (group_of q mid))) (placed value (path ++ part ∷ []) root)
+    Leads-along r (f (group_of q new)) (group_of 0 new) (answer_view f (put_or_clash value (part_named part.name ∷ []) (group_of q mid))) (put_or_clash value (path ++ part ∷ []) root)
     (sym (with_group-IsWay first new 0 path q (Alters-both q first mid new clears puts) way))
-    (ap (λ g. seen f (placed value (named part.name ∷ []) g)) cleared ∙ ap (seen f) (sym (placed-base value part (group_of q first))) ∙ sym (placed-below value path (part ∷ []) root (group_of q first) (group_at-IsWay first 0 path q way) refl))
-    (Leads-seen r (group_of q new) f (placed value (named part.name ∷ []) (group_of q mid)) leads)
+    (ap (λ g. answer_view f (put_or_clash value (part_named part.name ∷ []) g)) cleared ∙ ap (answer_view f) (sym (placed-base value part (group_of q first))) ∙ sym (placed-below value path (part ∷ []) root (group_of q first) (group_at-IsWay first 0 path q way) refl))
+    (Leads-seen r (group_of q new) f (put_or_clash value (part_named part.name ∷ []) (group_of q mid)) leads)
 
 pub put-last-way : (r : Result ℕ ConfWhy) (first new : List Row) (q : ℕ) (part : Part) (W : Type 0) (path : List Part) → IsWay first 0 path q → Alters q first new
-    → IfOk r (λ n. W → IsStep new q (named part.name) n) → IfOk r (λ n. W → IsWay new 0 (path ++ settled (part ∷ [])) n)
-put-last-way (Ok n) first new q part W path way alters step = λ w. IsWay-more new 0 path q (named part.name) n (IsWay-kept q first new 0 path q alters (omega arith) way) (step w)
+    → IfOk r (λ n. W → IsStep new q (part_named part.name) n) → IfOk r (λ n. W → IsWay new 0 (path ++ without_marks (part ∷ [])) n)
+put-last-way (Ok n) first new q part W path way alters step = λ w. IsWay-more new 0 path q (part_named part.name) n (IsWay-kept q first new 0 path q alters (omega arith) way) (step w)
 put-last-way (Err cause) first new q part W path way alters step = tt
 
 -- what is known once a part of a key, which isn't the last, has led to a group
@@ -171,7 +171,7 @@ pub record IsLed (first mid : List Row) (q : ℕ) (part : Part) (n : ℕ) : Type
   pub sets : (h : Entries) → tree.set part.name (group h) (group_of q mid) ≡ tree.set part.name (group h) (base part (group_of q first))
   pub there : get part.name (group_of q mid) ≡ Some (group (group_of n mid))
 
-pub led : (first cleared mid : List Row) (q : ℕ) (part : Part) (n : ℕ) → group_of q cleared ≡ base part (group_of q first) → placed None (named part.name ∷ []) (group_of q cleared) ≡ Ok (group_of q mid) → IsStep mid q (named part.name) n → IsLed first mid q part n
+pub led : (first cleared mid : List Row) (q : ℕ) (part : Part) (n : ℕ) → group_of q cleared ≡ base part (group_of q first) → put_or_clash None (part_named part.name ∷ []) (group_of q cleared) ≡ Ok (group_of q mid) → IsStep mid q (part_named part.name) n → IsLed first mid q part n
 led first cleared mid q part n is puts step = by_test (clashes None (get part.name (group_of q cleared))) (sym (placed-one None part.name (group_of q cleared)) ∙ puts)
   where
     by_test : (b : Bool) → cond b (Err why.Kind) (Ok (tree.set part.name (put_there None (get part.name (group_of q cleared))) (group_of q cleared))) ≡ Ok (group_of q mid) → IsLed first mid q part n
@@ -181,7 +181,7 @@ led first cleared mid q part n is puts step = by_test (clashes None (get part.na
         let g = group_of q cleared in
         let inner = group_in (get name g) in
         let now : group_of q mid ≡ tree.set name (group inner) g = cc in
-        let there : get name (group_of q mid) ≡ Some (group (group_of n mid)) = met-IsStep mid q (named name) n step in
+        let there : get name (group_of q mid) ≡ Some (group (group_of n mid)) = met-IsStep mid q (part_named name) n step in
         let has_it : Some (group inner) ≡ Some (group (group_of n mid)) = sym (get-set name (group inner) g) ∙ ap (get name) (sym now) ∙ there in
         let same : inner ≡ group_of n mid = cc in
         record {
@@ -192,17 +192,17 @@ led first cleared mid q part n is puts step = by_test (clashes None (get part.na
 
 -- what the parts of a key behind the first put into the group at the end of a way
 pub put-down : (r : Result ℕ ConfWhy) (first mid new : List Row) (q n : ℕ) (part : Part) (parts : List Part) (value : Option (List ℕ)) (path : List Part) → IsWay first 0 path q → Alters q first mid → is_last parts ≡ false → IsLed first mid q part n
-    → Leads r (group_of 0 new) (placed value ((path ++ named part.name ∷ []) ++ parts) (group_of 0 mid)) → Leads r (group_of 0 new) (placed value (path ++ part ∷ parts) (group_of 0 first))
+    → Leads r (group_of 0 new) (put_or_clash value ((path ++ part_named part.name ∷ []) ++ parts) (group_of 0 mid)) → Leads r (group_of 0 new) (put_or_clash value (path ++ part ∷ parts) (group_of 0 first))
 put-down r first mid new q n part parts value path way alters some l leads =
     let root = group_of 0 first in
-    Leads-along r (group_of 0 new) (group_of 0 new) (placed value ((path ++ named part.name ∷ []) ++ parts) (group_of 0 mid)) (placed value (path ++ part ∷ parts) root) refl
-    (ap (placed value ((path ++ named part.name ∷ []) ++ parts)) (with_group-IsWay first mid 0 path q alters way)
+    Leads-along r (group_of 0 new) (group_of 0 new) (put_or_clash value ((path ++ part_named part.name ∷ []) ++ parts) (group_of 0 mid)) (put_or_clash value (path ++ part ∷ parts) root) refl
+    (ap (put_or_clash value ((path ++ part_named part.name ∷ []) ++ parts)) (with_group-IsWay first mid 0 path q alters way)
     ∙ sym (placed-down value path part parts root (group_of q first) (group_of q mid) (group_of n mid) (group_at-IsWay first 0 path q way) some l.meets_it l.sets l.there))
     leads
 
 -- a part of a key, which isn't the last, isn't refused where it meets no text
 pub put-refused : {X : Type 0} (cause : ConfWhy) (part : Part) (parts : List Part) (g cleared : Entries) (given : Result X ConfWhy) → is_last parts ≡ false → meets_text (part ∷ parts) g ≡ false → cleared ≡ base part g
-    → Refuses cause (placed None (named part.name ∷ []) cleared) → Refuses cause given
+    → Refuses cause (put_or_clash None (part_named part.name ∷ []) cleared) → Refuses cause given
 unfolding meets_text
 put-refused why.Memory part parts g cleared given some clear is refuses = tt
 put-refused cause part [] g cleared given some clear is refuses = cc
@@ -210,7 +210,7 @@ put-refused cause part (next ∷ parts) g cleared given some clear is refuses =
     let m = met part g in
     let same : get part.name cleared ≡ m = ap (get part.name) is ∙ get-base part g in
     let no_text : is_text m ≡ false = first_of_neither (is_text m) (meets_text (next ∷ parts) (group_in m)) clear in
-    let puts : placed None (named part.name ∷ []) cleared ≡ Ok (tree.set part.name (put_there None (get part.name cleared)) cleared) =
+    let puts : put_or_clash None (part_named part.name ∷ []) cleared ≡ Ok (tree.set part.name (put_there None (get part.name cleared)) cleared) =
     placed-one None part.name cleared ∙ ap (λ b. cond b (Err why.Kind) (Ok (tree.set part.name (put_there None (get part.name cleared)) cleared))) (ap is_text same ∙ no_text) in
     cc
   where

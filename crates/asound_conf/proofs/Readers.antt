@@ -10,11 +10,11 @@ use Rattle.asound_conf.specs.declared.cell.Name.TheVariants as names
 use Rattle.asound_conf.specs.declared.error.ConfWhy.{ConfWhy}
 use Rattle.asound_conf.specs.declared.error.ConfWhy.TheVariants as why
 use Rattle.asound_conf.specs.declared.part.Part as part
-use Rattle.asound_conf.specs.Answer.{Leads, Refuses, seen}
+use Rattle.asound_conf.specs.Answer.{Leads, Refuses, answer_view}
 use Rattle.asound_conf.specs.Grammar.{State, after_item, at_key, at_number, close_to, open_group, put_key, put_text, within}
-use Rattle.asound_conf.specs.Key.{Part, key_defect, named, settled}
+use Rattle.asound_conf.specs.Key.{Part, key_defect, part_named, without_marks}
 use Rattle.asound_conf.specs.Parts.{part_in, parts_in}
-use Rattle.asound_conf.specs.Place.{meets_text, placed}
+use Rattle.asound_conf.specs.Place.{meets_text, put_or_clash}
 use Rattle.asound_conf.specs.Opening.{AreAround, IsHere, IsOpen, bracket_of, key_cause, or_cause, state_in}
 use Rattle.asound_conf.specs.Rows.{Contents, group_of}
 use Rattle.asound_conf.specs.Tree.{Entries}
@@ -26,7 +26,7 @@ use Rattle.asound_conf.proofs.Ways.{group_at-IsWay}
 
 -- a path, whose marks have done their work
 path_in : List ℕ → List part.Part → List Part
-path_in text path = settled (parts_in text path)
+path_in text path = without_marks (parts_in text path)
 
 length-path_in : (text : List ℕ) (path : List part.Part) → length (path_in text path) ≡ length path
 unfolding path_in
@@ -40,18 +40,18 @@ length-parts_in text (p ∷ parts) = ap suc (length-parts_in text parts)
 path_in-append : (text : List ℕ) (path key : List part.Part) → path_in text (path ++ key) ≡ path_in text path ++ path_in text key
 unfolding path_in
 path_in-append text [] key = refl
-path_in-append text (p ∷ path) key = ap (λ more. named (part_in text p).name ∷ more) (path_in-append text path key)
+path_in-append text (p ∷ path) key = ap (λ more. part_named (part_in text p).name ∷ more) (path_in-append text path key)
 
-settled-path_in : (text : List ℕ) (path key : List part.Part) → settled (path_in text path ++ parts_in text key) ≡ path_in text path ++ path_in text key
+settled-path_in : (text : List ℕ) (path key : List part.Part) → without_marks (path_in text path ++ parts_in text key) ≡ path_in text path ++ path_in text key
 unfolding path_in
 settled-path_in text [] key = refl
-settled-path_in text (p ∷ path) key = ap (λ more. named (part_in text p).name ∷ more) (settled-path_in text path key)
+settled-path_in text (p ∷ path) key = ap (λ more. part_named (part_in text p).name ∷ more) (settled-path_in text path key)
 
 take-path_in : (n : ℕ) (text : List ℕ) (path : List part.Part) (more : List Part) → n ≤ length path → take n (path_in text path ++ more) ≡ path_in text (take n path)
 unfolding path_in
 take-path_in zero text path more low = refl
 take-path_in (suc n) text [] more low = absurd (omega arith)
-take-path_in (suc n) text (p ∷ path) more low = ap (λ rest. named (part_in text p).name ∷ rest) (take-path_in n text path more (omega arith))
+take-path_in (suc n) text (p ∷ path) more low = ap (λ rest. part_named (part_in text p).name ∷ rest) (take-path_in n text path more (omega arith))
 
 take-whole : {X : Type 0} (xs ys : List X) → take (length xs) (xs ++ ys) ≡ xs
 take-whole [] ys = refl
@@ -87,12 +87,12 @@ after_item-state c d path key here outer awaits depth same =
     λ i. record { root = group_of 0 d.rows; path = ways i; here = bracket_of here; outer = map bracket_of outer; awaits = Item true }
 
 pub put_text-state : {X : Type 0} (r : Result X ConfWhy) (c d : Contents) (path key : List part.Part) (here : code.Bracket) (outer : List code.Bracket) (awaits : Awaits) (t : List ℕ) → here.names ≡ length path → d.text ≡ c.text
-    → Leads r (group_of 0 d.rows) (placed (Some t) (settled (parts_in c.text path) ++ parts_in c.text key) (group_of 0 c.rows))
+    → Leads r (group_of 0 d.rows) (put_or_clash (Some t) (without_marks (parts_in c.text path) ++ parts_in c.text key) (group_of 0 c.rows))
     → Leads r (state_in d path [] here outer (Item true)) (put_text (state_in c path key here outer awaits) t)
 put_text-state r c d path key here outer awaits t depth same leads =
     let s = state_in c path key here outer awaits in
-    let given = placed (Some t) (settled (parts_in c.text path) ++ parts_in c.text key) (group_of 0 c.rows) in
-    Leads-along r (after_item s (group_of 0 d.rows)) (state_in d path [] here outer (Item true)) (seen (after_item s) given) (put_text s t)
+    let given = put_or_clash (Some t) (without_marks (parts_in c.text path) ++ parts_in c.text key) (group_of 0 c.rows) in
+    Leads-along r (after_item s (group_of 0 d.rows)) (state_in d path [] here outer (Item true)) (answer_view (after_item s) given) (put_text s t)
     (after_item-state c d path key here outer awaits depth same) refl (Leads-seen r (group_of 0 d.rows) (after_item s) given leads)
 
 -- where a key leads
@@ -100,7 +100,7 @@ abbrev pub key_leads : Option ConfWhy → State → Result State ConfWhy
 key_leads (Some cause) s = Err cause
 key_leads None s = Ok s
 
-pub put_key-state : (c : Contents) (path key : List part.Part) (here : code.Bracket) (outer : List code.Bracket) (awaits : Awaits) → here.names ≡ length path → IsWay c.rows 0 (settled (parts_in c.text path)) here.group
+pub put_key-state : (c : Contents) (path key : List part.Part) (here : code.Bracket) (outer : List code.Bracket) (awaits : Awaits) → here.names ≡ length path → IsWay c.rows 0 (without_marks (parts_in c.text path)) here.group
     → put_key (state_in c path [] here outer awaits) (key_defect (parts_in c.text key)) (parts_in c.text key)
     ≡ key_leads (key_cause here.names (parts_in c.text key) (group_of here.group c.rows)) (state_in c path key here outer (Value true))
 unfolding path_in
@@ -129,13 +129,13 @@ pub at_number-state : (c : Contents) (path : List part.Part) (here : code.Bracke
     → at_number (state_in c path [] here outer awaits)
     ≡ state_in c path (record { removes = false; name = names.Number here.values } ∷ []) (record { line = here.line; array = here.array; values = here.values + 1; names = here.names; group = here.group }) outer (Value false)
 at_number-state c path here outer awaits =
-    let front = settled (parts_in c.text path) in
-    let ways : (front ++ []) ++ named (decimal here.values) ∷ [] ≡ front ++ named (decimal here.values) ∷ [] = ap (λ f. f ++ named (decimal here.values) ∷ []) (append-nil front) in
+    let front = without_marks (parts_in c.text path) in
+    let ways : (front ++ []) ++ part_named (decimal here.values) ∷ [] ≡ front ++ part_named (decimal here.values) ∷ [] = ap (λ f. f ++ part_named (decimal here.values) ∷ []) (append-nil front) in
     λ i. record { root = group_of 0 c.rows; path = ways i; here = record { line = here.line; array = here.array; names = here.names; values = here.values + 1 }; outer = map bracket_of outer; awaits = Value false }
 
 -- within a bracket that was opened
 pub open_group-state : {X : Type 0} (r : Result X ConfWhy) (c d : Contents) (path key : List part.Part) (here : code.Bracket) (outer : List code.Bracket) (awaits : Awaits) (line group : ℕ) (array : Bool)
-    → length path + length key < 16 → d.text ≡ c.text → Leads r (group_of 0 d.rows) (placed None (settled (parts_in c.text path) ++ parts_in c.text key) (group_of 0 c.rows))
+    → length path + length key < 16 → d.text ≡ c.text → Leads r (group_of 0 d.rows) (put_or_clash None (without_marks (parts_in c.text path) ++ parts_in c.text key) (group_of 0 c.rows))
     → Leads r (state_in d (path ++ key) [] (record { line = line; array = array; values = 0; names = length (path ++ key); group = group }) (here ∷ outer) (Item false)) (open_group (state_in c path key here outer awaits) line array)
 unfolding path_in
 open_group-state r c d path key here outer awaits line group array short same leads =
@@ -144,15 +144,15 @@ open_group-state r c d path key here outer awaits line group array short same le
     let parts = parts_in c.text key in
     let count : length (front ++ parts) ≡ length path + length key = length-append front parts ∙ ap₂ (λ a b. a + b) (length-path_in c.text path) (length-parts_in c.text key) in
     let names_are : length (front ++ parts) ≡ length (path ++ key) = count ∙ sym (length-append path key) in
-    let ways : settled (front ++ parts) ≡ path_in d.text (path ++ key) ++ [] =
+    let ways : without_marks (front ++ parts) ≡ path_in d.text (path ++ key) ++ [] =
     settled-path_in c.text path key ∙ sym (path_in-append c.text path key) ∙ ap (λ t. path_in t (path ++ key)) (sym same) ∙ sym (append-nil (path_in d.text (path ++ key))) in
-    let given = placed None (front ++ parts) (group_of 0 c.rows) in
+    let given = put_or_clash None (front ++ parts) (group_of 0 c.rows) in
     let shallow : nat_le 16 (length (front ++ parts)) ≡ false = ap (nat_le 16) count ∙ not-deep (length path + length key) short in
     let new = state_in d (path ++ key) [] (record { line = line; array = array; values = 0; names = length (path ++ key); group = group }) (here ∷ outer) (Item false) in
     let at : within s line array (group_of 0 d.rows) ≡ new =
     λ i. record { root = group_of 0 d.rows; path = ways i; here = record { line = line; array = array; names = names_are i; values = 0 }; outer = bracket_of here ∷ map bracket_of outer; awaits = Item false } in
-    Leads-along r (within s line array (group_of 0 d.rows)) new (seen (within s line array) given) (open_group s line array) at
-    (sym (ap (λ b. cond b (Err why.Deep) (seen (within s line array) given)) shallow))
+    Leads-along r (within s line array (group_of 0 d.rows)) new (answer_view (within s line array) given) (open_group s line array) at
+    (sym (ap (λ b. cond b (Err why.Deep) (answer_view (within s line array) given)) shallow))
     (Leads-seen r (group_of 0 d.rows) (within s line array) given leads)
   where
     not-deep : (n : ℕ) → n < 16 → nat_le 16 n ≡ false
@@ -160,7 +160,7 @@ open_group-state r c d path key here outer awaits line group array short same le
 
 -- a cause of what was put is the cause of the mark that opens a group there
 pub open_group-refused : (cause : ConfWhy) (c : Contents) (path key : List part.Part) (here : code.Bracket) (outer : List code.Bracket) (awaits : Awaits) (line : ℕ) (array : Bool) → length path + length key < 16
-    → Refuses cause (placed None (settled (parts_in c.text path) ++ parts_in c.text key) (group_of 0 c.rows)) → Refuses cause (open_group (state_in c path key here outer awaits) line array)
+    → Refuses cause (put_or_clash None (without_marks (parts_in c.text path) ++ parts_in c.text key) (group_of 0 c.rows)) → Refuses cause (open_group (state_in c path key here outer awaits) line array)
 open_group-refused cause c path key here outer awaits line array short refuses =
     open_group-state {X = ℕ} (Err cause) c c path key here outer awaits line 0 array short refl refuses
 
@@ -173,7 +173,7 @@ open_group-deep c path key here outer awaits line array deep =
     let parts = parts_in c.text key in
     let count : length (front ++ parts) ≡ length path + length key = length-append front parts ∙ ap₂ (λ a b. a + b) (length-path_in c.text path) (length-parts_in c.text key) in
     let is_deep : nat_le 16 (length (front ++ parts)) ≡ true = ap (nat_le 16) count ∙ too-deep (length path + length key) deep in
-    ap (λ b. cond b (Err why.Deep) (seen (within s line array) (placed None (front ++ parts) (group_of 0 c.rows)))) is_deep
+    ap (λ b. cond b (Err why.Deep) (answer_view (within s line array) (put_or_clash None (front ++ parts) (group_of 0 c.rows)))) is_deep
   where
     too-deep : (n : ℕ) → 16 ≤ n → nat_le 16 n ≡ true
     too-deep n deep = grind (arith, nat_tests)
@@ -194,7 +194,7 @@ AreAround-kept c d path here (b ∷ outer) group same low kept around =
     let lower : b.group ≤ here.group = around.1 in (
       around.0,
       around.1,
-      subst (λ t. IsWay d.rows 0 (settled (parts_in t (take b.names path))) b.group) (sym same) (kept (settled (parts_in c.text (take b.names path))) b.group (omega arith) around.2),
+      subst (λ t. IsWay d.rows 0 (without_marks (parts_in t (take b.names path))) b.group) (sym same) (kept (without_marks (parts_in c.text (take b.names path))) b.group (omega arith) around.2),
       AreAround-kept c d path b outer group same (omega arith) kept around.3,
     )
 
@@ -205,7 +205,7 @@ AreAround-longer c path more here (b ∷ outer) low around =
     let lower : b.names ≤ here.names = around.0 in (
       around.0,
       around.1,
-      subst (λ p. IsWay c.rows 0 (settled (parts_in c.text p)) b.group) (sym (take-front b.names path more (omega arith))) around.2,
+      subst (λ p. IsWay c.rows 0 (without_marks (parts_in c.text p)) b.group) (sym (take-front b.names path more (omega arith))) around.2,
       AreAround-longer c path more b outer (omega arith) around.3,
     )
 
@@ -215,7 +215,7 @@ AreAround-shorter c n path here (b ∷ outer) low around =
     let lower : b.names ≤ here.names = around.0 in (
       around.0,
       around.1,
-      subst (λ p. IsWay c.rows 0 (settled (parts_in c.text p)) b.group) (sym (take-take b.names n path (omega arith))) around.2,
+      subst (λ p. IsWay c.rows 0 (without_marks (parts_in c.text p)) b.group) (sym (take-take b.names n path (omega arith))) around.2,
       AreAround-shorter c n path b outer (omega arith) around.3,
     )
 
@@ -224,7 +224,7 @@ pub AreAround-open : (c : Contents) (path key : List part.Part) (here new : code
 AreAround-open c path key here new outer is longer later around =
     let depth : here.names ≡ length path = is.depth in
     let same : take here.names (path ++ key) ≡ path = ap (λ n. take n (path ++ key)) depth ∙ take-whole path key in
-    (longer, later, subst (λ p. IsWay c.rows 0 (settled (parts_in c.text p)) here.group) (sym same) is.way, AreAround-longer c path key here outer (omega arith) around)
+    (longer, later, subst (λ p. IsWay c.rows 0 (without_marks (parts_in c.text p)) here.group) (sym same) is.way, AreAround-longer c path key here outer (omega arith) around)
 
 -- the bracket around one that is closed is then the innermost
 pub IsHere-around : (c : Contents) (path : List part.Part) (here around : code.Bracket) (outer : List code.Bracket) → IsHere c path here → AreAround c path here (around ∷ outer) → IsHere c (take around.names path) around
@@ -279,7 +279,7 @@ text-open c d path key here outer awaits separator is same longer kept =
     let inside : here.group < length c.rows = is.innermost.inside in
     record {
       keyed = refl;
-      innermost = record { inside = omega arith; depth = is.innermost.depth; way = subst (λ t. IsWay d.rows 0 (settled (parts_in t path)) here.group) (sym same) (kept (settled (parts_in c.text path)) here.group (omega arith) is.innermost.way) };
+      innermost = record { inside = omega arith; depth = is.innermost.depth; way = subst (λ t. IsWay d.rows 0 (without_marks (parts_in t path)) here.group) (sym same) (kept (without_marks (parts_in c.text path)) here.group (omega arith) is.innermost.way) };
       around = AreAround-kept c d path here outer here.group same (omega arith) kept is.around;
     }
 
@@ -305,7 +305,7 @@ key-leads c path old key here outer awaits is none =
 
 -- a reader within a bracket that was opened
 pub group-open : (c d : Contents) (path key : List part.Part) (here : code.Bracket) (outer : List code.Bracket) (awaits : Awaits) (line group : ℕ) (array : Bool) → IsOpen c path key here outer awaits → d.text ≡ c.text → length c.rows ≤ length d.rows
-    → ((way : List Part) (last : ℕ) → last ≤ here.group → IsWay c.rows 0 way last → IsWay d.rows 0 way last) → here.group < group → group < length d.rows → IsWay d.rows 0 (settled (parts_in c.text path) ++ settled (parts_in c.text key)) group
+    → ((way : List Part) (last : ℕ) → last ≤ here.group → IsWay c.rows 0 way last → IsWay d.rows 0 way last) → here.group < group → group < length d.rows → IsWay d.rows 0 (without_marks (parts_in c.text path) ++ without_marks (parts_in c.text key)) group
     → IsOpen d (path ++ key) [] (record { line = line; array = array; values = 0; names = length (path ++ key); group = group }) (here ∷ outer) (Item false)
 unfolding path_in
 group-open c d path key here outer awaits line group array is same longer kept later inside way =
@@ -315,7 +315,7 @@ group-open c d path key here outer awaits line group array is same longer kept l
     let count : length (path ++ key) ≡ length path + length key = length-append path key in
     record {
       keyed = refl;
-      innermost = record { inside = inside; depth = refl; way = subst (λ t. IsWay d.rows 0 (settled (parts_in t (path ++ key))) group) (sym same) (subst (λ w. IsWay d.rows 0 w group) (sym (path_in-append c.text path key)) way) };
+      innermost = record { inside = inside; depth = refl; way = subst (λ t. IsWay d.rows 0 (without_marks (parts_in t (path ++ key))) group) (sym same) (subst (λ w. IsWay d.rows 0 w group) (sym (path_in-append c.text path key)) way) };
       around = AreAround-open d path key here new outer before.innermost (omega arith) (omega arith) before.around;
     }
 

@@ -3,7 +3,7 @@ use Rattle.std.proofs.Common.{◌≡◌, ℕ, List, [], ◌∷◌, Result, Ok, E
 use Rattle.asound_conf.specs.declared.error.ConfError.{ConfError}
 use Rattle.asound_conf.specs.declared.error.ConfWhy.{ConfWhy}
 use Rattle.asound_conf.specs.declared.error.ConfWhy.TheVariants as why
-use Rattle.asound_conf.specs.Grammar.{State, finished, meaning, step, stepped}
+use Rattle.asound_conf.specs.Grammar.{State, end_of_text, meaning, step, after_token}
 use Rattle.asound_conf.specs.Answer.{Refuses}
 use Rattle.asound_conf.specs.Reading.{Reads, RefusesText}
 use Rattle.asound_conf.specs.Token.{LineToken}
@@ -12,16 +12,16 @@ use Rattle.asound_conf.specs.Tree.{Entries}
 -- behind a token that leads on
 pub meaning-next : (s next : State) (last : ℕ) (t : LineToken) (ts : List LineToken) → step s t.line t.token ≡ Ok next → meaning s last (t ∷ ts) ≡ meaning next last ts
 unfolding meaning
-meaning-next s next last t ts leads = ap (λ r. stepped t.line r (λ n. meaning n last ts)) leads
+meaning-next s next last t ts leads = ap (λ r. after_token t.line r (λ n. meaning n last ts)) leads
 
 -- at the end
-pub meaning-nil : (s : State) (last : ℕ) → meaning s last [] ≡ finished s last s.outer s.awaits
+pub meaning-nil : (s : State) (last : ℕ) → meaning s last [] ≡ end_of_text s last s.outer s.awaits
 unfolding meaning
 meaning-nil s last = refl
 
-refused-by : (cause : ConfWhy) (line : ℕ) (r : Result State ConfWhy) (more : State → Result Entries ConfError) (given : Result Entries ConfError) → given ≡ stepped line r more → Refuses cause r → RefusesText cause (record { line = line; why = cause }) given
+refused-by : (cause : ConfWhy) (line : ℕ) (r : Result State ConfWhy) (more : State → Result Entries ConfError) (given : Result Entries ConfError) → given ≡ after_token line r more → Refuses cause r → RefusesText cause (record { line = line; why = cause }) given
 refused-by why.Memory line r more given is refuses = tt
-refused-by cause line r more given is refuses = is ∙ ap (λ x. stepped line x more) refuses
+refused-by cause line r more given is refuses = is ∙ ap (λ x. after_token line x more) refuses
 
 -- a token that is refused is the first defect
 pub meaning-refused : (cause : ConfWhy) (s : State) (last : ℕ) (t : LineToken) (ts : List LineToken) (given : Result Entries ConfError) → given ≡ meaning s last (t ∷ ts) → Refuses cause (step s t.line t.token) → RefusesText cause (record { line = t.line; why = cause }) given

@@ -4,7 +4,7 @@ use Rattle.std.specs.Str.{bytes_eq}
 use Rattle.std.proofs.lemmas.Bool.Decides.{nat_tests}
 use Rattle.std.proofs.lemmas.List.{length-set}
 use Rattle.std.proofs.Common as common
-use Rattle.asound_conf.specs.Tree.{Tree, text, group, Entries, empty, entry, has, get, without}
+use Rattle.asound_conf.specs.Tree.{Tree, text, group, Entries, empty, entry, has, get, without_name}
 use Rattle.asound_conf.specs.Tree as tree
 use Rattle.asound_conf.specs.Rows.{Row, row_at, is_in, node, within, Alters, IsOnlyIn}
 use Rattle.asound_conf.proofs.Places.{bytes_eq-self, or-true}
@@ -272,7 +272,7 @@ within-set q name e first (suc k) s t (r ∷ rows) at low parent same value =
     by_test inner there rest false = rest
 
 -- a row that is taken out of its group
-pub without-removed : (q : ℕ) (name : List ℕ) (e first k : ℕ) (s : Row) (rows : List Row) → IsAt q name e first k rows → q < first → s.parent ≡ None → without name (within q first (common.set rows k s)) ≡ without name (within q first rows)
+pub without-removed : (q : ℕ) (name : List ℕ) (e first k : ℕ) (s : Row) (rows : List Row) → IsAt q name e first k rows → q < first → s.parent ≡ None → without_name name (within q first (common.set rows k s)) ≡ without_name name (within q first rows)
 without-removed q name e first k s [] at low parent = absurd (omega arith)
 without-removed q name e first zero s (r ∷ rows) at low parent =
     let named : bytes_eq r.name name ≡ true = rw at.name_is (bytes_eq-self name) in
@@ -283,8 +283,8 @@ without-removed q name e first (suc k) s (r ∷ rows) at low parent =
     by_test (within-kept q first (suc first) rows (common.set rows k s) (Alters-set q k s rows at.parent (only-None q s parent)) (reaches-later q first (suc first) rows (λ same. omega arith) (omega arith)))
     (without-removed q name e (suc first) k s rows next (omega arith) parent) (is_in q r.parent)
   where
-    by_test : within first (suc first) (common.set rows k s) ≡ within first (suc first) rows → without name (within q (suc first) (common.set rows k s)) ≡ without name (within q (suc first) rows) → (b : Bool)
-        → without name (cond b (entry r.name (node r.value (within first (suc first) (common.set rows k s))) (within q (suc first) (common.set rows k s))) (within q (suc first) (common.set rows k s)))
-        ≡ without name (cond b (entry r.name (node r.value (within first (suc first) rows)) (within q (suc first) rows)) (within q (suc first) rows))
+    by_test : within first (suc first) (common.set rows k s) ≡ within first (suc first) rows → without_name name (within q (suc first) (common.set rows k s)) ≡ without_name name (within q (suc first) rows) → (b : Bool)
+        → without_name name (cond b (entry r.name (node r.value (within first (suc first) (common.set rows k s))) (within q (suc first) (common.set rows k s))) (within q (suc first) (common.set rows k s)))
+        ≡ without_name name (cond b (entry r.name (node r.value (within first (suc first) rows)) (within q (suc first) rows)) (within q (suc first) rows))
     by_test inner rest true = ap₂ (λ i w. cond (bytes_eq r.name name) w (entry r.name (node r.value i) w)) inner rest
     by_test inner rest false = rest

@@ -20,7 +20,7 @@ use Rattle.asound_conf.specs.declared.cell.Content.{Content}
 use Rattle.asound_conf.specs.declared.cell.Content.TheVariants as contents
 use Rattle.asound_conf.specs.declared.cell.Cell.{Cell}
 use Rattle.asound_conf.specs.Rows.{IsAbsent, IsNode, Row, is_in, no_row, row_at}
-use Rattle.asound_conf.specs.Table.{HasBelow, IsIndexed, IsLink, IsTable, bucket_at, bucket_of, cell_at, content_of, fits, is_live, key_bytes, lacks, name_in, new_row, no_cell, no_number, noted, parent_of, raised, row_of, value_in}
+use Rattle.asound_conf.specs.Table.{HasBelow, IsIndexed, IsLink, IsTable, bucket_at, bucket_of, cell_at, content_of, fits, is_live, key_bytes, lacks, name_in, new_row, no_cell, no_number, content_with, parent_of, number_after, row_of, value_in}
 
 -- a conjunction's parts
 both : (a b : Bool) → (a && b) ≡ true → (a ≡ true) × (b ≡ true)
@@ -411,7 +411,7 @@ HasBelow-other text cells heads c b p (contents.Group numbers) new small other b
 ]
 
 -- what is past a group's names once it gets this one
-raised-name : (text : List ℕ) (numbers n : ℕ) (name : Name) → raised numbers name ≤ n → n < no_number → name_in text name ≡ decimal n → ⊥
+raised-name : (text : List ℕ) (numbers n : ℕ) (name : Name) → number_after numbers name ≤ n → n < no_number → name_in text name ≡ decimal n → ⊥
 raised-name text numbers n (names.Bytes s) low fits named = omega (arith, low, fits)
 raised-name text numbers n (names.Number m) low fits named = by (nat_lt m no_number) refl low
   where
@@ -422,7 +422,7 @@ raised-name text numbers n (names.Number m) low fits named = by (nat_lt m no_num
         omega (arith, same, low)
     by false is low = omega (arith, low, fits)
 
-raised-more : (numbers n : ℕ) (name : Name) → raised numbers name ≤ n → n < no_number → numbers ≤ n
+raised-more : (numbers n : ℕ) (name : Name) → number_after numbers name ≤ n → n < no_number → numbers ≤ n
 raised-more numbers n (names.Bytes s) low fits = absurd (omega (arith, low, fits))
 raised-more numbers n (names.Number m) low fits = by (nat_lt m no_number) low
   where
@@ -432,7 +432,7 @@ raised-more numbers n (names.Number m) low fits = by (nat_lt m no_number) low
 
 -- a group's names go on where a cell is added to it
 HasBelow-noted : (text : List ℕ) (cells : List Cell) (heads : List ℕ) (c : Cell) (b p : ℕ) (content : Content) → IsNew text cells heads c b → p < no_number
-    → HasBelow text cells p content → HasBelow text (cells ++ c ∷ []) p (noted content c.name)
+    → HasBelow text cells p content → HasBelow text (cells ++ c ∷ []) p (content_with content c.name)
 HasBelow-noted text cells heads c b p (contents.Text s) new small below = tt
 HasBelow-noted text cells heads c b p contents.Removed new small below = tt
 HasBelow-noted text cells heads c b p (contents.Group numbers) new small below = λ j n e low fits named. elim (parent-push text cells heads c b j p new small e) [
@@ -462,7 +462,7 @@ HasBelow-new text cells heads c b None new is = λ j n e low fits named. elim (p
 -- a cell with another content, in the place of the group of a new cell
 pub record IsNoted (cells : List Cell) (c g : Cell) : Type 0 where
   pub place : IsSame g (cell_at cells c.parent)
-  pub content : g.content ≡ noted (cell_at cells c.parent).content c.name
+  pub content : g.content ≡ content_with (cell_at cells c.parent).content c.name
 
 below-push : (text : List ℕ) (cells : List Cell) (heads : List ℕ) (c g : Cell) (b p : ℕ) (value : Option Span) → IsNew text cells heads c b → IsNoted cells c g → c.content ≡ content_of value
     → IsTable text cells heads → ((j : ℕ) → IsSame (cell_at (set (cells ++ c ∷ []) c.parent g) j) (cell_at (cells ++ c ∷ []) j))
@@ -471,12 +471,12 @@ below-push text cells heads c g b p value new is_noted content is same = elim (c
   | inl e ↦
       let count : c.parent < length (cells ++ c ∷ []) = omega (arith, length-append cells (c ∷ []), new.parent) in
       let cell : cell_at (set (cells ++ c ∷ []) c.parent g) p ≡ g = get_or-set_at (cells ++ c ∷ []) c.parent p g no_cell e count in
-      let below : HasBelow text (cells ++ c ∷ []) p (noted (cell_at cells p).content c.name) =
+      let below : HasBelow text (cells ++ c ∷ []) p (content_with (cell_at cells p).content c.name) =
       HasBelow-noted text cells heads c b p (cell_at cells p).content new (omega (arith, e, new.parent, new.room)) (is.below p) in
-      let its : noted (cell_at cells p).content c.name ≡ (cell_at (set (cells ++ c ∷ []) c.parent g) p).content =
-      ap (λ (k : ℕ). noted (cell_at cells k).content c.name) e ∙ sym is_noted.content ∙ ap (λ (d : Cell). d.content) (sym cell) in
+      let its : content_with (cell_at cells p).content c.name ≡ (cell_at (set (cells ++ c ∷ []) c.parent g) p).content =
+      ap (λ (k : ℕ). content_with (cell_at cells k).content c.name) e ∙ sym is_noted.content ∙ ap (λ (d : Cell). d.content) (sym cell) in
       subst (λ x. HasBelow text (set (cells ++ c ∷ []) c.parent g) p x) its
-      (HasBelow-kept text (cells ++ c ∷ []) (set (cells ++ c ∷ []) c.parent g) p (noted (cell_at cells p).content c.name) same below)
+      (HasBelow-kept text (cells ++ c ∷ []) (set (cells ++ c ∷ []) c.parent g) p (content_with (cell_at cells p).content c.name) same below)
   | inr ne ↦
       let cell : cell_at (set (cells ++ c ∷ []) c.parent g) p ≡ cell_at (cells ++ c ∷ []) p = get_or-set_other (cells ++ c ∷ []) c.parent p g no_cell ne in
       subst (λ (d : Cell). HasBelow text (set (cells ++ c ∷ []) c.parent g) p d.content) (sym cell)
@@ -521,18 +521,18 @@ IsTable-push text cells heads c g b value new is_noted content is =
     }
 
 -- a group with one name more isn't removed
-pub is_live-noted : (content : Content) (name : Name) → is_live (noted content name) ≡ is_live content
+pub is_live-noted : (content : Content) (name : Name) → is_live (content_with content name) ≡ is_live content
 is_live-noted (contents.Text s) name = refl
 is_live-noted (contents.Group numbers) name = refl
 is_live-noted contents.Removed name = refl
 
 -- a group with one name more is the same row
-parent_of-noted : (q : ℕ) (content : Content) (name : Name) → parent_of q (noted content name) ≡ parent_of q content
+parent_of-noted : (q : ℕ) (content : Content) (name : Name) → parent_of q (content_with content name) ≡ parent_of q content
 parent_of-noted q (contents.Text s) name = refl
 parent_of-noted q (contents.Group numbers) name = refl
 parent_of-noted q contents.Removed name = refl
 
-value_in-noted : (text : List ℕ) (content : Content) (name : Name) → value_in text (noted content name) ≡ value_in text content
+value_in-noted : (text : List ℕ) (content : Content) (name : Name) → value_in text (content_with content name) ≡ value_in text content
 value_in-noted text (contents.Text s) name = refl
 value_in-noted text (contents.Group numbers) name = refl
 value_in-noted text contents.Removed name = refl

@@ -4,9 +4,9 @@ use Rattle.asound_conf.specs.declared.error.ConfWhy.{ConfWhy}
 use Rattle.asound_conf.specs.declared.error.ConfWhy.TheVariants as why
 
 -- what a call gave, seen by view
-abbrev pub seen : {X Y : Type 0} → (X → Y) → Result X ConfWhy → Result Y ConfWhy
-seen view (Ok x) = Ok (view x)
-seen view (Err e) = Err e
+abbrev pub answer_view : {X Y : Type 0} → (X → Y) → Result X ConfWhy → Result Y ConfWhy
+answer_view view (Ok x) = Ok (view x)
+answer_view view (Err e) = Err e
 
 -- a cause of a call is the one that is given, unless memory ran out
 abbrev pub Refuses : {X : Type 0} → ConfWhy → Result X ConfWhy → Type 0

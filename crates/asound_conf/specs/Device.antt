@@ -29,15 +29,15 @@ as_group (Some (text t)) = Err why.Missing
 as_group None = Err why.Missing
 
 -- the group of this name in the text's group of this kind: `kind.name`
-unfoldable pub defined : List ℕ → List ℕ → Entries → Result Entries ConfWhy
-defined kind name root = do
+unfoldable pub definition_of : List ℕ → List ℕ → Entries → Result Entries ConfWhy
+definition_of kind name root = do
   all ← as_group (get kind root)
   as_group (get name all)
 
 -- the slave of a device: a group of its own, or the name of one among those of `pcm_slave`
 abbrev pub slave_of : Entries → Option Tree → Result Entries ConfWhy
 slave_of root (Some (group g)) = Ok g
-slave_of root (Some (text t)) = defined (codes "pcm_slave") t root
+slave_of root (Some (text t)) = definition_of (codes "pcm_slave") t root
 slave_of root None = Err why.Missing
 
 -- the kind that a device's type names
@@ -202,7 +202,7 @@ bindings_of None channels = Ok None
 -- the device of this name, or why there is none
 unfoldable pub device_by : Entries → List ℕ → Result Device ConfWhy
 device_by root name = do
-  definition ← defined (codes "pcm") name root
+  definition ← definition_of (codes "pcm") name root
   slave ← slave_of root (get (codes "slave") definition)
   kind ← kind_of (get (codes "type") definition)
   fits ← format_of (get (codes "format") slave)

@@ -9,9 +9,9 @@ use Rattle.asound_conf.specs.declared.bracket.Awaits.TheVariants.{Item, Value}
 use Rattle.asound_conf.specs.declared.token.Mark.{Mark}
 use Rattle.asound_conf.specs.declared.token.Mark.TheVariants as marks
 use Rattle.asound_conf.specs.Token.{LineToken, Token, word, quoted, mark, bad, tokens}
-use Rattle.asound_conf.specs.Key.{Part, begins, key_defect, named, settled, word_parts}
-use Rattle.asound_conf.specs.Answer.{seen}
-use Rattle.asound_conf.specs.Place.{meets_text, placed}
+use Rattle.asound_conf.specs.Key.{Part, begins, key_defect, part_named, without_marks, word_parts}
+use Rattle.asound_conf.specs.Answer.{answer_view}
+use Rattle.asound_conf.specs.Place.{meets_text, put_or_clash}
 use Rattle.asound_conf.specs.Tree.{Entries, empty}
 
 -- A `{` or `[` that is open, or the text itself: its line, whether it is a `[`, how many parts of keys lead to its
@@ -38,7 +38,7 @@ start = record { root = empty; path = []; here = record { line = 0; array = fals
 -- where the next value of `[ ]` goes: its values have the names 0, 1 and so on
 abbrev pub at_number : State → State
 at_number s = record s {
-  path = s.path ++ named (decimal s.here.values) ∷ [];
+  path = s.path ++ part_named (decimal s.here.values) ∷ [];
   here = record { line = s.here.line; array = s.here.array; names = s.here.names; values = s.here.values + 1 };
   awaits = Value false;
 }
@@ -55,7 +55,7 @@ after_item s root = record s { root = root; path = take s.here.names s.path; awa
 
 -- a text as a value
 abbrev pub put_text : State → List ℕ → Result State ConfWhy
-put_text s t = seen (after_item s) (placed (Some t) s.path s.root)
+put_text s t = answer_view (after_item s) (put_or_clash (Some t) s.path s.root)
 
 -- behind a key's parts, which lead on from where the reader is
 abbrev pub at_key : State → List Part → Result State ConfWhy
@@ -81,7 +81,7 @@ take_text s parts t = text_at s (value_place s s.awaits s.here.array) parts t
 abbrev pub within : State → ℕ → Bool → Entries → State
 within s line array root = record {
   root = root;
-  path = settled s.path;
+  path = without_marks s.path;
   here = record { line = line; array = array; names = length s.path; values = 0 };
   outer = s.here ∷ s.outer;
   awaits = Item false;
@@ -90,7 +90,7 @@ within s line array root = record {
 -- a `{` or `[` as a value
 abbrev pub open_group : State → ℕ → Bool → Result State ConfWhy
 open_group s line array =
-    if nat_le 16 (length s.path) then Err why.Deep else seen (within s line array) (placed None s.path s.root)
+    if nat_le 16 (length s.path) then Err why.Deep else answer_view (within s line array) (put_or_clash None s.path s.root)
 
 -- a `{` or `[` where a value can come, or where a key must
 abbrev pub open_at : Option State → ℕ → Bool → Result State ConfWhy
@@ -109,20 +109,20 @@ close_group s (Item separator) true = close_to s s.outer
 close_group s (Item separator) false = Err why.Close
 
 -- what a mark is that has no place: no value, or no key
-abbrev pub misplaced : State → ConfWhy
-misplaced s = if s.here.array then why.Value else why.Key
+abbrev pub why_misplaced : State → ConfWhy
+why_misplaced s = if s.here.array then why.Value else why.Key
 
 -- the one `=` between a key and its value
 abbrev pub equals_at : State → Awaits → Result State ConfWhy
 equals_at s (Value true) = Ok (record s { awaits = Value false })
 equals_at s (Value false) = Err why.Value
-equals_at s (Item separator) = Err (misplaced s)
+equals_at s (Item separator) = Err (why_misplaced s)
 
 -- the one `,` or `;` behind an item
 abbrev pub separator_at : State → Awaits → Result State ConfWhy
 separator_at s (Value equals) = Err why.Value
 separator_at s (Item true) = Ok (record s { awaits = Item false })
-separator_at s (Item false) = Err (misplaced s)
+separator_at s (Item false) = Err (why_misplaced s)
 
 -- a mark on this line
 abbrev pub take_mark : State → ℕ → Mark → Result State ConfWhy
@@ -138,28 +138,28 @@ take_mark s line marks.Semicolon = separator_at s s.awaits
 abbrev pub step : State → ℕ → Token → Result State ConfWhy
 step s line (bad defect) = Err defect
 step s line (word w) = if begins 60 w then Err why.Include else take_text s (word_parts w) w
-step s line (quoted q) = take_text s (named q ∷ []) q
+step s line (quoted q) = take_text s (part_named q ∷ []) q
 step s line (mark m) = take_mark s line m
 
 -- a refusal of this line
-abbrev pub refused : {X : Type 0} → ℕ → ConfWhy → Result X ConfError
-refused line defect = Err (record { line = line; why = defect })
+abbrev pub refusal_at : {X : Type 0} → ℕ → ConfWhy → Result X ConfError
+refusal_at line defect = Err (record { line = line; why = defect })
 
 -- the text's end: no group is open, and no key is without its value
-abbrev pub finished : State → ℕ → List Bracket → Awaits → Result Entries ConfError
-finished s last (around ∷ outer) awaits = refused s.here.line why.Unclosed
-finished s last [] (Value equals) = refused last why.Value
-finished s last [] (Item separator) = Ok s.root
+abbrev pub end_of_text : State → ℕ → List Bracket → Awaits → Result Entries ConfError
+end_of_text s last (around ∷ outer) awaits = refusal_at s.here.line why.Unclosed
+end_of_text s last [] (Value equals) = refusal_at last why.Value
+end_of_text s last [] (Item separator) = Ok s.root
 
 -- what follows from where a token leads, or its refusal
-abbrev pub stepped : ℕ → Result State ConfWhy → (State → Result Entries ConfError) → Result Entries ConfError
-stepped line (Err defect) more = refused line defect
-stepped line (Ok next) more = more next
+abbrev pub after_token : ℕ → Result State ConfWhy → (State → Result Entries ConfError) → Result Entries ConfError
+after_token line (Err defect) more = refusal_at line defect
+after_token line (Ok next) more = more next
 
 -- what tokens mean from where a reader is, or the first defect; the text's last line has this number
 unfoldable pub meaning : State → ℕ → List LineToken → Result Entries ConfError
-meaning s last [] = finished s last s.outer s.awaits
-meaning s last (t ∷ ts) = stepped t.line (step s t.line t.token) (λ next. meaning next last ts)
+meaning s last [] = end_of_text s last s.outer s.awaits
+meaning s last (t ∷ ts) = after_token t.line (step s t.line t.token) (λ next. meaning next last ts)
 
 -- the number of a text's last line: a line feed at the very end begins no line
 abbrev pub last_line : List ℕ → ℕ
@@ -167,4 +167,4 @@ last_line text = count_by (λ b. b == 10) (take (length text - 1) text) + 1
 
 -- the group that a configuration text means, or its first defect
 unfoldable pub conf_of : List ℕ → Result Entries ConfError
-conf_of text = if nat_lt 1048576 (length text) then refused 0 why.TooLong else meaning start (last_line text) (tokens 0 1 text)
+conf_of text = if nat_lt 1048576 (length text) then refusal_at 0 why.TooLong else meaning start (last_line text) (tokens 0 1 text)

@@ -18,12 +18,12 @@ abbrev pub is_dot : ℕ → Bool
 is_dot b = b == 46
 
 -- a part whose name is these bytes, as they are
-abbrev pub named : List ℕ → Part
-named name = record { removes = false; name = name }
+abbrev pub part_named : List ℕ → Part
+part_named name = record { removes = false; name = name }
 
 -- the part of a word's piece: `!` before the name is a mark
 abbrev pub part_of : List ℕ → Part
-part_of piece = if begins 33 piece then record { removes = true; name = drop 1 piece } else named piece
+part_of piece = if begins 33 piece then record { removes = true; name = drop 1 piece } else part_named piece
 
 -- the parts of a word are its pieces between dots
 abbrev pub word_parts : List ℕ → List Part
@@ -53,5 +53,5 @@ key_defect parts =
     if list_any is_nameless parts then Some why.Key else None
 
 -- the parts of a path without their `!`, which has done its work
-abbrev pub settled : List Part → List Part
-settled path = map (λ (part : Part). named part.name) path
+abbrev pub without_marks : List Part → List Part
+without_marks path = map (λ (part : Part). part_named part.name) path

@@ -7,7 +7,7 @@ use Rattle.asound_conf.specs.declared.error.ConfWhy.{ConfWhy}
 use Rattle.asound_conf.specs.declared.error.ConfWhy.TheVariants as why
 use Rattle.asound_conf.specs.declared.part.Part as part
 use Rattle.asound_conf.specs.Grammar.{Bracket, State}
-use Rattle.asound_conf.specs.Key.{Part, key_defect, settled}
+use Rattle.asound_conf.specs.Key.{Part, key_defect, without_marks}
 use Rattle.asound_conf.specs.Parts.{parts_in}
 use Rattle.asound_conf.specs.Place.{meets_text}
 use Rattle.asound_conf.specs.Rows.{Contents, group_of}
@@ -22,7 +22,7 @@ bracket_of b = record { line = b.line; array = b.array; names = b.names; values 
 abbrev pub state_in : Contents → List part.Part → List part.Part → code.Bracket → List code.Bracket → Awaits → State
 state_in c path key here outer awaits = record {
   root = group_of 0 c.rows;
-  path = settled (parts_in c.text path) ++ parts_in c.text key;
+  path = without_marks (parts_in c.text path) ++ parts_in c.text key;
   here = bracket_of here;
   outer = map bracket_of outer;
   awaits = awaits;
@@ -37,12 +37,12 @@ IsKeyed c key here (Value equals) = (1 ≤ length key) × (meets_text (parts_in 
 pub record IsHere (c : Contents) (path : List part.Part) (here : code.Bracket) : Type 0 where
   pub inside : here.group < length c.rows
   pub depth : here.names ≡ length path
-  pub way : IsWay c.rows 0 (settled (parts_in c.text path)) here.group
+  pub way : IsWay c.rows 0 (without_marks (parts_in c.text path)) here.group
 
 -- the first parts of a path lead to the groups of the brackets around a bracket
 abbrev pub AreAround : Contents → List part.Part → code.Bracket → List code.Bracket → Type 0
 AreAround c path here [] = Unit {0}
-AreAround c path here (b ∷ outer) = (b.names ≤ here.names) × (b.group ≤ here.group) × IsWay c.rows 0 (settled (parts_in c.text (take b.names path))) b.group × AreAround c path b outer
+AreAround c path here (b ∷ outer) = (b.names ≤ here.names) × (b.group ≤ here.group) × IsWay c.rows 0 (without_marks (parts_in c.text (take b.names path))) b.group × AreAround c path b outer
 
 -- where a reader is that has these nodes, a path to its innermost bracket, a key, the brackets around and what may come next
 pub record IsOpen (c : Contents) (path key : List part.Part) (here : code.Bracket) (outer : List code.Bracket) (awaits : Awaits) : Type 0 where

@@ -3,11 +3,11 @@ use Rattle.std.specs.Prelude.{ℕ, ◌||◌, ◌&&◌, not, Bool, true, false, L
 use Rattle.asound_conf.specs.declared.error.ConfWhy.{ConfWhy}
 use Rattle.asound_conf.specs.declared.error.ConfWhy.TheVariants as why
 use Rattle.asound_conf.specs.Key.{Part}
-use Rattle.asound_conf.specs.Tree.{Tree, text, group, Entries, get, set, without, group_in, is_group, is_text}
+use Rattle.asound_conf.specs.Tree.{Tree, text, group, Entries, get, set, without_name, group_in, is_group, is_text}
 
 -- a group as a part of a key leaves it: a part with `!` removes the node of its name first
 abbrev pub base : Part → Entries → Entries
-base part g = if part.removes then without part.name g else g
+base part g = if part.removes then without_name part.name g else g
 
 -- the node that a part of a key meets
 abbrev pub met : Part → Entries → Option Tree
@@ -44,5 +44,5 @@ clashes (Some t) old = is_group old
 clashes None old = is_text old
 
 -- what `put` makes, but where a node of the other kind is at the end of the key's parts
-abbrev pub placed : Option (List ℕ) → List Part → Entries → Result Entries ConfWhy
-placed value parts g = if clashes value (node_at parts g) then Err why.Kind else Ok (put value parts g)
+abbrev pub put_or_clash : Option (List ℕ) → List Part → Entries → Result Entries ConfWhy
+put_or_clash value parts g = if clashes value (node_at parts g) then Err why.Kind else Ok (put value parts g)

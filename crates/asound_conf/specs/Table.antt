@@ -68,15 +68,15 @@ abbrev pub removed_row : Row → Row
 removed_row row = record { parent = None; name = row.name; value = None }
 
 -- the number that is past a group's names, where it gets this one
-abbrev pub raised : ℕ → Name → ℕ
-raised numbers (names.Bytes s) = no_number
-raised numbers (names.Number n) = if nat_lt n no_number then max numbers (n + 1) else no_number
+abbrev pub number_after : ℕ → Name → ℕ
+number_after numbers (names.Bytes s) = no_number
+number_after numbers (names.Number n) = if nat_lt n no_number then max numbers (n + 1) else no_number
 
 -- what a group's cell has, where the group gets this name
-abbrev pub noted : Content → Name → Content
-noted (contents.Text s) name = contents.Text s
-noted (contents.Group numbers) name = contents.Group (raised numbers name)
-noted contents.Removed name = contents.Removed
+abbrev pub content_with : Content → Name → Content
+content_with (contents.Text s) name = contents.Text s
+content_with (contents.Group numbers) name = contents.Group (number_after numbers name)
+content_with contents.Removed name = contents.Removed
 
 -- what is sought is a number past a group's names
 abbrev pub lacks : Content → Key → Bool
@@ -86,13 +86,13 @@ lacks (contents.Group numbers) (keys.Number n) = nat_le numbers n && nat_lt n no
 lacks contents.Removed key = false
 
 -- a hash that one byte more is mixed into
-abbrev pub mixed : ℕ → ℕ → ℕ
-mixed hash byte = ((hash + byte) % 2 ^ 32) * 0x9E37_79B1 % 2 ^ 32
+abbrev pub hash_with_byte : ℕ → ℕ → ℕ
+hash_with_byte hash byte = ((hash + byte) % 2 ^ 32) * 0x9E37_79B1 % 2 ^ 32
 
 -- a hash of a group's number and a name
 abbrev pub hash_by : ℕ → Option ℕ → List ℕ → ℕ
 hash_by p (Some number) name = (p * 8 % 2 ^ 32 + number % 2 ^ 32) % 2 ^ 32
-hash_by p None name = (p + fold mixed 0 name) % 2 ^ 32
+hash_by p None name = (p + fold hash_with_byte 0 name) % 2 ^ 32
 
 -- the bucket of a group's number and a name, where there are so many
 unfoldable pub bucket_of : ℕ → ℕ → List ℕ → ℕ

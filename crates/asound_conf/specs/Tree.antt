@@ -28,9 +28,9 @@ set name tree empty = entry name tree empty
 set name tree (entry other old rest) = if has name rest then entry other old (set name tree rest) else (if bytes_eq other name then entry other tree rest else entry other old (set name tree rest))
 
 -- a group without the nodes of this name
-abbrev pub without : List ℕ → Entries → Entries
-without name empty = empty
-without name (entry other tree rest) = if bytes_eq other name then without name rest else entry other tree (without name rest)
+abbrev pub without_name : List ℕ → Entries → Entries
+without_name name empty = empty
+without_name name (entry other tree rest) = if bytes_eq other name then without_name name rest else entry other tree (without_name name rest)
 
 -- the group that a node is, or an empty one
 abbrev pub group_in : Option Tree → Entries

@@ -1,13 +1,13 @@
 //! What is put into the groups of a table, down the parts of a key.
 ghost use Rattle.std.specs.Prelude.{◌≡◌, ℕ, ◌<◌, ◌≤◌, ◌++◌, ◌∷◌, [], List, length, IfOk, IsTrue, Option, Some, None, false};
 ghost use Rattle.asound_conf.specs.Answer.{Leads};
-ghost use Rattle.asound_conf.specs.Key.{named, settled};
+ghost use Rattle.asound_conf.specs.Key.{part_named, without_marks};
 ghost use Rattle.asound_conf.specs.Key as key;
 ghost use Rattle.asound_conf.specs.Parts.{part_in, parts_in, text_in};
-ghost use Rattle.asound_conf.specs.Place.{base, meets_text, placed};
+ghost use Rattle.asound_conf.specs.Place.{base, meets_text, put_or_clash};
 ghost use Rattle.asound_conf.specs.Rows.{Alters, group_of};
 ghost use Rattle.asound_conf.specs.Table.{name_in, span_in};
-ghost use Rattle.asound_conf.specs.Tree.{without};
+ghost use Rattle.asound_conf.specs.Tree.{without_name};
 ghost use Rattle.asound_conf.specs.Way.{IsStep, IsWay};
 
 use crate::cell::{Name, Span};
@@ -20,7 +20,7 @@ use crate::table::Table;
 #[inline(never)]
 fn remove_all(table: &mut Table, group: u32, name: Name)
     ensures value { group_of group table.new.rows
-        ≡ without (name_in table.old.text name) (group_of group table.old.rows) }
+        ≡ without_name (name_in table.old.text name) (group_of group table.old.rows) }
     ensures text { table.new.text ≡ table.old.text }
     ensures alters { Alters group table.old.rows table.new.rows }
 {
@@ -47,7 +47,7 @@ fn clear(table: &mut Table, group: u32, part: Part)
 fn put_text(table: &mut Table, group: u32, name: Name, text: Span) -> Result<u32, ConfWhy>
     requires { group < length table.old.rows }
     ensures value { Leads result (group_of group table.new.rows)
-        (placed (Some (span_in table.old.text text)) (named (name_in table.old.text name) ∷ [])
+        (put_or_clash (Some (span_in table.old.text text)) (part_named (name_in table.old.text name) ∷ [])
         (group_of group table.old.rows)) }
     ensures text { table.new.text ≡ table.old.text }
     ensures alters { Alters group table.old.rows table.new.rows }
@@ -68,9 +68,9 @@ fn put_text(table: &mut Table, group: u32, name: Name, text: Span) -> Result<u32
 fn put_group(table: &mut Table, group: u32, name: Name) -> Result<u32, ConfWhy>
     requires { group < length table.old.rows }
     ensures value { Leads result (group_of group table.new.rows)
-        (placed None (named (name_in table.old.text name) ∷ []) (group_of group table.old.rows)) }
+        (put_or_clash None (part_named (name_in table.old.text name) ∷ []) (group_of group table.old.rows)) }
     ensures step { IfOk result (λ n. IsStep table.new.rows group
-        (named (name_in table.old.text name)) n) }
+        (part_named (name_in table.old.text name)) n) }
     ensures text { table.new.text ≡ table.old.text }
     ensures alters { Alters group table.old.rows table.new.rows }
 {
@@ -89,10 +89,10 @@ fn put_group(table: &mut Table, group: u32, name: Name) -> Result<u32, ConfWhy>
 fn put_here(table: &mut Table, group: u32, name: Name, text: Option<Span>) -> Result<u32, ConfWhy>
     requires { group < length table.old.rows }
     ensures value { Leads result (group_of group table.new.rows)
-        (placed (text_in table.old.text text) (named (name_in table.old.text name) ∷ [])
+        (put_or_clash (text_in table.old.text text) (part_named (name_in table.old.text name) ∷ [])
         (group_of group table.old.rows)) }
     ensures step { IfOk result (λ n. text ≡ None → IsStep table.new.rows group
-        (named (name_in table.old.text name)) n) }
+        (part_named (name_in table.old.text name)) n) }
     ensures text { table.new.text ≡ table.old.text }
     ensures alters { Alters group table.old.rows table.new.rows }
 {
@@ -116,11 +116,11 @@ fn put_path(
     requires open { meets_text (parts_in table.old.text parts.now)
         (group_of group table.old.rows) ≡ false }
     ensures placed { (path : List key.Part) → IsWay table.old.rows 0 path group
-        → Leads result (group_of 0 table.new.rows) (placed (text_in table.old.text text)
+        → Leads result (group_of 0 table.new.rows) (put_or_clash (text_in table.old.text text)
         (path ++ parts_in table.old.text parts.now) (group_of 0 table.old.rows)) }
     ensures way { (path : List key.Part) → IsWay table.old.rows 0 path group
         → IfOk result (λ n. text ≡ None
-        → IsWay table.new.rows 0 (path ++ settled (parts_in table.old.text parts.now)) n) }
+        → IsWay table.new.rows 0 (path ++ without_marks (parts_in table.old.text parts.now)) n) }
     ensures row { IfOk result (λ n. text ≡ None → (group < n) × (n < length table.new.rows)) }
     ensures kept { (path : List key.Part) (last : ℕ) → last ≤ group
         → IsWay table.old.rows 0 path last → IsWay table.new.rows 0 path last }
@@ -156,11 +156,11 @@ pub fn put(
     requires open { meets_text (parts_in table.old.text parts.now)
         (group_of group table.old.rows) ≡ false }
     ensures placed { (path : List key.Part) → IsWay table.old.rows 0 path group
-        → Leads result (group_of 0 table.new.rows) (placed (text_in table.old.text text)
+        → Leads result (group_of 0 table.new.rows) (put_or_clash (text_in table.old.text text)
         (path ++ parts_in table.old.text parts.now) (group_of 0 table.old.rows)) }
     ensures way { (path : List key.Part) → IsWay table.old.rows 0 path group
         → IfOk result (λ n. text ≡ None
-        → IsWay table.new.rows 0 (path ++ settled (parts_in table.old.text parts.now)) n) }
+        → IsWay table.new.rows 0 (path ++ without_marks (parts_in table.old.text parts.now)) n) }
     ensures row { IfOk result (λ n. text ≡ None → (group < n) × (n < length table.new.rows)) }
     ensures kept { (path : List key.Part) (last : ℕ) → last ≤ group
         → IsWay table.old.rows 0 path last → IsWay table.new.rows 0 path last }

@@ -2,7 +2,7 @@
 ghost use Rattle.std.specs.Prelude.{◌≡◌, ◌++◌, ◌≤◌, ◌<◌, ◌+◌, ◌^◌, ◌∷◌, [], List, ℕ, OnOk, IfNone, IfSome, position, take, drop, length};
 ghost use Rattle.std.specs.Fmt.{decimal};
 ghost use Rattle.std.specs.List.{list_any, slice_split};
-ghost use Rattle.asound_conf.specs.Key.{begins, has_prefix, is_dot, is_function, is_nameless, key_defect, named, part_of, word_parts};
+ghost use Rattle.asound_conf.specs.Key.{begins, has_prefix, is_dot, is_function, is_nameless, key_defect, part_named, part_of, word_parts};
 ghost use Rattle.asound_conf.specs.Parts.{part_in, parts_in};
 ghost use Rattle.asound_conf.specs.Table.{name_in, span_in};
 
@@ -98,7 +98,7 @@ pub fn push_name(parts: &mut Vec<Part>, name: &[u8], start: u32) -> Result<(), A
     requires { start + length name.now < 2 ^ 32 }
     ensures parts { OnOk result ((text : List ℕ)
         → span_in text (record { start = start; count = length name.now }) ≡ name.now
-        → parts_in text parts.new.items ≡ parts_in text parts.old.items ++ named name.now ∷ []) }
+        → parts_in text parts.new.items ≡ parts_in text parts.old.items ++ part_named name.now ∷ []) }
     ensures kept { OnOk result (take (length parts.old.items) parts.new.items ≡ parts.old.items) }
     ensures more { OnOk result (length parts.old.items < length parts.new.items) }
 {

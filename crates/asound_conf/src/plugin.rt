@@ -1,7 +1,7 @@
 //! The dmix, dsnoop and dshare devices that a configuration defines.
 ghost use Rattle.std.specs.Prelude.{◌≡◌, ◌<◌, ◌≤◌, ◌+◌, ◌^◌, option_map, IfOk};
-ghost use Rattle.asound_conf.specs.Device.{IsCard, as_group, card_of, defined, device_by, field, field_in, format_of, frames_in, is_fit, is_period, is_ring, is_stream, kind_named, kind_of, number_in, numbers_of, or_default, period_of, ring_of, slave_of, bindings_of};
-ghost use Rattle.asound_conf.specs.Answer.{seen};
+ghost use Rattle.asound_conf.specs.Device.{IsCard, as_group, card_of, definition_of, device_by, field, field_in, format_of, frames_in, is_fit, is_period, is_ring, is_stream, kind_named, kind_of, number_in, numbers_of, or_default, period_of, ring_of, slave_of, bindings_of};
+ghost use Rattle.asound_conf.specs.Answer.{answer_view};
 ghost use Rattle.asound_conf.specs.Tree.{get};
 ghost use Rattle.asound_conf.specs.Node.{entries_in, tree_of};
 
@@ -65,7 +65,7 @@ pub struct Card {
 
 /// The group that a node is.
 fn as_group(node: Option<Node<'_>>) -> Result<Group<'_>, ConfWhy>
-    ensures { seen entries_in result
+    ensures { answer_view entries_in result
         ≡ as_group (option_map tree_of node.entry) }
 {
     match node {
@@ -78,7 +78,7 @@ fn as_group(node: Option<Node<'_>>) -> Result<Group<'_>, ConfWhy>
 /// The group `kind.name`.
 #[tactic(auto, unfolding(crate::specs::Device::defined))]
 fn defined<'a>(kind: &[u8], name: &[u8], root: Group<'a>) -> Result<Group<'a>, ConfWhy>
-    ensures { seen entries_in result ≡ defined kind.now name.now (entries_in root.entry) }
+    ensures { answer_view entries_in result ≡ definition_of kind.now name.now (entries_in root.entry) }
 {
     let all = as_group(get(root, kind))?;
     as_group(get(all, name))
@@ -86,7 +86,7 @@ fn defined<'a>(kind: &[u8], name: &[u8], root: Group<'a>) -> Result<Group<'a>, C
 
 /// The slave of a device's definition.
 fn slave_of<'a>(root: Group<'a>, node: Option<Node<'a>>) -> Result<Group<'a>, ConfWhy>
-    ensures { seen entries_in result
+    ensures { answer_view entries_in result
         ≡ slave_of (entries_in root.entry) (option_map tree_of node.entry) }
 {
     match node {

@@ -62,8 +62,8 @@ fn key_cause(table: &Table, here: Bracket, key: &[Part]) -> Option<ConfWhy>
 impl Reading {
     ghost use Rattle.std.specs.Prelude.{◌∷◌, [], IfOk, OnOk, IsTrue, IsFalse, Some, None, Ok, ℕ, not, if◌then◌else◌};
     ghost use Rattle.asound_conf.specs.Answer.{Leads};
-    ghost use Rattle.asound_conf.specs.Grammar.{at_number, close_group, close_to, equals_at, finished, last_line, misplaced, open_at, open_group, put_key, put_text, separator_at, start, step, take_mark, take_text, value_place};
-    ghost use Rattle.asound_conf.specs.Key.{key_defect, named, word_parts};
+    ghost use Rattle.asound_conf.specs.Grammar.{at_number, close_group, close_to, equals_at, end_of_text, last_line, why_misplaced, open_at, open_group, put_key, put_text, separator_at, start, step, take_mark, take_text, value_place};
+    ghost use Rattle.asound_conf.specs.Key.{key_defect, part_named, word_parts};
     ghost use Rattle.asound_conf.specs.Reading.{IsBeforeKey, IsReading, Places, Reads, before_key, key_of, state_of};
     ghost use Rattle.asound_conf.specs.Start.{AreAt, IsAt};
     ghost use Rattle.asound_conf.specs.Table.{span_in};
@@ -188,7 +188,7 @@ impl Reading {
         requires none { length (key_of self.old) ≡ 0 }
         requires at { AreAt self.old.table.text start text.now }
         ensures leads { Leads result (state_of self.new) (put_key (state_of self.old)
-            (key_defect (named text.now ∷ [])) (named text.now ∷ [])) }
+            (key_defect (part_named text.now ∷ [])) (part_named text.now ∷ [])) }
         ensures valid { OnOk result (IsReading self.new) }
         ensures text { self.new.table.text ≡ self.old.table.text }
     {
@@ -220,7 +220,7 @@ impl Reading {
         requires valid { IsReading self.old }
         requires at { AreAt self.old.table.text start text.now }
         ensures leads { Leads result (state_of self.new)
-            (take_text (state_of self.old) (named text.now ∷ []) text.now) }
+            (take_text (state_of self.old) (part_named text.now ∷ []) text.now) }
         ensures valid { OnOk result (IsReading self.new) }
         ensures text { self.new.table.text ≡ self.old.table.text }
     {
@@ -320,7 +320,7 @@ impl Reading {
 
     /// What a mark is that has no place here.
     fn misplaced(&self) -> ConfWhy
-        ensures { result ≡ misplaced (state_of self.now) }
+        ensures { result ≡ why_misplaced (state_of self.now) }
     {
         if self.here.array {
             ConfWhy::Value
@@ -407,7 +407,7 @@ impl Reading {
     /// The group at the text's end.
     pub fn finish(self) -> Result<Conf, ConfError>
         requires { length self.table.text < 2 ^ 31 }
-        ensures { Reads result (finished (state_of self) (last_line self.table.text)
+        ensures { Reads result (end_of_text (state_of self) (last_line self.table.text)
             (state_of self).outer self.awaits) }
     {
         if !self.outer.is_empty() {

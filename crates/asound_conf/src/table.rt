@@ -3,7 +3,7 @@ ghost use Rattle.std.specs.Prelude.{◌≡◌, ◌<◌, ◌≤◌, ◌+◌, ◌-
 ghost use Rattle.std.specs.Fmt.{decimal};
 ghost use Rattle.asound_conf.specs.Device.{count_of};
 ghost use Rattle.asound_conf.specs.Rows.{group_of, is_in, no_row, row_at, with_row, IsAbsent, IsNode};
-ghost use Rattle.asound_conf.specs.Table.{IsTable, bucket_of, cell_at, content_of, contents_of, fits, hash_by, is_live, key_bytes, lacks, mixed, name_in, new_row, no_number, noted, parent_of, raised, removed_row, row_of, span_in, value_in};
+ghost use Rattle.asound_conf.specs.Table.{IsTable, bucket_of, cell_at, content_of, contents_of, fits, hash_by, is_live, key_bytes, lacks, hash_with_byte, name_in, new_row, no_number, content_with, parent_of, number_after, removed_row, row_of, span_in, value_in};
 
 use crate::cell::{Cell, Content, Key, Name, Span};
 use crate::error::ConfWhy;
@@ -36,7 +36,7 @@ fn key_in(text: &[u8], name: Name) -> Key<'_>
 
 /// A hash of some bytes.
 fn hash_bytes(name: &[u8]) -> u32
-    ensures { result ≡ fold mixed 0 name.now }
+    ensures { result ≡ fold hash_with_byte 0 name.now }
 {
     name.iter().fold(0u32, |hash, byte| {
         hash.wrapping_add(u32::from(*byte))
@@ -204,7 +204,7 @@ fn count_in(cells: &[Cell], group: u32) -> u32
 
 /// The number that is past a group's names, where it gets this one.
 fn raised(numbers: u32, name: Name) -> u32
-    ensures { result ≡ raised numbers name }
+    ensures { result ≡ number_after numbers name }
 {
     match name {
         Name::Bytes(_) => NO_NUMBER,
@@ -220,7 +220,7 @@ fn raised(numbers: u32, name: Name) -> u32
 
 /// What a group's cell has, where the group gets this name.
 fn noted(content: Content, name: Name) -> Content
-    ensures { result ≡ noted content name }
+    ensures { result ≡ content_with content name }
 {
     match content {
         Content::Text(span) => Content::Text(span),

@@ -2,7 +2,7 @@
 use Rattle.std.specs.Prelude.{◌≡◌, ◌≢◌, ℕ}
 use Rattle.std.proofs.Common.{subst, sym, ap, ◌∙◌}
 use Rattle.pcm_interval.specs.declared.interval.Interval.{Interval}
-use Rattle.pcm_interval.specs.Intervals.{IsEmpty, IsNonEmpty, IsMember, refined}
+use Rattle.pcm_interval.specs.Intervals.{IsEmpty, IsNonEmpty, IsMember, refinement}
 use Rattle.pcm_interval.specs.IntervalLaws.{IsNonEmpty-IsWithin, IsNonEmpty-IsMember}
 use Rattle.pcm_interval.specs.declared.mask.Mask.{Mask}
 use Rattle.pcm_interval.specs.Masks.{common_mask}
@@ -28,11 +28,11 @@ with_part-IsVoid b q i empty = record {
       let filled : IsNonEmpty i = IsNonEmpty-IsMember i (x.value q).over (x.value q).under member in absurd (cc);
 }
 
-pub narrowed-IsVoid : (b : ParamBox) (q : Quantity) (x : Interval) → IsEmpty (refined (part b q) x) → IsVoid (narrowed b q x)
-narrowed-IsVoid b q x empty = with_part-IsVoid b q (refined (part b q) x) empty
+pub narrowed-IsVoid : (b : ParamBox) (q : Quantity) (x : Interval) → IsEmpty (refinement (part b q) x) → IsVoid (narrowed b q x)
+narrowed-IsVoid b q x empty = with_part-IsVoid b q (refinement (part b q) x) empty
 
 pub narrowed-IsProper : (b new : ParamBox) (q : Quantity) (x : Interval) → IsProper b → new ≡ narrowed b q x
-    → IsNonEmpty (refined (part b q) x) → IsProper new
+    → IsNonEmpty (refinement (part b q) x) → IsProper new
 narrowed-IsProper b new q x proper becomes filled = rw becomes (with_part-IsProper b q x proper filled)
 
 -- ---- masks

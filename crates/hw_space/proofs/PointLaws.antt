@@ -9,7 +9,7 @@ use Rattle.std.proofs.lemmas.Nat.Bits.{bit_at-trailing_zeros}
 use Rattle.pcm_interval.specs.declared.interval.Interval.{Interval}
 use Rattle.pcm_interval.specs.declared.empty.Empty.{Empty}
 use Rattle.pcm_interval.specs.declared.mask.Mask.{Mask}
-use Rattle.pcm_interval.specs.Intervals.{IsNonEmpty, IsNormal, IsWithin, refined}
+use Rattle.pcm_interval.specs.Intervals.{IsNonEmpty, IsNormal, IsWithin, refinement}
 use Rattle.pcm_interval.specs.IntervalLaws.{IsWithin-refl, IsWithin-trans, IsWithin-min, IsWithin-max, IsNonEmpty-le, refined-IsWithin_left, refined-IsWithin_right}
 use Rattle.pcm_interval.specs.Masks.{common_mask}
 use Rattle.pcm_interval.specs.MaskLaws.{common_mask-IsMaskWithin_left, IsMaskWithin-refl}
@@ -98,12 +98,12 @@ module _ (b d : ParamBox) (q : Quantity) (i : Interval) (left : IsLeft (narrowed
   narrowed-within : IsBoxWithin d b
   narrowed-within =
       IsBoxWithin-trans d (narrowed b q i) b left.greatest.within
-      (with_part-IsBoxWithin b q (refined (part b q) i) (refined-IsWithin_left (part b q) i))
+      (with_part-IsBoxWithin b q (refinement (part b q) i) (refined-IsWithin_left (part b q) i))
 
   narrowed-part : IsWithin (part d q) i
   narrowed-part =
-      IsWithin-trans (part d q) (refined (part b q) i) i
-      (IsBoxWithin-part d b q (refined (part b q) i) left.greatest.within) (refined-IsWithin_right (part b q) i)
+      IsWithin-trans (part d q) (refinement (part b q) i) i
+      (IsBoxWithin-part d b q (refinement (part b q) i) left.greatest.within) (refined-IsWithin_right (part b q) i)
 
 -- a settled box has a point where it lies within a number
 pub point-IsSettled : (d : ParamBox) (q : Quantity) (j : Interval) (n : ℕ) → IsSettled d → IsWithin (part d q) j → j.min ≡ n → j.max ≡ n

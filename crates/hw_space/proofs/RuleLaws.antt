@@ -6,7 +6,7 @@ use Rattle.std.proofs.lemmas.Bool.Decides.{nat_tests}
 use Rattle.std.proofs.lemmas.List.Sums.{AllPass-from_list_all}
 use Rattle.pcm_interval.specs.declared.interval.Interval.{Interval}
 use Rattle.pcm_interval.specs.declared.mask.Mask.{Mask}
-use Rattle.pcm_interval.specs.Intervals.{IsEmpty, IsNonEmpty, refined}
+use Rattle.pcm_interval.specs.Intervals.{IsEmpty, IsNonEmpty, refinement}
 use Rattle.pcm_interval.specs.IntervalLaws.{IsWithin-trans, IsWithin-from_same}
 use Rattle.pcm_interval.specs.Masks.{IsMaskWithin, HasNumber, common_mask}
 use Rattle.pcm_interval.specs.MaskLaws.{IsMaskWithin-trans, IsMaskWithin-from_same}
@@ -102,8 +102,8 @@ missed_by_equal b r x proper listed equal =
     let P : Interval → Type 0 = IsMissedByNone b r.target in subst P (sym equal) (computed-IsMissedByNone b r proper listed)
 
 pub apply-IsStep : (b new : ParamBox) (r : Rule) (x : Interval) (changed : Bool) → IsProper b → IsListed r → x ≡ computed r b
-    → IsNonEmpty (refined (part b r.target) x)
-    → (changed ≡ false ↔ (refined (part b r.target) x ≡ part b r.target))
+    → IsNonEmpty (refinement (part b r.target) x)
+    → (changed ≡ false ↔ (refinement (part b r.target) x ≡ part b r.target))
     → new ≡ narrowed b r.target x → IsStep b new changed
 apply-IsStep b new r x changed proper listed equal filled unchanged becomes =
     let P : ParamBox → Type 0 = λ d. IsStep b d changed in
@@ -111,7 +111,7 @@ apply-IsStep b new r x changed proper listed equal filled unchanged becomes =
     (with_part-IsStep b r.target x changed proper (missed_by_equal b r x proper listed equal) filled unchanged.0 unchanged.1)
 
 pub apply-IsVoid : (b : ParamBox) (r : Rule) (x : Interval) → IsProper b → IsListed r → x ≡ computed r b
-    → IsEmpty (refined (part b r.target) x) → IsVoid b
+    → IsEmpty (refinement (part b r.target) x) → IsVoid b
 apply-IsVoid b r x proper listed equal empty = IsVoid-part b r.target x (missed_by_equal b r x proper listed equal) empty
 
 -- ---- some rules in a row
@@ -128,8 +128,8 @@ kept_more a b rs i x inside same so_far here k d below =
 -- ---- formats and sample bits
 
 pub sample_bits-IsStep : (b new : ParamBox) (x : Interval) (changed : Bool) → IsProper b → x ≡ bits_of_formats b.format
-    → IsNonEmpty (refined b.sample_bits x)
-    → (changed ≡ false ↔ (refined b.sample_bits x ≡ b.sample_bits))
+    → IsNonEmpty (refinement b.sample_bits x)
+    → (changed ≡ false ↔ (refinement b.sample_bits x ≡ b.sample_bits))
     → new ≡ narrowed b SampleBits x → IsStep b new changed
 sample_bits-IsStep b new x changed proper equal filled unchanged becomes =
     let P : ParamBox → Type 0 = λ d. IsStep b d changed in
@@ -137,7 +137,7 @@ sample_bits-IsStep b new x changed proper equal filled unchanged becomes =
     subst P (sym becomes)
     (with_part-IsStep b SampleBits x changed proper (subst Q (sym equal) (bits_of_formats-IsMissedByNone b)) filled unchanged.0 unchanged.1)
 
-pub sample_bits-IsVoid : (b : ParamBox) (x : Interval) → x ≡ bits_of_formats b.format → IsEmpty (refined b.sample_bits x) → IsVoid b
+pub sample_bits-IsVoid : (b : ParamBox) (x : Interval) → x ≡ bits_of_formats b.format → IsEmpty (refinement b.sample_bits x) → IsVoid b
 sample_bits-IsVoid b x equal empty =
     let Q : Interval → Type 0 = IsMissedByNone b SampleBits in
     IsVoid-part b SampleBits x (subst Q (sym equal) (bits_of_formats-IsMissedByNone b)) empty
@@ -185,7 +185,7 @@ pass-IsStep a b c d e f p q r s t one two three four five =
 pub pass-IsSettled : (a b c d e : ParamBox) (p q r s t : Bool)
     → IsProper a → IsStep a b p → IsStep b c q → IsStep c d r → IsStep d e s
     → (r ≡ false → All (Keeps c) rules)
-    → (s ≡ false → refined d.sample_bits (bits_of_formats d.format) ≡ d.sample_bits)
+    → (s ≡ false → refinement d.sample_bits (bits_of_formats d.format) ≡ d.sample_bits)
     → (t ≡ false → common_mask e.format (formats_of_bits e.sample_bits) ≡ e.format)
     → ((((p || q) || r) || s) || t) ≡ false → IsSettled a
 pass-IsSettled a b c d e p q r s t proper one two three four by_rules by_formats by_sample_bits none =
@@ -201,6 +201,6 @@ pass-IsSettled a b c d e p q r s t proper one two three four by_rules by_formats
       format = proper.format;
       parts = proper.filled;
       by_rules = subst (λ (x : ParamBox). All (Keeps x) rules) c_is (by_rules third.1);
-      by_formats = subst (λ (x : ParamBox). refined x.sample_bits (bits_of_formats x.format) ≡ x.sample_bits) d_is (by_formats fourth.1);
+      by_formats = subst (λ (x : ParamBox). refinement x.sample_bits (bits_of_formats x.format) ≡ x.sample_bits) d_is (by_formats fourth.1);
       by_sample_bits = subst (λ (x : ParamBox). common_mask x.format (formats_of_bits x.sample_bits) ≡ x.format) e_is (by_sample_bits last.1);
     }

@@ -3,7 +3,7 @@ use Rattle.std.specs.Prelude.{◌≡◌, ◌≢◌, ◌<◌, Bool, true, false, 
 use Rattle.std.proofs.Common.{arith, sym, subst, ap, ◌∙◌}
 use Rattle.pcm_interval.specs.declared.interval.Interval.{Interval}
 use Rattle.pcm_interval.specs.declared.mask.Mask.{Mask}
-use Rattle.pcm_interval.specs.Intervals.{IsEmpty, IsNonEmpty, IsWithin, IsMember, refined}
+use Rattle.pcm_interval.specs.Intervals.{IsEmpty, IsNonEmpty, IsWithin, IsMember, refinement}
 use Rattle.pcm_interval.specs.IntervalLaws.{IsWithin-refl, IsWithin-min, IsWithin-max, IsNonEmpty-IsWithin, refined-IsWithin_left, refined-greatest, refined-IsMember, IsNonEmpty-IsMember, size_of-refined}
 use Rattle.pcm_interval.specs.Masks.{IsMaskWithin, HasNumber, common_mask}
 use Rattle.pcm_interval.specs.MaskLaws.{IsMaskWithin-refl, IsMaskWithin-bits, HasNumber-bits, common_mask-IsMaskWithin_left, common_mask-greatest, common_mask-HasNumber, bits-common_mask}
@@ -86,47 +86,47 @@ pub record IsMissedByNone (b : ParamBox) (q : Quantity) (x : Interval) : Type 0 
   pub settled : (s : ParamBox) → IsSettled s → IsBoxWithin s b → IsWithin (part s q) x
   pub configurations : (y : Configuration) → IsExact y → IsHeld b y → IsMember x (y.value q).over (y.value q).under
 
-pub with_part-IsProper : (b : ParamBox) (q : Quantity) (x : Interval) → IsProper b → IsNonEmpty (refined (part b q) x)
-    → IsProper (with_part b q (refined (part b q) x))
+pub with_part-IsProper : (b : ParamBox) (q : Quantity) (x : Interval) → IsProper b → IsNonEmpty (refinement (part b q) x)
+    → IsProper (with_part b q (refinement (part b q) x))
 with_part-IsProper b q x proper filled =
-    IsProper-within (with_part b q (refined (part b q) x)) b proper
-    (with_part-IsBoxWithin b q (refined (part b q) x) (refined-IsWithin_left (part b q) x))
-    (rw (access-with_part b q (refined (part b q) x)) proper.access)
-    (rw (format-with_part b q (refined (part b q) x)) proper.format)
-    (with_part-each (λ p i. IsNonEmpty i) b q (refined (part b q) x) proper.filled filled)
+    IsProper-within (with_part b q (refinement (part b q) x)) b proper
+    (with_part-IsBoxWithin b q (refinement (part b q) x) (refined-IsWithin_left (part b q) x))
+    (rw (access-with_part b q (refinement (part b q) x)) proper.access)
+    (rw (format-with_part b q (refinement (part b q) x)) proper.format)
+    (with_part-each (λ p i. IsNonEmpty i) b q (refinement (part b q) x) proper.filled filled)
 
 pub with_part-IsStep : (b : ParamBox) (q : Quantity) (x : Interval) (changed : Bool) → IsProper b → IsMissedByNone b q x
-    → IsNonEmpty (refined (part b q) x)
-    → (changed ≡ false → refined (part b q) x ≡ part b q) → (refined (part b q) x ≡ part b q → changed ≡ false)
-    → IsStep b (with_part b q (refined (part b q) x)) changed
+    → IsNonEmpty (refinement (part b q) x)
+    → (changed ≡ false → refinement (part b q) x ≡ part b q) → (refinement (part b q) x ≡ part b q → changed ≡ false)
+    → IsStep b (with_part b q (refinement (part b q) x)) changed
 with_part-IsStep b q x changed proper missed filled same differs = record {
-  within = with_part-IsBoxWithin b q (refined (part b q) x) (refined-IsWithin_left (part b q) x);
+  within = with_part-IsBoxWithin b q (refinement (part b q) x) (refined-IsWithin_left (part b q) x);
   settled = λ s h in_b.
-      IsBoxWithin-with_part s b q (refined (part b q) x) in_b
+      IsBoxWithin-with_part s b q (refinement (part b q) x) in_b
       (refined-greatest (part s q) (part b q) x (h.parts q) (IsSettled-IsNormal s h q) (in_b.parts q) (missed.settled s h in_b));
   configurations = λ y exact held. record {
-    access = rw (access-with_part b q (refined (part b q) x)) held.access;
-    format = rw (format-with_part b q (refined (part b q) x)) held.format;
+    access = rw (access-with_part b q (refinement (part b q) x)) held.access;
+    format = rw (format-with_part b q (refinement (part b q) x)) held.format;
     parts =
-        with_part-each (λ p i. IsMember i (y.value p).over (y.value p).under) b q (refined (part b q) x) held.parts
+        with_part-each (λ p i. IsMember i (y.value p).over (y.value p).under) b q (refinement (part b q) x) held.parts
         (refined-IsMember (part b q) x (y.value q).over (y.value q).under (held.parts q) (missed.configurations y exact held));
   };
   proper = with_part-IsProper b q x proper filled;
   moved = λ e.
-      size_of_box-with_part b q (refined (part b q) x)
+      size_of_box-with_part b q (refinement (part b q) x)
       (size_of-refined (part b q) x filled (λ s. let f : changed ≡ false = differs s in absurd (cc)));
   still = λ e. let P : Interval → Type 0 = λ i. with_part b q i ≡ b in subst P (sym (same e)) (with_part-same b q);
 }
 
-pub IsVoid-part : (b : ParamBox) (q : Quantity) (x : Interval) → IsMissedByNone b q x → IsEmpty (refined (part b q) x) → IsVoid b
+pub IsVoid-part : (b : ParamBox) (q : Quantity) (x : Interval) → IsMissedByNone b q x → IsEmpty (refinement (part b q) x) → IsVoid b
 IsVoid-part b q x missed empty = record {
   settled = λ s h in_b.
       let smaller = refined-greatest (part s q) (part b q) x (h.parts q) (IsSettled-IsNormal s h q) (in_b.parts q) (missed.settled s h in_b) in
-      let filled : IsNonEmpty (refined (part b q) x) = IsNonEmpty-IsWithin (part s q) (refined (part b q) x) smaller (h.parts q) in
+      let filled : IsNonEmpty (refinement (part b q) x) = IsNonEmpty-IsWithin (part s q) (refinement (part b q) x) smaller (h.parts q) in
       absurd (cc);
   configurations = λ y exact held.
       let member = refined-IsMember (part b q) x (y.value q).over (y.value q).under (held.parts q) (missed.configurations y exact held) in
-      let filled : IsNonEmpty (refined (part b q) x) = IsNonEmpty-IsMember (refined (part b q) x) (y.value q).over (y.value q).under member in
+      let filled : IsNonEmpty (refinement (part b q) x) = IsNonEmpty-IsMember (refinement (part b q) x) (y.value q).over (y.value q).under member in
       absurd (cc);
 }
 

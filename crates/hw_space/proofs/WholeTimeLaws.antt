@@ -5,9 +5,9 @@ use Rattle.std.proofs.lemmas.Bool.{cases_lt}
 use Rattle.std.proofs.lemmas.Bool.Decides.{nat_tests}
 use Rattle.std.proofs.Math.Nat.{mul-le-mul_right, lt-div-mul-add, div-mul-le_self, mul-mod_left, eq_of_mul-eq-mul_right, le_of_mul-le-mul_right, mul-pos}
 use Rattle.pcm_interval.specs.declared.interval.Interval.{Interval}
-use Rattle.pcm_interval.specs.Intervals.{refined, IsEmpty, IsNonEmpty, IsWithin, IsLowerWithin, IsUpperWithin, IsNormal}
+use Rattle.pcm_interval.specs.Intervals.{refinement, IsEmpty, IsNonEmpty, IsWithin, IsLowerWithin, IsUpperWithin, IsNormal}
 use Rattle.pcm_interval.specs.IntervalLaws.{IsWithin-min, IsWithin-max, IsWithin-from_same, IsNonEmpty-le}
-use Rattle.pcm_interval.specs.Arithmetic.{end_max, between, is_broken, rounded_up, scaled_product_of, scaled_quotient_of}
+use Rattle.pcm_interval.specs.Arithmetic.{end_max, interval_between, is_broken, rounded_up, scaled_product_of, scaled_quotient_of}
 use Rattle.hw_space.specs.declared.param_box.ParamBox.{ParamBox}
 use Rattle.hw_space.specs.declared.quantity.Quantity.{Quantity}
 use Rattle.hw_space.specs.declared.quantity.Quantity.TheVariants.{Rate, PeriodTime, PeriodSize, BufferTime, BufferSize}
@@ -53,9 +53,9 @@ below_quotient n d m below =
     omega (arith, scaled, div-mul-le_self n d)
 
 -- a closed lower end within that of a fraction is at least the fraction
-lower-fraction : (i : Interval) (n d : ℕ) (o : Bool) (m e : ℕ) (p integer : Bool) → IsLowerWithin i (between n d o m e p integer)
+lower-fraction : (i : Interval) (n d : ℕ) (o : Bool) (m e : ℕ) (p integer : Bool) → IsLowerWithin i (interval_between n d o m e p integer)
     → i.openmin ≡ false → 0 < d → i.min < end_max → n ≤ i.min * d
-unfolding between
+unfolding interval_between
 lower-fraction i n d o m e p integer (inl above) closed positive uncut = above_quotient n d i.min positive (omega arith)
 lower-fraction i n d o m e p integer (inr same) closed positive uncut =
     let whole : i.min ≡ n / d = omega (arith, same.0) in
@@ -68,9 +68,9 @@ lower-fraction i n d o m e p integer (inr same) closed positive uncut =
     ]
 
 -- a closed upper end within that of a fraction is at most the fraction
-upper-fraction : (i : Interval) (n d : ℕ) (o : Bool) (m e : ℕ) (p integer : Bool) → IsUpperWithin i (between m e p n d o integer)
+upper-fraction : (i : Interval) (n d : ℕ) (o : Bool) (m e : ℕ) (p integer : Bool) → IsUpperWithin i (interval_between m e p n d o integer)
     → i.openmax ≡ false → 0 < d → i.max < end_max → i.max * d ≤ n
-unfolding between
+unfolding interval_between
 upper-fraction i n d o m e p integer (inl below) closed positive uncut = below_quotient n d i.max (omega (arith, rounded_up-le n d))
 upper-fraction i n d o m e p integer (inr same) closed positive uncut =
     let rounded : i.max ≡ rounded_up n d = omega (arith, same.0) in
@@ -302,8 +302,8 @@ read-IsMissedByNone b span p q time size x proper p_is time_is whole one_rate q_
 -- so the refinement is a step
 pub whole_time-IsStep : (b new : ParamBox) (span : Span) (q : Quantity) (x : Interval) (changed : Bool) → IsProper b
     → q ≡ size_of_span span → IsMissedByNone b (size_of_span span) x
-    → IsNonEmpty (refined (part b q) x)
-    → (changed ≡ false ↔ (refined (part b q) x ≡ part b q))
+    → IsNonEmpty (refinement (part b q) x)
+    → (changed ≡ false ↔ (refinement (part b q) x ≡ part b q))
     → new ≡ narrowed b q x → IsStep b new changed
 whole_time-IsStep b new span q x changed proper q_is missed filled unchanged becomes =
     let P : ParamBox → Type 0 = λ d. IsStep b d changed in
@@ -312,6 +312,6 @@ whole_time-IsStep b new span q x changed proper q_is missed filled unchanged bec
 
 -- and where it leaves nothing, nothing was there
 pub whole_time-IsVoid : (b : ParamBox) (span : Span) (q : Quantity) (x : Interval)
-    → q ≡ size_of_span span → IsMissedByNone b (size_of_span span) x → IsEmpty (refined (part b q) x) → IsVoid b
+    → q ≡ size_of_span span → IsMissedByNone b (size_of_span span) x → IsEmpty (refinement (part b q) x) → IsVoid b
 whole_time-IsVoid b span q x q_is missed empty =
     let Q : Quantity → Type 0 = λ v. IsMissedByNone b v x in IsVoid-part b q x (subst Q (sym q_is) missed) empty

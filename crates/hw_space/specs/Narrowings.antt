@@ -3,7 +3,7 @@ use Rattle.std.specs.Prelude.{◌≡◌, ℕ, ◌+◌, ◌-◌, ◌<◌, false, 
 use Rattle.pcm_interval.specs.declared.interval.Interval.{Interval}
 use Rattle.pcm_interval.specs.declared.mask.Mask.{Mask}
 use Rattle.pcm_interval.specs.Arithmetic.{end_max}
-use Rattle.pcm_interval.specs.Intervals.{refined}
+use Rattle.pcm_interval.specs.Intervals.{refinement}
 use Rattle.pcm_interval.specs.Masks.{common_mask}
 use Rattle.hw_space.specs.declared.param.Param.{Param}
 use Rattle.hw_space.specs.declared.param.ParamKind.{ParamKind}
@@ -55,7 +55,7 @@ greatest_end i = if i.openmax then between_ends (i.max - 1) i.max else point i.m
 
 -- a quantity is refined with an interval
 abbrev pub narrowed : ParamBox → Quantity → Interval → ParamBox
-narrowed b q i = with_part b q (refined (part b q) i)
+narrowed b q i = with_part b q (refinement (part b q) i)
 
 -- the access, or the format, has one number at most
 abbrev pub with_access : ParamBox → ℕ → ParamBox

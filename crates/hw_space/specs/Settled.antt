@@ -2,7 +2,7 @@
 use Rattle.std.specs.Prelude.{◌≡◌, ◌≢◌, ℕ, ◌*◌, ◌<◌, All, Option, Some, None, Result, Ok, Err}
 use Rattle.pcm_interval.specs.declared.empty.Empty.{Empty}
 use Rattle.pcm_interval.specs.declared.interval.Interval.{Interval}
-use Rattle.pcm_interval.specs.Intervals.{IsNonEmpty, IsMember, refined}
+use Rattle.pcm_interval.specs.Intervals.{IsNonEmpty, IsMember, refinement}
 use Rattle.pcm_interval.specs.Masks.{HasNumber, common_mask}
 use Rattle.hw_space.specs.declared.param_box.ParamBox.{ParamBox}
 use Rattle.hw_space.specs.declared.quantity.Quantity.{Quantity}
@@ -22,7 +22,7 @@ computed r b = computed_by r.operation (part b r.first) (part b r.second)
 
 -- a rule changes nothing of a box
 abbrev pub Keeps : ParamBox → Rule → Type 0
-Keeps b r = refined (part b r.target) (computed r b) ≡ part b r.target
+Keeps b r = refinement (part b r.target) (computed r b) ≡ part b r.target
 
 -- no part of a box is empty, and refining any part by its rules changes nothing
 pub record IsSettled (b : ParamBox) : Type 0 where
@@ -30,7 +30,7 @@ pub record IsSettled (b : ParamBox) : Type 0 where
   pub format : b.format.bits ≢ 0
   pub parts : (q : Quantity) → IsNonEmpty (part b q)
   pub by_rules : All (Keeps b) rules
-  pub by_formats : refined b.sample_bits (bits_of_formats b.format) ≡ b.sample_bits
+  pub by_formats : refinement b.sample_bits (bits_of_formats b.format) ≡ b.sample_bits
   pub by_sample_bits : common_mask b.format (formats_of_bits b.sample_bits) ≡ b.format
 
 -- the greatest settled box within a box: every other settled box within it lies within that one

@@ -6,9 +6,9 @@ use Rattle.std.proofs.lemmas.Bool.Decides.{nat_tests}
 use Rattle.std.proofs.lemmas.Nat.{mul-le}
 use Rattle.std.proofs.Math.Nat.{div-le_of_le-mul, div-one}
 use Rattle.pcm_interval.specs.declared.interval.Interval.{Interval}
-use Rattle.pcm_interval.specs.Intervals.{IsNonEmpty, IsWithin, IsNormal, refined}
+use Rattle.pcm_interval.specs.Intervals.{IsNonEmpty, IsWithin, IsNormal, refinement}
 use Rattle.pcm_interval.specs.IntervalLaws.{IsWithin-from_same, IsNormal-from_same, IsWithin-min, IsWithin-max, IsNonEmpty-le}
-use Rattle.pcm_interval.specs.Arithmetic.{end_max, upper_end_of, between, product_of, quotient_of, scaled_product_of, scaled_quotient_of}
+use Rattle.pcm_interval.specs.Arithmetic.{end_max, upper_end_of, interval_between, product_of, quotient_of, scaled_product_of, scaled_quotient_of}
 use Rattle.pcm_interval.specs.ArithmeticLaws.{product_of-IsWithin, quotient_of-IsWithin, scaled_product_of-IsWithin, scaled_quotient_of-IsWithin}
 use Rattle.hw_space.specs.declared.param_box.ParamBox.{ParamBox}
 use Rattle.hw_space.specs.declared.quantity.Quantity.{Quantity}
@@ -39,7 +39,7 @@ by_rule s h k below = h.by_rules k no_rule below
 
 -- each part is the target of a rule that changes nothing
 data IsTarget (s : ParamBox) (q : Quantity) : Type 0 where
-  target : (x : Interval) → refined (part s q) x ≡ part s q → IsTarget s q
+  target : (x : Interval) → refinement (part s q) x ≡ part s q → IsTarget s q
 
 targets : (s : ParamBox) → IsSettled s → (q : Quantity) → IsTarget s q
 targets s h SampleBits = target _ (by_rule s h 1 (lit< tt))
@@ -67,21 +67,21 @@ upper-end : (n d m : ℕ) → n ≤ d * m → upper_end_of n d ≤ m + 1
 upper-end n d m low = let whole : n / d ≤ m = div-le_of_le-mul d low in grind (arith, nat_tests)
 
 max-product_of : (a b : Interval) (m : ℕ) → a.max * b.max ≤ m → (product_of a b).max ≤ m + 1
-unfolding product_of between
+unfolding product_of interval_between
 max-product_of a b m low = upper-end (a.max * b.max) 1 m (omega arith)
 
 max-scaled_product_of : (a b : Interval) (k m : ℕ) → a.max * b.max ≤ k * m → (scaled_product_of a b k).max ≤ m + 1
-unfolding scaled_product_of between
+unfolding scaled_product_of interval_between
 max-scaled_product_of a b k m low = upper-end (a.max * b.max) k m low
 
 max-scaled_quotient_of : (a : Interval) (k : ℕ) (b : Interval) (m : ℕ) → a.max * k ≤ b.min * m → (scaled_quotient_of a k b).max ≤ m + 1
-unfolding scaled_quotient_of between
+unfolding scaled_quotient_of interval_between
 max-scaled_quotient_of a k b m low = upper-end (a.max * k) b.min m low
 
 -- smaller intervals give a smaller one, where its lower end is below the greatest number
 computed_by-IsWithin : (o : Operation) (a b c d : Interval) → HasScale o → IsNonEmpty a → IsNonEmpty b → IsWithin a c → IsWithin b d
     → 1 ≤ c.min → 1 ≤ d.min → (computed_by o a b).min < end_max → IsWithin (computed_by o a b) (computed_by o c d)
-unfolding product_of quotient_of scaled_product_of scaled_quotient_of between
+unfolding product_of quotient_of scaled_product_of scaled_quotient_of interval_between
 computed_by-IsWithin Mul a b c d scale filled_a filled_b in_c in_d c_min d_min uncut =
     product_of-IsWithin a b c d filled_a filled_b in_c in_d c_min d_min (omega (arith, div-one (a.min * b.min)))
 computed_by-IsWithin Div a b c d scale filled_a filled_b in_c in_d c_min d_min uncut =

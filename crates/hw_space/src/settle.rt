@@ -1,6 +1,6 @@
 //! Refinement: the rules are applied until none changes anything.
 ghost use Rattle.std.specs.Prelude.{◌≡◌, ◌≢◌, ◌≤◌, ◌↔◌, false, All, OnOk, OnErr, IfOk};
-ghost use Rattle.pcm_interval.specs.Intervals.{refined, IsEmpty, IsNonEmpty};
+ghost use Rattle.pcm_interval.specs.Intervals.{refinement, IsEmpty, IsNonEmpty};
 ghost use Rattle.pcm_interval.specs.Masks.{common_mask};
 ghost use Rattle.hw_space.specs.Boxes.{part};
 ghost use Rattle.hw_space.specs.Formats.{bits_of_formats, formats_of_bits};
@@ -24,10 +24,10 @@ pub fn narrow_part(
     other: &Interval,
 ) -> Result<bool, Empty>
     ensures ok { OnOk result (ranges.new ≡ narrowed ranges.old quantity other.now) }
-    ensures filled { OnOk result (IsNonEmpty (refined (part ranges.old quantity) other.now)) }
+    ensures filled { OnOk result (IsNonEmpty (refinement (part ranges.old quantity) other.now)) }
     ensures unchanged { IfOk result (λ changed.
-        (changed ≡ false) ↔ (refined (part ranges.old quantity) other.now ≡ part ranges.old quantity)) }
-    ensures empty { OnErr result (IsEmpty (refined (part ranges.old quantity) other.now)) }
+        (changed ≡ false) ↔ (refinement (part ranges.old quantity) other.now ≡ part ranges.old quantity)) }
+    ensures empty { OnErr result (IsEmpty (refinement (part ranges.old quantity) other.now)) }
     ensures err { OnErr result (ranges.new ≡ ranges.old) }
 {
     let mut interval = ranges.part(quantity);
@@ -87,7 +87,7 @@ fn refine_sample_bits(ranges: &mut ParamBox) -> Result<bool, Empty>
     requires { IsProper ranges.old }
     ensures step { IfOk result (IsStep ranges.old ranges.new) }
     ensures kept { IfOk result (λ changed. changed ≡ false →
-        refined ranges.old.sample_bits (bits_of_formats ranges.old.format) ≡ ranges.old.sample_bits) }
+        refinement ranges.old.sample_bits (bits_of_formats ranges.old.format) ≡ ranges.old.sample_bits) }
     ensures empty { OnErr result (IsVoid ranges.old) }
 {
     let bits = bits_of_formats(&ranges.format);

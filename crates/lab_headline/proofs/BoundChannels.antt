@@ -5,7 +5,7 @@ use Rattle.bindings.specs.AnswerLaws.{AreBindings-answered}
 use Rattle.bindings.specs.Bound.{AreBindings, identity}
 use Rattle.bindings.specs.RisingLaws.{AreBindings-identity}
 use Rattle.pcm_interval.specs.declared.interval.Interval.{Interval}
-use Rattle.pcm_interval.specs.Intervals.{IsLowerWithin, IsUpperWithin, IsWithin, refined}
+use Rattle.pcm_interval.specs.Intervals.{IsLowerWithin, IsUpperWithin, IsWithin, refinement}
 use Rattle.pcm_interval.specs.IntervalLaws.{IsNonEmpty-le, refined-IsWithin_left, refined-IsWithin_right}
 use Rattle.hw_space.specs.declared.param.Param.TheVariants.{Channels}
 use Rattle.hw_space.specs.declared.param_box.ParamBox.{ParamBox}
@@ -40,9 +40,9 @@ left-channels channels rate ring n left is = (least, most)
     whole = whole_from_to 1 channels
 
     part : Interval
-    part = refined (whole_from_to 1 channels) (point n)
+    part = refinement (whole_from_to 1 channels) (point n)
 
-    within : IsWithin left.channels (refined (whole_from_to 1 channels) (point n))
+    within : IsWithin left.channels (refinement (whole_from_to 1 channels) (point n))
     within = is.greatest.within.parts quantity.Channels
 
     ends : left.channels.min ≤ left.channels.max
@@ -50,10 +50,10 @@ left-channels channels rate ring n left is = (least, most)
 
     least : 1 ≤ n
     least =
-        let a = lower-least left.channels (refined (whole_from_to 1 channels) (point n)) within.lower in
-        let b = upper-most left.channels (refined (whole_from_to 1 channels) (point n)) within.upper in
-        let c : 1 ≤ (refined (whole_from_to 1 channels) (point n)).min = lower-least (refined (whole_from_to 1 channels) (point n)) (whole_from_to 1 channels) (refined-IsWithin_left (whole_from_to 1 channels) (point n)).lower in
-        let d : (refined (whole_from_to 1 channels) (point n)).max ≤ n = upper-most (refined (whole_from_to 1 channels) (point n)) (point n) (refined-IsWithin_right (whole_from_to 1 channels) (point n)).upper in
+        let a = lower-least left.channels (refinement (whole_from_to 1 channels) (point n)) within.lower in
+        let b = upper-most left.channels (refinement (whole_from_to 1 channels) (point n)) within.upper in
+        let c : 1 ≤ (refinement (whole_from_to 1 channels) (point n)).min = lower-least (refinement (whole_from_to 1 channels) (point n)) (whole_from_to 1 channels) (refined-IsWithin_left (whole_from_to 1 channels) (point n)).lower in
+        let d : (refinement (whole_from_to 1 channels) (point n)).max ≤ n = upper-most (refinement (whole_from_to 1 channels) (point n)) (point n) (refined-IsWithin_right (whole_from_to 1 channels) (point n)).upper in
         chain 1 _ left.channels.min left.channels.max _ n c a ends b d
       where
         chain : (u v w x y z : ℕ) → u ≤ v → v ≤ w → w ≤ x → x ≤ y → y ≤ z → u ≤ z
@@ -61,10 +61,10 @@ left-channels channels rate ring n left is = (least, most)
 
     most : n ≤ channels
     most =
-        let a = lower-least left.channels (refined (whole_from_to 1 channels) (point n)) within.lower in
-        let b = upper-most left.channels (refined (whole_from_to 1 channels) (point n)) within.upper in
-        let c : n ≤ (refined (whole_from_to 1 channels) (point n)).min = lower-least (refined (whole_from_to 1 channels) (point n)) (point n) (refined-IsWithin_right (whole_from_to 1 channels) (point n)).lower in
-        let d : (refined (whole_from_to 1 channels) (point n)).max ≤ channels = upper-most (refined (whole_from_to 1 channels) (point n)) (whole_from_to 1 channels) (refined-IsWithin_left (whole_from_to 1 channels) (point n)).upper in
+        let a = lower-least left.channels (refinement (whole_from_to 1 channels) (point n)) within.lower in
+        let b = upper-most left.channels (refinement (whole_from_to 1 channels) (point n)) within.upper in
+        let c : n ≤ (refinement (whole_from_to 1 channels) (point n)).min = lower-least (refinement (whole_from_to 1 channels) (point n)) (point n) (refined-IsWithin_right (whole_from_to 1 channels) (point n)).lower in
+        let d : (refinement (whole_from_to 1 channels) (point n)).max ≤ channels = upper-most (refinement (whole_from_to 1 channels) (point n)) (whole_from_to 1 channels) (refined-IsWithin_left (whole_from_to 1 channels) (point n)).upper in
         chain n _ left.channels.min left.channels.max _ channels c a ends b d
       where
         chain : (u v w x y z : ℕ) → u ≤ v → v ≤ w → w ≤ x → x ≤ y → y ≤ z → u ≤ z

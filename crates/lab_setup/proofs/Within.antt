@@ -4,7 +4,7 @@ use Rattle.std.specs.Prelude.{Bool, true, false, if◌then◌else◌, Option, So
 use Rattle.pcm_interval.specs.declared.empty.Empty.{Empty}
 use Rattle.pcm_interval.specs.declared.interval.Interval.{Interval}
 use Rattle.pcm_interval.specs.IntervalLaws.{IsWithin-max, IsWithin-min, IsWithin-trans, refined-IsWithin_left, refined-IsWithin_right}
-use Rattle.pcm_interval.specs.Intervals.{IsWithin, refined}
+use Rattle.pcm_interval.specs.Intervals.{IsWithin, refinement}
 use Rattle.pcm_interval.specs.MaskLaws.{common_mask-IsMaskWithin_left}
 use Rattle.hw_space.specs.declared.choice.Choice.{Choice}
 use Rattle.hw_space.specs.declared.choice.Choice.TheVariants.{Settle, FirstAccess, FirstFormat, First, Last, Near}
@@ -28,7 +28,7 @@ use Rattle.lab_setup.specs.Usable.{IsInRange}
 
 -- a narrowed space is within the space
 narrowed-IsBoxWithin : (b : ParamBox) (q : Quantity) (i : Interval) → IsBoxWithin (narrowed b q i) b
-narrowed-IsBoxWithin b q i = with_part-IsBoxWithin b q (refined (part b q) i) (refined-IsWithin_left (part b q) i)
+narrowed-IsBoxWithin b q i = with_part-IsBoxWithin b q (refinement (part b q) i) (refined-IsWithin_left (part b q) i)
 
 Leaves-IsBoxWithin : (b d whole : ParamBox) → Leaves b (Some d) → IsBoxWithin b whole → IsBoxWithin d whole
 Leaves-IsBoxWithin b d whole left within = IsBoxWithin-trans d b whole left.greatest.within within
@@ -126,10 +126,10 @@ chosen-IsInRange most speed ring channels period more d config narrow choice =
     let within_widest : IsBoxWithin last (widest most speed ring) =
     IsBoxWithin-trans last (with_value (widest most speed ring) param.Channels channels) (widest most speed ring) within_first
     (narrowed-IsBoxWithin (widest most speed ring) quantity.Channels (point channels)) in
-    let both : IsWithin last.channels (refined (whole_from_to 1 most) (point channels)) =
-    IsBoxWithin-part last (widest most speed ring) quantity.Channels (refined (whole_from_to 1 most) (point channels)) within_first in
+    let both : IsWithin last.channels (refinement (whole_from_to 1 most) (point channels)) =
+    IsBoxWithin-part last (widest most speed ring) quantity.Channels (refinement (whole_from_to 1 most) (point channels)) within_first in
     let at_point : IsWithin last.channels (point channels) =
-    IsWithin-trans last.channels (refined (whole_from_to 1 most) (point channels)) (point channels) both (refined-IsWithin_right (whole_from_to 1 most) (point channels)) in
+    IsWithin-trans last.channels (refinement (whole_from_to 1 most) (point channels)) (point channels) both (refined-IsWithin_right (whole_from_to 1 most) (point channels)) in
     let low = IsWithin-min last.channels (point channels) at_point in
     let high = IsWithin-max last.channels (point channels) at_point in
     let few = IsWithin-max last.channels (whole_from_to 1 most) (within_widest.parts quantity.Channels) in

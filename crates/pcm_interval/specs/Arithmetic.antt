@@ -30,8 +30,8 @@ abbrev pub upper_is_open : ℕ → ℕ → Bool → Bool
 upper_is_open n d is_open = nat_le (rounded_up n d) end_max && (is_open || is_broken n d)
 
 -- the interval between two fractions
-unfoldable pub between : (low_n low_d : ℕ) → Bool → (high_n high_d : ℕ) → Bool → Bool → Interval
-between low_n low_d low_open high_n high_d high_open integer = record {
+unfoldable pub interval_between : (low_n low_d : ℕ) → Bool → (high_n high_d : ℕ) → Bool → Bool → Interval
+interval_between low_n low_d low_open high_n high_d high_open integer = record {
   min = lower_end_of low_n low_d;
   max = upper_end_of high_n high_d;
   openmin = lower_is_open low_n low_d low_open;
@@ -42,18 +42,18 @@ between low_n low_d low_open high_n high_d high_open integer = record {
 -- a times b: least at both lower ends, greatest at both upper ends
 unfoldable pub product_of : Interval → Interval → Interval
 product_of a b =
-    between (a.min * b.min) 1 (a.openmin || b.openmin) (a.max * b.max) 1 (a.openmax || b.openmax) (a.integer && b.integer)
+    interval_between (a.min * b.min) 1 (a.openmin || b.openmin) (a.max * b.max) 1 (a.openmax || b.openmax) (a.integer && b.integer)
 
 -- a divided by b: least at the lower end of a and the upper end of b
 unfoldable pub quotient_of : Interval → Interval → Interval
-quotient_of a b = between a.min b.max (a.openmin || b.openmax) a.max b.min (a.openmax || b.openmin) false
+quotient_of a b = interval_between a.min b.max (a.openmin || b.openmax) a.max b.min (a.openmax || b.openmin) false
 
 -- a times b divided by a number
 unfoldable pub scaled_product_of : Interval → Interval → ℕ → Interval
 scaled_product_of a b k =
-    between (a.min * b.min) k (a.openmin || b.openmin) (a.max * b.max) k (a.openmax || b.openmax) false
+    interval_between (a.min * b.min) k (a.openmin || b.openmin) (a.max * b.max) k (a.openmax || b.openmax) false
 
 -- a times a number divided by b
 unfoldable pub scaled_quotient_of : Interval → ℕ → Interval → Interval
 scaled_quotient_of a k b =
-    between (a.min * k) b.max (a.openmin || b.openmax) (a.max * k) b.min (a.openmax || b.openmin) false
+    interval_between (a.min * k) b.max (a.openmin || b.openmax) (a.max * k) b.min (a.openmax || b.openmin) false

@@ -7,7 +7,7 @@ use Rattle.std.proofs.lemmas.Bool.Decides.{nat_tests}
 use Rattle.pcm_interval.specs.declared.interval.Interval.{Interval}
 use Rattle.pcm_interval.specs.Intervals.{IsNonEmpty, IsWithin, IsMember, bit_of}
 use Rattle.pcm_interval.specs.IntervalLaws.{IsNonEmpty-le, IsWithin-from_places, IsWithin-max, IsWithin-min}
-use Rattle.pcm_interval.specs.Arithmetic.{between, product_of, quotient_of, scaled_product_of, scaled_quotient_of, end_max, is_broken, rounded_up, lower_end_of, lower_is_open, upper_end_of, upper_is_open}
+use Rattle.pcm_interval.specs.Arithmetic.{interval_between, product_of, quotient_of, scaled_product_of, scaled_quotient_of, end_max, is_broken, rounded_up, lower_end_of, lower_is_open, upper_end_of, upper_is_open}
 
 -- ---- fractions and their ends
 
@@ -78,8 +78,8 @@ between-IsWithin : (low_n low_d low_m low_e : ℕ) (low_o low_p : Bool) (high_n 
     → 0 < low_d → 0 < low_e → low_n * low_e ≤ low_m * low_d → (low_n * low_e ≡ low_m * low_d → IsTrue low_o → IsTrue low_p) → low_m / low_e ≤ end_max
     → 0 < high_d → 0 < high_e → high_m * high_d ≤ high_n * high_e → (high_m * high_d ≡ high_n * high_e → IsTrue high_o → IsTrue high_p)
     → (IsTrue whole → IsTrue part)
-    → IsWithin (between low_m low_e low_p high_m high_e high_p part) (between low_n low_d low_o high_n high_d high_o whole)
-unfolding between
+    → IsWithin (interval_between low_m low_e low_p high_m high_e high_p part) (interval_between low_n low_d low_o high_n high_d high_o whole)
+unfolding interval_between
 between-IsWithin low_n low_d low_m low_e low_o low_p high_n high_d high_m high_e high_o high_p whole part ld le low lows uncut hd he high highs integer =
     IsWithin-from_places _ _
     (lower_end-le low_n low_d low_m low_e low_o low_p ld le low lows uncut)
@@ -152,7 +152,7 @@ max-positive a filled min = omega (arith, IsNonEmpty-le a filled, min)
 
 -- a times b divided by k, integer as told
 abbrev product_by : Interval → Interval → ℕ → Bool → Interval
-product_by a b k integer = between (a.min * b.min) k (a.openmin || b.openmin) (a.max * b.max) k (a.openmax || b.openmax) integer
+product_by a b k integer = interval_between (a.min * b.min) k (a.openmin || b.openmin) (a.max * b.max) k (a.openmax || b.openmax) integer
 
 product_by-IsWithin : (a b c d : Interval) (k : ℕ) (part whole : Bool) → IsNonEmpty a → IsNonEmpty b → IsWithin a c → IsWithin b d
     → 1 ≤ c.min → 1 ≤ d.min → 1 ≤ k → a.min * b.min / k ≤ end_max → (IsTrue whole → IsTrue part)
@@ -307,8 +307,8 @@ upper_end-IsMember n d m e is_open d_pos e_pos high opens low =
 -- so a fraction between two fractions is a member of the interval between them
 between-IsMember : (low_n low_d high_n high_d n d : ℕ) (low_o high_o whole : Bool) → 0 < low_d → 0 < high_d → 0 < d
     → low_n * d ≤ n * low_d → (IsTrue low_o → low_n * d < n * low_d) → n * high_d ≤ high_n * d → (IsTrue high_o → n * high_d < high_n * d)
-    → n ≤ end_max * d → (IsTrue whole → n % d ≡ 0) → IsMember (between low_n low_d low_o high_n high_d high_o whole) n d
-unfolding between
+    → n ≤ end_max * d → (IsTrue whole → n % d ≡ 0) → IsMember (interval_between low_n low_d low_o high_n high_d high_o whole) n d
+unfolding interval_between
 between-IsMember low_n low_d high_n high_d n d low_o high_o whole ld hd pos low lows high highs fits integer =
     let lower = lower_end-IsMember low_n low_d n d low_o ld pos low lows in
     let upper = upper_end-IsMember high_n high_d n d high_o hd pos high highs fits in

@@ -5,7 +5,7 @@ use Rattle.std.proofs.Math.Nat.{div-add-mod', mul-mod_left, mul-le-mul_right, le
 use Rattle.std.proofs.lemmas.Bool.{or_left, or_right, or_cases, cond-true, cond-false, cases_Bool, cases_lt, cases_order, cond_both, both_ways, false_from_ne_true, false≢true}
 use Rattle.std.proofs.lemmas.Bool.Decides.{nat_tests}
 use Rattle.pcm_interval.specs.declared.interval.Interval.{Interval}
-use Rattle.pcm_interval.specs.Intervals.{IsEmpty, IsNonEmpty, IsWithin, IsMember, IsNormal, is_empty, is_point, with_ends_closed, refined, common_part, normal_form, lower_place, upper_place, bit_of, size_of}
+use Rattle.pcm_interval.specs.Intervals.{IsEmpty, IsNonEmpty, IsWithin, IsMember, IsNormal, is_empty, is_point, with_ends_closed, refinement, common_part, normal_form, lower_place, upper_place, bit_of, size_of}
 
 -- ---- places
 
@@ -202,49 +202,49 @@ normal_form-greatest s i filled normal within = normal_form-cases i (λ n. IsWit
     (IsWithin-lower_place s i within) (IsWithin-upper_place s i within) (point-integer s i filled normal within))
 
 -- of an empty common part nothing is left
-pub refined-empty : (a b : Interval) → IsEmpty (common_part a b) → IsEmpty (refined a b)
-unfolding refined
+pub refined-empty : (a b : Interval) → IsEmpty (common_part a b) → IsEmpty (refinement a b)
+unfolding refinement
 refined-empty a b h = subst IsEmpty (sym (normal_form-empty (common_part a b) h)) h
 
 -- it lies within both
-pub refined-IsWithin_left : (a b : Interval) → IsWithin (refined a b) a
-unfolding refined
+pub refined-IsWithin_left : (a b : Interval) → IsWithin (refinement a b) a
+unfolding refinement
 refined-IsWithin_left a b = IsWithin-trans (normal_form (common_part a b)) (common_part a b) a (normal_form-IsWithin (common_part a b)) (common_part-IsWithin_left a b)
 
-pub refined-IsWithin_right : (a b : Interval) → IsWithin (refined a b) b
-unfolding refined
+pub refined-IsWithin_right : (a b : Interval) → IsWithin (refinement a b) b
+unfolding refinement
 refined-IsWithin_right a b = IsWithin-trans (normal_form (common_part a b)) (common_part a b) b (normal_form-IsWithin (common_part a b)) (common_part-IsWithin_right a b)
 
 -- it has the normal form
-pub refined-IsNormal : (a b : Interval) → IsNonEmpty (refined a b) → IsNormal (refined a b)
-unfolding refined
+pub refined-IsNormal : (a b : Interval) → IsNonEmpty (refinement a b) → IsNormal (refinement a b)
+unfolding refinement
 refined-IsNormal a b filled = normal_form-IsNormal (common_part a b) filled
 
 -- and every interval of normal form that lies within both lies within it
-pub refined-greatest : (s a b : Interval) → IsNonEmpty s → IsNormal s → IsWithin s a → IsWithin s b → IsWithin s (refined a b)
-unfolding refined
+pub refined-greatest : (s a b : Interval) → IsNonEmpty s → IsNormal s → IsWithin s a → IsWithin s b → IsWithin s (refinement a b)
+unfolding refinement
 refined-greatest s a b filled normal in_a in_b = normal_form-greatest s (common_part a b) filled normal (common_part-greatest s a b in_a in_b)
 
 -- so it is not empty
-pub refined-IsNonEmpty : (s a b : Interval) → IsNonEmpty s → IsNormal s → IsWithin s a → IsWithin s b → IsNonEmpty (refined a b)
+pub refined-IsNonEmpty : (s a b : Interval) → IsNonEmpty s → IsNormal s → IsWithin s a → IsWithin s b → IsNonEmpty (refinement a b)
 refined-IsNonEmpty s a b filled normal in_a in_b =
-    IsNonEmpty-IsWithin s (refined a b) (refined-greatest s a b filled normal in_a in_b) filled
+    IsNonEmpty-IsWithin s (refinement a b) (refined-greatest s a b filled normal in_a in_b) filled
 
 -- smaller ones leave a smaller one
-pub refined-IsWithin : (a b c d : Interval) → IsNonEmpty (refined a b) → IsWithin a c → IsWithin b d → IsWithin (refined a b) (refined c d)
+pub refined-IsWithin : (a b c d : Interval) → IsNonEmpty (refinement a b) → IsWithin a c → IsWithin b d → IsWithin (refinement a b) (refinement c d)
 refined-IsWithin a b c d filled in_c in_d =
-    refined-greatest (refined a b) c d filled (refined-IsNormal a b filled)
-    (IsWithin-trans (refined a b) a c (refined-IsWithin_left a b) in_c)
-    (IsWithin-trans (refined a b) b d (refined-IsWithin_right a b) in_d)
+    refined-greatest (refinement a b) c d filled (refined-IsNormal a b filled)
+    (IsWithin-trans (refinement a b) a c (refined-IsWithin_left a b) in_c)
+    (IsWithin-trans (refinement a b) b d (refined-IsWithin_right a b) in_d)
 
 -- a refinement changes nothing exactly where an interval has the normal form and lies within the other
-pub refined-same : (s x : Interval) → IsNonEmpty s → IsNormal s → IsWithin s x → refined s x ≡ s
-refined-same s x filled normal within = IsWithin-antisym (refined s x) s (refined-IsWithin_left s x) (refined-greatest s s x filled normal (IsWithin-refl s) within)
+pub refined-same : (s x : Interval) → IsNonEmpty s → IsNormal s → IsWithin s x → refinement s x ≡ s
+refined-same s x filled normal within = IsWithin-antisym (refinement s x) s (refined-IsWithin_left s x) (refined-greatest s s x filled normal (IsWithin-refl s) within)
 
-pub IsWithin-from_same : (s x : Interval) → refined s x ≡ s → IsWithin s x
+pub IsWithin-from_same : (s x : Interval) → refinement s x ≡ s → IsWithin s x
 IsWithin-from_same s x same = subst (λ (r : Interval). IsWithin r x) same (refined-IsWithin_right s x)
 
-pub IsNormal-from_same : (s x : Interval) → IsNonEmpty s → refined s x ≡ s → IsNormal s
+pub IsNormal-from_same : (s x : Interval) → IsNonEmpty s → refinement s x ≡ s → IsNormal s
 IsNormal-from_same s x filled same =
     subst IsNormal same (refined-IsNormal s x (subst IsNonEmpty (sym same) filled))
 
@@ -354,8 +354,8 @@ point-IsMember i n d h = record {
 }
 
 -- what both have it has
-pub refined-IsMember : (a b : Interval) (n d : ℕ) → IsMember a n d → IsMember b n d → IsMember (refined a b) n d
-unfolding refined
+pub refined-IsMember : (a b : Interval) (n d : ℕ) → IsMember a n d → IsMember b n d → IsMember (refinement a b) n d
+unfolding refinement
 refined-IsMember a b n d in_a in_b =
     let common = common_part-IsMember a b n d in_a in_b in
     normal_form-cases (common_part a b) (λ r. IsMember r n d)
@@ -394,13 +394,13 @@ same_size a b low high room integer same =
     ]
 
 -- a change makes it smaller
-pub size_of-refined : (a b : Interval) → IsNonEmpty (refined a b) → refined a b ≢ a → size_of (refined a b) < size_of a
+pub size_of-refined : (a b : Interval) → IsNonEmpty (refinement a b) → refinement a b ≢ a → size_of (refinement a b) < size_of a
 size_of-refined a b filled changed =
     let within = refined-IsWithin_left a b in
-    let low = IsWithin-lower_place (refined a b) a within in
-    let high = IsWithin-upper_place (refined a b) a within in
-    let room = IsNonEmpty-places (refined a b) filled in
-    elim (cases_lt (size_of (refined a b)) (size_of a)) [
+    let low = IsWithin-lower_place (refinement a b) a within in
+    let high = IsWithin-upper_place (refinement a b) a within in
+    let room = IsNonEmpty-places (refinement a b) filled in
+    elim (cases_lt (size_of (refinement a b)) (size_of a)) [
       | inl smaller ↦ smaller
-      | inr same ↦ absurd (changed (same_size (refined a b) a low high room within.integer same))
+      | inr same ↦ absurd (changed (same_size (refinement a b) a low high room within.integer same))
     ]

@@ -77,8 +77,8 @@ unfoldable pub normal_form : Interval → Interval
 normal_form i = if is_empty i then i else (if i.integer then with_ends_closed i else record i { integer = is_point i })
 
 -- what a refinement of `a` by `b` leaves
-unfoldable pub refined : Interval → Interval → Interval
-refined a b = normal_form (common_part a b)
+unfoldable pub refinement : Interval → Interval → Interval
+refinement a b = normal_form (common_part a b)
 
 -- the form that refinement leaves
 pub record IsNormal (i : Interval) : Type 0 where

@@ -4,7 +4,7 @@
 //!
 //! Every input has a lower end of at least 1 and is not empty.
 ghost use Rattle.std.specs.Prelude.{◌≡◌, ℕ, ◌*◌, ◌≤◌, ◌&&◌, min, nat_le};
-ghost use Rattle.pcm_interval.specs.Arithmetic.{between, lower_end_of, lower_is_open, upper_end_of, upper_is_open, end_max, product_of, quotient_of, scaled_product_of, scaled_quotient_of};
+ghost use Rattle.pcm_interval.specs.Arithmetic.{interval_between, lower_end_of, lower_is_open, upper_end_of, upper_is_open, end_max, product_of, quotient_of, scaled_product_of, scaled_quotient_of};
 ghost use Rattle.pcm_interval.specs.Intervals.{IsMember, IsNonEmpty};
 
 use crate::interval::Interval;
@@ -136,7 +136,7 @@ fn product(a: u32, b: u32) -> u64
 fn between(low: Fraction, high: Fraction, integer: bool) -> Interval
     requires low { 1 ≤ low.denominator }
     requires high { 1 ≤ high.denominator }
-    ensures { result ≡ between low.numerator low.denominator low.made_open high.numerator high.denominator high.made_open integer }
+    ensures { result ≡ interval_between low.numerator low.denominator low.made_open high.numerator high.denominator high.made_open integer }
 {
     let (min, openmin) = lower_end(low);
     let (max, openmax) = upper_end(high);

@@ -1,6 +1,6 @@
 //! Intervals of numbers, whose ends may be open.
 ghost use Rattle.std.specs.Prelude.{◌≡◌, ◌↔◌, ◌||◌, ℕ, OnOk, OnErr, IfOk, IsErr, IsFalse};
-ghost use Rattle.pcm_interval.specs.Intervals.{is_empty, larger_lower_is_open, smaller_upper_is_open, common_part, with_ends_closed, normal_form, refined, IsEmpty, IsNonEmpty, IsMember};
+ghost use Rattle.pcm_interval.specs.Intervals.{is_empty, larger_lower_is_open, smaller_upper_is_open, common_part, with_ends_closed, normal_form, refinement, IsEmpty, IsNonEmpty, IsMember};
 
 use crate::empty::Empty;
 
@@ -33,9 +33,9 @@ impl Interval {
     /// `Ok(true)` says that some field changed, and `Ok(false)` that none did. `Empty` comes exactly where nothing is left,
     /// and then the interval is as before.
     pub fn refine(&mut self, other: &Interval) -> Result<bool, Empty>
-        ensures ok { OnOk result (self.new ≡ refined self.old other.now) }
+        ensures ok { OnOk result (self.new ≡ refinement self.old other.now) }
         ensures unchanged { IfOk result (λ changed. IsFalse changed ↔ (self.new ≡ self.old)) }
-        ensures empty { IsErr result ↔ IsEmpty (refined self.old other.now) }
+        ensures empty { IsErr result ↔ IsEmpty (refinement self.old other.now) }
         ensures err { OnErr result (self.new ≡ self.old) }
         ensures members { (n d : ℕ) → IsMember self.old n d → IsMember other.now n d → IsMember self.new n d }
     {

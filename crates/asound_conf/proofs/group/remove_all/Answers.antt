@@ -1,7 +1,7 @@
 use Rattle.std.proofs.Common.{◌≡◌, ◌<◌, ℕ, List, None, refl, sym, ◌∙◌, ap, ap₂, subst, set}
 use Rattle.asound_conf.specs.Rows.{Alters, Contents, IsAbsent, IsNode, Row, group_of, row_at}
 use Rattle.asound_conf.specs.Table.{name_in}
-use Rattle.asound_conf.specs.Tree.{without}
+use Rattle.asound_conf.specs.Tree.{without_name}
 use Rattle.asound_conf.proofs.Groups.{Alters-both, Alters-same, group-removed, has-IsAbsent, members, members-removed}
 use Rattle.asound_conf.proofs.Places.{without-none}
 use Rattle.asound_conf.proofs.Rows.{Alters-set, is_in-Some, only-None}
@@ -21,7 +21,7 @@ loop-number-preserved c =
     let new : c.remove.new.self.rows ≡ set rows n s = ap (λ (x : Contents). x.rows) c.remove.ensures in
     let same : c.remove.new.self.text ≡ c.loop-number.table.text = ap (λ (x : Contents). x.text) c.remove.ensures in
     record {
-      left = ap₂ (λ (t : List ℕ) (rs : List Row). without (name_in t c.args.name) (group_of q rs)) same new ∙ group-removed rows q name n s is refl ∙ c.loop-number.invariant.left;
+      left = ap₂ (λ (t : List ℕ) (rs : List Row). without_name (name_in t c.args.name) (group_of q rs)) same new ∙ group-removed rows q name n s is refl ∙ c.loop-number.invariant.left;
       text = same ∙ c.loop-number.invariant.text;
       alters = Alters-both q c.args.table.now.rows rows c.remove.new.self.rows c.loop-number.invariant.alters (subst (λ (rs : List Row). Alters q rows rs) (sym new) (Alters-set q n s rows is.parent (only-None q s refl)));
     }

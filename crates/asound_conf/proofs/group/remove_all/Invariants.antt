@@ -1,13 +1,13 @@
 use Rattle.std.proofs.Common.{◌≡◌}
 use Rattle.asound_conf.specs.Rows.{Alters, group_of}
 use Rattle.asound_conf.specs.Table.{name_in}
-use Rattle.asound_conf.specs.Tree.{without}
+use Rattle.asound_conf.specs.Tree.{without_name}
 use Rattle.asound_conf.proofs.Groups.{members}
 use Rattle.asound_conf.proofs.group.remove_all.Given as goal
 
 abbrev pub invariant-loop-number : goal.invariant-loop-number
 invariant-loop-number l = record {
-  left : without (name_in l.table.text l.name) (group_of l.group l.table.rows) ≡ without (name_in l.initial.table.text l.name) (group_of l.group l.initial.table.rows);
+  left : without_name (name_in l.table.text l.name) (group_of l.group l.table.rows) ≡ without_name (name_in l.initial.table.text l.name) (group_of l.group l.initial.table.rows);
   text : l.table.text ≡ l.initial.table.text;
   alters : Alters l.group l.initial.table.rows l.table.rows;
 }

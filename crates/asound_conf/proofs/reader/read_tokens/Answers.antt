@@ -1,5 +1,5 @@
 use Rattle.std.proofs.Common.{List, ℕ, length, ◌<◌, ◌^◌, ap, sym, subst, ◌∙◌, arith}
-use Rattle.asound_conf.specs.Grammar.{finished, last_line, meaning, start}
+use Rattle.asound_conf.specs.Grammar.{end_of_text, last_line, meaning, start}
 use Rattle.asound_conf.specs.Reading.{state_of}
 use Rattle.asound_conf.specs.Start.{IsAt}
 use Rattle.asound_conf.specs.Token.{LineToken, token_of, tokens}
@@ -61,5 +61,5 @@ pub returns : goal.returns
 returns c =
     let text = c.args.text.now in
     let s = state_of c.loop-lexeme.reading in
-    Reads-along c.finish.result (meaning start (last_line text) (tokens 0 1 text)) (finished s (last_line c.loop-lexeme.reading.table.text) s.outer s.awaits)
-    (c.loop-lexeme.invariant.means ∙ ap (meaning s (last_line text)) c.in_default.ensures.none ∙ meaning-nil s (last_line text) ∙ ap (λ (t : List ℕ). finished s (last_line t) s.outer s.awaits) (sym c.loop-lexeme.invariant.text)) c.finish.ensures
+    Reads-along c.finish.result (meaning start (last_line text) (tokens 0 1 text)) (end_of_text s (last_line c.loop-lexeme.reading.table.text) s.outer s.awaits)
+    (c.loop-lexeme.invariant.means ∙ ap (meaning s (last_line text)) c.in_default.ensures.none ∙ meaning-nil s (last_line text) ∙ ap (λ (t : List ℕ). end_of_text s (last_line t) s.outer s.awaits) (sym c.loop-lexeme.invariant.text)) c.finish.ensures

@@ -4,10 +4,10 @@ use Rattle.std.proofs.lemmas.List.{reverse-append, take-append-drop}
 use Rattle.std.proofs.Math.Seq.{drop-length, take-length}
 use Rattle.asound_conf.specs.declared.bracket.Awaits.TheVariants.{Item}
 use Rattle.asound_conf.specs.declared.part.Part.{Part}
-use Rattle.asound_conf.specs.Key.{settled}
+use Rattle.asound_conf.specs.Key.{without_marks}
 use Rattle.asound_conf.specs.Opening.{state_in}
 use Rattle.asound_conf.specs.Parts.{parts_in}
-use Rattle.asound_conf.specs.Place.{meets_text, placed}
+use Rattle.asound_conf.specs.Place.{meets_text, put_or_clash}
 use Rattle.asound_conf.specs.Rows.{group_of}
 use Rattle.asound_conf.specs.Way.{IsWay}
 use Rattle.asound_conf.proofs.Readers.{IsOpen-along, group-open, key-clear, names-least, open_group-state}
@@ -49,7 +49,7 @@ returns-clause-leads c =
     let slice : c.key_behind-key.result.now ≡ key = c.key_behind-key.ensures ∙ ap (drop n) c.as_slice.ensures.value in
     let d = c.put.new.table in
     let group = c.in_ok-group.group in
-    let way = settled (parts_in r.table.text front) in
+    let way = without_marks (parts_in r.table.text front) in
     let whole : c.len-2.result ≡ length parts = omega (arith, r.path.ok, c.len-2.ensures) in
     let joined : front ++ key ≡ parts = take-append-drop n parts in
     let paths : front ++ key ≡ take c.len-2.result parts = joined ∙ sym (ap (λ m. take m parts) whole ∙ take-length parts) in
@@ -58,7 +58,7 @@ returns-clause-leads c =
     let outers : r.here ∷ outer ≡ reverse c.push.new.self.items = sym (ap reverse c.in_ok-push.ensures.items ∙ reverse-append r.outer.items (r.here ∷ [])) in
     let sizes : length (front ++ key) ≡ length front + length key = length-append front key in
     let short : length front + length key < 16 = omega (arith, r.path.ok, sizes, names_are, whole) in
-    let puts = subst (λ (k : List Part). placed None (way ++ parts_in r.table.text k) (group_of 0 r.table.rows) ≡ Ok (group_of 0 d.rows)) slice (c.in_ok-group.ensures.placed way c.requires.valid.innermost.way) in
+    let puts = subst (λ (k : List Part). put_or_clash None (way ++ parts_in r.table.text k) (group_of 0 r.table.rows) ≡ Ok (group_of 0 d.rows)) slice (c.in_ok-group.ensures.placed way c.requires.valid.innermost.way) in
     open_group-state {X = ℕ} (Ok group) r.table d front key r.here outer r.awaits c.args.line group c.args.array short c.put.ensures.text puts
     ∙ (λ i. Ok (state_in d (paths i) (keys i) (record { line = c.args.line; array = c.args.array; values = 0; names = names_are i; group = group }) (outers i) (Item false)))
 
@@ -73,14 +73,14 @@ returns-clause-valid c =
     let slice : c.key_behind-key.result.now ≡ key = c.key_behind-key.ensures ∙ ap (drop n) c.as_slice.ensures.value in
     let d = c.put.new.table in
     let group = c.in_ok-group.group in
-    let way = settled (parts_in r.table.text front) in
+    let way = without_marks (parts_in r.table.text front) in
     let whole : c.len-2.result ≡ length parts = omega (arith, r.path.ok, c.len-2.ensures) in
     let joined : front ++ key ≡ parts = take-append-drop n parts in
     let paths : front ++ key ≡ take c.len-2.result parts = joined ∙ sym (ap (λ m. take m parts) whole ∙ take-length parts) in
     let keys : [] ≡ drop c.len-2.result parts = sym (ap (λ m. drop m parts) whole ∙ drop-length parts) in
     let names_are : length (front ++ key) ≡ c.len-2.result = ap length joined ∙ sym whole in
     let outers : r.here ∷ outer ≡ reverse c.push.new.self.items = sym (ap reverse c.in_ok-push.ensures.items ∙ reverse-append r.outer.items (r.here ∷ [])) in
-    let leads = subst (λ (k : List Part). IsWay d.rows 0 (way ++ settled (parts_in r.table.text k)) group) slice (c.in_ok-group.ensures.way way c.requires.valid.innermost.way refl) in
+    let leads = subst (λ (k : List Part). IsWay d.rows 0 (way ++ without_marks (parts_in r.table.text k)) group) slice (c.in_ok-group.ensures.way way c.requires.valid.innermost.way refl) in
     let row = c.in_ok-group.ensures.row refl in
     IsOpen-along d (front ++ key) (take c.len-2.result parts) [] (drop c.len-2.result parts) c.args.line 0 (length (front ++ key)) c.len-2.result group c.args.array (r.here ∷ outer) (reverse c.push.new.self.items) (Item false)
     paths keys names_are outers

@@ -4,10 +4,10 @@ use Rattle.asound_conf.specs.declared.bracket.Awaits.TheVariants.{Item}
 use Rattle.asound_conf.specs.declared.part.Part.{Part}
 use Rattle.asound_conf.specs.Answer.{Leads}
 use Rattle.asound_conf.specs.Grammar.{put_text}
-use Rattle.asound_conf.specs.Key.{settled}
+use Rattle.asound_conf.specs.Key.{without_marks}
 use Rattle.asound_conf.specs.Opening.{state_in}
 use Rattle.asound_conf.specs.Parts.{parts_in}
-use Rattle.asound_conf.specs.Place.{meets_text, placed}
+use Rattle.asound_conf.specs.Place.{meets_text, put_or_clash}
 use Rattle.asound_conf.specs.Rows.{group_of}
 use Rattle.asound_conf.specs.Table.{span_in}
 use Rattle.asound_conf.proofs.Readers.{IsOpen-along, drop-truncate, key-clear, names-least, put_text-state, take-cleared, text-open}
@@ -50,8 +50,8 @@ returns-in-Ok-clause-leads c =
     let d = c.put-answer.new.table in
     let new = c.truncate.new.self.items in
     let t = span_in r.table.text c.args.text in
-    let way = settled (parts_in r.table.text front) in
-    let puts = subst (λ (k : List Part). Leads c.put-answer.result (group_of 0 d.rows) (placed (Some t) (way ++ parts_in r.table.text k) (group_of 0 r.table.rows))) slice (c.put-answer.ensures.placed way c.requires.valid.innermost.way) in
+    let way = without_marks (parts_in r.table.text front) in
+    let puts = subst (λ (k : List Part). Leads c.put-answer.result (group_of 0 d.rows) (put_or_clash (Some t) (way ++ parts_in r.table.text k) (group_of 0 r.table.rows))) slice (c.put-answer.ensures.placed way c.requires.valid.innermost.way) in
     let leads = put_text-state c.put-answer.result r.table d front key r.here outer r.awaits t c.requires.valid.innermost.depth c.put-answer.ensures.text puts in
     subst (λ a. Leads a (state_in d front [] r.here outer (Item true)) (put_text (state_in r.table front key r.here outer r.awaits) t)) c.in-Ok.is leads
     ∙ ap₂ (λ (p k : List Part). Ok (state_in d p k r.here outer (Item true))) (take-cleared n parts new c.truncate.ensures.items) (drop-truncate n parts new c.truncate.ensures.items)

@@ -4,7 +4,7 @@ use Rattle.asound_conf.specs.declared.part.Part.{Part}
 use Rattle.asound_conf.specs.Answer.{Leads}
 use Rattle.asound_conf.specs.Grammar.{State, put_key}
 use Rattle.asound_conf.specs.Key as keys
-use Rattle.asound_conf.specs.Key.{key_defect, named}
+use Rattle.asound_conf.specs.Key.{key_defect, part_named}
 use Rattle.asound_conf.specs.Opening.{state_in}
 use Rattle.asound_conf.specs.Reading.{state_of}
 use Rattle.asound_conf.proofs.Readers.{IsOpen-along, names-least, no-parts, parts_in-added, take-kept}
@@ -53,6 +53,6 @@ returns-clause-leads c =
     let low : n ≤ length parts = names-least r.table parts key r.here outer r.awaits c.requires.valid in
     let behind : length key ≡ length parts - n = length-drop n parts in
     let count : length parts ≡ n = omega (arith, behind, low, c.requires.none) in
-    let added = parts_in-added r.table.text n parts new (named c.args.text.now ∷ []) count (c.in_ok-push_name.ensures.parts r.table.text c.requires.at.are) in
+    let added = parts_in-added r.table.text n parts new (part_named c.args.text.now ∷ []) count (c.in_ok-push_name.ensures.parts r.table.text c.requires.at.are) in
     let state = ap₂ (λ (p k : List Part). state_in r.table p k r.here outer r.awaits) (take-kept n parts new low c.in_ok-push_name.ensures.kept) (sym (no-parts key c.requires.none)) in
     subst (λ given. Leads c.take_key.result (state_of c.take_key.new.self) given) (ap₂ (λ (s : State) (w : List keys.Part). put_key s (key_defect w) w) state added) c.take_key.ensures.leads

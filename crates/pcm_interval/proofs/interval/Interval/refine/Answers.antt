@@ -3,13 +3,13 @@ use Rattle.std.specs.Prelude.{◌≡◌, refl}
 use Rattle.std.proofs.Common.{ap, sym, subst, ◌∙◌}
 use Rattle.std.proofs.lemmas.Bool.{both_ways}
 use Rattle.pcm_interval.specs.declared.interval.Interval.{Interval}
-use Rattle.pcm_interval.specs.Intervals.{is_empty, IsEmpty, IsNonEmpty, IsMember, common_part, normal_form, refined}
+use Rattle.pcm_interval.specs.Intervals.{is_empty, IsEmpty, IsNonEmpty, IsMember, common_part, normal_form, refinement}
 use Rattle.pcm_interval.specs.IntervalLaws.{refined-empty, refined-IsMember}
 use Rattle.pcm_interval.proofs.interval.Interval.refine.Goals as goal
 
 -- what is left after both steps
-left_is : (a b common left : Interval) → common ≡ common_part a b → left ≡ normal_form common → left ≡ refined a b
-unfolding refined
+left_is : (a b common left : Interval) → common ≡ common_part a b → left ≡ normal_form common → left ≡ refinement a b
+unfolding refinement
 left_is a b common left common_is left_is_normal = left_is_normal ∙ ap normal_form common_is
 
 pub returns-then-is_empty-clause-empty : goal.returns-then-is_empty-clause-empty
@@ -31,7 +31,7 @@ pub returns-clause-empty : goal.returns-clause-empty
 returns-clause-empty c =
     let filled : IsNonEmpty c.normal_form-left.result = sym c.is_empty-2.ensures ∙ c.if-is_empty-2.false in
     let left = left_is c.args.self.now c.args.other.now c.common_part-common.result c.normal_form-left.result c.common_part-common.ensures c.normal_form-left.ensures in
-    (λ told. absurd (cc), λ empty. absurd (both_ways (is_empty (refined c.args.self.now c.args.other.now)) (subst IsNonEmpty left filled) empty))
+    (λ told. absurd (cc), λ empty. absurd (both_ways (is_empty (refinement c.args.self.now c.args.other.now)) (subst IsNonEmpty left filled) empty))
 
 pub returns-clause-members : goal.returns-clause-members
 returns-clause-members c =
