@@ -5,7 +5,7 @@ use Rattle.std.proofs.Math.Numerals.{add-one}
 use Rattle.std.proofs.Math.ListN.{get_or-append}
 use Rattle.std.proofs.lemmas.Bool.{cases_eq, cases_lt}
 use Rattle.std.proofs.lemmas.List.{take_all, append_assoc, ext_get_or, get_or-append_right, get_or-replicate, get_or-set_other, get_or-set_same, length-take, length-append, length-replicate, length-set}
-use Rattle.bindings.specs.Bound.{AreBindings, count_below, padded, rising, zeros}
+use Rattle.bindings.specs.Bound.{AreBindings, count_below, in_eight_places, rising, zeros}
 use Rattle.bindings.specs.RisingLaws.{length-rising, rising-place, rising-rises, rising-within}
 
 zeros-some : (n : ℕ) → n < 8 → zeros (8 - n) ≡ 0 ∷ zeros (8 - (n + 1))
@@ -14,40 +14,40 @@ zeros-some n h =
     ap zeros e
 
 -- one number more
-pub padded-push : (list : List ℕ) (n y : ℕ) → length list ≡ n → n < 8 → set (padded list) n y ≡ padded (list ++ y ∷ [])
+pub padded-push : (list : List ℕ) (n y : ℕ) → length list ≡ n → n < 8 → set (in_eight_places list) n y ≡ in_eight_places (list ++ y ∷ [])
 padded-push list n y is within =
     let low : length list < 8 = omega arith in
     let more : length (list ++ y ∷ []) ≡ length list + 1 = omega (arith, length-append list (y ∷ [])) in
-    ap (λ k. set (padded list) k y) (sym is)
+    ap (λ k. set (in_eight_places list) k y) (sym is)
     ∙ ap (λ zs. set (list ++ zs) (length list) y) (zeros-some (length list) low)
     ∙ set-append_seam list 0 (zeros (8 - (length list + 1))) y
     ∙ ap (λ (k : ℕ). list ++ y ∷ zeros (8 - k)) (sym more)
     ∙ sym (append_assoc list (y ∷ []) (zeros (8 - length (list ++ y ∷ []))))
 
 -- the first numbers of a list, and the next
-pub padded-take : (list places : List ℕ) (n y : ℕ) → n < length list → n < 8 → y ≡ get_or list n 0 → places ≡ padded (take n list) → set places n y ≡ padded (take (n + 1) list)
+pub padded-take : (list places : List ℕ) (n y : ℕ) → n < length list → n < 8 → y ≡ get_or list n 0 → places ≡ in_eight_places (take n list) → set places n y ≡ in_eight_places (take (n + 1) list)
 padded-take list places n y within low is before =
     let count : length (take n list) ≡ n = omega (arith, length-take n list) in
     ap (λ ps. set ps n y) before ∙ padded-push (take n list) n y count low
-    ∙ ap (λ x. padded (take n list ++ x ∷ [])) is
-    ∙ ap padded (sym (ap (λ k. take k list) (add-one n) ∙ take-suc list n 0 within))
+    ∙ ap (λ x. in_eight_places (take n list ++ x ∷ [])) is
+    ∙ ap in_eight_places (sym (ap (λ k. take k list) (add-one n) ∙ take-suc list n 0 within))
 
-pub slice_index-padded : (list : List ℕ) (n : ℕ) → n < length list → get_or (padded list) n 0 ≡ get_or list n 0
+pub slice_index-padded : (list : List ℕ) (n : ℕ) → n < length list → get_or (in_eight_places list) n 0 ≡ get_or list n 0
 slice_index-padded list n within = get_or-append list (zeros (8 - length list)) 0 n within
 
-pub take-padded : (list : List ℕ) → take (length list) (padded list) ≡ list
+pub take-padded : (list : List ℕ) → take (length list) (in_eight_places list) ≡ list
 take-padded list = take-append_seam list (zeros (8 - length list))
 
 -- as many of the first places as a whole list was written to
-pub take-all : (list places : List ℕ) (n : ℕ) → n ≡ length list → places ≡ padded (take n list) → take (length list) places ≡ list
+pub take-all : (list places : List ℕ) (n : ℕ) → n ≡ length list → places ≡ in_eight_places (take n list) → take (length list) places ≡ list
 take-all list places n all is =
-    ap (take (length list)) (is ∙ ap padded (ap (λ k. take k list) all ∙ take_all (length list) list (omega arith))) ∙ take-padded list
+    ap (take (length list)) (is ∙ ap in_eight_places (ap (λ k. take k list) all ∙ take_all (length list) list (omega arith))) ∙ take-padded list
 
-pub length-padded : (list : List ℕ) → length list ≤ 8 → length (padded list) ≡ 8
+pub length-padded : (list : List ℕ) → length list ≤ 8 → length (in_eight_places list) ≡ 8
 length-padded list few = omega (arith, length-append list (zeros (8 - length list)), length-replicate {A = ℕ} (8 - length list) 0)
 
 -- behind the list
-pub slice_index-zeros : (list : List ℕ) (n : ℕ) → length list ≤ n → n < 8 → get_or (padded list) n 0 ≡ 0
+pub slice_index-zeros : (list : List ℕ) (n : ℕ) → length list ≤ n → n < 8 → get_or (in_eight_places list) n 0 ≡ 0
 slice_index-zeros list n past within =
     get_or-append_right list (zeros (8 - length list)) (length list) n 0 refl past ∙ get_or-replicate (8 - length list) (n - length list) 0 0 (omega arith)
 
@@ -96,10 +96,10 @@ place-rising list k are within =
     ]
 
 -- all of them are the rising order
-pub IsPlaced-all : (list places : List ℕ) (n : ℕ) → AreBindings list → n ≡ length list → IsPlaced list places n → places ≡ padded (rising list)
+pub IsPlaced-all : (list places : List ℕ) (n : ℕ) → AreBindings list → n ≡ length list → IsPlaced list places n → places ≡ in_eight_places (rising list)
 IsPlaced-all list places n are all is =
     let many : length (rising list) ≡ length list = length-rising list are in
-    ext_get_or 0 places (padded (rising list)) (is.length_is ∙ sym (length-padded (rising list) (omega (arith, many, are.most))))
+    ext_get_or 0 places (in_eight_places (rising list)) (is.length_is ∙ sym (length-padded (rising list) (omega (arith, many, are.most))))
     (λ k within. elim (cases_lt k (length list)) [
       | inl low ↦
           ap (λ p. get_or places p 0) (sym (place-rising list k are low)) ∙ is.placed (get_or (rising list) k 0) (omega (arith, rising-within list k are low))

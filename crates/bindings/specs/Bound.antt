@@ -35,8 +35,8 @@ abbrev pub zeros : ℕ → List ℕ
 zeros n = replicate n 0
 
 -- a list of at most 8 numbers in 8 places, with zeros behind it
-abbrev pub padded : List ℕ → List ℕ
-padded list = list ++ zeros (8 - length list)
+abbrev pub in_eight_places : List ℕ → List ℕ
+in_eight_places list = list ++ zeros (8 - length list)
 
 -- the list that the fields hold
 abbrev pub list_of : Inside → List ℕ
@@ -45,6 +45,6 @@ list_of b = take b.len b.channels
 -- what the fields keep: the list, its order, and nothing behind them
 pub record IsHeld (b : Inside) : Type 0 where
   pub length_is : length (list_of b) ≡ b.len
-  pub channels_are : b.channels ≡ padded (list_of b)
-  pub order_is : b.order ≡ padded (rising (list_of b))
+  pub channels_are : b.channels ≡ in_eight_places (list_of b)
+  pub order_is : b.order ≡ in_eight_places (rising (list_of b))
   pub bound : AreBindings (list_of b)

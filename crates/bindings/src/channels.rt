@@ -1,6 +1,6 @@
 //! To which channel of the card each channel of a stream goes.
 ghost use Rattle.std.specs.Prelude.{◌≡◌, ℕ, ◌<◌, ◌≤◌, length, slice_index};
-ghost use Rattle.bindings.specs.Bound.{AreBindings, count_below, identity, padded, rising};
+ghost use Rattle.bindings.specs.Bound.{AreBindings, count_below, identity, in_eight_places, rising};
 
 use std::marker::Model;
 
@@ -17,7 +17,7 @@ pub struct Bindings {
 
 impl Model for Bindings {
     ghost use Rattle.std.specs.Prelude.{ℕ, List, length};
-    ghost use Rattle.bindings.specs.Bound.{IsHeld, list_of, padded, rising};
+    ghost use Rattle.bindings.specs.Bound.{IsHeld, list_of, in_eight_places, rising};
     ghost use Rattle.bindings.specs.RisingLaws.{inverse_is};
 
     ghost Value = { List ℕ };
@@ -26,7 +26,7 @@ impl Model for Bindings {
 
     ghost invariant = { IsHeld };
 
-    ghost inverse = { λ list. record { channels = padded list; order = padded (rising list); len = length list } };
+    ghost inverse = { λ list. record { channels = in_eight_places list; order = in_eight_places (rising list); len = length list } };
 
     ghost inverse_ok = { inverse_is };
 }
@@ -85,7 +85,7 @@ impl Bindings {
 /// At most 8 numbers in 8 places, with zeros behind them.
 fn in_eight_places(list: &[u8]) -> [u8; 8]
     requires { length list.now ≤ 8 }
-    ensures { result ≡ padded list.now }
+    ensures { result ≡ in_eight_places list.now }
 {
     let mut places = [0; 8];
     for (place, number) in list.iter().enumerate() {
@@ -97,7 +97,7 @@ fn in_eight_places(list: &[u8]) -> [u8; 8]
 /// The client channels by rising card channel, in 8 places.
 fn rising_order(list: &[u8]) -> [u8; 8]
     requires { AreBindings list.now }
-    ensures { result ≡ padded (rising list.now) }
+    ensures { result ≡ in_eight_places (rising list.now) }
 {
     let mut order = [0; 8];
     for (client, card_channel) in list.iter().enumerate() {

@@ -4,8 +4,8 @@ use Rattle.std.proofs.lemmas.Bool.Decides.{nat_tests}
 use Rattle.std.specs.Prelude.{IsTrue, is_some, SomeIff}
 use Rattle.std.proofs.lemmas.List.Elements.{All-from_get_or, All-get_or}
 use Rattle.std.specs.List.{AllByRecursion, flat_map, list_any}
-use Rattle.dshare.specs.Owners.{AreFree, Row, any_owned, behind, claimed, greatest, has_channel, last_frames, later, owner_of, released}
-use Rattle.dshare.specs.Shared.{AreOfCard, AreOwned, Held, IsHeld, StandsFor, is_owned, last_of, latest_of, marked, raised}
+use Rattle.dshare.specs.Owners.{AreFree, Row, any_owned, position_after, claimed, greatest, has_channel, last_frames, later, owner_of, released}
+use Rattle.dshare.specs.Shared.{AreOfCard, AreOwned, Held, IsHeld, StandsFor, is_owned, last_of, latest_of, with_value_at, with_later_at}
 use Rattle.dshare.proofs.Lists.{greatest-append, has_channel-at, marked-at, raised-at}
 
 -- ---- claims and releases
@@ -26,14 +26,14 @@ raised_none : (b : Bool) (last : Option ℕ) → (if b then later None last else
 raised_none true last = refl
 raised_none false last = refl
 
-pub StandsFor-claimed : (v w : Held) (h : List Row) (cs : List ℕ) → IsHeld v → w ≡ record v { owned = marked true v.owned cs } → StandsFor v h → StandsFor w (claimed cs ∷ h)
+pub StandsFor-claimed : (v w : Held) (h : List Row) (cs : List ℕ) → IsHeld v → w ≡ record v { owned = with_value_at true v.owned cs } → StandsFor v h → StandsFor w (claimed cs ∷ h)
 StandsFor-claimed v w h cs held is stands = subst (λ u. StandsFor u (claimed cs ∷ h)) (sym is) (record {
   owned = λ c within. marked-at true false v.owned cs c (omega (arith, held.few, held.owned_size)) ∙ claimed_by (has_channel cs c) (is_owned v c) (owner_of h c) (length h) (stands.owned c within);
   last = λ c within. stands.last c within;
 })
 
 last_released : (v : Held) (h : List Row) (cs : List ℕ) (frame : Option ℕ) (c : ℕ) → c < length v.last → last_of v c ≡ greatest (last_frames h c)
-    → get_or (raised frame v.last cs) c None ≡ greatest (last_frames (released cs frame ∷ h) c)
+    → get_or (with_later_at frame v.last cs) c None ≡ greatest (last_frames (released cs frame ∷ h) c)
 last_released v h cs None c within same = raised-at None v.last cs c within ∙ (raised_none (has_channel cs c) (last_of v c) ∙ same)
 last_released v h cs (Some f) c within same = raised-at (Some f) v.last cs c within ∙ raised_by (has_channel cs c) f (last_of v c) (last_frames h c) same
 
@@ -41,7 +41,7 @@ owned_after : (frame : Option ℕ) (v : Held) (h : List Row) (cs : List ℕ) (c 
     → (if has_channel cs c then false else is_owned v c) ≡ is_some (owner_of (released cs frame ∷ h) c)
 owned_after frame v h cs c same = same
 
-pub StandsFor-released : (v w : Held) (h : List Row) (cs : List ℕ) (frame : Option ℕ) → IsHeld v → w ≡ record v { owned = marked false v.owned cs; last = raised frame v.last cs } → StandsFor v h
+pub StandsFor-released : (v w : Held) (h : List Row) (cs : List ℕ) (frame : Option ℕ) → IsHeld v → w ≡ record v { owned = with_value_at false v.owned cs; last = with_later_at frame v.last cs } → StandsFor v h
     → StandsFor w (released cs frame ∷ h)
 StandsFor-released v w h cs frame held is stands = subst (λ u. StandsFor u (released cs frame ∷ h)) (sym is) (record {
   owned = λ c within. marked-at false false v.owned cs c (omega (arith, held.few, held.owned_size)) ∙ owned_after frame v h cs c (released_by (has_channel cs c) (is_owned v c) (owner_of h c) (stands.owned c within));
@@ -49,11 +49,11 @@ StandsFor-released v w h cs frame held is stands = subst (λ u. StandsFor u (rel
 })
 
 -- what is claimed is owned
-pub AreOwned-marked : (v w : Held) (cs : List ℕ) → IsHeld v → w ≡ record v { owned = marked true v.owned cs } → AreOfCard v cs → AreOwned w cs
-AreOwned-marked v w cs held is card = subst (λ (u : Held). AreOwned u cs) (sym is) (All-from_get_or (λ k. IsTrue (get_or (marked true v.owned cs) k false)) cs 0
+pub AreOwned-marked : (v w : Held) (cs : List ℕ) → IsHeld v → w ≡ record v { owned = with_value_at true v.owned cs } → AreOfCard v cs → AreOwned w cs
+AreOwned-marked v w cs held is card = subst (λ (u : Held). AreOwned u cs) (sym is) (All-from_get_or (λ k. IsTrue (get_or (with_value_at true v.owned cs) k false)) cs 0
     (λ i within.
     let in_range : get_or cs i 0 < v.channels = All-get_or (λ k. k < v.channels) cs i 0 within card in
-    let owned : get_or (marked true v.owned cs) (get_or cs i 0) false ≡ true =
+    let owned : get_or (with_value_at true v.owned cs) (get_or cs i 0) false ≡ true =
     marked-at true false v.owned cs (get_or cs i 0) (omega (arith, held.few, held.owned_size)) ∙ ap (λ (b : Bool). if b then true else get_or v.owned (get_or cs i 0) false) (has_channel-at cs i within)
     in
     owned))
@@ -128,6 +128,6 @@ latest_of-is v h (c ∷ cs) stands card =
     ap (λ o. later o (latest_of v cs)) (stands.last c card.0) ∙ (ap (later (greatest (last_frames h c))) (latest_of-is v h cs stands card.1)
     ∙ sym (greatest-append (last_frames h c) (flat_map (last_frames h) cs)))
 
-pub behind-is : (o : Option ℕ) (last : ℕ) → SomeIff o (last + 1 < 2 ^ 64) (last + 1) → o ≡ behind (Some last)
+pub behind-is : (o : Option ℕ) (last : ℕ) → SomeIff o (last + 1 < 2 ^ 64) (last + 1) → o ≡ position_after (Some last)
 behind-is None last none = grind (arith, nat_tests)
 behind-is (Some x) last some = grind (arith, nat_tests)

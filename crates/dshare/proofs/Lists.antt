@@ -6,7 +6,7 @@ use Rattle.std.proofs.lemmas.Bool.{cases_eq}
 use Rattle.std.proofs.lemmas.Bool.Decides.{nat_tests}
 use Rattle.std.specs.List.{AllByRecursion}
 use Rattle.dshare.specs.Owners.{greatest, has_channel, later}
-use Rattle.dshare.specs.Shared.{marked, raised}
+use Rattle.dshare.specs.Shared.{with_value_at, with_later_at}
 
 -- an element of a list has what each has
 pub AllByRecursion-at : (P : ℕ → Type 0) (xs : List ℕ) (i : ℕ) → i < length xs → AllByRecursion P xs → P (get_or xs i 0)
@@ -41,11 +41,11 @@ greatest-append (x ∷ xs) ys = ap (later (Some x)) (greatest-append xs ys) ∙ 
 
 -- ---- marked and raised lists
 
-pub length-marked : {X : Type 0} (x : X) (xs : List X) (cs : List ℕ) → length (marked x xs cs) ≡ length xs
+pub length-marked : {X : Type 0} (x : X) (xs : List X) (cs : List ℕ) → length (with_value_at x xs cs) ≡ length xs
 length-marked x xs [] = refl
 length-marked x xs (c ∷ cs) = length-marked x (set xs c x) cs ∙ length-set xs c x
 
-pub length-raised : (f : Option ℕ) (xs : List (Option ℕ)) (cs : List ℕ) → length (raised f xs cs) ≡ length xs
+pub length-raised : (f : Option ℕ) (xs : List (Option ℕ)) (cs : List ℕ) → length (with_later_at f xs cs) ≡ length xs
 length-raised f xs [] = refl
 length-raised f xs (c ∷ cs) = length-raised f (set xs c (later f (get_or xs c None))) cs ∙ length-set xs c (later f (get_or xs c None))
 
@@ -67,7 +67,7 @@ get_or-set_other (y ∷ xs) zero (suc k) x d other = refl
 get_or-set_other (y ∷ xs) (suc i) zero x d other = refl
 get_or-set_other (y ∷ xs) (suc i) (suc k) x d other = get_or-set_other xs i k x d (λ e. other (ap suc e))
 
-pub marked-at : {X : Type 0} (x d : X) (xs : List X) (cs : List ℕ) (c : ℕ) → c < length xs → get_or (marked x xs cs) c d ≡ (if has_channel cs c then x else get_or xs c d)
+pub marked-at : {X : Type 0} (x d : X) (xs : List X) (cs : List ℕ) (c : ℕ) → c < length xs → get_or (with_value_at x xs cs) c d ≡ (if has_channel cs c then x else get_or xs c d)
 marked-at x d xs [] c within = refl
 marked-at x d xs (a ∷ cs) c within =
     let still : c < length (set xs a x) = omega (arith, length-set xs a x) in
@@ -82,7 +82,7 @@ marked-at x d xs (a ∷ cs) c within =
           ap (λ y. if has_channel cs c then x else y) (get_or-set_other xs a c x d other) ∙ sym (ap (λ (b : Bool). if (b || has_channel cs c) then x else get_or xs c d) test)
     ]
 
-pub raised-at : (f : Option ℕ) (xs : List (Option ℕ)) (cs : List ℕ) (c : ℕ) → c < length xs → get_or (raised f xs cs) c None ≡ (if has_channel cs c then later f (get_or xs c None) else get_or xs c None)
+pub raised-at : (f : Option ℕ) (xs : List (Option ℕ)) (cs : List ℕ) (c : ℕ) → c < length xs → get_or (with_later_at f xs cs) c None ≡ (if has_channel cs c then later f (get_or xs c None) else get_or xs c None)
 raised-at f xs [] c within = refl
 raised-at f xs (a ∷ cs) c within =
     let still : c < length (set xs a (later f (get_or xs a None))) = omega (arith, length-set xs a (later f (get_or xs a None))) in

@@ -42,11 +42,11 @@ latest_of v [] = None
 latest_of v (c ∷ channels) = later (last_of v c) (latest_of v channels)
 
 -- a list with one value at some places
-abbrev pub marked : {X : Type 0} → X → List X → List ℕ → List X
-marked x xs [] = xs
-marked x xs (c ∷ channels) = marked x (slice_set xs c x) channels
+abbrev pub with_value_at : {X : Type 0} → X → List X → List ℕ → List X
+with_value_at x xs [] = xs
+with_value_at x xs (c ∷ channels) = with_value_at x (slice_set xs c x) channels
 
 -- a list with the later of a frame and what was there, at some places
-abbrev pub raised : Option ℕ → List (Option ℕ) → List ℕ → List (Option ℕ)
-raised frame xs [] = xs
-raised frame xs (c ∷ channels) = raised frame (slice_set xs c (later frame (slice_index_or xs c None))) channels
+abbrev pub with_later_at : Option ℕ → List (Option ℕ) → List ℕ → List (Option ℕ)
+with_later_at frame xs [] = xs
+with_later_at frame xs (c ∷ channels) = with_later_at frame (slice_set xs c (later frame (slice_index_or xs c None))) channels

@@ -2,7 +2,7 @@
 ghost use Rattle.std.specs.Prelude.{◌≡◌, ◌<◌, ◌≤◌, ◌↔◌, [], ◌∷◌, List, IfErr, IsTrue, OnErr, OnOk, is_some};
 ghost use Rattle.std.specs.List.{list_any};
 ghost use Rattle.dshare.specs.Owners.{AreFree, Row, busy, claimed, later, owner_of, released};
-ghost use Rattle.dshare.specs.Shared.{AreOfCard, AreOwned, IsHeld, StandsFor, is_owned, latest_of, marked, raised};
+ghost use Rattle.dshare.specs.Shared.{AreOfCard, AreOwned, IsHeld, StandsFor, is_owned, latest_of, with_value_at, with_later_at};
 
 use bindings::Bindings;
 use snd_base::PcmError;
@@ -156,7 +156,7 @@ impl Shares {
     /// Notes of these channels whether they are owned.
     fn mark(&mut self, bindings: &Bindings, owned: bool)
         requires { AreOfCard self.old bindings.now }
-        ensures marked { self.new ≡ record self.old { owned = marked owned self.old.owned bindings.now } }
+        ensures marked { self.new ≡ record self.old { owned = with_value_at owned self.old.owned bindings.now } }
         ensures bound { IsHeld self.old }
     {
         for client in 0..bindings.len() {
@@ -167,7 +167,7 @@ impl Shares {
     /// Notes of these channels that a frame was placed there, if one was.
     fn raise(&mut self, bindings: &Bindings, frame: Option<u64>)
         requires { AreOfCard self.old bindings.now }
-        ensures { self.new ≡ record self.old { last = raised frame self.old.last bindings.now } }
+        ensures { self.new ≡ record self.old { last = with_later_at frame self.old.last bindings.now } }
     {
         for client in 0..bindings.len() {
             let channel = bindings.card_channel(client) as usize;

@@ -11,7 +11,7 @@ use Rattle.hw_space.specs.declared.param_box.ParamBox.{ParamBox}
 use Rattle.hw_space.specs.declared.quantity.Quantity.{Quantity}
 use Rattle.hw_space.specs.Boxes.{part, with_part}
 use Rattle.hw_space.specs.BoxLaws.{part-with_part, IsBoxWithin-part}
-use Rattle.hw_space.specs.Narrowings.{narrowed, with_access, with_format}
+use Rattle.hw_space.specs.Narrowings.{with_refined, with_access, with_format}
 use Rattle.hw_space.specs.Settled.{IsVoid}
 use Rattle.hw_space.specs.Widest.{only}
 use Rattle.hw_space.specs.Proper.{IsProper}
@@ -28,10 +28,10 @@ with_part-IsVoid b q i empty = record {
       let filled : IsNonEmpty i = IsNonEmpty-IsMember i (x.value q).over (x.value q).under member in absurd (cc);
 }
 
-pub narrowed-IsVoid : (b : ParamBox) (q : Quantity) (x : Interval) → IsEmpty (refinement (part b q) x) → IsVoid (narrowed b q x)
+pub narrowed-IsVoid : (b : ParamBox) (q : Quantity) (x : Interval) → IsEmpty (refinement (part b q) x) → IsVoid (with_refined b q x)
 narrowed-IsVoid b q x empty = with_part-IsVoid b q (refinement (part b q) x) empty
 
-pub narrowed-IsProper : (b new : ParamBox) (q : Quantity) (x : Interval) → IsProper b → new ≡ narrowed b q x
+pub narrowed-IsProper : (b new : ParamBox) (q : Quantity) (x : Interval) → IsProper b → new ≡ with_refined b q x
     → IsNonEmpty (refinement (part b q) x) → IsProper new
 narrowed-IsProper b new q x proper becomes filled = rw becomes (with_part-IsProper b q x proper filled)
 

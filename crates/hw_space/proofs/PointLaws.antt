@@ -22,7 +22,7 @@ use Rattle.hw_space.specs.declared.quantity.Quantity.TheVariants.{SampleBits, Fr
 use Rattle.hw_space.specs.Boxes.{part, IsBoxWithin}
 use Rattle.hw_space.specs.BoxLaws.{IsBoxWithin-refl, IsBoxWithin-trans, IsBoxWithin-part, with_part-IsBoxWithin}
 use Rattle.hw_space.specs.Choices.{IsFirstNumber, Makes, Chooses, done, fails, goes, choices, HasPoints, IsChoice}
-use Rattle.hw_space.specs.Narrowings.{narrowed, point, at_most, at_least, least_end, greatest_end, with_access, with_format, distance, nearest, LeavesOf, IsNear}
+use Rattle.hw_space.specs.Narrowings.{with_refined, point, at_most, at_least, least_end, greatest_end, with_access, with_format, distance, nearest, LeavesOf, IsNear}
 use Rattle.hw_space.specs.Settled.{IsSettled, IsLeft, Leaves}
 use Rattle.hw_space.specs.SettledLaws.{IsSettled-IsNormal}
 use Rattle.hw_space.specs.Proper.{IsProper}
@@ -94,10 +94,10 @@ greatest_end-whole i normal whole = let closed : i.openmax ≡ false = normal.up
 
 -- ---- what a step leaves lies within the box
 
-module _ (b d : ParamBox) (q : Quantity) (i : Interval) (left : IsLeft (narrowed b q i) d) where
+module _ (b d : ParamBox) (q : Quantity) (i : Interval) (left : IsLeft (with_refined b q i) d) where
   narrowed-within : IsBoxWithin d b
   narrowed-within =
-      IsBoxWithin-trans d (narrowed b q i) b left.greatest.within
+      IsBoxWithin-trans d (with_refined b q i) b left.greatest.within
       (with_part-IsBoxWithin b q (refinement (part b q) i) (refined-IsWithin_left (part b q) i))
 
   narrowed-part : IsWithin (part d q) i
@@ -112,7 +112,7 @@ point-IsSettled d q j n settled within low high =
     IsPoint-within (part d q) j n (settled.parts q) (IsSettled-IsNormal d settled q) within low high
 
 -- at its least end a whole quantity of a settled box becomes a point
-first-point : (b d : ParamBox) (q : Quantity) → IsSettled b → IsTrue (part b q).integer → IsLeft (narrowed b q (least_end (part b q))) d
+first-point : (b d : ParamBox) (q : Quantity) → IsSettled b → IsTrue (part b q).integer → IsLeft (with_refined b q (least_end (part b q))) d
     → part d q ≡ whole_from_to (part b q).min (part b q).min
 first-point b d q settled whole left =
     let closed : least_end (part b q) ≡ point (part b q).min = least_end-whole (part b q) (IsSettled-IsNormal b settled q) whole in
@@ -120,7 +120,7 @@ first-point b d q settled whole left =
     (narrowed-part b d q (least_end (part b q)) left) (ap (λ i. i.min) closed) (ap (λ i. i.max) closed)
 
 -- and at its greatest end
-last-point : (b d : ParamBox) (q : Quantity) → IsSettled b → IsTrue (part b q).integer → IsLeft (narrowed b q (greatest_end (part b q))) d
+last-point : (b d : ParamBox) (q : Quantity) → IsSettled b → IsTrue (part b q).integer → IsLeft (with_refined b q (greatest_end (part b q))) d
     → part d q ≡ whole_from_to (part b q).max (part b q).max
 last-point b d q settled whole left =
     let closed : greatest_end (part b q) ≡ point (part b q).max = greatest_end-whole (part b q) (IsSettled-IsNormal b settled q) whole in
@@ -150,7 +150,7 @@ record HasPoint (d : ParamBox) (q : Quantity) : Type 0 where
   number : ℕ
   is_point : part d q ≡ whole_from_to number number
 
-IsMoved-narrowed : (b d : ParamBox) (q : Quantity) (i : Interval) → IsLeft (narrowed b q i) d → IsMoved b d
+IsMoved-narrowed : (b d : ParamBox) (q : Quantity) (i : Interval) → IsLeft (with_refined b q i) d → IsMoved b d
 IsMoved-narrowed b d q i left = record {
   settled = left.greatest.settled;
   within = narrowed-within b d q i left;
@@ -190,8 +190,8 @@ record IsAtEnd (b d : ParamBox) (q : Quantity) : Type 0 where
   moved : IsMoved b d
   point : IsTrue (part b q).integer → HasPoint d q
 
-at_last : (b low d : ParamBox) (q : Quantity) (i : Interval) → IsLeft (narrowed b q i) low
-    → IsLeft (narrowed low q (greatest_end (part low q))) d → IsAtEnd b d q
+at_last : (b low d : ParamBox) (q : Quantity) (i : Interval) → IsLeft (with_refined b q i) low
+    → IsLeft (with_refined low q (greatest_end (part low q))) d → IsAtEnd b d q
 at_last b low d q i left last = record {
   moved = IsMoved-trans b low d (narrowed-within b low q i left) (IsMoved-narrowed low d q (greatest_end (part low q)) last);
   point = λ whole. record {
@@ -200,8 +200,8 @@ at_last b low d q i left last = record {
   };
 }
 
-at_first : (b high d : ParamBox) (q : Quantity) (i : Interval) → IsLeft (narrowed b q i) high
-    → IsLeft (narrowed high q (least_end (part high q))) d → IsAtEnd b d q
+at_first : (b high d : ParamBox) (q : Quantity) (i : Interval) → IsLeft (with_refined b q i) high
+    → IsLeft (with_refined high q (least_end (part high q))) d → IsAtEnd b d q
 at_first b high d q i left first = record {
   moved = IsMoved-trans b high d (narrowed-within b high q i left) (IsMoved-narrowed high d q (least_end (part high q)) first);
   point = λ whole. record {
@@ -215,11 +215,11 @@ left_of_either true x y d left = inl left
 left_of_either false x y d left = inr left
 
 near-cases : (b d : ParamBox) (q : Quantity) (n : ℕ) (low high : Option ParamBox)
-    → Leaves (narrowed b q (at_most n)) low → Leaves (narrowed b q (at_least n)) high
+    → Leaves (with_refined b q (at_most n)) low → Leaves (with_refined b q (at_least n)) high
     → LeavesOf (nearest q n low high) (Some d) → IsAtEnd b d q
 near-cases b d q n (Some low) (Some high) below above left =
     elim (left_of_either (nat_le (distance (part low q).max n) (distance (part high q).min n))
-    (narrowed low q (greatest_end (part low q))) (narrowed high q (least_end (part high q))) d left) [
+    (with_refined low q (greatest_end (part low q))) (with_refined high q (least_end (part high q))) d left) [
       | inl last ↦ at_last b low d q (at_most n) below last
       | inr first ↦ at_first b high d q (at_least n) above first
     ]

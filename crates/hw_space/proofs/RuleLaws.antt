@@ -19,11 +19,11 @@ use Rattle.hw_space.specs.Boxes.{part, IsBoxWithin}
 use Rattle.hw_space.specs.Formats.{bits_of_formats, formats_of_bits}
 use Rattle.hw_space.specs.FormatLaws.{bits_of_formats-IsWithin, bits_of_formats-IsMember, formats_of_bits-IsMaskWithin, formats_of_bits-HasNumber}
 use Rattle.hw_space.specs.Rules.{rules, no_rule, IsListed, HasScale}
-use Rattle.hw_space.specs.Settled.{IsSettled, Configuration, IsExact, IsHeld, IsResult, Keeps, computed, IsVoid}
+use Rattle.hw_space.specs.Settled.{IsSettled, Configuration, IsExact, IsHeld, IsResult, Keeps, result_of_rule, IsVoid}
 use Rattle.hw_space.specs.SettledLaws.{computed-IsWithin}
 use Rattle.hw_space.specs.ConfigurationLaws.{computed-IsMember}
 use Rattle.hw_space.specs.Proper.{IsProper}
-use Rattle.hw_space.specs.Narrowings.{narrowed}
+use Rattle.hw_space.specs.Narrowings.{with_refined}
 use Rattle.hw_space.specs.Steps.{IsStep}
 use Rattle.hw_space.proofs.StepLaws.{IsStep-trans, either_false, IsMissedByNone, with_part-IsStep, IsVoid-part, IsFormatMissedByNone, with_formats, with_formats-IsStep, IsVoid-format}
 
@@ -60,12 +60,12 @@ IsListed-IsResult x r exact listed =
 
 -- ---- nothing is missed
 
-pub computed-IsMissedByNone : (b : ParamBox) (r : Rule) → IsProper b → IsListed r → IsMissedByNone b r.target (computed r b)
+pub computed-IsMissedByNone : (b : ParamBox) (r : Rule) → IsProper b → IsListed r → IsMissedByNone b r.target (result_of_rule r b)
 computed-IsMissedByNone b r proper listed = record {
   settled = λ s settled within.
       let same = IsListed-Keeps s r settled listed in
-      IsWithin-trans (part s r.target) (computed r s) (computed r b)
-      (IsWithin-from_same (part s r.target) (computed r s) same)
+      IsWithin-trans (part s r.target) (result_of_rule r s) (result_of_rule r b)
+      (IsWithin-from_same (part s r.target) (result_of_rule r s) same)
       (computed-IsWithin s b settled within proper r (IsListed-HasScale r listed) same);
   configurations = λ x exact held.
       computed-IsMember b r x proper (IsListed-HasScale r listed) held (IsListed-IsResult x r exact listed);
@@ -97,20 +97,20 @@ HasNumber-formats_of_bits b x exact held =
 -- ---- one rule is applied
 
 -- nothing is missed by an interval that a rule computed
-missed_by_equal : (b : ParamBox) (r : Rule) (x : Interval) → IsProper b → IsListed r → x ≡ computed r b → IsMissedByNone b r.target x
+missed_by_equal : (b : ParamBox) (r : Rule) (x : Interval) → IsProper b → IsListed r → x ≡ result_of_rule r b → IsMissedByNone b r.target x
 missed_by_equal b r x proper listed equal =
     let P : Interval → Type 0 = IsMissedByNone b r.target in subst P (sym equal) (computed-IsMissedByNone b r proper listed)
 
-pub apply-IsStep : (b new : ParamBox) (r : Rule) (x : Interval) (changed : Bool) → IsProper b → IsListed r → x ≡ computed r b
+pub apply-IsStep : (b new : ParamBox) (r : Rule) (x : Interval) (changed : Bool) → IsProper b → IsListed r → x ≡ result_of_rule r b
     → IsNonEmpty (refinement (part b r.target) x)
     → (changed ≡ false ↔ (refinement (part b r.target) x ≡ part b r.target))
-    → new ≡ narrowed b r.target x → IsStep b new changed
+    → new ≡ with_refined b r.target x → IsStep b new changed
 apply-IsStep b new r x changed proper listed equal filled unchanged becomes =
     let P : ParamBox → Type 0 = λ d. IsStep b d changed in
     subst P (sym becomes)
     (with_part-IsStep b r.target x changed proper (missed_by_equal b r x proper listed equal) filled unchanged.0 unchanged.1)
 
-pub apply-IsVoid : (b : ParamBox) (r : Rule) (x : Interval) → IsProper b → IsListed r → x ≡ computed r b
+pub apply-IsVoid : (b : ParamBox) (r : Rule) (x : Interval) → IsProper b → IsListed r → x ≡ result_of_rule r b
     → IsEmpty (refinement (part b r.target) x) → IsVoid b
 apply-IsVoid b r x proper listed equal empty = IsVoid-part b r.target x (missed_by_equal b r x proper listed equal) empty
 
@@ -130,7 +130,7 @@ kept_more a b rs i x inside same so_far here k d below =
 pub sample_bits-IsStep : (b new : ParamBox) (x : Interval) (changed : Bool) → IsProper b → x ≡ bits_of_formats b.format
     → IsNonEmpty (refinement b.sample_bits x)
     → (changed ≡ false ↔ (refinement b.sample_bits x ≡ b.sample_bits))
-    → new ≡ narrowed b SampleBits x → IsStep b new changed
+    → new ≡ with_refined b SampleBits x → IsStep b new changed
 sample_bits-IsStep b new x changed proper equal filled unchanged becomes =
     let P : ParamBox → Type 0 = λ d. IsStep b d changed in
     let Q : Interval → Type 0 = IsMissedByNone b SampleBits in

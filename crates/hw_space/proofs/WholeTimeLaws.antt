@@ -15,7 +15,7 @@ use Rattle.hw_space.specs.declared.rule.Operation.TheVariants.{MulKDiv}
 use Rattle.hw_space.specs.declared.whole_time.Span.{Span}
 use Rattle.hw_space.specs.declared.whole_time.Span.TheVariants.{Period, Buffer}
 use Rattle.hw_space.specs.Boxes.{part, IsBoxWithin}
-use Rattle.hw_space.specs.Narrowings.{narrowed}
+use Rattle.hw_space.specs.Narrowings.{with_refined}
 use Rattle.hw_space.specs.Proper.{IsProper}
 use Rattle.hw_space.specs.Rules.{no_rule}
 use Rattle.hw_space.specs.Settled.{IsSettled, Configuration, IsExact, IsHeld, IsResult, IsVoid}
@@ -304,7 +304,7 @@ pub whole_time-IsStep : (b new : ParamBox) (span : Span) (q : Quantity) (x : Int
     → q ≡ size_of_span span → IsMissedByNone b (size_of_span span) x
     → IsNonEmpty (refinement (part b q) x)
     → (changed ≡ false ↔ (refinement (part b q) x ≡ part b q))
-    → new ≡ narrowed b q x → IsStep b new changed
+    → new ≡ with_refined b q x → IsStep b new changed
 whole_time-IsStep b new span q x changed proper q_is missed filled unchanged becomes =
     let P : ParamBox → Type 0 = λ d. IsStep b d changed in
     let Q : Quantity → Type 0 = λ v. IsMissedByNone b v x in

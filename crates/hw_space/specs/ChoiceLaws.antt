@@ -11,7 +11,7 @@ use Rattle.hw_space.specs.declared.param_box.ParamBox.{ParamBox}
 use Rattle.hw_space.specs.declared.quantity.Quantity.{Quantity}
 use Rattle.hw_space.specs.Boxes.{part}
 use Rattle.hw_space.specs.Choices.{IsFirstNumber, Makes, Chooses, done, fails, goes, choices, HasPoints, IsChoice}
-use Rattle.hw_space.specs.Narrowings.{narrowed, at_most, at_least, least_end, greatest_end, with_access, with_format, nearest, LeavesOf, IsNear}
+use Rattle.hw_space.specs.Narrowings.{with_refined, at_most, at_least, least_end, greatest_end, with_access, with_format, nearest, LeavesOf, IsNear}
 use Rattle.hw_space.specs.Settled.{Leaves}
 use Rattle.hw_space.specs.SettledLaws.{IsGreatest-unique}
 
@@ -29,8 +29,8 @@ LeavesOf-unique None o p one other = one ∙ sym other
 -- the nearest end leaves one box, or nothing
 pub IsNear-unique : (b : ParamBox) (q : Quantity) (n : ℕ) (o p : Option ParamBox) → IsNear b q n o → IsNear b q n p → o ≡ p
 IsNear-unique b q n o p one other =
-    let low = Leaves-unique (narrowed b q (at_most n)) one.low other.low one.below other.below in
-    let high = Leaves-unique (narrowed b q (at_least n)) one.high other.high one.above other.above in
+    let low = Leaves-unique (with_refined b q (at_most n)) one.low other.low one.below other.below in
+    let high = Leaves-unique (with_refined b q (at_least n)) one.high other.high one.above other.above in
     let same : nearest q n other.low other.high ≡ nearest q n one.low one.high =
     sym (ap (λ x. nearest q n x one.high) low ∙ ap (λ x. nearest q n other.low x) high) in
     LeavesOf-unique (nearest q n one.low one.high) o p one.left (subst (λ (m : Option ParamBox). LeavesOf m p) same other.left)
@@ -55,8 +55,8 @@ Makes-unique FirstAccess b o p one other =
 Makes-unique FirstFormat b o p one other =
     let same = IsFirstNumber-unique b.format other.0 one.0 other.1 one.1 in
     Leaves-unique (with_format b one.0) o p one.2 (subst (λ (n : ℕ). Leaves (with_format b n) p) same other.2)
-Makes-unique (First q) b o p one other = Leaves-unique (narrowed b q (least_end (part b q))) o p one other
-Makes-unique (Last q) b o p one other = Leaves-unique (narrowed b q (greatest_end (part b q))) o p one other
+Makes-unique (First q) b o p one other = Leaves-unique (with_refined b q (least_end (part b q))) o p one other
+Makes-unique (Last q) b o p one other = Leaves-unique (with_refined b q (greatest_end (part b q))) o p one other
 Makes-unique (Near q n) b o p one other = IsNear-unique b q n o p one other
 
 -- how steps can end: there are none, the first leaves nothing, or the others go on

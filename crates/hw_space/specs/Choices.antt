@@ -9,7 +9,7 @@ use Rattle.hw_space.specs.declared.config.Config.{Config}
 use Rattle.hw_space.specs.declared.param_box.ParamBox.{ParamBox}
 use Rattle.hw_space.specs.declared.quantity.Quantity.TheVariants.{Channels, Rate, PeriodSize, Periods, BufferSize}
 use Rattle.hw_space.specs.Boxes.{part}
-use Rattle.hw_space.specs.Narrowings.{narrowed, least_end, greatest_end, with_access, with_format, IsNear}
+use Rattle.hw_space.specs.Narrowings.{with_refined, least_end, greatest_end, with_access, with_format, IsNear}
 use Rattle.hw_space.specs.Settled.{Leaves}
 use Rattle.hw_space.specs.Widest.{whole_from_to}
 
@@ -23,8 +23,8 @@ abbrev pub Makes : Choice → ParamBox → Option ParamBox → Type 0
 Makes Settle b o = Leaves b o
 Makes FirstAccess b o = (n : ℕ) × IsFirstNumber b.access n × Leaves (with_access b n) o
 Makes FirstFormat b o = (n : ℕ) × IsFirstNumber b.format n × Leaves (with_format b n) o
-Makes (First q) b o = Leaves (narrowed b q (least_end (part b q))) o
-Makes (Last q) b o = Leaves (narrowed b q (greatest_end (part b q))) o
+Makes (First q) b o = Leaves (with_refined b q (least_end (part b q))) o
+Makes (Last q) b o = Leaves (with_refined b q (greatest_end (part b q))) o
 Makes (Near q n) b o = IsNear b q n o
 
 -- what steps leave of a box, one after the other: nothing, as soon as one leaves nothing

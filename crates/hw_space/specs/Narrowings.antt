@@ -54,8 +54,8 @@ greatest_end i = if i.openmax then between_ends (i.max - 1) i.max else point i.m
 -- ---- narrowed boxes
 
 -- a quantity is refined with an interval
-abbrev pub narrowed : ParamBox → Quantity → Interval → ParamBox
-narrowed b q i = with_part b q (refinement (part b q) i)
+abbrev pub with_refined : ParamBox → Quantity → Interval → ParamBox
+with_refined b q i = with_part b q (refinement (part b q) i)
 
 -- the access, or the format, has one number at most
 abbrev pub with_access : ParamBox → ℕ → ParamBox
@@ -66,13 +66,13 @@ with_format b n = record b { format = common_mask b.format (only n) }
 
 -- a parameter with an interval is refined with one that is made of it. Other parameters stay
 abbrev pub narrowed_by : (Interval → Interval) → ParamBox → ParamKind → ParamBox
-narrowed_by f b (Number q) = narrowed b q (f (part b q))
+narrowed_by f b (Number q) = with_refined b q (f (part b q))
 narrowed_by f b Access = b
 narrowed_by f b Format = b
 
 -- a parameter has one value
 abbrev pub with_kind_value : ParamBox → ParamKind → ℕ → ParamBox
-with_kind_value b (Number q) n = narrowed b q (point n)
+with_kind_value b (Number q) n = with_refined b q (point n)
 with_kind_value b Access n = with_access b n
 with_kind_value b Format n = with_format b n
 
@@ -116,10 +116,10 @@ distance a b = (a - b) + (b - a)
 abbrev pub nearest : Quantity → ℕ → Option ParamBox → Option ParamBox → Option ParamBox
 nearest q n (Some low) (Some high) =
     Some (if nat_le (distance (part low q).max n) (distance (part high q).min n)
-    then narrowed low q (greatest_end (part low q))
-    else narrowed high q (least_end (part high q)))
-nearest q n (Some low) None = Some (narrowed low q (greatest_end (part low q)))
-nearest q n None (Some high) = Some (narrowed high q (least_end (part high q)))
+    then with_refined low q (greatest_end (part low q))
+    else with_refined high q (least_end (part high q)))
+nearest q n (Some low) None = Some (with_refined low q (greatest_end (part low q)))
+nearest q n None (Some high) = Some (with_refined high q (least_end (part high q)))
 nearest q n None None = None
 
 -- what refinement leaves of a box, if there is one
@@ -132,8 +132,8 @@ LeavesOf None o = o ≡ None
 pub record IsNear (b : ParamBox) (q : Quantity) (n : ℕ) (o : Option ParamBox) : Type 0 where
   pub low : Option ParamBox
   pub high : Option ParamBox
-  pub below : Leaves (narrowed b q (at_most n)) low
-  pub above : Leaves (narrowed b q (at_least n)) high
+  pub below : Leaves (with_refined b q (at_most n)) low
+  pub above : Leaves (with_refined b q (at_least n)) high
   pub left : LeavesOf (nearest q n low high) o
 
 abbrev pub IsNearKind : ParamBox → ParamKind → ℕ → Option ParamBox → Type 0

@@ -17,12 +17,12 @@ use Rattle.hw_space.specs.Rules.{rules, computed_by}
 -- ---- settled boxes
 
 -- what a rule computes from a box
-abbrev pub computed : Rule → ParamBox → Interval
-computed r b = computed_by r.operation (part b r.first) (part b r.second)
+abbrev pub result_of_rule : Rule → ParamBox → Interval
+result_of_rule r b = computed_by r.operation (part b r.first) (part b r.second)
 
 -- a rule changes nothing of a box
 abbrev pub Keeps : ParamBox → Rule → Type 0
-Keeps b r = refinement (part b r.target) (computed r b) ≡ part b r.target
+Keeps b r = refinement (part b r.target) (result_of_rule r b) ≡ part b r.target
 
 -- no part of a box is empty, and refining any part by its rules changes nothing
 pub record IsSettled (b : ParamBox) : Type 0 where

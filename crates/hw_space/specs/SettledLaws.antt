@@ -21,7 +21,7 @@ use Rattle.hw_space.specs.BoxLaws.{IsBoxWithin-antisym}
 use Rattle.hw_space.specs.Formats.{bits_of_formats}
 use Rattle.hw_space.specs.FormatLaws.{max-bits_of_formats}
 use Rattle.hw_space.specs.Rules.{rules, no_rule, computed_by, HasScale}
-use Rattle.hw_space.specs.Settled.{IsSettled, IsGreatest, Keeps, computed}
+use Rattle.hw_space.specs.Settled.{IsSettled, IsGreatest, Keeps, result_of_rule}
 use Rattle.hw_space.specs.Proper.{IsProper}
 
 -- ---- one at most
@@ -93,8 +93,8 @@ computed_by-IsWithin (MulKDiv k) a b c d scale filled_a filled_b in_c in_d c_min
 
 module _ (s b : ParamBox) (settled : IsSettled s) (within : IsBoxWithin s b) (proper : IsProper b) where
   -- what a rule computes bounds its target
-  max-target : (r : Rule) (m : ℕ) → Keeps s r → (computed r s).max ≤ m → (part s r.target).max ≤ m
-  max-target r m same low = omega (arith, low, IsWithin-max (part s r.target) (computed r s) (IsWithin-from_same (part s r.target) (computed r s) same))
+  max-target : (r : Rule) (m : ℕ) → Keeps s r → (result_of_rule r s).max ≤ m → (part s r.target).max ≤ m
+  max-target r m same low = omega (arith, low, IsWithin-max (part s r.target) (result_of_rule r s) (IsWithin-from_same (part s r.target) (result_of_rule r s) same))
 
   max-sample_bits : s.sample_bits.max ≤ 16
   max-sample_bits =
@@ -161,14 +161,14 @@ module _ (s b : ParamBox) (settled : IsSettled s) (within : IsBoxWithin s b) (pr
 
   -- ---- a rule computes less from a settled box within a proper one
 
-  min-target : (r : Rule) → Keeps s r → (computed r s).min < end_max
+  min-target : (r : Rule) → Keeps s r → (result_of_rule r s).min < end_max
   min-target r same =
       let high = IsSettled-max r.target in
-      let low = IsWithin-min (part s r.target) (computed r s) (IsWithin-from_same (part s r.target) (computed r s) same) in
+      let low = IsWithin-min (part s r.target) (result_of_rule r s) (IsWithin-from_same (part s r.target) (result_of_rule r s) same) in
       let order = IsNonEmpty-le (part s r.target) (settled.parts r.target) in
       omega (arith, high, low, order)
 
-  pub computed-IsWithin : (r : Rule) → HasScale r.operation → Keeps s r → IsWithin (computed r s) (computed r b)
+  pub computed-IsWithin : (r : Rule) → HasScale r.operation → Keeps s r → IsWithin (result_of_rule r s) (result_of_rule r b)
   computed-IsWithin r scale same =
       computed_by-IsWithin r.operation (part s r.first) (part s r.second) (part b r.first) (part b r.second) scale
       (settled.parts r.first) (settled.parts r.second) (within.parts r.first) (within.parts r.second)

@@ -1,7 +1,7 @@
 //! Narrowing: one parameter is refined, and then the whole box.
 ghost use Rattle.std.specs.Prelude.{◌≡◌, ◌+◌, ◌-◌, ◌<◌, OnOk};
 ghost use Rattle.pcm_interval.specs.Intervals.{IsNonEmpty};
-ghost use Rattle.hw_space.specs.Narrowings.{point, at_least, at_most, whole_numbers, between_ends, least_end, greatest_end, narrowed, with_access, with_format, with_kind_value, FitsKind};
+ghost use Rattle.hw_space.specs.Narrowings.{point, at_least, at_most, whole_numbers, between_ends, least_end, greatest_end, with_refined, with_access, with_format, with_kind_value, FitsKind};
 ghost use Rattle.hw_space.specs.Proper.{IsProper};
 ghost use Rattle.hw_space.specs.Settled.{Leaves, left_of};
 ghost use Rattle.hw_space.specs.Widest.{whole_from_to, from_to, only};
@@ -15,7 +15,7 @@ use pcm_interval::{Empty, Interval, Mask};
 /// Refines the interval of one quantity, and then the box. After `Empty` the box may be narrowed in part.
 pub fn narrow(ranges: &mut ParamBox, quantity: Quantity, other: &Interval) -> Result<(), Empty>
     requires { IsProper ranges.old }
-    ensures left { Leaves (narrowed ranges.old quantity other.now) (left_of result ranges.new) }
+    ensures left { Leaves (with_refined ranges.old quantity other.now) (left_of result ranges.new) }
     ensures proper { OnOk result (IsProper ranges.new) }
 {
     narrow_part(ranges, quantity, other)?;

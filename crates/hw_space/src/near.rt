@@ -1,7 +1,7 @@
 //! The end of a quantity that is nearest to a number.
 ghost use Rattle.std.specs.Prelude.{◌≡◌, IfSome, OnOk};
 ghost use Rattle.hw_space.specs.Boxes.{part};
-ghost use Rattle.hw_space.specs.Narrowings.{narrowed, least_end, greatest_end, distance, nearest, IsNear, LeavesOf};
+ghost use Rattle.hw_space.specs.Narrowings.{with_refined, least_end, greatest_end, distance, nearest, IsNear, LeavesOf};
 ghost use Rattle.hw_space.specs.Proper.{IsProper};
 ghost use Rattle.hw_space.specs.Settled.{Leaves, left_of};
 
@@ -68,7 +68,7 @@ fn nearer(low: &ParamBox, high: &ParamBox, quantity: Quantity, value: u32) -> Op
 /// What is left of a box at the greatest end of a quantity, after refinement.
 fn at_last(ranges: &ParamBox, quantity: Quantity) -> Option<ParamBox>
     requires { IsProper ranges.now }
-    ensures left { Leaves (narrowed ranges.now quantity (greatest_end (part ranges.now quantity))) result }
+    ensures left { Leaves (with_refined ranges.now quantity (greatest_end (part ranges.now quantity))) result }
     ensures proper { IfSome result IsProper }
 {
     let end = greatest_end(ranges.part(quantity));
@@ -78,7 +78,7 @@ fn at_last(ranges: &ParamBox, quantity: Quantity) -> Option<ParamBox>
 /// What is left of a box at the least end of a quantity, after refinement.
 fn at_first(ranges: &ParamBox, quantity: Quantity) -> Option<ParamBox>
     requires { IsProper ranges.now }
-    ensures left { Leaves (narrowed ranges.now quantity (least_end (part ranges.now quantity))) result }
+    ensures left { Leaves (with_refined ranges.now quantity (least_end (part ranges.now quantity))) result }
     ensures proper { IfSome result IsProper }
 {
     let end = least_end(ranges.part(quantity));
@@ -88,7 +88,7 @@ fn at_first(ranges: &ParamBox, quantity: Quantity) -> Option<ParamBox>
 /// What is left of a box with a quantity narrowed, after refinement.
 fn tried(ranges: &ParamBox, quantity: Quantity, other: &Interval) -> Option<ParamBox>
     requires { IsProper ranges.now }
-    ensures left { Leaves (narrowed ranges.now quantity other.now) result }
+    ensures left { Leaves (with_refined ranges.now quantity other.now) result }
     ensures proper { IfSome result IsProper }
 {
     let mut left = *ranges;

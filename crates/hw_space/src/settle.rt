@@ -4,7 +4,7 @@ ghost use Rattle.pcm_interval.specs.Intervals.{refinement, IsEmpty, IsNonEmpty};
 ghost use Rattle.pcm_interval.specs.Masks.{common_mask};
 ghost use Rattle.hw_space.specs.Boxes.{part};
 ghost use Rattle.hw_space.specs.Formats.{bits_of_formats, formats_of_bits};
-ghost use Rattle.hw_space.specs.Narrowings.{narrowed};
+ghost use Rattle.hw_space.specs.Narrowings.{with_refined};
 ghost use Rattle.hw_space.specs.Rules.{IsListed};
 ghost use Rattle.hw_space.specs.Settled.{Keeps, IsSettled, IsVoid};
 ghost use Rattle.hw_space.specs.Proper.{IsProper};
@@ -23,7 +23,7 @@ pub fn narrow_part(
     quantity: Quantity,
     other: &Interval,
 ) -> Result<bool, Empty>
-    ensures ok { OnOk result (ranges.new ≡ narrowed ranges.old quantity other.now) }
+    ensures ok { OnOk result (ranges.new ≡ with_refined ranges.old quantity other.now) }
     ensures filled { OnOk result (IsNonEmpty (refinement (part ranges.old quantity) other.now)) }
     ensures unchanged { IfOk result (λ changed.
         (changed ≡ false) ↔ (refinement (part ranges.old quantity) other.now ≡ part ranges.old quantity)) }

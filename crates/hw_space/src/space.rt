@@ -1,6 +1,6 @@
 //! A space: the configurations that a stream may still have.
 ghost use Rattle.std.specs.Prelude.{◌≡◌, ◌≢◌, ◌↔◌, IsTrue, OnErr, IfOk};
-ghost use Rattle.hw_space.specs.Narrowings.{narrowed, with_value, with_min, with_max, with_integer, with_first, with_last, interval_of, mask_of, FitsParam, LeavesNear};
+ghost use Rattle.hw_space.specs.Narrowings.{with_refined, with_value, with_min, with_max, with_integer, with_first, with_last, interval_of, mask_of, FitsParam, LeavesNear};
 ghost use Rattle.hw_space.specs.Choices.{IsChoice};
 ghost use Rattle.hw_space.specs.Params.{HasInterval};
 ghost use Rattle.hw_space.specs.Settled.{Configuration, IsExact, IsHeld, Leaves, left_of};
@@ -202,7 +202,7 @@ impl Space {
 
     /// Narrows one quantity to what it has in common with an interval, and refines.
     fn narrow(&mut self, quantity: Quantity, other: &Interval) -> Result<(), Empty>
-        ensures left { Leaves (narrowed self.old quantity other.now) (left_of result self.new) }
+        ensures left { Leaves (with_refined self.old quantity other.now) (left_of result self.new) }
         ensures err { OnErr result (self.new ≡ self.old) }
     {
         let mut ranges = self.ranges;

@@ -27,41 +27,41 @@ use Rattle.lab_run.specs.Reader as reader
 use Rattle.lab_run.specs.Rules.{AtPort, lets_pass, with_asks, with_entry, with_gate_stop, with_load, with_stop, with_stop_by}
 
 -- an actor that its own gate stopped so many times more
-abbrev pub raised : ℕ → AtPort → AtPort
-raised k a = record a { by_gate = a.by_gate + k }
+abbrev pub with_more_stops : ℕ → AtPort → AtPort
+with_more_stops k a = record a { by_gate = a.by_gate + k }
 
 -- the same of an actor with what it found
 abbrev pub raised_doing : ℕ → Doing → Doing
-raised_doing k doing = (raised k doing.0, doing.1)
+raised_doing k doing = (with_more_stops k doing.0, doing.1)
 
 -- a kind of actor doesn't ask how often the gate stopped it
 pub record IsBlind {S : Type 0} (kind : Kind S) : Type 0 where
   pub begins : (k : ℕ) (a : AtPort) (s : S) (asked : Op)
-      → kind.begins s asked (raised k a) ≡ raised k (kind.begins s asked a)
+      → kind.begins s asked (with_more_stops k a) ≡ with_more_stops k (kind.begins s asked a)
   pub course : (k : ℕ) (a : AtPort) (s : S) (asked : Op)
-      → kind.course (raised k a) s asked ≡ kind.course a s asked
+      → kind.course (with_more_stops k a) s asked ≡ kind.course a s asked
 
-with_gate_stop-raised : (k : ℕ) (a : AtPort) → with_gate_stop (raised k a) ≡ raised k (with_gate_stop a)
+with_gate_stop-raised : (k : ℕ) (a : AtPort) → with_gate_stop (with_more_stops k a) ≡ with_more_stops k (with_gate_stop a)
 with_gate_stop-raised k a =
     let same : (a.by_gate + k) + 1 ≡ (a.by_gate + 1) + k = omega arith in ap (λ (n : ℕ). record a { by_gate = n }) same
 
-with_stop_by-raised : (k : ℕ) (passes : Bool) (a : AtPort) → with_stop_by passes (raised k a) ≡ raised k (with_stop_by passes a)
+with_stop_by-raised : (k : ℕ) (passes : Bool) (a : AtPort) → with_stop_by passes (with_more_stops k a) ≡ with_more_stops k (with_stop_by passes a)
 with_stop_by-raised k true a = with_gate_stop-raised k (with_asks 1 a)
 with_stop_by-raised k false a = refl
 
-with_stop-raised : (k : ℕ) (a : AtPort) → with_stop (raised k a) ≡ raised k (with_stop a)
+with_stop-raised : (k : ℕ) (a : AtPort) → with_stop (with_more_stops k a) ≡ with_more_stops k (with_stop a)
 with_stop-raised k a = with_stop_by-raised k (lets_pass 1 a.left) a
 
 module _ (ring : Geometry) (k : ℕ) where
   -- a step of the actor with the greater count is one of the other, which leaves the count as much lower
-  DoesLoad-lowered : (a : AtPort) (found : Findings) (load : Option Position) (b : AtPort) (after : Findings) → DoesLoad (raised k a, found) load (b, after)
-      → (c : AtPort) × DoesLoad (a, found) load (c, after) × (b ≡ raised k c)
+  DoesLoad-lowered : (a : AtPort) (found : Findings) (load : Option Position) (b : AtPort) (after : Findings) → DoesLoad (with_more_stops k a, found) load (b, after)
+      → (c : AtPort) × DoesLoad (a, found) load (c, after) × (b ≡ with_more_stops k c)
   DoesLoad-lowered a found None b after (is, same) = (with_stop a, (refl, same), is ∙ with_stop-raised k a)
   DoesLoad-lowered a found (Some position) b after (passes, above, is, same) =
       (with_load position.frame a, (passes, above, refl, same), is)
 
-  DoesLay-lowered : (a : AtPort) (found : Findings) (e : Entry) (ended : Ended) (b : AtPort) (after : Findings) → DoesLay ring (raised k a, found) e ended (b, after)
-      → (c : AtPort) × DoesLay ring (a, found) e ended (c, after) × (b ≡ raised k c)
+  DoesLay-lowered : (a : AtPort) (found : Findings) (e : Entry) (ended : Ended) (b : AtPort) (after : Findings) → DoesLay ring (with_more_stops k a, found) e ended (b, after)
+      → (c : AtPort) × DoesLay ring (a, found) e ended (c, after) × (b ≡ with_more_stops k c)
   DoesLay-lowered a found e Whole b after (above, passes, is, same) = (with_entry ring e a, (above, passes, refl, same), is)
   DoesLay-lowered a found e (Late word) b after (asks, none, may, passes, is, same) =
       (with_asks (asks + 1) a, (asks, none, may, passes, refl, same), is)
@@ -70,8 +70,8 @@ module _ (ring : Geometry) (k : ℕ) where
   DoesLay-lowered a found e Stopped b after (inr (above, passes, is), same) =
       (with_gate_stop (with_asks 2 a), (inr (above, passes, refl), same), is ∙ with_gate_stop-raised k (with_asks 2 a))
 
-  DoesGet-lowered : (a : AtPort) (found : Findings) (frame : ℕ) (got : Got) (b : AtPort) (after : Findings) → DoesGet ring (raised k a, found) frame got (b, after)
-      → (c : AtPort) × DoesGet ring (a, found) frame got (c, after) × (b ≡ raised k c)
+  DoesGet-lowered : (a : AtPort) (found : Findings) (frame : ℕ) (got : Got) (b : AtPort) (after : Findings) → DoesGet ring (with_more_stops k a, found) frame got (b, after)
+      → (c : AtPort) × DoesGet ring (a, found) frame got (c, after) × (b ≡ with_more_stops k c)
   DoesGet-lowered a found frame got.Whole b after (above, passes, is, same) = (with_asks ring.channels a, (above, passes, refl, same), is)
   DoesGet-lowered a found frame (got.Overtaken channel word) b after (none, below, may, passes, is, same) =
       (with_asks (channel + 1) a, (none, below, may, passes, refl, same), is)
@@ -95,10 +95,10 @@ module _ (ring : Geometry) (k : ℕ) where
 
 module _ {S : Type 0} (kind : Kind S) (ring : Geometry) (blind : IsBlind kind) (k : ℕ) where
   pub LineDone-lowered : (a : AtPort) (s : S) (found : Findings) (asked : Op) (b : AtPort) (t : S) (after : Findings) (answer : Answer)
-      → LineDone kind ring ((raised k a, s), found) asked ((b, t), after) answer
-      → (c : AtPort) × (b ≡ raised k c) × LineDone kind ring ((a, s), found) asked ((c, t), after) answer
+      → LineDone kind ring ((with_more_stops k a, s), found) asked ((b, t), after) answer
+      → (c : AtPort) × (b ≡ with_more_stops k c) × LineDone kind ring ((a, s), found) asked ((c, t), after) answer
   LineDone-lowered a s found asked b t after answer done =
-      let began = kind.begins s asked (raised k a) in
+      let began = kind.begins s asked (with_more_stops k a) in
       let begun = kind.begins s asked a in
       let same : kind.course began s asked ≡ kind.course begun s asked =
       ap (λ (x : AtPort). kind.course x s asked) (blind.begins k a s asked) ∙ blind.course k begun s asked in
@@ -115,8 +115,8 @@ module _ {S : Type 0} (kind : Kind S) (ring : Geometry) (blind : IsBlind kind) (
 
   -- lines that were done by an actor that its gate had stopped k times more are a part of the one without these stops
   pub ActorPart-lowered : (ops : List Op) (a : AtPort) (s : S) (found : Findings) (b : AtPort) (t : S) (after : Findings) (rows : List Row)
-      → ActorPart kind ring ((raised k a, s), found) ops ((b, t), after) rows
-      → (c : AtPort) × (b ≡ raised k c) × ActorPart kind ring ((a, s), found) ops ((c, t), after) rows
+      → ActorPart kind ring ((with_more_stops k a, s), found) ops ((b, t), after) rows
+      → (c : AtPort) × (b ≡ with_more_stops k c) × ActorPart kind ring ((a, s), found) ops ((c, t), after) rows
   ActorPart-lowered [] a s found b t after rows (is, none) =
       (a, ap (λ (x : (AtPort × S) × Findings). x.0.0) is, (ap (λ (x : (AtPort × S) × Findings). ((a, x.0.1), x.1)) is, none))
   ActorPart-lowered (asked ∷ ops) a s found b t after rows (between, answer, others, line, more, rows_are) =
@@ -126,15 +126,15 @@ module _ {S : Type 0} (kind : Kind S) (ring : Geometry) (blind : IsBlind kind) (
       (rest.0, rest.1, (((low.0, between.0.1), between.1), answer, others, low.2, rest.2, rows_are))
 
 -- a client and a reader don't ask it
-dies_if-raised : (k : ℕ) (stopped : Bool) (asked : Op) (a : AtPort) → dies_if stopped asked (raised k a) ≡ raised k (dies_if stopped asked a)
+dies_if-raised : (k : ℕ) (stopped : Bool) (asked : Op) (a : AtPort) → dies_if stopped asked (with_more_stops k a) ≡ with_more_stops k (dies_if stopped asked a)
 dies_if-raised k false (op.Die n) a = refl
 dies_if-raised k stopped asked a = refl
 
-client-begins : (k : ℕ) (a : AtPort) (own : Option playing.PlaybackStream) (asked : Op) → client.begins own asked (raised k a) ≡ raised k (client.begins own asked a)
+client-begins : (k : ℕ) (a : AtPort) (own : Option playing.PlaybackStream) (asked : Op) → client.begins own asked (with_more_stops k a) ≡ with_more_stops k (client.begins own asked a)
 client-begins k a None asked = refl
 client-begins k a (Some c) asked = dies_if-raised k c.status.stopped asked a
 
-reader-begins : (k : ℕ) (a : AtPort) (own : Option reading.CaptureStream) (asked : Op) → reader.begins own asked (raised k a) ≡ raised k (reader.begins own asked a)
+reader-begins : (k : ℕ) (a : AtPort) (own : Option reading.CaptureStream) (asked : Op) → reader.begins own asked (with_more_stops k a) ≡ with_more_stops k (reader.begins own asked a)
 reader-begins k a None asked = refl
 reader-begins k a (Some r) asked = dies_if-raised k r.status.stopped asked a
 

@@ -34,7 +34,7 @@ use Rattle.lab_actor.specs.declared.client.ClientActor.{ClientActor}
 use Rattle.lab_actor.specs.ClientLines.{Extends, IsReady}
 use Rattle.lab_actor.specs.ClientPart.{HasDone, client_of, left_in, stops_in}
 use Rattle.lab_actor.specs.Refused.{refused_rows}
-use Rattle.lab_actor.specs.Raised.{ActorPart-lowered, client_is_blind, raised}
+use Rattle.lab_actor.specs.Raised.{ActorPart-lowered, client_is_blind, with_more_stops}
 use Rattle.lab_card.specs.declared.card.CardActor.{CardActor}
 use Rattle.lab_card.specs.Findings.{CardPhase, client-found, rules_between}
 use Rattle.lab_client.specs.declared.open_client.OpenClient.{OpenClient}
@@ -83,7 +83,7 @@ IsOpenAt-heard c ring key wav last number o p a heard is =
 module _ (ring : TableId) (key : Key) (wav : Sound) (last : Option ℕ) (number base before after phase : ℕ) (lines : List Line) (p q : OpenClient) (a : AtPort) where
   -- before its lines it has found nothing yet, behind a gate that stopped it so often
   at-first : IsOpenAt ring key wav last number p a → a.by_gate + base ≡ before
-      → IsAtPort seat_port left_in stops_in p.seat key.geometry p.opened_at (p.seat, (p.actor.left, before)) (raised base a, nothing_found)
+      → IsAtPort seat_port left_in stops_in p.seat key.geometry p.opened_at (p.seat, (p.actor.left, before)) (with_more_stops base a, nothing_found)
   at-first is counts = record {
     geometry = ap (λ (k : Key). k.geometry) is.place.of_key;
     after = is.after;
@@ -98,13 +98,13 @@ module _ (ring : TableId) (key : Key) (wav : Sound) (last : Option ℕ) (number 
 
   -- what it did, and found
   did : IsOpenAt ring key wav last number p a → a.by_gate + base ≡ before → (run : HasRun before after phase wav lines p q)
-      → HasDone seat_port left_in stops_in p.seat key.geometry p.opened_at (q.seat, (q.actor.left, after)) phase wav p.actor.number (raised base a, nothing_found)
+      → HasDone seat_port left_in stops_in p.seat key.geometry p.opened_at (q.seat, (q.actor.left, after)) phase wav p.actor.number (with_more_stops base a, nothing_found)
       (client_of p.actor) (ops_by (is_client p.actor.number) lines) (client_of q.actor) run.part.rows
-  did is counts run = run.part.part p.seat key.geometry p.opened_at (raised base a, nothing_found) (at-first is counts)
+  did is counts run = run.part.part p.seat key.geometry p.opened_at (with_more_stops base a, nothing_found) (at-first is counts)
 
   -- so it is afterwards at its port
   at-last : LastsAreOwn → IsOpenAt ring key wav last number p a → (run : HasRun before after phase wav lines p q) → (doing : Doing) (b : AtPort)
-      → IsAtPort seat_port left_in stops_in p.seat key.geometry p.opened_at (q.seat, (q.actor.left, after)) doing → doing.0 ≡ raised base b
+      → IsAtPort seat_port left_in stops_in p.seat key.geometry p.opened_at (q.seat, (q.actor.left, after)) doing → doing.0 ≡ with_more_stops base b
       → IsOpenAt ring key wav last number q b
   at-last lasts is run doing b at low =
       let goes = run.part.extends.away.laid_them.goes in

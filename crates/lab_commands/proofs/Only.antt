@@ -5,7 +5,7 @@ use Rattle.std.specs.Option.{option_map}
 use Rattle.lab_conf.specs.DescribedLaws.{Described-only}
 use Rattle.lab_headline.specs.OneSession.{HaveOneSession}
 use Rattle.lab_input.specs.Input.{RunInput, input_in}
-use Rattle.lab_output.specs.Files.{output_files, stored}
+use Rattle.lab_output.specs.Files.{output_files, finished_files}
 use Rattle.lab_phase.specs.PhaseRuns.{Stops}
 use Rattle.lab_play.specs.Played.{sounds_of}
 use Rattle.lab_report.specs.Text.{report_text}
@@ -41,8 +41,8 @@ Finished-only one script out gates before after taken taken_after done files is 
     (let text : done.outcome ≡ lab_text done.session done.input.capture done.input.script.body = (done.exact none).is alone in
     record {
       files_are = done.files
-          ∙ (ap (λ (outcome : Outcome). option_map (stored (output_files done.input.script out) (sounds_of outcome)) before) text
-          ∙ ap (option_map (stored (output_files done.input.script out) (sounds_of (lab_text done.session done.input.capture done.input.script.body)))) is);
+          ∙ (ap (λ (outcome : Outcome). option_map (finished_files (output_files done.input.script out) (sounds_of outcome)) before) text
+          ∙ ap (option_map (finished_files (output_files done.input.script out) (sounds_of (lab_text done.session done.input.capture done.input.script.body)))) is);
       text = done.text ∙ ap (λ (outcome : Outcome). option_map (λ t. t ++ report_text done.input.script outcome.report) taken) text;
     }))
     session session_is unmixed

@@ -3,7 +3,7 @@ use Rattle.std.specs.Prelude.{◌≡◌, ◌++◌, ℕ, List, Option, Some, Ok}
 use Rattle.std.specs.Option.{ForSome, option_map}
 use Rattle.lab_headline.specs.Exact.{IsExactRun, IsOwnRun}
 use Rattle.lab_input.specs.Input.{RunInput, input_in}
-use Rattle.lab_output.specs.Files.{output_files, stored}
+use Rattle.lab_output.specs.Files.{output_files, finished_files}
 use Rattle.lab_phase.specs.PhaseRuns.{Stops}
 use Rattle.lab_play.specs.Played.{HaveNoStops, IsRunOf, sounds_of}
 use Rattle.lab_play.specs.Playing.{HasStopped}
@@ -26,13 +26,13 @@ pub record Finished (script out : List ℕ) (stops : Stops) (before after : Opti
   pub is : IsRunOf input session stops outcome
   pub exact : HaveNoStops stops → IsExactRun session input.capture input.script.body outcome
   pub own : HaveNoStops stops → IsOwnRun input.script session outcome
-  pub files : after ≡ option_map (stored (output_files input.script out) (sounds_of outcome)) before
+  pub files : after ≡ option_map (finished_files (output_files input.script out) (sounds_of outcome)) before
   pub text : taken_after ≡ option_map (λ t. t ++ report_text input.script outcome.report) taken
 
 -- what is stored and put is what a script and its WAV files have by themselves: the one report and the one list of samples that their lines leave no
 -- choice of
 pub record IsOnlyRun (out : List ℕ) (files : Files) (after : Option Files) (taken taken_after : Option (List ℕ)) (input : RunInput) (session : Session) : Type 0 where
-  pub files_are : after ≡ Some (stored (output_files input.script out) (sounds_of (lab_text session input.capture input.script.body)) files)
+  pub files_are : after ≡ Some (finished_files (output_files input.script out) (sounds_of (lab_text session input.capture input.script.body)) files)
   pub text : taken_after ≡ option_map (λ t. t ++ report_text input.script (lab_text session input.capture input.script.body).report) taken
 
 -- of whatever input and session the files give

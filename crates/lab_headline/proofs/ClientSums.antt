@@ -13,7 +13,7 @@ use Rattle.lab_run.specs.LabRun.{LabRun, Outcome, entries_by, report_of}
 use Rattle.lab_run.specs.Rules.{AtPort}
 use Rattle.lab_run.specs.Stage.{Session}
 use Rattle.lab_headline.specs.Clients.{IsSumOfClients, placed_by}
-use Rattle.lab_headline.specs.Mix.{placed}
+use Rattle.lab_headline.specs.Mix.{placed_entries}
 use Rattle.lab_headline.proofs.Numbered.{numbered-parts}
 use Rattle.lab_headline.proofs.Sizes.{run-size}
 
@@ -34,7 +34,7 @@ pub LabRun-clients : (session : Session) (capture : Option Sound) (body : List I
     → LabRun session capture body client_stops reader_stops outcome → IsSumOfClients session outcome.report
 LabRun-clients session capture body client_stops reader_stops outcome run = subst (λ (o : Outcome). IsSumOfClients session o.report) (sym run.is) of_end
   where
-    parts : placed session (report_of session run.end) ≡ flat_map (placed_by session (report_of session run.end)) (range_with_len 0 (length session.clients))
+    parts : placed_entries session (report_of session run.end) ≡ flat_map (placed_by session (report_of session run.end)) (range_with_len 0 (length session.clients))
     parts = numbered-parts (λ (client : AtPort × Client). segments_of client.1) (entries_by session) 0 run.end.clients
         ∙ ap (λ n. flat_map (placed_by session (report_of session run.end)) (range_with_len 0 n)) (run-size session body run.end run.may).clients
 

@@ -9,14 +9,14 @@ use Rattle.wav_io.specs.Sound.{Sound}
 use Rattle.lab_script.specs.declared.line.Item.{Item}
 use Rattle.lab_run.specs.LabRun.{LabRun, Outcome, mixed_at, outcome_of, report_of}
 use Rattle.lab_run.specs.Stage.{Session, Stage}
-use Rattle.lab_headline.specs.Mix.{IsMixOf, placed}
+use Rattle.lab_headline.specs.Mix.{IsMixOf, placed_entries}
 
 stage-mix : (session : Session) (capture : Option Sound) (end : Stage)
     → IsMixOf session (outcome_of session capture end).report (outcome_of session capture end).played
 stage-mix session capture end =
     let report = report_of session end in
     let channels = session.card.channels in
-    let mixed_of = mixed_at channels report.first (placed session report) in
+    let mixed_of = mixed_at channels report.first (placed_entries session report) in
     record {
       first = refl;
       samples = length-map-range_with_len mixed_of 0 (report.frames * channels);
@@ -26,8 +26,8 @@ stage-mix session capture end =
           let step : suc frame * channels ≡ frame * channels + channels = omega arith in
           let within : k < report.frames * channels = omega (arith, most, step, in_channels) in
           get_or-map-range_with_len mixed_of 0 (report.frames * channels) k k (pos 0) within (omega arith)
-          ∙ ap (λ f. clamp_of (total (placed session report) (report.first + f) (k % channels))) (div-mul-add frame channels channel in_channels)
-          ∙ ap (λ c. clamp_of (total (placed session report) (report.first + frame) c)) (mod-mul-add frame channels channel in_channels);
+          ∙ ap (λ f. clamp_of (total (placed_entries session report) (report.first + f) (k % channels))) (div-mul-add frame channels channel in_channels)
+          ∙ ap (λ c. clamp_of (total (placed_entries session report) (report.first + frame) c)) (mod-mul-add frame channels channel in_channels);
     }
 
 pub LabRun-mix : (session : Session) (capture : Option Sound) (body : List Item) (client_stops reader_stops : ℕ → ℕ) (outcome : Outcome)

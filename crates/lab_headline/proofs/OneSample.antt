@@ -21,7 +21,7 @@ use Rattle.lab_run.specs.Client.{Client, segments_of}
 use Rattle.lab_script.specs.declared.script.Script.{Script}
 use Rattle.lab_run.specs.LabRun.{LabRun, Outcome, entries_by, numbered}
 use Rattle.lab_run.specs.Openings.{IsSessionOf}
-use Rattle.lab_headline.specs.Mix.{placed}
+use Rattle.lab_headline.specs.Mix.{placed_entries}
 use Rattle.lab_headline.specs.OneSample.{AreBound, HasOneSample, only_of}
 use Rattle.lab_run.specs.Rules.{AtPort}
 use Rattle.lab_run.specs.Stage.{Session, Setup}
@@ -335,7 +335,7 @@ pub LabRun-once : (script : Script) (wavs : List Sound) (session : Session) (cap
     → ((claims : List Claim) (channels : List ℕ) (position : ℕ) → ClaimIsOwners claims channels position) → IsSessionOf script wavs session → AreBound session
     → LabRun session capture script.body client_stops reader_stops outcome → HasOneSample session outcome.report
 LabRun-once script wavs session capture client_stops reader_stops outcome owners is bound run share =
-    λ frame channel. (few frame channel, only-sum (laid.at (placed session outcome.report) frame channel) (few frame channel))
+    λ frame channel. (few frame channel, only-sum (laid.at (placed_entries session outcome.report) frame channel) (few frame channel))
   where
     channels : (m : ℕ) (setup : Setup) → slice_index_or session.clients m None ≡ Some setup → Channels setup.bindings
     channels m setup there =
@@ -345,6 +345,6 @@ LabRun-once script wavs session capture client_stops reader_stops outcome owners
     from : first_frame session.ring ≤ (first_stage session).position
     from = rw is.card (rw is.ring.frames (rw is.ring.first_lap (omega arith)))
 
-    few : (frame channel : ℕ) → length (laid.at (placed session outcome.report) frame channel) ≤ 1
-    few = subst (λ (o : Outcome). (frame channel : ℕ) → length (laid.at (placed session o.report) frame channel) ≤ 1) (sym run.is)
+    few : (frame channel : ℕ) → length (laid.at (placed_entries session outcome.report) frame channel) ≤ 1
+    few = subst (λ (o : Outcome). (frame channel : ℕ) → length (laid.at (placed_entries session o.report) frame channel) ≤ 1) (sym run.is)
         (one-sample session share channels owners from script.body run.end run.may)

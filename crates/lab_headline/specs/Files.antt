@@ -13,7 +13,7 @@ use Rattle.lab_script.specs.Script.{first_frame}
 use Rattle.lab_report.specs.declared.report.Report.{Report}
 use Rattle.lab_run.specs.Openings.{bound_by}
 use Rattle.lab_run.specs.Stage.{Session}
-use Rattle.lab_headline.specs.Mix.{placed}
+use Rattle.lab_headline.specs.Mix.{placed_entries}
 
 -- what a segment of a client placed, with the client's line and file: the file's samples from the segment's source frame on, each channel of the file at
 -- the card's channel that the line binds it to, or at that of its own number
@@ -30,7 +30,7 @@ placed_from script wavs report =
 
 -- a report's segments placed what the script and the files say of them
 abbrev pub IsPlacedFrom : Script → List Sound → Session → Report → Type 0
-IsPlacedFrom script wavs session report = placed session report ≡ placed_from script wavs report
+IsPlacedFrom script wavs session report = placed_entries session report ≡ placed_from script wavs report
 
 -- so the played samples are the saturated sums of what the script and the files say of the report's segments
 pub record IsMixOfFiles (script : Script) (wavs : List Sound) (report : Report)

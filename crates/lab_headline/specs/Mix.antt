@@ -10,8 +10,8 @@ use Rattle.lab_run.specs.Stage.{Session}
 
 -- the samples that a report's segments placed: each segment gives those of its client's file from its source frame on, through the client's
 -- bindings (`expand`), and each segment is there once
-abbrev pub placed : Session → Report → List Entry
-placed session report = entries_of session report.segments
+abbrev pub placed_entries : Session → Report → List Entry
+placed_entries session report = entries_of session report.segments
 
 -- The played samples are interleaved, with the card's channels, from the report's first frame on. The sample of a frame and channel is the sum
 -- of exactly those that the segments placed there, saturated once, after the last of them was added.
@@ -20,4 +20,4 @@ pub record IsMixOf (session : Session) (report : Report) (played : List ℤ) : T
   pub samples : length played ≡ report.frames * session.card.channels
   pub sums : (frame channel : ℕ) → frame < report.frames → channel < session.card.channels
       → slice_index_or played (frame * session.card.channels + channel) (pos 0)
-      ≡ clamp_of (total (placed session report) (report.first + frame) channel)
+      ≡ clamp_of (total (placed_entries session report) (report.first + frame) channel)

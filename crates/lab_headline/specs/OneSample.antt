@@ -5,7 +5,7 @@ use Rattle.mix_core.specs.Laid.{at, count, total}
 use Rattle.lab_script.specs.declared.script.Share.TheVariants.{Dshare}
 use Rattle.lab_report.specs.declared.report.Report.{Report}
 use Rattle.lab_run.specs.Stage.{Session, Setup}
-use Rattle.lab_headline.specs.Mix.{placed}
+use Rattle.lab_headline.specs.Mix.{placed_entries}
 
 -- each client that can be opened is bound to 1 to 8 channels of the card, each to another one
 abbrev pub AreBound : Session → Type 0
@@ -22,6 +22,6 @@ only_of (sample ∷ rest) = sample
 -- at each frame and channel at most one sample is placed, which is all that is played there
 abbrev pub HasOneSample : Session → Report → Type 0
 HasOneSample session report = session.card.share ≡ Dshare → (frame channel : ℕ)
-    → (count (placed session report) frame channel ≤ 1)
-    × (total (placed session report) frame channel
-    ≡ only_of (at (placed session report) frame channel))
+    → (count (placed_entries session report) frame channel ≤ 1)
+    × (total (placed_entries session report) frame channel
+    ≡ only_of (at (placed_entries session report) frame channel))

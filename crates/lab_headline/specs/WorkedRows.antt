@@ -13,11 +13,11 @@ abbrev pub some_samples : List ℤ
 some_samples = pos 10 ∷ pos 20 ∷ pos 30 ∷ pos 40 ∷ []
 
 -- the file's channel 0 goes to the card's channel 1, and its channel 1 to the card's channel 0
-abbrev pub crossed : List ℕ
-crossed = 1 ∷ 0 ∷ []
+abbrev pub exchanged_channels : List ℕ
+exchanged_channels = 1 ∷ 0 ∷ []
 
 abbrev pub some_entries : List Entry
-some_entries = expand 0 a_segment some_samples crossed
+some_entries = expand 0 a_segment some_samples exchanged_channels
 
 -- two runs of frames
 abbrev pub two_runs : List (ℕ × ℕ)

@@ -8,7 +8,7 @@ use Rattle.std.specs.Option.{ForSome}
 use Rattle.lab_input.specs.declared.plug.PlugReader.{PlugReader}
 use Rattle.lab_input.specs.declared.shape.Shape.{Shape}
 use Rattle.lab_input.specs.Converting.{IsConverted, IsConverting, IsFed, IsSoFar}
-use Rattle.lab_input.specs.Plug.{IsShape, conversion_to, converted, plug_file, plugged, short_enough, sound_file}
+use Rattle.lab_input.specs.Plug.{IsShape, conversion_to, converted_sound, plug_file, conversion_of, short_enough, sound_file}
 use Rattle.plug_chain.specs.Frames.{Conversion, frame_count}
 use Rattle.plug_chain.specs.Growth.{Appends}
 use Rattle.plug_chain.specs.Plugs.{Completes, Continues, HasTaken, IsBeginning, IsStage, Stage, known_of, plug_of}
@@ -63,11 +63,11 @@ short_enough-short sound short = cond-true (leb (2 * length sound.samples) most_
 
 -- where the first bytes have too many samples, the file is refused
 plugged-long : (shape : Shape) (channels rate bits : ℕ) (c : Conversion) (fed : List ℕ) (r : Result Raw WavError) → c ≡ conversion_to shape channels rate bits → AreRates c.rates → IsTable c.table
-    → IsOfHead channels rate bits r → most_bytes < 2 * length (plug_of c fed) → plugged shape (with_bytes fed r) ≡ Err TooLong
+    → IsOfHead channels rate bits r → most_bytes < 2 * length (plug_of c fed) → conversion_of shape (with_bytes fed r) ≡ Err TooLong
 plugged-long shape channels rate bits c fed (Ok s) is rates table head long =
     let same : c ≡ conversion_to shape s.channels s.rate s.bits = is ∙ sym (conversion_of-head shape channels rate bits s head) in
     let more : length (plug_of c fed) ≤ length (plug_of c (fed ++ s.body)) = length-plug_of-append c fed s.body rates table in
-    short_enough-long (converted shape (record { channels = s.channels; rate = s.rate; bits = s.bits; body = fed ++ s.body }))
+    short_enough-long (converted_sound shape (record { channels = s.channels; rate = s.rate; bits = s.bits; body = fed ++ s.body }))
     (omega (arith, long, more, ap (λ (d : Conversion). length (plug_of d (fed ++ s.body))) same))
 plugged-long shape channels rate bits c fed (Err e) is rates table head long = ap (λ (x : WavError). Err x) head
 
@@ -75,7 +75,7 @@ pub plug_file-long : (r : PlugReader) (channels rate bits : ℕ) (seen rest fed 
     → c ≡ conversion_to r.shape channels rate bits → AreRates c.rates → IsTable c.table → IsOfHead channels rate bits (raw_to_come r.reader rest)
     → most_bytes < 2 * length (plug_of c fed) → plug_file r.shape (seen ++ rest) ≡ Err TooLong
 plug_file-long r channels rate bits seen rest fed c same is rates table head long =
-    ap (plugged r.shape) (sym (same rest)) ∙ plugged-long r.shape channels rate bits c fed (raw_to_come r.reader rest) is rates table head long
+    ap (conversion_of r.shape) (sym (same rest)) ∙ plugged-long r.shape channels rate bits c fed (raw_to_come r.reader rest) is rates table head long
 
 pub IsFed-long : (r : PlugReader) (channels rate bits : ℕ) (seen rest : List ℕ) (stage : Stage) → (so_far : IsFed r channels rate bits seen) → IsConverted r.shape r.reader stage so_far.fed r.samples.items
     → IsTable stage.conversion.table → most_bytes < 2 * length (plug_of stage.conversion (so_far.fed ++ r.body.items)) → plug_file r.shape (seen ++ rest) ≡ Err TooLong
@@ -185,15 +185,15 @@ pub plug_file-ended : (r : PlugReader) (seen : List ℕ) (channels rate bits : �
     → plug_file r.shape seen ≡ Ok (record { channels = r.shape.channels; rate = r.shape.rate; samples = samples })
 plug_file-ended r seen channels rate bits fed samples same ends is short =
     ap (λ (b : List ℕ). plug_file r.shape b) (sym (append-nil seen))
-    ∙ ap (plugged r.shape) (sym (same []) ∙ ap (with_bytes fed) ends)
-    ∙ ap (λ (b : List ℕ). short_enough (converted r.shape (record { channels = channels; rate = rate; bits = bits; body = b }))) (append-nil fed)
+    ∙ ap (conversion_of r.shape) (sym (same []) ∙ ap (with_bytes fed) ends)
+    ∙ ap (λ (b : List ℕ). short_enough (converted_sound r.shape (record { channels = channels; rate = rate; bits = bits; body = b }))) (append-nil fed)
     ∙ ap (λ (zs : List ℤ). short_enough (record { channels = r.shape.channels; rate = r.shape.rate; samples = zs })) (sym is)
     ∙ short_enough-short (record { channels = r.shape.channels; rate = r.shape.rate; samples = samples }) short
 
 -- the file is refused
 pub plug_file-refused : (r : PlugReader) (seen rest fed : List ℕ) (e : WavError) → ((more : List ℕ) → with_bytes fed (raw_to_come r.reader more) ≡ raw_file (seen ++ more))
     → raw_to_come r.reader rest ≡ Err e → plug_file r.shape (seen ++ rest) ≡ Err e
-plug_file-refused r seen rest fed e same is = ap (plugged r.shape) (sym (same rest) ∙ ap (with_bytes fed) is)
+plug_file-refused r seen rest fed e same is = ap (conversion_of r.shape) (sym (same rest) ∙ ap (with_bytes fed) is)
 
 -- ---- the samples at the end
 
@@ -252,8 +252,8 @@ short_by sound other is =
           omega (arith, short, ap (λ (s : Sound). length s.samples) same)
     ]
 
-plugged-short : (shape : Shape) (r : Result Raw WavError) (sound : Sound) → plugged shape r ≡ Ok sound → 2 * length sound.samples ≤ most_bytes
-plugged-short shape (Ok raw) sound is = short_by (converted shape raw) sound is
+plugged-short : (shape : Shape) (r : Result Raw WavError) (sound : Sound) → conversion_of shape r ≡ Ok sound → 2 * length sound.samples ≤ most_bytes
+plugged-short shape (Ok raw) sound is = short_by (converted_sound shape raw) sound is
 plugged-short shape (Err e) sound is = absurd (cc)
 
 pub sound_file-short : (shape : Option Shape) (seen : List ℕ) (sound : Sound) → sound_file shape seen ≡ Ok sound → ForSome shape (λ s. 2 * length sound.samples ≤ 67108864)

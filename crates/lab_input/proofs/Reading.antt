@@ -16,7 +16,7 @@ use Rattle.wav_io.specs.Reading.{IsRefusal, most_bytes}
 use Rattle.wav_io.specs.Sound.{Sound}
 use Rattle.lab_input.specs.declared.shape.Shape.{Shape}
 use Rattle.lab_input.specs.declared.sound.FileReader.{FileReader}
-use Rattle.lab_input.specs.Input.{as_sound, wav_in, weighed}
+use Rattle.lab_input.specs.Input.{as_sound, wav_in, with_weight}
 use Rattle.lab_input.specs.Plug.{sound_file, weight}
 use Rattle.lab_input.specs.Sound.{IsAfter}
 use Rattle.lab_input.proofs.Long.{sound_file-long, sound_file-refused}
@@ -36,8 +36,8 @@ pub record Reading (files now : Option Files) (name : List ℕ) (shape : Option 
 
 -- a file that isn't there has no sound
 missing_sound : (r : Result (List ℕ) Cause) (shape : Option Shape) (name : List ℕ) (e : Cause) → r ≡ Err e
-    → (r >>= λ bytes. weighed name shape (length bytes) (sound_file shape bytes)) ≡ Err e
-missing_sound r shape name e is = ap (λ (s : Result (List ℕ) Cause). s >>= λ bytes. weighed name shape (length bytes) (sound_file shape bytes)) is
+    → (r >>= λ bytes. with_weight name shape (length bytes) (sound_file shape bytes)) ≡ Err e
+missing_sound r shape name e is = ap (λ (s : Result (List ℕ) Cause). s >>= λ bytes. with_weight name shape (length bytes) (sound_file shape bytes)) is
 
 pub wav_in-missing : (files : Files) (shape : Option Shape) (name : List ℕ) (from : ℕ) (e : Cause)
     → fetched_from files name from piece_bytes ≡ Err e → wav_in files shape name ≡ Err e
@@ -46,21 +46,21 @@ wav_in-missing files shape name from e is = missing_sound (content_in files name
 
 -- the sound of a file that is there
 pub wav_in-of : (files : Files) (shape : Option Shape) (name content : List ℕ) → content_in files name ≡ Ok content
-    → wav_in files shape name ≡ weighed name shape (length content) (sound_file shape content)
+    → wav_in files shape name ≡ with_weight name shape (length content) (sound_file shape content)
 unfolding wav_in
 wav_in-of files shape name content is =
-    ap (λ (s : Result (List ℕ) Cause). s >>= λ bytes. weighed name shape (length bytes) (sound_file shape bytes)) is
+    ap (λ (s : Result (List ℕ) Cause). s >>= λ bytes. with_weight name shape (length bytes) (sound_file shape bytes)) is
 
 -- the sound of a file of which all, or more than a WAV file may have, is fetched
 pub wav_in-fetched : (files : Files) (shape : Option Shape) (name seen : List ℕ) (last : Bool) → IsFetched files name seen last
-    → (last ≡ true) ⊎ (most_bytes < length seen) → wav_in files shape name ≡ weighed name shape (length seen) (sound_file shape seen)
+    → (last ≡ true) ⊎ (most_bytes < length seen) → wav_in files shape name ≡ with_weight name shape (length seen) (sound_file shape seen)
 wav_in-fetched files shape name seen last so_far (inl all) = wav_in-of files shape name seen (so_far.whole all)
 wav_in-fetched files shape name seen last so_far (inr long) =
     let rest = IsFetched-rest files name seen last so_far in
     let why = sound_file-refused shape seen long in
     wav_in-of files shape name (seen ++ rest.0) rest.1
-    ∙ ap (weighed name shape (length (seen ++ rest.0))) (sound_file-long shape seen rest.0 long ∙ why.1)
-    ∙ ap (weighed name shape (length seen)) (sym why.1)
+    ∙ ap (with_weight name shape (length (seen ++ rest.0))) (sound_file-long shape seen rest.0 long ∙ why.1)
+    ∙ ap (with_weight name shape (length seen)) (sym why.1)
 
 -- ---- stops
 
@@ -139,25 +139,25 @@ reading-refused files now shape name seen piece fed from last why stop so_far un
     let rest = IsFetched-rest m name (seen ++ fed) false fetched_now in
     let content : List ℕ = (seen ++ fed) ++ rest.0 in
     IsCauseOf-refusal why name stop (sound_file shape content) (wav_in m shape name)
-    (λ e err. wav_in-of m shape name content rest.1 ∙ ap (weighed name shape (length content)) err) (refusal rest.0) is
+    (λ e err. wav_in-of m shape name content rest.1 ∙ ap (with_weight name shape (length content)) err) (refusal rest.0) is
 
 -- ---- behind the loop
 
 ended_at : (files : Files) (shape : Option Shape) (name seen : List ℕ) (last : Bool) (bytes : ℕ) → IsBegun files name seen last
-    → (last ≡ true) ⊎ (most_bytes < bytes) → bytes ≡ length seen → wav_in files shape name ≡ weighed name shape bytes (sound_file shape seen)
+    → (last ≡ true) ⊎ (most_bytes < bytes) → bytes ≡ length seen → wav_in files shape name ≡ with_weight name shape bytes (sound_file shape seen)
 ended_at files shape name seen last bytes (inl none) (inl all) count = let no_byte = none.1 in absurd (cc)
 ended_at files shape name seen last bytes (inl none) (inr long) count = absurd (omega (arith, count, ap length none.0, long))
 ended_at files shape name seen last bytes (inr fetched_now) (inl all) count =
-    wav_in-fetched files shape name seen last fetched_now (inl all) ∙ ap (λ (n : ℕ). weighed name shape n (sound_file shape seen)) (sym count)
+    wav_in-fetched files shape name seen last fetched_now (inl all) ∙ ap (λ (n : ℕ). with_weight name shape n (sound_file shape seen)) (sym count)
 ended_at files shape name seen last bytes (inr fetched_now) (inr long) count =
-    wav_in-fetched files shape name seen last fetched_now (inr (omega (arith, count, long))) ∙ ap (λ (n : ℕ). weighed name shape n (sound_file shape seen)) (sym count)
+    wav_in-fetched files shape name seen last fetched_now (inr (omega (arith, count, long))) ∙ ap (λ (n : ℕ). with_weight name shape n (sound_file shape seen)) (sym count)
 
 -- the file ends, and is a sound
 pub reading-ok : (files : Option Files) (shape : Option Shape) (name seen : List ℕ) (last : Bool) (bytes : ℕ) (sound : Sound)
     → ForSome files (λ m. IsBegun m name seen last) → (last ≡ true) ⊎ (most_bytes < bytes) → bytes ≡ length seen
     → sound_file shape seen ≡ Ok sound → ForSome files (λ m. wav_in m shape name ≡ Ok (sound, weight shape bytes sound))
 reading-ok files shape name seen last bytes sound so_far ended count is m told =
-    ended_at m shape name seen last bytes (so_far m told) ended count ∙ ap (weighed name shape bytes) is
+    ended_at m shape name seen last bytes (so_far m told) ended count ∙ ap (with_weight name shape bytes) is
 
 -- the file ends, and is refused
 pub reading-err : (files : Option Files) (shape : Option Shape) (name seen : List ℕ) (last : Bool) (bytes : ℕ) (why : WavError) (stop : Stop)
@@ -165,4 +165,4 @@ pub reading-err : (files : Option Files) (shape : Option Shape) (name seen : Lis
     → IsRefusal why (sound_file shape seen) → IsWavStop why name stop → ForSome files (λ m. IsCauseOf stop (wav_in m shape name))
 reading-err files shape name seen last bytes why stop so_far ended count refusal is m told =
     IsCauseOf-refusal why name stop (sound_file shape seen) (wav_in m shape name)
-    (λ e err. ended_at m shape name seen last bytes (so_far m told) ended count ∙ ap (weighed name shape bytes) err) refusal is
+    (λ e err. ended_at m shape name seen last bytes (so_far m told) ended count ∙ ap (with_weight name shape bytes) err) refusal is

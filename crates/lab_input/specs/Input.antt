@@ -48,12 +48,12 @@ abbrev pub within_run : ℕ → Sound → Result Sound WavError
 within_run total sound = if nat_le total most_of_run then Ok sound else Err TooLong
 
 -- a sound of a file, and how many bytes the file has
-abbrev pub counted : List ℕ → ℕ → Result Sound WavError → Result (Sound × ℕ) Cause
-counted name bytes sound = as_sound name sound >>= λ s. Ok (s, bytes)
+abbrev pub with_byte_count : List ℕ → ℕ → Result Sound WavError → Result (Sound × ℕ) Cause
+with_byte_count name bytes sound = as_sound name sound >>= λ s. Ok (s, bytes)
 
 -- a sound of a file of so many bytes, and how many it takes of a run's limit
-abbrev pub weighed : List ℕ → Option Shape → ℕ → Result Sound WavError → Result (Sound × ℕ) Cause
-weighed name shape bytes sound = as_sound name sound >>= λ s. Ok (s, weight shape bytes s)
+abbrev pub with_weight : List ℕ → Option Shape → ℕ → Result Sound WavError → Result (Sound × ℕ) Cause
+with_weight name shape bytes sound = as_sound name sound >>= λ s. Ok (s, weight shape bytes s)
 
 -- the script in a file, of which one byte more is looked at than a script may have
 unfoldable pub script_in : Files → List ℕ → Result Script Cause
@@ -65,13 +65,13 @@ script_in files name = do
 unfoldable pub wav_in : Files → Option Shape → List ℕ → Result (Sound × ℕ) Cause
 wav_in files shape name = do
   bytes ← content_in files name
-  weighed name shape (length bytes) (sound_file shape bytes)
+  with_weight name shape (length bytes) (sound_file shape bytes)
 
 -- the sound in a WAV file of a run, and how many bytes the run's WAV files have so far, where those before it have this many
 unfoldable pub sound_in : Files → ℕ → Option Shape → List ℕ → Result (Sound × ℕ) Cause
 sound_in files total shape name = do
   read ← wav_in files shape name
-  counted name (total + read.1) (within_run (total + read.1) read.0)
+  with_byte_count name (total + read.1) (within_run (total + read.1) read.0)
 
 -- the sound of the file that a card captures, if it names one, and how many bytes that file has
 unfoldable pub capture_in : Files → Option (List ℕ) → Result (Option Sound × ℕ) Cause

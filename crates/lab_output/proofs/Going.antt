@@ -9,7 +9,7 @@ use Rattle.wav_io.specs.Canonical.{sample_bytes}
 use Rattle.lab_shelf.specs.Files.{Files, bytes_under, with_file, changed, overwritten, IsPartAppended, IsPartFinished}
 use Rattle.lab_shelf.specs.Changes.{Changes, Changes-nothing, Changes-then, Changes-with_file, Changes-part}
 use Rattle.lab_output.specs.declared.file.OutputFile.{OutputFile}
-use Rattle.lab_output.specs.Files.{AreApart, begun, stored, nothing, open_head_of, head_of, open_file, finished_file, IsFormOf, MayHold}
+use Rattle.lab_output.specs.Files.{AreApart, begun, finished_files, nothing, open_head_of, head_of, open_file, finished_file, IsFormOf, MayHold}
 use Rattle.lab_output.specs.Going.{opened_files, OpenedInPart, closed_files, ClosedInPart, HaveHeadRoom, AreLonger, IsPartOf, IsGoingOn}
 use Rattle.lab_output.specs.GoingLaws.{AreLonger-forms, IsGoingOn-Changes, Into, open_file-more, with_outputs-Changes, written-Changes}
 use Rattle.lab_output.proofs.Shelves.{changed-first, changed-output, bytes_under-with_outputs}
@@ -52,7 +52,7 @@ OpenedInPart-Changes outputs before after part =
 
 -- outputs with true heads are finished
 closed_files-stored : (outputs : List OutputFile) (sounds : List (List ℤ)) (m : Files) → AreApart outputs
-    → closed_files outputs (map length sounds) (begun outputs sounds m) ≡ stored outputs sounds m
+    → closed_files outputs (map length sounds) (begun outputs sounds m) ≡ finished_files outputs sounds m
 closed_files-stored [] sounds m apart = refl
 closed_files-stored (output ∷ outputs) [] m apart = refl
 closed_files-stored (output ∷ outputs) (samples ∷ sounds) m apart =
@@ -63,14 +63,14 @@ closed_files-stored (output ∷ outputs) (samples ∷ sounds) m apart =
 
 -- the same of files that may not be told
 closed_where-stored : (outputs : List OutputFile) (sounds : List (List ℤ)) (before : Option Files) → AreApart outputs
-    → option_map (closed_files outputs (map length sounds)) (option_map (begun outputs sounds) before) ≡ option_map (stored outputs sounds) before
+    → option_map (closed_files outputs (map length sounds)) (option_map (begun outputs sounds) before) ≡ option_map (finished_files outputs sounds) before
 closed_where-stored outputs sounds None apart = refl
 closed_where-stored outputs sounds (Some m) apart = ap Some (closed_files-stored outputs sounds m apart)
 
 -- a run's files are finished
 pub IsGoingOn-stored : (outputs : List OutputFile) (counts : List ℕ) (sounds : List (List ℤ)) (before now after : Option Files)
     → AreApart outputs → IsGoingOn outputs counts sounds before now → after ≡ option_map (closed_files outputs counts) now
-    → after ≡ option_map (stored outputs sounds) before
+    → after ≡ option_map (finished_files outputs sounds) before
 IsGoingOn-stored outputs counts sounds before now after apart going is =
     is
     ∙ ap (option_map (closed_files outputs counts)) going.files
@@ -211,7 +211,7 @@ IsGoingOn-part outputs counts sounds targets (Some m) now after n output samples
 
 -- the files of a run that is done have changed so
 pub stored-Changes : (outputs : List OutputFile) (sounds : List (List ℤ)) (before after : Option Files)
-    → after ≡ option_map (stored outputs sounds) before → Changes (MayHold outputs sounds) before after
+    → after ≡ option_map (finished_files outputs sounds) before → Changes (MayHold outputs sounds) before after
 stored-Changes outputs sounds before after is =
     subst (λ (f : Option Files). Changes (MayHold outputs sounds) before f) (sym is)
     (written-Changes finished_file outputs sounds sounds before (AllForms-finished outputs sounds))
@@ -299,7 +299,7 @@ begin-Changes (Err e) files outputs before after same is part =
 pub finish-stored : {T E : Type 0} (result : Result T E) (files outputs : List OutputFile) (numbers counts : List ℕ) (sounds : List (List ℤ))
     (before now after : Option Files) → files ≡ outputs → numbers ≡ counts → AreApart outputs → IsGoingOn outputs counts sounds before now
     → OnOk result (after ≡ option_map (closed_files files numbers) now)
-    → OnOk result (after ≡ option_map (stored outputs sounds) before)
+    → OnOk result (after ≡ option_map (finished_files outputs sounds) before)
 finish-stored (Ok x) files outputs numbers counts sounds before now after same counted apart going is =
     IsGoingOn-stored outputs counts sounds before now after apart going
     (subst (λ (ns : List ℕ). after ≡ option_map (closed_files outputs ns) now) counted

@@ -90,8 +90,8 @@ abbrev pub begun : List OutputFile → List (List ℤ) → Files → Files
 begun outputs sounds files = with_outputs open_file outputs sounds files
 
 -- the files of a shelf when the run is done
-abbrev pub stored : List OutputFile → List (List ℤ) → Files → Files
-stored outputs sounds files = with_outputs finished_file outputs sounds files
+abbrev pub finished_files : List OutputFile → List (List ℤ) → Files → Files
+finished_files outputs sounds files = with_outputs finished_file outputs sounds files
 
 -- outputs that have no sample yet
 abbrev pub nothing : List OutputFile → List (List ℤ)

@@ -5,7 +5,7 @@ ghost use Rattle.lab_script.specs.Limits.{IsScript};
 ghost use Rattle.lab_report.specs.Text.{IsRowOf, IsTailOf};
 ghost use Rattle.lab_shelf.specs.Changes.{Changes};
 ghost use Rattle.lab_shelf.specs.Files.{Files, TookPart};
-ghost use Rattle.lab_output.specs.Files.{MayHold, nothing, stored};
+ghost use Rattle.lab_output.specs.Files.{MayHold, nothing, finished_files};
 ghost use Rattle.lab_output.specs.Going.{AreLonger, AreNew, AreOutputs, IsFew, IsGoingOn, SomeGoOn};
 ghost use Rattle.lab_output.specs.Text.{head_text, rows_text, tail_from};
 ghost use Rattle.lab_stop.specs.Stops.{IsWriteStop, WriteFaults};
@@ -139,7 +139,7 @@ impl Outputs {
             → IsGoingOn self.now.files.items self.now.samples.items sounds
             before (S.files shelf.old)
             → OnOk result
-            (S.files shelf.new ≡ option_map (stored self.now.files.items sounds) before) }
+            (S.files shelf.new ≡ option_map (finished_files self.now.files.items sounds) before) }
         ensures changes { (before : Option Files) (sounds : List (List ℤ))
             → IsGoingOn self.now.files.items self.now.samples.items sounds
             before (S.files shelf.old)

@@ -10,7 +10,7 @@ use Rattle.wav_io.specs.Sound.{Sound}
 use Rattle.lab_headline.specs.Headline.{Headline}
 use Rattle.lab_output.specs.declared.file.OutputFile.{OutputFile}
 use Rattle.lab_output.specs.declared.outputs.Outputs.{Outputs}
-use Rattle.lab_output.specs.Files.{MayHold, output_files, stored}
+use Rattle.lab_output.specs.Files.{MayHold, output_files, finished_files}
 use Rattle.lab_output.specs.Text.{head_text, tail_from, text_so_far}
 use Rattle.lab_phase.specs.declared.finish.Outcome as left
 use Rattle.lab_phase.specs.declared.lab.Lab.{Lab}
@@ -112,7 +112,7 @@ module _ (start : Start) (stops : Stops) (lab : Lab) (outputs : Outputs) (files 
       is.written.text ∙ ap (λ (rows : List Row). option_map (λ t. t ++ text_so_far start.input.script (take outputs.rows rows)) start.taken) (sym rows-at_end)
 
   -- all is written
-  pub HasPlayed-end : (facts : RunFacts) (files_after : Option Files) (taken_after : Option (List ℕ)) → files_after ≡ option_map (stored outputs.files.items (sounds_at lab is.stage)) start.files
+  pub HasPlayed-end : (facts : RunFacts) (files_after : Option Files) (taken_after : Option (List ℕ)) → files_after ≡ option_map (finished_files outputs.files.items (sounds_at lab is.stage)) start.files
       → taken_after ≡ option_map (λ t. t ++ tail_from start.input.script outputs.rows outcome.report) taken
       → HasPlayed start.input start.out (rises start.stops stops) (outcome_in outcome) start.files files_after start.taken taken_after
   HasPlayed-end facts files_after taken_after files_are text = record {
@@ -124,8 +124,8 @@ module _ (start : Start) (stops : Stops) (lab : Lab) (outputs : Outputs) (files 
           valid-at_end is.lab_is.script_is.session_is run-at_end;
     };
     files = files_are
-        ∙ (ap (λ (outs : List OutputFile). option_map (stored outs (sounds_at lab is.stage)) start.files) is.written.files_are
-        ∙ ap (λ (sounds : List (List ℤ)). option_map (stored (output_files start.input.script start.out) sounds) start.files) sounds-at_end);
+        ∙ (ap (λ (outs : List OutputFile). option_map (finished_files outs (sounds_at lab is.stage)) start.files) is.written.files_are
+        ∙ ap (λ (sounds : List (List ℤ)). option_map (finished_files (output_files start.input.script start.out) sounds) start.files) sounds-at_end);
     text = text
         ∙ (ap (option_map (λ t. t ++ tail_from start.input.script outputs.rows outcome.report)) text-written
         ∙ (option_map-then start.taken (text_so_far start.input.script (take outputs.rows outcome.report.rows)) (tail_from start.input.script outputs.rows outcome.report)

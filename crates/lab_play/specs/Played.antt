@@ -9,7 +9,7 @@ use Rattle.lab_headline.specs.Exact.{IsUnstopped}
 use Rattle.lab_headline.specs.Headline.{Headline}
 use Rattle.lab_input.specs.Input.{RunInput}
 use Rattle.lab_phase.specs.PhaseRuns.{Stops}
-use Rattle.lab_output.specs.Files.{output_files, stored}
+use Rattle.lab_output.specs.Files.{output_files, finished_files}
 use Rattle.lab_shelf.specs.Files.{Files}
 use Rattle.lab_play.specs.Playing.{HasStopped}
 
@@ -41,7 +41,7 @@ pub record IsRunOf (input : RunInput) (session : Session) (stops : Stops) (outco
 pub record HasPlayed (input : RunInput) (out : List ℕ) (stops : Stops) (outcome : Outcome) (before after : Option Files) (taken taken_after : Option (List ℕ)) : Type 0 where
   pub session : Session
   pub is : IsRunOf input session stops outcome
-  pub files : after ≡ option_map (stored (output_files input.script out) (sounds_of outcome)) before
+  pub files : after ≡ option_map (finished_files (output_files input.script out) (sounds_of outcome)) before
   pub text : taken_after ≡ option_map (λ t. t ++ report_text input.script outcome.report) taken
 
 -- nothing was written

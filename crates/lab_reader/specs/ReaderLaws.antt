@@ -20,7 +20,7 @@ use Rattle.lab_actor.specs.ReaderPart.{HasRoomFor}
 use Rattle.lab_card.specs.Meets.{IsInformedReader}
 use Rattle.lab_reader.specs.declared.reader.LabReader.{LabReader}
 use Rattle.lab_reader.specs.Readers.{HasRoom, HasRoomAt, IsAt, IsOpenAt, IsSeatedAt, OnSeat, OnSeats, ops_of, reader_at, reader_in, stream_at}
-use Rattle.lab_reader.specs.Recorded.{IsRecorded, recorded}
+use Rattle.lab_reader.specs.Recorded.{IsRecorded, recorded_samples}
 use Rattle.lab_reader.specs.Runs.{HasClosed, HasOpened, IsInformed, IsNew, IsSame}
 
 -- ---- a new one
@@ -38,7 +38,7 @@ pub IsRecorded-new : (capture : Option Sound) (geometry : Geometry) (bindings : 
 IsRecorded-new capture geometry bindings number r on_card new = record {
   on_card = on_card;
   bound = subst (λ (seat : Option ReaderSeat). OnSeat seat (λ at. r.actor.reader.setup.bindings ≡ bindings)) (sym new.closed) tt;
-  samples = new.samples ∙ ap (λ (runs : List (ℕ × ℕ)). recorded capture (first_frame geometry) bindings (frames_in runs)) (sym new.frames);
+  samples = new.samples ∙ ap (λ (runs : List (ℕ × ℕ)). recorded_samples capture (first_frame geometry) bindings (frames_in runs)) (sym new.frames);
 }
 
 -- ---- opened
@@ -72,7 +72,7 @@ IsRecorded-opened capture geometry bindings seat setup r s bound opened is =
     record {
       on_card = is.on_card;
       bound = subst (λ (at : Option ReaderSeat). OnSeat at (λ now. s.actor.reader.setup.bindings ≡ bindings)) (sym opened.seat_is) stream;
-      samples = opened.file.samples ∙ (is.samples ∙ ap (λ (runs : List (ℕ × ℕ)). recorded capture (first_frame geometry) bindings (frames_in runs)) (sym opened.file.frames));
+      samples = opened.file.samples ∙ (is.samples ∙ ap (λ (runs : List (ℕ × ℕ)). recorded_samples capture (first_frame geometry) bindings (frames_in runs)) (sym opened.file.frames));
     }
 
 -- ---- closed
@@ -90,7 +90,7 @@ pub IsRecorded-closed : (capture : Option Sound) (geometry : Geometry) (bindings
 IsRecorded-closed capture geometry bindings seat r s closed is = record {
   on_card = is.on_card;
   bound = subst (λ (at : Option ReaderSeat). OnSeat at (λ now. s.actor.reader.setup.bindings ≡ bindings)) (sym closed.seat_is) tt;
-  samples = subst (λ (x : ReaderActor). x.samples.items ≡ recorded capture (first_frame geometry) bindings (frames_in x.frames.runs)) (sym closed.actor) is.samples;
+  samples = subst (λ (x : ReaderActor). x.samples.items ≡ recorded_samples capture (first_frame geometry) bindings (frames_in x.frames.runs)) (sym closed.actor) is.samples;
 }
 
 -- ---- one that met a note
@@ -140,7 +140,7 @@ pub IsRecorded-same : (capture : Option Sound) (geometry : Geometry) (bindings :
 IsRecorded-same capture geometry bindings r s same is = record {
   on_card = is.on_card;
   bound = subst (λ (seat : Option ReaderSeat). OnSeat seat (λ at. s.actor.reader.setup.bindings ≡ bindings)) (sym same.seat) (by_seat r.seat is.bound);
-  samples = same.file.samples ∙ (is.samples ∙ ap (λ (runs : List (ℕ × ℕ)). recorded capture (first_frame geometry) bindings (frames_in runs)) (sym same.file.frames));
+  samples = same.file.samples ∙ (is.samples ∙ ap (λ (runs : List (ℕ × ℕ)). recorded_samples capture (first_frame geometry) bindings (frames_in runs)) (sym same.file.frames));
 }
   where
     by_seat : (seat : Option ReaderSeat) → OnSeat seat (λ at. r.actor.reader.setup.bindings ≡ bindings) → OnSeat seat (λ at. s.actor.reader.setup.bindings ≡ bindings)

@@ -24,7 +24,7 @@ use Rattle.lab_run.specs.Stage.{new_port}
 use Rattle.lab_actor.specs.declared.reader.ReaderActor.{ReaderActor}
 use Rattle.lab_actor.specs.ClientPart.{left_in, stops_in}
 use Rattle.lab_actor.specs.FrameRuns.{frames_in}
-use Rattle.lab_actor.specs.Raised.{ActorPart-lowered, raised, reader_is_blind}
+use Rattle.lab_actor.specs.Raised.{ActorPart-lowered, with_more_stops, reader_is_blind}
 use Rattle.lab_actor.specs.ReaderPart.{reader_of}
 use Rattle.lab_actor.specs.Refused.{refused_rows}
 use Rattle.lab_card.specs.declared.card.CardActor.{CardActor}
@@ -121,7 +121,7 @@ module _ (ring : TableId) (geometry : Geometry) (c d : Card) (over : IsOver ring
   part-open played ops x y s t u v at sees informed ran same knows =
       let seen = at.seen in
       let informed_seen = informed.seen in
-      let start : IsAtSnoop seat_port left_in stops_in t geometry (t, (x.left, stops)) (raised base before, nothing_found) =
+      let start : IsAtSnoop seat_port left_in stops_in t geometry (t, (x.left, stops)) (with_more_stops base before, nothing_found) =
       record {
         geometry = informed.geometry ∙ at.of_geometry;
         seen = omega (arith, seen, informed_seen);
@@ -132,7 +132,7 @@ module _ (ring : TableId) (geometry : Geometry) (c d : Card) (over : IsOver ring
         overtaken = tt;
       } in
       let most = sees s t u v ran.part.loaded.loads informed ran.part.loaded.loaded_them same knows in
-      let done = ran.part.part most t geometry (raised base before, nothing_found) start in
+      let done = ran.part.part most t geometry (with_more_stops base before, nothing_found) start in
       let found : Findings = done.doing.1 in
       let low =
       ActorPart-lowered (reader_kind phase x.number) geometry (reader_is_blind phase x.number) base ops before (reader_of x) nothing_found done.doing.0 (reader_of y) found ran.part.rows

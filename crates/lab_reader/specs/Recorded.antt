@@ -24,8 +24,8 @@ abbrev pub captured_from : Option Sound → ℕ → ℕ → ℕ → ℤ
 captured_from capture first frame channel = captured_at capture (frame - first) channel
 
 -- frames through bindings, interleaved
-abbrev pub recorded : Option Sound → ℕ → List ℕ → List ℕ → List ℤ
-recorded capture first bindings frames =
+abbrev pub recorded_samples : Option Sound → ℕ → List ℕ → List ℕ → List ℤ
+recorded_samples capture first bindings frames =
     flat_map (λ frame. map (captured_from capture first frame) bindings) frames
 
 -- A reader's samples are the captured ones of its frames, through bindings that each go to a channel of the card; where it is open, these are its
@@ -35,7 +35,7 @@ pub record IsRecordedAt (capture : Option Sound) (geometry : Geometry)
   pub on_card : All (λ channel. channel < geometry.channels) bindings
   pub bound : OnSeat seat (λ at. actor.reader.setup.bindings ≡ bindings)
   pub samples : actor.samples.items
-      ≡ recorded capture (first_frame geometry) bindings (frames_in actor.frames.runs)
+      ≡ recorded_samples capture (first_frame geometry) bindings (frames_in actor.frames.runs)
 
 abbrev pub IsRecorded : Option Sound → Geometry → List ℕ → LabReader → Type 0
 IsRecorded capture geometry bindings r = IsRecordedAt capture geometry bindings r.actor r.seat

@@ -42,7 +42,7 @@ use Rattle.lab_reader.specs.declared.reader.LabReader.{LabReader}
 use Rattle.lab_reader.specs.OfCards.{IsOver}
 use Rattle.lab_reader.specs.Readers.{OnSeats, ops_of}
 use Rattle.lab_reader.specs.ReaderPhase.{Steps}
-use Rattle.lab_reader.specs.Recorded.{IsCapturedUpTo, IsRecorded, IsRecordedAt, captured_from, recorded}
+use Rattle.lab_reader.specs.Recorded.{IsCapturedUpTo, IsRecorded, IsRecordedAt, captured_from, recorded_samples}
 use Rattle.lab_reader.specs.Runs.{HasRefused, HasRunAt, HasRunOpen}
 
 -- ---- what the card stored
@@ -154,7 +154,7 @@ through-captured capture c bindings frame records up_to captured_it on_card =
 pub through_all-captured : (capture : Option Sound) (c : Card) (bindings : List ℕ) (frames : List Frame) → records_of c ≡ true → IsCapturedUpTo capture c
     → All (λ (frame : Frame). IsCaptured (writer_geometry (writer_of c)) (writer_track (writer_of c)).stored frame) frames
     → All (λ channel. channel < (geometry_of_card c).channels) bindings
-    → through_all bindings frames ≡ recorded capture (first_frame (geometry_of_card c)) bindings (map (λ (frame : Frame). frame.number) frames)
+    → through_all bindings frames ≡ recorded_samples capture (first_frame (geometry_of_card c)) bindings (map (λ (frame : Frame). frame.number) frames)
 through_all-captured capture c bindings [] records up_to all on_card = refl
 through_all-captured capture c bindings (frame ∷ frames) records up_to all on_card =
     let others = map (λ (x : Frame). x.number) frames in
@@ -170,7 +170,7 @@ elem-at (y ∷ xs) zero x within is = ap some is
 elem-at (y ∷ xs) (suc k) x within is = elem-at xs k x (omega (arith, within)) is
 
 recorded-append : (capture : Option Sound) (first : ℕ) (bindings xs ys : List ℕ)
-    → recorded capture first bindings (xs ++ ys) ≡ recorded capture first bindings xs ++ recorded capture first bindings ys
+    → recorded_samples capture first bindings (xs ++ ys) ≡ recorded_samples capture first bindings xs ++ recorded_samples capture first bindings ys
 recorded-append capture first bindings xs ys = flat_map-append (λ frame. map (captured_from capture first frame) bindings) xs ys
 
 -- ---- what a reader recorded in a phase
@@ -197,19 +197,19 @@ module _ (capture : Option Sound) (ring : TableId) (geometry : Geometry) (d : Ca
       subst (λ (g : Geometry). All (λ channel. channel < g.channels) bindings) (sym geometry-card) before.on_card in
       let all : All (λ (frame : Frame). IsCaptured (writer_geometry (writer_of d)) (writer_track (writer_of d)).stored frame) read.frames =
       λ i e inside. got-stored t u v read.got (slice_index_or read.frames i e) read.got_them same.view knows (read.among i e inside) in
-      let more : appends.more ≡ recorded capture first bindings appends.numbers =
+      let more : appends.more ≡ recorded_samples capture first bindings appends.numbers =
       read.samples_are
       ∙ (ap (λ (bound : List ℕ). through_all bound read.frames) before.bound
       ∙ (through_all-captured capture d bindings read.frames records up_to all on_card
-      ∙ (ap (λ (g : Geometry). recorded capture (first_frame g) bindings (map (λ (frame : Frame). frame.number) read.frames)) geometry-card
-      ∙ ap (recorded capture first bindings) read.numbers_are))) in
+      ∙ (ap (λ (g : Geometry). recorded_samples capture (first_frame g) bindings (map (λ (frame : Frame). frame.number) read.frames)) geometry-card
+      ∙ ap (recorded_samples capture first bindings) read.numbers_are))) in
       record {
         on_card = before.on_card;
         bound = ap (λ (z : streams.Setup). z.bindings) ran.part.same.setup.same_setup ∙ before.bound;
         samples = appends.more_are
             ∙ (ap (λ (zs : List ℤ). zs ++ appends.more) before.samples
-            ∙ (ap (λ (zs : List ℤ). recorded capture first bindings (frames_in x.frames.runs) ++ zs) more
-            ∙ (sym (recorded-append capture first bindings (frames_in x.frames.runs) appends.numbers) ∙ ap (recorded capture first bindings) (sym appends.numbers_are))));
+            ∙ (ap (λ (zs : List ℤ). recorded_samples capture first bindings (frames_in x.frames.runs) ++ zs) more
+            ∙ (sym (recorded-append capture first bindings (frames_in x.frames.runs) appends.numbers) ∙ ap (recorded_samples capture first bindings) (sym appends.numbers_are))));
       }
 
   recorded-closed : (x y : ReaderActor) (phase stops after : ℕ) (ops : List Op) → IsRecordedAt capture geometry bindings x None → HasRefused phase stops after ops x y
@@ -217,7 +217,7 @@ module _ (capture : Option Sound) (ring : TableId) (geometry : Geometry) (d : Ca
   recorded-closed x y phase stops after ops before ran = record {
     on_card = before.on_card;
     bound = tt;
-    samples = ran.file.samples ∙ (before.samples ∙ ap (λ (runs : List (ℕ × ℕ)). recorded capture (first_frame geometry) bindings (frames_in runs)) (sym ran.file.frames));
+    samples = ran.file.samples ∙ (before.samples ∙ ap (λ (runs : List (ℕ × ℕ)). recorded_samples capture (first_frame geometry) bindings (frames_in runs)) (sym ran.file.frames));
   }
 
   recorded-seats : (c : Card) (x y : ReaderActor) (p q l m : Option ReaderSeat) (phase stops after played : ℕ) (ops : List Op) → IsRecordedAt capture geometry bindings x p

@@ -19,8 +19,8 @@ abbrev pub ◌>>=◌ : {A B : Type 0} → Result A ScriptWhy → (A → Result B
 (Err cause) >>= f = Err cause
 
 -- a value where a test is passed
-abbrev pub tested : {A : Type 0} → ScriptWhy → Bool → A → Result A ScriptWhy
-tested cause test x = if test then Ok x else Err cause
+abbrev pub value_if : {A : Type 0} → ScriptWhy → Bool → A → Result A ScriptWhy
+value_if cause test x = if test then Ok x else Err cause
 
 -- a value where there is one
 abbrev pub found_or_refused : {A : Type 0} → ScriptWhy → Option A → Result A ScriptWhy
@@ -47,13 +47,13 @@ unfoldable pub number_in : ℕ → ℕ → List (List ℕ) → Result (ℕ × Li
 number_in least most words = do
   word ← word_in words
   n ← found_or_refused why.Number (number_of word.0)
-  tested why.Range (nat_le least n && nat_le n most) (n, word.1)
+  value_if why.Range (nat_le least n && nat_le n most) (n, word.1)
 
 -- the number after its key, and the words after both
 unfoldable pub keyed_in : List ℕ → ℕ → ℕ → List (List ℕ) → Result (ℕ × List (List ℕ)) ScriptWhy
 keyed_in key least most words = do
   word ← word_in words
-  rest ← tested why.Word (bytes_eq word.0 key) word.1
+  rest ← value_if why.Word (bytes_eq word.0 key) word.1
   number_in least most rest
 
 -- a parameter, and the words after it
@@ -67,7 +67,7 @@ param_in words = do
 unfoldable pub interval_in : List (List ℕ) → Result (Param × List (List ℕ)) ScriptWhy
 interval_in words = do
   param ← param_in words
-  tested why.Word (not (is_mask param.0)) param
+  value_if why.Word (not (is_mask param.0)) param
 
 -- the word with which a line asks something
 abbrev pub verb_of : List ℕ → Option Verb
@@ -81,8 +81,8 @@ verb_of word =
     else (if bytes_eq word (codes "choose") then Some verbs.Choose else None))))))
 
 -- the cause of a first word that can't begin a line here: it can begin another line, or none
-abbrev pub misplaced : List ℕ → ScriptWhy
-misplaced word = if bytes_eq word (codes "slave") || is_some (verb_of word) then why.Order else why.Word
+abbrev pub first_word_cause : List ℕ → ScriptWhy
+first_word_cause word = if bytes_eq word (codes "slave") || is_some (verb_of word) then why.Order else why.Word
 
 -- the ring is a multiple of the period, which is at most half of it
 abbrev pub fits : ℕ → ℕ → Bool
@@ -103,13 +103,13 @@ pub record IsSlaveLine (slave : SlaveLine) : Type 0 where
 -- the slave of numbers that fit together
 abbrev pub slave_with : ℕ → ℕ → ℕ → ℕ → Result SlaveLine ScriptWhy
 slave_with channels rate period ring =
-    tested why.Fit (fits period ring) (record { channels = channels; rate = rate; period = period; ring = ring })
+    value_if why.Fit (fits period ring) (record { channels = channels; rate = rate; period = period; ring = ring })
 
 -- the words after the word `slave`
 unfoldable pub slave_keys_in : List (List ℕ) → Result (List (List ℕ)) ScriptWhy
 slave_keys_in words = do
   word ← word_in words
-  tested (misplaced word.0) (bytes_eq word.0 (codes "slave")) word.1
+  value_if (first_word_cause word.0) (bytes_eq word.0 (codes "slave")) word.1
 
 -- `slave channels C rate R period P ring N`
 unfoldable pub slave_of : List (List ℕ) → Result SlaveLine ScriptWhy
@@ -180,7 +180,7 @@ asked_by verbs.Choose words = do
 unfoldable pub ask_of : List (List ℕ) → Result Ask ScriptWhy
 ask_of words = do
   word ← word_in words
-  verb ← found_or_refused (misplaced word.0) (verb_of word.0)
+  verb ← found_or_refused (first_word_cause word.0) (verb_of word.0)
   asked_by verb word.1
 
 -- what a line can ask: a mask is only set, to a number below 64, or shown

@@ -2,7 +2,7 @@
 ghost use Rattle.std.specs.Prelude.{◌≡◌, ◌≤◌, IfOk, false};
 ghost use Rattle.lab_refine.specs.Params.{is_mask, most_of};
 ghost use Rattle.lab_script.specs.Lexing.{words_between};
-ghost use Rattle.lab_refine.specs.Grammar.{IsAsk, IsSlaveLine, ask_of, asked_by, bounded_in, fits, misplaced, result_view, slave_keys_in, slave_of, slave_with, valued_in, verb_of, whole_interval_in, whole_param_in};
+ghost use Rattle.lab_refine.specs.Grammar.{IsAsk, IsSlaveLine, ask_of, asked_by, bounded_in, fits, first_word_cause, result_view, slave_keys_in, slave_of, slave_with, valued_in, verb_of, whole_interval_in, whole_param_in};
 
 use crate::params::most_of;
 use crate::place::{end, interval, keyed, number, param, word};
@@ -47,7 +47,7 @@ fn verb_of(word: &[u8]) -> Option<Verb>
 
 /// Why a first word can't begin a line here.
 fn misplaced(word: &[u8]) -> ScriptWhy
-    ensures { result ≡ misplaced word.now }
+    ensures { result ≡ first_word_cause word.now }
 {
     if word == b"slave".as_slice() || verb_of(word).is_some() {
         ScriptWhy::Order

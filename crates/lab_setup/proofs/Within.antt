@@ -19,7 +19,7 @@ use Rattle.hw_space.specs.declared.quantity.Quantity.TheVariants as quantity
 use Rattle.hw_space.specs.Boxes.{IsBoxWithin, part}
 use Rattle.hw_space.specs.BoxLaws.{IsBoxWithin-part, IsBoxWithin-refl, IsBoxWithin-trans, with_part-IsBoxWithin}
 use Rattle.hw_space.specs.Choices.{Chooses, IsChoice, Makes, choices, done, goes}
-use Rattle.hw_space.specs.Narrowings.{LeavesOf, at_least, at_most, greatest_end, least_end, narrowed, nearest, point, with_access, with_format, with_kind_value, with_value}
+use Rattle.hw_space.specs.Narrowings.{LeavesOf, at_least, at_most, greatest_end, least_end, with_refined, nearest, point, with_access, with_format, with_kind_value, with_value}
 use Rattle.hw_space.specs.Params.{kind_of}
 use Rattle.hw_space.specs.Settled.{Leaves}
 use Rattle.hw_space.specs.Widest.{whole_from_to, widest}
@@ -27,7 +27,7 @@ use Rattle.lab_run.specs.Openings.{IsNarrowed, Values}
 use Rattle.lab_setup.specs.Usable.{IsInRange}
 
 -- a narrowed space is within the space
-narrowed-IsBoxWithin : (b : ParamBox) (q : Quantity) (i : Interval) → IsBoxWithin (narrowed b q i) b
+narrowed-IsBoxWithin : (b : ParamBox) (q : Quantity) (i : Interval) → IsBoxWithin (with_refined b q i) b
 narrowed-IsBoxWithin b q i = with_part-IsBoxWithin b q (refinement (part b q) i) (refined-IsWithin_left (part b q) i)
 
 Leaves-IsBoxWithin : (b d whole : ParamBox) → Leaves b (Some d) → IsBoxWithin b whole → IsBoxWithin d whole
@@ -37,21 +37,21 @@ nearest-IsBoxWithin : (q : Quantity) (n : ℕ) (low high : Option ParamBox) (who
     → ((x : ParamBox) → low ≡ Some x → IsBoxWithin x whole) → ((x : ParamBox) → high ≡ Some x → IsBoxWithin x whole)
     → LeavesOf (nearest q n low high) (Some d) → IsBoxWithin d whole
 nearest-IsBoxWithin q n (Some low) (Some high) whole d in_low in_high left =
-    let there : IsBoxWithin (narrowed low q (greatest_end (part low q))) whole =
-    IsBoxWithin-trans (narrowed low q (greatest_end (part low q))) low whole (narrowed-IsBoxWithin low q (greatest_end (part low q))) (in_low low refl) in
-    let here : IsBoxWithin (narrowed high q (least_end (part high q))) whole =
-    IsBoxWithin-trans (narrowed high q (least_end (part high q))) high whole (narrowed-IsBoxWithin high q (least_end (part high q))) (in_high high refl) in
+    let there : IsBoxWithin (with_refined low q (greatest_end (part low q))) whole =
+    IsBoxWithin-trans (with_refined low q (greatest_end (part low q))) low whole (narrowed-IsBoxWithin low q (greatest_end (part low q))) (in_low low refl) in
+    let here : IsBoxWithin (with_refined high q (least_end (part high q))) whole =
+    IsBoxWithin-trans (with_refined high q (least_end (part high q))) high whole (narrowed-IsBoxWithin high q (least_end (part high q))) (in_high high refl) in
     IsBoxWithin-trans d _ whole left.greatest.within (if_within _ there here)
   where
     if_within : (test : Bool) {x y : ParamBox} → IsBoxWithin x whole → IsBoxWithin y whole → IsBoxWithin (if test then x else y) whole
     if_within true first second = first
     if_within false first second = second
 nearest-IsBoxWithin q n (Some low) None whole d in_low in_high left =
-    Leaves-IsBoxWithin (narrowed low q (greatest_end (part low q))) d whole left
-    (IsBoxWithin-trans (narrowed low q (greatest_end (part low q))) low whole (narrowed-IsBoxWithin low q (greatest_end (part low q))) (in_low low refl))
+    Leaves-IsBoxWithin (with_refined low q (greatest_end (part low q))) d whole left
+    (IsBoxWithin-trans (with_refined low q (greatest_end (part low q))) low whole (narrowed-IsBoxWithin low q (greatest_end (part low q))) (in_low low refl))
 nearest-IsBoxWithin q n None (Some high) whole d in_low in_high left =
-    Leaves-IsBoxWithin (narrowed high q (least_end (part high q))) d whole left
-    (IsBoxWithin-trans (narrowed high q (least_end (part high q))) high whole (narrowed-IsBoxWithin high q (least_end (part high q))) (in_high high refl))
+    Leaves-IsBoxWithin (with_refined high q (least_end (part high q))) d whole left
+    (IsBoxWithin-trans (with_refined high q (least_end (part high q))) high whole (narrowed-IsBoxWithin high q (least_end (part high q))) (in_high high refl))
 nearest-IsBoxWithin q n None None whole d in_low in_high left = absurd (cc)
 
 each_part : (b d : ParamBox) → d.sample_bits ≡ b.sample_bits → d.frame_bits ≡ b.frame_bits → d.channels ≡ b.channels → d.rate ≡ b.rate
@@ -94,12 +94,12 @@ Makes-IsBoxWithin : (c : Choice) (b d : ParamBox) → Makes c b (Some d) → IsB
 Makes-IsBoxWithin Settle b d made = made.greatest.within
 Makes-IsBoxWithin FirstAccess b d made = Leaves-IsBoxWithin (with_access b made.0) d b made.2 (with_access-IsBoxWithin b made.0)
 Makes-IsBoxWithin FirstFormat b d made = Leaves-IsBoxWithin (with_format b made.0) d b made.2 (with_format-IsBoxWithin b made.0)
-Makes-IsBoxWithin (First q) b d made = Leaves-IsBoxWithin (narrowed b q (least_end (part b q))) d b made (narrowed-IsBoxWithin b q (least_end (part b q)))
-Makes-IsBoxWithin (Last q) b d made = Leaves-IsBoxWithin (narrowed b q (greatest_end (part b q))) d b made (narrowed-IsBoxWithin b q (greatest_end (part b q)))
+Makes-IsBoxWithin (First q) b d made = Leaves-IsBoxWithin (with_refined b q (least_end (part b q))) d b made (narrowed-IsBoxWithin b q (least_end (part b q)))
+Makes-IsBoxWithin (Last q) b d made = Leaves-IsBoxWithin (with_refined b q (greatest_end (part b q))) d b made (narrowed-IsBoxWithin b q (greatest_end (part b q)))
 Makes-IsBoxWithin (Near q n) b d made =
     nearest-IsBoxWithin q n made.low made.high b d
-    (λ x is. Leaves-IsBoxWithin (narrowed b q (at_most n)) x b (subst (Leaves (narrowed b q (at_most n))) is made.below) (narrowed-IsBoxWithin b q (at_most n)))
-    (λ x is. Leaves-IsBoxWithin (narrowed b q (at_least n)) x b (subst (Leaves (narrowed b q (at_least n))) is made.above) (narrowed-IsBoxWithin b q (at_least n)))
+    (λ x is. Leaves-IsBoxWithin (with_refined b q (at_most n)) x b (subst (Leaves (with_refined b q (at_most n))) is made.below) (narrowed-IsBoxWithin b q (at_most n)))
+    (λ x is. Leaves-IsBoxWithin (with_refined b q (at_least n)) x b (subst (Leaves (with_refined b q (at_least n))) is made.above) (narrowed-IsBoxWithin b q (at_least n)))
     made.left
 
 -- and so do all steps, and all values

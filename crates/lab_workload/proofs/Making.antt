@@ -13,7 +13,7 @@ use Rattle.lab_make.specs.Lines.{made_text}
 use Rattle.lab_make.specs.Script.{made_script}
 use Rattle.lab_make.specs.Summary.{IsSummaryOf, summary_text}
 use Rattle.lab_make.specs.Workload.{IsWorkload}
-use Rattle.lab_output.specs.Files.{output_files, stored}
+use Rattle.lab_output.specs.Files.{output_files, finished_files}
 use Rattle.lab_phase.specs.PhaseRuns.{Stops}
 use Rattle.lab_play.specs.Played.{HasPlayed, HasPlayedPart, HaveNoStops, IsRunOf, IsUntouched, sounds_of}
 use Rattle.lab_report.specs.Text.{report_text}
@@ -104,10 +104,10 @@ module _ (w : Workload) (stops : Stops) (input : RunInput) (wavs : List Sound) (
     ran-files : ran ≡ option_map (with_run w outcome) before
     ran-files =
         of-workload.files
-        ∙ (ap (option_map (stored (output_files (made_script w.clients w.phases) output_name) (sounds_of outcome)))
+        ∙ (ap (option_map (finished_files (output_files (made_script w.clients w.phases) output_name) (sounds_of outcome)))
         (stored-workload w wavs text before between wavs_are text_is is_stored) ∙ behind before)
       where
-        behind : (o : Option Files) → option_map (stored (output_files (made_script w.clients w.phases) output_name) (sounds_of outcome)) (option_map (with_workload w) o)
+        behind : (o : Option Files) → option_map (finished_files (output_files (made_script w.clients w.phases) output_name) (sounds_of outcome)) (option_map (with_workload w) o)
             ≡ option_map (with_run w outcome) o
         behind None = refl
         behind (Some files) = refl

@@ -19,7 +19,7 @@ use Rattle.lab_script.specs.declared.script.CardLine.{CardLine}
 use Rattle.lab_script.specs.declared.script.Script.{Script}
 use Rattle.lab_script.specs.Reading.{script_of}
 use Rattle.lab_stop.specs.Causes.{Cause, content_in, fetched, found, ◌>>=◌}
-use Rattle.lab_input.specs.Input.{RunInput, as_script, capture_in, counted, input_in, most_of_run, script_in, sound_in, sounds_in, wav_in, weighed, within_run}
+use Rattle.lab_input.specs.Input.{RunInput, as_script, capture_in, with_byte_count, input_in, most_of_run, script_in, sound_in, sounds_in, wav_in, with_weight, within_run}
 use Rattle.lab_make.specs.declared.workload.Workload.{Workload}
 use Rattle.lab_make.specs.Files.{IsMadeSound, file_name, made_sound, made_sounds}
 use Rattle.lab_make.specs.Lines.{made_text}
@@ -131,12 +131,12 @@ unfolding sound_in wav_in
 sound_in-readable files total name sound is room =
     let test : nat_le (total + 16428) most_of_run ≡ true = grind (arith, nat_tests, room) in
     let content : content_in files name ≡ Ok (canonical sound) = ap (found name) is.is_held in
-    let read : (content_in files name >>= λ (bytes : List ℕ). weighed name None (length bytes) (sound_file None bytes)) ≡ Ok (sound, 16428) =
-    ap (λ (r : Result (List ℕ) Cause). r >>= λ (bytes : List ℕ). weighed name None (length bytes) (sound_file None bytes)) content
-    ∙ (ap (λ (s : Result Sound WavError). weighed name None (length (canonical sound)) s) is.back
+    let read : (content_in files name >>= λ (bytes : List ℕ). with_weight name None (length bytes) (sound_file None bytes)) ≡ Ok (sound, 16428) =
+    ap (λ (r : Result (List ℕ) Cause). r >>= λ (bytes : List ℕ). with_weight name None (length bytes) (sound_file None bytes)) content
+    ∙ (ap (λ (s : Result Sound WavError). with_weight name None (length (canonical sound)) s) is.back
     ∙ ap (λ (n : ℕ). Ok (sound, n)) is.size) in
-    ap (λ (r : Result (Sound × ℕ) Cause). r >>= λ (read : Sound × ℕ). counted name (total + read.1) (within_run (total + read.1) read.0)) read
-    ∙ ap (λ (fits : Bool). counted name (total + 16428) (if fits then Ok sound else Err TooLong)) test
+    ap (λ (r : Result (Sound × ℕ) Cause). r >>= λ (read : Sound × ℕ). with_byte_count name (total + read.1) (within_run (total + read.1) read.0)) read
+    ∙ ap (λ (fits : Bool). with_byte_count name (total + 16428) (if fits then Ok sound else Err TooLong)) test
 
 -- the sounds of all clients' files
 sounds_in-readable : (files : Files) (card : CardLine) (seed first count total : ℕ)

@@ -6,7 +6,7 @@ use Rattle.std.specs.Prelude.{◌≡◌, ◌⊎◌, ◌++◌, ℕ, List, [], cod
 use Rattle.std.specs.Option.{ForSome, option_map}
 use Rattle.lab_headline.specs.Exact.{IsOwnRun}
 use Rattle.lab_input.specs.Input.{input_in}
-use Rattle.lab_output.specs.Files.{output_files, stored}
+use Rattle.lab_output.specs.Files.{output_files, finished_files}
 use Rattle.lab_phase.specs.PhaseRuns.{Stops}
 use Rattle.lab_play.specs.Played.{HasPlayedPart, HaveNoStops, IsRunOf, sounds_of}
 use Rattle.lab_report.specs.Text.{report_text}
@@ -35,7 +35,7 @@ made_report w outcome = report_text (made_script w.clients w.phases) outcome.rep
 -- the files, with a workload stored, and then what a run of it writes
 abbrev pub with_run : Workload → Outcome → Files → Files
 with_run w outcome files =
-    stored (output_files (made_script w.clients w.phases) output_name)
+    finished_files (output_files (made_script w.clients w.phases) output_name)
     (sounds_of outcome) (with_workload w files)
 
 -- the files, with the report stored as well
